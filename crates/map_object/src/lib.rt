@@ -1,0 +1,13 @@
+//! The sequential object: an ordered map from `u64` to `u64`, kept as pairs sorted by key. What it
+//! answers, and which pairs a call leaves, stands in `history`'s definitions of the object.
+#![tactic(auto)]
+
+mod laws;
+mod replies;
+mod sorted_map;
+
+pub use laws::legal_lists_lead;
+pub use sorted_map::SortedMap;
+
+#[cfg(test)]
+mod tests;

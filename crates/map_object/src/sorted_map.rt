@@ -1,0 +1,146 @@
+// The sorted map.
+ghost use Rattle.std.specs.Prelude.{◌≡◌, ◌↔◌, ◌++◌, ◌∷◌, [], IsTrue, IfOk, IfErr, OnOk, OnErr};
+ghost use Rattle.history.specs.MapObject.{IsRising, IsLegalReply, value_at, below, above, within, reply_to, after};
+ghost use Rattle.map_object.specs.Places.{IsAt, IsGapFor};
+
+use crate::replies::{is_list, is_value, value_reply};
+use history::{Call, Memory, Pairs, Reply};
+use std::alloc::Global;
+use std::marker::Model;
+
+/// An ordered map from `u64` to `u64`. Contracts see the list of its pairs, by rising key.
+#[derive(Debug, Drop)]
+pub struct SortedMap {
+    pairs: Vec<(u64, u64)>,
+}
+
+impl Model for SortedMap {
+    ghost use Rattle.history.specs.MapObject.{Contents, IsRising};
+
+    ghost Value = { Contents };
+
+    ghost view = { λ m. m.pairs.items };
+
+    ghost invariant = { λ m. IsRising m.pairs.items };
+}
+
+impl SortedMap {
+    /// The empty map. It takes no memory.
+    pub fn new(alloc: Global) -> SortedMap
+        ensures { result ≡ [] }
+    {
+        SortedMap {
+            pairs: Vec::new(alloc),
+        }
+    }
+
+    /// The pairs of a key and a value, by rising key.
+    pub fn pairs(&self) -> &[(u64, u64)]
+        ensures pairs { result.now ≡ self.now }
+        ensures rising { IsRising self.now }
+    {
+        self.pairs.as_slice()
+    }
+
+    /// The same map again.
+    pub fn copy(&self, alloc: Global) -> Result<SortedMap, Memory>
+        ensures { IfOk result (λ m. m ≡ self.now) }
+    {
+        let pairs = Vec::from_slice(alloc, &self.pairs)?;
+        Ok(SortedMap { pairs })
+    }
+
+    /// The value at a key, found by halves.
+    pub fn value(&self, key: u64) -> Option<u64>
+        ensures { result ≡ value_at self.now key }
+    {
+        match self.place(key) {
+            Ok(at) => Some(self.pairs[at].1),
+            Err(_) => None,
+        }
+    }
+
+    /// Does the call and answers it, never by `Refused`. On `Memory`, which only an insert or a scan can
+    /// answer, nothing has changed. Each call searches by halves; an insert and a remove also move the
+    /// pairs above the key, and a scan copies those that it lists.
+    pub fn step(&mut self, alloc: Global, call: &Call) -> Result<Reply, Memory>
+        ensures reply { IfOk result (λ reply. reply ≡ reply_to self.old call.now) }
+        ensures after { OnOk result (self.new ≡ after self.old call.now) }
+        ensures unchanged { OnErr result (self.new ≡ self.old) }
+    {
+        match *call {
+            Call::Get(key) => Ok(value_reply(self.value(key))),
+            Call::Insert(key, value) => Ok(value_reply(self.insert(key, value)?)),
+            Call::Remove(key) => Ok(value_reply(self.remove(key))),
+            Call::Scan(low, high) => {
+                let pairs = Vec::from_slice(alloc, self.range(low, high))?;
+                Ok(Reply::Pairs(Pairs::new(pairs)))
+            }
+        }
+    }
+
+    /// Whether the reply is legal at this call: `Refused` always is, and else only what the map would
+    /// answer. It takes no memory, and compares the pairs of a scan one by one.
+    pub fn fits(&self, call: &Call, reply: &Reply) -> bool
+        ensures { IsTrue result ↔ IsLegalReply self.now call.now reply.now }
+    {
+        if matches!(reply, Reply::Refused) {
+            return true;
+        }
+        match *call {
+            Call::Get(key) | Call::Insert(key, _) | Call::Remove(key) => {
+                is_value(reply, self.value(key))
+            }
+            Call::Scan(low, high) => is_list(reply, self.range(low, high)),
+        }
+    }
+
+    /// Puts the value at the key, and gives the value that was there.
+    fn insert(&mut self, key: u64, value: u64) -> Result<Option<u64>, Memory>
+        ensures old { IfOk result (λ old. old ≡ value_at self.old key) }
+        ensures after { OnOk result
+            (self.new ≡ below key self.old ++ (key, value) ∷ above key self.old) }
+        ensures unchanged { OnErr result (self.new ≡ self.old) }
+    {
+        match self.place(key) {
+            Ok(at) => {
+                let old = self.pairs[at].1;
+                self.pairs[at] = (key, value);
+                Ok(Some(old))
+            }
+            Err(at) => {
+                self.pairs.insert(at, (key, value))?;
+                Ok(None)
+            }
+        }
+    }
+
+    /// Takes the key away, and gives the value that was there.
+    fn remove(&mut self, key: u64) -> Option<u64>
+        ensures old { result ≡ value_at self.old key }
+        ensures after { self.new ≡ below key self.old ++ above key self.old }
+    {
+        match self.place(key) {
+            Ok(at) => Some(self.pairs.remove(at).1),
+            Err(_) => None,
+        }
+    }
+
+    /// The pairs from the first key to the last, both included: none where the first is the greater.
+    fn range(&self, low: u64, high: u64) -> &[(u64, u64)]
+        ensures { result.now ≡ within low high self.now }
+    {
+        let from = self.pairs.partition_point(|pair| pair.0 < low);
+        let rest = &self.pairs[from..];
+        let count = rest.partition_point(|pair| pair.0 <= high);
+        &rest[..count]
+    }
+
+    /// Where the key is, or where it would go.
+    fn place(&self, key: u64) -> Result<usize, usize>
+        ensures found { IfOk result (IsAt self.now key) }
+        ensures absent { IfErr result (IsGapFor self.now key) }
+    {
+        self.pairs.binary_search_by_key(&key, |pair| pair.0)
+    }
+}
