@@ -1,0 +1,33 @@
+// Whether a list of numbers is an order of a history.
+ghost use Rattle.std.specs.Prelude.{◌≡◌, [], OnOk, IfErr};
+ghost use Rattle.history.specs.Operations.{operations};
+ghost use Rattle.history.specs.Orders.{IsOrder};
+ghost use Rattle.certificate.specs.declared.fault.OrderFault.TheVariants as faults;
+ghost use Rattle.certificate.specs.Faults.{IsRefusedFor};
+
+use crate::fault::OrderFault;
+use crate::prefix::Prefix;
+use history::History;
+use std::alloc::Global;
+
+/// Whether the numbers are an order of the history, from the empty map on: they name calls, each once
+/// and each completed one among them, no later call precedes an earlier one, and the map gives each
+/// completed call its recorded reply. Otherwise the first fault: that of the least place which shows
+/// one, and there `Unknown` before `Repeated`, `Precedence` and `Reply`; at the end `Missing`. `Memory`
+/// says nothing of the numbers. It goes once over them and once over the calls, beside the map's work.
+pub fn check(alloc: Global, history: &History, order: &[u32]) -> Result<(), OrderFault>
+    ensures ok { OnOk result (IsOrder [] (operations history.now) order.now) }
+    ensures refused { IfErr result (IsRefusedFor [] (operations history.now) order.now) }
+    ensures accepted { IsOrder [] (operations history.now) order.now
+        → IfErr result (λ e. e ≡ faults.Memory) }
+{
+    let calls = history.calls();
+    let mut prefix = Prefix::new(alloc, calls)?;
+    for (place, number) in order.iter().enumerate() {
+        prefix.take(alloc, calls, place, *number)?;
+    }
+    match prefix.least_missing(calls) {
+        Some(call) => Err(OrderFault::Missing { call }),
+        None => Ok(()),
+    }
+}

@@ -1,0 +1,30 @@
+use history::Memory;
+
+/// Why a list of numbers is no order: the first place that shows a fault, or what is missing at the end.
+/// Places count from 0.
+#[derive(Clone, Copy, Debug, PartialEq, Eq)]
+pub enum OrderFault {
+    /// No call has the number at this place.
+    Unknown { place: usize },
+    /// The number at this place stands at an earlier one too.
+    Repeated { place: usize },
+    /// The call at this place precedes one at an earlier place.
+    Precedence { place: usize },
+    /// The map does not give the call at this place its recorded reply.
+    Reply { place: usize },
+    /// The least completed call whose number is absent.
+    Missing { call: usize },
+    /// Want of memory, which says nothing of the list.
+    Memory,
+}
+
+impl From<Memory> for OrderFault {
+    ghost use Rattle.std.specs.Prelude.{◌≡◌};
+    ghost use Rattle.certificate.specs.declared.fault.OrderFault.TheVariants as faults;
+
+    ghost from_gives = { λ _ e. e ≡ faults.Memory };
+
+    fn from(_memory: Memory) -> OrderFault {
+        OrderFault::Memory
+    }
+}

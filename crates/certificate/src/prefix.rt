@@ -1,0 +1,134 @@
+// The numbers are tested one after another, each by what is kept of those before it.
+ghost use Rattle.std.specs.Prelude.{◌≡◌, ◌+◌, ◌↔◌, if◌then◌else◌, ℕ, List, [], Option, Some, length, vec_len, slice_get};
+ghost use Rattle.std.specs.Prelude.{IsTrue, IfNone, IfSome, IfOk, IfErr, OnOk, OnErr};
+ghost use Rattle.history.specs.MapObject.{Contents, after};
+ghost use Rattle.history.specs.Orders.{IsOrder, IsLegalCall, after_call};
+ghost use Rattle.history.specs.OrderFaults.{IsLeastMissing};
+ghost use Rattle.history.specs.Precedence.{is_before};
+
+use crate::fault::OrderFault;
+use history::{Call, Memory, Operation, Reply, Response};
+use map_object::SortedMap;
+use std::alloc::Global;
+
+/// What is kept of the first numbers of a list, as long as they show no fault: the pairs after their
+/// calls, which numbers they are, and the latest of their invocations. A call precedes one of these
+/// exactly where its response stands before the latest invocation, so none is looked at again.
+#[derive(Drop)]
+pub struct Prefix {
+    pub map: SortedMap,
+    pub taken: Vec<bool>,
+    pub latest: usize,
+}
+
+impl Prefix {
+    ghost use Rattle.std.specs.Prelude.{take};
+    ghost use Rattle.certificate.specs.Faults.{IsRefusedFor};
+    ghost use Rattle.certificate.specs.Prefix.{IsPrefixOf};
+
+    /// Before any number.
+    pub fn new(alloc: Global, calls: &[Operation]) -> Result<Prefix, Memory>
+        ensures { IfOk result (IsPrefixOf [] calls.now []) }
+    {
+        Ok(Prefix {
+            map: SortedMap::new(alloc),
+            taken: vec![in alloc; false; calls.len()]?,
+            latest: 0,
+        })
+    }
+
+    /// Tests the number at a place, and takes its call where no fault shows. Nothing changes otherwise.
+    pub fn take(
+        &mut self,
+        alloc: Global,
+        calls: &[Operation],
+        place: usize,
+        number: u32,
+    ) -> Result<(), OrderFault>
+        requires { vec_len self.old.taken ≡ length calls.now }
+        ensures ok { (start : Contents) (order : List ℕ) → slice_get order place ≡ Some number
+            → IsPrefixOf start calls.now (take place order) self.old
+            → OnOk result (IsPrefixOf start calls.now (take (place + 1) order) self.new) }
+        ensures refused { (start : Contents) (order : List ℕ) → slice_get order place ≡ Some number
+            → IsPrefixOf start calls.now (take place order) self.old
+            → IfErr result (IsRefusedFor start calls.now order) }
+        ensures unchanged { OnErr result (self.new ≡ self.old) }
+    {
+        let index = number as usize;
+        if index >= calls.len() {
+            return Err(OrderFault::Unknown { place });
+        }
+        if self.taken[index] {
+            return Err(OrderFault::Repeated { place });
+        }
+        let call = &calls[index];
+        if is_before(&call.response, self.latest) {
+            return Err(OrderFault::Precedence { place });
+        }
+        if !fits(&self.map, call) {
+            return Err(OrderFault::Reply { place });
+        }
+        apply(alloc, &mut self.map, call)?;
+        self.taken[index] = true;
+        self.latest = self.latest.max(call.inv);
+        Ok(())
+    }
+
+    /// The least completed call that was not taken.
+    pub fn least_missing(&self, calls: &[Operation]) -> Option<usize>
+        requires { vec_len self.now.taken ≡ length calls.now }
+        ensures none { (start : Contents) (order : List ℕ) → IsPrefixOf start calls.now order self.now
+            → IfNone result (IsOrder start calls.now order) }
+        ensures missing { (start : Contents) (order : List ℕ) → IsPrefixOf start calls.now order self.now
+            → IfSome result (IsLeastMissing start calls.now order) }
+    {
+        for (number, call) in calls.iter().enumerate() {
+            if call.response.is_some() && !self.taken[number] {
+                return Some(number);
+            }
+        }
+        None
+    }
+}
+
+/// Whether a response stands before a place.
+fn is_before(response: &Option<Response>, place: usize) -> bool
+    ensures { result ≡ is_before response.now place }
+{
+    match response {
+        Some(response) => response.res < place,
+        None => false,
+    }
+}
+
+/// Whether a call may come next: a completed one only where the map gives it its recorded reply.
+fn fits(map: &SortedMap, call: &Operation) -> bool
+    ensures { IsTrue result ↔ IsLegalCall map.now call.now.call call.now.response }
+{
+    match &call.response {
+        Some(response) => map.fits(&call.call, &response.reply),
+        None => true,
+    }
+}
+
+/// Does a call at a map that it fits.
+fn apply(alloc: Global, map: &mut SortedMap, call: &Operation) -> Result<(), Memory>
+    ensures ok { OnOk result (map.new ≡ after_call map.old call.now.call call.now.response) }
+    ensures unchanged { OnErr result (map.new ≡ map.old) }
+{
+    if may_change(call) {
+        let _reply = map.step(alloc, &call.call)?;
+    }
+    Ok(())
+}
+
+/// Whether a call may change the map: not where it was refused, nor where it only reads.
+fn may_change(call: &Operation) -> bool
+    ensures { (m : Contents) → after_call m call.now.call call.now.response
+        ≡ (if result then after m call.now.call else m) }
+{
+    match &call.response {
+        Some(response) if matches!(response.reply, Reply::Refused) => false,
+        _ => matches!(call.call, Call::Insert(..) | Call::Remove(..)),
+    }
+}
