@@ -1,0 +1,2 @@
+pub mod MemoryEnd
+pub mod Progress

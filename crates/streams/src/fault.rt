@@ -1,0 +1,36 @@
+ghost use Rattle.std.specs.Prelude.{◌≡◌};
+
+use std::alloc::AllocError;
+
+/// A call of a source or a sink failed.
+#[derive(Clone, Copy, Debug, PartialEq, Eq)]
+pub struct Failed;
+
+/// Why a source was not read to the end.
+#[derive(Clone, Copy, Debug, PartialEq, Eq)]
+pub enum ReadFault {
+    /// A read failed.
+    Failed,
+    /// Want of memory: a growth was refused.
+    Memory,
+}
+
+impl From<Failed> for ReadFault {
+    ghost use Rattle.streams.specs.declared.fault.ReadFault.TheVariants as faults;
+
+    ghost from_gives = { λ _ fault. fault ≡ faults.Failed };
+
+    fn from(_failed: Failed) -> ReadFault {
+        ReadFault::Failed
+    }
+}
+
+impl From<AllocError> for ReadFault {
+    ghost use Rattle.streams.specs.declared.fault.ReadFault.TheVariants as faults;
+
+    ghost from_gives = { λ _ fault. fault ≡ faults.Memory };
+
+    fn from(_error: AllocError) -> ReadFault {
+        ReadFault::Memory
+    }
+}

@@ -1,0 +1,70 @@
+ghost use Rattle.std.specs.Prelude.{◌≡◌, ◌≤◌, ◌<◌, Ok, length, take, IfOk, OnErr};
+ghost use Rattle.std.specs.Io.KnownBytes.{Consumes, IsAtEnd, Keeps};
+
+use crate::{Failed, Source};
+use std::io::{ErrorKind, Read, Stdin};
+
+/// A reader of the standard library as a source.
+#[derive(Drop)]
+pub struct ReaderSource<R> {
+    reader: R,
+    failures: u64,
+}
+
+/// The standard input of the process, which tells no bytes.
+pub type StandardInput = ReaderSource<Stdin>;
+
+impl<R: Read> ReaderSource<R> {
+    /// No call has failed yet.
+    pub fn new(reader: R) -> Self
+        ensures remaining { ⟦<ReaderSource<R> as Source>⟧.remaining result ≡ R.remaining reader }
+        ensures failures { ⟦<ReaderSource<R> as Source>⟧.failures result ≡ 0 }
+    {
+        ReaderSource {
+            reader,
+            failures: 0,
+        }
+    }
+
+    /// How many calls have failed.
+    pub fn failures(&self) -> u64
+        ensures { result ≡ ⟦<ReaderSource<R> as Source>⟧.failures self.now }
+    {
+        self.failures
+    }
+}
+
+impl<R: Read> Source for ReaderSource<R> {
+    ghost remaining = { λ source. R.remaining source.reader };
+
+    ghost failures = { λ source. source.failures };
+
+    /// A read that a signal interrupts is made again, and is no failure.
+    fn read(&mut self, buffer: &mut [u8]) -> Result<usize, Failed> {
+        let result = read_uninterrupted(&mut self.reader, buffer);
+        if result.is_err() {
+            self.failures += 1;
+        }
+        result
+    }
+}
+
+fn read_uninterrupted<R: Read>(reader: &mut R, buffer: &mut [u8]) -> Result<usize, Failed>
+    ensures within { IfOk result (λ count. count ≤ length buffer.new) }
+    ensures consumed { IfOk result (λ count.
+        Consumes (R.remaining reader.old) (R.remaining reader.new) (take count buffer.new)) }
+    ensures end { result ≡ Ok 0 → 0 < length buffer.new → IsAtEnd (R.remaining reader.new) }
+    ensures unread { OnErr result (Keeps (R.remaining reader.old) (R.remaining reader.new)) }
+{
+    for _ in 0..u64::MAX {
+        match reader.read(buffer) {
+            Ok(count) => return Ok(count),
+            Err(error) => {
+                if error.kind() != ErrorKind::Interrupted {
+                    return Err(Failed);
+                }
+            }
+        }
+    }
+    Err(Failed)
+}

@@ -1,0 +1,75 @@
+ghost use Rattle.std.specs.Prelude.{◌≡◌, ◌≤◌, ◌<◌, length, take, IfOk, OnErr};
+ghost use Rattle.std.specs.Io.KnownBytes.{Appends, Keeps};
+
+use crate::{Failed, Sink};
+use std::io::{ErrorKind, Stderr, Stdout, Write};
+
+/// A writer of the standard library as a sink.
+#[derive(Drop)]
+pub struct WriterSink<W> {
+    writer: W,
+    failures: u64,
+}
+
+/// The standard output of the process, which tells no bytes.
+pub type StandardOutput = WriterSink<Stdout>;
+
+/// The standard error of the process, which tells no bytes.
+pub type StandardError = WriterSink<Stderr>;
+
+impl<W: Write> WriterSink<W> {
+    /// No call has failed yet.
+    pub fn new(writer: W) -> Self
+        ensures written { ⟦<WriterSink<W> as Sink>⟧.written result ≡ W.contents writer }
+        ensures failures { ⟦<WriterSink<W> as Sink>⟧.failures result ≡ 0 }
+    {
+        WriterSink {
+            writer,
+            failures: 0,
+        }
+    }
+
+    /// How many calls have failed.
+    pub fn failures(&self) -> u64
+        ensures { result ≡ ⟦<WriterSink<W> as Sink>⟧.failures self.now }
+    {
+        self.failures
+    }
+}
+
+impl<W: Write> Sink for WriterSink<W> {
+    ghost written = { λ sink. W.contents sink.writer };
+
+    ghost failures = { λ sink. sink.failures };
+
+    /// A write that a signal interrupts is made again, and is no failure; one that takes none of
+    /// the bytes that there are is.
+    fn write(&mut self, bytes: &[u8]) -> Result<usize, Failed> {
+        let result = write_uninterrupted(&mut self.writer, bytes);
+        if result.is_err() {
+            self.failures += 1;
+        }
+        result
+    }
+}
+
+fn write_uninterrupted<W: Write>(writer: &mut W, bytes: &[u8]) -> Result<usize, Failed>
+    ensures within { IfOk result (λ count. count ≤ length bytes.now) }
+    ensures progress { 0 < length bytes.now → IfOk result (λ count. 1 ≤ count) }
+    ensures appended { IfOk result (λ count.
+        Appends (W.contents writer.old) (W.contents writer.new) (take count bytes.now)) }
+    ensures unwritten { OnErr result (Keeps (W.contents writer.old) (W.contents writer.new)) }
+{
+    for _ in 0..u64::MAX {
+        match writer.write(bytes) {
+            Ok(0) if !bytes.is_empty() => return Err(Failed),
+            Ok(count) => return Ok(count),
+            Err(error) => {
+                if error.kind() != ErrorKind::Interrupted {
+                    return Err(Failed);
+                }
+            }
+        }
+    }
+    Err(Failed)
+}
