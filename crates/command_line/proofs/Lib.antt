@@ -1,0 +1,5 @@
+pub mod RowLemmas
+pub mod StopLemmas
+mod BenchLemmas
+mod LineLemmas
+mod CheckLemmas

@@ -1,0 +1,17 @@
+//! The command line of the program: its words in, what they ask for out.
+//!
+//! Which subcommands and arguments there are, and what each line of words asks for, stands in
+//! `specs/`. The words are read by `clap`, whose texts for help and for faults are passed on as they
+//! are.
+#![tactic(auto)]
+
+mod command;
+mod fault;
+mod line;
+mod read;
+#[cfg(test)]
+mod tests;
+
+pub use fault::LineFault;
+pub use line::Line;
+pub use read::read_line;
