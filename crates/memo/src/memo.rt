@@ -1,0 +1,79 @@
+// The memo of a search.
+ghost use Rattle.std.specs.Prelude.{◌≡◌, ◌↔◌, ◌++◌, ◌∷◌, [], length, IsTrue, IfOk, IfErr, OnErr, Contains, if◌then◌else◌};
+ghost use Rattle.history.specs.Counts.{AreDistinct};
+
+use crate::config::Config;
+use history::Memory;
+use std::alloc::Global;
+use std::marker::Model;
+
+/// The configurations that a search has visited, each once. Contracts see them in the order of their first
+/// visits.
+#[derive(Debug, Drop)]
+pub struct Memo {
+    visited: Vec<Config>,
+}
+
+impl Model for Memo {
+    ghost use Rattle.std.specs.Prelude.{List};
+    ghost use Rattle.history.specs.Configurations.{Configuration};
+    ghost use Rattle.history.specs.Counts.{AreDistinct};
+
+    ghost Value = { List Configuration };
+
+    ghost view = { λ m. m.visited.items };
+
+    ghost invariant = { λ m. AreDistinct m.visited.items };
+}
+
+impl Memo {
+    /// Nothing visited. It takes no memory.
+    pub fn new(alloc: Global) -> Memo
+        ensures { result ≡ [] }
+    {
+        Memo {
+            visited: Vec::new(alloc),
+        }
+    }
+
+    /// Whether the configuration is new; from now on it is not. On `Memory` it is handed back, and nothing
+    /// has changed: only a new one can want memory. It compares the configuration with each one visited.
+    pub fn visit(&mut self, config: Config) -> Result<bool, (Config, Memory)>
+        ensures new { IfOk result (λ new. IsTrue new ↔ (Contains self.old config → ⊥)) }
+        ensures visited { IfOk result (λ new. self.new
+            ≡ (if new then self.old ++ config ∷ [] else self.old)) }
+        ensures refused { OnErr result (Contains self.old config → ⊥) }
+        ensures handed_back { IfErr result (λ e. e.0 ≡ config) }
+        ensures unchanged { OnErr result (self.new ≡ self.old) }
+    {
+        if self.has(&config) {
+            return Ok(false);
+        }
+        match self.visited.push(config) {
+            Ok(()) => Ok(true),
+            Err(refused) => Err((refused.value, Memory)),
+        }
+    }
+
+    /// How many configurations were visited.
+    pub fn len(&self) -> usize
+        ensures len { result ≡ length self.now }
+        ensures distinct { AreDistinct self.now }
+    {
+        self.visited.len()
+    }
+
+    /// Whether none was visited.
+    pub fn is_empty(&self) -> bool
+        ensures { IsTrue result ↔ (self.now ≡ []) }
+    {
+        self.visited.is_empty()
+    }
+
+    /// Whether the configuration was visited.
+    fn has(&self, config: &Config) -> bool
+        ensures { IsTrue result ↔ Contains self.now config.now }
+    {
+        self.visited.contains(config)
+    }
+}
