@@ -1,0 +1,3 @@
+pub mod RemainingLemmas
+pub mod StandingLemmas
+pub mod VisitLemmas
