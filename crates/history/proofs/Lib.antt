@@ -32,3 +32,5 @@ pub mod WholeLemmas
 pub mod DisjointLemmas
 pub mod UniqueMergeLemmas
 pub mod SortedMergeLemmas
+pub mod OneCallLemmas
+pub mod UniqueSegmentLemmas

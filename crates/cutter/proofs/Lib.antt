@@ -1,0 +1,4 @@
+mod KeyRangeLemmas
+mod ChainLemmas
+mod CutLemmas
+mod WalkLemmas

@@ -1,0 +1,5 @@
+use Rattle.history.proofs.UniqueSegmentLemmas.{AreSegments-unique_of_history}
+use Rattle.cutter.proofs.laws.one_list_of_segments.Goals as goal
+
+pub returns : goal.returns
+returns c = AreSegments-unique_of_history

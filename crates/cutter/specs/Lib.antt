@@ -1,0 +1,2 @@
+pub mod KeyRanges
+pub mod Laws

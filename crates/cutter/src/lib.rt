@@ -1,0 +1,14 @@
+//! The segments of a recorded history of an ordered map: the calls fall apart where no completed scan goes
+//! over a boundary between keys, and what falls apart is judged apart.
+//!
+//! What a cut and a segment are stands in `history`'s definitions.
+#![tactic(auto)]
+
+mod key_range;
+mod laws;
+mod segments;
+#[cfg(test)]
+mod tests;
+
+pub use laws::one_list_of_segments;
+pub use segments::cut;
