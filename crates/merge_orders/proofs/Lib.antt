@@ -1,0 +1,6 @@
+mod OnceLemmas
+mod PlacedLemmas
+mod SortedLemmas
+mod ComputedLemmas
+mod SingleKeyLemmas
+mod SmallHistories

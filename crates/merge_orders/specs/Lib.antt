@@ -1,0 +1,2 @@
+pub mod OrdersOfSegments
+pub mod Points

@@ -1,0 +1,18 @@
+-- Orders that can be merged.
+use Rattle.std.specs.Prelude.{◌≢◌, ℕ, ◌<◌, List, length, All, AllPairs, Contains}
+use Rattle.std.specs.List.{AllZip}
+use Rattle.history.specs.declared.operation.Operation.{Operation}
+use Rattle.history.specs.MapObject.{Contents}
+use Rattle.history.specs.SegmentView.{SegmentView}
+use Rattle.history.specs.Segments.{AreSegments}
+use Rattle.history.specs.SegmentOrders.{IsOrderOf}
+
+-- one order for each segment of the calls, by rising key, and none where there is no segment
+abbrev pub AreOrdersOfSegments : Contents → List Operation → List (List ℕ) → Type 0
+AreOrdersOfSegments start calls orders = (segments : List SegmentView) × AreSegments calls segments × AllZip (IsOrderOf start) segments orders
+
+-- the orders name calls, each of them once, and no call is in two of them
+pub record NameCallsOnce (calls : List Operation) (orders : List (List ℕ)) : Type 0 where
+  pub known : All (λ order. All (λ n. n < length calls) order) orders
+  pub distinct : All (AllPairs (λ m n. m ≢ n)) orders
+  pub disjoint : AllPairs (λ order other. (n : ℕ) → Contains order n → Contains other n → ⊥) orders
