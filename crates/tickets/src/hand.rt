@@ -1,0 +1,31 @@
+//! A share of the draws.
+ghost use Rattle.std.specs.Prelude.{◌≡◌, ◌+◌, ◌<◌, ◌≤◌, [], length, All};
+ghost use Rattle.tickets.specs.declared.TheConstants.{MAX_QUOTA};
+
+use crate::rule::Holding;
+use atomic_table::Seat;
+
+/// A share of the draws from one [`Tickets`](crate::Tickets), for one thread at a time. Where a hand is dropped its
+/// share is lost, and without it the tickets can't be closed.
+#[derive(Drop)]
+pub struct Hand {
+    pub(crate) seat: Seat<(), Holding>,
+    pub(crate) left: u64,
+    pub(crate) drawn: u64,
+    ghost slots: { seat.me.1 ≡ [] },
+    ghost left_is: { left ≡ seat.me.0.left },
+    ghost drawn_is: { drawn ≡ length seat.me.0.drawn },
+    ghost small: { drawn + left ≤ MAX_QUOTA },
+    ghost floored: { All (λ x. x < seat.me.0.floor) seat.me.0.drawn },
+}
+
+impl Hand {
+    ghost use Rattle.tickets.specs.Hands.{left_of};
+
+    /// How many numbers the hand may still draw.
+    pub fn left(&self) -> u64
+        ensures { result ≡ left_of self.now }
+    {
+        self.left
+    }
+}

@@ -1,0 +1,63 @@
+//! What a hand holds, the rule of the shared word, and what each atomic step tells. All of it is for the proofs alone.
+ghost use Rattle.std.specs.Prelude.{[]};
+ghost use Rattle.tickets.specs.Holdings.{holding, KeepsCount, Draws, SetsAside, StaysWithin, kept_part, given_part, both_parts, no_part};
+
+use atomic_table::{Join, Play, Split, TableRule};
+use std::collections::LinkedList;
+
+/// What a hand holds. No value of it is made.
+pub(crate) struct Holding {
+    /// What the hand drew, with what the hands that were joined to it drew.
+    pub drawn: LinkedList<u64>,
+    /// How many numbers it may still draw.
+    pub left: u64,
+    /// The hand draws no number below this.
+    pub floor: u64,
+    /// How many draws the next split gives away.
+    pub set_aside: u64,
+}
+
+/// The rule of the word: it counts the draws of all hands.
+pub(crate) struct Counting;
+
+impl TableRule<(), Holding, u64> for Counting {
+    ghost holds = { KeepsCount };
+
+    ghost first = { λ quota. holding [] quota 0 0 };
+}
+
+/// A draw.
+pub(crate) struct Draw;
+
+impl Play<(), Holding> for Draw {
+    ghost then = { Draws };
+}
+
+/// A note of how many draws the next split gives away.
+pub(crate) struct SetAside;
+
+impl Play<(), Holding> for SetAside {
+    ghost then = { SetsAside };
+}
+
+/// A look at the bound on what a hand holds.
+pub(crate) struct Look;
+
+impl Play<(), Holding> for Look {
+    ghost then = { StaysWithin };
+}
+
+/// A split gives away what was set aside, and a join puts two holdings together.
+pub(crate) struct Part;
+
+impl Split<Holding> for Part {
+    ghost left = { kept_part };
+
+    ghost right = { given_part };
+}
+
+impl Join<Holding> for Part {
+    ghost both = { both_parts };
+
+    ghost spent = { no_part };
+}
