@@ -1,16 +1,15 @@
 #!/usr/bin/env python3
 """Times the program on histories that it generates, and prints the time and the peak memory of each run.
 
-    benchmarks/run.py
+    benchmarks/run.py [check|judge]..
 
-A history here is made by one sorted map that processes call in turn, so that the calls by number are an
-order of it.
+A history for `check` is made by one sorted map that processes call in turn, so that the calls by number are an
+order of it. In one for `judge` the calls overlap, and each has its effect at some moment while it is open.
 """
 
 import json
 import os
 import random
-import resource
 import subprocess
 import sys
 import tempfile
@@ -19,6 +18,26 @@ import time
 TOP = os.path.dirname(os.path.dirname(os.path.abspath(__file__)))
 PROGRAM = os.path.join(TOP, "crates", "bench", "out", "bench")
 MAX_TEXT = 16_777_216
+MAX_BUDGET = 1_000_000
+
+
+def text_of(events):
+    """The compact text of a history."""
+    text = json.dumps({"events": events, "version": 1}, separators=(",", ":"), sort_keys=True)
+    return text.encode()
+
+
+def answer_of(held, name, numbers):
+    """Does a call on the pairs held, and gives its answer."""
+    if name == "scan":
+        low, high = numbers
+        return [[key, held[key]] for key in sorted(held) if low <= key <= high]
+    answer = held.get(numbers[0])
+    if name == "insert":
+        held[numbers[0]] = numbers[1]
+    elif name == "remove":
+        held.pop(numbers[0], None)
+    return answer
 
 
 def history(calls):
@@ -28,18 +47,36 @@ def history(calls):
     for number, (name, *numbers) in enumerate(calls):
         process = number % 4
         events.append({"invoke": [name, *numbers], "process": process})
-        if name == "scan":
-            low, high = numbers
-            answer = [[key, held[key]] for key in sorted(held) if low <= key <= high]
-        else:
-            answer = held.get(numbers[0])
-            if name == "insert":
-                held[numbers[0]] = numbers[1]
-            elif name == "remove":
-                held.pop(numbers[0], None)
-        events.append({"answer": answer, "process": process})
-    text = json.dumps({"events": events, "version": 1}, separators=(",", ":"), sort_keys=True)
-    return text.encode()
+        events.append({"answer": answer_of(held, name, numbers), "process": process})
+    return text_of(events)
+
+
+def overlapping(calls, processes, seed):
+    """The compact text of a history whose calls overlap: each process in a random turn begins its next call,
+    has the effect of its open one, or is answered."""
+    choose = random.Random(seed)
+    calls = iter(calls)
+    held = {}
+    events = []
+    opened = {}
+    answers = {}
+    left = True
+    while left or opened:
+        process = choose.randrange(processes)
+        if process in answers:
+            events.append({"answer": answers.pop(process), "process": process})
+            del opened[process]
+        elif process in opened:
+            name, *numbers = opened[process]
+            answers[process] = answer_of(held, name, numbers)
+        elif left:
+            call = next(calls, None)
+            if call is None:
+                left = False
+            else:
+                opened[process] = call
+                events.append({"invoke": list(call), "process": process})
+    return text_of(events)
 
 
 def mixed(count, keys, seed):
@@ -103,10 +140,33 @@ def check():
         show(f"check, {scans} scans of 2000 pairs", words, text, b"ok\n")
 
 
+def configurations(text):
+    """How many configurations the search meets: the least budget at which it is not spent."""
+    low, high = 1, MAX_BUDGET
+    while low < high:
+        middle = (low + high) // 2
+        _, _, answer = run(["judge", "--budget", str(middle)], text)
+        if b"undecided" in answer:
+            low = middle + 1
+        else:
+            high = middle
+    return low
+
+
+def judge():
+    for processes in (2, 3, 4):
+        for count in (10, 50, 100, 200):
+            text = overlapping(mixed(count, 5, count), processes, count)
+            met = configurations(text)
+            name = f"judge, {count} calls of {processes}, {met} configurations"
+            show(name, ["judge", "--budget", str(MAX_BUDGET)], text, b'{"order":')
+
+
 def main():
     subprocess.run([os.path.join(TOP, "bench"), "--help"], stderr=subprocess.DEVNULL, check=False)
-    resource.setrlimit(resource.RLIMIT_STACK, (8 << 20, 8 << 20))
-    check()
+    parts = {"check": check, "judge": judge}
+    for part in sys.argv[1:] or parts:
+        parts[part]()
 
 
 if __name__ == "__main__":

@@ -11,7 +11,9 @@ use Rattle.history.specs.Operations.{operations}
 use Rattle.certificate.specs.declared.fault.OrderFault.{OrderFault}
 use Rattle.certificate.specs.declared.fault.OrderFault.TheVariants as orders
 use Rattle.certificate.specs.Faults.{IsRefusedFor}
-use Rattle.bench.specs.Answers.{IsTextOf, SpellsNone, SpellsUnordered}
+use Rattle.judge.specs.declared.verdict.Verdict.{Verdict}
+use Rattle.judge.specs.Shown.{IsShown}
+use Rattle.bench.specs.Answers.{IsTextOf, SpellsNone, SpellsUnordered, SpellsJudged}
 
 -- what was read is the whole, where it is no longer than a text may be
 same_text : (text : List ℕ) → length (take (MAX_TEXT + 1) text) ≤ MAX_TEXT → take (MAX_TEXT + 1) text ≡ text
@@ -54,3 +56,9 @@ pub SpellsUnordered-told : (told : Option (List ℕ)) (events : List Event) (ord
     → IsRefusedFor [] (operations events) order fault → fault ≢ orders.Memory → Told fault → IfSome told (λ text. (f : OrderFault) × SpellsUnordered text order f × Told f)
 SpellsUnordered-told None events order fault Told h refused not_memory told = tt
 SpellsUnordered-told (Some text) events order fault Told h refused not_memory told = (fault, record { events = events; is_text = h; refused = refused; not_memory = not_memory }, told)
+
+-- a text told that spells these events is judged by a verdict on their calls
+pub SpellsJudged-told : (told : Option (List ℕ)) (events : List Event) (budget : ℕ) (verdict : Verdict) (Ends Told : Verdict → Type 0) → IfSome told (λ text. IsTextOf text events)
+    → IsShown [] budget (operations events) verdict → Ends verdict → Told verdict → IfSome told (λ text. (v : Verdict) × SpellsJudged text budget v × Ends v × Told v)
+SpellsJudged-told None events budget verdict Ends Told h shown ends told = tt
+SpellsJudged-told (Some text) events budget verdict Ends Told h shown ends told = (verdict, (events, h, shown), ends, told)

@@ -11,6 +11,8 @@ use Rattle.history.specs.TextFaults.{IsTextFault}
 use Rattle.certificate.specs.declared.fault.OrderFault.{OrderFault}
 use Rattle.certificate.specs.declared.fault.OrderFault.TheVariants as orders
 use Rattle.certificate.specs.Faults.{IsRefusedFor}
+use Rattle.judge.specs.declared.verdict.Verdict.{Verdict}
+use Rattle.judge.specs.Shown.{IsShown}
 use Rattle.bench.specs.Lines.{order_fault_line, history_fault_line}
 
 -- the text spells these events, and they are a history
@@ -33,6 +35,10 @@ pub record SpellsUnordered (text order : List ℕ) (fault : OrderFault) : Type 0
 pub record SpellsNone (text : List ℕ) (fault : HistoryFault) : Type 0 where
   pub refused : IsTextFault text fault
   pub not_memory : fault ≢ histories.Memory
+
+-- the text spells a history, and what the verdict says of its calls at the budget is so
+abbrev pub SpellsJudged : List ℕ → ℕ → Verdict → Type 0
+SpellsJudged text budget verdict = (events : List Event) × IsTextOf text events × IsShown [] budget (operations events) verdict
 
 -- a number is one of these
 abbrev pub IsOneOf : List ℕ → ℕ → Type 0

@@ -13,6 +13,7 @@ mod reading;
 mod report;
 #[cfg(test)]
 mod tests;
+mod verdict;
 
 use check::run_check;
 use command_line::{Line, LineFault, read_line};
@@ -22,6 +23,7 @@ use std::env;
 use std::io::ErrorKind;
 use std::process::ExitCode;
 use streams::{Sink, Source, StandardError, StandardInput, StandardOutput};
+use verdict::run_judge;
 
 fn main(rt: HostRuntime) -> ExitCode {
     let mut source = StandardInput::new(rt.stdin());
@@ -65,6 +67,7 @@ fn run<S: Source, O: Sink, F: Sink>(
 {
     match read_line(alloc, words) {
         Ok(Line::Check { order }) => run_check(alloc, source, output, faults, &order),
+        Ok(Line::Judge { budget }) => run_judge(alloc, source, output, faults, budget),
         Err(LineFault::Line(text)) => {
             tell(faults, text.as_bytes());
             WORDS

@@ -11,6 +11,9 @@ pub const YES: u8 = 0;
 /// The answer is no, or the fault of an order.
 pub const NO: u8 = 1;
 
+/// The budget was spent without an answer.
+pub const UNDECIDED: u8 = 2;
+
 /// The input was refused.
 pub const REFUSED: u8 = 3;
 

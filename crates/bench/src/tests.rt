@@ -1,5 +1,8 @@
+ghost use Rattle.std.specs.Prelude.{◌≤◌};
+
 use crate::check::run_check;
 use crate::run;
+use crate::verdict::run_judge;
 use std::alloc::{AllocError, Global};
 use std::process::Abort;
 use std::test::Fail;
@@ -335,6 +338,129 @@ fn words(rt: HostRuntime) -> Result<(), Fail> {
         assert_eq!(rt; answer, status, "{words:?}");
         assert!(rt; out.bytes() == output.as_bytes(), "{words:?}");
         assert_eq!(rt; err.bytes().is_empty(), status != 5, "{words:?}");
+    }
+    Ok(())
+}
+
+// `+0 insert 5 7, +1 get 5, -1 none, -0 none`
+const OVERLAPPING_INSERT: &str =
+    "{\"events\":[{\"invoke\":[\"insert\",5,7],\"process\":0},{\"invoke\":[\"get\",5],\"process\":1},{\"answer\":null,\"process\":1},{\"answer\":null,\"process\":0}],\"version\":1}";
+
+// the same, then `+2 get 9, -2 1`
+const SPENT_AND_REFUTED: &str =
+    "{\"events\":[{\"invoke\":[\"insert\",5,7],\"process\":0},{\"invoke\":[\"get\",5],\"process\":1},{\"answer\":null,\"process\":1},{\"answer\":null,\"process\":0},{\"invoke\":[\"get\",9],\"process\":2},{\"answer\":1,\"process\":2}],\"version\":1}";
+
+// Judges, and compares what it wrote and answered.
+fn judges(
+    rt: &impl Abort,
+    alloc: Global,
+    text: &str,
+    budget: u32,
+    status: u8,
+    output: &str,
+    faults: &str,
+) -> Result<(), AllocError>
+    requires { (1 ≤ budget) × (budget ≤ 1000000) }
+{
+    let text = text.as_bytes();
+    let mut source = MemorySource::new(Vec::from_slice(alloc, text)?, 50, None);
+    let mut out = MemorySink::new(Vec::new(alloc), 7, None);
+    let mut err = MemorySink::new(Vec::new(alloc), 7, None);
+    let answer = run_judge(alloc, &mut source, &mut out, &mut err, budget);
+    assert_eq!(rt; answer, status);
+    assert!(rt; out.bytes() == output.as_bytes());
+    assert!(rt; err.bytes() == faults.as_bytes());
+    Ok(())
+}
+
+#[test]
+fn verdicts(rt: HostRuntime) -> Result<(), Fail> {
+    let alloc = rt.alloc();
+    let yes = [
+        (EMPTY, "{\"order\":[],\"verdict\":\"yes\"}\n"),
+        (INSERT_THEN_GET, "{\"order\":[0,1],\"verdict\":\"yes\"}\n"),
+        (
+            OVERLAPPING_INSERT,
+            "{\"order\":[1,0],\"verdict\":\"yes\"}\n",
+        ),
+        (
+            SEEN_PENDING_INSERT,
+            "{\"order\":[0,1],\"verdict\":\"yes\"}\n",
+        ),
+        (PENDING_SCAN, "{\"order\":[1,0,2],\"verdict\":\"yes\"}\n"),
+        (WHOLE_SCAN, "{\"order\":[0,1,2],\"verdict\":\"yes\"}\n"),
+        (REFUSED_INSERT, "{\"order\":[0,1],\"verdict\":\"yes\"}\n"),
+    ];
+    for (text, report) in yes {
+        judges(&rt, alloc, text, 1000, 0, report, "")?;
+    }
+    let no = [
+        (
+            MISSED_INSERT,
+            "{\"calls\":[0,1],\"hi\":5,\"lo\":5,\"verdict\":\"no\"}\n",
+        ),
+        (
+            LOST_PENDING_INSERT,
+            "{\"calls\":[0,1,2],\"hi\":5,\"lo\":5,\"verdict\":\"no\"}\n",
+        ),
+        (
+            UNSORTED_SCAN,
+            "{\"calls\":[0,1,2],\"hi\":18446744073709551615,\"lo\":0,\"verdict\":\"no\"}\n",
+        ),
+    ];
+    for (text, report) in no {
+        judges(&rt, alloc, text, 1000, 1, report, "")?;
+    }
+    Ok(())
+}
+
+#[test]
+fn budgets(rt: HostRuntime) -> Result<(), Fail> {
+    let alloc = rt.alloc();
+    let yes = "{\"order\":[1,0],\"verdict\":\"yes\"}\n";
+    judges(&rt, alloc, OVERLAPPING_INSERT, 4, 0, yes, "")?;
+    let spent = "{\"calls\":[0,1],\"hi\":5,\"lo\":5,\"verdict\":\"undecided\"}\n";
+    judges(&rt, alloc, OVERLAPPING_INSERT, 3, 2, spent, "")?;
+    let spent = "{\"calls\":[0,1,2],\"hi\":9,\"lo\":5,\"verdict\":\"undecided\"}\n";
+    judges(&rt, alloc, SPENT_AND_REFUTED, 3, 2, spent, "")?;
+    let no = "{\"calls\":[0,1,2],\"hi\":9,\"lo\":5,\"verdict\":\"no\"}\n";
+    judges(&rt, alloc, SPENT_AND_REFUTED, 4, 1, no, "")?;
+    judges(
+        &rt,
+        alloc,
+        "{\"events\":[],\"version\":3}",
+        1,
+        3,
+        "",
+        "history: 3 Version\n",
+    )?;
+    judges(&rt, alloc, "{", 1000000, 3, "", "history: 2 NotJson\n")?;
+    Ok(())
+}
+
+// One byte at a time: the call after the first `n` fails, at the source or the output.
+#[test]
+fn failing_ends_of_a_judge(rt: HostRuntime) -> Result<(), Fail> {
+    let alloc = rt.alloc();
+    let text = MISSED_INSERT.as_bytes();
+    let reads = text.len() as u64 + 1;
+    for n in 0..reads + 1 {
+        let mut source = MemorySource::new(Vec::from_slice(alloc, text)?, 1, Some(n));
+        let mut out = MemorySink::new(Vec::new(alloc), 100, None);
+        let mut err = MemorySink::new(Vec::new(alloc), 1, None);
+        let status = run_judge(alloc, &mut source, &mut out, &mut err, 1000);
+        assert_eq!(rt; status, if n < reads { 6 } else { 1 }, "read {n}");
+        assert_eq!(rt; out.bytes().is_empty(), n < reads, "read {n}");
+    }
+    let report = "{\"calls\":[0,1],\"hi\":5,\"lo\":5,\"verdict\":\"no\"}\n".as_bytes();
+    let writes = report.len() as u64;
+    for n in 0..writes + 1 {
+        let mut source = MemorySource::new(Vec::from_slice(alloc, text)?, 100, None);
+        let mut out = MemorySink::new(Vec::new(alloc), 1, Some(n));
+        let mut err = MemorySink::new(Vec::new(alloc), 1, None);
+        let status = run_judge(alloc, &mut source, &mut out, &mut err, 1000);
+        assert_eq!(rt; status, if n < writes { 6 } else { 1 }, "write {n}");
+        assert!(rt; n < writes || out.bytes() == report, "write {n}");
     }
     Ok(())
 }

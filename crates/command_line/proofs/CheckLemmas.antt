@@ -1,51 +1,21 @@
 -- `check` and texts that spell numbers are accepted, and ask for a check of these numbers.
-use Rattle.std.proofs.Common.{◌≡◌, ◌∙◌, ◌++◌, ◌==◌, ◌≤◌, ℕ, Bool, true, false, nat_lt, refl, sym, ap, subst, arith, List, [], ◌∷◌, map, length, Some, None, is_some, codes, suc, le-ltb, append-nil, append_assoc}
+use Rattle.std.proofs.Common.{◌≡◌, ◌∙◌, ◌++◌, ◌≤◌, true, false, nat_lt, refl, sym, ap, arith, List, [], ◌∷◌, map, length, Some, None, codes, suc, le-ltb, append-nil, append_assoc}
 use Rattle.std.specs.List.{All, fold}
-use Rattle.std.specs.Str.{bytes_eq}
-use Rattle.std.proofs.lemmas.Bool.{eqb-true}
-use Rattle.std.proofs.lemmas.Option.{same_Some}
-use Rattle.std.proofs.lemmas.Str.Parse.{digit_from_value}
-use Rattle.clap.specs.Faults.{built_fault, check_fault, defaults_fault, entered_fault, fault_of, level_fault, settle_fault, turn_fault, walk_fault}
+use Rattle.clap.specs.Faults.{check_fault, defaults_fault, level_fault, settle_fault, turn_fault, walk_fault}
 use Rattle.clap.specs.Kinds.{Kinds, or_else, values_kinds}
-use Rattle.clap.specs.Lexer.{long_of, short_of, usize_max}
-use Rattle.clap.specs.Simple.{argument_words, built, entered, names_of, subcommand_of}
+use Rattle.clap.specs.Lexer.{usize_max}
 use Rattle.clap.specs.ValueTests.{accepts}
-use Rattle.clap.specs.Walk.{Held, Row, Text, Walk, finished, nothing_held, positional, rows_after, settled, walk, walk_from, walked}
-use Rattle.clap.proofs.FaultLemmas.{past, stopped_fault}
+use Rattle.clap.specs.Walk.{Held, Text, Walk, finished, nothing_held, positional, rows_after, settled, walk, walk_from, walked}
+use Rattle.clap.proofs.FaultLemmas.{past}
 use Rattle.clap.proofs.ValueTestLemmas.{Accepts-accepts}
-use Rattle.clap.proofs.WalkLemmas.{walk_stopped}
-use Rattle.command_line.specs.Commands.{bench_app, calls_rule, check_app}
+use Rattle.command_line.specs.Commands.{bench_app, calls_rule, check_app, judge_app, number_rule}
 use Rattle.command_line.specs.LineFaults.{IsAccepted}
-use Rattle.command_line.specs.Lines.{AsksCheck, IsCheck, values_of}
+use Rattle.command_line.specs.Lines.{ChecksNumbers, IsCheck, IsLineOf, values_of}
 use Rattle.command_line.specs.Numbers.{IsNumber, number_of}
-use Rattle.command_line.proofs.BenchLemmas.{check_shape, number_parser}
-
--- ---- a text that spells a number
-
--- the text is no flag and no `--`
-record IsPlain (text : Text) : Type 0 where
-  not_dashes : bytes_eq text (45 ∷ 45 ∷ []) ≡ false
-  not_long : long_of text ≡ None
-  not_short : short_of text ≡ None
-
--- a text that begins with no hyphen is such a text
-plain_start : (x : ℕ) (rest : Text) → (x == 45) ≡ false → IsPlain (x ∷ rest)
-plain_start x rest other = record {
-  not_dashes = rw other refl;
-  not_long = rw other refl;
-  not_short = rw other refl;
-}
-
--- and so is one that spells a number
-number_is_plain : (text : Text) → IsNumber text → IsPlain text
-number_is_plain [] number = absurd (omega (arith, number.0.0))
-number_is_plain (x ∷ rest) number = plain_start x rest (go (x == 45) refl)
-  where
-    go : (b : Bool) → (x == 45) ≡ b → b ≡ false
-    go false is = refl
-    go true is =
-        let minus : IsNumber (45 ∷ rest) = subst (λ (y : ℕ). IsNumber (y ∷ rest)) (eqb-true x 45 is) number in
-        absurd (omega (arith, digit_from_value 45 minus.0.1.0))
+use Rattle.command_line.specs.declared.line.Line.{Line}
+use Rattle.command_line.specs.declared.line.Line.TheVariants.{Check, Judge}
+use Rattle.command_line.proofs.BenchLemmas.{check_shape, met_rows, names_check, number_parser, other_met, subcommand_accepted, words_met}
+use Rattle.command_line.proofs.PlainLemmas.{IsPlain, number_is_plain}
 
 -- ---- the walk over the texts
 
@@ -61,22 +31,22 @@ after_calls calls = record {
 
 -- the walk takes the first text as a value of CALL
 first_call : (text : Text) → IsPlain text → walked check_shape.rules [] (walk_from nothing_held) text ≡ after_calls (text ∷ [])
-unfolding bench_app check_app calls_rule check_shape after_calls walked
+unfolding bench_app check_app calls_rule judge_app number_rule check_shape after_calls walked
 first_call text plain = rw (plain.not_dashes, plain.not_long, plain.not_short) refl
 
 -- and the next one
 next_call : (calls : List Text) (text : Text) → IsPlain text
     → walked check_shape.rules [] (after_calls calls) text ≡ after_calls (calls ++ text ∷ [])
-unfolding bench_app check_app calls_rule check_shape after_calls walked
+unfolding bench_app check_app calls_rule judge_app number_rule check_shape after_calls walked
 next_call calls text plain = rw (plain.not_dashes, plain.not_long, plain.not_short) refl
 
 -- neither has a fault
 first_turn : (text : Text) → IsPlain text → turn_fault check_shape [] (walk_from nothing_held) text ≡ []
-unfolding bench_app check_app calls_rule check_shape
+unfolding bench_app check_app calls_rule judge_app number_rule check_shape
 first_turn text plain = rw (plain.not_dashes, plain.not_long, plain.not_short) refl
 
 next_turn : (calls : List Text) (text : Text) → IsPlain text → turn_fault check_shape [] (after_calls calls) text ≡ []
-unfolding bench_app check_app calls_rule check_shape after_calls
+unfolding bench_app check_app calls_rule judge_app number_rule check_shape after_calls
 next_turn calls text plain = rw (plain.not_dashes, plain.not_long, plain.not_short) refl
 
 -- the first of some texts that spell numbers, and the others
@@ -136,7 +106,7 @@ level_rest h = or_else (settle_fault check_shape.rules check_shape.args_override
 
 -- none of them fails after one text or more
 rest_passes : (t : Text) (ts : List Text) → All IsNumber (t ∷ ts) → length (t ∷ ts) ≤ usize_max → level_rest (after_calls (t ∷ ts)).held ≡ []
-unfolding bench_app check_app calls_rule check_shape after_calls level_rest defaults_fault
+unfolding bench_app check_app calls_rule judge_app number_rule check_shape after_calls level_rest defaults_fault
 rest_passes t ts numbers fits =
     let not_few : nat_lt (length (t ∷ ts)) 0 ≡ false = le-ltb _ _ (omega arith) in
     let not_many : nat_lt usize_max (length (t ∷ ts)) ≡ false = le-ltb _ _ fits in
@@ -144,7 +114,7 @@ rest_passes t ts numbers fits =
 
 -- no step of the level fails without a text
 no_calls : level_fault check_shape [] nothing_held [] false [] ≡ []
-unfolding bench_app check_app calls_rule check_shape walk_fault defaults_fault
+unfolding bench_app check_app calls_rule judge_app number_rule check_shape walk_fault defaults_fault
 no_calls = refl
 
 -- nor with any that spell numbers
@@ -156,77 +126,23 @@ level_faultless (t ∷ ts) numbers fits =
 
 -- the row of CALL holds the texts
 level_values : (calls : List Text) → All IsNumber calls → values_of (codes "CALL") (rows_after check_shape.rules [] calls) ≡ calls
-unfolding bench_app check_app calls_rule check_shape after_calls
+unfolding bench_app check_app calls_rule judge_app number_rule check_shape after_calls
 level_values [] numbers = refl
 level_values (t ∷ ts) numbers =
     ap (λ w. values_of (codes "CALL") (finished check_shape.rules w.held)) (calls_walk t ts numbers)
 
--- ---- the program's own level
-
--- where the walk stands once it has met `check`, with these words after it
-stopped_walk : List Text → Walk
-stopped_walk calls = record (walk_from nothing_held) { stopped = Some (codes "check", calls) }
-
--- the walk meets `check`
-top_walk : (calls : List Text) → walk (built bench_app).top.rules (names_of (built bench_app)) nothing_held (codes "check" ∷ calls) ≡ stopped_walk calls
-unfolding bench_app check_app calls_rule stopped_walk walked
-top_walk calls = sym (walk_stopped (built bench_app).top.rules (names_of (built bench_app)) (walk_from nothing_held) (codes "check") [] calls)
-
--- and has no fault
-top_turns : (calls : List Text) → walk_fault (built bench_app).top (names_of (built bench_app)) (walk_from nothing_held) (codes "check" ∷ calls) ≡ []
-unfolding bench_app check_app calls_rule walk_fault walked
-top_turns calls = stopped_fault (built bench_app).top (names_of (built bench_app)) (walk_from nothing_held) (codes "check", []) calls
-
--- the steps after the walk of the program's own level
-top_rest : Walk → Kinds
-top_rest w =
-    let a = built bench_app in
-    or_else (entered_fault a w.stopped)
-    (or_else (settle_fault a.top.rules a.top.args_override_self w.held)
-    (or_else (defaults_fault (settled a.top.rules w.held).rows a.top.rules)
-    (check_fault a.top (finished a.top.rules w.held) (is_some (entered a w.stopped)))))
-
--- none of them fails where the level of `check` does not
-top_passes : (calls : List Text) → level_fault check_shape [] nothing_held calls false [] ≡ [] → top_rest (stopped_walk calls) ≡ []
-unfolding bench_app check_app calls_rule check_shape stopped_walk top_rest defaults_fault
-top_passes calls none = rw none refl
-
--- nor does any step at all
-top_faultless : (calls : List Text) → level_fault check_shape [] nothing_held calls false [] ≡ []
-    → built_fault (built bench_app) nothing_held (codes "check" ∷ calls) ≡ []
-unfolding top_rest
-top_faultless calls none = past _ _ (top_turns calls) ∙ ap top_rest (top_walk calls) ∙ top_passes calls none
-
--- the words after the program's name
-arguments_are : (name : Text) (rest : List Text) → argument_words bench_app (name ∷ rest) ≡ rest
-unfolding bench_app
-arguments_are name rest = refl
+-- ---- the words
 
 -- the words are accepted
 pub check_accepted : (words calls : List Text) → IsCheck words calls → length words ≤ usize_max → IsAccepted words
 check_accepted words calls (name, is, numbers) fits =
     let calls_fit : length calls ≤ usize_max = omega (arith, ap length is) in
-    ap (fault_of bench_app) is ∙ ap (built_fault (built bench_app) nothing_held) (arguments_are name (codes "check" ∷ calls))
-    ∙ top_faultless calls (level_faultless calls numbers calls_fit)
-
--- the level that is entered
-check_enters : (calls : List Text) → entered (built bench_app) (stopped_walk calls).stopped ≡ Some (codes "check", rows_after check_shape.rules [] calls)
-unfolding bench_app check_app calls_rule check_shape stopped_walk
-check_enters calls = refl
-
--- their subcommand is `check`
-check_met : (words calls : List Text) → IsCheck words calls
-    → subcommand_of bench_app words ≡ Some (codes "check", rows_after check_shape.rules [] calls)
-check_met words calls (name, is, numbers) =
-    let a = built bench_app in
-    ap (subcommand_of bench_app) is
-    ∙ ap (λ rest. entered a (walk a.top.rules (names_of a) nothing_held rest).stopped) (arguments_are name (codes "check" ∷ calls))
-    ∙ ap (λ w. entered a w.stopped) (top_walk calls) ∙ check_enters calls
+    subcommand_accepted words name (codes "check") check_shape calls is names_check (level_faultless calls numbers calls_fit)
 
 -- what they ask for is a check of the numbers that the texts spell
-pub checks_numbers : (words calls : List Text) (order : List ℕ) → IsCheck words calls → AsksCheck (subcommand_of bench_app words) order
-    → order ≡ map number_of calls
-checks_numbers words calls order (name, is, numbers) asks =
-    let rows_are : asks.rows ≡ rows_after check_shape.rules [] calls =
-    ap (λ (p : Text × List Row). p.1) (same_Some _ _ (sym asks.subcommand ∙ check_met words calls (name, is, numbers))) in
+pub checks_numbers : (words calls : List Text) (line : Line) → IsCheck words calls → IsLineOf words line → ChecksNumbers calls line
+checks_numbers words calls (Check order) (name, is, numbers) asks =
+    let rows_are = met_rows _ _ _ _ _ asks.subcommand (words_met words name (codes "check") check_shape calls is names_check) in
     asks.order_is ∙ ap (λ rows. map number_of (values_of (codes "CALL") rows)) rows_are ∙ ap (map number_of) (level_values calls numbers)
+checks_numbers words calls (Judge budget) (name, is, numbers) asks =
+    other_met _ _ _ _ _ asks.subcommand (words_met words name (codes "check") check_shape calls is names_check) refl

@@ -1,7 +1,8 @@
 -- The rows that a level of a simple command leaves: where no step of the level fails, the values of
--- each row pass the parser of its argument. Each lemma says so of one step: it leaves rows that pass
--- where the rows before it do and the step has no fault.
-use Rattle.std.proofs.Common.{◌≡◌, ◌∙◌, arith, ◌+◌, ◌++◌, ◌&&◌, ◌||◌, ℕ, Bool, zero, suc, true, false, cond, refl, sym, ap, subst, List, [], ◌∷◌, length, min, drop, Option, Some, None, is_some}
+-- each row pass the parser of its argument, and there are some where each use of it wants some. Each
+-- lemma says so of one step: it leaves rows that pass where the rows before it do and the step has no
+-- fault.
+use Rattle.std.proofs.Common.{◌≡◌, ◌∙◌, arith, ◌+◌, ◌++◌, ◌&&◌, ◌||◌, ℕ, Bool, zero, suc, true, false, cond, refl, sym, ap, subst, List, [], ◌∷◌, length, min, drop, nat_lt, Option, Some, None, is_some}
 use Rattle.std.specs.List.{find, fold}
 use Rattle.std.specs.Option.{option_map_or}
 use Rattle.std.specs.Prelude.{encode_utf8, slice_get}
@@ -39,11 +40,38 @@ all_pass ignore_case parser (x ∷ xs) ys first rest =
     let parts = neither (value_kinds ignore_case parser x) _ first in
     rw (parts.0, all_pass ignore_case parser xs ys parts.1 rest) refl
 
+-- ---- values
+
+-- there are some texts
+abbrev pub AreSome : List Text → Type 0
+AreSome [] = ⊥
+AreSome (v ∷ vs) = Unit {0}
+
+-- some before others
+some_after : (xs ys : List Text) → AreSome ys → AreSome (xs ++ ys)
+some_after [] ys some = some
+some_after (x ∷ xs) ys some = tt
+
+-- each use of the argument wants some value
+abbrev pub wants_value : Rule → Bool
+wants_value a = nat_lt 0 (unwrap_or_range a.range).start_inclusive
+
+-- the values pass the parser of the argument, and there are some where it wants some
+pub record HasValues (a : Rule) (values : List Text) : Type 0 where
+  pub pass : values_fault a values ≡ []
+  pub some : wants_value a ≡ true → AreSome values
+
+-- a use that has not too few values has some, where the argument wants some
+used_some : (a : Rule) (most : ℕ) (values : List Text) → range_kinds (unwrap_or_range a.range).start_inclusive most (length values) ≡ []
+    → wants_value a ≡ true → AreSome (values_or_missing a values)
+used_some a most [] none wants = let bad : kind.InvalidValue ∷ [] ≡ [] = rw wants at none in cc
+used_some a most (v ∷ vs) none wants = tt
+
 -- ---- rows
 
--- the values of the row pass the parser of the argument that has its id
+-- the row has values of the argument that has its id
 abbrev pub RowPasses : List Rule → Row → Type 0
-RowPasses c r = (a : Rule) → arg_by_id c r.id ≡ Some a → values_fault a r.values ≡ []
+RowPasses c r = (a : Rule) → arg_by_id c r.id ≡ Some a → HasValues a r.values
 
 -- and so it is of each row
 abbrev pub RowsPass : List Rule → List Row → Type 0
@@ -108,24 +136,28 @@ module _ (c : List Rule) where
 
   -- one argument, the first that has its id
   module _ (a : Rule) (own : IsOwn c a) where
-    -- the values pass the parser of the argument that has this id
-    fault_by_id : (b : Rule) (vs : List Text) → values_fault a vs ≡ [] → arg_by_id c a.id ≡ Some b → values_fault b vs ≡ []
-    fault_by_id b vs passed found = subst (λ (r : Rule). values_fault r vs ≡ []) (same_Some a b (sym own ∙ found)) passed
+    -- the values are values of the argument that has this id
+    values_by_id : (b : Rule) (vs : List Text) → HasValues a vs → arg_by_id c a.id ≡ Some b → HasValues b vs
+    values_by_id b vs passed found = subst (λ (r : Rule). HasValues r vs) (same_Some a b (sym own ∙ found)) passed
 
-    -- values that pass, after those of a row
-    added_to : (r : Row) (vs : List Text) → r.id ≡ a.id → RowPasses c r → values_fault a vs ≡ [] → (b : Rule) → arg_by_id c r.id ≡ Some b
-        → values_fault b (r.values ++ vs) ≡ []
-    added_to r vs same one passed b found = all_pass b.ignore_case (parser_of_value b.parser) r.values vs (one b found)
-        (fault_by_id b vs passed (subst (λ (w : Text). arg_by_id c w ≡ Some b) same found))
+    -- more values, after those of a row
+    added_to : (r : Row) (vs : List Text) → r.id ≡ a.id → RowPasses c r → HasValues a vs → (b : Rule) → arg_by_id c r.id ≡ Some b
+        → HasValues b (r.values ++ vs)
+    added_to r vs same one passed b found =
+        let more : HasValues b vs = values_by_id b vs passed (subst (λ (w : Text). arg_by_id c w ≡ Some b) same found) in
+        record {
+          pass = all_pass b.ignore_case (parser_of_value b.parser) r.values vs (one b found).pass more.pass;
+          some = λ wants. some_after r.values vs (more.some wants);
+        }
 
     -- more values that pass
-    values_added : (how : Reading) (s : ValueSource) (vs : List Text) (rows : List Row) → values_fault a vs ≡ [] → RowsPass c rows
+    values_added : (how : Reading) (s : ValueSource) (vs : List Text) (rows : List Row) → HasValues a vs → RowsPass c rows
         → RowsPass c (with_values a.id how s vs rows)
     values_added how s vs rows passed all =
         let row : Row = record { id = a.id; values = vs; count = None; source = Some s; reading = how } in
         let more : (r : Row) → r.id ≡ a.id → RowPasses c r → RowsPass c (more_values s vs r) =
         λ r same one. (added_to r vs same one passed, tt) in
-        let one : RowsPass c (row ∷ []) = ((λ b found. fault_by_id b vs passed found), tt) in
+        let one : RowsPass c (row ∷ []) = ((λ b found. values_by_id b vs passed found), tt) in
         rows_changed a.id (more_values s vs) (row ∷ []) rows more one all
 
     -- one more count, whose text passes
@@ -133,9 +165,10 @@ module _ (c : List Rule) where
         → RowsPass c (with_count a.id how s n rows)
     count_added how s n rows passed all =
         let row : Row = record { id = a.id; values = count_text n ∷ []; count = Some n; source = Some s; reading = how } in
+        let text : HasValues a (count_text n ∷ []) = record { pass = passed; some = λ wants. tt } in
         let more : (r : Row) → r.id ≡ a.id → RowPasses c r → RowsPass c (new_count s n r) =
-        λ r same one. (added_to r (count_text n ∷ []) same one passed, tt) in
-        let one : RowsPass c (row ∷ []) = ((λ b found. fault_by_id b (count_text n ∷ []) passed found), tt) in
+        λ r same one. (added_to r (count_text n ∷ []) same one text, tt) in
+        let one : RowsPass c (row ∷ []) = ((λ b found. values_by_id b (count_text n ∷ []) text found), tt) in
         rows_changed a.id (new_count s n) (row ∷ []) rows more one all
 
     -- ---- one use of an argument
@@ -145,33 +178,36 @@ module _ (c : List Rule) where
         → RowsPass c (counted a.id (reading_by a) values rows)
     counted_passes [] rows none all =
         count_added (reading_by a) CommandLine (min (count_of a.id rows + 1) 255) (without a.id rows) (rw none refl) (without_passes a.id rows all)
-    counted_passes (v ∷ vs) rows none all = values_added (reading_by a) CommandLine (v ∷ vs) (without a.id rows) none (without_passes a.id rows all)
+    counted_passes (v ∷ vs) rows none all =
+        values_added (reading_by a) CommandLine (v ∷ vs) (without a.id rows) (record { pass = none; some = λ wants. tt }) (without_passes a.id rows all)
 
     -- a use that takes the place of an earlier one
-    set_passes : (again : Bool) (values : List Text) (rows : List Row) → set_fault again a values rows ≡ [] → RowsPass c rows
-        → RowsPass c (with_values a.id (reading_by a) CommandLine values (without a.id rows))
-    set_passes again values rows none all =
-        values_added (reading_by a) CommandLine values (without a.id rows) (neither (repeat_fault again a.id rows) _ none).1 (without_passes a.id rows all)
+    set_passes : (again : Bool) (values : List Text) (rows : List Row) → set_fault again a values rows ≡ [] → (wants_value a ≡ true → AreSome values)
+        → RowsPass c rows → RowsPass c (with_values a.id (reading_by a) CommandLine values (without a.id rows))
+    set_passes again values rows none some all =
+        let given : HasValues a values = record { pass = (neither (repeat_fault again a.id rows) _ none).1; some = some } in
+        values_added (reading_by a) CommandLine values (without a.id rows) given (without_passes a.id rows all)
 
     -- a use, by the action of the argument
-    acted_passes : (x : ArgAction) (again : Bool) (values : List Text) (rows : List Row) → action_fault x again a values rows ≡ [] → RowsPass c rows
-        → RowsPass c (used_as x a.id (reading_by a) values rows)
-    acted_passes action.Set again values rows none all = set_passes again values rows none all
-    acted_passes action.SetTrue again values rows none all = set_passes again values rows none all
-    acted_passes action.SetFalse again values rows none all = set_passes again values rows none all
-    acted_passes action.Append again values rows none all = values_added (reading_by a) CommandLine values rows none all
-    acted_passes action.Count again values rows none all = counted_passes values rows none all
-    acted_passes action.Help again values rows none all = all
-    acted_passes action.HelpShort again values rows none all = all
-    acted_passes action.HelpLong again values rows none all = all
-    acted_passes action.Version again values rows none all = all
+    acted_passes : (x : ArgAction) (again : Bool) (values : List Text) (rows : List Row) → action_fault x again a values rows ≡ []
+        → (wants_value a ≡ true → AreSome values) → RowsPass c rows → RowsPass c (used_as x a.id (reading_by a) values rows)
+    acted_passes action.Set again values rows none some all = set_passes again values rows none some all
+    acted_passes action.SetTrue again values rows none some all = set_passes again values rows none some all
+    acted_passes action.SetFalse again values rows none some all = set_passes again values rows none some all
+    acted_passes action.Append again values rows none some all =
+        values_added (reading_by a) CommandLine values rows (record { pass = none; some = some }) all
+    acted_passes action.Count again values rows none some all = counted_passes values rows none all
+    acted_passes action.Help again values rows none some all = all
+    acted_passes action.HelpShort again values rows none some all = all
+    acted_passes action.HelpLong again values rows none some all = all
+    acted_passes action.Version again values rows none some all = all
 
     -- a use with these values, or with those that stand for none
     used_passes : (again : Bool) (values : List Text) (rows : List Row) → use_fault again a values rows ≡ [] → RowsPass c rows
         → RowsPass c (used a values rows)
     used_passes again values rows none all =
-        acted_passes (action_of a) again (values_or_missing a values) rows
-        (neither (range_kinds (unwrap_or_range a.range).start_inclusive (most_values a) (length values)) _ none).1 all
+        let parts = neither (range_kinds (unwrap_or_range a.range).start_inclusive (most_values a) (length values)) _ none in
+        acted_passes (action_of a) again (values_or_missing a values) rows parts.1 (used_some a (most_values a) values parts.0) all
 
   -- ---- the walk
 
@@ -373,7 +409,8 @@ module _ (s : Shape) (own : AllOwn s.rules s.rules) where
       go false (v ∷ vs) none =
           let some : is_empty (v ∷ vs) ≡ false = ne_eqb (length (v ∷ vs)) 0 (λ e. omega arith) in
           let given : given_default_fault a (v ∷ vs) ≡ [] = rw some at none in
-          values_added s.rules a mine (reading_by a) DefaultValue (v ∷ vs) rows (neither (request_kinds (action_of a)) _ given).1 all
+          let values : HasValues a (v ∷ vs) = record { pass = (neither (request_kinds (action_of a)) _ given).1; some = λ wants. tt } in
+          values_added s.rules a mine (reading_by a) DefaultValue (v ∷ vs) rows values all
 
   -- the defaults of all
   defaults_pass : (rows : List Row) (rules : List Rule) → AllOwn s.rules rules → defaults_fault rows rules ≡ [] → RowsPass s.rules rows

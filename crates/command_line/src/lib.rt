@@ -13,5 +13,5 @@ mod read;
 mod tests;
 
 pub use fault::LineFault;
-pub use line::Line;
+pub use line::{DEFAULT_BUDGET, Line, MAX_BUDGET};
 pub use read::read_line;

@@ -1,15 +1,15 @@
-ghost use Rattle.std.specs.Prelude.{◌≡◌, ℕ, IfErr, IfOk, List, MatchResult, OnOk, Some, codes, map, true};
+ghost use Rattle.std.specs.Prelude.{◌≡◌, ℕ, IfErr, IfOk, IfSome, IsSomeAnd, List, MatchResult, OnOk, Some, codes, map, true};
 ghost use Rattle.std.specs.List.{All};
-ghost use Rattle.clap.specs.Words.{subcommand_rows_of, takes};
+ghost use Rattle.clap.specs.Words.{first_of, first_value, found_of, rows_of, subcommand_rows_of, takes};
 ghost use Rattle.clap.specs.Walk.{texts};
 ghost use Rattle.command_line.specs.Commands.{bench_app};
 ghost use Rattle.command_line.specs.LineFaults.{IsAccepted, IsFaultAt};
-ghost use Rattle.command_line.specs.Lines.{Asks, CanBeAsked, ChecksNumbers, IsCheck, IsLineOf};
+ghost use Rattle.command_line.specs.Lines.{Asks, CanBeAsked, ChecksNumbers, IsCheck, IsJudge, IsJudgeWith, IsLineOf, IsWithinLimits, values_of};
 ghost use Rattle.command_line.specs.Numbers.{IsNumber, number_of};
 
 use crate::command::bench_command;
 use crate::fault::LineFault;
-use crate::line::Line;
+use crate::line::{DEFAULT_BUDGET, Line};
 use clap::ArgMatches;
 use std::alloc::{AllocError, Global};
 
@@ -20,6 +20,7 @@ use std::alloc::{AllocError, Global};
 /// with the number of words and with their length.
 pub fn read_line<'a>(alloc: Global, words: &'a [&'a str]) -> Result<Line, LineFault>
     ensures line { IfOk result (IsLineOf (texts words.entry.now)) }
+    ensures limits { IfOk result IsWithinLimits }
     ensures accepted { OnOk result (IsAccepted (texts words.entry.now)) }
     ensures refused { IfErr result (IsFaultAt (texts words.entry.now)) }
     ensures taken { takes bench_app (texts words.entry.now) ≡ true
@@ -27,6 +28,11 @@ pub fn read_line<'a>(alloc: Global, words: &'a [&'a str]) -> Result<Line, LineFa
     // `check` and numbers are always a line.
     ensures check { (calls : List (List ℕ)) → IsCheck (texts words.entry.now) calls
         → MatchResult result (ChecksNumbers calls) (λ e. e ≡ LineFault.Memory) }
+    // `judge` is always a line, with the default where it names no budget.
+    ensures judge { IsJudge (texts words.entry.now)
+        → MatchResult result (λ line. line ≡ Line.Judge DEFAULT_BUDGET) (λ e. e ≡ LineFault.Memory) }
+    ensures judge_with { (budget : List ℕ) → IsJudgeWith (texts words.entry.now) budget
+        → MatchResult result (λ line. line ≡ Line.Judge (number_of budget)) (λ e. e ≡ LineFault.Memory) }
 {
     match bench_command(alloc)?.try_get_matches_from(words) {
         Ok(matches) => Ok(line_of(alloc, &matches)?),
@@ -40,14 +46,22 @@ fn line_of(alloc: Global, matches: &ArgMatches<'_>) -> Result<Line, AllocError>
     ensures { IfOk result (Asks (subcommand_rows_of matches.now)) }
 {
     match matches.subcommand() {
-        Some((name, check)) if name == "check" => {
-            let calls = check.get_strs("CALL").unwrap_or(&[]);
-            Ok(Line::Check {
-                order: numbers_of(alloc, calls)?,
-            })
-        }
+        Some((name, check)) if name == "check" => Ok(Line::Check {
+            order: numbers_of(alloc, check.get_strs("CALL").unwrap_or(&[]))?,
+        }),
+        Some((name, judge)) if name == "judge" => Ok(Line::Judge {
+            budget: number_at(judge, "budget"),
+        }),
         _ => unreachable!(),
     }
+}
+
+// The number that the value of an option spells.
+fn number_at(matches: &ArgMatches<'_>, id: &str) -> u32
+    requires { IsSomeAnd (first_value (found_of matches.now) id.now) IsNumber }
+    ensures { IsSomeAnd (first_value (found_of matches.now) id.now) (λ text. result ≡ number_of text) }
+{
+    matches.get_str(id).unwrap().parse::<u32>().unwrap()
 }
 
 // The numbers that the words spell.

@@ -1,16 +1,17 @@
-use Rattle.std.proofs.Common.{map, ap, sym, subst, refl, codes, List, [], Option, Some, None, ◌≡◌, ◌∙◌}
+use Rattle.std.proofs.Common.{ℕ, map, ap, sym, subst, refl, codes, List, [], Option, Some, None, ◌≡◌, ◌∙◌}
 use Rattle.std.specs.Borrow.{Bor}
 use Rattle.std.specs.List.{All}
 use Rattle.std.specs.Option.{option_map, unwrap_or}
-use Rattle.std.proofs.lemmas.Option.{same_Some}
 use Rattle.clap.specs.Walk.{texts}
-use Rattle.clap.specs.Words.{Text, found_of, matched_of, raw_values, rows_of}
+use Rattle.clap.specs.Words.{Text, found_of, matched_of, raw_values, rows_of, subcommand_rows_of}
 use Rattle.clap.specs.declared.parser.matches.Found.{Found}
 use Rattle.clap.proofs.WalkLemmas.{raw_values-rows}
-use Rattle.command_line.specs.Lines.{values_of}
+use Rattle.command_line.specs.Limits.{budget_limit}
+use Rattle.command_line.specs.Lines.{HasNumber, values_of}
 use Rattle.command_line.specs.Numbers.{IsNumber, number_of}
+use Rattle.command_line.proofs.MatchLemmas.{check_numbers, is_met, judge_budget, number_read, value_is_number}
 use Rattle.command_line.proofs.read.line_of.Goals as goal
-use Rattle.command_line.proofs.read.line_of.Goals.{After-unwrap_or-calls}
+use Rattle.command_line.proofs.read.line_of.Goals.{After-unwrap_or, Then-eq-2}
 
 -- the texts that a getter lends are the values of the argument, none where it has no row
 texts_are : (got : Option (Bor (List (Bor Text)))) (none : Bor (List (Bor Text))) (f : Found) (id : Text) → none.now ≡ []
@@ -18,22 +19,47 @@ texts_are : (got : Option (Bor (List (Bor Text)))) (none : Bor (List (Bor Text))
 texts_are None none f id empty given = ap texts empty ∙ ap (λ o. unwrap_or o []) (given ∙ raw_values-rows f id)
 texts_are (Some s) none f id empty given = ap (λ o. unwrap_or o []) (given ∙ raw_values-rows f id)
 
--- the words that the code reads are the values of CALL in the rows of the subcommand
-module _ (c : After-unwrap_or-calls) where
-  words_are : texts c.unwrap_or-calls.result.now ≡ values_of (codes "CALL") c.requires.0
-  words_are =
-      let found = found_of c.in-Some.check.now in
-      let rows_are : rows_of found ≡ c.requires.0 = same_Some _ _ (c.in-Some.ensures.rows ∙ ap (option_map (λ p. p.1)) c.requires.1) in
-      ap (λ s. texts s.now) c.unwrap_or-calls.ensures ∙ texts_are c.get_strs.result _ found (codes "CALL") refl c.get_strs.ensures
-      ∙ ap (values_of (codes "CALL")) rows_are
+-- the words that the code reads are the values of CALL in the rows of `check`
+module _ (c : After-unwrap_or) where
+  check_met : subcommand_rows_of c.args.matches.now ≡ Some (codes "check", rows_of (found_of c.in-Some.check.now))
+  check_met = is_met _ _ _ _ c.in-Some.ensures.name c.in-Some.ensures.rows (sym c.eq.ensures ∙ c.if-eq.true)
+
+  words_are : texts c.unwrap_or.result.now ≡ values_of (codes "CALL") (rows_of (found_of c.in-Some.check.now))
+  words_are = ap (λ s. texts s.now) c.unwrap_or.ensures ∙ texts_are c.get_strs.result _ (found_of c.in-Some.check.now) (codes "CALL") refl c.get_strs.ensures
+
+  are_numbers : All IsNumber (values_of (codes "CALL") (rows_of (found_of c.in-Some.check.now)))
+  are_numbers = check_numbers _ _ check_met c.requires
 
 pub numbers_of-requires : goal.numbers_of-requires
-numbers_of-requires c = subst (All IsNumber) (sym (words_are c)) c.requires.2
+numbers_of-requires c = subst (All IsNumber) (sym (words_are c)) (are_numbers c)
 
-pub returns : goal.returns
-returns c = record {
-  rows = c.requires.0;
-  subcommand = c.requires.1;
-  numbers = c.requires.2;
-  order_is = c.in_ok-numbers_of-in-Some.ensures ∙ ap (map number_of) (words_are (goal.at.returns c).After-unwrap_or-calls);
-}
+pub returns-in_ok-numbers_of-in-Some : goal.returns-in_ok-numbers_of-in-Some
+returns-in_ok-numbers_of-in-Some c =
+    let read = (goal.at.returns-in_ok-numbers_of-in-Some c).After-unwrap_or in
+    record {
+      rows = rows_of (found_of c.in-Some.check.now);
+      subcommand = check_met read;
+      numbers = are_numbers read;
+      order_is = c.in_ok-numbers_of-in-Some.ensures ∙ ap (map number_of) (words_are read);
+    }
+
+-- the budget has a number in the rows of `judge`
+module _ (c : Then-eq-2) where
+  judge_met : subcommand_rows_of c.args.matches.now ≡ Some (codes "judge", rows_of (found_of c.in-Some.check.now))
+  judge_met = is_met _ _ _ _ c.in-Some.ensures.name c.in-Some.ensures.rows (sym c.if-eq-2.ensures)
+
+  has_budget : (n : ℕ) × HasNumber (codes "budget") budget_limit (rows_of (found_of c.in-Some.check.now)) n
+  has_budget = judge_budget _ _ judge_met c.requires
+
+pub number_at-requires : goal.number_at-requires
+number_at-requires c =
+    value_is_number (found_of c.in-Some.check.now) _ _ _ (has_budget (goal.at.number_at-requires c).Then-eq-2).1
+
+pub returns-in-Some-2 : goal.returns-in-Some-2
+returns-in-Some-2 c =
+    let judge = (goal.at.returns-in-Some-2 c).Then-eq-2 in
+    record {
+      rows = rows_of (found_of c.in-Some.check.now);
+      subcommand = judge_met judge;
+      budget_is = number_read (found_of c.in-Some.check.now) _ _ _ (has_budget judge).1 _ c.number_at.ensures;
+    }

@@ -11,13 +11,13 @@ use Rattle.command_line.specs.declared.fault.LineFault.{LineFault}
 use Rattle.command_line.specs.declared.fault.LineFault.TheVariants as faults
 use Rattle.std.proofs.Common.{length, ◌≤◌, arith}
 use Rattle.command_line.proofs.CheckLemmas.{check_accepted, checks_numbers}
-use Rattle.command_line.specs.declared.line.Line.{Line}
-use Rattle.command_line.specs.declared.line.Line.TheVariants.{Check}
+use Rattle.command_line.proofs.JudgeLemmas.{judge_accepted, judge_with_accepted, judges_default, judges_with}
 use Rattle.clap.specs.Lexer.{usize_max}
 use Rattle.std.proofs.lemmas.List.{length-map}
 use Rattle.command_line.proofs.LineLemmas.{can_be_asked}
 use Rattle.command_line.proofs.BenchLemmas.{is_free_bench, is_simple_bench}
 use Rattle.command_line.proofs.read.read_line.Goals as goal
+use Rattle.command_line.proofs.read.read_line.Goals.{After-of, In_ok-line_of-in-Ok}
 
 -- a command that is the program's is accepted where its own faults are none
 accepted_as : (a : App) (words : List Text) → a ≡ bench_app → (is_simple_and_free a ≡ true → fault_of a words ≡ []) → IsAccepted words
@@ -48,33 +48,45 @@ line_of-requires c =
     let accepted = accepted_as _ words same c.in-Ok.ensures.kinds in
     subst CanBeAsked (sym (met_as _ words c.in-Ok.matches same c.in-Ok.ensures.matches)) (can_be_asked words accepted)
 
-pub returns-in_ok-line_of-in-Ok-clause-line : goal.returns-in_ok-line_of-in-Ok-clause-line
-returns-in_ok-line_of-in-Ok-clause-line c =
-    let met_is = met_as _ (texts c.args.words.now) c.in-Ok.matches c.in_ok-bench_command.ensures c.in-Ok.ensures.matches in
-    subst (λ (met : Option (Text × List Row)). Asks met c.in_ok-line_of-in-Ok.field-0) met_is c.in_ok-line_of-in-Ok.ensures
-
 pub returns-in_ok-line_of-in-Ok-clause-accepted : goal.returns-in_ok-line_of-in-Ok-clause-accepted
 returns-in_ok-line_of-in-Ok-clause-accepted c =
     accepted_as _ (texts c.args.words.now) c.in_ok-bench_command.ensures c.in-Ok.ensures.kinds
 
-pub returns-in-Err-clause-refused : goal.returns-in-Err-clause-refused
-returns-in-Err-clause-refused c =
-    let words = texts c.args.words.now in
-    fault_at words c.of.result (λ accepted. c.of.ensures (memory_only _ words c.in-Err.error c.in_ok-bench_command.ensures c.in-Err.ensures.kinds accepted))
+-- the line that is read is the one that the words ask for
+module _ (c : In_ok-line_of-in-Ok) where
+  line_is : IsLineOf (texts c.args.words.now) c.in_ok-line_of-in-Ok.field-0
+  line_is =
+      let met_is = met_as _ (texts c.args.words.now) c.in-Ok.matches c.in_ok-bench_command.ensures c.in-Ok.ensures.matches in
+      subst (λ (met : Option (Text × List Row)). Asks met c.in_ok-line_of-in-Ok.field-0) met_is c.in_ok-line_of-in-Ok.ensures
 
--- a line that the words of a check ask for
-checks_line : (words calls : List Text) (line : Line) → IsCheck words calls → IsLineOf words line → ChecksNumbers calls line
-checks_line words calls (Check order) is asks = checks_numbers words calls order.items is asks
+pub returns-in_ok-line_of-in-Ok-clause-line : goal.returns-in_ok-line_of-in-Ok-clause-line
+returns-in_ok-line_of-in-Ok-clause-line c = line_is (goal.at.returns-in_ok-line_of-in-Ok-clause-line c).In_ok-line_of-in-Ok
 
 pub returns-in_ok-line_of-in-Ok-clause-check : goal.returns-in_ok-line_of-in-Ok-clause-check
-returns-in_ok-line_of-in-Ok-clause-check c calls is =
-    let words = texts c.args.words.now in
-    let met_is = met_as _ words c.in-Ok.matches c.in_ok-bench_command.ensures c.in-Ok.ensures.matches in
-    let asks = subst (λ (met : Option (Text × List Row)). Asks met c.in_ok-line_of-in-Ok.field-0) met_is c.in_ok-line_of-in-Ok.ensures in
-    checks_line words calls c.in_ok-line_of-in-Ok.field-0 is asks
+returns-in_ok-line_of-in-Ok-clause-check c calls is = checks_numbers _ calls c.in_ok-line_of-in-Ok.field-0 is (line_is (goal.at.returns-in_ok-line_of-in-Ok-clause-check c).In_ok-line_of-in-Ok)
+
+pub returns-in_ok-line_of-in-Ok-clause-judge : goal.returns-in_ok-line_of-in-Ok-clause-judge
+returns-in_ok-line_of-in-Ok-clause-judge c is = judges_default _ _ is (line_is (goal.at.returns-in_ok-line_of-in-Ok-clause-judge c).In_ok-line_of-in-Ok)
+
+pub returns-in_ok-line_of-in-Ok-clause-judge_with : goal.returns-in_ok-line_of-in-Ok-clause-judge_with
+returns-in_ok-line_of-in-Ok-clause-judge_with c budget is = judges_with _ budget _ is (line_is (goal.at.returns-in_ok-line_of-in-Ok-clause-judge_with c).In_ok-line_of-in-Ok)
+
+-- where the words are accepted, the fault is want of memory
+module _ (c : After-of) where
+  memory : IsAccepted (texts c.args.words.now) → c.of.result ≡ faults.Memory
+  memory accepted = c.of.ensures (memory_only _ (texts c.args.words.now) c.in-Err.error c.in_ok-bench_command.ensures c.in-Err.ensures.kinds accepted)
+
+pub returns-in-Err-clause-refused : goal.returns-in-Err-clause-refused
+returns-in-Err-clause-refused c = fault_at (texts c.args.words.now) c.of.result (memory (goal.at.returns-in-Err-clause-refused c).After-of)
 
 pub returns-in-Err-clause-check : goal.returns-in-Err-clause-check
 returns-in-Err-clause-check c calls is =
     let words = texts c.args.words.now in
     let fits : length words ≤ usize_max = simp length-map (omega arith) in
-    c.of.ensures (memory_only _ words c.in-Err.error c.in_ok-bench_command.ensures c.in-Err.ensures.kinds (check_accepted words calls is fits))
+    memory (goal.at.returns-in-Err-clause-check c).After-of (check_accepted words calls is fits)
+
+pub returns-in-Err-clause-judge : goal.returns-in-Err-clause-judge
+returns-in-Err-clause-judge c is = memory (goal.at.returns-in-Err-clause-judge c).After-of (judge_accepted _ is)
+
+pub returns-in-Err-clause-judge_with : goal.returns-in-Err-clause-judge_with
+returns-in-Err-clause-judge_with c budget is = memory (goal.at.returns-in-Err-clause-judge_with c).After-of (judge_with_accepted _ budget is)

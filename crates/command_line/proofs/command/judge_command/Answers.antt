@@ -1,0 +1,17 @@
+use Rattle.std.proofs.Common.{rules, ap, ap₂, codes, ◌≡◌, ◌∙◌}
+use Rattle.std.proofs.lemmas.Result.{IfOk-weaker}
+use Rattle.clap.specs.Words.{app_of, new_app, rule_of, with_rule}
+use Rattle.command_line.specs.Commands.{judge_app, number_rule}
+use Rattle.command_line.specs.Limits.{budget_limit}
+use Rattle.command_line.proofs.command.judge_command.Goals as goal
+
+pub returns : goal.returns
+unfolding judge_app
+returns c =
+    let budget_is : rule_of c.help-budget.result ≡ number_rule (codes "budget") budget_limit (codes "100000") =
+    ap rule_of c.help-budget.ensures ∙ c.number_option.ensures.rule in
+    let named_is : app_of c.about.result ≡ new_app (codes "judge") = search rules in
+    IfOk-weaker c.arg.result _ _ (λ command added. (
+      added.shape (search rules) ∙ ap₂ with_rule named_is budget_is,
+      search rules,
+    )) c.arg.ensures

@@ -1,0 +1,5 @@
+pub mod Searched
+pub mod Shows
+pub mod Shown
+pub mod Reports
+pub mod Laws

@@ -1,0 +1,12 @@
+// Laws of verdicts: each function only carries its clause.
+ghost use Rattle.judge.specs.Laws.{FinishedVerdictsAgree, OneCallIsDecided};
+
+/// Two finished verdicts on one history are both yes or both no, at whatever budgets they were found.
+pub fn finished_verdicts_agree()
+    ensures { FinishedVerdictsAgree }
+{}
+
+/// A history of one call has at most two configurations, so it is decided at every budget of two or more.
+pub fn one_call_is_decided()
+    ensures { OneCallIsDecided }
+{}

@@ -1,0 +1,18 @@
+//! The judge of recorded histories: whether a history of an ordered map is linearizable, and the report of
+//! the verdict.
+//!
+//! What an order of a history is stands in `history`'s definitions, and what each verdict shows in `specs/`.
+#![tactic(auto)]
+
+mod alone;
+mod laws;
+mod reports;
+#[cfg(test)]
+mod tests;
+mod verdict;
+
+pub use alone::judge_alone;
+pub use laws::{finished_verdicts_agree, one_call_is_decided};
+pub use reports::report;
+pub use search::MAX_BUDGET;
+pub use verdict::Verdict;

@@ -1,0 +1,13 @@
+use history::Segment;
+
+/// What the judge finds out of a history.
+#[derive(Debug, Drop)]
+pub enum Verdict {
+    /// The history is linearizable: an order of all its completed calls and some pending ones, by their
+    /// numbers.
+    Yes(Vec<u32>),
+    /// The history is not linearizable, and neither are the calls of this segment by themselves.
+    No(Segment),
+    /// The search of this segment met more configurations than the budget.
+    Undecided(Segment),
+}
