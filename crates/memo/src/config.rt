@@ -63,6 +63,13 @@ impl Config {
         }
     }
 
+    /// Whether the call at `place` is taken, found by halves.
+    pub fn has(&self, place: u32) -> bool
+        ensures { IsTrue result ↔ Contains self.now.taken place }
+    {
+        self.taken.binary_search(&place).is_ok()
+    }
+
     /// The configuration after one more call, the one at `place`, which leaves the map `after`. On `Memory`
     /// there is none. It costs as much as it copies: the calls taken and the pairs of the map.
     pub fn with(&self, alloc: Global, place: u32, after: &SortedMap) -> Result<Config, Memory>

@@ -40,6 +40,9 @@ fn calls_are_taken_in_any_order(rt: HostRuntime) -> Result<(), Fail> {
     assert_eq!(rt; three_taken(rt.alloc(), 1, 3, 0, &after)?, taken);
     assert_eq!(rt; three_taken(rt.alloc(), 3, 0, 1, &after)?, taken);
     assert_eq!(rt; three_taken(rt.alloc(), 3, 1, 0, &after)?, taken);
+    for (place, is_taken) in [(0, true), (1, true), (2, false), (3, true), (4, false)] {
+        assert_eq!(rt; taken.has(place), is_taken);
+    }
     Ok(())
 }
 

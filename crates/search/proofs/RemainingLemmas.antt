@@ -1,6 +1,6 @@
 -- How the earliest response of the calls that are not taken changes with one more call.
 use Rattle.std.proofs.Common.{◌≡◌, ℕ, ◌<◌, true, List, Option, Some, None, [], ◌∷◌, ◌++◌, length, get_or, take, ◌+◌, refl, sym, ap, ◌∙◌, subst, inl, inr, ⊎_elim, arith}
-use Rattle.std.specs.Prelude.{◌⊎◌, Contains}
+use Rattle.std.specs.Prelude.{◌⊎◌, ◌↔◌, Contains}
 use Rattle.std.proofs.lemmas.Bool.{false≢true, lt-ltb, ltb-true, cases_lt}
 use Rattle.std.proofs.lemmas.List.{take_more, length-take-le}
 use Rattle.std.proofs.lemmas.Option.{slice_get_within}
@@ -9,6 +9,18 @@ use Rattle.history.specs.declared.operation.Response.{Response}
 use Rattle.history.specs.Precedence.{is_before}
 use Rattle.history.proofs.Lists.{slice_get-append_left, slice_get-middle, place-push}
 use Rattle.search.specs.Remaining.{RemainsBefore, IsEarliestAnswer, earlier}
+
+-- a call that remains where some calls are taken remains where the same are
+RemainsBefore-same : (calls : List Operation) (taken same : List ℕ) → ((n : ℕ) → Contains same n → Contains taken n) → (place : ℕ) → RemainsBefore calls taken place → RemainsBefore calls same place
+RemainsBefore-same calls taken same within place h = record { n = h.n; call = h.call; here = h.here; new = λ in_same. h.new (within h.n in_same); before = h.before }
+
+-- the earliest response depends only on which calls are taken
+pub IsEarliestAnswer-same : (calls : List Operation) (taken same : List ℕ) → ((n : ℕ) → Contains taken n ↔ Contains same n) → (earliest : Option ℕ) → IsEarliestAnswer calls taken earliest → IsEarliestAnswer calls same earliest
+IsEarliestAnswer-same calls taken same both None h = λ place remains. h place (RemainsBefore-same calls same taken (λ n. (both n).0) place remains)
+IsEarliestAnswer-same calls taken same both (Some answered) h = λ place. (
+  λ later. RemainsBefore-same calls taken same (λ n. (both n).1) place ((h place).0 later),
+  λ remains. (h place).1 (RemainsBefore-same calls same taken (λ n. (both n).0) place remains),
+)
 
 module _ (calls : List Operation) (taken : List ℕ) (a : Operation) where
   -- the last call is not taken and was answered before a place

@@ -11,7 +11,7 @@ use crate::MAX_BUDGET;
 use crate::ending::Ending;
 use crate::found::Found;
 use crate::front::Front;
-use crate::remaining::{earliest_answer, is_taken};
+use crate::remaining::earliest_answer;
 use history::{Memory, Operation, Segment};
 use memo::{Config, Memo};
 use std::alloc::Global;
@@ -60,11 +60,11 @@ fn explore(
     if memo.len() > budget as usize {
         return Ok(Ending::Spent);
     }
-    let Some(answered) = earliest_answer(calls, &front.places) else {
+    let Some(answered) = earliest_answer(calls, &front.config) else {
         return Ok(Ending::Order(front.places));
     };
     for (place, operation) in calls.iter().enumerate() {
-        if operation.inv > answered || is_taken(&front.places, place) {
+        if operation.inv > answered || front.config.has(place as u32) {
             continue;
         }
         if let Some(next) = enter(alloc, calls, memo, &front, place as u32)? {
@@ -79,6 +79,8 @@ fn explore(
 
 /// Takes the call at `place` after a front: none where its reply is not legal there, or where the
 /// configuration that it leads to was visited before.
+// Apart from `explore`, so that a level of its recursion takes less of the stack.
+#[inline(never)]
 fn enter(
     alloc: Global,
     calls: &[Operation],

@@ -1,18 +1,20 @@
 // Which calls remain, and which of them may come next.
-ghost use Rattle.std.specs.Prelude.{◌≡◌, ◌↔◌, IsTrue, Contains};
+ghost use Rattle.std.specs.Prelude.{◌≡◌, ◌≤◌, ◌^◌, length};
 ghost use Rattle.search.specs.Remaining.{IsEarliestAnswer, earlier};
 
 use history::{Operation, Response};
+use memo::Config;
 
 /// The place of the earliest response of a call that is not taken, or none where all completed calls are.
 /// A call that is not taken may come next exactly where it was invoked no later. It takes time in proportion
-/// to the calls, times those taken.
-pub fn earliest_answer(calls: &[Operation], taken: &[u32]) -> Option<usize>
-    ensures { IsEarliestAnswer calls.now taken.now result }
+/// to the calls, times the logarithm of those taken.
+pub fn earliest_answer(calls: &[Operation], config: &Config) -> Option<usize>
+    requires { length calls.now ≤ 2 ^ 32 }
+    ensures { IsEarliestAnswer calls.now config.now.taken result }
 {
     let mut earliest = None;
     for (place, operation) in calls.iter().enumerate() {
-        if !is_taken(taken, place) {
+        if !config.has(place as u32) {
             earliest = earlier(earliest, &operation.response);
         }
     }
@@ -28,11 +30,4 @@ fn earlier(place: Option<usize>, response: &Option<Response>) -> Option<usize>
         (None, Some(response)) => Some(response.res),
         (place, None) => place,
     }
-}
-
-/// Whether the call at a place is taken.
-pub fn is_taken(taken: &[u32], place: usize) -> bool
-    ensures { IsTrue result ↔ Contains taken.now place }
-{
-    taken.iter().any(|number| *number as usize == place)
 }

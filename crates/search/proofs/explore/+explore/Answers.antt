@@ -1,13 +1,15 @@
-use Rattle.std.proofs.Common.{◌≡◌, [], Some, length, refl, subst, arith}
+use Rattle.std.proofs.Common.{◌≡◌, [], Some, None, length, refl, subst, arith}
 use Rattle.std.specs.Prelude.{slice_get}
+use Rattle.std.proofs.lemmas.Bool.{iff_false}
 use Rattle.std.proofs.lemmas.Option.{slice_get_read}
+use Rattle.search.proofs.RemainingLemmas.{IsEarliestAnswer-same}
 use Rattle.search.proofs.StandingLemmas.{fewer_left}
 use Rattle.search.proofs.VisitLemmas.{NoneFrom-later, NoneFrom-taken, NoneFrom-visited, IsOrder-from_none, preceded_from_earliest, HaveBeenTried, HaveBeenTried-skip, HaveBeenTried-exhausted, IsVisited-entered, IsExhausted-from_tried}
 use Rattle.search.proofs.explore.+explore.Goals as goal
-use Rattle.search.proofs.explore.+explore.Goals.{then-operation-answered-via-then-operation-answered, then-operation-answered-via-else-operation-answered+then-is_taken, in-Some-2+in_ok-ending+in-DeadEnd, in_default-2}
+use Rattle.search.proofs.explore.+explore.Goals.{then-operation-answered-via-then-operation-answered, then-operation-answered-via-else-operation-answered+then-has, in-Some-2+in_ok-ending+in-DeadEnd, in_default-2}
 
 pub returns-in_default : goal.returns-in_default
-returns-in_default t c = IsOrder-from_none [] c.args.calls.now c.args.front.places.items c.requires.stands.is_front (rw c.deref.ensures.value at c.in_default.ensures)
+returns-in_default t c = IsOrder-from_none [] c.args.calls.now c.args.front.places.items c.requires.stands.is_front (IsEarliestAnswer-same c.args.calls.now c.args.front.config.taken c.args.front.places.items c.requires.stands.leads.taken None (rw c.in_default.is at c.earliest_answer.ensures))
 
 pub loop-place-preserved-then-operation-answered : goal.loop-place-preserved-then-operation-answered
 loop-place-preserved-then-operation-answered t c =
@@ -17,16 +19,19 @@ loop-place-preserved-then-operation-answered t c =
     let a = c.index-calls-place.result in
     let here : slice_get calls place ≡ Some a = slice_get_read calls (length calls) place a refl c.loop-place-test.true c.index-calls-place.is in
     HaveBeenTried-skip [] calls places c.args.memo.now c.loop-place.memo place c.loop-place.invariant (elim c.then-operation-answered.branch [
-      | then-operation-answered-via-then-operation-answered w ↦ NoneFrom-later [] calls places c.in-Some.answered (rw c.deref.ensures.value at c.in-Some.ensures) place a c.requires.apart here (omega (arith, w.if-operation-answered.true))
-      | then-operation-answered-via-else-operation-answered+then-is_taken w ↦ NoneFrom-taken [] calls c.requires.apart places place ((rw w.deref-else-operation-answered.ensures.value at w.is_taken.ensures).0 w.if-is_taken.true)
+      | then-operation-answered-via-then-operation-answered w ↦ NoneFrom-later [] calls places c.in-Some.answered (IsEarliestAnswer-same c.args.calls.now c.args.front.config.taken c.args.front.places.items c.requires.stands.leads.taken (Some c.in-Some.answered) c.in-Some.ensures) place a c.requires.apart here (omega (arith, w.if-operation-answered.true))
+      | then-operation-answered-via-else-operation-answered+then-has w ↦ NoneFrom-taken [] calls c.requires.apart places place ((c.requires.stands.leads.taken place).0 (w.has.ensures.0 w.if-has.true))
     ])
+
+pub enter-requires-clause-new : goal.enter-requires-clause-new
+enter-requires-clause-new t c = λ h. iff_false c.has.ensures c.if-has.false ((c.requires.stands.leads.taken c.loop-place.place).1 h)
 
 pub enter-requires-clause-preceded : goal.enter-requires-clause-preceded
 enter-requires-clause-preceded t c =
     let calls = c.args.calls.now in
     let a = c.index-calls-place.result in
     let here : slice_get calls c.loop-place.place ≡ Some a = slice_get_read calls (length calls) c.loop-place.place a refl c.loop-place-test.true c.index-calls-place.is in
-    preceded_from_earliest [] calls c.args.front.places.items c.in-Some.answered (rw c.deref.ensures.value at c.in-Some.ensures) c.loop-place.place a here (omega (arith, c.if-operation-answered.false))
+    preceded_from_earliest [] calls c.args.front.places.items c.in-Some.answered (IsEarliestAnswer-same c.args.calls.now c.args.front.config.taken c.args.front.places.items c.requires.stands.leads.taken (Some c.in-Some.answered) c.in-Some.ensures) c.loop-place.place a here (omega (arith, c.if-operation-answered.false))
 
 pub explore-requires : goal.explore-requires
 explore-requires t c =
@@ -53,4 +58,4 @@ loop-place-preserved t c =
     ]
 
 pub returns : goal.returns
-returns t c = IsExhausted-from_tried [] c.args.calls.now c.args.front c.in-Some.answered c.args.memo.now c.loop-place.memo c.requires.apart c.requires.stands (rw c.deref.ensures.value at c.in-Some.ensures) (subst (HaveBeenTried [] c.args.calls.now c.args.front.places.items c.args.memo.now c.loop-place.memo) (omega arith) c.loop-place.invariant)
+returns t c = IsExhausted-from_tried [] c.args.calls.now c.args.front c.in-Some.answered c.args.memo.now c.loop-place.memo c.requires.apart c.requires.stands (IsEarliestAnswer-same c.args.calls.now c.args.front.config.taken c.args.front.places.items c.requires.stands.leads.taken (Some c.in-Some.answered) c.in-Some.ensures) (subst (HaveBeenTried [] c.args.calls.now c.args.front.places.items c.args.memo.now c.loop-place.memo) (omega arith) c.loop-place.invariant)
