@@ -1,2 +1,3 @@
 pub mod OrdersOfSegments
 pub mod Points
+pub mod Laws

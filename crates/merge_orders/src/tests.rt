@@ -1,8 +1,10 @@
-ghost use Rattle.std.specs.Prelude.{◌≡◌, [], map};
+ghost use Rattle.std.specs.Prelude.{◌≡◌, [], map, ℕ, List, IfOk};
+ghost use Rattle.history.specs.Merge.{IsMergedOrder};
 ghost use Rattle.history.specs.Operations.{operations};
+ghost use Rattle.merge_orders.specs.Laws.{ShareNoPoint};
 ghost use Rattle.merge_orders.specs.OrdersOfSegments.{AreOrdersOfSegments};
 
-use crate::merge;
+use crate::{merge, one_merged_order, segments_share_no_point};
 use history::{Call, Event, History, Reply};
 use std::alloc::Global;
 use std::test::Fail;
@@ -19,10 +21,14 @@ fn answer(process: u8, reply: Reply) -> Event
     Event::Answer { process, reply }
 }
 
-/// The merged order of these orders of the history's segments.
+/// The merged order of these orders of the history's segments, which share no point: it is the only one.
 fn merged(alloc: Global, events: Vec<Event>, orders: &[Vec<u32>]) -> Result<Vec<u32>, Fail>
     requires { AreOrdersOfSegments [] (operations events.items) (map (λ v. v.items) orders.now) }
+    ensures apart { IfOk result (λ v. ShareNoPoint (operations events.items) (map (λ v. v.items) orders.now)) }
+    ensures only { IfOk result (λ v. (a : List ℕ) → IsMergedOrder (operations events.items) (map (λ v. v.items) orders.now) a → a ≡ v.items) }
 {
+    segments_share_no_point();
+    one_merged_order();
     let history = History::from_events(alloc, events)?;
     Ok(merge(alloc, &history, orders)?)
 }

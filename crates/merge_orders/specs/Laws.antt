@@ -1,0 +1,22 @@
+-- Laws of the points of calls and of the merged order.
+use Rattle.std.specs.Prelude.{◌≡◌, ◌≢◌, ℕ, List, AllPairs, Contains}
+use Rattle.history.specs.declared.event.Event.{Event}
+use Rattle.history.specs.declared.operation.Operation.{Operation}
+use Rattle.history.specs.MapObject.{Contents}
+use Rattle.history.specs.Histories.{IsHistory}
+use Rattle.history.specs.Operations.{operations}
+use Rattle.history.specs.Merge.{point_of, IsMergedOrder}
+use Rattle.merge_orders.specs.OrdersOfSegments.{AreOrdersOfSegments}
+
+-- a call of one order and a call of another have different points
+abbrev pub ShareNoPoint : List Operation → List (List ℕ) → Type 0
+ShareNoPoint calls orders = AllPairs (λ order other. (m n : ℕ) → Contains order m → Contains other n → point_of calls orders m ≢ point_of calls orders n) orders
+
+-- no two segments of a history share a point, whatever orders they have
+abbrev pub SegmentsShareNoPoint : Type 0
+SegmentsShareNoPoint = (start : Contents) (events : List Event) (orders : List (List ℕ)) → IsHistory events → AreOrdersOfSegments start (operations events) orders → ShareNoPoint (operations events) orders
+
+-- orders of the segments of a history have one merged order only
+abbrev pub HasOneMergedOrder : Type 0
+HasOneMergedOrder = (start : Contents) (events : List Event) (orders : List (List ℕ)) (a b : List ℕ) → IsHistory events → AreOrdersOfSegments start (operations events) orders
+    → IsMergedOrder (operations events) orders a → IsMergedOrder (operations events) orders b → a ≡ b
