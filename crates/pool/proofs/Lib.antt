@@ -1,0 +1,2 @@
+mod DealLemmas
+mod KnownLemmas

@@ -1,0 +1,12 @@
+use Rattle.std.proofs.Common.{[], rules}
+use Rattle.std.proofs.lemmas.List.Elements.{All-push}
+use Rattle.pool.specs.Answers.{AnswersOneOf}
+use Rattle.pool.proofs.worker.work.Goals as goal
+
+pub loop-alloc-preserved : goal.loop-alloc-preserved
+loop-alloc-preserved g c = (
+  search rules,
+  rw c.in_ok-push.ensures.items
+      (All-push (AnswersOneOf [] c.args.budget c.args.segments.now) _ _ c.loop-alloc.invariant.1
+      (record { one = c.if-segment-segments.false; sound = c.in_ok-found.ensures })),
+)

@@ -1,0 +1,12 @@
+-- What a worker's answer says.
+use Rattle.std.specs.Prelude.{ℕ, ◌<◌, List, length}
+use Rattle.std.specs.List.{HoldsAt}
+use Rattle.history.specs.MapObject.{Contents}
+use Rattle.history.specs.SegmentView.{SegmentView}
+use Rattle.search.specs.Found.{IsSoundAnswer}
+use Rattle.pool.specs.declared.worker.SegmentAnswer.{SegmentAnswer}
+
+-- the answer names one of the segments, and is sound for it
+pub record AnswersOneOf (start : Contents) (budget : ℕ) (segments : List SegmentView) (answer : SegmentAnswer) : Type 0 where
+  pub one : answer.segment < length segments
+  pub sound : HoldsAt (λ s. IsSoundAnswer start budget s answer.found) segments answer.segment

@@ -1,0 +1,63 @@
+// The answers that are known, at the places of their segments.
+ghost use Rattle.std.specs.Prelude.{◌≡◌, ◌<◌, ◌≤◌, [], replicate, fold, All, IfOk};
+ghost use Rattle.std.specs.List.{AllZip};
+ghost use Rattle.std.specs.declared.option.Option.TheVariants.{None};
+ghost use Rattle.search.specs.Found.{IsSoundAnswer};
+ghost use Rattle.pool.specs.Known.{with_answer, IsSoundIfKnown};
+
+use crate::gate::Gate;
+use crate::worker::{SegmentAnswer, enter_and_search};
+use history::{Memory, Segment};
+use search::{Found, MAX_BUDGET};
+use std::alloc::Global;
+
+/// The answers at their segments' places, and none at the others.
+#[tactic(auto, using(crate::proofs::KnownLemmas::next_has_place, crate::proofs::KnownLemmas::next_is_put))]
+pub(crate) fn in_place(
+    alloc: Global,
+    segments: usize,
+    answers: Vec<SegmentAnswer>,
+) -> Result<Vec<Option<Found>>, Memory>
+    requires { All (λ a. a.segment < segments) answers.items }
+    ensures { IfOk result (λ v. v.items ≡ fold with_answer (replicate segments None) answers.items) }
+{
+    let mut known = none_known(alloc, segments)?;
+    for SegmentAnswer { segment, found } in answers {
+        known[segment] = Some(found);
+    }
+    Ok(known)
+}
+
+/// As many segments, of which no answer is known.
+fn none_known(alloc: Global, segments: usize) -> Result<Vec<Option<Found>>, Memory>
+    ensures { IfOk result (λ v. v.items ≡ replicate segments None) }
+{
+    let mut known = Vec::with_capacity(alloc, segments)?;
+    for _ in 0..segments {
+        known.push(None)?;
+    }
+    Ok(known)
+}
+
+/// The answers of all segments. A segment of which none is known, as no worker drew it, is searched here.
+pub(crate) fn complete<G: Gate>(
+    alloc: Global,
+    segments: &[Segment],
+    budget: u32,
+    gate: &G,
+    known: Vec<Option<Found>>,
+) -> Result<Vec<Found>, Memory>
+    requires budget { (1 ≤ budget) × (budget ≤ MAX_BUDGET) }
+    requires sound { AllZip (IsSoundIfKnown [] budget) segments.now known.items }
+    ensures { IfOk result (λ v. AllZip (IsSoundAnswer [] budget) segments.now v.items) }
+{
+    let mut answers = Vec::with_capacity(alloc, known.len())?;
+    for answer in known {
+        let found = match answer {
+            Some(found) => found,
+            None => enter_and_search(alloc, segments, budget, gate, answers.len())?,
+        };
+        answers.push(found)?;
+    }
+    Ok(answers)
+}

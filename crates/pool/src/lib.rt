@@ -1,0 +1,17 @@
+//! Segments searched side by side: workers, each in a thread of its own where one can be made, draw the numbers of
+//! the segments and search those that they drew.
+#![tactic(auto)]
+
+mod gate;
+mod hands;
+mod known;
+mod pool;
+#[cfg(test)]
+mod tests;
+mod worker;
+
+pub use gate::{Gate, OpenGate};
+pub use pool::search_all;
+
+/// The most workers of a search.
+pub const MAX_WORKERS: u32 = 64;

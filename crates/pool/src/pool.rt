@@ -1,0 +1,71 @@
+// The search of all segments, by workers.
+ghost use Rattle.std.specs.Prelude.{◌≤◌, [], All, IfOk};
+ghost use Rattle.std.specs.List.{AllZip};
+ghost use Rattle.search.specs.Found.{IsSoundAnswer};
+ghost use Rattle.pool.specs.Answers.{AnswersOneOf};
+
+use crate::MAX_WORKERS;
+use crate::gate::Gate;
+use crate::hands::deal;
+use crate::known::{complete, in_place};
+use crate::worker::{SegmentAnswer, work};
+use history::{Memory, Segment};
+use search::{Found, MAX_BUDGET};
+use std::alloc::Global;
+use std::thread;
+use std::thread::Threads;
+use tickets::MAX_QUOTA;
+
+/// Searches each segment, and gives the answers in the order of the segments, whoever found them. `Memory` comes where
+/// a growth was refused, to this call or to one of its searches.
+///
+/// The workers draw the numbers of the segments, each number once, and pass the gate to a segment before they search it.
+/// The caller's thread runs one worker, and each of the others has a thread of its own where one can be made. One that
+/// gets no thread runs later, in the thread that was to start it, and the answers are the same. A gate that holds a
+/// worker until another one comes may then hold it forever. The call returns once all workers have ended. Beside the
+/// searches it costs a thread for each worker but one, and a draw for each segment and each worker.
+pub fn search_all<R: Threads + Sync, G: Gate + Sync>(
+    rt: &R,
+    alloc: Global,
+    segments: &[Segment],
+    budget: u32,
+    workers: u32,
+    gate: &G,
+) -> Result<Vec<Found>, Memory>
+    requires budget { (1 ≤ budget) × (budget ≤ MAX_BUDGET) }
+    requires workers { (1 ≤ workers) × (workers ≤ MAX_WORKERS) }
+    ensures sound { IfOk result (λ v. AllZip (IsSoundAnswer [] budget) segments.now v.items) }
+{
+    let answers = search_apart(rt, alloc, segments, budget, workers, gate)?;
+    let known = in_place(alloc, segments.len(), answers)?;
+    complete(alloc, segments, budget, gate, known)
+}
+
+/// What the workers answer, one worker after another.
+fn search_apart<R: Threads + Sync, G: Gate + Sync>(
+    rt: &R,
+    alloc: Global,
+    segments: &[Segment],
+    budget: u32,
+    workers: u32,
+    gate: &G,
+) -> Result<Vec<SegmentAnswer>, Memory>
+    requires budget { (1 ≤ budget) × (budget ≤ MAX_BUDGET) }
+    requires workers { (1 ≤ workers) × (workers ≤ MAX_WORKERS) }
+    ensures { IfOk result (λ v. All (AnswersOneOf [] budget segments.now) v.items) }
+{
+    // With a draw for each segment and one more, each worker can draw until no segment is left. The most draws that
+    // tickets have would cut this past 2^55 segments, more than memory holds, and `complete` would search the others.
+    let draws = (segments.len() as u64 + 1).min(MAX_QUOTA / u64::from(workers));
+    let (tickets, hands) = deal(alloc, workers, draws)?;
+    let by_worker = thread::map_vec(
+        rt,
+        hands,
+        &|hand| { work(alloc, segments, budget, gate, &tickets, hand) },
+    )?;
+    let mut all = Vec::new(alloc);
+    for answers in by_worker {
+        all.append(&mut answers?)?;
+    }
+    Ok(all)
+}
