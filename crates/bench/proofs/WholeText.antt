@@ -1,5 +1,5 @@
 -- A text that was read up to one byte more than a text may have tells all that is to be told of the whole.
-use Rattle.std.proofs.Common.{◌≡◌, ◌≢◌, ℕ, ◌+◌, ◌<◌, ◌≤◌, List, [], Option, Some, None, IfSome, length, take, subst, sym, inl, inr, arith, length-take, length-take-le, take_all}
+use Rattle.std.proofs.Common.{◌≡◌, ◌≢◌, ℕ, ◌+◌, ◌<◌, ◌≤◌, List, [], Option, Some, None, IfSome, length, take, subst, refl, sym, inl, inr, arith, length-take, length-take-le, take_all}
 use Rattle.std.proofs.lemmas.Bool.{cases_lt}
 use Rattle.history.specs.declared.event.Event.{Event}
 use Rattle.history.specs.declared.fault.HistoryFault.{HistoryFault}
@@ -12,8 +12,10 @@ use Rattle.certificate.specs.declared.fault.OrderFault.{OrderFault}
 use Rattle.certificate.specs.declared.fault.OrderFault.TheVariants as orders
 use Rattle.certificate.specs.Faults.{IsRefusedFor}
 use Rattle.judge.specs.declared.verdict.Verdict.{Verdict}
-use Rattle.judge.specs.Shown.{IsShown}
-use Rattle.bench.specs.Answers.{IsTextOf, SpellsNone, SpellsUnordered, SpellsJudged}
+use Rattle.judge.specs.Judged.{IsJudged}
+use Rattle.bench.specs.Answers.{IsTextOf, SpellsNone, SpellsUnordered, IsJudgeAnswer}
+use Rattle.bench.specs.Lines.{line}
+use Rattle.bench.specs.Statuses.{status_of}
 
 -- what was read is the whole, where it is no longer than a text may be
 same_text : (text : List ℕ) → length (take (MAX_TEXT + 1) text) ≤ MAX_TEXT → take (MAX_TEXT + 1) text ≡ text
@@ -25,6 +27,10 @@ same_text text fits = elim (cases_lt MAX_TEXT (length text)) [
 -- a history that the text read spells is the one of the whole
 pub IsTextOf-whole : (text : List ℕ) (events : List Event) → IsTextOf (take (MAX_TEXT + 1) text) events → IsTextOf text events
 IsTextOf-whole text events h = subst (λ (t : List ℕ). IsTextOf t events) (same_text text h.spelled.fits) h
+
+-- a judgement of the text read is one of the whole
+IsJudged-whole : (text : List ℕ) (budget : ℕ) (verdict : Verdict) (report : List ℕ) → IsJudged budget (take (MAX_TEXT + 1) text) verdict report → IsJudged budget text verdict report
+IsJudged-whole text budget verdict report h = subst (λ (t : List ℕ). IsJudged budget t verdict report) (same_text text h.spelled.fits) h
 
 whole : (text : List ℕ) (fault : HistoryFault) → length (take (MAX_TEXT + 1) text) ≤ MAX_TEXT → IsTextFault (take (MAX_TEXT + 1) text) fault → IsTextFault text fault
 whole text fault fits h = subst (λ (t : List ℕ). IsTextFault t fault) (same_text text fits) h
@@ -57,8 +63,10 @@ pub SpellsUnordered-told : (told : Option (List ℕ)) (events : List Event) (ord
 SpellsUnordered-told None events order fault Told h refused not_memory told = tt
 SpellsUnordered-told (Some text) events order fault Told h refused not_memory told = (fault, record { events = events; is_text = h; refused = refused; not_memory = not_memory }, told)
 
--- a text told that spells these events is judged by a verdict on their calls
-pub SpellsJudged-told : (told : Option (List ℕ)) (events : List Event) (budget : ℕ) (verdict : Verdict) (Ends Told : Verdict → Type 0) → IfSome told (λ text. IsTextOf text events)
-    → IsShown [] budget (operations events) verdict → Ends verdict → Told verdict → IfSome told (λ text. (v : Verdict) × SpellsJudged text budget v × Ends v × Told v)
-SpellsJudged-told None events budget verdict Ends Told h shown ends told = tt
-SpellsJudged-told (Some text) events budget verdict Ends Told h shown ends told = (verdict, (events, h, shown), ends, told)
+-- a text told of which this was read is answered as what was read is judged
+pub IsJudgeAnswer-told : (told : Option (List ℕ)) (bytes : List ℕ) (budget status : ℕ) (verdict : Verdict) (report : List ℕ) (Told : List ℕ → Type 0) → IfSome told (λ text. bytes ≡ take (MAX_TEXT + 1) text)
+    → IsJudged budget bytes verdict report → status ≡ status_of verdict → Told (line report) → IfSome told (λ text. (said : List ℕ) × IsJudgeAnswer text budget status said × Told said)
+IsJudgeAnswer-told None bytes budget status verdict report Told read h status_is told = tt
+IsJudgeAnswer-told (Some text) bytes budget status verdict report Told read h status_is told =
+    let judged = IsJudged-whole text budget verdict report (subst (λ (t : List ℕ). IsJudged budget t verdict report) read h) in
+    (line report, record { verdict = verdict; report = report; judged = judged; status_is = status_is; bytes_are = refl }, told)

@@ -12,8 +12,12 @@ use Rattle.certificate.specs.declared.fault.OrderFault.{OrderFault}
 use Rattle.certificate.specs.declared.fault.OrderFault.TheVariants as orders
 use Rattle.certificate.specs.Faults.{IsRefusedFor}
 use Rattle.judge.specs.declared.verdict.Verdict.{Verdict}
-use Rattle.judge.specs.Shown.{IsShown}
-use Rattle.bench.specs.Lines.{order_fault_line, history_fault_line}
+use Rattle.judge.specs.Judged.{IsJudged}
+use Rattle.command_line.specs.declared.line.Line.{Line}
+use Rattle.command_line.specs.declared.line.Line.TheVariants.{Check, Judge}
+use Rattle.bench.specs.Lines.{line, ok_line, order_fault_line}
+use Rattle.bench.specs.Statuses.{status_of}
+use Rattle.bench.specs.declared.report.TheConstants.{YES, NO}
 
 -- the text spells these events, and they are a history
 pub record IsTextOf (text : List ℕ) (events : List Event) : Type 0 where
@@ -36,11 +40,25 @@ pub record SpellsNone (text : List ℕ) (fault : HistoryFault) : Type 0 where
   pub refused : IsTextFault text fault
   pub not_memory : fault ≢ histories.Memory
 
--- the text spells a history, and what the verdict says of its calls at the budget is so
-abbrev pub SpellsJudged : List ℕ → ℕ → Verdict → Type 0
-SpellsJudged text budget verdict = (events : List Event) × IsTextOf text events × IsShown [] budget (operations events) verdict
-
 -- a number is one of these
 abbrev pub IsOneOf : List ℕ → ℕ → Type 0
 IsOneOf [] n = ⊥
 IsOneOf (m ∷ numbers) n = (n ≡ m) ⊎ IsOneOf numbers n
+
+-- `check` answers the text and the order by this status and these bytes: `ok`, or the order's first fault
+abbrev pub IsCheckAnswer : List ℕ → List ℕ → ℕ → List ℕ → Type 0
+IsCheckAnswer text order status bytes = (SpellsOrdered text order × (status ≡ YES) × (bytes ≡ ok_line))
+    ⊎ ((fault : OrderFault) × SpellsUnordered text order fault × (status ≡ NO) × (bytes ≡ order_fault_line fault))
+
+-- `judge` answers the text at the budget by this status and these bytes: the status and the report of one verdict
+pub record IsJudgeAnswer (text : List ℕ) (budget status : ℕ) (bytes : List ℕ) : Type 0 where
+  pub verdict : Verdict
+  pub report : List ℕ
+  pub judged : IsJudged budget text verdict report
+  pub status_is : status ≡ status_of verdict
+  pub bytes_are : bytes ≡ line report
+
+-- what the line asks for answers the text by this status and these bytes
+abbrev pub IsAnswer : Line → List ℕ → ℕ → List ℕ → Type 0
+IsAnswer (Check order) text status bytes = IsCheckAnswer text order.items status bytes
+IsAnswer (Judge budget workers) text status bytes = IsJudgeAnswer text budget status bytes

@@ -1,4 +1,4 @@
 pub mod Lines
+pub mod Statuses
 pub mod Answers
 pub mod Ends
-pub mod Statuses

@@ -4,10 +4,6 @@ use Rattle.history.specs.declared.fault.HistoryFault.{HistoryFault}
 use Rattle.history.specs.declared.fault.HistoryFault.TheVariants as histories
 use Rattle.certificate.specs.declared.fault.OrderFault.{OrderFault}
 use Rattle.certificate.specs.declared.fault.OrderFault.TheVariants as orders
-use Rattle.serde_json.specs.Written.{compact_text}
-use Rattle.judge.specs.declared.verdict.Verdict.{Verdict}
-use Rattle.judge.specs.declared.verdict.Verdict.TheVariants.{Yes, No, Undecided}
-use Rattle.judge.specs.Reports.{verdict_data}
 
 -- a text, and a line feed
 abbrev pub line : List ℕ → List ℕ
@@ -42,7 +38,3 @@ history_fault_line (histories.Shape event) = line (codes "history: 4 Shape at ev
 history_fault_line histories.TooMany = line (codes "history: 5 TooMany")
 history_fault_line (histories.NotWellFormed event) = line (codes "history: 6 NotWellFormed at event " ++ decimal event)
 history_fault_line histories.Memory = memory_line
-
--- a verdict's report
-abbrev pub report_line : Verdict → List ℕ
-report_line verdict = line (compact_text (verdict_data verdict))

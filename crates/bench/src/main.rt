@@ -1,13 +1,12 @@
 //! The program: it reads a text from standard input and writes its answer to standard output.
 //!
 //! What each subcommand does is an engine over any source and sinks, whose contract says what is written
-//! for what is read. This file joins the engines to the words of the command line and to the standard
-//! streams.
+//! for what is read, and `run` does what the words of the command line ask for. This file gives it the
+//! words and the standard streams.
 #![tactic(auto)]
 
-ghost use Rattle.std.specs.Prelude.{◌<◌};
-
 mod check;
+mod command;
 mod lines;
 mod reading;
 mod report;
@@ -15,15 +14,12 @@ mod report;
 mod tests;
 mod verdict;
 
-use check::run_check;
-use command_line::{Line, LineFault, read_line};
+use command::{run, texts_of};
 use report::{WORDS, out_of_memory, tell};
-use std::alloc::{AllocError, Global};
 use std::env;
 use std::io::ErrorKind;
 use std::process::ExitCode;
-use streams::{Sink, Source, StandardError, StandardInput, StandardOutput};
-use verdict::run_judge;
+use streams::{StandardError, StandardInput, StandardOutput};
 
 fn main(rt: HostRuntime) -> ExitCode {
     let mut source = StandardInput::new(rt.stdin());
@@ -43,35 +39,15 @@ fn main(rt: HostRuntime) -> ExitCode {
         }
     };
     let status = match texts_of(rt.alloc(), &words) {
-        Ok(texts) => run(rt.alloc(), &mut source, &mut output, &mut faults, &texts),
+        Ok(texts) => run(
+            &rt,
+            rt.alloc(),
+            &mut source,
+            &mut output,
+            &mut faults,
+            &texts,
+        ),
         Err(_) => out_of_memory(&mut faults),
     };
     ExitCode::from(status)
-}
-
-fn texts_of(alloc: Global, words: &[String]) -> Result<Vec<&str>, AllocError> {
-    words.iter().map(|word| word.as_str()).collect(alloc)
-}
-
-/// Does what the words of the command line ask for, and answers the exit status.
-fn run<S: Source, O: Sink, F: Sink>(
-    alloc: Global,
-    source: &mut S,
-    output: &mut O,
-    faults: &mut F,
-    words: &[&str],
-) -> u8
-    requires source { S.failures source.old < u64.MAX }
-    requires output { O.failures output.old < u64.MAX }
-    requires faults { F.failures faults.old < u64.MAX }
-{
-    match read_line(alloc, words) {
-        Ok(Line::Check { order }) => run_check(alloc, source, output, faults, &order),
-        Ok(Line::Judge { budget }) => run_judge(alloc, source, output, faults, budget),
-        Err(LineFault::Line(text)) => {
-            tell(faults, text.as_bytes());
-            WORDS
-        }
-        Err(LineFault::Memory) => out_of_memory(faults),
-    }
 }

@@ -1,11 +1,12 @@
 ghost use Rattle.std.specs.Prelude.{◌≤◌};
 
 use crate::check::run_check;
-use crate::run;
+use crate::command::run;
 use crate::verdict::run_judge;
 use std::alloc::{AllocError, Global};
 use std::process::Abort;
 use std::test::Fail;
+use std::thread::Threads;
 use streams::memory_ends::{MemorySink, MemorySource};
 
 // `+0 insert 5 7, -0 none, +0 get 5, -0 7`
@@ -302,6 +303,34 @@ fn failing_ends(rt: HostRuntime) -> Result<(), Fail> {
     Ok(())
 }
 
+// `+0 insert 5 7, +1 get 5, -1 none, -0 none`
+const OVERLAPPING_INSERT: &str =
+    "{\"events\":[{\"invoke\":[\"insert\",5,7],\"process\":0},{\"invoke\":[\"get\",5],\"process\":1},{\"answer\":null,\"process\":1},{\"answer\":null,\"process\":0}],\"version\":1}";
+
+// the same, then `+2 get 9, -2 1`
+const SPENT_AND_REFUTED: &str =
+    "{\"events\":[{\"invoke\":[\"insert\",5,7],\"process\":0},{\"invoke\":[\"get\",5],\"process\":1},{\"answer\":null,\"process\":1},{\"answer\":null,\"process\":0},{\"invoke\":[\"get\",9],\"process\":2},{\"answer\":1,\"process\":2}],\"version\":1}";
+
+// Does what the words ask for, and compares what it wrote and answered: the faults are told where the words ask for
+// nothing, and only there.
+fn runs<R: Threads + Sync + Abort>(
+    rt: &R,
+    alloc: Global,
+    text: &str,
+    words: &[&str],
+    status: u8,
+    output: &str,
+) -> Result<(), AllocError> {
+    let mut source = MemorySource::new(Vec::from_slice(alloc, text.as_bytes())?, 100, None);
+    let mut out = MemorySink::new(Vec::new(alloc), 100, None);
+    let mut err = MemorySink::new(Vec::new(alloc), 100, None);
+    let answer = run(rt, alloc, &mut source, &mut out, &mut err, words);
+    assert_eq!(rt; answer, status, "{words:?}");
+    assert!(rt; out.bytes() == output.as_bytes(), "{words:?}");
+    assert_eq!(rt; err.bytes().is_empty(), status != 5, "{words:?}");
+    Ok(())
+}
+
 // What the words ask for, from the words on.
 #[test]
 fn words(rt: HostRuntime) -> Result<(), Fail> {
@@ -330,29 +359,14 @@ fn words(rt: HostRuntime) -> Result<(), Fail> {
         (["bench"].as_slice(), 5, ""),
     ];
     for (words, status, output) in lines {
-        let text = INSERT_THEN_GET.as_bytes();
-        let mut source = MemorySource::new(Vec::from_slice(alloc, text)?, 100, None);
-        let mut out = MemorySink::new(Vec::new(alloc), 100, None);
-        let mut err = MemorySink::new(Vec::new(alloc), 100, None);
-        let answer = run(alloc, &mut source, &mut out, &mut err, words);
-        assert_eq!(rt; answer, status, "{words:?}");
-        assert!(rt; out.bytes() == output.as_bytes(), "{words:?}");
-        assert_eq!(rt; err.bytes().is_empty(), status != 5, "{words:?}");
+        runs(&rt, alloc, INSERT_THEN_GET, words, status, output)?;
     }
     Ok(())
 }
 
-// `+0 insert 5 7, +1 get 5, -1 none, -0 none`
-const OVERLAPPING_INSERT: &str =
-    "{\"events\":[{\"invoke\":[\"insert\",5,7],\"process\":0},{\"invoke\":[\"get\",5],\"process\":1},{\"answer\":null,\"process\":1},{\"answer\":null,\"process\":0}],\"version\":1}";
-
-// the same, then `+2 get 9, -2 1`
-const SPENT_AND_REFUTED: &str =
-    "{\"events\":[{\"invoke\":[\"insert\",5,7],\"process\":0},{\"invoke\":[\"get\",5],\"process\":1},{\"answer\":null,\"process\":1},{\"answer\":null,\"process\":0},{\"invoke\":[\"get\",9],\"process\":2},{\"answer\":1,\"process\":2}],\"version\":1}";
-
 // Judges, and compares what it wrote and answered.
-fn judges(
-    rt: &impl Abort,
+fn judges<R: Threads + Sync + Abort>(
+    rt: &R,
     alloc: Global,
     text: &str,
     budget: u32,
@@ -366,7 +380,7 @@ fn judges(
     let mut source = MemorySource::new(Vec::from_slice(alloc, text)?, 50, None);
     let mut out = MemorySink::new(Vec::new(alloc), 7, None);
     let mut err = MemorySink::new(Vec::new(alloc), 7, None);
-    let answer = run_judge(alloc, &mut source, &mut out, &mut err, budget);
+    let answer = run_judge(rt, alloc, &mut source, &mut out, &mut err, budget, 1);
     assert_eq!(rt; answer, status);
     assert!(rt; out.bytes() == output.as_bytes());
     assert!(rt; err.bytes() == faults.as_bytes());
@@ -421,9 +435,8 @@ fn budgets(rt: HostRuntime) -> Result<(), Fail> {
     judges(&rt, alloc, OVERLAPPING_INSERT, 4, 0, yes, "")?;
     let spent = "{\"calls\":[0,1],\"hi\":5,\"lo\":5,\"verdict\":\"undecided\"}\n";
     judges(&rt, alloc, OVERLAPPING_INSERT, 3, 2, spent, "")?;
-    let spent = "{\"calls\":[0,1,2],\"hi\":9,\"lo\":5,\"verdict\":\"undecided\"}\n";
-    judges(&rt, alloc, SPENT_AND_REFUTED, 3, 2, spent, "")?;
-    let no = "{\"calls\":[0,1,2],\"hi\":9,\"lo\":5,\"verdict\":\"no\"}\n";
+    let no = "{\"calls\":[2],\"hi\":9,\"lo\":9,\"verdict\":\"no\"}\n";
+    judges(&rt, alloc, SPENT_AND_REFUTED, 3, 1, no, "")?;
     judges(&rt, alloc, SPENT_AND_REFUTED, 4, 1, no, "")?;
     judges(
         &rt,
@@ -448,7 +461,7 @@ fn failing_ends_of_a_judge(rt: HostRuntime) -> Result<(), Fail> {
         let mut source = MemorySource::new(Vec::from_slice(alloc, text)?, 1, Some(n));
         let mut out = MemorySink::new(Vec::new(alloc), 100, None);
         let mut err = MemorySink::new(Vec::new(alloc), 1, None);
-        let status = run_judge(alloc, &mut source, &mut out, &mut err, 1000);
+        let status = run_judge(&rt, alloc, &mut source, &mut out, &mut err, 1000, 2);
         assert_eq!(rt; status, if n < reads { 6 } else { 1 }, "read {n}");
         assert_eq!(rt; out.bytes().is_empty(), n < reads, "read {n}");
     }
@@ -458,9 +471,99 @@ fn failing_ends_of_a_judge(rt: HostRuntime) -> Result<(), Fail> {
         let mut source = MemorySource::new(Vec::from_slice(alloc, text)?, 100, None);
         let mut out = MemorySink::new(Vec::new(alloc), 1, Some(n));
         let mut err = MemorySink::new(Vec::new(alloc), 1, None);
-        let status = run_judge(alloc, &mut source, &mut out, &mut err, 1000);
+        let status = run_judge(&rt, alloc, &mut source, &mut out, &mut err, 1000, 2);
         assert_eq!(rt; status, if n < writes { 6 } else { 1 }, "write {n}");
         assert!(rt; n < writes || out.bytes() == report, "write {n}");
+    }
+    Ok(())
+}
+
+// `+2 scan 1 2, +0 insert 1 10, -0 none, +0 insert 2 20, -0 none, -2 (2 20)`
+const TORN_SCAN: &str =
+    "{\"events\":[{\"invoke\":[\"scan\",1,2],\"process\":2},{\"invoke\":[\"insert\",1,10],\"process\":0},{\"answer\":null,\"process\":0},{\"invoke\":[\"insert\",2,20],\"process\":0},{\"answer\":null,\"process\":0},{\"answer\":[[2,20]],\"process\":2}],\"version\":1}";
+
+#[test]
+fn the_number_of_workers_changes_no_byte(rt: HostRuntime) -> Result<(), Fail> {
+    let alloc = rt.alloc();
+    let rows = [
+        (EMPTY, "1", 0, "{\"order\":[],\"verdict\":\"yes\"}\n"),
+        (
+            PENDING_SCAN,
+            "1000",
+            0,
+            "{\"order\":[1,0,2],\"verdict\":\"yes\"}\n",
+        ),
+        (
+            TORN_SCAN,
+            "1000",
+            1,
+            "{\"calls\":[0,1,2],\"hi\":2,\"lo\":1,\"verdict\":\"no\"}\n",
+        ),
+        (
+            SPENT_AND_REFUTED,
+            "3",
+            1,
+            "{\"calls\":[2],\"hi\":9,\"lo\":9,\"verdict\":\"no\"}\n",
+        ),
+        (
+            OVERLAPPING_INSERT,
+            "3",
+            2,
+            "{\"calls\":[0,1],\"hi\":5,\"lo\":5,\"verdict\":\"undecided\"}\n",
+        ),
+    ];
+    for (text, budget, status, output) in rows {
+        for workers in ["1", "2", "64"] {
+            let words = ["bench", "judge", "--budget", budget, "--workers", workers];
+            runs(&rt, alloc, text, &words, status, output)?;
+        }
+    }
+    Ok(())
+}
+
+// Four configurations are enough, and three are not, whatever the number of workers.
+#[test]
+fn options_of_a_judge(rt: HostRuntime) -> Result<(), Fail> {
+    let alloc = rt.alloc();
+    let yes = "{\"order\":[1,0],\"verdict\":\"yes\"}\n";
+    let spent = "{\"calls\":[0,1],\"hi\":5,\"lo\":5,\"verdict\":\"undecided\"}\n";
+    let lines = [
+        (["bench", "judge"].as_slice(), 0, yes),
+        (["bench", "judge", "--workers", "2"].as_slice(), 0, yes),
+        (
+            ["bench", "judge", "--budget", "4", "--workers", "3"].as_slice(),
+            0,
+            yes,
+        ),
+        (
+            ["bench", "judge", "--workers", "3", "--budget", "4"].as_slice(),
+            0,
+            yes,
+        ),
+        (
+            ["bench", "judge", "--budget", "3", "--workers", "4"].as_slice(),
+            2,
+            spent,
+        ),
+        (
+            ["bench", "judge", "--workers", "4", "--budget", "3"].as_slice(),
+            2,
+            spent,
+        ),
+    ];
+    for (words, status, output) in lines {
+        runs(&rt, alloc, OVERLAPPING_INSERT, words, status, output)?;
+    }
+    let refused = [
+        ("--workers", "0"),
+        ("--workers", "65"),
+        ("--workers", "x"),
+        ("--budget", "0"),
+        ("--budget", "1000001"),
+    ];
+    for (option, value) in refused {
+        let words = ["bench", "judge", option, value];
+        runs(&rt, alloc, OVERLAPPING_INSERT, &words, 5, "")?;
     }
     Ok(())
 }

@@ -1,11 +1,11 @@
 -- `check` and texts that spell numbers are accepted, and ask for a check of these numbers.
 use Rattle.std.proofs.Common.{◌≡◌, ◌∙◌, ◌++◌, ◌≤◌, true, false, nat_lt, refl, sym, ap, arith, List, [], ◌∷◌, map, length, Some, None, codes, suc, le-ltb, append-nil, append_assoc}
 use Rattle.std.specs.List.{All, fold}
-use Rattle.clap.specs.Faults.{check_fault, defaults_fault, level_fault, settle_fault, turn_fault, walk_fault}
-use Rattle.clap.specs.Kinds.{Kinds, or_else, values_kinds}
+use Rattle.clap.specs.Faults.{defaults_fault, level_fault, turn_fault, walk_fault}
+use Rattle.clap.specs.Kinds.{values_kinds}
 use Rattle.clap.specs.Lexer.{usize_max}
 use Rattle.clap.specs.ValueTests.{accepts}
-use Rattle.clap.specs.Walk.{Held, Text, Walk, finished, nothing_held, positional, rows_after, settled, walk, walk_from, walked}
+use Rattle.clap.specs.Walk.{Text, Walk, finished, nothing_held, positional, rows_after, walk, walk_from, walked}
 use Rattle.clap.proofs.FaultLemmas.{past}
 use Rattle.clap.proofs.ValueTestLemmas.{Accepts-accepts}
 use Rattle.command_line.specs.Commands.{bench_app, calls_rule, check_app, judge_app, number_rule}
@@ -16,6 +16,7 @@ use Rattle.command_line.specs.declared.line.Line.{Line}
 use Rattle.command_line.specs.declared.line.Line.TheVariants.{Check, Judge}
 use Rattle.command_line.proofs.BenchLemmas.{check_shape, met_rows, names_check, number_parser, other_met, subcommand_accepted, words_met}
 use Rattle.command_line.proofs.PlainLemmas.{IsPlain, number_is_plain}
+use Rattle.command_line.proofs.SubcommandLemmas.{level_by, level_rest}
 
 -- ---- the walk over the texts
 
@@ -98,14 +99,8 @@ no_value_fault [] numbers = refl
 no_value_fault (t ∷ ts) numbers =
     rw (accepted_number t (numbers 0 t (omega arith))) (no_value_fault ts (other_numbers t ts numbers))
 
--- the steps after the walk
-level_rest : Held → Kinds
-level_rest h = or_else (settle_fault check_shape.rules check_shape.args_override_self h)
-    (or_else (defaults_fault (settled check_shape.rules h).rows check_shape.rules)
-    (check_fault check_shape (finished check_shape.rules h) false))
-
--- none of them fails after one text or more
-rest_passes : (t : Text) (ts : List Text) → All IsNumber (t ∷ ts) → length (t ∷ ts) ≤ usize_max → level_rest (after_calls (t ∷ ts)).held ≡ []
+-- none of the steps after the walk fails after one text or more
+rest_passes : (t : Text) (ts : List Text) → All IsNumber (t ∷ ts) → length (t ∷ ts) ≤ usize_max → level_rest check_shape (after_calls (t ∷ ts)).held ≡ []
 unfolding bench_app check_app calls_rule judge_app number_rule check_shape after_calls level_rest defaults_fault
 rest_passes t ts numbers fits =
     let not_few : nat_lt (length (t ∷ ts)) 0 ≡ false = le-ltb _ _ (omega arith) in
@@ -119,10 +114,9 @@ no_calls = refl
 
 -- nor with any that spell numbers
 level_faultless : (calls : List Text) → All IsNumber calls → length calls ≤ usize_max → level_fault check_shape [] nothing_held calls false [] ≡ []
-unfolding level_rest
 level_faultless [] numbers fits = no_calls
 level_faultless (t ∷ ts) numbers fits =
-    past _ _ (calls_turns t ts numbers) ∙ ap (λ w. level_rest w.held) (calls_walk t ts numbers) ∙ rest_passes t ts numbers fits
+    level_by check_shape (t ∷ ts) (after_calls (t ∷ ts)) (calls_walk t ts numbers) (calls_turns t ts numbers) (rest_passes t ts numbers fits)
 
 -- the row of CALL holds the texts
 level_values : (calls : List Text) → All IsNumber calls → values_of (codes "CALL") (rows_after check_shape.rules [] calls) ≡ calls
@@ -144,5 +138,5 @@ pub checks_numbers : (words calls : List Text) (line : Line) → IsCheck words c
 checks_numbers words calls (Check order) (name, is, numbers) asks =
     let rows_are = met_rows _ _ _ _ _ asks.subcommand (words_met words name (codes "check") check_shape calls is names_check) in
     asks.order_is ∙ ap (λ rows. map number_of (values_of (codes "CALL") rows)) rows_are ∙ ap (map number_of) (level_values calls numbers)
-checks_numbers words calls (Judge budget) (name, is, numbers) asks =
+checks_numbers words calls (Judge budget workers) (name, is, numbers) asks =
     other_met _ _ _ _ _ asks.subcommand (words_met words name (codes "check") check_shape calls is names_check) refl

@@ -1,7 +1,7 @@
-pub mod RowLemmas
-pub mod StopLemmas
-pub mod DefaultLemmas
-pub mod SubcommandLemmas
+mod RowLemmas
+mod StopLemmas
+mod DefaultLemmas
+mod SubcommandLemmas
 mod PlainLemmas
 mod BenchLemmas
 mod MatchLemmas

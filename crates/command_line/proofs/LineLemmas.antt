@@ -1,5 +1,5 @@
 -- Words of which no step of reading fails ask for a line.
-use Rattle.std.proofs.Common.{◌≡◌, ◌∙◌, ◌&&◌, ◌||◌, ◌<◌, ◌^◌, ◌⊎◌, inl, inr, true≢false, Bool, ℕ, zero, suc, true, false, cond, refl, sym, ap, subst, arith, lit<, map, List, [], ◌∷◌, Option, Some, None, codes}
+use Rattle.std.proofs.Common.{◌≡◌, ◌∙◌, ◌&&◌, ◌||◌, ◌<◌, ◌^◌, ◌⊎◌, inl, inr, true≢false, Bool, ℕ, zero, suc, true, false, cond, refl, sym, ap, subst, arith, lit<, map, List, [], ◌∷◌, Option, Some, codes}
 use Rattle.std.specs.List.{All, find}
 use Rattle.std.specs.Option.{option_map, unwrap_or}
 use Rattle.std.specs.Str.{bytes_eq}
@@ -16,7 +16,7 @@ use Rattle.clap.specs.declared.builder.value_parser.ValueParser.{ValueParser}
 use Rattle.clap.specs.declared.builder.value_parser.ValueParser.TheVariants.{Unsigned}
 use Rattle.clap.proofs.ValueTestLemmas.{accepts-Accepts}
 use Rattle.command_line.specs.Commands.{bench_app, calls_rule, check_app, judge_app, number_rule}
-use Rattle.command_line.specs.Limits.{budget_limit}
+use Rattle.command_line.specs.Limits.{budget_limit, workers_limit}
 use Rattle.command_line.specs.LineFaults.{IsAccepted}
 use Rattle.command_line.specs.Lines.{AsksCheck, AsksJudge, CanBeAsked, HasNumber, values_of}
 use Rattle.command_line.specs.Numbers.{IsNumber, IsNumberWithin, number_of}
@@ -108,11 +108,12 @@ record ReadsCheck (s : Shape) : Type 0 where
   calls_case : calls.ignore_case ≡ false
   calls_parser : calls.parser ≡ Some number_parser
 
--- the subcommand is named `judge` and reads a number into `--budget`
+-- the subcommand is named `judge` and reads a number into each of its options
 record ReadsJudge (s : Shape) : Type 0 where
   name_is : s.name ≡ codes "judge"
   own : AllOwn s.rules s.rules
   budget : ReadsNumber s (codes "budget") budget_limit
+  workers : ReadsNumber s (codes "workers") workers_limit
 
 -- the first subcommand is `check`
 check_is : ReadsCheck check_shape
@@ -132,8 +133,9 @@ judge_is : ReadsJudge judge_shape
 unfolding bench_app check_app calls_rule judge_app number_rule judge_shape
 judge_is = record {
   name_is = refl;
-  own = (refl, (refl, tt));
+  own = (refl, (refl, (refl, tt)));
   budget = record { rule = _; id_is = refl; own = refl; parser = refl; wants = refl; default = tt };
+  workers = record { rule = _; id_is = refl; own = refl; parser = refl; wants = refl; default = tt };
 }
 
 -- the fact holds of each that passes the test
@@ -187,15 +189,18 @@ check_can_be_asked met s rest met_is check none =
 
 -- and so can a subcommand `judge`
 judge_can_be_asked : (met : Option (Text × List Row)) (s : Shape) (rest : List Text) → met ≡ Some (rows_at s rest) → ReadsJudge s
-    → level_fault s [] nothing_held rest false [] ≡ [] → (budget : ℕ) × AsksJudge met budget
+    → level_fault s [] nothing_held rest false [] ≡ [] → (budget : ℕ) × (workers : ℕ) × AsksJudge met budget workers
 judge_can_be_asked met s rest met_is judge none =
     let rows : List Row = rows_after s.rules [] rest in
-    let budget = has_number s (codes "budget") budget_limit rest (lit< tt) judge.own judge.budget none in (
+    let budget = has_number s (codes "budget") budget_limit rest (lit< tt) judge.own judge.budget none in
+    let workers = has_number s (codes "workers") workers_limit rest (lit< tt) judge.own judge.workers none in (
       budget.0,
+      workers.0,
       record {
         rows = rows;
         subcommand = met_is ∙ ap (λ (name : Text). Some (name, rows)) judge.name_is;
         budget_is = budget.1;
+        workers_is = workers.1;
       },
     )
 

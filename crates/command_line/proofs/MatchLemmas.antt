@@ -1,15 +1,15 @@
 -- What the matches of a subcommand that can be asked hold: its name, and the values of its arguments.
-use Rattle.std.proofs.Common.{◌≡◌, ◌∙◌, ◌⊎◌, ℕ, inl, inr, refl, sym, ap, ap₂, subst, List, Option, Some, None, codes, true}
+use Rattle.std.proofs.Common.{◌≡◌, ◌∙◌, ℕ, inl, inr, refl, sym, ap, ap₂, subst, List, Option, Some, None, codes, true}
 use Rattle.std.specs.List.{All}
 use Rattle.std.specs.Option.{IsSomeAnd, option_map}
 use Rattle.std.specs.Str.{bytes_eq}
 use Rattle.std.proofs.lemmas.Option.{same_Some}
 use Rattle.std.proofs.lemmas.Slice.Eq.{bytes_eq-Decides}
-use Rattle.clap.specs.Words.{Row, Text, first_of, first_value, rows_of, subcommand_name_of, subcommand_rows_of}
+use Rattle.clap.specs.Words.{Row, Text, first_value, rows_of, subcommand_name_of, subcommand_rows_of}
 use Rattle.clap.specs.declared.parser.matches.ArgMatches.{ArgMatches}
 use Rattle.clap.specs.declared.parser.matches.Found.{Found}
 use Rattle.clap.proofs.WalkLemmas.{first_value-rows}
-use Rattle.command_line.specs.Limits.{budget_limit}
+use Rattle.command_line.specs.Limits.{budget_limit, workers_limit}
 use Rattle.command_line.specs.Lines.{CanBeAsked, HasNumber, values_of}
 use Rattle.command_line.specs.Numbers.{IsNumber, number_of}
 use Rattle.command_line.proofs.BenchLemmas.{met_rows, other_met}
@@ -38,14 +38,17 @@ pub check_numbers : (met : Option (Text × List Row)) (rows : List Row) → met 
     → All IsNumber (values_of (codes "CALL") rows)
 check_numbers met rows is (inl (order, asks)) =
     subst (λ (r : List Row). All IsNumber (values_of (codes "CALL") r)) (met_rows _ _ _ _ _ asks.subcommand is) asks.numbers
-check_numbers met rows is (inr (budget, asks)) = absurd (other_met _ _ _ _ _ asks.subcommand is refl)
+check_numbers met rows is (inr (budget, workers, asks)) = absurd (other_met _ _ _ _ _ asks.subcommand is refl)
 
--- the budget is a number, where it is `judge`
-pub judge_budget : (met : Option (Text × List Row)) (rows : List Row) → met ≡ Some (codes "judge", rows) → CanBeAsked met
-    → (n : ℕ) × HasNumber (codes "budget") budget_limit rows n
-judge_budget met rows is (inl (order, asks)) = absurd (other_met _ _ _ _ _ asks.subcommand is refl)
-judge_budget met rows is (inr (budget, asks)) =
-    (budget, subst (λ (r : List Row). HasNumber (codes "budget") budget_limit r budget) (met_rows _ _ _ _ _ asks.subcommand is) asks.budget_is)
+-- the values of the options are numbers, where it is `judge`
+pub judge_numbers : (met : Option (Text × List Row)) (rows : List Row) → met ≡ Some (codes "judge", rows) → CanBeAsked met
+    → ((n : ℕ) × HasNumber (codes "budget") budget_limit rows n) × ((n : ℕ) × HasNumber (codes "workers") workers_limit rows n)
+judge_numbers met rows is (inl (order, asks)) = absurd (other_met _ _ _ _ _ asks.subcommand is refl)
+judge_numbers met rows is (inr (budget, workers, asks)) =
+    let rows_are = met_rows _ _ _ _ _ asks.subcommand is in (
+      (budget, subst (λ (r : List Row). HasNumber (codes "budget") budget_limit r budget) rows_are asks.budget_is),
+      (workers, subst (λ (r : List Row). HasNumber (codes "workers") workers_limit r workers) rows_are asks.workers_is),
+    )
 
 -- ---- an option that has a number
 

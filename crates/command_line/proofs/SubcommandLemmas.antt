@@ -5,7 +5,7 @@ use Rattle.std.specs.List.{find, fold}
 use Rattle.clap.specs.Faults.{built_fault, check_fault, defaults_fault, entered_fault, level_fault, settle_fault, turn_fault, walk_fault}
 use Rattle.clap.specs.Kinds.{Kinds, or_else}
 use Rattle.clap.specs.Simple.{App, Shape, entered, label_of, names_of}
-use Rattle.clap.specs.Walk.{Text, Walk, answers_to, finished, idle, nothing_held, rows_after, settled, subcommand_met, walk, walk_from, walked}
+use Rattle.clap.specs.Walk.{Held, Text, Walk, answers_to, finished, idle, nothing_held, rows_after, settled, subcommand_met, walk, walk_from, walked}
 use Rattle.clap.proofs.FaultLemmas.{past, stopped_fault}
 use Rattle.clap.proofs.WalkLemmas.{walk_stopped}
 use Rattle.command_line.proofs.StopLemmas.{is_help}
@@ -21,6 +21,18 @@ pub record NamesSubcommand (a : App) (name : Text) (s : Shape) : Type 0 where
 pub record TakesSubcommand (a : App) : Type 0 where
   pub defaults : defaults_fault [] a.top.rules ≡ []
   pub checks : check_fault a.top (finished a.top.rules nothing_held) true ≡ []
+
+-- the steps of a subcommand's own level after the walk over its words
+unfoldable pub level_rest : Shape → Held → Kinds
+level_rest s h = or_else (settle_fault s.rules s.args_override_self h)
+    (or_else (defaults_fault (settled s.rules h).rows s.rules)
+    (check_fault s (finished s.rules h) false))
+
+-- no step of the level fails, where the walk has no fault and none of the steps after it fails
+pub level_by : (s : Shape) (words : List Text) (end : Walk) → walk s.rules [] nothing_held words ≡ end
+    → walk_fault s [] (walk_from nothing_held) words ≡ [] → level_rest s end.held ≡ [] → level_fault s [] nothing_held words false [] ≡ []
+unfolding level_rest
+level_by s words end walked_to turns passes = past _ _ turns ∙ ap (λ (w : Walk). level_rest s w.held) walked_to ∙ passes
 
 module _ (a : App) (name : Text) (s : Shape) (names : NamesSubcommand a name s) where
   -- where the walk stands once it has met the name, with these words after it

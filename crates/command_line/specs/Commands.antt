@@ -4,7 +4,7 @@ use Rattle.clap.specs.Words.{App, Rule, Text, new_app, new_rule, with_rule, with
 use Rattle.clap.specs.Simple.{on_top}
 use Rattle.clap.specs.Lexer.{usize_max}
 use Rattle.clap.specs.declared.builder.value_parser.ValueParser.TheVariants.{Unsigned}
-use Rattle.command_line.specs.Limits.{budget_limit}
+use Rattle.command_line.specs.Limits.{budget_limit, workers_limit}
 
 -- `[CALL]..`: any number of values, each a number that a `u32` holds
 unfoldable pub calls_rule : Rule
@@ -26,10 +26,12 @@ number_rule name limit default = record (new_rule name) {
   parser = Some (Unsigned 1 limit);
 }
 
--- `judge [--budget N]`
+-- `judge [--budget N] [--workers N]`
 unfoldable pub judge_app : App
-judge_app = with_rule (new_app (codes "judge"))
-    (number_rule (codes "budget") budget_limit (codes "100000"))
+judge_app = with_rule
+    (with_rule (new_app (codes "judge"))
+    (number_rule (codes "budget") budget_limit (codes "100000")))
+    (number_rule (codes "workers") workers_limit (codes "1"))
 
 -- the program: one of its subcommands has to be named
 unfoldable pub bench_app : App

@@ -4,3 +4,7 @@ use Rattle.std.specs.Prelude.{ℕ}
 -- the greatest budget
 abbrev pub budget_limit : ℕ
 budget_limit = 1000000
+
+-- the most workers
+abbrev pub workers_limit : ℕ
+workers_limit = 64

@@ -3,7 +3,7 @@ ghost use Rattle.clap.specs.Words.{app_of, rule_of};
 ghost use Rattle.clap.specs.declared.builder.command.Command.TheViews.{out-Command};
 ghost use Rattle.command_line.specs.Commands.{bench_app, check_app, judge_app, number_rule};
 
-use crate::line::MAX_BUDGET;
+use crate::line::{MAX_BUDGET, MAX_WORKERS};
 use clap::builder::ValueParser;
 use clap::{Arg, Command};
 use std::alloc::{AllocError, Global};
@@ -32,16 +32,20 @@ fn check_command<'a>(alloc: Global) -> Result<Command<'a>, AllocError>
         .arg(calls)
 }
 
-// `judge [--budget N]`
+// `judge [--budget N] [--workers N]`
 fn judge_command<'a>(alloc: Global) -> Result<Command<'a>, AllocError>
     ensures { IfOk result (λ c. (app_of c ≡ judge_app) × ((out-Command c).has_globals ≡ false)) }
 {
     let budget = number_option(alloc, "budget", MAX_BUDGET, "100000").help(
         "How many configurations of each segment are searched at most",
     );
+    let workers = number_option(alloc, "workers", MAX_WORKERS, "1").help(
+        "How many workers search the segments side by side",
+    );
     Command::new(alloc, "judge")
         .about("Tells whether the history on standard input is linearizable")
-        .arg(budget)
+        .arg(budget)?
+        .arg(workers)
 }
 
 // `--NAME N`, a number from 1 to the limit, which is read from `default` where it is left out.

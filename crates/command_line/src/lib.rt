@@ -13,5 +13,5 @@ mod read;
 mod tests;
 
 pub use fault::LineFault;
-pub use line::{DEFAULT_BUDGET, Line, MAX_BUDGET};
+pub use line::{DEFAULT_BUDGET, DEFAULT_WORKERS, Line, MAX_BUDGET, MAX_WORKERS};
 pub use read::read_line;

@@ -1,15 +1,17 @@
-ghost use Rattle.std.specs.Prelude.{◌≡◌, ℕ, IfErr, IfOk, IfSome, IsSomeAnd, List, MatchResult, OnOk, Some, codes, map, true};
+ghost use Rattle.std.specs.Prelude.{◌≡◌, ℕ, IfErr, IfOk, IsSomeAnd, List, MatchResult, OnOk, Option, map, true};
 ghost use Rattle.std.specs.List.{All};
-ghost use Rattle.clap.specs.Words.{first_of, first_value, found_of, rows_of, subcommand_rows_of, takes};
+ghost use Rattle.std.specs.Option.{option_map_or};
+ghost use Rattle.clap.specs.Words.{first_value, found_of, subcommand_rows_of, takes};
 ghost use Rattle.clap.specs.Walk.{texts};
 ghost use Rattle.command_line.specs.Commands.{bench_app};
 ghost use Rattle.command_line.specs.LineFaults.{IsAccepted, IsFaultAt};
-ghost use Rattle.command_line.specs.Lines.{Asks, CanBeAsked, ChecksNumbers, IsCheck, IsJudge, IsJudgeWith, IsLineOf, IsWithinLimits, values_of};
+ghost use Rattle.command_line.specs.Lines.{Asks, CanBeAsked, ChecksNumbers, IsCheck, IsJudge};
+ghost use Rattle.command_line.specs.Lines.{IsLineOf, IsWithinLimits};
 ghost use Rattle.command_line.specs.Numbers.{IsNumber, number_of};
 
 use crate::command::bench_command;
 use crate::fault::LineFault;
-use crate::line::{DEFAULT_BUDGET, Line};
+use crate::line::{DEFAULT_BUDGET, DEFAULT_WORKERS, Line};
 use clap::ArgMatches;
 use std::alloc::{AllocError, Global};
 
@@ -23,16 +25,19 @@ pub fn read_line<'a>(alloc: Global, words: &'a [&'a str]) -> Result<Line, LineFa
     ensures limits { IfOk result IsWithinLimits }
     ensures accepted { OnOk result (IsAccepted (texts words.entry.now)) }
     ensures refused { IfErr result (IsFaultAt (texts words.entry.now)) }
+    // The same by the test that `clap` states for words that a command takes.
     ensures taken { takes bench_app (texts words.entry.now) ≡ true
         → IfErr result (λ e. e ≡ LineFault.Memory) }
     // `check` and numbers are always a line.
     ensures check { (calls : List (List ℕ)) → IsCheck (texts words.entry.now) calls
         → MatchResult result (ChecksNumbers calls) (λ e. e ≡ LineFault.Memory) }
-    // `judge` is always a line, with the default where it names no budget.
-    ensures judge { IsJudge (texts words.entry.now)
-        → MatchResult result (λ line. line ≡ Line.Judge DEFAULT_BUDGET) (λ e. e ≡ LineFault.Memory) }
-    ensures judge_with { (budget : List ℕ) → IsJudgeWith (texts words.entry.now) budget
-        → MatchResult result (λ line. line ≡ Line.Judge (number_of budget)) (λ e. e ≡ LineFault.Memory) }
+    // `judge` is always a line, with or without either option, in either order.
+    ensures judge { (budget workers : Option (List ℕ))
+        → IsJudge (texts words.entry.now) budget workers
+        → MatchResult result
+        (λ line. line ≡ Line.Judge (option_map_or number_of budget DEFAULT_BUDGET)
+        (option_map_or number_of workers DEFAULT_WORKERS))
+        (λ e. e ≡ LineFault.Memory) }
 {
     match bench_command(alloc)?.try_get_matches_from(words) {
         Ok(matches) => Ok(line_of(alloc, &matches)?),
@@ -51,6 +56,7 @@ fn line_of(alloc: Global, matches: &ArgMatches<'_>) -> Result<Line, AllocError>
         }),
         Some((name, judge)) if name == "judge" => Ok(Line::Judge {
             budget: number_at(judge, "budget"),
+            workers: number_at(judge, "workers"),
         }),
         _ => unreachable!(),
     }
@@ -59,7 +65,8 @@ fn line_of(alloc: Global, matches: &ArgMatches<'_>) -> Result<Line, AllocError>
 // The number that the value of an option spells.
 fn number_at(matches: &ArgMatches<'_>, id: &str) -> u32
     requires { IsSomeAnd (first_value (found_of matches.now) id.now) IsNumber }
-    ensures { IsSomeAnd (first_value (found_of matches.now) id.now) (λ text. result ≡ number_of text) }
+    ensures { IsSomeAnd (first_value (found_of matches.now) id.now)
+        (λ text. result ≡ number_of text) }
 {
     matches.get_str(id).unwrap().parse::<u32>().unwrap()
 }

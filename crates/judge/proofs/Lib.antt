@@ -1,1 +1,3 @@
 mod ReportLemmas
+mod AnswerLemmas
+mod OneCallLemmas

@@ -7,7 +7,7 @@ use Rattle.judge.specs.Shows.{ShowsYes, ShowsNo, ShowsUndecided}
 
 -- no history is shown a yes and a no, whatever the budgets were
 abbrev pub FinishedVerdictsAgree : Type 0
-FinishedVerdictsAgree = (start : Contents) (calls : List Operation) (order : List ℕ) (segment : SegmentView) → ShowsYes start calls order → ShowsNo start calls segment → ⊥
+FinishedVerdictsAgree = (start : Contents) (budget : ℕ) (calls : List Operation) (order : List ℕ) (segment : SegmentView) → ShowsYes start calls order → ShowsNo start budget calls segment → ⊥
 
 -- one call is decided at every budget of two or more
 abbrev pub OneCallIsDecided : Type 0

@@ -1,5 +1,5 @@
-pub mod Searched
 pub mod Shows
 pub mod Shown
+pub mod Judged
 pub mod Reports
 pub mod Laws

@@ -9,5 +9,5 @@ use Rattle.judge.specs.Shows.{ShowsYes, ShowsNo, ShowsUndecided}
 -- what the verdict says of the calls is so
 abbrev pub IsShown : Contents → ℕ → List Operation → Verdict → Type 0
 IsShown start budget calls (Yes order) = ShowsYes start calls order.items
-IsShown start budget calls (No segment) = ShowsNo start calls segment
+IsShown start budget calls (No segment) = ShowsNo start budget calls segment
 IsShown start budget calls (Undecided segment) = ShowsUndecided start budget calls segment

@@ -1,24 +1,50 @@
 -- What a verdict shows of the calls of a history, where these pairs stand in the map before the first call. Orders are the linearizations of Herlihy and Wing 1990, section 2.
-use Rattle.std.specs.Prelude.{ℕ, List}
+use Rattle.std.specs.Prelude.{◌⊎◌, ℕ, List, ◌∷◌, ◌++◌, All}
+use Rattle.std.specs.List.{AllZip}
 use Rattle.history.specs.declared.operation.Operation.{Operation}
 use Rattle.history.specs.MapObject.{Contents}
 use Rattle.history.specs.Orders.{IsOrder, IsLinearizable}
 use Rattle.history.specs.SegmentView.{SegmentView}
-use Rattle.history.specs.SegmentOrders.{start_of, HasNoOrder}
+use Rattle.history.specs.Segments.{AreSegments}
+use Rattle.history.specs.SegmentOrders.{start_of, IsOrderOf, HasNoOrder}
+use Rattle.history.specs.Merge.{IsMergedOrder}
 use Rattle.history.specs.Counts.{ReachesMoreThan}
-use Rattle.judge.specs.Searched.{IsSearched}
 
--- yes: an order of the whole history, with all completed and some pending calls, that keeps each response-before-invocation pair and in which a sorted list used alone gives every recorded reply
-abbrev pub ShowsYes : Contents → List Operation → List ℕ → Type 0
-ShowsYes start calls order = IsOrder start calls order
+-- the calls of the segment have an order
+abbrev pub HasOrder : Contents → SegmentView → Type 0
+HasOrder start segment = IsLinearizable (start_of start segment) segment.calls
 
--- no: no such order exists, and the calls of the named segment have none by themselves either
-pub record ShowsNo (start : Contents) (calls : List Operation) (segment : SegmentView) : Type 0 where
-  pub searched : IsSearched calls segment
+-- the segment has more reachable configurations than the budget
+abbrev pub IsBeyond : Contents → ℕ → SegmentView → Type 0
+IsBeyond start budget segment = ReachesMoreThan (start_of start segment) segment.calls budget
+
+-- no search that the budget covers finds the segment without order
+abbrev pub IsUnrefuted : Contents → ℕ → SegmentView → Type 0
+IsUnrefuted start budget segment = HasOrder start segment ⊎ IsBeyond start budget segment
+
+-- yes: an order of the whole history, with all completed and some pending calls, that keeps each response-before-invocation pair and in which a sorted list used alone gives every recorded reply; it merges orders of the segments
+pub record ShowsYes (start : Contents) (calls : List Operation) (order : List ℕ) : Type 0 where
+  pub segments : List SegmentView
+  pub orders : List (List ℕ)
+  pub is_order : IsOrder start calls order
+  pub are_segments : AreSegments calls segments
+  pub found : AllZip (IsOrderOf start) segments orders
+  pub merged : IsMergedOrder calls orders order
+
+-- no: no such order exists, and the calls of the named segment have none by themselves either; no segment below it had to be named
+pub record ShowsNo (start : Contents) (budget : ℕ) (calls : List Operation) (segment : SegmentView) : Type 0 where
+  pub below : List SegmentView
+  pub above : List SegmentView
   pub no_order : IsLinearizable start calls → ⊥
   pub segment_has_none : HasNoOrder start segment
+  pub are_segments : AreSegments calls (below ++ segment ∷ above)
+  pub lowest : All (IsUnrefuted start budget) below
 
--- undecided: the named segment has more reachable configurations than the budget
+-- undecided: the named segment has more reachable configurations than the budget; those below it have orders, and no segment above it makes it a no
 pub record ShowsUndecided (start : Contents) (budget : ℕ) (calls : List Operation) (segment : SegmentView) : Type 0 where
-  pub searched : IsSearched calls segment
-  pub reaches : ReachesMoreThan (start_of start segment) segment.calls budget
+  pub below : List SegmentView
+  pub above : List SegmentView
+  pub reaches : IsBeyond start budget segment
+  pub are_segments : AreSegments calls (below ++ segment ∷ above)
+  pub lowest : All (HasOrder start) below
+  pub unrefuted : All (IsUnrefuted start budget) above

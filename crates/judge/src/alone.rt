@@ -1,27 +1,38 @@
 // The verdict on a history, found by one thread.
 ghost use Rattle.std.specs.Prelude.{◌≤◌, [], IfOk};
+ghost use Rattle.std.specs.List.{AllZip};
 ghost use Rattle.history.specs.Operations.{operations};
+ghost use Rattle.search.specs.Found.{IsSoundAnswer};
 ghost use Rattle.judge.specs.Shown.{IsShown};
 
+use crate::conclusion::conclude;
 use crate::verdict::Verdict;
+use cutter::cut;
 use history::{History, Memory, Segment};
 use search::{Found, MAX_BUDGET, search};
 use std::alloc::Global;
 
-/// Judges a history by a search of at most `budget` configurations. All calls are searched as one segment
-/// but pending gets and pending scans, which any order may leave out; where there are no others, the empty
-/// list is an order. Want of memory is an error and decides nothing. It costs what the search costs, and
-/// one copy of the calls.
+/// Judges a history, by a search of at most `budget` configurations in each of its segments, one after
+/// another by rising key. The lowest segment without order refutes the history; else the lowest segment whose
+/// search needs more than the budget is named; else the orders of all segments are merged. Want of memory is
+/// an error and decides nothing. It costs what the cut, the searches and the merge cost.
 pub fn judge_alone(alloc: Global, history: &History, budget: u32) -> Result<Verdict, Memory>
     requires { (1 ≤ budget) × (budget ≤ MAX_BUDGET) }
     ensures shown { IfOk result (IsShown [] budget (operations history.now)) }
 {
-    let Some(segment) = Segment::whole(alloc, history)? else {
-        return Ok(Verdict::Yes(Vec::new(alloc)));
-    };
-    match search(alloc, &segment, budget)? {
-        Found::Order(order) => Ok(Verdict::Yes(order)),
-        Found::NoOrder => Ok(Verdict::No(segment)),
-        Found::Spent => Ok(Verdict::Undecided(segment)),
+    let segments = cut(alloc, history)?;
+    let answers = search_each(alloc, &segments, budget)?;
+    conclude(alloc, history, budget, segments, answers)
+}
+
+/// What the search of each segment finds.
+fn search_each(alloc: Global, segments: &[Segment], budget: u32) -> Result<Vec<Found>, Memory>
+    requires { (1 ≤ budget) × (budget ≤ MAX_BUDGET) }
+    ensures { IfOk result (λ v. AllZip (IsSoundAnswer [] budget) segments.now v.items) }
+{
+    let mut answers = Vec::with_capacity(alloc, segments.len())?;
+    for segment in segments {
+        answers.push(search(alloc, segment, budget)?)?;
     }
+    Ok(answers)
 }

@@ -5,14 +5,23 @@
 #![tactic(auto)]
 
 mod alone;
+mod conclusion;
+mod fault;
 mod laws;
 mod reports;
 #[cfg(test)]
 mod tests;
+#[cfg(test)]
+mod text_tests;
+mod texts;
 mod verdict;
+mod workers;
 
 pub use alone::judge_alone;
+pub use fault::JudgeFault;
 pub use laws::{finished_verdicts_agree, one_call_is_decided};
 pub use reports::report;
 pub use search::MAX_BUDGET;
+pub use texts::judge_text;
 pub use verdict::Verdict;
+pub use workers::judge;

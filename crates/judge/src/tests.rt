@@ -79,6 +79,23 @@ const GET_SEES_WHAT_NOBODY_INSERTED: &str = r#"
     {"answer":null,"process":0},
     {"invoke":["get",9],"process":2}, {"answer":1,"process":2}"#;
 
+const TWO_KEYS_BY_FALLING_KEY: &str = r#"
+    {"invoke":["insert",9,90],"process":0}, {"answer":null,"process":0},
+    {"invoke":["insert",1,10],"process":0}, {"answer":null,"process":0}"#;
+
+const TWO_GETS_SEE_WHAT_NOBODY_INSERTED: &str = r#"
+    {"invoke":["get",9],"process":0}, {"answer":1,"process":0},
+    {"invoke":["get",1],"process":0}, {"answer":1,"process":0}"#;
+
+const INSERT_BESIDE_A_SCAN_IS_ANSWERED_FALSELY: &str = r#"
+    {"invoke":["scan",1,2],"process":0}, {"answer":[],"process":0},
+    {"invoke":["insert",3,30],"process":0}, {"answer":5,"process":0}"#;
+
+const REFUSED_SCAN_TIES_KEYS: &str = r#"
+    {"invoke":["insert",1,10],"process":0}, {"answer":null,"process":0},
+    {"invoke":["scan",1,2],"process":0}, {"answer":"refused","process":0},
+    {"invoke":["get",2],"process":0}, {"answer":5,"process":0}"#;
+
 const SCAN_OF_ALL_KEYS: &str = r#"
     {"invoke":["insert",0,1],"process":0}, {"answer":null,"process":0},
     {"invoke":["insert",18446744073709551615,2],"process":0}, {"answer":null,"process":0},
@@ -115,7 +132,7 @@ const AMPLE: u32 = 1000;
 
 #[test]
 fn histories_that_are_linearizable(rt: HostRuntime) -> Result<(), Fail> {
-    let cases: [Case<'_>; 10] = [
+    let cases: [Case<'_>; 11] = [
         ("", r#"{"order":[],"verdict":"yes"}"#),
         (INSERT_THEN_GET, r#"{"order":[0,1],"verdict":"yes"}"#),
         (GET_MISSES_OPEN_INSERT, r#"{"order":[1,0],"verdict":"yes"}"#),
@@ -132,6 +149,10 @@ fn histories_that_are_linearizable(rt: HostRuntime) -> Result<(), Fail> {
             TWO_KEYS_AND_A_PENDING_SCAN,
             r#"{"order":[1,0,2],"verdict":"yes"}"#,
         ),
+        (
+            TWO_KEYS_BY_FALLING_KEY,
+            r#"{"order":[0,1],"verdict":"yes"}"#,
+        ),
         (SCAN_OF_ALL_KEYS, r#"{"order":[0,1,2],"verdict":"yes"}"#),
         (
             GET_MISSES_REFUSED_INSERT,
@@ -144,7 +165,7 @@ fn histories_that_are_linearizable(rt: HostRuntime) -> Result<(), Fail> {
 
 #[test]
 fn histories_that_are_not_linearizable(rt: HostRuntime) -> Result<(), Fail> {
-    let cases: [Case<'_>; 7] = [
+    let cases: [Case<'_>; 10] = [
         (
             GET_MISSES_ANSWERED_INSERT,
             r#"{"calls":[0,1],"hi":5,"lo":5,"verdict":"no"}"#,
@@ -173,6 +194,18 @@ fn histories_that_are_not_linearizable(rt: HostRuntime) -> Result<(), Fail> {
             GET_IS_ANSWERED_BY_A_LIST,
             r#"{"calls":[0],"hi":5,"lo":5,"verdict":"no"}"#,
         ),
+        (
+            INSERT_BESIDE_A_SCAN_IS_ANSWERED_FALSELY,
+            r#"{"calls":[1],"hi":3,"lo":3,"verdict":"no"}"#,
+        ),
+        (
+            REFUSED_SCAN_TIES_KEYS,
+            r#"{"calls":[0,1,2],"hi":2,"lo":1,"verdict":"no"}"#,
+        ),
+        (
+            TWO_GETS_SEE_WHAT_NOBODY_INSERTED,
+            r#"{"calls":[1],"hi":1,"lo":1,"verdict":"no"}"#,
+        ),
     ];
     compare(&rt, rt.alloc(), AMPLE, &cases)
 }
@@ -183,7 +216,7 @@ fn the_budget_bounds_the_configurations(rt: HostRuntime) -> Result<(), Fail> {
         (GET_MISSES_OPEN_INSERT, r#"{"order":[1,0],"verdict":"yes"}"#),
         (
             GET_SEES_WHAT_NOBODY_INSERTED,
-            r#"{"calls":[0,1,2],"hi":9,"lo":5,"verdict":"no"}"#,
+            r#"{"calls":[2],"hi":9,"lo":9,"verdict":"no"}"#,
         ),
     ];
     let at_three: [Case<'_>; 2] = [
@@ -193,7 +226,7 @@ fn the_budget_bounds_the_configurations(rt: HostRuntime) -> Result<(), Fail> {
         ),
         (
             GET_SEES_WHAT_NOBODY_INSERTED,
-            r#"{"calls":[0,1,2],"hi":9,"lo":5,"verdict":"undecided"}"#,
+            r#"{"calls":[2],"hi":9,"lo":9,"verdict":"no"}"#,
         ),
     ];
     compare(&rt, rt.alloc(), 4, &at_four)?;
@@ -220,4 +253,116 @@ fn one_call_is_decided_at_a_budget_of_two(rt: HostRuntime) -> Result<(), Fail> {
     ];
     compare(&rt, rt.alloc(), 2, &at_two)?;
     compare(&rt, rt.alloc(), 1, &at_one)
+}
+
+#[test]
+fn each_segment_has_the_whole_budget(rt: HostRuntime) -> Result<(), Fail> {
+    let at_two: [Case<'_>; 1] = [(
+        TWO_KEYS_BY_FALLING_KEY,
+        r#"{"order":[0,1],"verdict":"yes"}"#,
+    )];
+    let at_one: [Case<'_>; 1] = [(
+        TWO_KEYS_BY_FALLING_KEY,
+        r#"{"calls":[1],"hi":1,"lo":1,"verdict":"undecided"}"#,
+    )];
+    compare(&rt, rt.alloc(), 2, &at_two)?;
+    compare(&rt, rt.alloc(), 1, &at_one)
+}
+
+/// Inserts at the keys below a count, one after another.
+fn inserts(alloc: Global, count: u64) -> Result<String, Fail> {
+    let mut events = String::new(alloc);
+    for key in 0..count {
+        if key > 0 {
+            events.push_str(",")?;
+        }
+        let call = format!(in alloc;
+            "{{\"invoke\":[\"insert\",{key},1],\"process\":0}},{{\"answer\":null,\"process\":0}}"
+        )?;
+        events.push_str(call.as_str())?;
+    }
+    Ok(events)
+}
+
+/// Gets of one key, one after another.
+fn gets(alloc: Global, count: u64) -> Result<String, Fail> {
+    let mut events = String::new(alloc);
+    for place in 0..count {
+        if place > 0 {
+            events.push_str(",")?;
+        }
+        events.push_str(r#"{"invoke":["get",5],"process":0},{"answer":null,"process":0}"#)?;
+    }
+    Ok(events)
+}
+
+/// Rounds of an insert and a get of one key that overlap, where the get misses what is inserted in its round.
+fn missed_inserts(alloc: Global, rounds: u64) -> Result<String, Fail> {
+    let mut events = String::new(alloc);
+    let mut held = format!(in alloc; "null")?;
+    for round in 0..rounds {
+        if round > 0 {
+            events.push_str(",")?;
+        }
+        let calls = format!(in alloc;
+            "{{\"invoke\":[\"insert\",5,{round}],\"process\":0}},{{\"invoke\":[\"get\",5],\"process\":1}}"
+        )?;
+        let answers = format!(in alloc;
+            "{{\"answer\":{held},\"process\":1}},{{\"answer\":{held},\"process\":0}}"
+        )?;
+        events.push_str(calls.as_str())?;
+        events.push_str(",")?;
+        events.push_str(answers.as_str())?;
+        held = format!(in alloc; "{round}")?;
+    }
+    Ok(events)
+}
+
+/// A yes whose order is all numbers below a count, in turn, or each two of them swapped.
+fn yes(alloc: Global, count: u64, swapped: bool) -> Result<String, Fail> {
+    let mut line = String::new(alloc);
+    line.push_str(r#"{"order":["#)?;
+    for place in 0..count {
+        if place > 0 {
+            line.push_str(",")?;
+        }
+        let number = if swapped { place ^ 1 } else { place };
+        let word = format!(in alloc; "{number}")?;
+        line.push_str(word.as_str())?;
+    }
+    line.push_str(r#"],"verdict":"yes"}"#)?;
+    Ok(line)
+}
+
+/// More configurations than a search of the histories below meets.
+const GENEROUS: u32 = 10_000;
+
+#[test]
+fn as_many_keys_as_calls(rt: HostRuntime) -> Result<(), Fail> {
+    let alloc = rt.alloc();
+    let events = inserts(alloc, 4096)?;
+    let want = yes(alloc, 4096, false)?;
+    compare(&rt, alloc, 2, &[(events.as_str(), want.as_str())])
+}
+
+#[test]
+fn many_calls_on_one_key(rt: HostRuntime) -> Result<(), Fail> {
+    let alloc = rt.alloc();
+    let events = gets(alloc, 4096)?;
+    let want = yes(alloc, 4096, false)?;
+    compare(&rt, alloc, GENEROUS, &[(events.as_str(), want.as_str())])?;
+    let events = missed_inserts(alloc, 2048)?;
+    let want = yes(alloc, 4096, true)?;
+    compare(&rt, alloc, GENEROUS, &[(events.as_str(), want.as_str())])
+}
+
+#[test]
+fn a_scan_ties_many_keys(rt: HostRuntime) -> Result<(), Fail> {
+    let alloc = rt.alloc();
+    let scan =
+        r#"{"invoke":["scan",0,18446744073709551615],"process":1},{"answer":[],"process":1}"#;
+    let inserts = inserts(alloc, 4095)?;
+    let events = format!(in alloc; "{scan},{inserts}")?;
+    let want = yes(alloc, 4096, false)?;
+    compare(&rt, alloc, GENEROUS, &[(events.as_str(), want.as_str())])
 }

@@ -5,17 +5,17 @@ use Rattle.bench.specs.Lines.{history_fault_line}
 use Rattle.bench.proofs.WholeText.{IsTextOf-told, SpellsNone-told}
 use Rattle.bench.proofs.reading.history_from.Goals as goal
 
-pub returns-in-Ok-read_history-clause-ok : goal.returns-in-Ok-read_history-clause-ok
-returns-in-Ok-read_history-clause-ok g c =
-    IsTextOf-told (g.S.Source.remaining c.args.source.now) c.deref.result.now c.in-Ok-read_history.history (rw c.deref.ensures.value c.in-Ok.ensures.bytes) (record {
-      spelled = c.in-Ok-read_history.ensures.spelled;
-      history = c.in-Ok-read_history.ensures.history;
+pub returns-in-Ok-clause-ok : goal.returns-in-Ok-clause-ok
+returns-in-Ok-clause-ok g c =
+    IsTextOf-told (g.S.Source.remaining c.args.source.now) c.deref.result.now c.in-Ok.history (rw c.deref.ensures.value c.in_ok-text.ensures.ok) (record {
+      spelled = c.in-Ok.ensures.spelled;
+      history = c.in-Ok.ensures.history;
     })
 
 pub returns-clause-refused : goal.returns-clause-refused
 returns-clause-refused g c = λ is.
     SpellsNone-told (g.S.Source.remaining c.args.source.now) c.deref.result.now c.in-Err.fault
     (λ fault. Tries g.F.Sink.written g.F.Sink.failures c.args.faults.now c.refuse.new.faults (history_fault_line fault))
-    (rw c.deref.ensures.value c.in-Ok.ensures.bytes)
+    (rw c.deref.ensures.value c.in_ok-text.ensures.ok)
     (record { refused = c.in-Err.ensures.refused; not_memory = (c.refuse.ensures.refused is).0 })
-    (c.refuse.ensures.refused is).1
+    (rw c.in_ok-text.ensures.untold at (c.refuse.ensures.refused is).1)

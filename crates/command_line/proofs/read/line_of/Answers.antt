@@ -6,10 +6,10 @@ use Rattle.clap.specs.Walk.{texts}
 use Rattle.clap.specs.Words.{Text, found_of, matched_of, raw_values, rows_of, subcommand_rows_of}
 use Rattle.clap.specs.declared.parser.matches.Found.{Found}
 use Rattle.clap.proofs.WalkLemmas.{raw_values-rows}
-use Rattle.command_line.specs.Limits.{budget_limit}
+use Rattle.command_line.specs.Limits.{budget_limit, workers_limit}
 use Rattle.command_line.specs.Lines.{HasNumber, values_of}
 use Rattle.command_line.specs.Numbers.{IsNumber, number_of}
-use Rattle.command_line.proofs.MatchLemmas.{check_numbers, is_met, judge_budget, number_read, value_is_number}
+use Rattle.command_line.proofs.MatchLemmas.{check_numbers, is_met, judge_numbers, number_read, value_is_number}
 use Rattle.command_line.proofs.read.line_of.Goals as goal
 use Rattle.command_line.proofs.read.line_of.Goals.{After-unwrap_or, Then-eq-2}
 
@@ -43,17 +43,24 @@ returns-in_ok-numbers_of-in-Some c =
       order_is = c.in_ok-numbers_of-in-Some.ensures ∙ ap (map number_of) (words_are read);
     }
 
--- the budget has a number in the rows of `judge`
+-- the options have numbers in the rows of `judge`
 module _ (c : Then-eq-2) where
   judge_met : subcommand_rows_of c.args.matches.now ≡ Some (codes "judge", rows_of (found_of c.in-Some.check.now))
   judge_met = is_met _ _ _ _ c.in-Some.ensures.name c.in-Some.ensures.rows (sym c.if-eq-2.ensures)
 
   has_budget : (n : ℕ) × HasNumber (codes "budget") budget_limit (rows_of (found_of c.in-Some.check.now)) n
-  has_budget = judge_budget _ _ judge_met c.requires
+  has_budget = (judge_numbers _ _ judge_met c.requires).0
+
+  has_workers : (n : ℕ) × HasNumber (codes "workers") workers_limit (rows_of (found_of c.in-Some.check.now)) n
+  has_workers = (judge_numbers _ _ judge_met c.requires).1
 
 pub number_at-requires : goal.number_at-requires
 number_at-requires c =
     value_is_number (found_of c.in-Some.check.now) _ _ _ (has_budget (goal.at.number_at-requires c).Then-eq-2).1
+
+pub number_at-requires-in-Some-2 : goal.number_at-requires-in-Some-2
+number_at-requires-in-Some-2 c =
+    value_is_number (found_of c.in-Some.check.now) _ _ _ (has_workers (goal.at.number_at-requires-in-Some-2 c).Then-eq-2).1
 
 pub returns-in-Some-2 : goal.returns-in-Some-2
 returns-in-Some-2 c =
@@ -62,4 +69,5 @@ returns-in-Some-2 c =
       rows = rows_of (found_of c.in-Some.check.now);
       subcommand = judge_met judge;
       budget_is = number_read (found_of c.in-Some.check.now) _ _ _ (has_budget judge).1 _ c.number_at.ensures;
+      workers_is = number_read (found_of c.in-Some.check.now) _ _ _ (has_workers judge).1 _ c.number_at-in-Some-2.ensures;
     }

@@ -6,12 +6,12 @@ use Rattle.clap.specs.declared.error.Error.{Error}
 use Rattle.clap.specs.declared.parser.matches.ArgMatches.{ArgMatches}
 use Rattle.command_line.specs.Commands.{bench_app}
 use Rattle.command_line.specs.LineFaults.{IsAccepted, IsFaultAt}
-use Rattle.command_line.specs.Lines.{Asks, CanBeAsked, ChecksNumbers, IsCheck, IsLineOf}
+use Rattle.command_line.specs.Lines.{Asks, CanBeAsked, IsLineOf}
 use Rattle.command_line.specs.declared.fault.LineFault.{LineFault}
 use Rattle.command_line.specs.declared.fault.LineFault.TheVariants as faults
 use Rattle.std.proofs.Common.{length, ◌≤◌, arith}
 use Rattle.command_line.proofs.CheckLemmas.{check_accepted, checks_numbers}
-use Rattle.command_line.proofs.JudgeLemmas.{judge_accepted, judge_with_accepted, judges_default, judges_with}
+use Rattle.command_line.proofs.JudgeLemmas.{judge_accepted, judges_numbers}
 use Rattle.clap.specs.Lexer.{usize_max}
 use Rattle.std.proofs.lemmas.List.{length-map}
 use Rattle.command_line.proofs.LineLemmas.{can_be_asked}
@@ -63,13 +63,12 @@ pub returns-in_ok-line_of-in-Ok-clause-line : goal.returns-in_ok-line_of-in-Ok-c
 returns-in_ok-line_of-in-Ok-clause-line c = line_is (goal.at.returns-in_ok-line_of-in-Ok-clause-line c).In_ok-line_of-in-Ok
 
 pub returns-in_ok-line_of-in-Ok-clause-check : goal.returns-in_ok-line_of-in-Ok-clause-check
-returns-in_ok-line_of-in-Ok-clause-check c calls is = checks_numbers _ calls c.in_ok-line_of-in-Ok.field-0 is (line_is (goal.at.returns-in_ok-line_of-in-Ok-clause-check c).In_ok-line_of-in-Ok)
+returns-in_ok-line_of-in-Ok-clause-check c calls is =
+    checks_numbers _ calls c.in_ok-line_of-in-Ok.field-0 is (line_is (goal.at.returns-in_ok-line_of-in-Ok-clause-check c).In_ok-line_of-in-Ok)
 
 pub returns-in_ok-line_of-in-Ok-clause-judge : goal.returns-in_ok-line_of-in-Ok-clause-judge
-returns-in_ok-line_of-in-Ok-clause-judge c is = judges_default _ _ is (line_is (goal.at.returns-in_ok-line_of-in-Ok-clause-judge c).In_ok-line_of-in-Ok)
-
-pub returns-in_ok-line_of-in-Ok-clause-judge_with : goal.returns-in_ok-line_of-in-Ok-clause-judge_with
-returns-in_ok-line_of-in-Ok-clause-judge_with c budget is = judges_with _ budget _ is (line_is (goal.at.returns-in_ok-line_of-in-Ok-clause-judge_with c).In_ok-line_of-in-Ok)
+returns-in_ok-line_of-in-Ok-clause-judge c budget workers is =
+    judges_numbers _ budget workers _ is (line_is (goal.at.returns-in_ok-line_of-in-Ok-clause-judge c).In_ok-line_of-in-Ok)
 
 -- where the words are accepted, the fault is want of memory
 module _ (c : After-of) where
@@ -86,7 +85,4 @@ returns-in-Err-clause-check c calls is =
     memory (goal.at.returns-in-Err-clause-check c).After-of (check_accepted words calls is fits)
 
 pub returns-in-Err-clause-judge : goal.returns-in-Err-clause-judge
-returns-in-Err-clause-judge c is = memory (goal.at.returns-in-Err-clause-judge c).After-of (judge_accepted _ is)
-
-pub returns-in-Err-clause-judge_with : goal.returns-in-Err-clause-judge_with
-returns-in-Err-clause-judge_with c budget is = memory (goal.at.returns-in-Err-clause-judge_with c).After-of (judge_with_accepted _ budget is)
+returns-in-Err-clause-judge c budget workers is = memory (goal.at.returns-in-Err-clause-judge c).After-of (judge_accepted _ budget workers is)

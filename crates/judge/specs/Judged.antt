@@ -1,0 +1,33 @@
+-- What is answered to a text: a verdict with its report, or why there is none.
+use Rattle.std.specs.Prelude.{◌≡◌, ◌≢◌, ℕ, List, [], ⊤}
+use Rattle.serde_json.specs.Written.{compact_text}
+use Rattle.history.specs.declared.event.Event.{Event}
+use Rattle.history.specs.declared.fault.HistoryFault.{HistoryFault}
+use Rattle.history.specs.declared.fault.HistoryFault.TheVariants as histories
+use Rattle.history.specs.Histories.{IsHistory}
+use Rattle.history.specs.Operations.{operations}
+use Rattle.history.specs.Texts.{Spells}
+use Rattle.history.specs.TextFaults.{IsTextFault}
+use Rattle.judge.specs.declared.verdict.Verdict.{Verdict}
+use Rattle.judge.specs.declared.fault.JudgeFault.{JudgeFault}
+use Rattle.judge.specs.declared.fault.JudgeFault.TheVariants.{History, Memory}
+use Rattle.judge.specs.Shown.{IsShown}
+use Rattle.judge.specs.Reports.{verdict_data}
+
+-- the text spells a history, what the verdict says of its calls is so, and this is the verdict's report
+pub record IsJudged (budget : ℕ) (text : List ℕ) (verdict : Verdict) (report : List ℕ) : Type 0 where
+  pub events : List Event
+  pub spelled : Spells text events
+  pub history : IsHistory events
+  pub shown : IsShown [] budget (operations events) verdict
+  pub reported : report ≡ compact_text (verdict_data verdict)
+
+-- the judge's fault for a reader's: want of memory is one fault, whoever met it
+abbrev pub fault_of : HistoryFault → JudgeFault
+fault_of histories.Memory = Memory
+fault_of fault = History fault
+
+-- why a text has no verdict
+abbrev pub IsUnjudged : List ℕ → JudgeFault → Type 0
+IsUnjudged text (History fault) = IsTextFault text fault × (fault ≢ histories.Memory)
+IsUnjudged text Memory = ⊤

@@ -1,0 +1,40 @@
+// From a history's text to its verdict and the report of it.
+ghost use Rattle.std.specs.Prelude.{◌≡◌, ◌≤◌, List, IfOk, IfErr, string_bytes};
+ghost use Rattle.history.specs.declared.event.Event.{Event};
+ghost use Rattle.history.specs.Histories.{IsHistory};
+ghost use Rattle.history.specs.Texts.{Spells};
+ghost use Rattle.judge.specs.declared.fault.JudgeFault.TheVariants as faults;
+ghost use Rattle.judge.specs.Judged.{IsJudged, IsUnjudged};
+
+use crate::fault::JudgeFault;
+use crate::reports::report;
+use crate::verdict::Verdict;
+use crate::workers::judge;
+use history::read_history;
+use pool::{Gate, MAX_WORKERS};
+use search::MAX_BUDGET;
+use std::alloc::Global;
+use std::thread::Threads;
+
+/// Reads a history's text and judges it as `judge` does: the verdict, with its report. `History` comes with the
+/// text's first fault, where it spells no history.
+pub fn judge_text<R: Threads + Sync, G: Gate + Sync>(
+    rt: &R,
+    alloc: Global,
+    text: &[u8],
+    budget: u32,
+    workers: u32,
+    gate: &G,
+) -> Result<(Verdict, String), JudgeFault>
+    requires budget { (1 ≤ budget) × (budget ≤ MAX_BUDGET) }
+    requires workers { (1 ≤ workers) × (workers ≤ MAX_WORKERS) }
+    ensures judged { IfOk result (λ answer. IsJudged budget text.now answer.0 (string_bytes answer.1)) }
+    ensures refused { IfErr result (IsUnjudged text.now) }
+    ensures accepted { (events : List Event) → Spells text.now events → IsHistory events
+        → IfErr result (λ fault. fault ≡ faults.Memory) }
+{
+    let history = read_history(alloc, text)?;
+    let verdict = judge(rt, alloc, &history, budget, workers, gate)?;
+    let line = report(alloc, &verdict)?;
+    Ok((verdict, line))
+}

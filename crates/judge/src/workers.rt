@@ -1,0 +1,32 @@
+// The verdict on a history, found by workers.
+ghost use Rattle.std.specs.Prelude.{◌≤◌, [], IfOk};
+ghost use Rattle.history.specs.Operations.{operations};
+ghost use Rattle.judge.specs.Shown.{IsShown};
+
+use crate::conclusion::conclude;
+use crate::verdict::Verdict;
+use cutter::cut;
+use history::{History, Memory};
+use pool::{Gate, MAX_WORKERS, search_all};
+use search::MAX_BUDGET;
+use std::alloc::Global;
+use std::thread::Threads;
+
+/// Judges a history as `judge_alone` does, where so many workers search its segments side by side. The number of
+/// workers and their turns change no verdict. A worker passes the gate before each segment that it searches.
+pub fn judge<R: Threads + Sync, G: Gate + Sync>(
+    rt: &R,
+    alloc: Global,
+    history: &History,
+    budget: u32,
+    workers: u32,
+    gate: &G,
+) -> Result<Verdict, Memory>
+    requires budget { (1 ≤ budget) × (budget ≤ MAX_BUDGET) }
+    requires workers { (1 ≤ workers) × (workers ≤ MAX_WORKERS) }
+    ensures shown { IfOk result (IsShown [] budget (operations history.now)) }
+{
+    let segments = cut(alloc, history)?;
+    let answers = search_all(rt, alloc, &segments, budget, workers, gate)?;
+    conclude(alloc, history, budget, segments, answers)
+}
