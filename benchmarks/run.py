@@ -1,10 +1,11 @@
 #!/usr/bin/env python3
 """Times the program on histories that it generates, and prints the time and the peak memory of each run.
 
-    benchmarks/run.py [check|judge]..
+    benchmarks/run.py [check|judge|segments|workers]..
 
 A history for `check` is made by one sorted map that processes call in turn, so that the calls by number are an
-order of it. In one for `judge` the calls overlap, and each has its effect at some moment while it is open.
+order of it. In one for `judge` and `segments` the calls overlap, and each has its effect at some moment while it is
+open. One for `workers` has segments that are equal but for their keys, of many configurations and without order.
 """
 
 import json
@@ -79,12 +80,12 @@ def overlapping(calls, processes, seed):
     return text_of(events)
 
 
-def mixed(count, keys, seed):
-    """Calls of all kinds on some keys."""
+def mixed(count, keys, seed, scans=True):
+    """Calls of all kinds on some keys, or of all but scans."""
     choose = random.Random(seed)
     for _ in range(count):
         key = choose.randrange(keys)
-        kind = choose.randrange(10)
+        kind = choose.randrange(10 if scans else 9)
         if kind < 4:
             yield ("get", key)
         elif kind < 7:
@@ -162,9 +163,45 @@ def judge():
             show(name, ["judge", "--budget", str(MAX_BUDGET)], text, b'{"order":')
 
 
+def segments():
+    for count in (1024, 2048, 4096):
+        text = history(("insert", number, 1) for number in range(count))
+        show(f"judge, {count} calls on as many keys", ["judge"], text, b'{"order":')
+    for count in (1024, 2048, 4096):
+        text = overlapping(mixed(count, 64, count, scans=False), 4, count)
+        show(f"judge, {count} calls of 4 on 64 keys", ["judge"], text, b'{"order":')
+
+
+def heavy(count, processes, rounds):
+    """The compact text of a history of segments that are equal but for their keys: in each, rounds of inserts of new
+    keys that all overlap, and a scan over all keys that misses them."""
+    events = []
+    for round_number in range(rounds):
+        for kind in ("invoke", "answer"):
+            for segment in range(count):
+                for number in range(processes):
+                    process = segment * processes + number
+                    key = segment * 1_000_000 + round_number * processes + number
+                    said = ["insert", key, 1] if kind == "invoke" else None
+                    events.append({kind: said, "process": process})
+    for segment in range(count):
+        process = segment * processes
+        low = segment * 1_000_000
+        events.append({"invoke": ["scan", low, low + rounds * processes], "process": process})
+        events.append({"answer": [], "process": process})
+    return text_of(events)
+
+
+def workers():
+    text = heavy(8, 8, 24)
+    for number in (1, 2, 4):
+        words = ["judge", "--budget", str(MAX_BUDGET), "--workers", str(number)]
+        show(f"judge, 8 equal segments, {number} workers", words, text, b'{"calls":')
+
+
 def main():
     subprocess.run([os.path.join(TOP, "bench"), "--help"], stderr=subprocess.DEVNULL, check=False)
-    parts = {"check": check, "judge": judge}
+    parts = {"check": check, "judge": judge, "segments": segments, "workers": workers}
     for part in sys.argv[1:] or parts:
         parts[part]()
 

@@ -1,7 +1,8 @@
-/* Preloaded before a program, refuses its allocation number REFUSE, counted from 1 from its first, and
-   then makes the file REFUSED. */
+/* Preloaded before a program, refuses its allocation number REFUSE, counted from 1 from its first by all its
+   threads, and then makes the file REFUSED. */
 #include <errno.h>
 #include <fcntl.h>
+#include <stdatomic.h>
 #include <stdlib.h>
 #include <unistd.h>
 
@@ -10,7 +11,7 @@ extern void *__libc_calloc(size_t, size_t);
 extern void *__libc_realloc(void *, size_t);
 extern void *__libc_memalign(size_t, size_t);
 
-static long count;
+static atomic_long count;
 
 static int is_refused(void) {
   static long refused = -1;
@@ -18,7 +19,7 @@ static int is_refused(void) {
     const char *number = getenv("REFUSE");
     refused = number ? atol(number) : 0;
   }
-  if (++count != refused)
+  if (atomic_fetch_add(&count, 1) + 1 != refused)
     return 0;
   const char *path = getenv("REFUSED");
   int file = path ? open(path, O_CREAT | O_WRONLY, 0600) : -1;
