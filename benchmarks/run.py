@@ -200,7 +200,8 @@ def workers():
 
 
 def main():
-    subprocess.run([os.path.join(TOP, "bench"), "--help"], stderr=subprocess.DEVNULL, check=False)
+    # Builds the program where that is still to do.
+    subprocess.run([os.path.join(TOP, "bench"), "judge"], input=history([]), stdout=subprocess.DEVNULL, check=True)
     parts = {"check": check, "judge": judge, "segments": segments, "workers": workers}
     for part in sys.argv[1:] or parts:
         parts[part]()

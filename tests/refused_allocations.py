@@ -39,7 +39,9 @@ def answer(words, text, environment):
 
 
 def main():
-    subprocess.run([os.path.join(TOP, "bench"), "--help"], capture_output=True, check=False)
+    # Builds the program where that is still to do.
+    with open(os.path.join(EXAMPLES, "no-events.json"), "rb") as source:
+        subprocess.run([os.path.join(TOP, "bench"), "judge"], stdin=source, stdout=subprocess.DEVNULL, check=True)
     passed = failed = runs = 0
     with tempfile.TemporaryDirectory() as folder:
         library = os.path.join(folder, "refuse.so")

@@ -1,1 +1,2 @@
+mod ReadText
 mod WholeText

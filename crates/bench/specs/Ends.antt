@@ -1,15 +1,44 @@
--- What a run leaves at a sink: `written` tells the bytes of a sink, where they are known, and `failures` how many calls have failed.
+-- What a run does to an end: the source that it reads, or a sink that it writes to.
 use Rattle.std.specs.Prelude.{◌≡◌, ◌⊎◌, ℕ, ◌+◌, List, Option}
 use Rattle.std.specs.Io.KnownBytes.{Appends, Keeps}
+use Rattle.streams.specs.Progress.{AppendsBeginning}
 
--- these bytes were written, and no call failed
-abbrev pub Says : {T : Type 0} → (T → Option (List ℕ)) → (T → ℕ) → T → T → List ℕ → Type 0
-Says written failures old new bytes = Appends (written old) (written new) bytes × (failures new ≡ failures old)
+-- an end: the bytes still to come of a source, or those written to a sink, where they are told; and how many calls have failed
+pub record End : Type 0 where
+  pub bytes : Option (List ℕ)
+  pub failures : ℕ
+
+-- an end before a run and after it
+pub record Change : Type 0 where
+  pub old : End
+  pub new : End
+
+abbrev pub change : {T : Type 0} → (T → Option (List ℕ)) → (T → ℕ) → T → T → Change
+change bytes failures old new = record {
+  old = record { bytes = bytes old; failures = failures old };
+  new = record { bytes = bytes new; failures = failures new };
+}
+
+-- no call failed
+abbrev pub IsSound : Change → Type 0
+IsSound end = end.new.failures ≡ end.old.failures
+
+-- one call failed
+abbrev pub FailsOnce : Change → Type 0
+FailsOnce end = end.new.failures ≡ end.old.failures + 1
 
 -- nothing was written, and no call failed
-abbrev pub IsSilent : {T : Type 0} → (T → Option (List ℕ)) → (T → ℕ) → T → T → Type 0
-IsSilent written failures old new = Keeps (written old) (written new) × (failures new ≡ failures old)
+abbrev pub IsSilent : Change → Type 0
+IsSilent sink = Keeps sink.old.bytes sink.new.bytes × IsSound sink
 
--- these bytes were written, or a call failed
-abbrev pub Tries : {T : Type 0} → (T → Option (List ℕ)) → (T → ℕ) → T → T → List ℕ → Type 0
-Tries written failures old new bytes = Says written failures old new bytes ⊎ (failures new ≡ failures old + 1)
+-- these bytes were written, and no call failed
+abbrev pub Says : Change → List ℕ → Type 0
+Says sink bytes = Appends sink.old.bytes sink.new.bytes bytes × IsSound sink
+
+-- a proper beginning of these bytes was written, and then a call failed
+abbrev pub BreaksOff : Change → List ℕ → Type 0
+BreaksOff sink bytes = AppendsBeginning sink.old.bytes sink.new.bytes bytes × FailsOnce sink
+
+-- these bytes were tried once: all were written, or a beginning of them until a call failed
+abbrev pub Tries : Change → List ℕ → Type 0
+Tries sink bytes = Says sink bytes ⊎ BreaksOff sink bytes

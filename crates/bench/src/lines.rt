@@ -3,7 +3,7 @@ ghost use Rattle.std.specs.Prelude.{◌≡◌, IfOk, string_bytes};
 ghost use Rattle.bench.specs.Lines.{order_fault_line, history_fault_line};
 
 use certificate::OrderFault;
-use history::HistoryFault;
+use events::HistoryFault;
 use std::alloc::{AllocError, Global};
 
 /// Why an order is none.

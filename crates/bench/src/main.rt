@@ -1,21 +1,23 @@
 //! The program: it reads a text from standard input and writes its answer to standard output.
 //!
-//! What each subcommand does is an engine over any source and sinks, whose contract says what is written
-//! for what is read, and `run` does what the words of the command line ask for. This file gives it the
-//! words and the standard streams.
+//! What each subcommand does is an engine over any source and sinks, whose contract says how it comes out for
+//! what is read and what is written for that, and `run` does what the words of the command line ask for. This
+//! file gives it the words and the standard streams.
 #![tactic(auto)]
 
 mod check;
 mod command;
+mod ends;
 mod lines;
-mod reading;
-mod report;
+mod outcome;
 #[cfg(test)]
 mod tests;
 mod verdict;
 
 use command::{run, texts_of};
-use report::{WORDS, out_of_memory, tell};
+use ends::write_outcome;
+use outcome::Outcome;
+use pool::OpenGate;
 use std::env;
 use std::io::ErrorKind;
 use std::process::ExitCode;
@@ -25,18 +27,9 @@ fn main(rt: HostRuntime) -> ExitCode {
     let mut source = StandardInput::new(rt.stdin());
     let mut output = StandardOutput::new(rt.stdout());
     let mut faults = StandardError::new(rt.stderr());
-    let words: Vec<String> = match env::args(&rt) {
-        Ok(words) => match words.collect(rt.alloc()) {
-            Ok(words) => words,
-            Err(_) => return ExitCode::from(out_of_memory(&mut faults)),
-        },
-        Err(error) => {
-            if error.kind() == ErrorKind::OutOfMemory {
-                return ExitCode::from(out_of_memory(&mut faults));
-            }
-            tell(&mut faults, b"error: a word is no text\n");
-            return ExitCode::from(WORDS);
-        }
+    let words = match words_of(&rt) {
+        Ok(words) => words,
+        Err(outcome) => return ExitCode::from(write_outcome(&mut output, &mut faults, &outcome)),
     };
     let status = match texts_of(rt.alloc(), &words) {
         Ok(texts) => run(
@@ -46,8 +39,29 @@ fn main(rt: HostRuntime) -> ExitCode {
             &mut output,
             &mut faults,
             &texts,
+            &OpenGate,
         ),
-        Err(_) => out_of_memory(&mut faults),
+        Err(_) => write_outcome(&mut output, &mut faults, &Outcome::Memory),
     };
     ExitCode::from(status)
+}
+
+// The words of the command line, the program's name first.
+fn words_of(rt: &HostRuntime) -> Result<Vec<String>, Outcome> {
+    let words = match env::args(rt) {
+        Ok(words) => words.collect(rt.alloc()),
+        Err(error) => {
+            if error.kind() == ErrorKind::OutOfMemory {
+                return Err(Outcome::Memory);
+            }
+            return match String::from_str(rt.alloc(), "error: a word is no text\n") {
+                Ok(text) => Err(Outcome::Words(text)),
+                Err(_) => Err(Outcome::Memory),
+            };
+        }
+    };
+    match words {
+        Ok(words) => Ok(words),
+        Err(_) => Err(Outcome::Memory),
+    }
 }

@@ -5,13 +5,13 @@ use Rattle.std.proofs.lemmas.Bool.{false≢true, cases_order}
 use Rattle.std.proofs.lemmas.List.{take-take, take-append-drop}
 use Rattle.std.proofs.lemmas.List.Elements.{All-head}
 use Rattle.std.proofs.lemmas.Option.{slice_get_within}
-use Rattle.history.specs.declared.operation.Operation.{Operation}
-use Rattle.history.specs.Precedence.{precedes}
-use Rattle.history.specs.MapObject.{Contents}
-use Rattle.history.specs.Orders.{IsLegalOrder, IsOrder, IsLegalCall, IsLegal, KeepsPrecedence, after_calls, calls_at}
-use Rattle.history.specs.OrderFaults.{PrecedesSome, IsNextAt, IsUnknownAt, IsRepeatedAt, IsNewAt, BreaksPrecedenceAt, IsIllegalAt, IsLeastMissing}
-use Rattle.history.proofs.Lists.{All-front, All-back, AllPairs-front, AllPairs-across}
-use Rattle.history.proofs.OrderLemmas.{IsLegal-front, IsLegal-back, calls_at-append, calls_at-push}
+use Rattle.events.specs.declared.operation.Operation.{Operation}
+use Rattle.events.specs.Precedence.{precedes}
+use Rattle.map_object.specs.MapObject.{Contents}
+use Rattle.orders.specs.Orders.{IsLegalOrder, IsOrder, IsLegalCall, IsLegal, KeepsPrecedence, after_calls, calls_at}
+use Rattle.certificate.specs.OrderFaults.{PrecedesSome, IsNextAt, IsUnknownAt, IsRepeatedAt, IsNewAt, BreaksPrecedenceAt, IsIllegalAt, IsLeastMissing}
+use Rattle.list_laws.proofs.Lists.{All-front, All-back, AllPairs-front, AllPairs-across}
+use Rattle.orders.proofs.OrderLemmas.{IsLegal-front, IsLegal-back, calls_at-append, calls_at-push}
 use Rattle.certificate.specs.declared.fault.OrderFault.{OrderFault}
 use Rattle.certificate.specs.declared.fault.OrderFault.TheVariants.{Unknown, Repeated, Precedence, Reply, Missing, Memory}
 use Rattle.certificate.specs.Faults.{IsFirstFault, IsRefusedFor}
@@ -31,7 +31,8 @@ IsLegalOrder-front start calls xs ys h =
     }
 
 -- the first numbers of a legal order are a legal order
-pub IsLegalOrder-take : (start : Contents) (calls : List Operation) (numbers : List ℕ) (i : ℕ) → IsLegalOrder start calls numbers → IsLegalOrder start calls (take i numbers)
+pub IsLegalOrder-take : (start : Contents) (calls : List Operation) (numbers : List ℕ) (i : ℕ) → IsLegalOrder start calls numbers
+    → IsLegalOrder start calls (take i numbers)
 IsLegalOrder-take start calls numbers i h = IsLegalOrder-front start calls (take i numbers) (drop i numbers) (rw take-append-drop h)
 
 -- the last number of a legal order has a call
@@ -44,13 +45,17 @@ new_last start calls numbers n h (k, within, is) =
     AllPairs-across (λ m i. m ≢ i) numbers (n ∷ []) h.distinct k n within 0 n (omega arith) is
 
 -- the last call of a legal order precedes none of the others
-free_last : (start : Contents) (calls : List Operation) (numbers : List ℕ) (n : ℕ) (a : Operation) → IsLegalOrder start calls (numbers ++ n ∷ []) → slice_get calls n ≡ Some a → PrecedesSome calls numbers a → ⊥
+free_last : (start : Contents) (calls : List Operation) (numbers : List ℕ) (n : ℕ) (a : Operation) → IsLegalOrder start calls (numbers ++ n ∷ [])
+    → slice_get calls n ≡ Some a → PrecedesSome calls numbers a → ⊥
 free_last start calls numbers n a h here (k, b, within, is, precedes_b) =
     let precedence : KeepsPrecedence (calls_at calls numbers ++ a ∷ []) = rw (calls_at-push calls numbers n a here) at h.precedence in
-    false≢true (sym (AllPairs-across (λ b c. precedes c b ≡ false) (calls_at calls numbers) (a ∷ []) precedence k b within 0 a (omega arith)) ∙ ap (precedes a) is ∙ precedes_b)
+    false≢true
+    (sym (AllPairs-across (λ b c. precedes c b ≡ false) (calls_at calls numbers) (a ∷ []) precedence k b within 0 a (omega arith)) ∙ ap (precedes a) is
+    ∙ precedes_b)
 
 -- the last call of a legal order is legal after the others
-legal_last : (start : Contents) (calls : List Operation) (numbers : List ℕ) (n : ℕ) (a : Operation) → IsLegalOrder start calls (numbers ++ n ∷ []) → slice_get calls n ≡ Some a → IsLegalCall (after_calls start (calls_at calls numbers)) a.call a.response
+legal_last : (start : Contents) (calls : List Operation) (numbers : List ℕ) (n : ℕ) (a : Operation) → IsLegalOrder start calls (numbers ++ n ∷ [])
+    → slice_get calls n ≡ Some a → IsLegalCall (after_calls start (calls_at calls numbers)) a.call a.response
 legal_last start calls numbers n a h here =
     let legal : IsLegal start (calls_at calls numbers ++ a ∷ []) = rw (calls_at-push calls numbers n a here) at h.legal in
     (IsLegal-back start (calls_at calls numbers) (a ∷ []) legal).0
@@ -80,7 +85,8 @@ module _ (start : Contents) (calls : List Operation) (order : List ℕ) where
 
   -- a list breaks where the number that comes next makes no legal order
   BreaksAt-next : (p n : ℕ) → IsNextAt start calls order p n → (IsLegalOrder start calls (take p order ++ n ∷ []) → ⊥) → BreaksAt start calls order p
-  BreaksAt-next p n next broken = record { sound = next.sound; broken = λ legal. broken (subst (IsLegalOrder start calls) (take-next order p n next.here) legal) }
+  BreaksAt-next p n next broken =
+      record { sound = next.sound; broken = λ legal. broken (subst (IsLegalOrder start calls) (take-next order p n next.here) legal) }
 
   -- each fault of a number breaks the list at its place
   BreaksAt-unknown : (p : ℕ) → IsUnknownAt start calls order p → BreaksAt start calls order p
@@ -90,13 +96,16 @@ module _ (start : Contents) (calls : List Operation) (order : List ℕ) where
   BreaksAt-repeated p h = BreaksAt-next p h.number h.next (λ legal. new_last start calls (take p order) h.number legal h.repeated)
 
   BreaksAt-precedence : (p : ℕ) → BreaksPrecedenceAt start calls order p → BreaksAt start calls order p
-  BreaksAt-precedence p h = BreaksAt-next p h.next.number h.next.next (λ legal. free_last start calls (take p order) h.next.number h.a legal h.next.call h.precedes_earlier)
+  BreaksAt-precedence p h =
+      BreaksAt-next p h.next.number h.next.next (λ legal. free_last start calls (take p order) h.next.number h.a legal h.next.call h.precedes_earlier)
 
   BreaksAt-illegal : (p : ℕ) → IsIllegalAt start calls order p → BreaksAt start calls order p
-  BreaksAt-illegal p h = BreaksAt-next p h.next.number h.next.next (λ legal. h.illegal (legal_last start calls (take p order) h.next.number h.a legal h.next.call))
+  BreaksAt-illegal p h =
+      BreaksAt-next p h.next.number h.next.next (λ legal. h.illegal (legal_last start calls (take p order) h.next.number h.a legal h.next.call))
 
   -- two facts that break the list, and exclude each other at one place, exclude each other
-  apart : (P Q : ℕ → Type 0) → ((p : ℕ) → P p → BreaksAt start calls order p) → ((p : ℕ) → Q p → BreaksAt start calls order p) → ((p : ℕ) → P p → Q p → ⊥) → (p q : ℕ) → P p → Q q → ⊥
+  apart : (P Q : ℕ → Type 0) → ((p : ℕ) → P p → BreaksAt start calls order p) → ((p : ℕ) → Q p → BreaksAt start calls order p) → ((p : ℕ) → P p → Q p → ⊥)
+      → (p q : ℕ) → P p → Q q → ⊥
   apart P Q breaks_P breaks_Q clash p q h k = clash q (subst P (same_place p q (breaks_P p h) (breaks_Q q k)) h) k
 
   -- an unknown number is not one that stands before
@@ -176,7 +185,8 @@ module _ (start : Contents) (calls : List Operation) (order : List ℕ) where
   faulty_is_no_order Memory h k = h
 
 -- an order is refused for want of memory alone
-pub refused_order : (start : Contents) (calls : List Operation) (order : List ℕ) (fault : OrderFault) → IsRefusedFor start calls order fault → IsOrder start calls order → fault ≡ Memory
+pub refused_order : (start : Contents) (calls : List Operation) (order : List ℕ) (fault : OrderFault) → IsRefusedFor start calls order fault
+    → IsOrder start calls order → fault ≡ Memory
 refused_order start calls order Memory h k = refl
 refused_order start calls order (Unknown p) h k = absurd (faulty_is_no_order start calls order (Unknown p) h k)
 refused_order start calls order (Repeated p) h k = absurd (faulty_is_no_order start calls order (Repeated p) h k)

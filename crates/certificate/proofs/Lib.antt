@@ -1,2 +1,3 @@
 pub mod PrefixLemmas
 pub mod FaultLemmas
+pub mod PushLemmas

@@ -1,8 +1,8 @@
 -- What a refusal of the checker says of the list of numbers.
 use Rattle.std.specs.Prelude.{ℕ, List, ⊤}
-use Rattle.history.specs.declared.operation.Operation.{Operation}
-use Rattle.history.specs.MapObject.{Contents}
-use Rattle.history.specs.OrderFaults.{IsUnknownAt, IsRepeatedAt, BreaksPrecedenceAt, IsIllegalAt, IsLeastMissing}
+use Rattle.events.specs.declared.operation.Operation.{Operation}
+use Rattle.map_object.specs.MapObject.{Contents}
+use Rattle.certificate.specs.OrderFaults.{IsUnknownAt, IsRepeatedAt, BreaksPrecedenceAt, IsIllegalAt, IsLeastMissing}
 use Rattle.certificate.specs.declared.fault.OrderFault.{OrderFault}
 use Rattle.certificate.specs.declared.fault.OrderFault.TheVariants.{Unknown, Repeated, Precedence, Reply, Missing, Memory}
 

@@ -1,8 +1,8 @@
 -- Laws of the faults of a list of numbers.
 use Rattle.std.specs.Prelude.{◌≡◌, ℕ, List}
-use Rattle.history.specs.declared.operation.Operation.{Operation}
-use Rattle.history.specs.MapObject.{Contents}
-use Rattle.history.specs.Orders.{IsOrder}
+use Rattle.events.specs.declared.operation.Operation.{Operation}
+use Rattle.map_object.specs.MapObject.{Contents}
+use Rattle.orders.specs.Orders.{IsOrder}
 use Rattle.certificate.specs.declared.fault.OrderFault.{OrderFault}
 use Rattle.certificate.specs.Faults.{IsFirstFault}
 

@@ -1,9 +1,9 @@
 -- What is kept of the numbers so far.
 use Rattle.std.specs.Prelude.{◌≡◌, ℕ, ◌<◌, false, List, length, map, slice_index_or}
-use Rattle.history.specs.declared.operation.Operation.{Operation}
-use Rattle.history.specs.Lists.{greatest, has_number}
-use Rattle.history.specs.MapObject.{Contents}
-use Rattle.history.specs.Orders.{IsLegalOrder, after_calls, calls_at}
+use Rattle.events.specs.declared.operation.Operation.{Operation}
+use Rattle.list_laws.specs.Lists.{greatest, has_number}
+use Rattle.map_object.specs.MapObject.{Contents}
+use Rattle.orders.specs.Orders.{IsLegalOrder, after_calls, calls_at}
 use Rattle.certificate.specs.declared.prefix.Prefix.{Prefix}
 
 -- the numbers are a legal order, and this is kept of them: the pairs after their calls, which they are, their latest invocation

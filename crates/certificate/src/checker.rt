@@ -1,13 +1,13 @@
 // Whether a list of numbers is an order of a history.
 ghost use Rattle.std.specs.Prelude.{◌≡◌, [], OnOk, IfErr};
-ghost use Rattle.history.specs.Operations.{operations};
-ghost use Rattle.history.specs.Orders.{IsOrder};
+ghost use Rattle.events.specs.Operations.{operations};
+ghost use Rattle.orders.specs.Orders.{IsOrder};
 ghost use Rattle.certificate.specs.declared.fault.OrderFault.TheVariants as faults;
 ghost use Rattle.certificate.specs.Faults.{IsRefusedFor};
 
 use crate::fault::OrderFault;
 use crate::prefix::Prefix;
-use history::History;
+use events::History;
 use std::alloc::Global;
 
 /// Whether the numbers are an order of the history, from the empty map on: they name calls, each once

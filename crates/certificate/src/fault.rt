@@ -1,4 +1,4 @@
-use history::Memory;
+use events::Memory;
 
 /// Why a list of numbers is no order: the first place that shows a fault, or what is missing at the end.
 /// Places count from 0.

@@ -5,8 +5,6 @@ mod checker;
 mod fault;
 mod laws;
 mod prefix;
-#[cfg(test)]
-mod tests;
 
 pub use checker::check;
 pub use fault::OrderFault;

@@ -1,14 +1,15 @@
 // The numbers are tested one after another, each by what is kept of those before it.
 ghost use Rattle.std.specs.Prelude.{◌≡◌, ◌+◌, ◌↔◌, if◌then◌else◌, ℕ, List, [], Option, Some, length, vec_len, slice_get};
 ghost use Rattle.std.specs.Prelude.{IsTrue, IfNone, IfSome, IfOk, IfErr, OnOk, OnErr};
-ghost use Rattle.history.specs.MapObject.{Contents, after};
-ghost use Rattle.history.specs.Orders.{IsOrder, IsLegalCall, after_call};
-ghost use Rattle.history.specs.OrderFaults.{IsLeastMissing};
-ghost use Rattle.history.specs.Precedence.{is_before};
+ghost use Rattle.map_object.specs.MapObject.{Contents, after};
+ghost use Rattle.orders.specs.Orders.{IsOrder, IsLegalCall, after_call};
+ghost use Rattle.certificate.specs.OrderFaults.{IsLeastMissing};
+ghost use Rattle.events.specs.Precedence.{is_before};
 
 use crate::fault::OrderFault;
-use history::{Call, Memory, Operation, Reply, Response};
+use events::{Memory, Operation, Response};
 use map_object::SortedMap;
+use orders::{apply, may_come_next};
 use std::alloc::Global;
 
 /// What is kept of the first numbers of a list, as long as they show no fault: the pairs after their
@@ -65,7 +66,7 @@ impl Prefix {
         if is_before(&call.response, self.latest) {
             return Err(OrderFault::Precedence { place });
         }
-        if !fits(&self.map, call) {
+        if !may_come_next(&self.map, call) {
             return Err(OrderFault::Reply { place });
         }
         apply(alloc, &mut self.map, call)?;
@@ -98,37 +99,5 @@ fn is_before(response: &Option<Response>, place: usize) -> bool
     match response {
         Some(response) => response.res < place,
         None => false,
-    }
-}
-
-/// Whether a call may come next: a completed one only where the map gives it its recorded reply.
-fn fits(map: &SortedMap, call: &Operation) -> bool
-    ensures { IsTrue result ↔ IsLegalCall map.now call.now.call call.now.response }
-{
-    match &call.response {
-        Some(response) => map.fits(&call.call, &response.reply),
-        None => true,
-    }
-}
-
-/// Does a call at a map that it fits.
-fn apply(alloc: Global, map: &mut SortedMap, call: &Operation) -> Result<(), Memory>
-    ensures ok { OnOk result (map.new ≡ after_call map.old call.now.call call.now.response) }
-    ensures unchanged { OnErr result (map.new ≡ map.old) }
-{
-    if may_change(call) {
-        let _reply = map.step(alloc, &call.call)?;
-    }
-    Ok(())
-}
-
-/// Whether a call may change the map: not where it was refused, nor where it only reads.
-fn may_change(call: &Operation) -> bool
-    ensures { (m : Contents) → after_call m call.now.call call.now.response
-        ≡ (if result then after m call.now.call else m) }
-{
-    match &call.response {
-        Some(response) if matches!(response.reply, Reply::Refused) => false,
-        _ => matches!(call.call, Call::Insert(..) | Call::Remove(..)),
     }
 }

@@ -1,10 +1,13 @@
 mod RowLemmas
 mod StopLemmas
-mod DefaultLemmas
 mod SubcommandLemmas
 mod PlainLemmas
-mod BenchLemmas
+mod TableLemmas
+mod RequestLemmas
+mod StepLemmas
 mod MatchLemmas
+mod OptionLemmas
+mod AskableLemmas
+mod UseLemmas
+mod ReadLemmas
 mod LineLemmas
-mod CheckLemmas
-mod JudgeLemmas

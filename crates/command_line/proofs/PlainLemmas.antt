@@ -5,7 +5,7 @@ use Rattle.std.proofs.lemmas.Bool.{eqb-true}
 use Rattle.std.proofs.lemmas.Str.Parse.{digit_from_value}
 use Rattle.clap.specs.Lexer.{long_of, short_of}
 use Rattle.clap.specs.Walk.{Text}
-use Rattle.command_line.specs.Numbers.{IsNumber}
+use Rattle.command_line.specs.Numbers.{IsSpelled}
 
 -- the text is no flag and no `--`
 pub record IsPlain (text : Text) : Type 0 where
@@ -22,12 +22,12 @@ plain_start x rest other = record {
 }
 
 -- and so is one that spells a number
-pub number_is_plain : (text : Text) → IsNumber text → IsPlain text
-number_is_plain [] number = absurd (omega (arith, number.0.0))
-number_is_plain (x ∷ rest) number = plain_start x rest (go (x == 45) refl)
+pub spelled_is_plain : (text : Text) → IsSpelled text → IsPlain text
+spelled_is_plain [] number = absurd (omega (arith, number.0))
+spelled_is_plain (x ∷ rest) number = plain_start x rest (go (x == 45) refl)
   where
     go : (b : Bool) → (x == 45) ≡ b → b ≡ false
     go false is = refl
     go true is =
-        let minus : IsNumber (45 ∷ rest) = subst (λ (y : ℕ). IsNumber (y ∷ rest)) (eqb-true x 45 is) number in
-        absurd (omega (arith, digit_from_value 45 minus.0.1.0))
+        let minus : IsSpelled (45 ∷ rest) = subst (λ (y : ℕ). IsSpelled (y ∷ rest)) (eqb-true x 45 is) number in
+        absurd (omega (arith, digit_from_value 45 minus.1.0))

@@ -3,11 +3,15 @@ use Rattle.std.proofs.Common.{◌≡◌, ◌&&◌, Bool, true, false, cond, not,
 use Rattle.std.specs.List.{find, fold}
 use Rattle.std.specs.Option.{option_map, option_map_or}
 use Rattle.std.specs.Str.{bytes_eq}
-use Rattle.clap.specs.Faults.{built_fault, check_fault, defaults_fault, entered_fault, level_fault, other_fault, settle_fault, step_fault, turn_fault, walk_fault, word_fault}
+use Rattle.clap.specs.Faults.{built_fault, check_fault, defaults_fault, entered_fault, level_fault, other_fault, settle_fault, step_fault, turn_fault}
+use Rattle.clap.specs.Faults.{walk_fault, word_fault}
 use Rattle.clap.specs.Kinds.{check_kinds, or_else}
 use Rattle.clap.specs.Lexer.{long_of, short_of}
 use Rattle.clap.specs.Simple.{App, Shape, entered, label_of, names_of, rows_at}
-use Rattle.clap.specs.Walk.{Held, Names, Outcome, Row, Rule, Step, Text, Waiting, Walk, after_flag, after_step, answers_to, arg_by_index, arg_by_long, bundle, done, finished, idle, long_met, long_or_other, next, nothing_held, option, plain, plain_word, positional, refused, settled, short_or_plain, subcommand, subcommand_met, subcommand_or_other, to_positional, trailing, value, waits, walk, walk_from, walked, walked_from, word_met}
+use Rattle.clap.specs.Walk.{Held, Names, Outcome, Row, Rule, Step, Text, Waiting, Walk, after_flag, after_step, answers_to, arg_by_index, arg_by_long, bundle}
+use Rattle.clap.specs.Walk.{done, finished, idle, long_met, long_or_other, next, nothing_held, option, plain, plain_word, positional, refused, settled}
+use Rattle.clap.specs.Walk.{short_or_plain, subcommand, subcommand_met, subcommand_or_other, to_positional, trailing, value, waits, walk, walk_from, walked}
+use Rattle.clap.specs.Walk.{walked_from, word_met}
 use Rattle.clap.specs.declared.error.kind.ErrorKind.TheVariants as kind
 use Rattle.command_line.proofs.RowLemmas.{neither}
 

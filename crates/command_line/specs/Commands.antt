@@ -1,42 +1,41 @@
--- The program's command line, as `clap` reads it: its subcommands and their arguments.
-use Rattle.std.specs.Prelude.{true, Some, codes, ℕ, [], ◌∷◌}
-use Rattle.clap.specs.Words.{App, Rule, Text, new_app, new_rule, with_rule, with_subcommand}
-use Rattle.clap.specs.Simple.{on_top}
+-- The command of a table, as `clap` reads it: its subcommands and their arguments.
+use Rattle.std.specs.Prelude.{Bool, true, not, if◌then◌else◌, is_some, Some, codes, List, [], ◌∷◌, ◌++◌, map}
+use Rattle.clap.specs.Words.{App, Rule, Text, new_rule}
+use Rattle.clap.specs.Simple.{new_shape}
 use Rattle.clap.specs.Lexer.{usize_max}
 use Rattle.clap.specs.declared.builder.value_parser.ValueParser.TheVariants.{Unsigned}
-use Rattle.command_line.specs.Limits.{budget_limit, workers_limit}
+use Rattle.command_line.specs.Tables.{Flag, Usage, has_none}
 
 -- `[CALL]..`: any number of values, each a number that a `u32` holds
-unfoldable pub calls_rule : Rule
+abbrev pub calls_rule : Rule
 calls_rule = record (new_rule (codes "CALL")) {
   range = Some (record { start_inclusive = 0; end_inclusive = usize_max });
   parser = Some (Unsigned 0 4294967295);
 }
 
--- `check [CALL]..`
-unfoldable pub check_app : App
-check_app = with_rule (new_app (codes "check")) calls_rule
-
--- `--NAME N`: a number from 1 to the limit, which is read from the default where it is left out
-unfoldable pub number_rule : Text → ℕ → Text → Rule
-number_rule name limit default = record (new_rule name) {
-  long = Some name;
+-- `--NAME N`: a number within its limits, which has to be there where it has no default
+abbrev pub number_rule : Flag → Rule
+number_rule f = record (new_rule f.name) {
+  long = Some f.name;
   value_names = 1;
-  defaults = default ∷ [];
-  parser = Some (Unsigned 1 limit);
+  parser = Some (Unsigned f.least f.greatest);
+  required = not (is_some f.default);
 }
 
--- `judge [--budget N] [--workers N]`
-unfoldable pub judge_app : App
-judge_app = with_rule
-    (with_rule (new_app (codes "judge"))
-    (number_rule (codes "budget") budget_limit (codes "100000")))
-    (number_rule (codes "workers") workers_limit (codes "1"))
+-- the arguments of a subcommand
+abbrev pub calls_rules : Bool → List Rule
+calls_rules takes_calls = if takes_calls then calls_rule ∷ [] else []
+
+abbrev pub rules_for : Usage → List Rule
+rules_for u = map number_rule u.flags ++ calls_rules u.takes_calls
+
+-- a subcommand with these arguments
+abbrev pub leaf : Text → List Rule → App
+leaf name rules = record { top = record (new_shape name) { rules = rules }; subs = [] }
 
 -- the program: one of its subcommands has to be named
-unfoldable pub bench_app : App
-bench_app = with_subcommand
-    (with_subcommand
-    (on_top (λ s. record s { subcommand_required = true }) (new_app (codes "bench")))
-    check_app.top)
-    judge_app.top
+abbrev pub table_app : Text → List Usage → App
+table_app name table = record {
+  top = record (new_shape name) { subcommand_required = true; is_leaf = has_none table };
+  subs = map (λ u. (leaf u.name (rules_for u)).top) table;
+}

@@ -1,5 +1,9 @@
 pub mod Limits
-pub mod Commands
 pub mod Numbers
+pub mod Tables
+pub mod Commands
+pub mod Requests
+pub mod Words
+pub mod Program
 pub mod Lines
 pub mod LineFaults

@@ -1,7 +1,7 @@
 -- When the words of a command line are refused.
 use Rattle.std.specs.Prelude.{◌≡◌, List, [], ⊤}
 use Rattle.clap.specs.Words.{Text, fault_of}
-use Rattle.command_line.specs.Commands.{bench_app}
+use Rattle.command_line.specs.Program.{bench_app}
 use Rattle.command_line.specs.declared.fault.LineFault.{LineFault}
 use Rattle.command_line.specs.declared.fault.LineFault.TheVariants.{Line, Memory}
 

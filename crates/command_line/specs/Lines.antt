@@ -1,53 +1,25 @@
 -- What the words of a command line ask for.
-use Rattle.std.specs.Prelude.{◌≡◌, ◌≤◌, ◌⊎◌, ⊤, ℕ, List, [], ◌∷◌, ◌++◌, Option, Some, map, codes}
-use Rattle.std.specs.Prelude.{IfSome, unwrap_or}
+use Rattle.std.specs.Prelude.{◌≡◌, ◌≤◌, ◌⊎◌, ⊤, List, [], ◌∷◌, ◌++◌, Option, map, codes}
+use Rattle.std.specs.Prelude.{IfSome}
 use Rattle.std.specs.List.{All}
 use Rattle.std.specs.Option.{option_map_or}
-use Rattle.clap.specs.Words.{Row, Text, all_of, first_of, subcommand_of}
-use Rattle.command_line.specs.Commands.{bench_app}
+use Rattle.clap.specs.Words.{Text, subcommand_of}
 use Rattle.command_line.specs.Limits.{budget_limit, workers_limit}
 use Rattle.command_line.specs.Numbers.{IsNumber, IsNumberWithin, number_of}
+use Rattle.command_line.specs.Program.{bench_app, bench_table}
+use Rattle.command_line.specs.Requests.{Asked, Asks}
 use Rattle.command_line.specs.declared.line.Line.{Line}
 use Rattle.command_line.specs.declared.line.Line.TheVariants.{Check, Judge}
 
--- the values of an argument, none where it was not used
-abbrev pub values_of : Text → List Row → List Text
-values_of id rows = unwrap_or (all_of id rows) []
-
--- the value of an argument spells this number, from 1 to the limit
-pub record HasNumber (id : Text) (limit : ℕ) (rows : List Row) (number : ℕ) : Type 0 where
-  pub text : Text
-  pub value : first_of id rows ≡ Some text
-  pub within : IsNumberWithin limit text
-  pub number_is : number ≡ number_of text
-
--- the subcommand is `check`, and the values of CALL spell the numbers of this order
-pub record AsksCheck (met : Option (Text × List Row)) (order : List ℕ) : Type 0 where
-  pub rows : List Row
-  pub subcommand : met ≡ Some (codes "check", rows)
-  pub numbers : All IsNumber (values_of (codes "CALL") rows)
-  pub order_is : order ≡ map number_of (values_of (codes "CALL") rows)
-
--- the subcommand is `judge`, and the values of `--budget` and `--workers` spell these numbers
-pub record AsksJudge (met : Option (Text × List Row)) (budget workers : ℕ) : Type 0 where
-  pub rows : List Row
-  pub subcommand : met ≡ Some (codes "judge", rows)
-  pub budget_is : HasNumber (codes "budget") budget_limit rows budget
-  pub workers_is : HasNumber (codes "workers") workers_limit rows workers
-
--- the subcommand that was met, with the rows of its matches, asks for this line
-abbrev pub Asks : Option (Text × List Row) → Line → Type 0
-Asks met (Check order) = AsksCheck met order.items
-Asks met (Judge budget workers) = AsksJudge met budget workers
-
--- the subcommand that was met asks for some line
-abbrev pub CanBeAsked : Option (Text × List Row) → Type 0
-CanBeAsked met = ((order : List ℕ) × AsksCheck met order)
-    ⊎ ((budget : ℕ) × (workers : ℕ) × AsksJudge met budget workers)
+-- the subcommand of a line, the numbers of its options in the order of the table, and its calls
+abbrev pub asked_by : Line → Asked
+asked_by (Check order) = record { name = codes "check"; numbers = []; calls = order.items }
+asked_by (Judge budget workers) =
+    record { name = codes "judge"; numbers = budget ∷ workers ∷ []; calls = [] }
 
 -- the words ask for this line, the program's name first
 abbrev pub IsLineOf : List Text → Line → Type 0
-IsLineOf words line = Asks (subcommand_of bench_app words) line
+IsLineOf words line = Asks bench_table (subcommand_of bench_app words) (asked_by line)
 
 -- each number of the line is within its limits
 abbrev pub IsWithinLimits : Line → Type 0
@@ -62,7 +34,7 @@ IsCheck words calls = (name : Text) × (words ≡ name ∷ codes "check" ∷ cal
 -- the line is a check of the numbers that the texts spell
 abbrev pub ChecksNumbers : List Text → Line → Type 0
 ChecksNumbers calls (Check order) = order.items ≡ map number_of calls
-ChecksNumbers calls (Judge budget workers) = ⊥
+ChecksNumbers calls other = ⊥
 
 -- the words of an option: its flag and its value, and none where it is left out
 abbrev pub option_words : Text → Option Text → List Text

@@ -7,10 +7,19 @@ use Rattle.clap.specs.Words.{Text}
 abbrev pub number_of : Text → ℕ
 number_of text = digits_value 10 (without_leading_plus text)
 
--- the text is a numeral, after a plus or none, and a `u32` holds its number
+-- the text is a numeral, after a plus or none
+abbrev pub IsSpelled : Text → Type 0
+IsSpelled text = IsNumeral 10 (without_leading_plus text)
+
+-- the text spells a number that a `u32` holds
 abbrev pub IsNumber : Text → Type 0
-IsNumber text = IsNumeral 10 (without_leading_plus text) × (number_of text < 2 ^ 32)
+IsNumber text = IsSpelled text × (number_of text < 2 ^ 32)
+
+-- the text spells a number from the least to the greatest
+abbrev pub IsNumberFrom : ℕ → ℕ → Text → Type 0
+IsNumberFrom least greatest text =
+    IsSpelled text × (least ≤ number_of text) × (number_of text ≤ greatest)
 
 -- the text spells a number from 1 to the limit
 abbrev pub IsNumberWithin : ℕ → Text → Type 0
-IsNumberWithin limit text = IsNumber text × (1 ≤ number_of text) × (number_of text ≤ limit)
+IsNumberWithin = IsNumberFrom 1

@@ -1,61 +1,84 @@
-ghost use Rattle.std.specs.Prelude.{◌≡◌, IfOk, false};
+ghost use Rattle.std.specs.Prelude.{◌≡◌, IfOk, false, map};
 ghost use Rattle.clap.specs.Words.{app_of, rule_of};
 ghost use Rattle.clap.specs.declared.builder.command.Command.TheViews.{out-Command};
-ghost use Rattle.command_line.specs.Commands.{bench_app, check_app, judge_app, number_rule};
+ghost use Rattle.command_line.specs.Commands.{calls_rule, leaf, number_rule, rules_for, table_app};
+ghost use Rattle.command_line.specs.Tables.{flag_of, usage_of};
 
-use crate::line::{MAX_BUDGET, MAX_WORKERS};
+use crate::table::{NumberOption, Subcommand};
 use clap::builder::ValueParser;
 use clap::{Arg, Command};
 use std::alloc::{AllocError, Global};
 
-/// The program, with its subcommands.
-pub(crate) fn bench_command<'a>(alloc: Global) -> Result<Command<'a>, AllocError>
-    ensures { IfOk result (λ c. app_of c ≡ bench_app) }
+/// The command of a program with these subcommands.
+pub(crate) fn command_of<'a>(
+    alloc: Global,
+    name: &'a str,
+    about: &'a str,
+    table: &'a [Subcommand<'a>],
+) -> Result<Command<'a>, AllocError>
+    ensures { IfOk result (λ c. app_of c ≡ table_app name.entry.now (map usage_of table.entry.now)) }
 {
-    Command::new(alloc, "bench")
-        .about("Judges recorded histories of a concurrent ordered map")
-        .subcommand_required(true)
-        .subcommand(check_command(alloc)?)?
-        .subcommand(judge_command(alloc)?)
+    let mut command = Command::new(alloc, name)
+        .about(about)
+        .subcommand_required(true);
+    for subcommand in table {
+        command = command.subcommand(subcommand_of(alloc, subcommand)?)?;
+    }
+    Ok(command)
 }
 
-// `check [CALL]..`
-fn check_command<'a>(alloc: Global) -> Result<Command<'a>, AllocError>
-    ensures { IfOk result (λ c. (app_of c ≡ check_app) × ((out-Command c).has_globals ≡ false)) }
+// `NAME [OPTIONS] [CALL]..`
+fn subcommand_of<'a>(
+    alloc: Global,
+    subcommand: &'a Subcommand<'a>,
+) -> Result<Command<'a>, AllocError>
+    ensures shape { IfOk result (λ c. app_of c
+        ≡ leaf subcommand.entry.now.name.now (rules_for (usage_of subcommand.entry.now))) }
+    ensures local { IfOk result (λ c. (out-Command c).has_globals ≡ false) }
 {
-    let calls = Arg::new(alloc, "CALL")
-        .help("The number of each call, in order")
-        .num_args(0..)
-        .value_parser(ValueParser::unsigned(0, 4294967295));
-    Command::new(alloc, "check")
-        .about("Tells whether calls, in this order, are an order of the history on standard input")
-        .arg(calls)
+    let command = with_options(alloc, subcommand)?;
+    if subcommand.takes_calls {
+        return command.arg(calls_argument(alloc));
+    }
+    Ok(command)
 }
 
-// `judge [--budget N] [--workers N]`
-fn judge_command<'a>(alloc: Global) -> Result<Command<'a>, AllocError>
-    ensures { IfOk result (λ c. (app_of c ≡ judge_app) × ((out-Command c).has_globals ≡ false)) }
+// `NAME [OPTIONS]`
+fn with_options<'a>(
+    alloc: Global,
+    subcommand: &'a Subcommand<'a>,
+) -> Result<Command<'a>, AllocError>
+    ensures shape { IfOk result (λ c. app_of c ≡ leaf subcommand.entry.now.name.now
+        (map number_rule (map flag_of subcommand.entry.now.options.now))) }
+    ensures local { IfOk result (λ c. (out-Command c).has_globals ≡ false) }
 {
-    let budget = number_option(alloc, "budget", MAX_BUDGET, "100000").help(
-        "How many configurations of each segment are searched at most",
-    );
-    let workers = number_option(alloc, "workers", MAX_WORKERS, "1").help(
-        "How many workers search the segments side by side",
-    );
-    Command::new(alloc, "judge")
-        .about("Tells whether the history on standard input is linearizable")
-        .arg(budget)?
-        .arg(workers)
+    let mut command = Command::new(alloc, subcommand.name).about(subcommand.about);
+    for option in subcommand.options {
+        command = command.arg(number_argument(alloc, option))?;
+    }
+    Ok(command)
 }
 
-// `--NAME N`, a number from 1 to the limit, which is read from `default` where it is left out.
-fn number_option<'a>(alloc: Global, name: &'a str, limit: u32, default: &'a str) -> Arg<'a>
-    ensures rule { rule_of result ≡ number_rule name.entry.now limit default.entry.now }
+// `--NAME N`
+fn number_argument<'a>(alloc: Global, option: &'a NumberOption<'a>) -> Arg<'a>
+    ensures rule { rule_of result ≡ number_rule (flag_of option.entry.now) }
     ensures local { result.global ≡ false }
 {
-    Arg::new(alloc, name)
-        .long(name)
+    Arg::new(alloc, option.name)
+        .long(option.name)
+        .help(option.help)
         .value_name("N")
-        .default_value(default)
-        .value_parser(ValueParser::unsigned(1, u64::from(limit)))
+        .required(option.default.is_none())
+        .value_parser(ValueParser::unsigned(option.least, option.greatest))
+}
+
+// `[CALL]..`
+fn calls_argument<'a>(alloc: Global) -> Arg<'a>
+    ensures rule { rule_of result ≡ calls_rule }
+    ensures local { result.global ≡ false }
+{
+    Arg::new(alloc, "CALL")
+        .help("The number of each call, in order")
+        .num_args(0..)
+        .value_parser(ValueParser::unsigned(0, 4294967295))
 }

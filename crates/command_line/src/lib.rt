@@ -1,14 +1,17 @@
 //! The command line of the program: its words in, what they ask for out.
 //!
-//! Which subcommands and arguments there are, and what each line of words asks for, stands in
-//! `specs/`. The words are read by `clap`, whose texts for help and for faults are passed on as they
-//! are.
+//! Which subcommands and arguments there are stands in one table, and what each line of words asks
+//! for in `specs/`. The words are read by `clap`, whose texts for help and for faults are passed on
+//! as they are.
 #![tactic(auto)]
 
 mod command;
 mod fault;
 mod line;
+mod program;
 mod read;
+mod request;
+mod table;
 #[cfg(test)]
 mod tests;
 

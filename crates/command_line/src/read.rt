@@ -1,19 +1,21 @@
-ghost use Rattle.std.specs.Prelude.{◌≡◌, ℕ, IfErr, IfOk, IsSomeAnd, List, MatchResult, OnOk, Option, map, true};
-ghost use Rattle.std.specs.List.{All};
+ghost use Rattle.std.specs.Prelude.{◌≡◌, ℕ, IfErr, IfOk, List, MatchResult, OnOk, Option, true};
 ghost use Rattle.std.specs.Option.{option_map_or};
-ghost use Rattle.clap.specs.Words.{first_value, found_of, subcommand_rows_of, takes};
+ghost use Rattle.clap.specs.Words.{Text, takes};
 ghost use Rattle.clap.specs.Walk.{texts};
-ghost use Rattle.command_line.specs.Commands.{bench_app};
 ghost use Rattle.command_line.specs.LineFaults.{IsAccepted, IsFaultAt};
-ghost use Rattle.command_line.specs.Lines.{Asks, CanBeAsked, ChecksNumbers, IsCheck, IsJudge};
+ghost use Rattle.command_line.specs.Lines.{asked_by, ChecksNumbers, IsCheck, IsJudge};
 ghost use Rattle.command_line.specs.Lines.{IsLineOf, IsWithinLimits};
-ghost use Rattle.command_line.specs.Numbers.{IsNumber, number_of};
+ghost use Rattle.command_line.specs.Numbers.{number_of};
+ghost use Rattle.command_line.specs.Program.{bench_app, bench_table};
+ghost use Rattle.command_line.specs.Requests.{IsAskable, asked_of};
+ghost use Rattle.command_line.specs.Tables.{Usage};
+ghost use Rattle.command_line.specs.Words.{Given, Gives, IsUse};
 
-use crate::command::bench_command;
 use crate::fault::LineFault;
 use crate::line::{DEFAULT_BUDGET, DEFAULT_WORKERS, Line};
-use clap::ArgMatches;
-use std::alloc::{AllocError, Global};
+use crate::program::{ABOUT, NAME, SUBCOMMANDS};
+use crate::request::{Request, read_request};
+use std::alloc::Global;
 
 /// What `words` ask for, the program's name first.
 ///
@@ -28,10 +30,15 @@ pub fn read_line<'a>(alloc: Global, words: &'a [&'a str]) -> Result<Line, LineFa
     // The same by the test that `clap` states for words that a command takes.
     ensures taken { takes bench_app (texts words.entry.now) ≡ true
         → IfErr result (λ e. e ≡ LineFault.Memory) }
-    // `check` and numbers are always a line.
+    // A subcommand, its options in any order and numbers of calls are always a line.
+    ensures given { (usage : Usage) (given : List Given) (calls : List Text)
+        → IsUse bench_table (texts words.entry.now) usage given calls
+        → MatchResult result (λ line. Gives usage given calls (asked_by line))
+        (λ e. e ≡ LineFault.Memory) }
+    // So `check` and numbers are.
     ensures check { (calls : List (List ℕ)) → IsCheck (texts words.entry.now) calls
         → MatchResult result (ChecksNumbers calls) (λ e. e ≡ LineFault.Memory) }
-    // `judge` is always a line, with or without either option, in either order.
+    // And `judge` is, with or without either option, in either order.
     ensures judge { (budget workers : Option (List ℕ))
         → IsJudge (texts words.entry.now) budget workers
         → MatchResult result
@@ -39,46 +46,26 @@ pub fn read_line<'a>(alloc: Global, words: &'a [&'a str]) -> Result<Line, LineFa
         (option_map_or number_of workers DEFAULT_WORKERS))
         (λ e. e ≡ LineFault.Memory) }
 {
-    match bench_command(alloc)?.try_get_matches_from(words) {
-        Ok(matches) => Ok(line_of(alloc, &matches)?),
-        Err(error) => Err(LineFault::of(alloc, &error)),
+    match read_request(alloc, NAME, ABOUT, &SUBCOMMANDS, words) {
+        Ok(request) => Ok(line_of(request)),
+        Err(fault) => Err(fault),
     }
 }
 
-// The line of the subcommand that was met.
-fn line_of(alloc: Global, matches: &ArgMatches<'_>) -> Result<Line, AllocError>
-    requires { CanBeAsked (subcommand_rows_of matches.now) }
-    ensures { IfOk result (Asks (subcommand_rows_of matches.now)) }
+// The line of a request.
+fn line_of(request: Request<'_>) -> Line
+    requires { IsAskable bench_table (asked_of request) }
+    ensures same { asked_by result ≡ asked_of request.entry }
+    ensures limits { IsWithinLimits result }
 {
-    match matches.subcommand() {
-        Some((name, check)) if name == "check" => Ok(Line::Check {
-            order: numbers_of(alloc, check.get_strs("CALL").unwrap_or(&[]))?,
-        }),
-        Some((name, judge)) if name == "judge" => Ok(Line::Judge {
-            budget: number_at(judge, "budget"),
-            workers: number_at(judge, "workers"),
-        }),
+    match request.name {
+        "check" => Line::Check {
+            order: request.calls,
+        },
+        "judge" => Line::Judge {
+            budget: request.number(0),
+            workers: request.number(1),
+        },
         _ => unreachable!(),
     }
-}
-
-// The number that the value of an option spells.
-fn number_at(matches: &ArgMatches<'_>, id: &str) -> u32
-    requires { IsSomeAnd (first_value (found_of matches.now) id.now) IsNumber }
-    ensures { IsSomeAnd (first_value (found_of matches.now) id.now)
-        (λ text. result ≡ number_of text) }
-{
-    matches.get_str(id).unwrap().parse::<u32>().unwrap()
-}
-
-// The numbers that the words spell.
-fn numbers_of(alloc: Global, words: &[&str]) -> Result<Vec<u32>, AllocError>
-    requires { All IsNumber (texts words.now) }
-    ensures { IfOk result (λ v. v.items ≡ map number_of (texts words.now)) }
-{
-    let mut numbers = Vec::new(alloc);
-    for word in words {
-        numbers.push(word.parse::<u32>().unwrap())?;
-    }
-    Ok(numbers)
 }

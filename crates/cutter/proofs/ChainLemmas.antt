@@ -5,10 +5,10 @@ use Rattle.std.proofs.lemmas.Bool.{cases_lt}
 use Rattle.std.proofs.lemmas.List.{take_more, length-take, length-drop, get_or-drop}
 use Rattle.std.proofs.lemmas.List.Elements.{All-contains, Contains-push, Contains-append_left, Contains-push_cases}
 use Rattle.std.proofs.lemmas.Option.{same_Some, slice_get-get_or}
-use Rattle.history.specs.Lists.{greatest}
-use Rattle.history.proofs.Lists.{All-from_contains, AllPairs-at, place_before-Contains}
-use Rattle.history.proofs.OrderLemmas.{greatest_bound, greatest_more}
-use Rattle.history.proofs.PointLemmas.{greatest_is}
+use Rattle.list_laws.specs.Lists.{greatest}
+use Rattle.list_laws.proofs.Lists.{All-from_contains, AllPairs-at, place_before-Contains}
+use Rattle.list_laws.proofs.NumberLemmas.{greatest_bound, greatest_more}
+use Rattle.list_laws.proofs.NumberLemmas.{greatest_is}
 use Rattle.cutter.specs.declared.key_range.KeyRange.{KeyRange}
 use Rattle.cutter.specs.KeyRanges.{GoesOver, AreChained, AreApart}
 
@@ -25,7 +25,8 @@ pub Any-from_contains : {X : Type 0} (P : X → Type 0) (xs : List X) (x : X) �
 Any-from_contains P xs x is h = (is.0, x, is.1, is.2, h)
 
 -- one more range, which begins within the reach of those before it
-AreChained-push : (xs : List KeyRange) (x : KeyRange) → All (λ r. r.low ≤ x.low) xs → (0 < length xs → x.low ≤ reach_of xs) → AreChained xs → AreChained (xs ++ x ∷ [])
+AreChained-push : (xs : List KeyRange) (x : KeyRange) → All (λ r. r.low ≤ x.low) xs → (0 < length xs → x.low ≤ reach_of xs) → AreChained xs
+    → AreChained (xs ++ x ∷ [])
 AreChained-push xs x lower meets chained c (i, r, i_in, r_is, below) (j, s, j_in, s_is, above) =
     ⊎_elim r_in_xs (λ r_is_x. let low = ap (λ z. z.low) r_is_x in x_below (omega arith)) (Contains-push_cases xs x r (i, i_in, r_is))
   where
@@ -60,16 +61,20 @@ pub record IsWalked (ranges : List KeyRange) (place reach : ℕ) : Type 0 where
 -- the range at a place begins at or above those before it
 lower_before : (ranges : List KeyRange) (i : ℕ) (x : KeyRange) → RiseByLow ranges → slice_get ranges i ≡ Some x → All (λ r. r.low ≤ x.low) (take i ranges)
 lower_before ranges i x sorted here =
-    All-from_contains (λ r. r.low ≤ x.low) (take i ranges) (λ r is. let (j, before, at) = place_before-Contains ranges i r is in AllPairs-at (λ r s. r.low ≤ s.low) ranges j i r x sorted before at here)
+    All-from_contains (λ r. r.low ≤ x.low) (take i ranges)
+    (λ r is. let (j, before, at) = place_before-Contains ranges i r is in AllPairs-at (λ r s. r.low ≤ s.low) ranges j i r x sorted before at here)
 
 -- the walk goes on to a range that begins within its reach; the first one may begin anywhere
-pub IsWalked-more : (ranges : List KeyRange) (place reach : ℕ) (d : KeyRange) → RiseByLow ranges → place < length ranges → (0 < place → (get_or ranges place d).low ≤ reach) → IsWalked ranges place reach
+pub IsWalked-more : (ranges : List KeyRange) (place reach : ℕ) (d : KeyRange) → RiseByLow ranges → place < length ranges
+    → (0 < place → (get_or ranges place d).low ≤ reach) → IsWalked ranges place reach
     → IsWalked ranges (place + 1) (max reach (get_or ranges place d).high)
 IsWalked-more ranges i reach d sorted within meets h =
     let x = get_or ranges i d in
     let further = greatest_more (λ r. r.high) ranges i d within in
     record {
-      chained = subst AreChained (sym (take_more ranges i d within)) (AreChained-push (take i ranges) x (lower_before ranges i x sorted (slice_get-get_or ranges i d within))
+      chained =
+          subst AreChained (sym (take_more ranges i d within))
+          (AreChained-push (take i ranges) x (lower_before ranges i x sorted (slice_get-get_or ranges i d within))
           (λ some. omega (arith, h.reach_is, meets (omega (arith, length-take i ranges)))) h.chained);
       reach_is = rw (h.reach_is, further);
     }
@@ -84,11 +89,19 @@ lower_after : (ranges : List KeyRange) (i : ℕ) (x s : KeyRange) → RiseByLow 
 lower_after ranges i x s sorted here is =
     let (j, after, at) = place_from-Contains ranges i s is in
     ⊎_elim (λ later. AllPairs-at (λ r s. r.low ≤ s.low) ranges i j x s sorted later here at)
-    (λ same. let j_is : i ≡ j = omega arith in let one = ap (λ z. z.low) (same_Some x s (sym here ∙ (ap (slice_get ranges) j_is ∙ at))) in omega arith) (cases_lt i j)
+    (λ same. let j_is : i ≡ j = omega arith in let one = ap (λ z. z.low) (same_Some x s (sym here ∙ (ap (slice_get ranges) j_is ∙ at))) in omega arith)
+    (cases_lt i j)
 
 -- the walk stops at a range that begins beyond its reach: those before it end below all others
-pub AreApart-from_walk : (ranges : List KeyRange) (place reach : ℕ) (d : KeyRange) → RiseByLow ranges → place < length ranges → reach < (get_or ranges place d).low → IsWalked ranges place reach
+pub AreApart-from_walk : (ranges : List KeyRange) (place reach : ℕ) (d : KeyRange) → RiseByLow ranges → place < length ranges
+    → reach < (get_or ranges place d).low → IsWalked ranges place reach
     → AreApart (take place ranges) (drop place ranges)
 AreApart-from_walk ranges i reach d sorted within beyond h =
-    All-from_contains (λ r. All (λ s. r.high < s.low) (drop i ranges)) (take i ranges) (λ r r_in. All-from_contains (λ s. r.high < s.low) (drop i ranges) (λ s s_in.
-    omega (arith, h.reach_is, greatest_bound (λ z. z.high) (take i ranges) r r_in, lower_after ranges i (get_or ranges i d) s sorted (slice_get-get_or ranges i d within) s_in)))
+    All-from_contains (λ r. All (λ s. r.high < s.low) (drop i ranges)) (take i ranges)
+    (λ r r_in. All-from_contains (λ s. r.high < s.low) (drop i ranges) (λ s s_in.
+    omega (
+      arith,
+      h.reach_is,
+      greatest_bound (λ z. z.high) (take i ranges) r r_in,
+      lower_after ranges i (get_or ranges i d) s sorted (slice_get-get_or ranges i d within) s_in,
+    )))

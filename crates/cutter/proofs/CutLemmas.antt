@@ -4,15 +4,17 @@ use Rattle.std.specs.Prelude.{◌⊎◌, slice_get, All, Contains}
 use Rattle.std.proofs.lemmas.Bool.{false≢true, both_ways, cases_Bool, or_left, or_cases, and_left, and_right, and_from, le-ltb, lt-leb, lt-ltb, le-leb}
 use Rattle.std.proofs.lemmas.List.Elements.{All-contains, Contains-append_left, Contains-append_right, Contains-append_cases}
 use Rattle.std.proofs.lemmas.Option.{same_Some, slice_get-get_or}
-use Rattle.history.specs.declared.event.Call.{Call}
-use Rattle.history.specs.declared.event.Call.TheVariants.{Get, Insert, Remove, Scan}
-use Rattle.history.specs.declared.operation.Operation.{Operation}
-use Rattle.history.specs.Precedence.{is_completed}
-use Rattle.history.specs.Cuts.{low_key, high_key, may_change, belongs, spans, IsCut, Separates, BelongsAt, AreTogether}
-use Rattle.history.proofs.Lists.{Contains-at, All-from_contains}
-use Rattle.history.proofs.OrderLemmas.{greatest_bound}
-use Rattle.history.proofs.FilterLemmas.{Contains-from_map}
-use Rattle.history.proofs.PointLemmas.{greatest_is}
+use Rattle.events.specs.declared.event.Call.{Call}
+use Rattle.events.specs.declared.event.Call.TheVariants.{Get, Insert, Remove, Scan}
+use Rattle.events.specs.declared.operation.Operation.{Operation}
+use Rattle.events.specs.Precedence.{is_completed}
+use Rattle.events.specs.Keys.{low_key, high_key, may_change}
+use Rattle.events.specs.Precedence.{belongs}
+use Rattle.segments.specs.Cuts.{spans, IsCut, Separates, BelongsAt, AreTogether}
+use Rattle.list_laws.proofs.Lists.{Contains-at, All-from_contains}
+use Rattle.list_laws.proofs.NumberLemmas.{greatest_bound}
+use Rattle.list_laws.proofs.FilterLemmas.{Contains-from_map}
+use Rattle.list_laws.proofs.NumberLemmas.{greatest_is}
 use Rattle.cutter.specs.declared.key_range.KeyRange.{KeyRange}
 use Rattle.cutter.specs.KeyRanges.{IsRangeOf, AreRanges, AreChained, AreApart}
 use Rattle.cutter.proofs.ChainLemmas.{reach_of, Any-from_contains}
@@ -27,7 +29,8 @@ one_key (Scan low high) h = absurd (false≢true h)
 -- a call that belongs and has keys on both sides of c is a completed scan over c
 spans-from_keys : (c : ℕ) (a : Operation) → belongs a ≡ true → low_key a.call < c → c ≤ high_key a.call → spans c a ≡ true
 spans-from_keys c a belonging low high = and_from (is_completed a) (ltb (low_key a.call) c && leb c (high_key a.call))
-    (⊎_elim (λ completed. completed) (λ change. let one = one_key a.call change in absurd (omega arith)) (or_cases (is_completed a) (may_change a.call) belonging))
+    (⊎_elim (λ completed. completed) (λ change. let one = one_key a.call change in absurd (omega arith))
+    (or_cases (is_completed a) (may_change a.call) belonging))
     (and_from (ltb (low_key a.call) c) (leb c (high_key a.call)) (lt-ltb (low_key a.call) c low) (le-leb c (high_key a.call) high))
 
 -- a completed call whose keys lie on one side of c is no scan over c
@@ -39,42 +42,54 @@ not_spans-from_keys c a h = ⊎_elim
     (λ pending. and_left (is_completed a) (ltb (low_key a.call) c && leb c (high_key a.call)) pending) (cases_Bool (is_completed a))
 
 -- what is said of the calls at two places is said of the numbers
-AreTogether-at : (calls : List Operation) (m n : ℕ) (a b : Operation) → slice_get calls m ≡ Some a → slice_get calls n ≡ Some b → ((c : ℕ) → IsCut calls c → Separates c a.call b.call → ⊥) → AreTogether calls m n
+AreTogether-at : (calls : List Operation) (m n : ℕ) (a b : Operation) → slice_get calls m ≡ Some a → slice_get calls n ≡ Some b
+    → ((c : ℕ) → IsCut calls c → Separates c a.call b.call → ⊥) → AreTogether calls m n
 AreTogether-at calls m n a b m_here n_here h = rw (m_here, n_here) h
 
 -- and back
-AreTogether-from : (calls : List Operation) (m n : ℕ) (a b : Operation) → slice_get calls m ≡ Some a → slice_get calls n ≡ Some b → AreTogether calls m n → (c : ℕ) → IsCut calls c → Separates c a.call b.call → ⊥
+AreTogether-from : (calls : List Operation) (m n : ℕ) (a b : Operation) → slice_get calls m ≡ Some a → slice_get calls n ≡ Some b → AreTogether calls m n
+    → (c : ℕ) → IsCut calls c → Separates c a.call b.call → ⊥
 AreTogether-from calls m n a b m_here n_here h = rw (m_here, n_here) at h
 
 -- no cut goes between ranges that hang together
-not_cut-chained : (calls : List Operation) (chained : List KeyRange) (r s : KeyRange) (c : ℕ) → All (IsRangeOf calls) chained → AreChained chained → Contains chained r → Contains chained s → r.low < c → c ≤ s.high → IsCut calls c → ⊥
+not_cut-chained : (calls : List Operation) (chained : List KeyRange) (r s : KeyRange) (c : ℕ) → All (IsRangeOf calls) chained → AreChained chained
+    → Contains chained r → Contains chained s → r.low < c → c ≤ s.high → IsCut calls c → ⊥
 not_cut-chained calls chained r s c each hang r_is s_is low high cut =
     let (k, x, within, is, over) = hang c (Any-from_contains (λ z. z.low < c) chained r r_is low) (Any-from_contains (λ z. c ≤ z.high) chained s s_is high) in
     let range = All-contains (IsRangeOf calls) chained x each (k, within, is) in
     let clear = All-contains (λ a. spans c a ≡ false) calls range.operation cut.clear (Contains-at calls x.number range.operation range.here) in
-    both_ways (spans c range.operation) clear (spans-from_keys c range.operation range.belonging (let e = range.low in omega arith) (let e = range.high in omega arith))
+    both_ways (spans c range.operation) clear
+    (spans-from_keys c range.operation range.belonging (let e = range.low in omega arith) (let e = range.high in omega arith))
 
 -- calls whose ranges hang together are together
-pub AreTogether-chained : (calls : List Operation) (chained : List KeyRange) (r s : KeyRange) → All (IsRangeOf calls) chained → AreChained chained → Contains chained r → Contains chained s → AreTogether calls r.number s.number
+pub AreTogether-chained : (calls : List Operation) (chained : List KeyRange) (r s : KeyRange) → All (IsRangeOf calls) chained → AreChained chained
+    → Contains chained r → Contains chained s → AreTogether calls r.number s.number
 AreTogether-chained calls chained r s each hang r_is s_is =
     let p = All-contains (IsRangeOf calls) chained r each r_is in
     let q = All-contains (IsRangeOf calls) chained s each s_is in
     AreTogether-at calls r.number s.number p.operation q.operation p.here q.here (λ c cut separates. ⊎_elim
     (λ first. not_cut-chained calls chained r s c each hang r_is s_is (let e = p.low in omega (arith, first)) (let e = q.high in omega (arith, first)) cut)
-    (λ second. not_cut-chained calls chained s r c each hang s_is r_is (let e = q.low in omega (arith, second)) (let e = p.high in omega (arith, second)) cut) separates)
+    (λ second. not_cut-chained calls chained s r c each hang s_is r_is (let e = q.low in omega (arith, second))
+    (let e = p.high in omega (arith, second)) cut) separates)
 
 -- a call that belongs has its range among those of all calls
-pub range_from_belonging : (calls : List Operation) (ranges : List KeyRange) (n : ℕ) → AreRanges calls ranges → BelongsAt calls n → (r : KeyRange) × Contains ranges r × (r.number ≡ n)
+pub range_from_belonging : (calls : List Operation) (ranges : List KeyRange) (n : ℕ) → AreRanges calls ranges → BelongsAt calls n → (r : KeyRange)
+    × Contains ranges r × (r.number ≡ n)
 range_from_belonging calls ranges n h belonging = Contains-from_map (λ (r : KeyRange). r.number) ranges n (h.all n belonging)
 
 -- a number above all keys of some ranges and not above those of the others is a cut
-IsCut-between : (calls : List Operation) (front back : List KeyRange) (c : ℕ) → AreRanges calls (front ++ back) → 1 ≤ c → All (λ r. r.high < c) front → All (λ r. c ≤ r.low) back → IsCut calls c
-IsCut-between calls front back c h positive below above = record { positive = positive; clear = λ k d within. clear k (get_or calls k d) (slice_get-get_or calls k d within) }
+IsCut-between : (calls : List Operation) (front back : List KeyRange) (c : ℕ) → AreRanges calls (front ++ back) → 1 ≤ c → All (λ r. r.high < c) front
+    → All (λ r. c ≤ r.low) back → IsCut calls c
+IsCut-between calls front back c h positive below above =
+    record { positive = positive; clear = λ k d within. clear k (get_or calls k d) (slice_get-get_or calls k d within) }
   where
     side : (r : KeyRange) → Contains (front ++ back) r → (c ≤ r.low) ⊎ (r.high < c)
-    side r is = ⊎_elim (λ in_front. inr (All-contains (λ r. r.high < c) front r below in_front)) (λ in_back. inl (All-contains (λ r. c ≤ r.low) back r above in_back)) (Contains-append_cases front back r is)
+    side r is =
+        ⊎_elim (λ in_front. inr (All-contains (λ r. r.high < c) front r below in_front)) (λ in_back. inl (All-contains (λ r. c ≤ r.low) back r above in_back))
+        (Contains-append_cases front back r is)
 
-    keys : (r : KeyRange) (a : Operation) → IsRangeOf calls r → slice_get calls r.number ≡ Some a → (c ≤ r.low) ⊎ (r.high < c) → (c ≤ low_key a.call) ⊎ (high_key a.call < c)
+    keys : (r : KeyRange) (a : Operation) → IsRangeOf calls r → slice_get calls r.number ≡ Some a → (c ≤ r.low) ⊎ (r.high < c)
+        → (c ≤ low_key a.call) ⊎ (high_key a.call < c)
     keys r a range here on_side =
         let one : range.operation ≡ a = same_Some range.operation a (sym range.here ∙ here) in
         let low = range.low ∙ ap (λ a. low_key a.call) one in
@@ -88,15 +103,19 @@ IsCut-between calls front back c h positive below above = record { positive = po
         keys r a (All-contains (IsRangeOf calls) (front ++ back) r h.each is) (ap (slice_get calls) number ∙ here) (side r is))
 
 -- the number after the greatest key of some ranges is a cut, where the others lie beyond
-IsCut-reach : (calls : List Operation) (front back : List KeyRange) (r : KeyRange) → AreRanges calls (front ++ back) → AreApart front back → Contains front r → IsCut calls (reach_of front + 1)
+IsCut-reach : (calls : List Operation) (front back : List KeyRange) (r : KeyRange) → AreRanges calls (front ++ back) → AreApart front back → Contains front r
+    → IsCut calls (reach_of front + 1)
 IsCut-reach calls front back r h apart r_is =
     let (top, top_is, is) = greatest_is (λ z. z.high) front r r_is in
     IsCut-between calls front back (reach_of front + 1) h (omega arith)
     (All-from_contains (λ z. z.high < reach_of front + 1) front (λ z z_is. omega (arith, greatest_bound (λ z. z.high) front z z_is)))
-    (All-from_contains (λ z. reach_of front + 1 ≤ z.low) back (λ z z_is. omega (arith, is, All-contains (λ s. top.high < s.low) back z (All-contains (λ r. All (λ s. r.high < s.low) back) front top apart top_is) z_is)))
+    (All-from_contains (λ z. reach_of front + 1 ≤ z.low) back
+    (λ z z_is. omega
+    (arith, is, All-contains (λ s. top.high < s.low) back z (All-contains (λ r. All (λ s. r.high < s.low) back) front top apart top_is) z_is)))
 
 -- calls whose ranges lie apart are not together
-pub not_together-apart : (calls : List Operation) (front back : List KeyRange) (r s : KeyRange) → AreRanges calls (front ++ back) → AreApart front back → Contains front r → Contains back s
+pub not_together-apart : (calls : List Operation) (front back : List KeyRange) (r s : KeyRange) → AreRanges calls (front ++ back) → AreApart front back
+    → Contains front r → Contains back s
     → (AreTogether calls r.number s.number → ⊥) × (AreTogether calls s.number r.number → ⊥)
 not_together-apart calls front back r s h apart r_is s_is =
     let p = All-contains (IsRangeOf calls) (front ++ back) r h.each (Contains-append_left front back r r_is) in

@@ -8,10 +8,11 @@ use Rattle.std.proofs.lemmas.List.{map-append}
 use Rattle.std.proofs.lemmas.List.Elements.{All-push}
 use Rattle.std.proofs.lemmas.List.Sorted.{All-permutation, Contains-permutation, IsPermutation-map}
 use Rattle.std.proofs.lemmas.Map.Keys.{IsDistinct-from_apart, apart_from_distinct, IsDistinct-IsPermutation, IsStrictlyIncreasing-from_distinct}
-use Rattle.history.specs.declared.operation.Operation.{Operation}
-use Rattle.history.specs.Cuts.{low_key, high_key, belongs}
-use Rattle.history.proofs.FilterLemmas.{AllPairs-weaker, AllPairs-from_map}
-use Rattle.history.proofs.BelongingLemmas.{BelongBelow, BelongBelow-take, BelongBelow-skip, BelongBelow-all}
+use Rattle.events.specs.declared.operation.Operation.{Operation}
+use Rattle.events.specs.Keys.{low_key, high_key}
+use Rattle.events.specs.Precedence.{belongs}
+use Rattle.list_laws.proofs.FilterLemmas.{AllPairs-weaker, AllPairs-from_map}
+use Rattle.segments.proofs.BelongingLemmas.{BelongBelow, BelongBelow-take, BelongBelow-skip, BelongBelow-all}
 use Rattle.cutter.specs.declared.key_range.KeyRange.{KeyRange}
 use Rattle.cutter.specs.KeyRanges.{range_with, IsRangeOf, AreRanges}
 use Rattle.cutter.proofs.ChainLemmas.{RiseByLow}
@@ -26,18 +27,22 @@ pub record AreRangesBelow (calls : List Operation) (place : ℕ) (ranges : List 
   pub numbers : BelongBelow calls place (numbers_of ranges)
 
 -- one more, where the call at the place belongs
-pub AreRangesBelow-take : (calls : List Operation) (place : ℕ) (ranges : List KeyRange) (a : Operation) → AreRangesBelow calls place ranges → slice_get calls place ≡ Some a → belongs a ≡ true → low_key a.call ≤ high_key a.call
+pub AreRangesBelow-take : (calls : List Operation) (place : ℕ) (ranges : List KeyRange) (a : Operation) → AreRangesBelow calls place ranges
+    → slice_get calls place ≡ Some a → belongs a ≡ true → low_key a.call ≤ high_key a.call
     → AreRangesBelow calls (place + 1) (ranges ++ range_with place a.call ∷ [])
 AreRangesBelow-take calls place ranges a h here belonging in_order =
     let range = range_with place a.call in
     record {
-      each = All-push (IsRangeOf calls) ranges range h.each (record { operation = a; here = here; belonging = belonging; low = refl; high = refl; in_order = in_order });
+      each = All-push (IsRangeOf calls) ranges range h.each
+          (record { operation = a; here = here; belonging = belonging; low = refl; high = refl; in_order = in_order });
       numbers = rw (map-append (λ (r : KeyRange). r.number) ranges (range ∷ [])) (BelongBelow-take calls place (numbers_of ranges) a h.numbers here belonging);
     }
 
 -- no more, where it does not
-pub AreRangesBelow-skip : (calls : List Operation) (place : ℕ) (ranges : List KeyRange) (a : Operation) → AreRangesBelow calls place ranges → slice_get calls place ≡ Some a → belongs a ≡ false → AreRangesBelow calls (place + 1) ranges
-AreRangesBelow-skip calls place ranges a h here apart = record { each = h.each; numbers = BelongBelow-skip calls place (numbers_of ranges) a h.numbers here apart }
+pub AreRangesBelow-skip : (calls : List Operation) (place : ℕ) (ranges : List KeyRange) (a : Operation) → AreRangesBelow calls place ranges
+    → slice_get calls place ≡ Some a → belongs a ≡ false → AreRangesBelow calls (place + 1) ranges
+AreRangesBelow-skip calls place ranges a h here apart =
+    record { each = h.each; numbers = BelongBelow-skip calls place (numbers_of ranges) a h.numbers here apart }
 
 -- after the last call these are the ranges of all that belong
 pub AreRanges-from_below : (calls : List Operation) (ranges : List KeyRange) → AreRangesBelow calls (length calls) ranges → AreRanges calls ranges
@@ -49,19 +54,25 @@ AreRanges-from_below calls ranges h = record {
 }
 
 -- elements of which no two have one number are distinct by it
-IsDistinct-from_pairs : {X : Type 0} (number : X → ℕ) (xs : List X) → AllPairs (λ x y. number x ≢ number y) xs → IsDistinct (λ x y. eqb (number x) (number y)) xs
-IsDistinct-from_pairs number xs h = IsDistinct-from_apart (λ x y. eqb (number x) (number y)) xs (λ i j d before within. ne_eqb (number (get_or xs i d)) (number (get_or xs j d)) (h i j d before within))
+IsDistinct-from_pairs : {X : Type 0} (number : X → ℕ) (xs : List X) → AllPairs (λ x y. number x ≢ number y) xs
+    → IsDistinct (λ x y. eqb (number x) (number y)) xs
+IsDistinct-from_pairs number xs h =
+    IsDistinct-from_apart (λ x y. eqb (number x) (number y)) xs
+    (λ i j d before within. ne_eqb (number (get_or xs i d)) (number (get_or xs j d)) (h i j d before within))
 
 -- and back
-pairs_from_IsDistinct : {X : Type 0} (number : X → ℕ) (xs : List X) → IsDistinct (λ x y. eqb (number x) (number y)) xs → AllPairs (λ x y. number x ≢ number y) xs
-pairs_from_IsDistinct number xs h i j d before within = eqb-false (number (get_or xs i d)) (number (get_or xs j d)) (apart_from_distinct (λ x y. eqb (number x) (number y)) xs i j d h before within)
+pairs_from_IsDistinct : {X : Type 0} (number : X → ℕ) (xs : List X) → IsDistinct (λ x y. eqb (number x) (number y)) xs
+    → AllPairs (λ x y. number x ≢ number y) xs
+pairs_from_IsDistinct number xs h i j d before within =
+    eqb-false (number (get_or xs i d)) (number (get_or xs j d)) (apart_from_distinct (λ x y. eqb (number x) (number y)) xs i j d h before within)
 
 -- the test of two numbers answers alike in either order
 eqb_comm : (m n : ℕ) → eqb m n ≡ eqb n m
 eqb_comm m n = grind arith
 
 -- distinct elements stay so when they change places
-pub distinct-IsPermutation : {X : Type 0} (number : X → ℕ) (xs ys : List X) → IsPermutation xs ys → AllPairs (λ x y. number x ≢ number y) xs → AllPairs (λ x y. number x ≢ number y) ys
+pub distinct-IsPermutation : {X : Type 0} (number : X → ℕ) (xs ys : List X) → IsPermutation xs ys → AllPairs (λ x y. number x ≢ number y) xs
+    → AllPairs (λ x y. number x ≢ number y) ys
 distinct-IsPermutation number xs ys moved h = pairs_from_IsDistinct number ys
     (IsDistinct-IsPermutation (λ x y. eqb (number x) (number y)) (λ x y. eqb_comm (number x) (number y)) xs ys moved (IsDistinct-from_pairs number xs h))
 
@@ -78,6 +89,7 @@ pub RiseByLow-from_sort : (ranges : List KeyRange) → IsNonDecreasingBy (λ r. 
 RiseByLow-from_sort ranges h i j d before within = h i j d (omega arith) within
 
 -- distinct numbers, sorted, rise
-pub IsStrictlyIncreasing-from_sort : (numbers sorted : List ℕ) → AllPairs (λ m n. m ≢ n) numbers → IsPermutation numbers sorted → IsNonDecreasing sorted → IsStrictlyIncreasing sorted
+pub IsStrictlyIncreasing-from_sort : (numbers sorted : List ℕ) → AllPairs (λ m n. m ≢ n) numbers → IsPermutation numbers sorted → IsNonDecreasing sorted
+    → IsStrictlyIncreasing sorted
 IsStrictlyIncreasing-from_sort numbers sorted distinct moved up =
     IsStrictlyIncreasing-from_distinct sorted up (IsDistinct-IsPermutation eqb eqb_comm numbers sorted moved (IsDistinct-from_pairs (λ n. n) numbers distinct))

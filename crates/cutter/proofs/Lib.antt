@@ -2,3 +2,4 @@ mod KeyRangeLemmas
 mod ChainLemmas
 mod CutLemmas
 mod WalkLemmas
+pub mod UniqueSegmentLemmas

@@ -1,21 +1,24 @@
 -- The walk over the ranges of a history's calls: each chain of ranges is the next segment.
-use Rattle.std.proofs.Common.{◌≡◌, ℕ, ◌<◌, ◌≤◌, List, [], ◌∷◌, ◌++◌, length, get_or, map, take, drop, refl, sym, ap, ◌∙◌, subst, inl, inr, ⊎_elim, append_assoc, arith}
+use Rattle.std.proofs.Common.{◌≡◌, ℕ, ◌<◌, ◌≤◌, List, [], ◌∷◌, ◌++◌, length, get_or, map, take, drop, refl, sym, ap, ◌∙◌, subst, inl, inr, ⊎_elim, append_assoc}
+use Rattle.std.proofs.Common.{arith}
 use Rattle.std.specs.Prelude.{◌≢◌, ◌⊎◌, slice_get, All, Any, AllPairs, Contains, IsPermutation}
 use Rattle.std.specs.List.Sorted.{IsStrictlyIncreasing}
 use Rattle.std.proofs.lemmas.List.{take-append-drop, length-take-le, length-map}
-use Rattle.std.proofs.lemmas.List.Elements.{All-head, All-tail, All-append, All-push, All-map, All-take, All-weaker, All-contains, Contains-get_or, Contains-append_left, Contains-append_right, Contains-append_cases}
+use Rattle.std.proofs.lemmas.List.Elements.{All-head, All-tail, All-append, All-push, All-map, All-take, All-weaker, All-contains, Contains-get_or}
+use Rattle.std.proofs.lemmas.List.Elements.{Contains-append_left, Contains-append_right, Contains-append_cases}
 use Rattle.std.proofs.lemmas.List.Quantifiers.{Any-push, all_pairs_push}
 use Rattle.std.proofs.lemmas.List.Sorted.{IsPermutation-sym, All-permutation, Contains-permutation, length_permutation}
 use Rattle.std.proofs.lemmas.Option.{same_Some, slice_get_within}
-use Rattle.history.specs.declared.operation.Operation.{Operation}
-use Rattle.history.specs.Lists.{least}
-use Rattle.history.specs.Cuts.{low_key, high_key, BelongsAt, AreTogether}
-use Rattle.history.specs.Orders.{calls_at}
-use Rattle.history.specs.SegmentView.{SegmentView, segment_of}
-use Rattle.history.specs.Segments.{IsSegment, AreSegments}
-use Rattle.history.proofs.Lists.{AllPairs-front, AllPairs-back, All-front, All-back, All-from_contains, Contains-nil, Contains-first}
-use Rattle.history.proofs.FilterLemmas.{Contains-map, Contains-from_map, Contains-filter_map, Contains-from_filter_map}
-use Rattle.history.proofs.PointLemmas.{greatest_is}
+use Rattle.events.specs.declared.operation.Operation.{Operation}
+use Rattle.list_laws.specs.Lists.{least}
+use Rattle.events.specs.Keys.{low_key, high_key}
+use Rattle.segments.specs.Cuts.{BelongsAt, AreTogether}
+use Rattle.orders.specs.Orders.{calls_at}
+use Rattle.segments.specs.SegmentView.{SegmentView, segment_of}
+use Rattle.segments.specs.Segments.{IsSegment, AreSegments}
+use Rattle.list_laws.proofs.Lists.{AllPairs-front, AllPairs-back, All-front, All-back, All-from_contains, Contains-nil, Contains-first}
+use Rattle.list_laws.proofs.FilterLemmas.{Contains-map, Contains-from_map, Contains-filter_map, Contains-from_filter_map}
+use Rattle.list_laws.proofs.NumberLemmas.{greatest_is}
 use Rattle.cutter.specs.declared.key_range.KeyRange.{KeyRange}
 use Rattle.cutter.specs.KeyRanges.{IsRangeOf, AreRanges, AreChained, AreApart}
 use Rattle.cutter.proofs.ChainLemmas.{RiseByLow, Any-from_contains}
@@ -37,7 +40,8 @@ AreApart-append xs ys zs first second = All-append (λ r. All (λ s. r.high < s.
 
 -- ranges that end below some end below the last of these
 AreApart-back : (xs ys zs : List KeyRange) → AreApart xs (ys ++ zs) → AreApart xs zs
-AreApart-back xs ys zs h = All-weaker (λ r. All (λ s. r.high < s.low) (ys ++ zs)) (λ r. All (λ s. r.high < s.low) zs) (λ r below. All-back (λ s. r.high < s.low) ys zs below) xs h
+AreApart-back xs ys zs h =
+    All-weaker (λ r. All (λ s. r.high < s.low) (ys ++ zs)) (λ r. All (λ s. r.high < s.low) zs) (λ r below. All-back (λ s. r.high < s.low) ys zs below) xs h
 
 -- the call of a range belongs
 BelongsAt-range : (calls : List Operation) (r : KeyRange) → IsRangeOf calls r → BelongsAt calls r.number
@@ -49,15 +53,19 @@ record AreNumbersOf (ranges : List KeyRange) (numbers : List ℕ) : Type 0 where
   same : IsPermutation (numbers_of ranges) numbers
 
 -- each of the numbers is that of a range
-range_numbered : (ranges : List KeyRange) (numbers : List ℕ) (n : ℕ) → AreNumbersOf ranges numbers → Contains numbers n → (r : KeyRange) × Contains ranges r × (r.number ≡ n)
-range_numbered ranges numbers n h is = Contains-from_map (λ (r : KeyRange). r.number) ranges n (Contains-permutation numbers (numbers_of ranges) n (IsPermutation-sym (numbers_of ranges) numbers h.same) is)
+range_numbered : (ranges : List KeyRange) (numbers : List ℕ) (n : ℕ) → AreNumbersOf ranges numbers → Contains numbers n → (r : KeyRange) × Contains ranges r
+    × (r.number ≡ n)
+range_numbered ranges numbers n h is =
+    Contains-from_map (λ (r : KeyRange). r.number) ranges n
+    (Contains-permutation numbers (numbers_of ranges) n (IsPermutation-sym (numbers_of ranges) numbers h.same) is)
 
 -- the number of each range is among them
 number_in : (ranges : List KeyRange) (numbers : List ℕ) (r : KeyRange) → AreNumbersOf ranges numbers → Contains ranges r → Contains numbers r.number
 number_in ranges numbers r h is = Contains-permutation (numbers_of ranges) numbers r.number h.same (Contains-map (λ (r : KeyRange). r.number) ranges r is)
 
 -- ranges that hang together, apart from those before them and those after them, are the ranges of a segment
-IsSegment-chained : (calls : List Operation) (before chained after : List KeyRange) (numbers : List ℕ) (first : KeyRange) → AreRanges calls (before ++ (chained ++ after)) → AreApart before (chained ++ after)
+IsSegment-chained : (calls : List Operation) (before chained after : List KeyRange) (numbers : List ℕ) (first : KeyRange)
+    → AreRanges calls (before ++ (chained ++ after)) → AreApart before (chained ++ after)
     → AreChained chained → AreApart chained after → Contains chained first → AreNumbersOf chained numbers → IsSegment calls (segment_of calls numbers)
 IsSegment-chained calls before chained after numbers first h apart_before hang apart_after first_is its = record {
   not_empty = λ e. Contains-nil first.number (subst (λ ns. Contains ns first.number) e (number_in chained numbers first its first_is));
@@ -85,16 +93,19 @@ IsSegment-chained calls before chained after numbers first h apart_before hang a
     elsewhere r s r_is together s_is = ⊎_elim
         (λ s_before. (not_together-apart calls before (chained ++ after) s r h apart_before s_before (Contains-append_left chained after r r_is)).1 together)
         (λ s_after. (not_together-apart calls (before ++ chained) after r s (subst (AreRanges calls) (sym in_order) h)
-        (AreApart-append before chained after (AreApart-back before chained after apart_before) apart_after) (Contains-append_right before chained r r_is) s_after).0 together) s_is
+        (AreApart-append before chained after (AreApart-back before chained after apart_before) apart_after)
+        (Contains-append_right before chained r r_is) s_after).0 together) s_is
 
     back : (m n : ℕ) → Contains numbers m → BelongsAt calls n × AreTogether calls m n → Contains numbers n
     back m n m_in (belonging, together) =
         let (r, r_is, m_is) = range_numbered chained numbers m its m_in in
         let (s, s_is, n_is) = range_from_belonging calls (before ++ (chained ++ after)) n h belonging in
-        let meet : AreTogether calls r.number s.number = subst (AreTogether calls r.number) (sym n_is) (subst (λ k. AreTogether calls k n) (sym m_is) together) in
+        let meet : AreTogether calls r.number s.number =
+        subst (AreTogether calls r.number) (sym n_is) (subst (λ k. AreTogether calls k n) (sym m_is) together) in
         subst (Contains numbers) n_is (⊎_elim
         (λ s_before. absurd (elsewhere r s r_is meet (inl s_before)))
-        (λ s_later. ⊎_elim (λ s_chained. number_in chained numbers s its s_chained) (λ s_after. absurd (elsewhere r s r_is meet (inr s_after))) (Contains-append_cases chained after s s_later))
+        (λ s_later. ⊎_elim (λ s_chained. number_in chained numbers s its s_chained) (λ s_after. absurd (elsewhere r s r_is meet (inr s_after)))
+        (Contains-append_cases chained after s s_later))
         (Contains-append_cases before (chained ++ after) s s_is))
 
 -- the segments of the ranges before the rest, which lies beyond them
@@ -109,7 +120,8 @@ pub record AreSegmentsBefore (calls : List Operation) (rest : List KeyRange) (se
   pub below : All (λ s. All (λ r. s.hi < r.low) rest) segments
 
 -- the keys of a segment are those of its ranges
-module _ (calls : List Operation) (ranges : List KeyRange) (numbers : List ℕ) (first : KeyRange) (each : All (IsRangeOf calls) ranges) (its : AreNumbersOf ranges numbers) (first_is : Contains ranges first) where
+module _ (calls : List Operation) (ranges : List KeyRange) (numbers : List ℕ) (first : KeyRange) (each : All (IsRangeOf calls) ranges)
+    (its : AreNumbersOf ranges numbers) (first_is : Contains ranges first) where
   -- the range of a call that has one of the numbers
   range_at : (a : Operation) → Contains (calls_at calls numbers) a → (r : KeyRange) × Contains ranges r × (r.low ≡ low_key a.call) × (r.high ≡ high_key a.call)
   range_at a is =
@@ -128,7 +140,8 @@ module _ (calls : List Operation) (ranges : List KeyRange) (numbers : List ℕ) 
   -- what ends below all the ranges ends below the segment
   below_segment : (b : ℕ) → All (λ r. b < r.low) ranges → b < (segment_of calls numbers).lo
   below_segment b h = least_above (λ a. low_key a.call) (calls_at calls numbers) first_call.0 b first_call.1
-      (All-from_contains (λ a. b < low_key a.call) (calls_at calls numbers) (λ a is. let (r, r_is, low, high) = range_at a is in omega (arith, low, All-contains (λ r. b < r.low) ranges r h r_is)))
+      (All-from_contains (λ a. b < low_key a.call) (calls_at calls numbers)
+      (λ a is. let (r, r_is, low, high) = range_at a is in omega (arith, low, All-contains (λ r. b < r.low) ranges r h r_is)))
 
   -- the segment ends below what all the ranges end below
   segment_below : (c : ℕ) → All (λ r. r.high < c) ranges → (segment_of calls numbers).hi < c
@@ -138,24 +151,32 @@ module _ (calls : List Operation) (ranges : List KeyRange) (numbers : List ℕ) 
       omega (arith, hi_is, high, All-contains (λ r. r.high < c) ranges r h r_is)
 
 -- a chain of ranges is the next segment
-AreSegmentsBefore-chained : (calls : List Operation) (chained after : List KeyRange) (segments : List SegmentView) (numbers : List ℕ) (first : KeyRange) → AreSegmentsBefore calls (chained ++ after) segments
-    → AreChained chained → AreApart chained after → Contains chained first → AreNumbersOf chained numbers → AreSegmentsBefore calls after (segments ++ segment_of calls numbers ∷ [])
+AreSegmentsBefore-chained : (calls : List Operation) (chained after : List KeyRange) (segments : List SegmentView) (numbers : List ℕ) (first : KeyRange)
+    → AreSegmentsBefore calls (chained ++ after) segments
+    → AreChained chained → AreApart chained after → Contains chained first → AreNumbersOf chained numbers
+    → AreSegmentsBefore calls after (segments ++ segment_of calls numbers ∷ [])
 AreSegmentsBefore-chained calls chained after segments numbers first h hang apart first_is its = record {
   before = h.before ++ chained;
   ranges = subst (AreRanges calls) (sym (append_assoc h.before chained after)) h.ranges;
   apart = AreApart-append h.before chained after (AreApart-back h.before chained after h.apart) apart;
   by_low_key = AllPairs-back (λ r s. r.low ≤ s.low) chained after h.by_low_key;
-  each = All-push (IsSegment calls) segments segment h.each (IsSegment-chained calls h.before chained after numbers first h.ranges h.apart hang apart first_is its);
+  each = All-push (IsSegment calls) segments segment h.each
+      (IsSegment-chained calls h.before chained after numbers first h.ranges h.apart hang apart first_is its);
   all = All-append (λ r. Any (λ s. Contains s.numbers r.number) (segments ++ segment ∷ [])) h.before chained
       (All-weaker (λ r. Any (λ s. Contains s.numbers r.number) segments) (λ r. Any (λ s. Contains s.numbers r.number) (segments ++ segment ∷ []))
-      (λ r found. Any-from_contains (λ s. Contains s.numbers r.number) (segments ++ segment ∷ []) found.1 (Contains-append_left segments (segment ∷ []) found.1 (found.0, found.2, found.3)) found.4) h.before h.all)
-      (All-from_contains (λ r. Any (λ s. Contains s.numbers r.number) (segments ++ segment ∷ [])) chained (λ r is. Any-push (λ s. Contains s.numbers r.number) segments segment (number_in chained numbers r its is)));
+      (λ r found. Any-from_contains (λ s. Contains s.numbers r.number) (segments ++ segment ∷ []) found.1
+      (Contains-append_left segments (segment ∷ []) found.1 (found.0, found.2, found.3)) found.4) h.before h.all)
+      (All-from_contains (λ r. Any (λ s. Contains s.numbers r.number) (segments ++ segment ∷ [])) chained
+      (λ r is. Any-push (λ s. Contains s.numbers r.number) segments segment (number_in chained numbers r its is)));
   by_key = all_pairs_push (λ s t. s.hi < t.lo) segments segment h.by_key
-      (λ k d within. below_segment calls chained numbers first each its first_is (get_or segments k d).hi (All-front (λ r. (get_or segments k d).hi < r.low) chained after (h.below k d within)));
+      (λ k d within. below_segment calls chained numbers first each its first_is (get_or segments k d).hi
+      (All-front (λ r. (get_or segments k d).hi < r.low) chained after (h.below k d within)));
   below = All-push (λ s. All (λ r. s.hi < r.low) after) segments segment
-      (All-weaker (λ s. All (λ r. s.hi < r.low) (chained ++ after)) (λ s. All (λ r. s.hi < r.low) after) (λ s below. All-back (λ r. s.hi < r.low) chained after below) segments h.below)
+      (All-weaker (λ s. All (λ r. s.hi < r.low) (chained ++ after)) (λ s. All (λ r. s.hi < r.low) after)
+      (λ s below. All-back (λ r. s.hi < r.low) chained after below) segments h.below)
       (All-from_contains (λ r. segment.hi < r.low) after (λ r is. segment_below calls chained numbers first each its first_is r.low
-      (All-weaker (λ z. All (λ s. z.high < s.low) after) (λ z. z.high < r.low) (λ z below. All-contains (λ s. z.high < s.low) after r below is) chained apart)));
+      (All-weaker (λ z. All (λ s. z.high < s.low) after) (λ z. z.high < r.low)
+      (λ z below. All-contains (λ s. z.high < s.low) after r below is) chained apart)));
 }
   where
     segment : SegmentView
@@ -165,8 +186,10 @@ AreSegmentsBefore-chained calls chained after segments numbers first h hang apar
     each = All-front (IsRangeOf calls) chained after (All-back (IsRangeOf calls) h.before (chained ++ after) h.ranges.each)
 
 -- the first of the rest that hang together are the next segment
-pub AreSegmentsBefore-more : (calls : List Operation) (rest : List KeyRange) (len : ℕ) (segments : List SegmentView) (numbers : List ℕ) → AreSegmentsBefore calls rest segments → 0 < len → len ≤ length rest
-    → AreChained (take len rest) → AreApart (take len rest) (drop len rest) → IsStrictlyIncreasing numbers → IsPermutation (numbers_of (take len rest)) numbers → AreSegmentsBefore calls (drop len rest) (segments ++ segment_of calls numbers ∷ [])
+pub AreSegmentsBefore-more : (calls : List Operation) (rest : List KeyRange) (len : ℕ) (segments : List SegmentView) (numbers : List ℕ)
+    → AreSegmentsBefore calls rest segments → 0 < len → len ≤ length rest
+    → AreChained (take len rest) → AreApart (take len rest) (drop len rest) → IsStrictlyIncreasing numbers → IsPermutation (numbers_of (take len rest)) numbers
+    → AreSegmentsBefore calls (drop len rest) (segments ++ segment_of calls numbers ∷ [])
 AreSegmentsBefore-more calls [] len segments numbers h some within hang apart rising same = absurd (omega arith)
 AreSegmentsBefore-more calls (r ∷ rest) len segments numbers h some within hang apart rising same =
     AreSegmentsBefore-chained calls (take len (r ∷ rest)) (drop len (r ∷ rest)) segments numbers (get_or (take len (r ∷ rest)) 0 r)
@@ -174,20 +197,24 @@ AreSegmentsBefore-more calls (r ∷ rest) len segments numbers h some within han
     (Contains-get_or (take len (r ∷ rest)) 0 r (omega (arith, length-take-le len (r ∷ rest) within))) (record { rising = rising; same = same })
 
 -- the first of the rest have different numbers
-pub distinct_first : (calls : List Operation) (rest : List KeyRange) (len : ℕ) (segments : List SegmentView) → AreSegmentsBefore calls rest segments → AllPairs (λ r s. r.number ≢ s.number) (take len rest)
+pub distinct_first : (calls : List Operation) (rest : List KeyRange) (len : ℕ) (segments : List SegmentView) → AreSegmentsBefore calls rest segments
+    → AllPairs (λ r s. r.number ≢ s.number) (take len rest)
 distinct_first calls rest len segments h =
     let R = λ (r s : KeyRange). r.number ≢ s.number in
     AllPairs-front R (take len rest) (drop len rest) (subst (AllPairs R) (sym (take-append-drop len rest)) (AllPairs-back R h.before rest h.ranges.distinct))
 
 -- their numbers are those of calls
-pub known_first : (calls : List Operation) (rest : List KeyRange) (len : ℕ) (segments : List SegmentView) (numbers : List ℕ) → AreSegmentsBefore calls rest segments → IsPermutation (numbers_of (take len rest)) numbers
+pub known_first : (calls : List Operation) (rest : List KeyRange) (len : ℕ) (segments : List SegmentView) (numbers : List ℕ)
+    → AreSegmentsBefore calls rest segments → IsPermutation (numbers_of (take len rest)) numbers
     → All (λ n. n < length calls) numbers
 known_first calls rest len segments numbers h same = All-permutation (λ n. n < length calls) (numbers_of (take len rest)) numbers same
     (All-map (λ n. n < length calls) (λ (r : KeyRange). r.number) (take len rest) (All-take (λ r. r.number < length calls) len rest
-    (All-weaker (IsRangeOf calls) (λ r. r.number < length calls) (λ r range. slice_get_within calls r.number range.operation range.here) rest (All-back (IsRangeOf calls) h.before rest h.ranges.each))))
+    (All-weaker (IsRangeOf calls) (λ r. r.number < length calls) (λ r range. slice_get_within calls r.number range.operation range.here) rest
+    (All-back (IsRangeOf calls) h.before rest h.ranges.each))))
 
 -- and there are some
-pub some_first : (rest : List KeyRange) (len : ℕ) (numbers : List ℕ) → 0 < len → len ≤ length rest → IsPermutation (numbers_of (take len rest)) numbers → numbers ≢ []
+pub some_first : (rest : List KeyRange) (len : ℕ) (numbers : List ℕ) → 0 < len → len ≤ length rest → IsPermutation (numbers_of (take len rest)) numbers
+    → numbers ≢ []
 some_first rest len numbers some within same none = omega (
   arith,
   ap length none,

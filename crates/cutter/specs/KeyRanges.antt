@@ -1,8 +1,10 @@
 -- The ranges of keys that calls name, and which of them hang together.
 use Rattle.std.specs.Prelude.{◌≡◌, ◌≢◌, ℕ, ◌<◌, ◌≤◌, true, List, Some, slice_get, map, All, Any, AllPairs, Contains}
-use Rattle.history.specs.declared.event.Call.{Call}
-use Rattle.history.specs.declared.operation.Operation.{Operation}
-use Rattle.history.specs.Cuts.{low_key, high_key, belongs, BelongsAt}
+use Rattle.events.specs.declared.event.Call.{Call}
+use Rattle.events.specs.declared.operation.Operation.{Operation}
+use Rattle.events.specs.Keys.{low_key, high_key}
+use Rattle.events.specs.Precedence.{belongs}
+use Rattle.segments.specs.Cuts.{BelongsAt}
 use Rattle.cutter.specs.declared.key_range.KeyRange.{KeyRange}
 
 -- the keys of a call with a number

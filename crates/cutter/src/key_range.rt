@@ -2,10 +2,11 @@
 ghost use Rattle.std.specs.Prelude.{◌≢◌, ◌<◌, ◌≤◌, ◌^◌, length, map, All, AllPairs, IsPermutation, IsTrue, IfOk};
 ghost use Rattle.std.specs.Option.{SomeIff};
 ghost use Rattle.std.specs.List.Sorted.{IsStrictlyIncreasing};
-ghost use Rattle.history.specs.Cuts.{low_key, high_key, belongs};
+ghost use Rattle.events.specs.Keys.{low_key, high_key};
+ghost use Rattle.events.specs.Precedence.{belongs};
 ghost use Rattle.cutter.specs.KeyRanges.{AreRanges, range_with};
 
-use history::{Memory, Operation};
+use events::{Memory, Operation};
 use std::alloc::Global;
 
 /// The least and the greatest key that a call names, with the call's number.

@@ -4,11 +4,9 @@
 //! What a cut and a segment are stands in `history`'s definitions.
 #![tactic(auto)]
 
+mod cutting;
 mod key_range;
 mod laws;
-mod segments;
-#[cfg(test)]
-mod tests;
 
+pub use cutting::cut;
 pub use laws::one_list_of_segments;
-pub use segments::cut;

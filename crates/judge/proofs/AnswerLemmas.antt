@@ -8,9 +8,9 @@ use Rattle.std.specs.Vec.Iter.{into_iter_items, into_iter_len, into_iter_steps}
 use Rattle.std.proofs.lemmas.Bool.{false≢true}
 use Rattle.std.proofs.lemmas.List.{append-nil, append_assoc, nil_from_length}
 use Rattle.std.proofs.lemmas.List.Elements.{All-nil, All-cons, All-append, All-push, All-weaker}
-use Rattle.history.specs.MapObject.{Contents}
-use Rattle.history.specs.SegmentView.{SegmentView}
-use Rattle.history.specs.SegmentOrders.{IsOrderOf}
+use Rattle.map_object.specs.MapObject.{Contents}
+use Rattle.segments.specs.SegmentView.{SegmentView}
+use Rattle.segments.specs.SegmentOrders.{IsOrderOf}
 use Rattle.search.specs.declared.found.Found.{Found}
 use Rattle.search.specs.Found.{IsSoundAnswer}
 use Rattle.judge.specs.Shows.{HasOrder, IsBeyond, IsUnrefuted}
@@ -30,7 +30,8 @@ HaveShown start budget segments orders None = AllZip (IsOrderOf start) segments 
 HaveShown start budget segments orders (Some segment) = IsLowestSpent start budget segments segment
 
 -- one more of each
-pub AllZip-more : {A B : Type 0} (R : A → B → Type 0) (xs : List A) (ys : List B) (x : A) (y : B) → AllZip R xs ys → R x y → AllZip R (xs ++ x ∷ []) (ys ++ y ∷ [])
+pub AllZip-more : {A B : Type 0} (R : A → B → Type 0) (xs : List A) (ys : List B) (x : A) (y : B) → AllZip R xs ys → R x y
+    → AllZip R (xs ++ x ∷ []) (ys ++ y ∷ [])
 AllZip-more R [] [] x y h r = (r, tt)
 AllZip-more R [] (b ∷ ys) x y h r = absurd h
 AllZip-more R (a ∷ xs) [] x y h r = absurd h
@@ -47,11 +48,13 @@ HasOrder-found : (start : Contents) (segment : SegmentView) (order : List ℕ) �
 HasOrder-found start segment order h = (h.0, h.2)
 
 -- segments that have their orders
-HasOrder-all : (start : Contents) (segments : List SegmentView) (orders : List (List ℕ)) → AllZip (IsOrderOf start) segments orders → All (HasOrder start) segments
+HasOrder-all : (start : Contents) (segments : List SegmentView) (orders : List (List ℕ)) → AllZip (IsOrderOf start) segments orders
+    → All (HasOrder start) segments
 HasOrder-all start segments orders h = All-firsts (IsOrderOf start) (HasOrder start) (HasOrder-found start) segments orders h
 
 -- one more segment above the lowest that is spent
-IsLowestSpent-more : (start : Contents) (budget : ℕ) (segments : List SegmentView) (spent segment : SegmentView) → IsLowestSpent start budget segments spent → IsUnrefuted start budget segment → IsLowestSpent start budget (segments ++ segment ∷ []) spent
+IsLowestSpent-more : (start : Contents) (budget : ℕ) (segments : List SegmentView) (spent segment : SegmentView) → IsLowestSpent start budget segments spent
+    → IsUnrefuted start budget segment → IsLowestSpent start budget (segments ++ segment ∷ []) spent
 IsLowestSpent-more start budget segments spent segment h is = record {
   below = h.below;
   above = h.above ++ segment ∷ [];
@@ -62,19 +65,23 @@ IsLowestSpent-more start budget segments spent segment h is = record {
 }
 
 -- one more segment has its order
-pub HaveShown-found : (start : Contents) (budget : ℕ) (segments : List SegmentView) (orders : List (List ℕ)) (spent : Option SegmentView) (segment : SegmentView) (order : List ℕ) → HaveShown start budget segments orders spent → IsOrderOf start segment order
+pub HaveShown-found : (start : Contents) (budget : ℕ) (segments : List SegmentView) (orders : List (List ℕ)) (spent : Option SegmentView)
+    (segment : SegmentView) (order : List ℕ) → HaveShown start budget segments orders spent → IsOrderOf start segment order
     → HaveShown start budget (segments ++ segment ∷ []) (orders ++ order ∷ []) spent
 HaveShown-found start budget segments orders None segment order h found = AllZip-more (IsOrderOf start) segments orders segment order h found
-HaveShown-found start budget segments orders (Some spent) segment order h found = IsLowestSpent-more start budget segments spent segment h (inl (HasOrder-found start segment order found))
+HaveShown-found start budget segments orders (Some spent) segment order h found =
+    IsLowestSpent-more start budget segments spent segment h (inl (HasOrder-found start segment order found))
 
 -- one more segment is spent, above the lowest
-pub HaveShown-spent : (start : Contents) (budget : ℕ) (segments : List SegmentView) (orders : List (List ℕ)) (spent : Option SegmentView) (segment : SegmentView) → is_some spent ≡ true → HaveShown start budget segments orders spent → IsBeyond start budget segment
+pub HaveShown-spent : (start : Contents) (budget : ℕ) (segments : List SegmentView) (orders : List (List ℕ)) (spent : Option SegmentView)
+    (segment : SegmentView) → is_some spent ≡ true → HaveShown start budget segments orders spent → IsBeyond start budget segment
     → HaveShown start budget (segments ++ segment ∷ []) orders spent
 HaveShown-spent start budget segments orders None segment some h beyond = absurd (false≢true some)
 HaveShown-spent start budget segments orders (Some spent) segment some h beyond = IsLowestSpent-more start budget segments spent segment h (inr beyond)
 
 -- the first that is spent
-pub HaveShown-first : (start : Contents) (budget : ℕ) (segments : List SegmentView) (orders : List (List ℕ)) (spent : Option SegmentView) (segment : SegmentView) → is_some spent ≡ false → HaveShown start budget segments orders spent → IsBeyond start budget segment
+pub HaveShown-first : (start : Contents) (budget : ℕ) (segments : List SegmentView) (orders : List (List ℕ)) (spent : Option SegmentView)
+    (segment : SegmentView) → is_some spent ≡ false → HaveShown start budget segments orders spent → IsBeyond start budget segment
     → HaveShown start budget (segments ++ segment ∷ []) orders (Some segment)
 HaveShown-first start budget segments orders (Some spent) segment none h beyond = absurd (false≢true (sym none))
 HaveShown-first start budget segments orders None segment none h beyond = record {
@@ -87,32 +94,41 @@ HaveShown-first start budget segments orders None segment none h beyond = record
 }
 
 -- none so far is refuted
-pub IsUnrefuted-all : (start : Contents) (budget : ℕ) (segments : List SegmentView) (orders : List (List ℕ)) (spent : Option SegmentView) → HaveShown start budget segments orders spent → All (IsUnrefuted start budget) segments
-IsUnrefuted-all start budget segments orders None h = All-firsts (IsOrderOf start) (IsUnrefuted start budget) (λ s o found. inl (HasOrder-found start s o found)) segments orders h
+pub IsUnrefuted-all : (start : Contents) (budget : ℕ) (segments : List SegmentView) (orders : List (List ℕ)) (spent : Option SegmentView)
+    → HaveShown start budget segments orders spent → All (IsUnrefuted start budget) segments
+IsUnrefuted-all start budget segments orders None h =
+    All-firsts (IsOrderOf start) (IsUnrefuted start budget) (λ s o found. inl (HasOrder-found start s o found)) segments orders h
 IsUnrefuted-all start budget segments orders (Some spent) h = subst (All (IsUnrefuted start budget)) (sym h.is)
-    (All-append (IsUnrefuted start budget) h.below (spent ∷ h.above) (All-weaker (HasOrder start) (IsUnrefuted start budget) (λ s is. inl is) h.below h.lowest) (All-cons (IsUnrefuted start budget) spent h.above (inr h.reaches) h.unrefuted))
+    (All-append (IsUnrefuted start budget) h.below (spent ∷ h.above) (All-weaker (HasOrder start) (IsUnrefuted start budget) (λ s is. inl is) h.below h.lowest)
+    (All-cons (IsUnrefuted start budget) spent h.above (inr h.reaches) h.unrefuted))
 
 -- ---- a walk over the segments with their answers
 
 -- the segments before the rest have shown what they have, and the answers on the rest are sound
-pub record IsUnderWay (start : Contents) (budget : ℕ) (segments rest : List SegmentView) (answers : List Found) (orders : List (List ℕ)) (spent : Option SegmentView) : Type 0 where
+pub record IsUnderWay (start : Contents) (budget : ℕ) (segments rest : List SegmentView) (answers : List Found) (orders : List (List ℕ))
+    (spent : Option SegmentView) : Type 0 where
   pub before : List SegmentView
   pub parts : segments ≡ before ++ rest
   pub shown : HaveShown start budget before orders spent
   pub sound : AllZip (IsSoundAnswer start budget) rest answers
 
 -- before the first
-pub IsUnderWay-start : {start : Contents} {budget : ℕ} {segments : List SegmentView} {answers : List Found} → AllZip (IsSoundAnswer start budget) segments answers → IsUnderWay start budget segments segments answers [] None
+pub IsUnderWay-start : {start : Contents} {budget : ℕ} {segments : List SegmentView} {answers : List Found}
+    → AllZip (IsSoundAnswer start budget) segments answers → IsUnderWay start budget segments segments answers [] None
 IsUnderWay-start sound = record { before = []; parts = refl; shown = tt; sound = sound }
 
 -- the next answer is sound
-pub IsUnderWay-answer : {start : Contents} {budget : ℕ} {segments rest later : List SegmentView} {answers others : List Found} {orders : List (List ℕ)} {spent : Option SegmentView} {segment : SegmentView} {answer : Found}
-    → IsUnderWay start budget segments rest answers orders spent → rest ≡ segment ∷ later → answers ≡ answer ∷ others → IsSoundAnswer start budget segment answer
+pub IsUnderWay-answer : {start : Contents} {budget : ℕ} {segments rest later : List SegmentView} {answers others : List Found} {orders : List
+    (List ℕ)} {spent : Option SegmentView} {segment : SegmentView} {answer : Found}
+    → IsUnderWay start budget segments rest answers orders spent → rest ≡ segment ∷ later → answers ≡ answer ∷ others
+    → IsSoundAnswer start budget segment answer
 IsUnderWay-answer h e f = (rw (e, f) at h.sound).0
 
 -- the walk goes on with what the segments up to the next have shown
-pub IsUnderWay-next : {start : Contents} {budget : ℕ} {segments rest later : List SegmentView} {answers others : List Found} {orders orders_next : List (List ℕ)} {spent spent_next : Option SegmentView} {segment : SegmentView} {answer : Found}
-    → (h : IsUnderWay start budget segments rest answers orders spent) → rest ≡ segment ∷ later → answers ≡ answer ∷ others → HaveShown start budget (h.before ++ segment ∷ []) orders_next spent_next
+pub IsUnderWay-next : {start : Contents} {budget : ℕ} {segments rest later : List SegmentView} {answers others : List Found} {orders orders_next : List
+    (List ℕ)} {spent spent_next : Option SegmentView} {segment : SegmentView} {answer : Found}
+    → (h : IsUnderWay start budget segments rest answers orders spent) → rest ≡ segment ∷ later → answers ≡ answer ∷ others
+    → HaveShown start budget (h.before ++ segment ∷ []) orders_next spent_next
     → IsUnderWay start budget segments later others orders_next spent_next
 IsUnderWay-next {later} {segment} h e f shown = record {
   before = h.before ++ segment ∷ [];
@@ -126,11 +142,14 @@ nil_at_end : {X : Type 0} (it : IntoIter X Global) → into_iter_len it ≡ 0 �
 nil_at_end it e = nil_from_length (into_iter_items it) (omega (arith, e, it.rest.ok.0))
 
 -- with one of the iterators at its end, all segments have shown what they have
-pub IsUnderWay-all : {start : Contents} {budget : ℕ} {segments : List SegmentView} {orders : List (List ℕ)} {spent : Option SegmentView} (rest : IntoIter SegmentView Global) (answers : IntoIter Found Global)
+pub IsUnderWay-all : {start : Contents} {budget : ℕ} {segments : List SegmentView} {orders : List (List ℕ)} {spent : Option SegmentView}
+    (rest : IntoIter SegmentView Global) (answers : IntoIter Found Global)
     → IsUnderWay start budget segments (into_iter_items rest) (into_iter_items answers) orders spent
-    → ((u : IntoIter SegmentView Global) × into_iter_steps rest None u) ⊎ ((u : IntoIter Found Global) × into_iter_steps answers None u) → HaveShown start budget segments orders spent
+    → ((u : IntoIter SegmentView Global) × into_iter_steps rest None u) ⊎ ((u : IntoIter Found Global) × into_iter_steps answers None u)
+    → HaveShown start budget segments orders spent
 IsUnderWay-all {start} {budget} {segments} {orders} {spent} rest answers h none =
-    let end : into_iter_items rest ≡ [] = ⊎_elim (λ e. nil_at_end rest e.1.0) (λ e. nil (into_iter_items rest) (rw (nil_at_end answers e.1.0) at h.sound)) none in
+    let end : into_iter_items rest ≡ [] =
+    ⊎_elim (λ e. nil_at_end rest e.1.0) (λ e. nil (into_iter_items rest) (rw (nil_at_end answers e.1.0) at h.sound)) none in
     subst (λ s. HaveShown start budget s orders spent) (sym (h.parts ∙ ap (λ l. h.before ++ l) end ∙ append-nil h.before)) h.shown
   where
     nil : (rest : List SegmentView) → AllZip (IsSoundAnswer start budget) rest [] → rest ≡ []

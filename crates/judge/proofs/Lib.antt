@@ -1,3 +1,4 @@
 mod ReportLemmas
 mod AnswerLemmas
 mod OneCallLemmas
+pub mod ReachedLemmas

@@ -3,27 +3,35 @@ use Rattle.std.proofs.Common.{◌≡◌, ℕ, ◌<◌, ◌≤◌, List, ◌∷�
 use Rattle.std.specs.Prelude.{◌≢◌}
 use Rattle.std.proofs.lemmas.List.Elements.{All-contains, Contains-append_right}
 use Rattle.std.proofs.lemmas.List.Kept.{AllPairs-from_increasing}
-use Rattle.history.specs.declared.operation.Operation.{Operation}
-use Rattle.history.specs.MapObject.{Contents}
-use Rattle.history.specs.SegmentView.{SegmentView}
-use Rattle.history.specs.SegmentOrders.{start_of}
-use Rattle.history.specs.Segments.{IsSegment}
-use Rattle.history.proofs.FilterLemmas.{AllPairs-weaker}
-use Rattle.history.proofs.Lists.{length-distinct_below, Contains-first}
-use Rattle.history.proofs.OneCallLemmas.{reached_by_one_call}
-use Rattle.history.proofs.PlaceLemmas.{length-calls_at}
-use Rattle.history.proofs.SegmentLemmas.{known-IsSegment, calls-IsSegment}
+use Rattle.events.specs.declared.operation.Operation.{Operation}
+use Rattle.map_object.specs.MapObject.{Contents}
+use Rattle.segments.specs.SegmentView.{SegmentView}
+use Rattle.segments.specs.SegmentOrders.{start_of}
+use Rattle.segments.specs.Segments.{IsSegment}
+use Rattle.list_laws.proofs.FilterLemmas.{AllPairs-weaker}
+use Rattle.list_laws.proofs.Lists.{length-distinct_below, Contains-first}
+use Rattle.judge.proofs.ReachedLemmas.{reached_by_one_call}
+use Rattle.orders.proofs.CallsAtLemmas.{length-calls_at}
+use Rattle.segments.proofs.SegmentLemmas.{known-IsSegment, calls-IsSegment}
 use Rattle.judge.specs.Shows.{ShowsUndecided}
 
 -- a segment has no more calls than the history
 length-segment_le : (calls : List Operation) (segment : SegmentView) → IsSegment calls segment → length segment.calls ≤ length calls
 length-segment_le calls segment h =
     let known = known-IsSegment calls segment h in
-    let distinct = AllPairs-weaker (λ a b. a < b) (λ a b. a ≢ b) segment.numbers (λ a b a_is b_is less same. absurd (omega arith)) (AllPairs-from_increasing segment.numbers h.rising) in
-    omega (arith, ap length (calls-IsSegment calls segment h), length-calls_at calls segment.numbers known, length-distinct_below segment.numbers (length calls) distinct known)
+    let distinct =
+    AllPairs-weaker (λ a b. a < b) (λ a b. a ≢ b) segment.numbers (λ a b a_is b_is less same. absurd (omega arith))
+    (AllPairs-from_increasing segment.numbers h.rising) in
+    omega (
+      arith,
+      ap length (calls-IsSegment calls segment h),
+      length-calls_at calls segment.numbers known,
+      length-distinct_below segment.numbers (length calls) distinct known,
+    )
 
 -- it is not undecided
-pub one_call-decided : (start : Contents) (budget : ℕ) (calls : List Operation) (segment : SegmentView) → length calls ≡ 1 → 2 ≤ budget → ShowsUndecided start budget calls segment → ⊥
+pub one_call-decided : (start : Contents) (budget : ℕ) (calls : List Operation) (segment : SegmentView) → length calls ≡ 1 → 2 ≤ budget
+    → ShowsUndecided start budget calls segment → ⊥
 one_call-decided start budget calls segment one two h =
     let is = Contains-append_right h.below (segment ∷ h.above) segment (Contains-first segment h.above) in
     let of_calls = All-contains (IsSegment calls) (h.below ++ segment ∷ h.above) segment h.are_segments.each is in

@@ -1,13 +1,13 @@
 -- What is answered to a text: a verdict with its report, or why there is none.
 use Rattle.std.specs.Prelude.{◌≡◌, ◌≢◌, ℕ, List, [], ⊤}
 use Rattle.serde_json.specs.Written.{compact_text}
-use Rattle.history.specs.declared.event.Event.{Event}
-use Rattle.history.specs.declared.fault.HistoryFault.{HistoryFault}
-use Rattle.history.specs.declared.fault.HistoryFault.TheVariants as histories
-use Rattle.history.specs.Histories.{IsHistory}
-use Rattle.history.specs.Operations.{operations}
-use Rattle.history.specs.Texts.{Spells}
-use Rattle.history.specs.TextFaults.{IsTextFault}
+use Rattle.events.specs.declared.event.Event.{Event}
+use Rattle.events.specs.declared.fault.HistoryFault.{HistoryFault}
+use Rattle.events.specs.declared.fault.HistoryFault.TheVariants as histories
+use Rattle.events.specs.Histories.{IsHistory}
+use Rattle.events.specs.Operations.{operations}
+use Rattle.history_text.specs.Texts.{Spells}
+use Rattle.history_text.specs.TextFaults.{IsTextFault}
 use Rattle.judge.specs.declared.verdict.Verdict.{Verdict}
 use Rattle.judge.specs.declared.fault.JudgeFault.{JudgeFault}
 use Rattle.judge.specs.declared.fault.JudgeFault.TheVariants.{History, Memory}

@@ -1,8 +1,8 @@
 -- The report of a verdict: JSON, with members by rising bytes.
 use Rattle.std.specs.Prelude.{ℕ, List, map, codes}
 use Rattle.serde_json.specs.Data.{Data, string, object, no_members, member}
-use Rattle.history.specs.Texts.{number_data, list_data}
-use Rattle.history.specs.SegmentView.{SegmentView}
+use Rattle.history_text.specs.Texts.{number_data, list_data}
+use Rattle.segments.specs.SegmentView.{SegmentView}
 use Rattle.judge.specs.declared.verdict.Verdict.{Verdict}
 use Rattle.judge.specs.declared.verdict.Verdict.TheVariants.{Yes, No, Undecided}
 
@@ -12,7 +12,9 @@ numbers_data numbers = list_data (map number_data numbers)
 
 -- a segment that a verdict names, by this word
 abbrev pub segment_data : SegmentView → List ℕ → Data
-segment_data segment word = object (member (codes "calls") (numbers_data segment.numbers) (member (codes "hi") (number_data segment.hi) (member (codes "lo") (number_data segment.lo) (member (codes "verdict") (string word) no_members))))
+segment_data segment word =
+    object (member (codes "calls") (numbers_data segment.numbers)
+    (member (codes "hi") (number_data segment.hi) (member (codes "lo") (number_data segment.lo) (member (codes "verdict") (string word) no_members))))
 
 -- a verdict
 abbrev pub verdict_data : Verdict → Data

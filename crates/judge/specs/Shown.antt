@@ -1,7 +1,7 @@
 -- What each verdict says of a history.
 use Rattle.std.specs.Prelude.{ℕ, List}
-use Rattle.history.specs.declared.operation.Operation.{Operation}
-use Rattle.history.specs.MapObject.{Contents}
+use Rattle.events.specs.declared.operation.Operation.{Operation}
+use Rattle.map_object.specs.MapObject.{Contents}
 use Rattle.judge.specs.declared.verdict.Verdict.{Verdict}
 use Rattle.judge.specs.declared.verdict.Verdict.TheVariants.{Yes, No, Undecided}
 use Rattle.judge.specs.Shows.{ShowsYes, ShowsNo, ShowsUndecided}

@@ -1,14 +1,15 @@
--- What a verdict shows of the calls of a history, where these pairs stand in the map before the first call. Orders are the linearizations of Herlihy and Wing 1990, section 2.
+-- What a verdict shows of the calls of a history, where these pairs stand in the map before the first call. Orders are the linearizations of Herlihy and Wing
+-- 1990, section 2.
 use Rattle.std.specs.Prelude.{◌⊎◌, ℕ, List, ◌∷◌, ◌++◌, All}
 use Rattle.std.specs.List.{AllZip}
-use Rattle.history.specs.declared.operation.Operation.{Operation}
-use Rattle.history.specs.MapObject.{Contents}
-use Rattle.history.specs.Orders.{IsOrder, IsLinearizable}
-use Rattle.history.specs.SegmentView.{SegmentView}
-use Rattle.history.specs.Segments.{AreSegments}
-use Rattle.history.specs.SegmentOrders.{start_of, IsOrderOf, HasNoOrder}
-use Rattle.history.specs.Merge.{IsMergedOrder}
-use Rattle.history.specs.Counts.{ReachesMoreThan}
+use Rattle.events.specs.declared.operation.Operation.{Operation}
+use Rattle.map_object.specs.MapObject.{Contents}
+use Rattle.orders.specs.Orders.{IsOrder, IsLinearizable}
+use Rattle.segments.specs.SegmentView.{SegmentView}
+use Rattle.segments.specs.Segments.{AreSegments}
+use Rattle.segments.specs.SegmentOrders.{start_of, IsOrderOf, HasNoOrder}
+use Rattle.merge_orders.specs.Merge.{IsMergedOrder}
+use Rattle.configurations.specs.Counts.{ReachesMoreThan}
 
 -- the calls of the segment have an order
 abbrev pub HasOrder : Contents → SegmentView → Type 0
@@ -22,7 +23,8 @@ IsBeyond start budget segment = ReachesMoreThan (start_of start segment) segment
 abbrev pub IsUnrefuted : Contents → ℕ → SegmentView → Type 0
 IsUnrefuted start budget segment = HasOrder start segment ⊎ IsBeyond start budget segment
 
--- yes: an order of the whole history, with all completed and some pending calls, that keeps each response-before-invocation pair and in which a sorted list used alone gives every recorded reply; it merges orders of the segments
+-- yes: an order of the whole history, with all completed and some pending calls, that keeps each response-before-invocation pair and in which a sorted list
+-- used alone gives every recorded reply; it merges orders of the segments
 pub record ShowsYes (start : Contents) (calls : List Operation) (order : List ℕ) : Type 0 where
   pub segments : List SegmentView
   pub orders : List (List ℕ)

@@ -1,15 +1,16 @@
 // The verdict on a history, found by one thread.
 ghost use Rattle.std.specs.Prelude.{◌≤◌, [], IfOk};
 ghost use Rattle.std.specs.List.{AllZip};
-ghost use Rattle.history.specs.Operations.{operations};
+ghost use Rattle.events.specs.Operations.{operations};
 ghost use Rattle.search.specs.Found.{IsSoundAnswer};
 ghost use Rattle.judge.specs.Shown.{IsShown};
 
 use crate::conclusion::conclude;
 use crate::verdict::Verdict;
 use cutter::cut;
-use history::{History, Memory, Segment};
+use events::{History, Memory};
 use search::{Found, MAX_BUDGET, search};
+use segments::Segment;
 use std::alloc::Global;
 
 /// Judges a history, by a search of at most `budget` configurations in each of its segments, one after

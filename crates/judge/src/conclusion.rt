@@ -1,17 +1,18 @@
 // What the answers on all segments of a history say of the history.
 ghost use Rattle.std.specs.Prelude.{[], All, IfOk};
 ghost use Rattle.std.specs.List.{AllZip};
-ghost use Rattle.history.specs.Operations.{operations};
-ghost use Rattle.history.specs.Orders.{IsLinearizable};
-ghost use Rattle.history.specs.Segments.{AreSegments};
-ghost use Rattle.history.specs.SegmentOrders.{HasNoOrder};
+ghost use Rattle.events.specs.Operations.{operations};
+ghost use Rattle.orders.specs.Orders.{IsLinearizable};
+ghost use Rattle.segments.specs.Segments.{AreSegments};
+ghost use Rattle.segments.specs.SegmentOrders.{HasNoOrder};
 ghost use Rattle.search.specs.Found.{IsSoundAnswer};
 ghost use Rattle.judge.specs.Shown.{IsShown};
 
 use crate::verdict::Verdict;
-use history::{History, Memory, Segment};
+use events::{History, Memory};
 use merge_orders::merge;
 use search::Found;
+use segments::Segment;
 use std::alloc::Global;
 
 /// The verdict on a history whose segments have these answers, found at the budget: no with the lowest segment

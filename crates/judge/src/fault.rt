@@ -1,5 +1,5 @@
 // Why a text has no verdict.
-use history::{HistoryFault, Memory};
+use events::{HistoryFault, Memory};
 
 /// Why a text has no verdict.
 #[derive(Debug, Drop)]

@@ -9,10 +9,6 @@ mod conclusion;
 mod fault;
 mod laws;
 mod reports;
-#[cfg(test)]
-mod tests;
-#[cfg(test)]
-mod text_tests;
 mod texts;
 mod verdict;
 mod workers;

@@ -5,7 +5,8 @@ ghost use Rattle.serde_json.specs.Written.{compact_text};
 ghost use Rattle.judge.specs.Reports.{numbers_data, segment_data, verdict_data};
 
 use crate::verdict::Verdict;
-use history::{Memory, Segment};
+use events::Memory;
+use segments::Segment;
 use serde_json::{Value, json};
 use std::alloc::{AllocError, Global};
 

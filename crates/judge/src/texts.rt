@@ -1,8 +1,8 @@
 // From a history's text to its verdict and the report of it.
 ghost use Rattle.std.specs.Prelude.{◌≡◌, ◌≤◌, List, IfOk, IfErr, string_bytes};
-ghost use Rattle.history.specs.declared.event.Event.{Event};
-ghost use Rattle.history.specs.Histories.{IsHistory};
-ghost use Rattle.history.specs.Texts.{Spells};
+ghost use Rattle.events.specs.declared.event.Event.{Event};
+ghost use Rattle.events.specs.Histories.{IsHistory};
+ghost use Rattle.history_text.specs.Texts.{Spells};
 ghost use Rattle.judge.specs.declared.fault.JudgeFault.TheVariants as faults;
 ghost use Rattle.judge.specs.Judged.{IsJudged, IsUnjudged};
 
@@ -10,7 +10,7 @@ use crate::fault::JudgeFault;
 use crate::reports::report;
 use crate::verdict::Verdict;
 use crate::workers::judge;
-use history::read_history;
+use history_text::read_history;
 use pool::{Gate, MAX_WORKERS};
 use search::MAX_BUDGET;
 use std::alloc::Global;

@@ -1,4 +1,4 @@
-use history::Segment;
+use segments::Segment;
 
 /// What the judge finds out of a history.
 #[derive(Debug, Drop)]

@@ -1,12 +1,12 @@
 // The verdict on a history, found by workers.
 ghost use Rattle.std.specs.Prelude.{◌≤◌, [], IfOk};
-ghost use Rattle.history.specs.Operations.{operations};
+ghost use Rattle.events.specs.Operations.{operations};
 ghost use Rattle.judge.specs.Shown.{IsShown};
 
 use crate::conclusion::conclude;
 use crate::verdict::Verdict;
 use cutter::cut;
-use history::{History, Memory};
+use events::{History, Memory};
 use pool::{Gate, MAX_WORKERS, search_all};
 use search::MAX_BUDGET;
 use std::alloc::Global;

@@ -1,6 +1,6 @@
 -- Where a key stands among pairs by rising key, or would stand.
 use Rattle.std.specs.Prelude.{◌≡◌, ℕ, suc, ◌<◌, ◌≤◌, length, slice_index_or, Some, None, take, drop}
-use Rattle.history.specs.MapObject.{Contents, value_at, below, above}
+use Rattle.map_object.specs.MapObject.{Contents, value_at, below, above}
 
 -- the pair at place i has the key: the pairs before it are those below the key, those after it are those above
 pub record IsAt (m : Contents) (key i : ℕ) : Type 0 where

@@ -2,12 +2,7 @@
 //! answers, and which pairs a call leaves, stands in `history`'s definitions of the object.
 #![tactic(auto)]
 
-mod laws;
 mod replies;
 mod sorted_map;
 
-pub use laws::legal_lists_lead;
 pub use sorted_map::SortedMap;
-
-#[cfg(test)]
-mod tests;

@@ -1,9 +1,9 @@
 // Replies of the map, made and compared.
 ghost use Rattle.std.specs.Prelude.{◌≡◌, ◌↔◌, IsTrue};
-ghost use Rattle.history.specs.MapObject.{value_reply};
-ghost use Rattle.history.specs.declared.event.Reply.TheVariants as replies;
+ghost use Rattle.map_object.specs.MapObject.{value_reply};
+ghost use Rattle.events.specs.declared.event.Reply.TheVariants as replies;
 
-use history::Reply;
+use events::Reply;
 
 /// A value or none, as a reply.
 pub fn value_reply(value: Option<u64>) -> Reply

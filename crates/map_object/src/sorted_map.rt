@@ -1,10 +1,10 @@
 // The sorted map.
 ghost use Rattle.std.specs.Prelude.{◌≡◌, ◌↔◌, ◌++◌, ◌∷◌, [], IsTrue, IfOk, IfErr, OnOk, OnErr};
-ghost use Rattle.history.specs.MapObject.{IsRising, IsLegalReply, value_at, below, above, within, reply_to, after};
+ghost use Rattle.map_object.specs.MapObject.{IsRising, IsLegalReply, value_at, below, above, within, reply_to, after};
 ghost use Rattle.map_object.specs.Places.{IsAt, IsGapFor};
 
 use crate::replies::{is_list, is_value, value_reply};
-use history::{Call, Memory, Pairs, Reply};
+use events::{Call, Memory, Pairs, Reply};
 use std::alloc::Global;
 use std::marker::Model;
 
@@ -15,7 +15,7 @@ pub struct SortedMap {
 }
 
 impl Model for SortedMap {
-    ghost use Rattle.history.specs.MapObject.{Contents, IsRising};
+    ghost use Rattle.map_object.specs.MapObject.{Contents, IsRising};
 
     ghost Value = { Contents };
 
@@ -52,7 +52,8 @@ impl SortedMap {
 
     /// The value at a key, found by halves.
     pub fn value(&self, key: u64) -> Option<u64>
-        ensures { result ≡ value_at self.now key }
+        ensures value { result ≡ value_at self.now key }
+        ensures rising { IsRising self.now }
     {
         match self.place(key) {
             Ok(at) => Some(self.pairs[at].1),

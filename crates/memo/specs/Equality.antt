@@ -5,8 +5,8 @@ use Rattle.std.specs.Cmp.{IsEquivalence, decided, unsigned_Decides}
 use Rattle.std.specs.Cmp.Lexicographic.{pointwise, pointwise_decides}
 use Rattle.std.proofs.Common.{ap, ap₂}
 use Rattle.std.proofs.lemmas.Bool.Decides.{Decides-and, Decides-like}
-use Rattle.history.specs.Configurations.{Configuration}
-use Rattle.history.proofs.ConfigurationLemmas.{same_configuration}
+use Rattle.configurations.specs.Configurations.{Configuration}
+use Rattle.configurations.proofs.ConfigurationLemmas.{same_configuration}
 
 -- two pairs have the same key and the same value
 abbrev pub is_same_pair : ℕ × ℕ → ℕ × ℕ → Bool
@@ -22,11 +22,16 @@ pair_of key value = (key, value)
 
 -- pairs are the same where their keys and their values are
 Decides-is_same_pair : (a b : ℕ × ℕ) → Decides (is_same_pair a b) (a ≡ b)
-Decides-is_same_pair a b = Decides-like (is_same_pair a b) (λ e. ap₂ pair_of e.0 e.1) (λ e. (ap (λ (p : ℕ × ℕ). p.0) e, ap (λ (p : ℕ × ℕ). p.1) e)) (Decides-and (a.0 == b.0) (a.1 == b.1) (unsigned_Decides a.0 b.0) (unsigned_Decides a.1 b.1))
+Decides-is_same_pair a b =
+    Decides-like (is_same_pair a b) (λ e. ap₂ pair_of e.0 e.1) (λ e. (ap (λ (p : ℕ × ℕ). p.0) e, ap (λ (p : ℕ × ℕ). p.1) e))
+    (Decides-and (a.0 == b.0) (a.1 == b.1) (unsigned_Decides a.0 b.0) (unsigned_Decides a.1 b.1))
 
 -- configurations are the same where their calls taken and their pairs are
 pub Decides-is_same : (a b : Configuration) → Decides (is_same a b) (a ≡ b)
-Decides-is_same a b = Decides-like (is_same a b) (λ e. same_configuration a b e.0 e.1) (λ e. (ap (λ (c : Configuration). c.taken) e, ap (λ (c : Configuration). c.pairs) e)) (Decides-and (pointwise ◌==◌ a.taken b.taken) (pointwise is_same_pair a.pairs b.pairs) (pointwise_decides unsigned_Decides a.taken b.taken) (pointwise_decides Decides-is_same_pair a.pairs b.pairs))
+Decides-is_same a b =
+    Decides-like (is_same a b) (λ e. same_configuration a b e.0 e.1) (λ e. (ap (λ (c : Configuration). c.taken) e, ap (λ (c : Configuration). c.pairs) e))
+    (Decides-and (pointwise ◌==◌ a.taken b.taken) (pointwise is_same_pair a.pairs b.pairs) (pointwise_decides unsigned_Decides a.taken b.taken)
+    (pointwise_decides Decides-is_same_pair a.pairs b.pairs))
 
 -- the test is an equivalence
 pub is_same-equivalence : IsEquivalence is_same

@@ -3,7 +3,7 @@ ghost use Rattle.std.specs.Prelude.{◌≡◌, ◌⊎◌, ◌↔◌, ℕ, [], Is
 ghost use Rattle.std.specs.List.Sorted.{IsStrictlyIncreasing};
 ghost use Rattle.memo.specs.Taking.{with_place};
 
-use history::Memory;
+use events::Memory;
 use map_object::SortedMap;
 use std::alloc::Global;
 use std::marker::Model;
@@ -18,7 +18,7 @@ pub struct Config {
 
 impl Model for Config {
     ghost use Rattle.std.specs.List.Sorted.{IsStrictlyIncreasing};
-    ghost use Rattle.history.specs.Configurations.{Configuration};
+    ghost use Rattle.configurations.specs.Configurations.{Configuration};
 
     ghost Value = { Configuration };
 

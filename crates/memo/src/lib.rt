@@ -8,6 +8,3 @@ mod memo;
 
 pub use config::Config;
 pub use memo::Memo;
-
-#[cfg(test)]
-mod tests;

@@ -1,9 +1,9 @@
 // The memo of a search.
-ghost use Rattle.std.specs.Prelude.{◌≡◌, ◌↔◌, ◌++◌, ◌∷◌, [], length, IsTrue, IfOk, IfErr, OnErr, Contains, if◌then◌else◌};
-ghost use Rattle.history.specs.Counts.{AreDistinct};
+ghost use Rattle.std.specs.Prelude.{◌≡◌, ◌↔◌, ◌++◌, ◌∷◌, [], length, IsTrue, Some, slice_get, ◌<◌, IfOk, IfErr, OnErr, Contains, if◌then◌else◌};
+ghost use Rattle.configurations.specs.Counts.{AreDistinct};
 
 use crate::config::Config;
-use history::Memory;
+use events::Memory;
 use std::alloc::Global;
 use std::marker::Model;
 
@@ -16,8 +16,8 @@ pub struct Memo {
 
 impl Model for Memo {
     ghost use Rattle.std.specs.Prelude.{List};
-    ghost use Rattle.history.specs.Configurations.{Configuration};
-    ghost use Rattle.history.specs.Counts.{AreDistinct};
+    ghost use Rattle.configurations.specs.Configurations.{Configuration};
+    ghost use Rattle.configurations.specs.Counts.{AreDistinct};
 
     ghost Value = { List Configuration };
 
@@ -53,6 +53,14 @@ impl Memo {
             Ok(()) => Ok(true),
             Err(refused) => Err((refused.value, Memory)),
         }
+    }
+
+    /// The configuration that was visited after `place` others.
+    pub fn at(&self, place: usize) -> &Config
+        requires { place < length self.now }
+        ensures { slice_get self.now place ≡ Some result.now }
+    {
+        &self.visited[place]
     }
 
     /// How many configurations were visited.

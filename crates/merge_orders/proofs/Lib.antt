@@ -1,6 +1,8 @@
 mod OnceLemmas
 mod PlacedLemmas
 mod SortedLemmas
-mod ComputedLemmas
-mod SingleKeyLemmas
-mod SmallHistories
+mod DisjointLemmas
+mod MergeLemmas
+mod PointLemmas
+mod SortedMergeLemmas
+mod UniqueMergeLemmas

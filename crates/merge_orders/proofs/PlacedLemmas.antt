@@ -6,13 +6,14 @@ use Rattle.std.proofs.lemmas.List.{take_more, map_more, map-append, append-nil, 
 use Rattle.std.proofs.lemmas.List.Folds.{concat-append}
 use Rattle.std.proofs.lemmas.List.Elements.{All-head, All-tail}
 use Rattle.std.proofs.lemmas.Option.{slice_get-get_or, slice_get_within, get_or_from_slice_get}
-use Rattle.history.specs.declared.operation.Operation.{Operation}
-use Rattle.history.specs.Lists.{greatest}
-use Rattle.history.specs.Orders.{calls_at}
-use Rattle.history.proofs.Lists.{Contains-at, All-from_contains}
-use Rattle.history.proofs.OrderLemmas.{greatest-push, calls_at-more}
-use Rattle.history.proofs.PointLemmas.{point_in-at}
-use Rattle.history.proofs.DisjointLemmas.{AreDisjoint, point_of-in}
+use Rattle.events.specs.declared.operation.Operation.{Operation}
+use Rattle.list_laws.specs.Lists.{greatest}
+use Rattle.orders.specs.Orders.{calls_at}
+use Rattle.list_laws.proofs.Lists.{Contains-at, All-from_contains}
+use Rattle.list_laws.proofs.NumberLemmas.{greatest-push}
+use Rattle.orders.proofs.OrderLemmas.{calls_at-more}
+use Rattle.merge_orders.proofs.PointLemmas.{point_in-at}
+use Rattle.merge_orders.proofs.DisjointLemmas.{AreDisjoint, point_of-in}
 use Rattle.merge_orders.specs.declared.points.CallAtPoint.{CallAtPoint}
 use Rattle.merge_orders.specs.Points.{at_point_in, at_point}
 
@@ -29,8 +30,10 @@ latest-more calls order i d a below here =
     ∙ (ap greatest (map-append inv (calls_at calls (take i order)) (a ∷ [])) ∙ greatest-push (map inv (calls_at calls (take i order))) a.inv)
 
 -- one call more of an order, with its point
-pub at_point_in-more : (calls : List Operation) (order : List ℕ) (i d : ℕ) (a : Operation) → AllPairs (λ m n. m ≢ n) order → i < length order → slice_get calls (get_or order i d) ≡ Some a
-    → map (at_point_in calls order) (take (i + 1) order) ≡ map (at_point_in calls order) (take i order) ++ record { point = max (latest calls order i) a.inv; number = get_or order i d } ∷ []
+pub at_point_in-more : (calls : List Operation) (order : List ℕ) (i d : ℕ) (a : Operation) → AllPairs (λ m n. m ≢ n) order → i < length order
+    → slice_get calls (get_or order i d) ≡ Some a
+    → map (at_point_in calls order) (take (i + 1) order) ≡ map (at_point_in calls order)
+    (take i order) ++ record { point = max (latest calls order i) a.inv; number = get_or order i d } ∷ []
 at_point_in-more calls order i d a distinct below here =
     let n = get_or order i d in
     let point = point_in-at calls order i n distinct (slice_get-get_or order i d below) ∙ latest-more calls order i d a below here in
@@ -38,7 +41,8 @@ at_point_in-more calls order i d a distinct below here =
     ∙ ap (λ (p : ℕ). let call : CallAtPoint = record { point = p; number = n } in map (at_point_in calls order) (take i order) ++ call ∷ []) point
 
 -- one element more behind a list and what was put behind it
-pub behind-more : {X : Type 0} (old done more now next : List X) (x y : X) → now ≡ old ++ done → more ≡ done ++ x ∷ [] → next ≡ now ++ y ∷ [] → y ≡ x → next ≡ old ++ more
+pub behind-more : {X : Type 0} (old done more now next : List X) (x y : X) → now ≡ old ++ done → more ≡ done ++ x ∷ [] → next ≡ now ++ y ∷ [] → y ≡ x
+    → next ≡ old ++ more
 behind-more old done more now next x y so_far step push same = let joined = append_assoc old done (x ∷ []) in cc
 
 -- two functions that agree on a list map it alike
@@ -53,7 +57,8 @@ at_point-more calls orders i order disjoint here =
     let f = at_point calls orders in
     let before = concat (take i orders) in
     let is = Contains-at orders i order here in
-    let step : take (i + 1) orders ≡ take i orders ++ order ∷ [] = rw (← get_or_from_slice_get orders i order order here) (take_more orders i order (slice_get_within orders i order here)) in
+    let step : take (i + 1) orders ≡ take i orders ++ order ∷ [] =
+    rw (← get_or_from_slice_get orders i order order here) (take_more orders i order (slice_get_within orders i order here)) in
     let all : concat (take (i + 1) orders) ≡ before ++ order =
     ap concat step ∙ (concat-append (take i orders) (order ∷ []) ∙ ap (λ rest. before ++ rest) (append-nil order)) in
     let same : map f order ≡ map (at_point_in calls order) order =

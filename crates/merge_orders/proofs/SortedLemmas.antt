@@ -1,5 +1,6 @@
 -- A stable sort of all calls by their points is the merged order.
-use Rattle.std.proofs.Common.{◌≡◌, ℕ, ◌<◌, ◌≤◌, ◌==◌, Bool, true, false, cond, List, [], ◌∷◌, get_or, map, filter, not, ◌&&◌, refl, sym, ap, ◌∙◌, subst, ⊎_elim, arith}
+use Rattle.std.proofs.Common.{◌≡◌, ℕ, ◌<◌, ◌≤◌, ◌==◌, Bool, true, false, cond, List, [], ◌∷◌, get_or, map, filter, not, ◌&&◌, refl, sym, ap, ◌∙◌, subst, ⊎_elim}
+use Rattle.std.proofs.Common.{arith}
 use Rattle.std.specs.Prelude.{All, AllPairs, IsPermutation}
 use Rattle.std.specs.List.{concat}
 use Rattle.std.specs.List.Sorted.{IsSortedByKey, IsStableByKey}
@@ -7,10 +8,10 @@ use Rattle.std.specs.Ordering.{nat_cmp, is_lt}
 use Rattle.std.proofs.lemmas.Bool.{lt-ltb, le-ltb, eq-eqb, ne_eqb, cases_order}
 use Rattle.std.proofs.lemmas.List.Elements.{All-head, All-tail, All-map}
 use Rattle.std.proofs.lemmas.List.Sorted.{IsPermutation-map, All-permutation, IsNonDecreasingBy-from_sort}
-use Rattle.history.specs.declared.operation.Operation.{Operation}
-use Rattle.history.specs.Merge.{point_of, IsMergedOrder}
-use Rattle.history.proofs.FilterLemmas.{AllPairs-map}
-use Rattle.history.proofs.SortedMergeLemmas.{IsMergedOrder-from_sort}
+use Rattle.events.specs.declared.operation.Operation.{Operation}
+use Rattle.merge_orders.specs.Merge.{point_of, IsMergedOrder}
+use Rattle.list_laws.proofs.FilterLemmas.{AllPairs-map}
+use Rattle.merge_orders.proofs.SortedMergeLemmas.{IsMergedOrder-from_sort}
 use Rattle.merge_orders.specs.declared.points.CallAtPoint.{CallAtPoint}
 use Rattle.merge_orders.specs.OrdersOfSegments.{NameCallsOnce}
 use Rattle.merge_orders.specs.Points.{at_point}
@@ -37,7 +38,8 @@ filter-map : {X Y : Type 0} (p : Y → Bool) (f : X → Y) (xs : List X) → fil
 filter-map p f [] = refl
 filter-map p f (x ∷ xs) = kept (p (f x)) (filter-map p f xs)
   where
-    kept : (b : Bool) → filter p (map f xs) ≡ map f (filter (λ x. p (f x)) xs) → cond b (f x ∷ filter p (map f xs)) (filter p (map f xs)) ≡ map f (cond b (x ∷ filter (λ x. p (f x)) xs) (filter (λ x. p (f x)) xs))
+    kept : (b : Bool) → filter p (map f xs) ≡ map f (filter (λ x. p (f x)) xs)
+        → cond b (f x ∷ filter p (map f xs)) (filter p (map f xs)) ≡ map f (cond b (x ∷ filter (λ x. p (f x)) xs) (filter (λ x. p (f x)) xs))
     kept true rest = ap (λ ys. f x ∷ ys) rest
     kept false rest = rest
 
@@ -52,9 +54,12 @@ numbers-at_point calls orders [] = refl
 numbers-at_point calls orders (n ∷ ns) = ap (λ rest. n ∷ rest) (numbers-at_point calls orders ns)
 
 -- all calls with their points, sorted by them, where equal points keep their places
-pub IsMergedOrder-sorted : (calls : List Operation) (orders : List (List ℕ)) (placed sorted : List CallAtPoint) → NameCallsOnce calls orders → placed ≡ map (at_point calls orders) (concat orders) → IsPermutation placed sorted → IsSortedByKey (λ c. c.point) nat_cmp sorted → IsStableByKey (λ c. c.point) nat_cmp placed sorted
+pub IsMergedOrder-sorted : (calls : List Operation) (orders : List (List ℕ)) (placed sorted : List CallAtPoint) → NameCallsOnce calls orders
+    → placed ≡ map (at_point calls orders) (concat orders) → IsPermutation placed sorted → IsSortedByKey (λ c. c.point) nat_cmp sorted
+    → IsStableByKey (λ c. c.point) nat_cmp placed sorted
     → IsMergedOrder calls orders (map (λ c. c.number) sorted)
-IsMergedOrder-sorted calls orders placed sorted once is same_calls up stable = IsMergedOrder-from_sort calls orders (map (λ c. c.number) sorted) once.disjoint once.distinct permuted by_point kept
+IsMergedOrder-sorted calls orders placed sorted once is same_calls up stable =
+    IsMergedOrder-from_sort calls orders (map (λ c. c.number) sorted) once.disjoint once.distinct permuted by_point kept
   where
     -- each call stands with its point
     points : All (λ c. c.point ≡ point_of calls orders c.number) sorted
@@ -62,21 +67,31 @@ IsMergedOrder-sorted calls orders placed sorted once is same_calls up stable = I
         (rw is (All-map (λ c. c.point ≡ point_of calls orders c.number) (at_point calls orders) (concat orders) (λ k d within. refl)))
 
     permuted : IsPermutation (concat orders) (map (λ c. c.number) sorted)
-    permuted = subst (λ ns. IsPermutation ns (map (λ c. c.number) sorted)) (ap (map (λ c. c.number)) is ∙ numbers-at_point calls orders (concat orders)) (IsPermutation-map (λ c. c.number) placed sorted same_calls)
+    permuted =
+        subst (λ ns. IsPermutation ns (map (λ c. c.number) sorted)) (ap (map (λ c. c.number)) is ∙ numbers-at_point calls orders (concat orders))
+        (IsPermutation-map (λ c. c.number) placed sorted same_calls)
 
     by_point : AllPairs (λ m n. point_of calls orders m ≤ point_of calls orders n) (map (λ c. c.number) sorted)
     by_point = AllPairs-map (λ m n. point_of calls orders m ≤ point_of calls orders n) (λ c. c.number) sorted
-        (λ i j d before within. omega (arith, IsNonDecreasingBy-from_sort (λ c. c.point) sorted up i j d (omega arith) within, points i d (omega arith), points j d within))
+        (λ i j d before within. omega
+        (arith, IsNonDecreasingBy-from_sort (λ c. c.point) sorted up i j d (omega arith) within, points i d (omega arith), points j d within))
 
     -- the calls at a place, among those with their points
-    at_place : (place : ℕ) (cs : List CallAtPoint) → filter (λ c. not (is_lt (nat_cmp place c.point)) && not (is_lt (nat_cmp c.point place))) cs ≡ filter (λ c. c.point == place) cs
-    at_place place cs = filter_agree (λ c. not (is_lt (nat_cmp place c.point)) && not (is_lt (nat_cmp c.point place))) (λ c. c.point == place) cs (λ k d within. tie_is_same place (get_or cs k d).point)
+    at_place : (place : ℕ) (cs : List CallAtPoint)
+        → filter (λ c. not (is_lt (nat_cmp place c.point)) && not (is_lt (nat_cmp c.point place))) cs ≡ filter (λ c. c.point == place) cs
+    at_place place cs =
+        filter_agree (λ c. not (is_lt (nat_cmp place c.point)) && not (is_lt (nat_cmp c.point place))) (λ c. c.point == place) cs
+        (λ k d within. tie_is_same place (get_or cs k d).point)
 
-    kept : (place : ℕ) → filter (λ n. point_of calls orders n == place) (map (λ c. c.number) sorted) ≡ filter (λ n. point_of calls orders n == place) (concat orders)
+    kept : (place : ℕ)
+        → filter (λ n. point_of calls orders n == place) (map (λ c. c.number) sorted) ≡ filter (λ n. point_of calls orders n == place) (concat orders)
     kept place =
         let here = λ (c : CallAtPoint). c.point == place in
         let number = λ (c : CallAtPoint). c.number in
-        let same : filter here sorted ≡ filter here placed = sym (at_place place sorted) ∙ (stable (record { point = place; number = 0 }) ∙ at_place place placed) in
+        let same : filter here sorted ≡ filter here placed =
+        sym (at_place place sorted) ∙ (stable (record { point = place; number = 0 }) ∙ at_place place placed) in
         filter-map (λ n. point_of calls orders n == place) number sorted
-        ∙ (ap (map number) (filter_agree (λ c. point_of calls orders c.number == place) here sorted (λ k d within. ap (λ p. p == place) (sym (points k d within))) ∙ (same ∙ (ap (filter here) is ∙ filter-map here (at_point calls orders) (concat orders))))
+        ∙ (ap (map number)
+        (filter_agree (λ c. point_of calls orders c.number == place) here sorted (λ k d within. ap (λ p. p == place) (sym (points k d within)))
+        ∙ (same ∙ (ap (filter here) is ∙ filter-map here (at_point calls orders) (concat orders))))
         ∙ numbers-at_point calls orders (filter (λ n. point_of calls orders n == place) (concat orders)))

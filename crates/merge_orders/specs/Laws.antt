@@ -1,11 +1,11 @@
 -- Laws of the points of calls and of the merged order.
 use Rattle.std.specs.Prelude.{◌≡◌, ◌≢◌, ℕ, List, AllPairs, Contains}
-use Rattle.history.specs.declared.event.Event.{Event}
-use Rattle.history.specs.declared.operation.Operation.{Operation}
-use Rattle.history.specs.MapObject.{Contents}
-use Rattle.history.specs.Histories.{IsHistory}
-use Rattle.history.specs.Operations.{operations}
-use Rattle.history.specs.Merge.{point_of, IsMergedOrder}
+use Rattle.events.specs.declared.event.Event.{Event}
+use Rattle.events.specs.declared.operation.Operation.{Operation}
+use Rattle.map_object.specs.MapObject.{Contents}
+use Rattle.events.specs.Histories.{IsHistory}
+use Rattle.events.specs.Operations.{operations}
+use Rattle.merge_orders.specs.Merge.{point_of, IsMergedOrder}
 use Rattle.merge_orders.specs.OrdersOfSegments.{AreOrdersOfSegments}
 
 -- a call of one order and a call of another have different points
@@ -14,9 +14,12 @@ ShareNoPoint calls orders = AllPairs (λ order other. (m n : ℕ) → Contains o
 
 -- no two segments of a history share a point, whatever orders they have
 abbrev pub SegmentsShareNoPoint : Type 0
-SegmentsShareNoPoint = (start : Contents) (events : List Event) (orders : List (List ℕ)) → IsHistory events → AreOrdersOfSegments start (operations events) orders → ShareNoPoint (operations events) orders
+SegmentsShareNoPoint =
+    (start : Contents) (events : List Event) (orders : List (List ℕ)) → IsHistory events → AreOrdersOfSegments start (operations events) orders
+    → ShareNoPoint (operations events) orders
 
 -- orders of the segments of a history have one merged order only
 abbrev pub HasOneMergedOrder : Type 0
-HasOneMergedOrder = (start : Contents) (events : List Event) (orders : List (List ℕ)) (a b : List ℕ) → IsHistory events → AreOrdersOfSegments start (operations events) orders
+HasOneMergedOrder =
+    (start : Contents) (events : List Event) (orders : List (List ℕ)) (a b : List ℕ) → IsHistory events → AreOrdersOfSegments start (operations events) orders
     → IsMergedOrder (operations events) orders a → IsMergedOrder (operations events) orders b → a ≡ b

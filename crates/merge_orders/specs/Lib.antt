@@ -1,3 +1,4 @@
 pub mod OrdersOfSegments
 pub mod Points
 pub mod Laws
+pub mod Merge

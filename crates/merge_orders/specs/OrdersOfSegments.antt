@@ -1,11 +1,11 @@
 -- Orders that can be merged.
 use Rattle.std.specs.Prelude.{◌≢◌, ℕ, ◌<◌, List, length, All, AllPairs, Contains}
 use Rattle.std.specs.List.{AllZip}
-use Rattle.history.specs.declared.operation.Operation.{Operation}
-use Rattle.history.specs.MapObject.{Contents}
-use Rattle.history.specs.SegmentView.{SegmentView}
-use Rattle.history.specs.Segments.{AreSegments}
-use Rattle.history.specs.SegmentOrders.{IsOrderOf}
+use Rattle.events.specs.declared.operation.Operation.{Operation}
+use Rattle.map_object.specs.MapObject.{Contents}
+use Rattle.segments.specs.SegmentView.{SegmentView}
+use Rattle.segments.specs.Segments.{AreSegments}
+use Rattle.segments.specs.SegmentOrders.{IsOrderOf}
 
 -- one order for each segment of the calls, by rising key, and none where there is no segment
 abbrev pub AreOrdersOfSegments : Contents → List Operation → List (List ℕ) → Type 0

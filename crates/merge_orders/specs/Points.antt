@@ -1,7 +1,7 @@
 -- Calls with their points.
 use Rattle.std.specs.Prelude.{ℕ, List}
-use Rattle.history.specs.declared.operation.Operation.{Operation}
-use Rattle.history.specs.Merge.{point_in, point_of}
+use Rattle.events.specs.declared.operation.Operation.{Operation}
+use Rattle.merge_orders.specs.Merge.{point_in, point_of}
 use Rattle.merge_orders.specs.declared.points.CallAtPoint.{CallAtPoint}
 
 -- a call of an order, with its point there

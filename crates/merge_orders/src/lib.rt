@@ -8,6 +8,3 @@ mod points;
 
 pub use laws::{one_merged_order, segments_share_no_point};
 pub use merged::merge;
-
-#[cfg(test)]
-mod tests;

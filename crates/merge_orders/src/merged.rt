@@ -1,12 +1,12 @@
 // The merged order.
 ghost use Rattle.std.specs.Prelude.{◌≡◌, [], map, IfOk};
-ghost use Rattle.history.specs.Merge.{IsMergedOrder};
-ghost use Rattle.history.specs.Operations.{operations};
-ghost use Rattle.history.specs.Orders.{IsOrder};
+ghost use Rattle.merge_orders.specs.Merge.{IsMergedOrder};
+ghost use Rattle.events.specs.Operations.{operations};
+ghost use Rattle.orders.specs.Orders.{IsOrder};
 ghost use Rattle.merge_orders.specs.OrdersOfSegments.{AreOrdersOfSegments};
 
 use crate::points::{calls_at_points, numbers_of};
-use history::{History, Memory};
+use events::{History, Memory};
 use std::alloc::Global;
 
 /// The merged order of the segments' orders: their calls by rising point, and those of one segment as its

@@ -4,7 +4,7 @@ ghost use Rattle.std.specs.List.{concat};
 ghost use Rattle.merge_orders.specs.OrdersOfSegments.{NameCallsOnce};
 ghost use Rattle.merge_orders.specs.Points.{at_point_in, at_point};
 
-use history::{Memory, Operation};
+use events::{Memory, Operation};
 use std::alloc::Global;
 
 /// A call by its number, with its point: the greatest place of an invocation up to it in its order.

@@ -1,11 +1,12 @@
 -- Answers at their segments' places, as they become known.
-use Rattle.std.proofs.Common.{◌≡◌, ℕ, zero, suc, ◌<◌, List, [], ◌∷◌, ◌++◌, length, map, Option, Some, None, slice_set, replicate, fold, All, ap, refl, arith, length-append, length-set}
+use Rattle.std.proofs.Common.{◌≡◌, ℕ, zero, suc, ◌<◌, List, [], ◌∷◌, ◌++◌, length, map, Option, Some, None, slice_set, replicate, fold, All, ap, refl, arith}
+use Rattle.std.proofs.Common.{length-append, length-set}
 use Rattle.std.proofs.lemmas.List.{length-map}
 use Rattle.std.proofs.lemmas.List.Elements.{All-head, All-rest, All-tail}
 use Rattle.std.specs.List.{AllZip, HoldsAt}
 use Rattle.std.specs.Option.{IfSome}
-use Rattle.history.specs.MapObject.{Contents}
-use Rattle.history.specs.SegmentView.{SegmentView}
+use Rattle.map_object.specs.MapObject.{Contents}
+use Rattle.segments.specs.SegmentView.{SegmentView}
 use Rattle.search.specs.Found.{IsSoundAnswer}
 use Rattle.search.specs.declared.found.Found.{Found}
 use Rattle.pool.specs.declared.worker.SegmentAnswer.{SegmentAnswer}

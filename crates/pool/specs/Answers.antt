@@ -1,8 +1,8 @@
 -- What a worker's answer says.
 use Rattle.std.specs.Prelude.{ℕ, ◌<◌, List, length}
 use Rattle.std.specs.List.{HoldsAt}
-use Rattle.history.specs.MapObject.{Contents}
-use Rattle.history.specs.SegmentView.{SegmentView}
+use Rattle.map_object.specs.MapObject.{Contents}
+use Rattle.segments.specs.SegmentView.{SegmentView}
 use Rattle.search.specs.Found.{IsSoundAnswer}
 use Rattle.pool.specs.declared.worker.SegmentAnswer.{SegmentAnswer}
 

@@ -1,7 +1,7 @@
 -- Answers that are known so far, at the places of their segments.
 use Rattle.std.specs.Prelude.{ℕ, List, Option, Some, IfSome, slice_set}
-use Rattle.history.specs.MapObject.{Contents}
-use Rattle.history.specs.SegmentView.{SegmentView}
+use Rattle.map_object.specs.MapObject.{Contents}
+use Rattle.segments.specs.SegmentView.{SegmentView}
 use Rattle.search.specs.declared.found.Found.{Found}
 use Rattle.search.specs.Found.{IsSoundAnswer}
 use Rattle.pool.specs.declared.worker.SegmentAnswer.{SegmentAnswer}

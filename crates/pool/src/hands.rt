@@ -2,7 +2,7 @@
 ghost use Rattle.std.specs.Prelude.{◌≡◌, ◌*◌, ◌≤◌, All, IfOk, vec_len};
 ghost use Rattle.tickets.specs.Hands.{counter, counter_of, left_of};
 
-use history::Memory;
+use events::Memory;
 use std::alloc::Global;
 use tickets::{Hand, MAX_QUOTA, Tickets};
 

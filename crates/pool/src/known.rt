@@ -7,8 +7,9 @@ ghost use Rattle.pool.specs.Known.{with_answer, IsSoundIfKnown};
 
 use crate::gate::Gate;
 use crate::worker::{SegmentAnswer, enter_and_search};
-use history::{Memory, Segment};
+use events::Memory;
 use search::{Found, MAX_BUDGET};
+use segments::Segment;
 use std::alloc::Global;
 
 /// The answers at their segments' places, and none at the others.

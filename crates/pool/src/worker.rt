@@ -6,8 +6,9 @@ ghost use Rattle.tickets.specs.Hands.{counter, counter_of};
 ghost use Rattle.pool.specs.Answers.{AnswersOneOf};
 
 use crate::gate::Gate;
-use history::{Memory, Segment};
+use events::Memory;
 use search::{Found, MAX_BUDGET, search};
+use segments::Segment;
 use std::alloc::Global;
 use tickets::{Hand, Tickets};
 

@@ -1,5 +1,11 @@
 pub mod Remaining
-pub mod Front
-pub mod Visits
-pub mod Ending
 pub mod Found
+pub mod LeastOrder
+pub mod LeastCounts
+pub mod Cursor
+pub mod Exact
+pub mod Links
+pub mod Undo
+pub mod Standing
+pub mod Walk
+pub mod Turn

@@ -1,8 +1,7 @@
 -- Which completed calls remain.
-use Rattle.std.specs.Prelude.{◌≡◌, ◌↔◌, ℕ, ◌<◌, true, List, Option, Some, None, min, slice_get, Contains}
-use Rattle.history.specs.declared.operation.Operation.{Operation}
-use Rattle.history.specs.declared.operation.Response.{Response}
-use Rattle.history.specs.Precedence.{is_before}
+use Rattle.std.specs.Prelude.{◌≡◌, ◌↔◌, ℕ, ◌<◌, true, List, Option, Some, None, slice_get, Contains}
+use Rattle.events.specs.declared.operation.Operation.{Operation}
+use Rattle.events.specs.Precedence.{is_before}
 
 -- a call that is not taken was answered before a place
 pub record RemainsBefore (calls : List Operation) (taken : List ℕ) (place : ℕ) : Type 0 where
@@ -16,9 +15,3 @@ pub record RemainsBefore (calls : List Operation) (taken : List ℕ) (place : �
 abbrev pub IsEarliestAnswer : List Operation → List ℕ → Option ℕ → Type 0
 IsEarliestAnswer calls taken None = (place : ℕ) → RemainsBefore calls taken place → ⊥
 IsEarliestAnswer calls taken (Some answered) = (place : ℕ) → (answered < place) ↔ RemainsBefore calls taken place
-
--- the earlier of a place and that of a response, where there are any
-abbrev pub earlier : Option ℕ → Option Response → Option ℕ
-earlier place None = place
-earlier None (Some response) = Some response.res
-earlier (Some place) (Some response) = Some (min place response.res)

@@ -1,20 +1,20 @@
-//! Searches a segment for an order: Wing and Gong 1993, who take calls that may come next and go back where
-//! none may, with the memo of Lowe 2017.
+//! Searches a segment for its least order: Wing and Gong 1993, who take calls that may come next and go back
+//! where none may, with the memo of Lowe 2017.
 //!
-//! What a front, a configuration and an order are stands in `history`'s definitions.
+//! A search keeps a stack of its own and one map, on which a call is undone on the way back. What it answers
+//! is exact: it is said of all orders and fronts of the segment, and names nothing of the way there.
 #![tactic(auto)]
 
-mod ending;
-mod explore;
 mod found;
-mod front;
-mod remaining;
+mod laws;
+mod links;
+mod standing;
+mod undo;
+mod walk;
 
-pub use explore::search;
 pub use found::Found;
+pub use laws::{least_order_and_count, least_order_by_fronts, one_exact_answer};
+pub use walk::{Turn, Walk, search};
 
 /// The greatest budget of a search.
 pub const MAX_BUDGET: u32 = 1_000_000;
-
-#[cfg(test)]
-mod tests;

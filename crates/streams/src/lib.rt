@@ -11,8 +11,6 @@ mod readers;
 mod reading;
 mod sink;
 mod source;
-#[cfg(test)]
-mod tests;
 mod writers;
 mod writing;
 

@@ -69,7 +69,9 @@ module _ (quota word : ℕ) (all : List Holding) (shared : IsSharedOut quota wor
           left = let a = sum_by-replaced left_count all i h new at in let b = shared.left in omega arith;
           below = λ x lt. times x ∙ drawn_once word x _ lt (shared.below x) (shared.others x);
           others = λ x le. times x ∙ not_drawn word x _ le (shared.others x);
-          floors = All-set (λ k. k.floor ≤ word + 1) all i new (omega arith) (All-weaker (λ k. k.floor ≤ word) (λ k. k.floor ≤ word + 1) (λ k le. omega arith) all shared.floors);
+          floors =
+              All-set (λ k. k.floor ≤ word + 1) all i new (omega arith)
+              (All-weaker (λ k. k.floor ≤ word) (λ k. k.floor ≤ word + 1) (λ k le. omega arith) all shared.floors);
         }
 
     -- a note changes nothing that is shared
@@ -77,7 +79,8 @@ module _ (quota word : ℕ) (all : List Holding) (shared : IsSharedOut quota wor
     IsSharedOut-note part =
         let new = noted h part in
         let same : (f : Holding → ℕ) → f new ≡ f h → sum_by f (set all i new) ≡ sum_by f all = λ f e. let a = sum_by-replaced f all i h new at in omega arith in
-        IsSharedOut-same _ (same drawn_count refl) (same left_count refl) (λ x. same (times_drawn x) refl) (All-set (λ k. k.floor ≤ word) all i new floor-le shared.floors)
+        IsSharedOut-same _ (same drawn_count refl) (same left_count refl) (λ x. same (times_drawn x) refl)
+        (All-set (λ k. k.floor ≤ word) all i new floor-le shared.floors)
 
     -- a hand cut in two
     pub IsSharedOut-split : h.set_aside ≤ h.left → IsSharedOut quota word (set all i (kept_part h) ++ given_part h ∷ [])
@@ -90,7 +93,8 @@ module _ (quota word : ℕ) (all : List Holding) (shared : IsSharedOut quota wor
         (All-push (λ k. k.floor ≤ word) (set all i kept) given (All-set (λ k. k.floor ≤ word) all i kept floor-le shared.floors) floor-le)
 
     -- two hands made one
-    pub IsSharedOut-join : (j : ℕ) (k : Holding) → j ≢ i → get_elem? (set all i (both_parts h k)) j ≡ some k → IsSharedOut quota word (set (set all i (both_parts h k)) j no_part)
+    pub IsSharedOut-join : (j : ℕ) (k : Holding) → j ≢ i → get_elem? (set all i (both_parts h k)) j ≡ some k
+        → IsSharedOut quota word (set (set all i (both_parts h k)) j no_part)
     IsSharedOut-join j k ne there =
         let both = both_parts h k in
         let joined = set all i both in
@@ -99,18 +103,21 @@ module _ (quota word : ℕ) (all : List Holding) (shared : IsSharedOut quota wor
         let low = floor-le in
         let low' : k.floor ≤ word = All-read (λ g. g.floor ≤ word) all j k shared.floors (sym (set_else all i j both ne) ∙ there) in
         let floors : All (λ g. g.floor ≤ word) joined = All-set (λ g. g.floor ≤ word) all i both (omega arith) shared.floors in
-        IsSharedOut-same _ (same drawn_count (length-append h.drawn k.drawn) refl) (same left_count refl refl) (λ x. same (times_drawn x) (times_in-append h.drawn k.drawn x) refl)
+        IsSharedOut-same _ (same drawn_count (length-append h.drawn k.drawn) refl) (same left_count refl refl)
+        (λ x. same (times_drawn x) (times_in-append h.drawn k.drawn x) refl)
         (All-set (λ g. g.floor ≤ word) joined j no_part (omega arith) floors)
 
     -- who has the whole quota drew each number once
     pub EachOnce-sole : drawn_count h + left_count h ≡ quota → EachOnce (length h.drawn) h.drawn
     EachOnce-sole whole =
         let share : Holding → ℕ = λ k. drawn_count k + left_count k in
-        let sums : sum_by share all ≡ share h = sum_by-plus drawn_count left_count all ∙ (ap (λ n. n + sum_by left_count all) shared.drawn ∙ (shared.left ∙ sym whole)) in
+        let sums : sum_by share all ≡ share h =
+        sum_by-plus drawn_count left_count all ∙ (ap (λ n. n + sum_by left_count all) shared.drawn ∙ (shared.left ∙ sym whole)) in
         let sole : (f : Holding → ℕ) → ((k : Holding) → f k ≤ drawn_count k) → sum_by f all ≡ f h =
         λ f le. sum_by-sole share f (λ k none. let a = le k in omega arith) all i h at sums in
         let is_word : word ≡ length h.drawn = sym shared.drawn ∙ sole drawn_count (λ k. omega arith) in
-        let times : (x : ℕ) → times_in h.drawn x ≡ sum_by (times_drawn x) all = λ x. sym (sole (times_drawn x) (λ k. count_by-le-length (λ y. y == x) k.drawn)) in
+        let times : (x : ℕ) → times_in h.drawn x ≡ sum_by (times_drawn x) all =
+        λ x. sym (sole (times_drawn x) (λ k. count_by-le-length (λ y. y == x) k.drawn)) in
         record {
           below = λ x lt. times x ∙ shared.below x (omega arith);
           others = λ x le. times x ∙ shared.others x (omega arith);

@@ -9,8 +9,6 @@
 
 mod hand;
 mod rule;
-#[cfg(test)]
-mod tests;
 mod tickets;
 
 pub use hand::Hand;

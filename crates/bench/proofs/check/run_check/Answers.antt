@@ -1,11 +1,18 @@
-use Rattle.std.proofs.Common.{◌≡◌}
-use Rattle.bench.specs.Ends.{Says}
-use Rattle.bench.specs.Lines.{order_fault_line}
-use Rattle.bench.proofs.WholeText.{SpellsUnordered-told}
+use Rattle.history_text.specs.Limits.{text_limit}
+use Rattle.bench.specs.Answers.{IsCheckAnswer, IsHistoryRefusal}
+use Rattle.bench.specs.Ends.{change}
+use Rattle.bench.proofs.ReadText.{IsReadOutcome-read}
+use Rattle.bench.proofs.WholeText.{IsCheckAnswer-whole, IsHistoryRefusal-whole}
 use Rattle.bench.proofs.check.run_check.Goals as goal
 
-pub returns-clause-no : goal.returns-clause-no
-returns-clause-no g c = λ is.
-    SpellsUnordered-told (g.S.Source.remaining c.args.source.now) c.in-Ok.history c.args.order.now c.in-Err-check.fault
-    (λ fault. Says g.O.Sink.written g.O.Sink.failures c.args.output.now c.refute.new.output (order_fault_line fault))
-    c.in-Ok.ensures.ok c.in-Err-check.ensures.refused (c.refute.ensures.no is).0 (c.refute.ensures.no is).1
+pub returns-in-Ok : goal.returns-in-Ok
+returns-in-Ok g c =
+    let order = c.args.order.now in
+    let source = change g.S.Source.remaining g.S.Source.failures c.args.source.now c.text_from.new.source in
+    record {
+      outcome = c.check_outcome.result;
+      comes = IsReadOutcome-read (IsCheckAnswer order) IsHistoryRefusal text_limit
+          (IsCheckAnswer-whole order) IsHistoryRefusal-whole source c.deref.result.now c.check_outcome.result
+          (rw c.deref.ensures.value c.in-Ok.ensures.text) c.in-Ok.ensures.sound c.check_outcome.ensures;
+      leaves = c.write_outcome.ensures;
+    }

@@ -2,7 +2,7 @@ use Rattle.std.proofs.Common.{[], subst, arith}
 use Rattle.std.proofs.lemmas.List.{take_all}
 use Rattle.std.proofs.lemmas.Option.{slice_get-get_or}
 use Rattle.std.proofs.lemmas.Result.{err_from_is_err_and}
-use Rattle.history.specs.Operations.{operations}
+use Rattle.events.specs.Operations.{operations}
 use Rattle.certificate.specs.Faults.{IsRefusedFor}
 use Rattle.certificate.specs.Prefix.{IsPrefixOf}
 use Rattle.certificate.proofs.FaultLemmas.{refused_order}
@@ -11,7 +11,9 @@ use Rattle.certificate.proofs.checker.check.Goals.{In_err-take}
 
 -- a number that is not taken shows why the list is refused
 refused : (c : In_err-take) → IsRefusedFor [] (operations c.args.history.now) c.args.order.now c.in_err-take.field-0.0
-refused c = rw (← c.calls-calls.ensures.calls) (c.in_err-take.ensures.refused [] c.args.order.now (slice_get-get_or c.args.order.now c.loop-place.place 0 (omega arith)) c.loop-place.invariant)
+refused c =
+    rw (← c.calls-calls.ensures.calls)
+    (c.in_err-take.ensures.refused [] c.args.order.now (slice_get-get_or c.args.order.now c.loop-place.place 0 (omega arith)) c.loop-place.invariant)
 
 pub returns-in_err-take-clause-refused : goal.returns-in_err-take-clause-refused
 returns-in_err-take-clause-refused c =
@@ -29,4 +31,5 @@ loop-place-preserved c = c.in_ok-take.ensures.ok [] c.args.order.now (slice_get-
 pub returns-in-Some-clause-refused : goal.returns-in-Some-clause-refused
 returns-in-Some-clause-refused c =
     rw (← c.calls-calls.ensures.calls) (c.in-Some.ensures.missing [] c.args.order.now
-    (subst (λ order. IsPrefixOf [] c.calls-calls.result.now order c.loop-place.prefix) (take_all c.loop-place.place c.args.order.now (omega arith)) c.loop-place.invariant))
+    (subst (λ order. IsPrefixOf [] c.calls-calls.result.now order c.loop-place.prefix)
+    (take_all c.loop-place.place c.args.order.now (omega arith)) c.loop-place.invariant))

@@ -2,7 +2,8 @@ use Rattle.std.proofs.Common.{◌≡◌, ◌≤◌, Some, length, refl, subst, s
 use Rattle.std.specs.Prelude.{slice_get}
 use Rattle.std.proofs.lemmas.Bool.{false_from_ne_true}
 use Rattle.std.proofs.lemmas.Option.{slice_get_read}
-use Rattle.history.specs.Cuts.{low_key, high_key, belongs}
+use Rattle.events.specs.Keys.{low_key, high_key}
+use Rattle.events.specs.Precedence.{belongs}
 use Rattle.cutter.proofs.KeyRangeLemmas.{AreRangesBelow-take, AreRangesBelow-skip, AreRanges-from_below}
 use Rattle.cutter.proofs.key_range.ranges_of.Goals as goal
 use Rattle.cutter.proofs.key_range.ranges_of.Goals.{in-Some+in_ok-push, in_default}
@@ -13,10 +14,13 @@ loop-number-preserved c =
     let i = c.loop-number.number in
     let a = c.index-calls-number.result in
     let here : slice_get calls i ≡ Some a = slice_get_read calls (length calls) i a refl c.loop-number-test.true c.index-calls-number.is in
-    let in_order : low_key a.call ≤ high_key a.call = subst (λ a. low_key a.call ≤ high_key a.call) (sym c.index-calls-number.is) (c.requires.in_order i a c.loop-number-test.true) in
+    let in_order : low_key a.call ≤ high_key a.call =
+    subst (λ a. low_key a.call ≤ high_key a.call) (sym c.index-calls-number.is) (c.requires.in_order i a c.loop-number-test.true) in
     elim c.match-range_of.branch [
-      | in-Some+in_ok-push w ↦ rw (w.ranges-is, w.in_ok-push.ensures.items, w.in-Some.ensures.1) (AreRangesBelow-take calls i c.loop-number.ranges.items a c.loop-number.invariant here w.in-Some.ensures.0 in_order)
-      | in_default w ↦ rw w.ranges-is (AreRangesBelow-skip calls i c.loop-number.ranges.items a c.loop-number.invariant here (false_from_ne_true (belongs a) w.in_default.ensures))
+      | in-Some+in_ok-push w ↦ rw (w.ranges-is, w.in_ok-push.ensures.items, w.in-Some.ensures.1)
+          (AreRangesBelow-take calls i c.loop-number.ranges.items a c.loop-number.invariant here w.in-Some.ensures.0 in_order)
+      | in_default w ↦ rw w.ranges-is
+          (AreRangesBelow-skip calls i c.loop-number.ranges.items a c.loop-number.invariant here (false_from_ne_true (belongs a) w.in_default.ensures))
     ]
 
 pub returns : goal.returns

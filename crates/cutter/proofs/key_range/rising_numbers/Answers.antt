@@ -1,7 +1,7 @@
 use Rattle.std.proofs.Common.{◌≡◌, subst, sym, rules}
 use Rattle.std.specs.Prelude.{◌≢◌, AllPairs}
 use Rattle.std.proofs.lemmas.List.Sorted.{IsNonDecreasingBy-from_sort}
-use Rattle.history.proofs.FilterLemmas.{AllPairs-map}
+use Rattle.list_laws.proofs.FilterLemmas.{AllPairs-map}
 use Rattle.cutter.specs.declared.key_range.KeyRange.{KeyRange}
 use Rattle.cutter.proofs.KeyRangeLemmas.{numbers_of, IsStrictlyIncreasing-from_sort}
 use Rattle.cutter.proofs.key_range.rising_numbers.Goals as goal
@@ -10,5 +10,7 @@ pub returns-clause-rising : goal.returns-clause-rising
 returns-clause-rising c =
     let numbers = c.in_ok-numbers.numbers.items in
     let taken : numbers ≡ numbers_of c.args.ranges.now = search rules in
-    let distinct : AllPairs (λ m n. m ≢ n) numbers = subst (AllPairs (λ m n. m ≢ n)) (sym taken) (AllPairs-map (λ m n. m ≢ n) (λ (r : KeyRange). r.number) c.args.ranges.now c.requires) in
-    IsStrictlyIncreasing-from_sort numbers c.sort.new.self.items distinct c.in_ok-sort.ensures.permutation (IsNonDecreasingBy-from_sort (λ n. n) c.sort.new.self.items c.in_ok-sort.ensures.sorted)
+    let distinct : AllPairs (λ m n. m ≢ n) numbers =
+    subst (AllPairs (λ m n. m ≢ n)) (sym taken) (AllPairs-map (λ m n. m ≢ n) (λ (r : KeyRange). r.number) c.args.ranges.now c.requires) in
+    IsStrictlyIncreasing-from_sort numbers c.sort.new.self.items distinct c.in_ok-sort.ensures.permutation
+    (IsNonDecreasingBy-from_sort (λ n. n) c.sort.new.self.items c.in_ok-sort.ensures.sorted)

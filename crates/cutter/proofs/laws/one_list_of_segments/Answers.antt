@@ -1,4 +1,4 @@
-use Rattle.history.proofs.UniqueSegmentLemmas.{AreSegments-unique_of_history}
+use Rattle.cutter.proofs.UniqueSegmentLemmas.{AreSegments-unique_of_history}
 use Rattle.cutter.proofs.laws.one_list_of_segments.Goals as goal
 
 pub returns : goal.returns

@@ -1,16 +1,17 @@
 -- A walk over the segments with their answers; at the end all of them have shown what they have.
-use Rattle.std.proofs.Common.{[], ◌∷◌, ◌++◌, map, ap, sym, subst, inl, inr, refl, ◌∙◌, arith}
-use Rattle.std.specs.Prelude.{All, Contains}
+use Rattle.std.proofs.Common.{[], ◌∷◌, ◌++◌, map, ap, subst, ◌∙◌}
+use Rattle.std.specs.Prelude.{All}
 use Rattle.std.specs.Iterator.Adapters.{zip_first, zip_second}
 use Rattle.std.specs.Vec.Iter.{into_iter_items}
-use Rattle.std.proofs.lemmas.List.{map-append, nil_from_length}
+use Rattle.std.proofs.lemmas.List.{map-append}
 use Rattle.std.proofs.lemmas.List.Elements.{All-contains, Contains-append_right}
-use Rattle.history.specs.Operations.{operations}
-use Rattle.history.specs.Orders.{IsLinearizable}
-use Rattle.history.specs.SegmentOrders.{HasNoOrder}
-use Rattle.history.specs.Segments.{AreSegments}
-use Rattle.history.proofs.Lists.{Contains-first}
-use Rattle.judge.proofs.AnswerLemmas.{HaveShown-found, HaveShown-spent, HaveShown-first, IsUnrefuted-all, IsUnderWay-start, IsUnderWay-answer, IsUnderWay-next, IsUnderWay-all}
+use Rattle.events.specs.Operations.{operations}
+use Rattle.orders.specs.Orders.{IsLinearizable}
+use Rattle.segments.specs.SegmentOrders.{HasNoOrder}
+use Rattle.segments.specs.Segments.{AreSegments}
+use Rattle.list_laws.proofs.Lists.{Contains-first}
+use Rattle.judge.proofs.AnswerLemmas.{HaveShown-found, HaveShown-spent, HaveShown-first, IsUnrefuted-all, IsUnderWay-start, IsUnderWay-answer, IsUnderWay-next}
+use Rattle.judge.proofs.AnswerLemmas.{IsUnderWay-all}
 use Rattle.judge.proofs.conclusion.conclude.Goals as goal
 
 pub loop-segment-init : goal.loop-segment-init
@@ -19,7 +20,9 @@ loop-segment-init c =
     record {
       can_next = (tt, tt);
       is_finite = tt;
-      under_way = rw (gives, c.zip-segment-items.ensures.first, c.in_ok-orders.ensures.items) (rw (c.into_iter.ensures.rest, c.zip-segment-items.ensures.second.0) (IsUnderWay-start c.requires.sound));
+      under_way =
+          rw (gives, c.zip-segment-items.ensures.first, c.in_ok-orders.ensures.items)
+          (rw (c.into_iter.ensures.rest, c.zip-segment-items.ensures.second.0) (IsUnderWay-start c.requires.sound));
     }
 
 pub loop-segment-preserved-in-Order-1 : goal.loop-segment-preserved-in-Order-1
@@ -83,7 +86,10 @@ loop-segment-preserved c =
 
 pub returns-in-Some-lowest_spent : goal.returns-in-Some-lowest_spent
 returns-in-Some-lowest_spent c =
-    let spent = rw c.in-Some-lowest_spent.is at (IsUnderWay-all (zip_first c.loop-segment.segment-iterator) (zip_second c.loop-segment.segment-iterator) c.loop-segment.invariant.under_way c.in-None.ensures.steps) in
+    let spent =
+    rw c.in-Some-lowest_spent.is at
+    (IsUnderWay-all (zip_first c.loop-segment.segment-iterator)
+    (zip_second c.loop-segment.segment-iterator) c.loop-segment.invariant.under_way c.in-None.ensures.steps) in
     record {
       below = spent.below;
       above = spent.above;
@@ -94,7 +100,14 @@ returns-in-Some-lowest_spent c =
     }
 
 pub merge-requires : goal.merge-requires
-merge-requires c = (c.args.segments.items, c.requires.segments, rw c.deref.ensures.value (rw c.in-None-lowest_spent.is at (IsUnderWay-all (zip_first c.loop-segment.segment-iterator) (zip_second c.loop-segment.segment-iterator) c.loop-segment.invariant.under_way c.in-None.ensures.steps)))
+merge-requires c = (
+  c.args.segments.items,
+  c.requires.segments,
+  rw c.deref.ensures.value
+      (rw c.in-None-lowest_spent.is at
+      (IsUnderWay-all (zip_first c.loop-segment.segment-iterator)
+      (zip_second c.loop-segment.segment-iterator) c.loop-segment.invariant.under_way c.in-None.ensures.steps)),
+)
 
 pub returns : goal.returns
 returns c = record {
@@ -102,6 +115,8 @@ returns c = record {
   orders = map (λ v. v.items) c.loop-segment.orders.items;
   is_order = c.in_ok-merge-in-None-lowest_spent.ensures.order;
   are_segments = c.requires.segments;
-  found = rw c.in-None-lowest_spent.is at (IsUnderWay-all (zip_first c.loop-segment.segment-iterator) (zip_second c.loop-segment.segment-iterator) c.loop-segment.invariant.under_way c.in-None.ensures.steps);
+  found = rw c.in-None-lowest_spent.is at
+      (IsUnderWay-all (zip_first c.loop-segment.segment-iterator)
+      (zip_second c.loop-segment.segment-iterator) c.loop-segment.invariant.under_way c.in-None.ensures.steps);
   merged = rw c.deref.ensures.value at c.in_ok-merge-in-None-lowest_spent.ensures.merged;
 }

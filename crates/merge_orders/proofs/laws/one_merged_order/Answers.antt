@@ -1,7 +1,7 @@
-use Rattle.history.specs.Operations.{operations}
-use Rattle.history.proofs.MergeLemmas.{known-orders}
-use Rattle.history.proofs.TimeLemmas.{inv_rises}
-use Rattle.history.proofs.UniqueMergeLemmas.{merged_unique}
+use Rattle.events.specs.Operations.{operations}
+use Rattle.merge_orders.proofs.MergeLemmas.{known-orders}
+use Rattle.events.proofs.TimeLemmas.{inv_rises}
+use Rattle.merge_orders.proofs.UniqueMergeLemmas.{merged_unique}
 use Rattle.merge_orders.proofs.laws.one_merged_order.Goals as goal
 
 pub returns : goal.returns

@@ -1,9 +1,9 @@
 use Rattle.std.proofs.Common.{get_or, subst, arith}
 use Rattle.std.specs.Prelude.{Contains}
 use Rattle.std.proofs.lemmas.List.Elements.{Contains-get_or}
-use Rattle.history.specs.Operations.{operations}
-use Rattle.history.proofs.TimeLemmas.{inv_rises}
-use Rattle.history.proofs.UniqueMergeLemmas.{same_order-from_point}
+use Rattle.events.specs.Operations.{operations}
+use Rattle.events.proofs.TimeLemmas.{inv_rises}
+use Rattle.merge_orders.proofs.UniqueMergeLemmas.{same_order-from_point}
 use Rattle.merge_orders.proofs.OnceLemmas.{NameCallsOnce-from_segments}
 use Rattle.merge_orders.proofs.laws.segments_share_no_point.Goals as goal
 
@@ -12,5 +12,7 @@ returns c start events orders history are i j d before within m n m_is n_is same
     let once = NameCallsOnce-from_segments start events orders history are in
     let order = get_or orders i d in
     let other = get_or orders j d in
-    let one = same_order-from_point (operations events) orders order other m n (inv_rises events) once.known once.disjoint (Contains-get_or orders i d (omega arith)) (Contains-get_or orders j d within) m_is n_is same in
+    let one =
+    same_order-from_point (operations events) orders order other m n (inv_rises events) once.known once.disjoint (Contains-get_or orders i d (omega arith))
+    (Contains-get_or orders j d within) m_is n_is same in
     once.disjoint i j d before within m m_is (subst (λ o. Contains o m) one m_is)

@@ -2,11 +2,11 @@ use Rattle.std.proofs.Common.{[], map, sym, ap, ◌∙◌, subst, rules}
 use Rattle.std.specs.List.{concat}
 use Rattle.std.proofs.lemmas.List.Sorted.{answers_always}
 use Rattle.std.proofs.lemmas.Result.{IfOk-weaker}
-use Rattle.history.specs.Merge.{IsMergedOrder}
-use Rattle.history.specs.Operations.{operations}
-use Rattle.history.specs.Orders.{IsOrder}
-use Rattle.history.proofs.MergeLemmas.{IsOrder-from_merged}
-use Rattle.history.proofs.TimeLemmas.{NonePrecedesItself-operations}
+use Rattle.merge_orders.specs.Merge.{IsMergedOrder}
+use Rattle.events.specs.Operations.{operations}
+use Rattle.orders.specs.Orders.{IsOrder}
+use Rattle.merge_orders.proofs.MergeLemmas.{IsOrder-from_merged}
+use Rattle.events.proofs.TimeLemmas.{NonePrecedesItself-operations}
 use Rattle.merge_orders.specs.Points.{at_point}
 use Rattle.merge_orders.proofs.OnceLemmas.{NameCallsOnce-from_segments}
 use Rattle.merge_orders.proofs.SortedLemmas.{IsMergedOrder-sorted}
@@ -17,23 +17,28 @@ pub calls_at_points-requires : goal.calls_at_points-requires
 calls_at_points-requires c = rw c.calls.ensures.calls (NameCallsOnce-from_segments [] c.args.history.now _ c.calls.ensures.history c.requires)
 
 -- the sorted calls are in the merged order
-merged : (c : After-drop-calls-2) → IsMergedOrder (operations c.args.history.now) (map (λ v. v.items) c.args.orders.now) (map (λ a. a.number) c.deref.result.now)
+merged : (c : After-drop-calls-2)
+    → IsMergedOrder (operations c.args.history.now) (map (λ v. v.items) c.args.orders.now) (map (λ a. a.number) c.deref.result.now)
 merged c =
     let events = c.args.history.now in
     let orders = map (λ v. v.items) c.args.orders.now in
     let placed = c.in_ok-calls.ensures ∙ ap (λ calls. map (at_point calls orders) (concat orders)) c.calls.ensures.calls in
     rw c.deref.ensures.value
     (IsMergedOrder-sorted (operations events) orders c.in_ok-calls.calls.items _
-    (NameCallsOnce-from_segments [] events orders c.calls.ensures.history c.requires) placed c.sort_by_key.ensures.permutation (c.in_ok-sort_by_key.ensures.sorted (λ a. a.point) (answers_always _ _ _ (λ f a r g h. search rules)))
+    (NameCallsOnce-from_segments [] events orders c.calls.ensures.history c.requires) placed c.sort_by_key.ensures.permutation
+    (c.in_ok-sort_by_key.ensures.sorted (λ a. a.point) (answers_always _ _ _ (λ f a r g h. search rules)))
     (c.sort_by_key.ensures.stable (λ a. a.point) (answers_always _ _ _ (λ f a r g h. search rules))))
 
 pub returns-clause-merged : goal.returns-clause-merged
 returns-clause-merged c =
     let orders = map (λ v. v.items) c.args.orders.now in
-    IfOk-weaker _ _ _ (λ v is. subst (IsMergedOrder (operations c.args.history.now) orders) (sym is) (merged (goal.at.returns-clause-merged c).After-drop-calls-2)) c.numbers_of.ensures
+    IfOk-weaker _ _ _
+    (λ v is. subst (IsMergedOrder (operations c.args.history.now) orders) (sym is)
+    (merged (goal.at.returns-clause-merged c).After-drop-calls-2)) c.numbers_of.ensures
 
 pub returns-clause-order : goal.returns-clause-order
 returns-clause-order c =
     let events = c.args.history.now in
     IfOk-weaker _ _ _ (λ v is. subst (IsOrder [] (operations events)) (sym is)
-    (IsOrder-from_merged [] (operations events) c.requires.0 _ _ (NonePrecedesItself-operations events) c.requires.1 c.requires.2 (merged (goal.at.returns-clause-order c).After-drop-calls-2))) c.numbers_of.ensures
+    (IsOrder-from_merged [] (operations events) c.requires.0 _ _ (NonePrecedesItself-operations events) c.requires.1 c.requires.2
+    (merged (goal.at.returns-clause-order c).After-drop-calls-2))) c.numbers_of.ensures

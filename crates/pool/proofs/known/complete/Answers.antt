@@ -17,9 +17,12 @@ loop-answer-preserved g c =
     (elim c.match-answer.branch [
       | in-Some-answer w ↦ rw w.found-is (IsHalfKnown-known P c.loop-answer.invariant c.in-Some.ensures.steps.0 w.in-Some-answer.is)
       | in-None-answer+in_ok-found-in-None-answer w ↦
-          let here : w.len-in-None-answer.result ≡ length c.loop-answer.answers.items = omega (arith, w.len-in-None-answer.ensures, c.loop-answer.answers.ok.0) in
+          let here : w.len-in-None-answer.result ≡ length c.loop-answer.answers.items =
+          omega (arith, w.len-in-None-answer.ensures, c.loop-answer.answers.ok.0) in
           rw w.found-is (IsHalfKnown-found P c.loop-answer.invariant c.in-Some.ensures.steps.0 (rw here at w.in_ok-found-in-None-answer.ensures))
     ])
 
 pub returns : goal.returns
-returns g c = IsHalfKnown-all (IsSoundAnswer [] c.args.budget) c.loop-answer.invariant (nil_from_length _ (omega (arith, c.in-None.ensures.steps.0, c.loop-answer.answer-iterator.rest.ok.0)))
+returns g c =
+    IsHalfKnown-all (IsSoundAnswer [] c.args.budget) c.loop-answer.invariant
+    (nil_from_length _ (omega (arith, c.in-None.ensures.steps.0, c.loop-answer.answer-iterator.rest.ok.0)))

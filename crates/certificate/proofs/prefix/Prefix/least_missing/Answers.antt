@@ -3,15 +3,16 @@ use Rattle.std.specs.Prelude.{slice_get}
 use Rattle.std.proofs.lemmas.Bool.{false≢true}
 use Rattle.std.proofs.lemmas.Grind.{common_steps}
 use Rattle.std.proofs.lemmas.Option.{slice_get_read}
-use Rattle.history.specs.Orders.{IsCompletedAt}
-use Rattle.history.proofs.OrderLemmas.{IsCompletedAt-below}
+use Rattle.orders.specs.Orders.{IsCompletedAt}
+use Rattle.orders.proofs.OrderLemmas.{IsCompletedAt-below}
 use Rattle.certificate.proofs.PrefixLemmas.{Contains-taken, not_Contains-taken, IsCompletedAt-response, response-IsCompletedAt}
 use Rattle.certificate.proofs.prefix.Prefix.least_missing.Goals as goal
 use Rattle.certificate.proofs.prefix.Prefix.least_missing.Goals.{else-is_some-via-then-is_some+else-not-index, else-is_some-via-else-is_some}
 
 pub returns-then-not-index-clause-missing : goal.returns-then-not-index-clause-missing
 returns-then-not-index-clause-missing c = λ start order h.
-    let is : slice_get c.args.calls.now c.loop-number.number ≡ Some c.index-calls-number.result = slice_get_read _ _ c.loop-number.number _ refl (omega arith) c.index-calls-number.is in
+    let is : slice_get c.args.calls.now c.loop-number.number ≡ Some c.index-calls-number.result =
+    slice_get_read _ _ c.loop-number.number _ refl (omega arith) c.index-calls-number.is in
     let free : get_or c.args.self.now.taken.items c.loop-number.number false ≡ false = grind (arith, common_steps) in
     record {
       sound = h.sound;
@@ -22,11 +23,15 @@ returns-then-not-index-clause-missing c = λ start order h.
 
 pub loop-number-preserved : goal.loop-number-preserved
 loop-number-preserved c =
-    let is : slice_get c.args.calls.now c.loop-number.number ≡ Some c.index-calls-number.result = slice_get_read _ _ c.loop-number.number _ refl (omega arith) c.index-calls-number.is in
+    let is : slice_get c.args.calls.now c.loop-number.number ≡ Some c.index-calls-number.result =
+    slice_get_read _ _ c.loop-number.number _ refl (omega arith) c.index-calls-number.is in
     below_more (λ n. IsCompletedAt c.args.calls.now n → get_or c.args.self.now.taken.items n false ≡ true) _ c.loop-number.invariant
     (elim c.else-is_some.branch [
       | else-is_some-via-then-is_some+else-not-index w ↦ λ completed. grind (arith, common_steps)
-      | else-is_some-via-else-is_some w ↦ λ completed. absurd (false≢true (sym w.if-is_some.false ∙ (c.is_some.ensures ∙ response-IsCompletedAt c.args.calls.now c.loop-number.number c.index-calls-number.result is completed)))
+      | else-is_some-via-else-is_some w ↦ λ completed. absurd
+          (false≢true
+          (sym w.if-is_some.false
+          ∙ (c.is_some.ensures ∙ response-IsCompletedAt c.args.calls.now c.loop-number.number c.index-calls-number.result is completed)))
     ])
 
 pub returns-clause-none : goal.returns-clause-none

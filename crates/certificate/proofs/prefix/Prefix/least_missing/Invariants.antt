@@ -1,5 +1,5 @@
 use Rattle.std.proofs.Common.{◌≡◌, ℕ, ◌<◌, true, false, get_or}
-use Rattle.history.specs.Orders.{IsCompletedAt}
+use Rattle.orders.specs.Orders.{IsCompletedAt}
 use Rattle.certificate.proofs.prefix.Prefix.least_missing.Given as goal
 
 abbrev pub invariant-loop-number : goal.invariant-loop-number

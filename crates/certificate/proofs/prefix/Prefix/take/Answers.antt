@@ -3,7 +3,8 @@ use Rattle.std.specs.Prelude.{slice_get}
 use Rattle.std.proofs.lemmas.Bool.{false≢true}
 use Rattle.std.proofs.lemmas.Grind.{common_steps}
 use Rattle.std.proofs.lemmas.Option.{slice_get_read}
-use Rattle.certificate.proofs.PrefixLemmas.{take-next, Contains-taken, not_Contains-taken, IsNewAt-taken, PrecedesSome-latest, not_PrecedesSome-latest, IsPrefixOf-push}
+use Rattle.certificate.proofs.PrefixLemmas.{take-next, Contains-taken, not_Contains-taken, IsNewAt-taken, PrecedesSome-latest, not_PrecedesSome-latest}
+use Rattle.certificate.proofs.PrefixLemmas.{IsPrefixOf-push}
 use Rattle.certificate.proofs.prefix.Prefix.take.Goals as goal
 use Rattle.certificate.proofs.prefix.Prefix.take.Goals.{After-is_before}
 
@@ -35,14 +36,14 @@ returns-then-is_before-clause-refused c = λ start order here h.
       precedes_earlier = PrecedesSome-latest start _ _ _ c.index-calls-index.result h (search rules);
     }
 
-pub returns-then-not-fits-clause-refused : goal.returns-then-not-fits-clause-refused
-returns-then-not-fits-clause-refused c = λ start order here h.
-    let at = (goal.at.returns-then-not-fits-clause-refused c).After-is_before in
+pub returns-then-not-may_come_next-clause-refused : goal.returns-then-not-may_come_next-clause-refused
+returns-then-not-may_come_next-clause-refused c = λ start order here h.
+    let at = (goal.at.returns-then-not-may_come_next-clause-refused c).After-is_before in
     record {
       a = c.index-calls-index.result;
       next = IsNewAt-taken start _ order _ c.args.place c.args.number _ h here (call at) (free at);
       keeps_precedence = not_PrecedesSome-latest start _ _ _ c.index-calls-index.result h (search rules);
-      illegal = rw (← h.pairs) (λ legal. false≢true (c.if-not-fits.ensures.1 legal));
+      illegal = rw (← h.pairs) (λ legal. false≢true (c.if-not-may_come_next.ensures.1 legal));
     }
 
 pub returns-clause-ok : goal.returns-clause-ok

@@ -8,4 +8,5 @@ pub returns : goal.returns
 returns c =
     let facts = c.binary_search_by_key.ensures in
     let by_key = facts.position (λ pair. pair.0) (answers_always _ _ _ (λ f a r g called. search rules)) in
-    rw (← c.self.view_is, ← c.deref.ensures.value) (searched c.deref.result.now (rw c.deref.ensures.value c.self.invariant) c.args.key c.binary_search_by_key.result facts.bound by_key)
+    rw (← c.self.view_is, ← c.deref.ensures.value)
+    (searched c.deref.result.now (rw c.deref.ensures.value c.self.invariant) c.args.key c.binary_search_by_key.result facts.bound by_key)

@@ -1,0 +1,12 @@
+//! Tests of the layers that stand beside the judge's, through their public calls: the sorted map, tickets and streams.
+//!
+//! A proof covers what the contracts say. What these tests add is that each call answers where memory is ample, and
+//! that the definitions say what was meant: expected answers were worked out by hand.
+#![tactic(auto)]
+
+#[cfg(test)]
+mod draws;
+#[cfg(test)]
+mod ends;
+#[cfg(test)]
+mod maps;

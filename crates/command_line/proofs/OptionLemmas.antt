@@ -1,0 +1,256 @@
+-- The walk over the options of a subcommand and their values.
+use Rattle.std.proofs.Common.{◌≡◌, ◌∙◌, ◌++◌, true, false, refl, sym, ap, subst, arith, append_assoc, append-nil, map, List, [], ◌∷◌, Option, Some, None, codes}
+use Rattle.std.specs.List.{fold}
+use Rattle.std.specs.Str.{bytes_eq}
+use Rattle.std.proofs.lemmas.Bool.{leb-true}
+use Rattle.std.proofs.lemmas.Slice.Eq.{bytes_eq-Decides}
+use Rattle.clap.specs.Faults.{settle_fault, turn_fault, walk_fault}
+use Rattle.clap.specs.Simple.{Shape}
+use Rattle.clap.specs.ValueTests.{accepts}
+use Rattle.clap.specs.Walk.{Held, Row, Text, Walk, arg_by_id, arg_by_long, at_row, has_row, is_pending, more_values, nothing_held, option, settled, walk_from}
+use Rattle.clap.specs.Walk.{walked, with_values, without}
+use Rattle.clap.specs.declared.builder.value_parser.Reading.TheVariants.{AsWritten}
+use Rattle.clap.specs.declared.builder.value_parser.ValueParser.TheVariants.{Unsigned}
+use Rattle.clap.specs.declared.parser.matches.ValueSource.TheVariants.{CommandLine}
+use Rattle.clap.proofs.FaultLemmas.{past}
+use Rattle.clap.proofs.ValueTestLemmas.{Accepts-accepts}
+use Rattle.command_line.specs.Limits.{u64_limit}
+use Rattle.command_line.specs.Numbers.{IsNumberFrom}
+use Rattle.command_line.specs.Tables.{Flag, Usage, are_flags, flag_named}
+use Rattle.command_line.specs.Words.{AreOptionsOf, Given, IsValueOf, has_option, option_words}
+use Rattle.command_line.proofs.PlainLemmas.{IsPlain, spelled_is_plain}
+use Rattle.command_line.proofs.TableLemmas.{IsFlagWord, IsFound, both, built_calls, built_flag, built_usage, by_id, by_long, flag_word, found_flag, not_either}
+use Rattle.command_line.proofs.TableLemmas.{same_swapped}
+
+-- ---- rows
+
+-- a row of an id that no other row has comes last
+at_new : (id : Text) (change : Row → List Row) (missing rows : List Row) → has_row id rows ≡ false → at_row id change missing rows ≡ rows ++ missing
+at_new id change missing [] new = refl
+at_new id change missing (r ∷ rs) new =
+    let parts = not_either (bytes_eq r.id id) _ new in
+    let other = parts.0 in
+    rw other (ap (λ (rest : List Row). r ∷ rest) (at_new id change missing rs parts.1))
+
+-- the row of an argument with these values
+abbrev pub row_with : Text → List Text → Row
+row_with id values = record { id = id; values = values; count = None; source = Some CommandLine; reading = AsWritten }
+
+-- values of an id that has no row come last
+pub new_row : (id : Text) (values : List Text) (rows : List Row) → has_row id rows ≡ false
+    → with_values id AsWritten CommandLine values rows ≡ rows ++ row_with id values ∷ []
+new_row id values rows new = at_new id (more_values CommandLine values) (row_with id values ∷ []) rows new
+
+-- and there is none to take out
+pub without_none : (id : Text) (rows : List Row) → has_row id rows ≡ false → without id rows ≡ rows
+without_none id rows new = at_new id (λ _. []) [] rows new ∙ append-nil rows
+
+-- two lists of rows
+pub has_row_more : (id : Text) (rows : List Row) (r : Row) → has_row id rows ≡ false → bytes_eq r.id id ≡ false → has_row id (rows ++ r ∷ []) ≡ false
+has_row_more id [] r none other = rw other refl
+has_row_more id (x ∷ xs) r none other =
+    let parts = not_either (bytes_eq x.id id) _ none in
+    let first = parts.0 in
+    rw first (has_row_more id xs r parts.1 other)
+
+-- ---- one option
+
+-- the row of an option that is given
+abbrev pub row_given : Given → Row
+row_given g = row_with g.0 (g.1 ∷ [])
+
+-- a subcommand whose options are as they should be
+module _ (u : Usage) (all : are_flags u.flags ≡ true) where
+  abbrev pub shape : Shape
+  shape = built_usage u
+
+  -- what is held after an option and its value
+  taken : Text → Text → Held → Held
+  taken name text h = record (settled shape.rules h) { pending = Some (name, text ∷ []) }
+
+  -- where the walk stands between them
+  between : Text → Held → Walk
+  between name h = record (walk_from (record (settled shape.rules h) { pending = Some (name, []) })) { waiting = option name }
+
+  -- what is pending is used without a fault
+  unfoldable pub Settles : Held → Type 0
+  Settles h = settle_fault shape.rules shape.args_override_self h ≡ []
+
+  -- the option that is named, with its value
+  pub record IsOption (name text : Text) : Type 0 where
+    pub flag : Flag
+    pub found : flag_named name u.flags ≡ Some flag
+    pub value : IsNumberFrom flag.least flag.greatest text
+
+  pub is_option : (name text : Text) → IsValueOf (flag_named name u.flags) text → IsOption name text
+  is_option name text value = go (flag_named name u.flags) refl value
+    where
+      go : (o : Option Flag) → flag_named name u.flags ≡ o → IsValueOf o text → IsOption name text
+      go None found value = absurd value
+      go (Some f) found value = record { flag = f; found = found; value = value }
+
+  module _ (name text : Text) (is : IsOption name text) where
+    found : IsFound u.flags name is.flag
+    found = found_flag u.flags name is.flag all is.found
+
+    flag_id : arg_by_id shape.rules name ≡ Some (built_flag is.flag)
+    flag_id = by_id u.flags u.takes_calls name is.flag is.found
+
+    flag_long : arg_by_long shape.rules name ≡ Some (built_flag is.flag)
+    flag_long = by_long u.flags u.takes_calls name is.flag is.found
+
+    word : IsFlagWord name
+    word = subst IsFlagWord found.name_is (flag_word is.flag.name found.is_flag.filled found.is_flag.no_equals)
+
+    plain : IsPlain text
+    plain = spelled_is_plain text is.value.0
+
+    passes : accepts false (Unsigned is.flag.least is.flag.greatest) text ≡ true
+    passes =
+        let fits = leb-true is.flag.greatest u64_limit (both _ _ found.is_flag.limits).0 in
+        Accepts-accepts false (Unsigned is.flag.least is.flag.greatest) text (is.value.0, omega arith, is.value.1, is.value.2)
+
+    -- the walk takes the flag
+    flag_walked : (h : Held) → walked shape.rules [] (walk_from h) (45 ∷ 45 ∷ name) ≡ between name h
+    unfolding walked between
+    flag_walked h =
+        let dashes = word.not_dashes in
+        let long = word.long_is in
+        let by = flag_long in
+        let same = found.name_is in
+        rw (dashes, long, by, same) refl
+
+    -- which has no fault
+    flag_turn : (h : Held) → Settles h → turn_fault shape [] (walk_from h) (45 ∷ 45 ∷ name) ≡ []
+    unfolding Settles
+    flag_turn h settles =
+        let dashes = word.not_dashes in
+        let long = word.long_is in
+        let by = flag_long in
+        rw (dashes, long, by) (past _ _ settles)
+
+    -- and then its value
+    value_walked : (h : Held) → walked shape.rules [] (between name h) text ≡ walk_from (taken name text h)
+    unfolding walked between taken
+    value_walked h =
+        let dashes = plain.not_dashes in
+        let long = plain.not_long in
+        let short = plain.not_short in
+        let by = flag_id in
+        let same = (bytes_eq-Decides name is.flag.name).1 (sym found.name_is) in
+        rw (dashes, long, short, by, same) refl
+
+    -- which has none either
+    value_turn : (h : Held) → turn_fault shape [] (between name h) text ≡ []
+    unfolding between
+    value_turn h =
+        let dashes = plain.not_dashes in
+        let long = plain.not_long in
+        let short = plain.not_short in
+        rw (dashes, long, short) refl
+
+    module _ (h : Held) (new : has_row name (settled shape.rules h).rows ≡ false) where
+      -- the option adds its row
+      taken_rows : (settled shape.rules (taken name text h)).rows ≡ (settled shape.rules h).rows ++ row_given (name, text) ∷ []
+      unfolding taken
+      taken_rows =
+          let by = flag_id in
+          let same = found.name_is in
+          let out = without_none name (settled shape.rules h).rows new in
+          rw (by, same, out) (new_row name (text ∷ []) (settled shape.rules h).rows new)
+
+      -- and is used without a fault
+      taken_settles : Settles (taken name text h)
+      unfolding taken Settles
+      taken_settles =
+          let by = flag_id in
+          let same = found.name_is in
+          let accepted = passes in
+          rw (by, same, new, accepted) refl
+
+    -- it is not that of the calls
+    taken_other : (h : Held) → is_pending built_calls (taken name text h).pending ≡ false
+    unfolding taken
+    taken_other h = ap (λ (n : Text). bytes_eq n (codes "CALL")) (sym found.name_is) ∙ found.is_flag.not_calls
+
+    -- the walk goes on after the option and its value
+    option_walked : (h : Held) (rest : List Text) → fold (walked shape.rules []) (walk_from h) ((45 ∷ 45 ∷ name) ∷ text ∷ rest)
+        ≡ fold (walked shape.rules []) (walk_from (taken name text h)) rest
+    option_walked h rest =
+        ap (λ w. fold (walked shape.rules []) (walked shape.rules [] w text) rest) (flag_walked h)
+        ∙ ap (λ w. fold (walked shape.rules []) w rest) (value_walked h)
+
+    -- and so do its faults
+    option_turns : (h : Held) (rest : List Text) → Settles h → walk_fault shape [] (walk_from h) ((45 ∷ 45 ∷ name) ∷ text ∷ rest)
+        ≡ walk_fault shape [] (walk_from (taken name text h)) rest
+    unfolding walk_fault
+    option_turns h rest settles =
+        past _ _ (flag_turn h settles) ∙ ap (λ w. walk_fault shape [] w (text ∷ rest)) (flag_walked h)
+        ∙ past _ _ (value_turn h) ∙ ap (λ w. walk_fault shape [] w rest) (value_walked h)
+
+  -- ---- all options
+
+  -- what is held after options
+  pub taken_all : List Given → Held → Held
+  taken_all [] h = h
+  taken_all (g ∷ gs) h = taken_all gs (taken g.0 g.1 h)
+
+  -- no row is there of any of these
+  abbrev AreNew : List Row → List Given → Type 0
+  AreNew rows [] = Unit {0}
+  AreNew rows (g ∷ gs) = (has_row g.0 rows ≡ false) × AreNew rows gs
+
+  -- nor after that of another
+  new_after : (rows : List Row) (g : Given) (gs : List Given) → has_option g.0 gs ≡ false → AreNew rows gs → AreNew (rows ++ row_given g ∷ []) gs
+  new_after rows g [] once new = tt
+  new_after rows g (x ∷ xs) once new =
+      let parts = not_either (bytes_eq x.0 g.0) _ once in
+      (has_row_more x.0 rows (row_given g) new.0 (same_swapped g.0 x.0 ∙ parts.0), new_after rows g xs parts.1 new.1)
+
+  -- the walk over options, from what is held before them
+  pub record Goes (given : List Given) (h : Held) : Type 0 where
+    pub rows : (settled shape.rules (taken_all given h)).rows ≡ (settled shape.rules h).rows ++ map row_given given
+    pub settles : Settles (taken_all given h)
+    pub other : is_pending built_calls (taken_all given h).pending ≡ false
+    pub walked_is : (rest : List Text) → fold (walked shape.rules []) (walk_from h) (option_words given ++ rest)
+        ≡ fold (walked shape.rules []) (walk_from (taken_all given h)) rest
+    pub turns : (rest : List Text) → walk_fault shape [] (walk_from h) (option_words given ++ rest)
+        ≡ walk_fault shape [] (walk_from (taken_all given h)) rest
+
+  goes : (given : List Given) (h : Held) → AreOptionsOf u.flags given → AreNew (settled shape.rules h).rows given → Settles h
+      → is_pending built_calls h.pending ≡ false → Goes given h
+  unfolding taken_all
+  goes [] h options new settles other = record {
+    rows = sym (append-nil (settled shape.rules h).rows);
+    settles = settles;
+    other = other;
+    walked_is = λ rest. refl;
+    turns = λ rest. refl;
+  }
+  goes (g ∷ gs) h options new settles other =
+      let is = is_option g.0 g.1 options.0 in
+      let rows = taken_rows g.0 g.1 is h new.0 in
+      let news = subst (λ (rs : List Row). AreNew rs gs) (sym rows) (new_after (settled shape.rules h).rows g gs options.1 new.1) in
+      let later = goes gs (taken g.0 g.1 h) options.2 news (taken_settles g.0 g.1 is h new.0) (taken_other g.0 g.1 is h) in
+      record {
+        rows = later.rows ∙ ap (λ (rs : List Row). rs ++ map row_given gs) rows
+            ∙ append_assoc (settled shape.rules h).rows (row_given g ∷ []) (map row_given gs);
+        settles = later.settles;
+        other = later.other;
+        walked_is = λ rest. option_walked g.0 g.1 is h (option_words gs ++ rest) ∙ later.walked_is rest;
+        turns = λ rest. option_turns g.0 g.1 is h (option_words gs ++ rest) settles ∙ later.turns rest;
+      }
+
+  -- no row is there at first
+  none_there : (given : List Given) → AreNew [] given
+  none_there [] = tt
+  none_there (g ∷ gs) = (refl, none_there gs)
+
+  -- nothing that is held settles
+  nothing_settles : Settles nothing_held
+  unfolding Settles
+  nothing_settles = refl
+
+  -- so it is from the start
+  pub options_go : (given : List Given) → AreOptionsOf u.flags given → Goes given nothing_held
+  options_go given options = goes given nothing_held options (none_there given) nothing_settles refl

@@ -1,0 +1,8 @@
+use Rattle.std.proofs.Common.{map, take, ◌≡◌}
+use Rattle.clap.specs.Words.{app_of}
+use Rattle.command_line.specs.Commands.{table_app}
+use Rattle.command_line.specs.Tables.{usage_of}
+use Rattle.command_line.proofs.command.command_of.Given as goal
+
+abbrev pub invariant-loop-subcommand : goal.invariant-loop-subcommand
+invariant-loop-subcommand l = app_of l.command ≡ table_app l.name (map usage_of (take l.subcommand-index l.table))

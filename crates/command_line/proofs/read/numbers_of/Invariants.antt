@@ -1,7 +1,0 @@
-use Rattle.std.proofs.Common.{map, take, ◌≡◌}
-use Rattle.clap.specs.Walk.{texts}
-use Rattle.command_line.specs.Numbers.{number_of}
-use Rattle.command_line.proofs.read.numbers_of.Given as goal
-
-abbrev pub invariant-loop-word : goal.invariant-loop-word
-invariant-loop-word l = l.numbers.items ≡ map number_of (take l.word-index (texts l.words))

@@ -1,0 +1,82 @@
+-- Tables of subcommands: the name of each, its options with their ranges and defaults, and whether it
+-- takes the numbers of calls.
+use Rattle.std.specs.Prelude.{ℕ, Bool, true, false, not, ◌&&◌, nat_le, List, [], ◌∷◌, Option, map, codes, find}
+use Rattle.std.specs.List.{list_any}
+use Rattle.std.specs.Option.{option_map_or}
+use Rattle.std.specs.Str.{bytes_eq}
+use Rattle.clap.specs.Lexer.{has_byte}
+use Rattle.clap.specs.Walk.{is_empty}
+use Rattle.clap.specs.Words.{Text}
+use Rattle.command_line.specs.Limits.{u64_limit}
+use Rattle.command_line.specs.declared.table.NumberOption.{NumberOption}
+use Rattle.command_line.specs.declared.table.Subcommand.{Subcommand}
+
+-- an option `--NAME N`: a number from the least to the greatest, with what is read where it is left
+-- out; one with no default may not be left out
+pub record Flag : Type 0 where
+  pub name : Text
+  pub least : ℕ
+  pub greatest : ℕ
+  pub default : Option ℕ
+
+-- a subcommand: its name, its options, and whether it takes `[CALL]..` after them
+pub record Usage : Type 0 where
+  pub name : Text
+  pub flags : List Flag
+  pub takes_calls : Bool
+
+-- the same as the program's code writes them, without the texts of help
+abbrev pub flag_of : NumberOption → Flag
+flag_of o = record {
+  name = o.name.now;
+  least = o.least;
+  greatest = o.greatest;
+  default = o.default;
+}
+
+abbrev pub usage_of : Subcommand → Usage
+usage_of s = record {
+  name = s.name.now;
+  flags = map flag_of s.options.now;
+  takes_calls = s.takes_calls;
+}
+
+-- the first subcommand of this name
+abbrev pub usage_named : Text → List Usage → Option Usage
+usage_named name table = find (λ u. bytes_eq u.name name) table
+
+-- the first option of this name
+abbrev pub flag_named : Text → List Flag → Option Flag
+flag_named name flags = find (λ f. bytes_eq f.name name) flags
+
+-- ---- tables that `clap` reads as they are meant
+
+-- `--NAME` names the option, and nothing else has its name
+abbrev pub is_flag_name : Text → List Flag → Bool
+is_flag_name name others = not (is_empty name) && not (has_byte 61 name)
+    && not (bytes_eq name (codes "help")) && not (bytes_eq name (codes "CALL"))
+    && not (list_any (λ f. bytes_eq name f.name) others)
+
+-- a `u64` holds the numbers of the option, and the default is one of them
+abbrev pub has_limits : Flag → Bool
+has_limits f = nat_le f.greatest u64_limit
+    && option_map_or (λ n. nat_le f.least n && nat_le n f.greatest) f.default true
+
+-- so it is of each option
+abbrev pub are_flags : List Flag → Bool
+are_flags [] = true
+are_flags (f ∷ fs) = is_flag_name f.name fs && has_limits f && are_flags fs
+
+-- and of the options of each subcommand, of which none is named `help`
+abbrev pub are_usages : List Usage → Bool
+are_usages [] = true
+are_usages (u ∷ us) = not (bytes_eq u.name (codes "help")) && are_flags u.flags && are_usages us
+
+-- no subcommand is there
+abbrev pub has_none : List Usage → Bool
+has_none [] = true
+has_none (u ∷ us) = false
+
+-- there is a subcommand, and each is as it should be
+abbrev pub is_table : List Usage → Bool
+is_table table = not (has_none table) && are_usages table

@@ -1,0 +1,58 @@
+-- The words that name a subcommand of a table, with options and calls.
+use Rattle.std.specs.Prelude.{◌≡◌, ⊤, ◌||◌, Bool, true, false, is_some, List, [], ◌∷◌, ◌++◌, Option, Some, None, map, codes, find, option_map}
+use Rattle.std.specs.List.{All, list_all, list_any}
+use Rattle.std.specs.Str.{bytes_eq}
+use Rattle.clap.specs.Words.{Text}
+use Rattle.command_line.specs.Numbers.{IsNumber, IsNumberFrom, number_of}
+use Rattle.command_line.specs.Requests.{Asked, AreNumbersOf}
+use Rattle.command_line.specs.Tables.{Flag, Usage, flag_named, usage_named}
+
+-- an option's name, and the text of its value
+abbrev pub Given : Type 0
+Given = Text × Text
+
+-- the words of options: the flag of each and its value
+abbrev pub option_words : List Given → List Text
+option_words [] = []
+option_words (g ∷ gs) = (codes "--" ++ g.0) ∷ g.1 ∷ option_words gs
+
+-- an option of this name is given
+abbrev pub has_option : Text → List Given → Bool
+has_option name given = list_any (λ g. bytes_eq g.0 name) given
+
+-- the value that is given to an option
+abbrev pub value_given : List Given → Text → Option Text
+value_given given name = option_map (λ g. g.1) (find (λ g. bytes_eq g.0 name) given)
+
+-- the text spells a number within the limits of the option
+abbrev pub IsValueOf : Option Flag → Text → Type 0
+IsValueOf None text = ⊥
+IsValueOf (Some f) text = IsNumberFrom f.least f.greatest text
+
+-- each is an option of the subcommand, is given once, and has a number within its limits
+abbrev pub AreOptionsOf : List Flag → List Given → Type 0
+AreOptionsOf flags [] = ⊤
+AreOptionsOf flags (g ∷ gs) =
+    IsValueOf (flag_named g.0 flags) g.1 × (has_option g.0 gs ≡ false) × AreOptionsOf flags gs
+
+-- each option that has no default is given
+abbrev pub has_required : List Flag → List Given → Bool
+has_required flags given = list_all (λ f. is_some f.default || has_option f.name given) flags
+
+-- the words are a name, the name of a subcommand, options of it in any order, and calls where it
+-- takes them
+pub record IsUse (table : List Usage) (words : List Text) (usage : Usage) (given : List Given) (calls : List Text) : Type 0 where
+  pub program : Text
+  pub words_are : words ≡ program ∷ usage.name ∷ (option_words given ++ calls)
+  pub named : usage_named usage.name table ≡ Some usage
+  pub options : AreOptionsOf usage.flags given
+  pub required : has_required usage.flags given ≡ true
+  pub numbers : All IsNumber calls
+  pub no_calls : usage.takes_calls ≡ false → calls ≡ []
+
+-- what is asked for is the subcommand, with the number of each option that is given, the default of
+-- each other, and the numbers of the calls
+pub record Gives (usage : Usage) (given : List Given) (texts : List Text) (asked : Asked) : Type 0 where
+  pub name : asked.name ≡ usage.name
+  pub numbers : AreNumbersOf usage.flags (value_given given) asked.numbers
+  pub calls : asked.calls ≡ map number_of texts

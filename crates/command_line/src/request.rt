@@ -1,0 +1,166 @@
+ghost use Rattle.std.specs.Prelude.{◌≡◌, ◌<◌, ◌^◌, ℕ, [], IfErr, IfOk, List, MatchResult, OnOk, Some};
+ghost use Rattle.std.specs.Prelude.{codes, is_some, length, map, slice_index, true};
+ghost use Rattle.std.specs.List.{All};
+ghost use Rattle.clap.specs.Words.{Text, fault_of, first_value, found_of, rows_of, subcommand_of};
+ghost use Rattle.clap.specs.Words.{subcommand_rows_of, takes};
+ghost use Rattle.clap.specs.Walk.{texts};
+ghost use Rattle.command_line.specs.Commands.{table_app};
+ghost use Rattle.command_line.specs.Numbers.{IsNumber, number_of};
+ghost use Rattle.command_line.specs.Requests.{AreCallsOf, AreNumbersOf, Asks, AsksSome};
+ghost use Rattle.command_line.specs.Requests.{IsNumberOf, asked_of, values_of};
+ghost use Rattle.command_line.specs.Tables.{Usage, flag_of, is_table, usage_named, usage_of};
+ghost use Rattle.command_line.specs.Words.{Given, Gives, IsUse};
+
+use crate::command::command_of;
+use crate::fault::LineFault;
+use crate::table::{NumberOption, Subcommand};
+use clap::ArgMatches;
+use std::alloc::{AllocError, Global};
+
+/// What words ask for: a subcommand of a table, with its numbers.
+#[derive(Debug, Drop)]
+pub(crate) struct Request<'a> {
+    /// The name of the subcommand.
+    pub(crate) name: &'a str,
+    /// The number of each of its options, in their order.
+    pub(crate) numbers: Vec<u64>,
+    /// The numbers of its calls.
+    pub(crate) calls: Vec<u32>,
+}
+
+impl Request<'_> {
+    /// The number of the option at this place.
+    pub(crate) fn number(&self, place: usize) -> u32
+        requires there { place < length self.now.numbers.items }
+        requires fits { slice_index self.now.numbers.items place < 2 ^ 32 }
+        ensures { result ≡ slice_index self.now.numbers.items place }
+    {
+        self.numbers[place] as u32
+    }
+}
+
+/// What `words` ask for by a table of subcommands, the program's name first.
+pub(crate) fn read_request<'a>(
+    alloc: Global,
+    name: &'a str,
+    about: &'a str,
+    table: &'a [Subcommand<'a>],
+    words: &'a [&'a str],
+) -> Result<Request<'a>, LineFault>
+    requires { is_table (map usage_of table.now) ≡ true }
+    ensures asked { IfOk result (λ r. Asks (map usage_of table.entry.now)
+        (subcommand_of (table_app name.entry.now (map usage_of table.entry.now))
+        (texts words.entry.now)) (asked_of r)) }
+    ensures accepted { OnOk result
+        (fault_of (table_app name.entry.now (map usage_of table.entry.now))
+        (texts words.entry.now) ≡ []) }
+    ensures refused { fault_of (table_app name.entry.now (map usage_of table.entry.now))
+        (texts words.entry.now) ≡ []
+        → IfErr result (λ e. e ≡ LineFault.Memory) }
+    // The same by the test that `clap` states for words that a command takes.
+    ensures taken { takes (table_app name.entry.now (map usage_of table.entry.now))
+        (texts words.entry.now) ≡ true
+        → IfErr result (λ e. e ≡ LineFault.Memory) }
+    // A subcommand, its options in any order and numbers of calls are always accepted.
+    ensures given { (usage : Usage) (given : List Given) (calls : List Text)
+        → IsUse (map usage_of table.entry.now) (texts words.entry.now) usage given calls
+        → MatchResult result (λ r. Gives usage given calls (asked_of r))
+        (λ e. e ≡ LineFault.Memory) }
+{
+    match command_of(alloc, name, about, table)?.try_get_matches_from(words) {
+        Ok(matches) => Ok(request_of(alloc, table, &matches)?),
+        Err(error) => Err(LineFault::of(alloc, &error)),
+    }
+}
+
+// What the subcommand that was met asks for.
+fn request_of<'a>(
+    alloc: Global,
+    table: &'a [Subcommand<'a>],
+    matches: &ArgMatches<'_>,
+) -> Result<Request<'a>, AllocError>
+    requires { AsksSome (map usage_of table.now) (subcommand_rows_of matches.now) }
+    ensures { IfOk result (λ r. Asks (map usage_of table.entry.now) (subcommand_rows_of matches.now)
+        (asked_of r)) }
+{
+    let (name, matched) = matches.subcommand().unwrap();
+    let subcommand = subcommand_named(table, name);
+    Ok(Request {
+        name: subcommand.name,
+        numbers: numbers_of_options(alloc, matched, subcommand.options)?,
+        calls: calls_of(alloc, matched, subcommand.takes_calls)?,
+    })
+}
+
+// The subcommand of this name.
+fn subcommand_named<'a>(table: &'a [Subcommand<'a>], name: &str) -> &'a Subcommand<'a>
+    requires { is_some (usage_named name.now (map usage_of table.now)) ≡ true }
+    ensures { usage_named name.now (map usage_of table.entry.now) ≡ Some (usage_of result.now) }
+{
+    for subcommand in table {
+        if subcommand.name == name {
+            return subcommand;
+        }
+    }
+    unreachable!()
+}
+
+// The number of each option, in their order.
+fn numbers_of_options(
+    alloc: Global,
+    matches: &ArgMatches<'_>,
+    options: &[NumberOption<'_>],
+) -> Result<Vec<u64>, AllocError>
+    requires { (ns : List ℕ)
+        × AreNumbersOf (map flag_of options.now) (first_value (found_of matches.now)) ns }
+    ensures { IfOk result (λ v. AreNumbersOf (map flag_of options.now)
+        (first_value (found_of matches.now)) v.items) }
+{
+    let mut numbers = Vec::new(alloc);
+    for option in options {
+        numbers.push(number_of_option(matches, option))?;
+    }
+    Ok(numbers)
+}
+
+// The number that the value of an option spells, or its default where it was left out.
+fn number_of_option(matches: &ArgMatches<'_>, option: &NumberOption<'_>) -> u64
+    requires { (n : ℕ) × IsNumberOf (flag_of option.now)
+        (first_value (found_of matches.now) option.now.name.now) n }
+    ensures { IsNumberOf (flag_of option.now)
+        (first_value (found_of matches.now) option.now.name.now) result }
+{
+    match matches.get_str(option.name) {
+        Some(text) => text.parse::<u64>().unwrap(),
+        None => option.default.unwrap(),
+    }
+}
+
+// The numbers of the calls, where the subcommand takes them.
+fn calls_of(
+    alloc: Global,
+    matches: &ArgMatches<'_>,
+    takes_calls: bool,
+) -> Result<Vec<u32>, AllocError>
+    requires { (ns : List ℕ) × AreCallsOf takes_calls
+        (values_of (codes "CALL") (rows_of (found_of matches.now))) ns }
+    ensures { IfOk result (λ v. AreCallsOf takes_calls
+        (values_of (codes "CALL") (rows_of (found_of matches.now))) v.items) }
+{
+    if takes_calls {
+        return numbers_of(alloc, matches.get_strs("CALL").unwrap_or(&[]));
+    }
+    Ok(Vec::new(alloc))
+}
+
+// The numbers that the words spell.
+fn numbers_of(alloc: Global, words: &[&str]) -> Result<Vec<u32>, AllocError>
+    requires { All IsNumber (texts words.now) }
+    ensures { IfOk result (λ v. v.items ≡ map number_of (texts words.now)) }
+{
+    let mut numbers = Vec::new(alloc);
+    for word in words {
+        numbers.push(word.parse::<u32>().unwrap())?;
+    }
+    Ok(numbers)
+}

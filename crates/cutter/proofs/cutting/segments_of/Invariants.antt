@@ -1,0 +1,10 @@
+use Rattle.std.proofs.Common.{length}
+use Rattle.events.specs.Operations.{operations}
+use Rattle.cutter.proofs.WalkLemmas.{AreSegmentsBefore}
+use Rattle.cutter.proofs.cutting.segments_of.Given as goal
+
+abbrev pub invariant-loop-rest : goal.invariant-loop-rest
+invariant-loop-rest l = AreSegmentsBefore (operations l.history) l.rest l.segments.items
+
+abbrev pub decreases-loop-rest : goal.decreases-loop-rest
+decreases-loop-rest l = length l.rest

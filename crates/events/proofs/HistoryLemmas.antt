@@ -1,0 +1,154 @@
+-- A history grows by one event at a time.
+use Rattle.events.specs.declared.fault.HistoryFault.TheVariants as faults
+use Rattle.std.proofs.Common.{◌≡◌, ℕ, ◌+◌, ◌<◌, ◌≤◌, Bool, true, false, not, ◌&&◌, ◌||◌, ◌==◌, cond, List, [], ◌∷◌, ◌++◌, length, Some, None, IsTrue, refl, sym}
+use Rattle.std.proofs.Common.{◌∙◌, arith, subst, eqb-true, eq-eqb, leb-false}
+use Rattle.std.specs.List.{list_all}
+use Rattle.std.proofs.lemmas.List.{append-nil}
+use Rattle.std.proofs.lemmas.List.Elements.{filter-append}
+use Rattle.std.proofs.lemmas.List.Folds.{list_all-append}
+use Rattle.std.proofs.lemmas.List.Sums.{sum_by-append}
+use Rattle.std.proofs.lemmas.Bool.Decides.{nat_tests}
+use Rattle.events.specs.declared.event.Event.{Event}
+use Rattle.events.specs.declared.event.Event.TheVariants.{Invoke, Answer}
+use Rattle.events.specs.declared.fault.HistoryFault.{HistoryFault}
+use Rattle.events.specs.Limits.{call_limit}
+use Rattle.events.specs.Events.{process_of, is_invocation, events_of, takes_turns, IsWellFormed}
+use Rattle.events.specs.Histories.{is_shaped, is_small, call_count, IsHistory}
+use Rattle.events.specs.HistoryFaults.{ends_waiting, has_open_call, is_out_of_turn, is_call_too_many, event_fault, fault_after, IsFirstFault}
+
+-- a process's events, with one event more
+events_of-push : (p : ℕ) (before : List Event) (e : Event) → events_of p (before ++ e ∷ []) ≡ events_of p before ++ cond (process_of e == p) (e ∷ []) []
+events_of-push p before e = filter-append (λ e. process_of e == p) before (e ∷ [])
+
+ends_waiting-push : (w : Bool) (xs : List Event) (e : Event) → ends_waiting w (xs ++ e ∷ []) ≡ is_invocation e
+ends_waiting-push w [] e = refl
+ends_waiting-push w (x ∷ xs) e = ends_waiting-push (is_invocation x) xs e
+
+open_after : (b : Bool) (xs : List Event) (e : Event) → ends_waiting false (xs ++ cond b (e ∷ []) []) ≡ cond b (is_invocation e) (ends_waiting false xs)
+open_after true xs e = ends_waiting-push false xs e
+open_after false xs e = rw (append-nil xs) refl
+
+-- whether a process has an open call, after one event more
+pub has_open_call-push : (p : ℕ) (before : List Event) (e : Event)
+    → has_open_call p (before ++ e ∷ []) ≡ cond (process_of e == p) (is_invocation e) (has_open_call p before)
+has_open_call-push p before e = rw (events_of-push p before e) (open_after (process_of e == p) (events_of p before) e)
+
+takes_turns-push : (w : Bool) (xs : List Event) (e : Event) → takes_turns w (xs ++ e ∷ []) ≡ (takes_turns w xs && not (is_out_of_turn (ends_waiting w xs) e))
+takes_turns-push true [] (Invoke p call) = refl
+takes_turns-push false [] (Invoke p call) = refl
+takes_turns-push true [] (Answer p reply) = refl
+takes_turns-push false [] (Answer p reply) = refl
+takes_turns-push true (Invoke p call ∷ xs) e = refl
+takes_turns-push false (Invoke p call ∷ xs) e = takes_turns-push true xs e
+takes_turns-push true (Answer p reply ∷ xs) e = takes_turns-push false xs e
+takes_turns-push false (Answer p reply ∷ xs) e = refl
+
+turns_after : (w b : Bool) (xs : List Event) (e : Event) → IsTrue (takes_turns w xs) → (b ≡ true → is_out_of_turn (ends_waiting w xs) e ≡ false)
+    → IsTrue (takes_turns w (xs ++ cond b (e ∷ []) []))
+turns_after w true xs e h turn = rw (takes_turns-push w xs e, turn refl, h) refl
+turns_after w false xs e h turn = rw (append-nil xs) h
+
+-- well formed with one event more, where it does not come out of turn
+pub IsWellFormed-push : (before : List Event) (e : Event) → IsWellFormed before → is_out_of_turn (has_open_call (process_of e) before) e ≡ false
+    → IsWellFormed (before ++ e ∷ [])
+IsWellFormed-push before e h turn p =
+    let now =
+    λ (same : (process_of e == p) ≡ true). subst (λ (q : ℕ). is_out_of_turn (has_open_call q before) e ≡ false) (eqb-true (process_of e) p same) turn in
+    rw (events_of-push p before e) (turns_after false (process_of e == p) (events_of p before) e (h p) now)
+
+pub call_count-push : (before : List Event) (e : Event) → call_count (before ++ e ∷ []) ≡ call_count before + cond (is_invocation e) 1 0
+call_count-push before e = sum_by-append (λ x. cond (is_invocation x) 1 0) before (e ∷ []) ∙ omega arith
+
+-- what it means that nothing is wrong with an event
+record IsSound (calls : ℕ) (has_open : Bool) (e : Event) : Type 0 where
+  shaped : is_shaped e ≡ true
+  small : is_small e ≡ true
+  calls_left : is_call_too_many calls e ≡ false
+  in_turn : is_out_of_turn has_open e ≡ false
+
+four_tests : (s m c t : Bool) (x y z : HistoryFault) → cond (not s) (Some x) (cond (not m || c) (Some y) (cond t (Some z) None)) ≡ None → (s ≡ true)
+    × (m ≡ true) × (c ≡ false) × (t ≡ false)
+four_tests false m c t x y z h = cc
+four_tests true false c t x y z h = cc
+four_tests true true true t x y z h = cc
+four_tests true true false true x y z h = cc
+four_tests true true false false x y z h = (refl, refl, refl, refl)
+
+IsSound-from_none : (place calls : ℕ) (has_open : Bool) (e : Event) → event_fault place calls has_open e ≡ None → IsSound calls has_open e
+IsSound-from_none place calls has_open e h =
+    let t = four_tests (is_shaped e) (is_small e) (is_call_too_many calls e) (is_out_of_turn has_open e) (faults.Shape place) faults.TooMany
+    (faults.NotWellFormed place) h in
+    record { shaped = t.0; small = t.1; calls_left = t.2; in_turn = t.3 }
+
+none-from_IsSound : (place calls : ℕ) (has_open : Bool) (e : Event) → IsSound calls has_open e → event_fault place calls has_open e ≡ None
+none-from_IsSound place calls has_open e h = rw (h.shaped, h.small, h.calls_left, h.in_turn) refl
+
+room : (calls : ℕ) (e : Event) → is_call_too_many calls e ≡ false → calls ≤ call_limit → calls + cond (is_invocation e) 1 0 ≤ call_limit
+room calls (Invoke p call) h within = let below = leb-false call_limit calls h in omega arith
+room calls (Answer p reply) h within = omega arith
+
+-- a history with one event more, where nothing is wrong with it
+pub IsHistory-push : (before : List Event) (e : Event) → IsHistory before → fault_after before e ≡ None → IsHistory (before ++ e ∷ [])
+IsHistory-push before e h none =
+    let sound = IsSound-from_none (length before) (call_count before) (has_open_call (process_of e) before) e none in
+    record {
+      shaped = rw (list_all-append is_shaped before (e ∷ []), h.shaped, sound.shaped) refl;
+      small = rw (list_all-append is_small before (e ∷ []), h.small, sound.small) refl;
+      calls = rw (call_count-push before e) (room (call_count before) e sound.calls_left h.calls);
+      well_formed = IsWellFormed-push before e h.well_formed sound.in_turn;
+    }
+
+-- ---- and back: each event of a history is sound after those before it
+
+and_right : (a b : Bool) → (a && b) ≡ true → b ≡ true
+and_right true b h = h
+and_right false b h = cc
+
+and_left : (a b : Bool) → (a && b) ≡ true → a ≡ true
+and_left true b h = refl
+and_left false b h = cc
+
+passes_at : (test : Event → Bool) (before : List Event) (e : Event) (rest : List Event) → list_all test (before ++ e ∷ rest) ≡ true → test e ≡ true
+passes_at test before e rest h = and_left (test e) _ (and_right (list_all test before) _ (sym (list_all-append test before (e ∷ rest)) ∙ h))
+
+in_turn_at : (w : Bool) (xs : List Event) (e : Event) (ys : List Event) → takes_turns w (xs ++ e ∷ ys) ≡ true → is_out_of_turn (ends_waiting w xs) e ≡ false
+in_turn_at true [] (Invoke p call) ys h = cc
+in_turn_at false [] (Invoke p call) ys h = refl
+in_turn_at true [] (Answer p reply) ys h = refl
+in_turn_at false [] (Answer p reply) ys h = cc
+in_turn_at true (Invoke p call ∷ xs) e ys h = cc
+in_turn_at false (Invoke p call ∷ xs) e ys h = in_turn_at true xs e ys h
+in_turn_at true (Answer p reply ∷ xs) e ys h = in_turn_at false xs e ys h
+in_turn_at false (Answer p reply ∷ xs) e ys h = cc
+
+some_left : (calls more : ℕ) (e : Event) → calls + (cond (is_invocation e) 1 0 + more) ≤ call_limit → is_call_too_many calls e ≡ false
+some_left calls more (Invoke p call) h = let above : calls < call_limit = omega arith in grind (arith, nat_tests)
+some_left calls more (Answer p reply) h = refl
+
+calls_before : (before : List Event) (e : Event) (rest : List Event) → call_count (before ++ e ∷ rest) ≤ call_limit
+    → call_count before + (cond (is_invocation e) 1 0 + call_count rest) ≤ call_limit
+calls_before before e rest h =
+    let p = sum_by-append (λ x. cond (is_invocation x) 1 0) before (e ∷ rest) in
+    let q = sum_by-append (λ x. cond (is_invocation x) 1 0) (e ∷ []) rest in
+    omega (arith, p, q)
+
+own_events : (before : List Event) (e : Event) (rest : List Event) → takes_turns false (events_of (process_of e) (before ++ e ∷ rest)) ≡ true
+    → takes_turns false (events_of (process_of e) before ++ e ∷ events_of (process_of e) rest) ≡ true
+own_events before e rest h =
+    let own : (process_of e == process_of e) ≡ true = eq-eqb (process_of e) (process_of e) refl in
+    rw own at (rw (filter-append (λ x. process_of x == process_of e) before (e ∷ rest)) at h)
+
+-- nothing is wrong with an event of a history, after those before it
+pub IsHistory-next : (before rest : List Event) (e : Event) → IsHistory (before ++ e ∷ rest) → fault_after before e ≡ None
+IsHistory-next before rest e h = none-from_IsSound (length before) (call_count before) (has_open_call (process_of e) before) e (record {
+  shaped = passes_at is_shaped before e rest h.shaped;
+  small = passes_at is_small before e rest h.small;
+  calls_left = some_left (call_count before) (call_count rest) e (calls_before before e rest h.calls);
+  in_turn = in_turn_at false (events_of (process_of e) before) e (events_of (process_of e) rest) (own_events before e rest (h.well_formed (process_of e)));
+})
+
+-- a list with a first fault is no history
+pub IsFirstFault-not_history : (events : List Event) (fault : HistoryFault) → IsFirstFault events fault → IsHistory events → ⊥
+IsFirstFault-not_history events fault first h =
+    let none = IsHistory-next first.before first.rest first.event (rw (← first.parts) h) in
+    absurd (cc (first.shows, none))

@@ -1,0 +1,5 @@
+pub mod HistoryLemmas
+pub mod OperationLemmas
+pub mod TimeLemmas
+pub mod OpenCallLemmas
+pub mod FirstFaultLemmas

@@ -1,0 +1,69 @@
+-- When the calls of a history are invoked and answered.
+use Rattle.std.proofs.Common.{◌≡◌, ℕ, suc, ◌<◌, ◌≤◌, Bool, true, false, cond, ◌==◌, List, [], ◌∷◌, Option, Some, None, refl, arith}
+use Rattle.std.specs.Prelude.{IfSome, All, AllPairs}
+use Rattle.std.proofs.lemmas.Bool.{le-ltb}
+use Rattle.std.proofs.lemmas.Option.{IfSome_then}
+use Rattle.std.proofs.lemmas.List.Elements.{All-nil, All-cons, All-weaker}
+use Rattle.std.proofs.lemmas.List.Kept.{AllPairs-cons}
+use Rattle.events.specs.declared.event.Event.{Event}
+use Rattle.events.specs.declared.event.Event.TheVariants.{Invoke, Answer}
+use Rattle.events.specs.declared.operation.Response.{Response}
+use Rattle.events.specs.Operations.{response_from, operation_of, operations_from, operations}
+use Rattle.events.specs.Precedence.{is_before, precedes, NonePrecedesItself}
+use Rattle.list_laws.proofs.Lists.{AllPairs-nil}
+
+-- a response that is looked for from a place on stands there or later
+response_from-at_least : (p i : ℕ) (events : List Event) → IfSome (response_from p i events) (λ r. i ≤ r.res)
+response_from-at_least p i [] = tt
+response_from-at_least p i (Invoke q call ∷ events) =
+    IfSome_then (response_from p (suc i) events) (response_from-at_least p (suc i) events) (λ r later. omega arith)
+response_from-at_least p i (Answer q reply ∷ events) =
+    first_or (q == p) (record { res = i; reply = reply }) (response_from p (suc i) events) (omega arith)
+    (IfSome_then (response_from p (suc i) events) (response_from-at_least p (suc i) events) (λ r later. omega arith))
+  where
+    first_or : (b : Bool) (x : Response) (rest : Option Response) → i ≤ x.res → IfSome rest (λ r. i ≤ r.res) → IfSome (cond b (Some x) rest) (λ r. i ≤ r.res)
+    first_or true x rest h k = h
+    first_or false x rest h k = k
+
+-- the calls of a list that starts at a place are invoked there or later
+inv-at_least : (i : ℕ) (events : List Event) → All (λ a. i ≤ a.inv) (operations_from i events)
+inv-at_least i [] = All-nil (λ a. i ≤ a.inv)
+inv-at_least i (Answer p reply ∷ events) =
+    All-weaker (λ a. suc i ≤ a.inv) (λ a. i ≤ a.inv) (λ a later. omega arith) (operations_from (suc i) events) (inv-at_least (suc i) events)
+inv-at_least i (Invoke p call ∷ events) =
+    All-cons (λ a. i ≤ a.inv) (operation_of p call i events) (operations_from (suc i) events) (omega arith)
+    (All-weaker (λ a. suc i ≤ a.inv) (λ a. i ≤ a.inv) (λ a later. omega arith) (operations_from (suc i) events) (inv-at_least (suc i) events))
+
+inv_rises_from : (i : ℕ) (events : List Event) → AllPairs (λ a b. a.inv < b.inv) (operations_from i events)
+inv_rises_from i [] = AllPairs-nil (λ a b. a.inv < b.inv)
+inv_rises_from i (Answer p reply ∷ events) = inv_rises_from (suc i) events
+inv_rises_from i (Invoke p call ∷ events) =
+    AllPairs-cons (λ a b. a.inv < b.inv) (operation_of p call i events) (operations_from (suc i) events)
+    (All-weaker (λ a. suc i ≤ a.inv) (λ a. i < a.inv) (λ a later. omega arith) (operations_from (suc i) events) (inv-at_least (suc i) events))
+    (inv_rises_from (suc i) events)
+
+response_later_from : (i : ℕ) (events : List Event) → All (λ a. IfSome a.response (λ r. a.inv < r.res)) (operations_from i events)
+response_later_from i [] = All-nil (λ a. IfSome a.response (λ r. a.inv < r.res))
+response_later_from i (Answer p reply ∷ events) = response_later_from (suc i) events
+response_later_from i (Invoke p call ∷ events) =
+    All-cons (λ a. IfSome a.response (λ r. a.inv < r.res)) (operation_of p call i events) (operations_from (suc i) events)
+    (IfSome_then (response_from p (suc i) events) (response_from-at_least p (suc i) events) (λ r later. omega arith))
+    (response_later_from (suc i) events)
+
+-- calls are numbered by their invocations: a later call is invoked later
+pub inv_rises : (events : List Event) → AllPairs (λ a b. a.inv < b.inv) (operations events)
+inv_rises events = inv_rises_from 0 events
+
+-- each response stands after the invocation that it answers
+pub response_later : (events : List Event) → All (λ a. IfSome a.response (λ r. a.inv < r.res)) (operations events)
+response_later events = response_later_from 0 events
+
+-- no call of a history precedes itself
+pub NonePrecedesItself-operations : (events : List Event) → NonePrecedesItself (operations events)
+NonePrecedesItself-operations events =
+    All-weaker (λ a. IfSome a.response (λ r. a.inv < r.res)) (λ a. precedes a a ≡ false) (λ a later. not_before a.response a.inv later) (operations events)
+    (response_later events)
+  where
+    not_before : (response : Option Response) (inv : ℕ) → IfSome response (λ r. inv < r.res) → is_before response inv ≡ false
+    not_before None inv h = refl
+    not_before (Some r) inv h = le-ltb r.res inv (omega arith)

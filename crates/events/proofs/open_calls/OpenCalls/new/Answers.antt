@@ -1,0 +1,6 @@
+use Rattle.std.proofs.Common.{refl}
+use Rattle.std.proofs.lemmas.List.{get_or-replicate}
+use Rattle.events.proofs.open_calls.OpenCalls.new.Goals as goal
+
+pub returns : goal.returns
+returns c = record { calls = refl; has_open = λ p below. get_or-replicate 64 p _ _ below }

@@ -1,0 +1,9 @@
+pub mod Limits
+pub mod Events
+pub mod Histories
+pub mod HistoryFaults
+pub mod Keys
+pub mod Operations
+pub mod Precedence
+pub mod OpenCalls
+pub mod Laws

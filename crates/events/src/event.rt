@@ -1,0 +1,122 @@
+// What processes do at a map: they call it, and it answers them.
+ghost use Rattle.std.specs.Prelude.{◌≡◌, IfOk};
+
+use crate::memory::Memory;
+use std::alloc::Global;
+use std::marker::Model;
+
+/// What a process asks of the map.
+#[derive(Clone, Copy, Debug, PartialEq, Eq)]
+pub enum Call {
+    /// The value at a key.
+    Get(u64),
+    /// A key, and the value that it is to hold.
+    Insert(u64, u64),
+    /// The key that is to be absent.
+    Remove(u64),
+    /// All pairs from the first key to the last, both included.
+    Scan(u64, u64),
+}
+
+impl Call {
+    ghost use Rattle.events.specs.Keys.{low_key, high_key, may_change};
+
+    /// The least key that the call names.
+    pub fn low_key(&self) -> u64
+        ensures { result ≡ low_key self.now }
+    {
+        match self {
+            Call::Get(key) | Call::Insert(key, _) | Call::Remove(key) => *key,
+            Call::Scan(low, _) => *low,
+        }
+    }
+
+    /// The greatest key that the call names.
+    pub fn high_key(&self) -> u64
+        ensures { result ≡ high_key self.now }
+    {
+        match self {
+            Call::Get(key) | Call::Insert(key, _) | Call::Remove(key) => *key,
+            Call::Scan(_, high) => *high,
+        }
+    }
+
+    /// Whether the call may change the map.
+    pub fn may_change(&self) -> bool
+        ensures { result ≡ may_change self.now }
+    {
+        matches!(self, Call::Insert(..) | Call::Remove(_))
+    }
+}
+
+/// The pairs that a scan was answered, in the order in which they came. Contracts see the list.
+#[derive(Debug, Drop)]
+pub struct Pairs {
+    items: Vec<(u64, u64)>,
+}
+
+impl Model for Pairs {
+    ghost use Rattle.std.specs.Prelude.{List, ℕ};
+
+    ghost Value = { List (ℕ × ℕ) };
+
+    ghost view = { λ p. p.items.items };
+}
+
+impl Pairs {
+    /// Takes the pairs as they are: neither their order nor their keys are tested.
+    pub fn new(items: Vec<(u64, u64)>) -> Pairs
+        ensures { result ≡ items.items }
+    {
+        Pairs { items }
+    }
+
+    /// The pairs.
+    pub fn as_slice(&self) -> &[(u64, u64)]
+        ensures { result.now ≡ self.now }
+    {
+        &self.items
+    }
+
+    /// The same pairs again.
+    pub fn copy(&self, alloc: Global) -> Result<Pairs, Memory>
+        ensures { IfOk result (λ p. p ≡ self.now) }
+    {
+        let items = Vec::from_slice(alloc, &self.items)?;
+        Ok(Pairs { items })
+    }
+}
+
+/// What the map answers.
+#[derive(Debug, Drop)]
+pub enum Reply {
+    /// No value was at the key.
+    None,
+    /// The value that was at the key.
+    Some(u64),
+    /// The pairs that a scan found.
+    Pairs(Pairs),
+    /// The map would not do the call, and nothing changed.
+    Refused,
+}
+
+impl Reply {
+    /// The same reply again.
+    pub fn copy(&self, alloc: Global) -> Result<Reply, Memory>
+        ensures { IfOk result (λ reply. reply ≡ self.now) }
+    {
+        match self {
+            Reply::None => Ok(Reply::None),
+            Reply::Some(value) => Ok(Reply::Some(*value)),
+            Reply::Pairs(pairs) => Ok(Reply::Pairs(pairs.copy(alloc)?)),
+            Reply::Refused => Ok(Reply::Refused),
+        }
+    }
+}
+
+/// One event of a history: a process begins a call, or its open call is answered.
+#[derive(Debug, Drop)]
+pub enum Event {
+    Invoke { process: u8, call: Call },
+    Answer { process: u8, reply: Reply },
+}

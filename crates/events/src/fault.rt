@@ -1,0 +1,53 @@
+use crate::memory::Memory;
+use std::alloc::AllocFailed;
+use thiserror::Error;
+
+/// Why a text or a list of events is no history: its first fault.
+#[derive(Debug, Drop, Error)]
+pub enum HistoryFault {
+    /// The text has more than `MAX_TEXT` bytes.
+    #[error("1 TooLong")]
+    TooLong,
+    /// The text is no JSON in UTF-8.
+    #[error("2 NotJson")]
+    NotJson,
+    /// The text is no object of `events`, an array, and `version`, the number 1, alone.
+    #[error("3 Version")]
+    Version,
+    /// The event at this place has no form that an event has.
+    #[error("4 Shape at event {event}")]
+    Shape { event: usize },
+    /// A process number of `PROCESSES` or more, a call past `MAX_CALLS`, or a reply of more than
+    /// `MAX_PAIRS` pairs.
+    #[error("5 TooMany")]
+    TooMany,
+    /// The event at this place comes out of turn: an invocation while its process has an open call,
+    /// or a response while it has none.
+    #[error("6 NotWellFormed at event {event}")]
+    NotWellFormed { event: usize },
+    /// Want of memory.
+    #[error("7 Memory")]
+    Memory,
+}
+
+impl From<Memory> for HistoryFault {
+    ghost use Rattle.std.specs.Prelude.{◌≡◌};
+    ghost use Rattle.events.specs.declared.fault.HistoryFault.TheVariants as faults;
+
+    ghost from_gives = { λ _ e. e ≡ faults.Memory };
+
+    fn from(_error: Memory) -> HistoryFault {
+        HistoryFault::Memory
+    }
+}
+
+impl<T: Drop> From<AllocFailed<T>> for HistoryFault {
+    ghost use Rattle.std.specs.Prelude.{◌≡◌};
+    ghost use Rattle.events.specs.declared.fault.HistoryFault.TheVariants as faults;
+
+    ghost from_gives = { λ _ e. e ≡ faults.Memory };
+
+    fn from(_error: AllocFailed<T>) -> HistoryFault {
+        HistoryFault::Memory
+    }
+}

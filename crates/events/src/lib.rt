@@ -1,0 +1,29 @@
+//! Recorded histories of an ordered map: events, the calls that they make, and which precedes which.
+#![tactic(auto)]
+
+mod event;
+mod fault;
+mod histories;
+mod laws;
+mod memory;
+mod open_calls;
+mod operation;
+mod operations;
+mod turns;
+
+pub use event::{Call, Event, Pairs, Reply};
+pub use fault::HistoryFault;
+pub use histories::History;
+pub use laws::one_event_fault;
+pub use memory::Memory;
+pub use operation::{Operation, Response};
+pub use turns::Turns;
+
+/// Processes are numbered from 0, each below this.
+pub const PROCESSES: u8 = 64;
+
+/// The most calls that a history has.
+pub const MAX_CALLS: usize = 4096;
+
+/// The most pairs that one reply lists.
+pub const MAX_PAIRS: usize = 4096;

@@ -1,6 +1,0 @@
-use Rattle.std.proofs.Common.{◌≡◌, ◌++◌, drop}
-use Rattle.history.specs.Operations.{operations, operations_from}
-use Rattle.history.proofs.operations.operations_of.Given as goal
-
-abbrev pub invariant-loop-inv : goal.invariant-loop-inv
-invariant-loop-inv l = operations l.events ≡ l.calls.items ++ operations_from l.inv (drop l.inv l.events)

@@ -1,6 +1,0 @@
-use Rattle.std.proofs.Common.{◌≡◌, drop}
-use Rattle.history.specs.Operations.{response_from}
-use Rattle.history.proofs.operations.response_of.Given as goal
-
-abbrev pub invariant-loop-res : goal.invariant-loop-res
-invariant-loop-res l = response_from l.process l.from (drop l.from l.events) ≡ response_from l.process l.res (drop l.res l.events)

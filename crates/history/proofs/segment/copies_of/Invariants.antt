@@ -1,6 +1,0 @@
-use Rattle.std.proofs.Common.{◌≡◌, take}
-use Rattle.history.specs.Orders.{calls_at}
-use Rattle.history.proofs.segment.copies_of.Given as goal
-
-abbrev pub invariant-loop-number : goal.invariant-loop-number
-invariant-loop-number l = l.taken.items ≡ calls_at l.calls (take l.number-index l.numbers)

@@ -1,5 +1,0 @@
-use Rattle.history.proofs.TextFaultLemmas.{one_history}
-use Rattle.history.proofs.text_laws.one_history.Goals as goal
-
-pub returns : goal.returns
-returns c = one_history

@@ -1,6 +1,0 @@
-use Rattle.std.proofs.Common.{refl}
-use Rattle.std.proofs.lemmas.List.{get_or-replicate}
-use Rattle.history.proofs.turns.Turns.new.Goals as goal
-
-pub returns : goal.returns
-returns c = record { calls = refl; has_open = λ p below. get_or-replicate 64 p _ _ below }

@@ -1,0 +1,69 @@
+-- The value of a history has no float, and nests five deep at most.
+use Rattle.events.specs.declared.event.Reply.TheVariants as replies
+use Rattle.std.proofs.Common.{◌≡◌, ℕ, ◌≤◌, List, [], ◌∷◌, map, false, refl, arith}
+use Rattle.serde_json.specs.Data.{Data, depth, items_depth}
+use Rattle.serde_json.specs.View.{items_of}
+use Rattle.serde_json.specs.Written.{has_float, items_have_float}
+use Rattle.events.specs.declared.event.Call.{Call}
+use Rattle.events.specs.declared.event.Call.TheVariants.{Get, Insert, Remove, Scan}
+use Rattle.events.specs.declared.event.Reply.{Reply}
+use Rattle.events.specs.declared.event.Event.{Event}
+use Rattle.events.specs.declared.event.Event.TheVariants.{Invoke, Answer}
+use Rattle.history_text.specs.Texts.{pair_data, call_data, reply_data, event_data, history_data}
+
+module _ {A : Type 0} (f : A → Data) where
+  -- a list has no float where no item has one
+  items_have_float-map : ((x : A) → has_float (f x) ≡ false) → (xs : List A) → items_have_float (items_of (map f xs)) ≡ false
+  items_have_float-map each [] = refl
+  items_have_float-map each (x ∷ xs) = rw (each x, items_have_float-map each xs) refl
+
+  -- a list nests as deep as its items
+  items_depth-map : (n : ℕ) → ((x : A) → depth (f x) ≤ n) → (xs : List A) → items_depth (items_of (map f xs)) ≤ n
+  items_depth-map n each [] = omega arith
+  items_depth-map n each (x ∷ xs) = omega (arith, each x, items_depth-map n each xs)
+
+-- a call has no float
+has_float-call : (call : Call) → has_float (call_data call) ≡ false
+has_float-call (Get key) = refl
+has_float-call (Insert key value) = refl
+has_float-call (Remove key) = refl
+has_float-call (Scan low high) = refl
+
+-- a reply has no float
+has_float-reply : (reply : Reply) → has_float (reply_data reply) ≡ false
+has_float-reply replies.None = refl
+has_float-reply (replies.Some value) = refl
+has_float-reply (replies.Pairs pairs) = items_have_float-map pair_data (λ pair. refl) pairs
+has_float-reply replies.Refused = refl
+
+-- an event has no float
+has_float-event : (e : Event) → has_float (event_data e) ≡ false
+has_float-event (Invoke p call) = rw (has_float-call call) refl
+has_float-event (Answer p reply) = rw (has_float-reply reply) refl
+
+-- a history has no float
+pub has_float-history : (events : List Event) → has_float (history_data events) ≡ false
+has_float-history events = rw (items_have_float-map event_data has_float-event events) refl
+
+-- a call nests two deep at most
+depth-call : (call : Call) → depth (call_data call) ≤ 2
+depth-call (Get key) = omega arith
+depth-call (Insert key value) = omega arith
+depth-call (Remove key) = omega arith
+depth-call (Scan low high) = omega arith
+
+-- a reply nests two deep at most
+depth-reply : (reply : Reply) → depth (reply_data reply) ≤ 2
+depth-reply replies.None = omega arith
+depth-reply (replies.Some value) = omega arith
+depth-reply (replies.Pairs pairs) = omega (arith, items_depth-map pair_data 1 (λ pair. omega arith) pairs)
+depth-reply replies.Refused = omega arith
+
+-- an event nests three deep at most
+depth-event : (e : Event) → depth (event_data e) ≤ 3
+depth-event (Invoke p call) = omega (arith, depth-call call)
+depth-event (Answer p reply) = omega (arith, depth-reply reply)
+
+-- a history nests five deep at most
+pub depth-history : (events : List Event) → depth (history_data events) ≤ 5
+depth-history events = omega (arith, items_depth-map event_data 3 depth-event events)

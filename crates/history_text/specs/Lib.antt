@@ -1,0 +1,5 @@
+pub mod Limits
+pub mod TextFaults
+pub mod TextLaws
+pub mod Texts
+pub mod ValueFaults

@@ -1,0 +1,183 @@
+// From a JSON value to an event.
+ghost use Rattle.std.specs.Prelude.{◌≡◌, ◌≤◌, ◌∷◌, [], List, ℕ, map, IsTrue, IfOk, IfErr, IfSome, IfNone};
+ghost use Rattle.serde_json.specs.Data.{Data, string};
+ghost use Rattle.serde_json.specs.View.{view};
+ghost use Rattle.events.specs.declared.event.Call.{Call};
+ghost use Rattle.events.specs.declared.event.Reply.{Reply};
+ghost use Rattle.events.specs.declared.fault.HistoryFault.TheVariants as faults;
+ghost use Rattle.events.specs.Histories.{has_range};
+ghost use Rattle.history_text.specs.Texts.{number_data, list_data, pair_data, call_data, reply_data, event_data};
+ghost use Rattle.history_text.specs.ValueFaults.{object_of_two, invocation_data, response_data, IsValueFault};
+
+use events::{Call, Event, HistoryFault, Memory, PROCESSES, Pairs, Reply};
+use serde_json::Value;
+use std::alloc::Global;
+
+/// The event at a place of a history's text. Otherwise why it is refused: `Shape`, `TooMany` for a process
+/// number that no `u8` holds, or `Memory`.
+pub fn event_of(alloc: Global, place: usize, value: &Value) -> Result<Event, HistoryFault>
+    ensures ok { IfOk result (λ e. view value.now ≡ event_data e) }
+    ensures refused { IfErr result (IsValueFault place (view value.now)) }
+{
+    if let Some((call, process)) = two_members(value, "invoke", "process") {
+        return invocation_of(place, call, process);
+    }
+    if let Some((reply, process)) = two_members(value, "answer", "process") {
+        return response_of(alloc, place, reply, process);
+    }
+    Err(HistoryFault::Shape { event: place })
+}
+
+/// The invocation that the values of its call and its process spell.
+fn invocation_of(place: usize, call: &Value, process: &Value) -> Result<Event, HistoryFault>
+    ensures ok { IfOk result (λ e. event_data e
+        ≡ invocation_data (view call.now) (view process.now)) }
+    ensures refused { IfErr result (IsValueFault place
+        (invocation_data (view call.now) (view process.now))) }
+{
+    let (Some(call), Some(process)) = (call_of(call), process.as_u64()) else {
+        return Err(HistoryFault::Shape { event: place });
+    };
+    let process = process_number(process)?;
+    Ok(Event::Invoke { process, call })
+}
+
+/// The response that the values of its reply and its process spell.
+fn response_of(
+    alloc: Global,
+    place: usize,
+    reply: &Value,
+    process: &Value,
+) -> Result<Event, HistoryFault>
+    ensures ok { IfOk result (λ e. event_data e
+        ≡ response_data (view reply.now) (view process.now)) }
+    ensures refused { IfErr result (IsValueFault place
+        (response_data (view reply.now) (view process.now))) }
+{
+    let (Some(reply), Some(process)) = (reply_of(alloc, reply)?, process.as_u64()) else {
+        return Err(HistoryFault::Shape { event: place });
+    };
+    let process = process_number(process)?;
+    Ok(Event::Answer { process, reply })
+}
+
+/// A process number, so far as it can be held; `PROCESSES` is tested with the event's turn.
+fn process_number(number: u64) -> Result<u8, HistoryFault>
+    ensures ok { IfOk result (λ process. process ≡ number) }
+    ensures refused { IfErr result (λ fault. (fault ≡ faults.TooMany) × (PROCESSES ≤ number)) }
+{
+    u8::try_from(number).map_err(|_| HistoryFault::TooMany)
+}
+
+/// The values of an object that has two members alone, by these names in this order.
+pub fn two_members<'a>(
+    value: &'a Value,
+    first: &str,
+    second: &str,
+) -> Option<(&'a Value, &'a Value)>
+    ensures some { IfSome result (λ found. view value.now
+        ≡ object_of_two first.now (view found.0.now) second.now (view found.1.now)) }
+    ensures none { IfNone result ((d e : Data)
+        → view value.now ≡ object_of_two first.now d second.now e → ⊥) }
+{
+    let members = value.as_object()?;
+    if members.len() != 2 {
+        return None;
+    }
+    let (first_name, first_value) = members.first_key_value()?;
+    let (second_name, second_value) = members.last_key_value()?;
+    if first_name.as_str() == first && second_name.as_str() == second {
+        Some((first_value, second_value))
+    } else {
+        None
+    }
+}
+
+/// The call that a value spells, a scan only with its ends in order.
+fn call_of(value: &Value) -> Option<Call>
+    ensures some { IfSome result (λ call. view value.now ≡ call_data call) }
+    ensures range { IfSome result (λ call. IsTrue (has_range call)) }
+    ensures none { IfNone result ((call : Call)
+        → view value.now ≡ call_data call → IsTrue (has_range call) → ⊥) }
+{
+    match value.as_array()?.as_slice() {
+        [name, key] => one_number_call(name.as_str()?, key.as_u64()?),
+        [name, first, second] => {
+            two_number_call(name.as_str()?, first.as_u64()?, second.as_u64()?)
+        }
+        _ => None,
+    }
+}
+
+fn one_number_call(name: &str, key: u64) -> Option<Call>
+    ensures some { IfSome result (λ call. call_data call
+        ≡ list_data (string name.now ∷ number_data key ∷ [])) }
+    ensures range { IfSome result (λ call. IsTrue (has_range call)) }
+    ensures none { IfNone result ((call : Call)
+        → call_data call ≡ list_data (string name.now ∷ number_data key ∷ []) → ⊥) }
+{
+    match name {
+        "get" => Some(Call::Get(key)),
+        "remove" => Some(Call::Remove(key)),
+        _ => None,
+    }
+}
+
+fn two_number_call(name: &str, first: u64, second: u64) -> Option<Call>
+    ensures some { IfSome result (λ call. call_data call
+        ≡ list_data (string name.now ∷ number_data first ∷ number_data second ∷ [])) }
+    ensures range { IfSome result (λ call. IsTrue (has_range call)) }
+    ensures none { IfNone result ((call : Call)
+        → call_data call
+        ≡ list_data (string name.now ∷ number_data first ∷ number_data second ∷ [])
+        → IsTrue (has_range call) → ⊥) }
+{
+    match name {
+        "insert" => Some(Call::Insert(first, second)),
+        "scan" if first <= second => Some(Call::Scan(first, second)),
+        _ => None,
+    }
+}
+
+/// The reply that a value spells.
+fn reply_of(alloc: Global, value: &Value) -> Result<Option<Reply>, Memory>
+    ensures some { IfOk result (λ found. IfSome found (λ reply. view value.now ≡ reply_data reply)) }
+    ensures none { IfOk result (λ found. IfNone found ((reply : Reply)
+        → view value.now ≡ reply_data reply → ⊥)) }
+{
+    match value {
+        Value::Null => Ok(Some(Reply::None)),
+        Value::Number(number) => Ok(number.as_u64().map(Reply::Some)),
+        Value::String(text) if text.as_str() == "refused" => Ok(Some(Reply::Refused)),
+        Value::Array(items) => Ok(pairs_of(alloc, items)?.map(Reply::Pairs)),
+        _ => Ok(None),
+    }
+}
+
+/// The pairs that the items of an array spell.
+fn pairs_of(alloc: Global, items: &[Value]) -> Result<Option<Pairs>, Memory>
+    ensures some { IfOk result (λ found. IfSome found
+        (λ pairs. map view items.now ≡ map pair_data pairs)) }
+    ensures none { IfOk result (λ found. IfNone found ((pairs : List (ℕ × ℕ))
+        → map view items.now ≡ map pair_data pairs → ⊥)) }
+{
+    let mut pairs = Vec::new(alloc);
+    for item in items {
+        let Some(pair) = pair_of(item) else {
+            return Ok(None);
+        };
+        pairs.push(pair)?;
+    }
+    Ok(Some(Pairs::new(pairs)))
+}
+
+/// The pair of numbers that a value spells.
+fn pair_of(value: &Value) -> Option<(u64, u64)>
+    ensures some { IfSome result (λ pair. view value.now ≡ pair_data pair) }
+    ensures none { IfNone result ((pair : ℕ × ℕ) → view value.now ≡ pair_data pair → ⊥) }
+{
+    match value.as_array()?.as_slice() {
+        [key, value] => Some((key.as_u64()?, value.as_u64()?)),
+        _ => None,
+    }
+}

@@ -1,0 +1,79 @@
+// From a history to its text.
+ghost use Rattle.std.specs.Prelude.{◌≡◌, ◌≤◌, map, IfOk, string_bytes, string_len};
+ghost use Rattle.serde_json.specs.View.{view};
+ghost use Rattle.serde_json.specs.Written.{compact_text};
+ghost use Rattle.history_text.specs.Texts.{list_data, pair_data, call_data, reply_data, event_data, history_data, Spells};
+
+use crate::MAX_TEXT;
+use events::{Call, Event, History, Memory, Reply};
+use serde_json::{Value, json};
+use std::alloc::{AllocError, Global};
+
+/// The text of a history in the compact form: no spaces, members by rising bytes, numbers in plain decimal.
+/// A text of more than `MAX_TEXT` bytes is written too, and the reader refuses it.
+pub fn write_history(alloc: Global, history: &History) -> Result<String, Memory>
+    ensures compact { IfOk result
+        (λ text. string_bytes text ≡ compact_text (history_data history.now)) }
+    ensures again { IfOk result
+        (λ text. string_len text ≤ MAX_TEXT → Spells (string_bytes text) history.now) }
+{
+    let value = history_value(alloc, history.events())?;
+    Ok(value.to_string(alloc)?)
+}
+
+fn history_value(alloc: Global, events: &[Event]) -> Result<Value, AllocError>
+    ensures { IfOk result (λ value. view value ≡ history_data events.now) }
+{
+    let mut items = Vec::new(alloc);
+    for event in events {
+        items.push(event_value(alloc, event)?)?;
+    }
+    json!(in alloc; {"events": items, "version": 1u64})
+}
+
+fn event_value(alloc: Global, event: &Event) -> Result<Value, AllocError>
+    ensures { IfOk result (λ value. view value ≡ event_data event.now) }
+{
+    match event {
+        Event::Invoke { process, call } => {
+            let call = call_value(alloc, call)?;
+            json!(in alloc; {"invoke": call, "process": *process})
+        }
+        Event::Answer { process, reply } => {
+            let reply = reply_value(alloc, reply)?;
+            json!(in alloc; {"answer": reply, "process": *process})
+        }
+    }
+}
+
+fn call_value(alloc: Global, call: &Call) -> Result<Value, AllocError>
+    ensures { IfOk result (λ value. view value ≡ call_data call.now) }
+{
+    match call {
+        Call::Get(key) => json!(in alloc; ["get", *key]),
+        Call::Insert(key, value) => json!(in alloc; ["insert", *key, *value]),
+        Call::Remove(key) => json!(in alloc; ["remove", *key]),
+        Call::Scan(low, high) => json!(in alloc; ["scan", *low, *high]),
+    }
+}
+
+fn reply_value(alloc: Global, reply: &Reply) -> Result<Value, AllocError>
+    ensures { IfOk result (λ value. view value ≡ reply_data reply.now) }
+{
+    match reply {
+        Reply::None => Ok(Value::Null),
+        Reply::Some(value) => Ok(Value::from(*value)),
+        Reply::Pairs(pairs) => pairs_value(alloc, pairs.as_slice()),
+        Reply::Refused => Value::try_from_str(alloc, "refused"),
+    }
+}
+
+fn pairs_value(alloc: Global, pairs: &[(u64, u64)]) -> Result<Value, AllocError>
+    ensures { IfOk result (λ value. view value ≡ list_data (map pair_data pairs.now)) }
+{
+    let mut items = Vec::new(alloc);
+    for (key, value) in pairs {
+        items.push(json!(in alloc; [*key, *value])?)?;
+    }
+    Ok(Value::from(items))
+}

@@ -1,0 +1,88 @@
+// Configurations and those that were visited, on a few of them.
+use history::Call;
+use map_object::SortedMap;
+use memo::{Config, Memo};
+use std::alloc::Global;
+use std::test::Fail;
+
+/// A map of these pairs.
+pub(crate) fn map_of(alloc: Global, pairs: &[(u64, u64)]) -> Result<SortedMap, Fail> {
+    let mut map = SortedMap::new(alloc);
+    for (key, value) in pairs {
+        let _old = map.step(alloc, &Call::Insert(*key, *value))?;
+    }
+    Ok(map)
+}
+
+/// The calls at these places are taken, in this order, and these pairs are held after the last.
+type Taken<'a> = (&'a [u32], &'a [(u64, u64)]);
+
+/// The configuration of calls taken.
+pub(crate) fn config_of(alloc: Global, taken: Taken<'_>) -> Result<Config, Fail> {
+    let map = map_of(alloc, taken.1)?;
+    let mut config = Config::start(alloc);
+    for place in taken.0 {
+        if config.has(*place) {
+            return Err(Fail::new("a call is taken twice"));
+        }
+        config = config.with(alloc, *place, &map)?;
+    }
+    Ok(config)
+}
+
+const TAKEN: Taken<'static> = (&[0, 1, 3], &[(5, 50)]);
+
+/// Whether the same calls are taken and the same pairs are held.
+static OTHERS: [(Taken<'static>, bool); 10] = [
+    ((&[0, 3, 1], &[(5, 50)]), true),
+    ((&[1, 0, 3], &[(5, 50)]), true),
+    ((&[1, 3, 0], &[(5, 50)]), true),
+    ((&[3, 0, 1], &[(5, 50)]), true),
+    ((&[3, 1, 0], &[(5, 50)]), true),
+    // Another call, another value, another key, no pair, one call fewer.
+    ((&[0, 1, 2], &[(5, 50)]), false),
+    ((&[0, 1, 3], &[(5, 51)]), false),
+    ((&[0, 1, 3], &[(6, 50)]), false),
+    ((&[0, 1, 3], &[]), false),
+    ((&[0, 1], &[(5, 50)]), false),
+];
+
+#[test]
+fn configurations_are_compared(rt: HostRuntime) -> Result<(), Fail> {
+    let taken = config_of(rt.alloc(), TAKEN)?;
+    for (other, is_same) in &OTHERS {
+        let other = config_of(rt.alloc(), *other)?;
+        assert!(rt; (other == taken) == *is_same, "{other:?}");
+    }
+    for (place, is_taken) in [(0, true), (1, true), (2, false), (3, true), (4, false)] {
+        assert!(rt; taken.has(place) == is_taken, "{place}");
+    }
+    Ok(())
+}
+
+/// Visits one after another, each with whether it is new, and how many there were by then.
+static VISITS: [(Taken<'static>, bool, usize); 5] = [
+    ((&[], &[]), true, 1),
+    ((&[0, 1, 3], &[(5, 50)]), true, 2),
+    ((&[3, 1, 0], &[(5, 50)]), false, 2),
+    ((&[0, 1, 3], &[(5, 51)]), true, 3),
+    ((&[], &[]), false, 3),
+];
+
+/// Whether a configuration is visited for the first time.
+pub(crate) fn is_new(memo: &mut Memo, config: Config) -> Result<bool, Fail> {
+    memo.visit(config)
+        .map_err(|_| Fail::new("no memory to visit"))
+}
+
+#[test]
+fn a_visit_tells_whether_it_is_the_first(rt: HostRuntime) -> Result<(), Fail> {
+    let mut memo = Memo::new(rt.alloc());
+    assert!(rt; memo.is_empty());
+    for (taken, want, len) in &VISITS {
+        let new = is_new(&mut memo, config_of(rt.alloc(), *taken)?)?;
+        assert!(rt; new == *want && memo.len() == *len, "visit {len}");
+    }
+    assert!(rt; !memo.is_empty());
+    Ok(())
+}

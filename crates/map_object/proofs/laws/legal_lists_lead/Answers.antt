@@ -1,8 +1,0 @@
-use Rattle.std.proofs.Common.{subst, sym}
-use Rattle.history.specs.MapObject.{Contents}
-use Rattle.history.specs.Leads.{Leads}
-use Rattle.history.proofs.LegalLemmas.{Leads-from_legal, legal_from_Leads}
-use Rattle.map_object.proofs.laws.legal_lists_lead.Goals as goal
-
-pub returns : goal.returns
-returns c = λ m m2 calls. (legal_from_Leads m m2 calls, λ legal. subst (λ (last : Contents). Leads m calls last) (sym legal.1) (Leads-from_legal m calls legal.0))

@@ -1,0 +1,61 @@
+-- The sequential object: an ordered map, as the list of its pairs by rising key.
+use Rattle.events.specs.declared.event.Reply.TheVariants as replies
+use Rattle.std.specs.Prelude.{◌≡◌, ℕ, ◌<◌, ◌⊎◌, ◌==◌, ◌&&◌, nat_lt, nat_le, if◌then◌else◌, List, [], ◌∷◌, ◌++◌, filter, Option, Some, None, AllPairs}
+use Rattle.events.specs.declared.event.Call.{Call}
+use Rattle.events.specs.declared.event.Call.TheVariants.{Get, Insert, Remove, Scan}
+use Rattle.events.specs.declared.event.Reply.{Reply}
+
+-- pairs of a key and a value
+abbrev pub Contents : Type 0
+Contents = List (ℕ × ℕ)
+
+-- each key is below the later ones
+abbrev pub IsRising : Contents → Type 0
+IsRising m = AllPairs (λ a b. a.0 < b.0) m
+
+-- the value at a key
+abbrev pub value_at : Contents → ℕ → Option ℕ
+value_at [] key = None
+value_at ((k, value) ∷ m) key = if k == key then Some value else value_at m key
+
+-- the pairs below a key, above it, and from one key to another
+abbrev pub below : ℕ → Contents → Contents
+below key m = filter (λ pair. nat_lt pair.0 key) m
+
+abbrev pub above : ℕ → Contents → Contents
+above key m = filter (λ pair. nat_lt key pair.0) m
+
+abbrev pub within : ℕ → ℕ → Contents → Contents
+within low high m = filter (λ pair. nat_le low pair.0 && nat_le pair.0 high) m
+
+-- a value or none, as a reply
+abbrev pub value_reply : Option ℕ → Reply
+value_reply None = replies.None
+value_reply (Some value) = replies.Some value
+
+-- what a call is answered, unless it is refused
+abbrev pub reply_to : Contents → Call → Reply
+reply_to m (Get key) = value_reply (value_at m key)
+reply_to m (Insert key value) = value_reply (value_at m key)
+reply_to m (Remove key) = value_reply (value_at m key)
+reply_to m (Scan low high) = replies.Pairs (within low high m)
+
+-- the pairs after a call, unless it is refused
+abbrev pub after : Contents → Call → Contents
+after m (Get key) = m
+after m (Insert key value) = below key m ++ (key, value) ∷ above key m
+after m (Remove key) = below key m ++ above key m
+after m (Scan low high) = m
+
+-- the pairs after a call that was answered so: a refused call changes nothing
+abbrev pub after_reply : Contents → Call → Reply → Contents
+after_reply m call replies.Refused = m
+after_reply m call reply = after m call
+
+-- a reply is legal where it is `refused`, at any call, or the one that the map gives
+abbrev pub IsLegalReply : Contents → Call → Reply → Type 0
+IsLegalReply m call reply = (reply ≡ replies.Refused) ⊎ (reply ≡ reply_to m call)
+
+-- the object: from m the call may do this reply and leave m2
+abbrev pub Does : Contents → Call → Reply → Contents → Type 0
+Does m call reply m2 = IsLegalReply m call reply × (m2 ≡ after_reply m call reply)

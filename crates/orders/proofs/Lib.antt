@@ -1,0 +1,4 @@
+pub mod CallsAtLemmas
+pub mod LegalLemmas
+pub mod OrderLemmas
+pub mod PlaceLemmas

@@ -1,0 +1,8 @@
+//! Legal lists of calls, and the orders of a history: its linearizations.
+#![tactic(auto)]
+
+mod laws;
+mod recorded;
+
+pub use laws::legal_lists_lead;
+pub use recorded::{apply, may_come_next};

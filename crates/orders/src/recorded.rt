@@ -1,0 +1,41 @@
+// The calls of a history, done again at a map.
+ghost use Rattle.std.specs.Prelude.{◌≡◌, ◌↔◌, if◌then◌else◌, IsTrue, OnOk, OnErr};
+ghost use Rattle.map_object.specs.MapObject.{Contents, after};
+ghost use Rattle.orders.specs.Orders.{IsLegalCall, after_call};
+
+use events::{Call, Memory, Operation, Reply};
+use map_object::SortedMap;
+use std::alloc::Global;
+
+/// Whether a call may come next at a map: a completed one only where the map gives it its recorded reply, and a
+/// pending one always.
+pub fn may_come_next(map: &SortedMap, call: &Operation) -> bool
+    ensures { IsTrue result ↔ IsLegalCall map.now call.now.call call.now.response }
+{
+    match &call.response {
+        Some(response) => map.fits(&call.call, &response.reply),
+        None => true,
+    }
+}
+
+/// Does a call at a map: a refused one changes nothing. Nothing changes where memory is wanting.
+pub fn apply(alloc: Global, map: &mut SortedMap, call: &Operation) -> Result<(), Memory>
+    ensures ok { OnOk result (map.new ≡ after_call map.old call.now.call call.now.response) }
+    ensures unchanged { OnErr result (map.new ≡ map.old) }
+{
+    if may_change(call) {
+        let _reply = map.step(alloc, &call.call)?;
+    }
+    Ok(())
+}
+
+/// Whether a call may change the map: not where it was refused, nor where it only reads.
+fn may_change(call: &Operation) -> bool
+    ensures { (m : Contents) → after_call m call.now.call call.now.response
+        ≡ (if result then after m call.now.call else m) }
+{
+    match &call.response {
+        Some(response) if matches!(response.reply, Reply::Refused) => false,
+        _ => matches!(call.call, Call::Insert(..) | Call::Remove(..)),
+    }
+}

@@ -1,0 +1,21 @@
+-- Whether a configuration was visited can be told.
+use Rattle.std.proofs.Common.{◌≡◌, true, false, List, [], ◌∷◌, subst, inl, inr, ⊎_elim}
+use Rattle.std.specs.Prelude.{◌⊎◌, Contains}
+use Rattle.std.proofs.lemmas.Bool.{both_ways, cases_Bool}
+use Rattle.configurations.specs.Configurations.{Configuration}
+use Rattle.list_laws.proofs.Lists.{Contains-first, Contains-later, Contains-nil, Contains-cases}
+use Rattle.memo.specs.Equality.{is_same, Decides-is_same}
+
+pub visited_or_not : (visited : List Configuration) (c : Configuration) → Contains visited c ⊎ (Contains visited c → ⊥)
+visited_or_not [] c = inr (λ h. Contains-nil c h)
+visited_or_not (d ∷ visited) c = by_cases (visited_or_not visited c)
+  where
+    found : is_same d c ≡ true → Contains (d ∷ visited) c
+    found e = subst (Contains (d ∷ visited)) ((Decides-is_same d c).0 e) (Contains-first d visited)
+
+    none : is_same d c ≡ false → (Contains visited c → ⊥) → Contains (d ∷ visited) c → ⊥
+    none e out h = ⊎_elim (λ is. both_ways (is_same d c) e ((Decides-is_same d c).1 is)) out (Contains-cases d visited c h)
+
+    by_cases : Contains visited c ⊎ (Contains visited c → ⊥) → Contains (d ∷ visited) c ⊎ (Contains (d ∷ visited) c → ⊥)
+    by_cases (inl within) = inl (Contains-later d visited c within)
+    by_cases (inr out) = ⊎_elim (λ e. inl (found e)) (λ e. inr (none e out)) (cases_Bool (is_same d c))

@@ -1,0 +1,23 @@
+use Rattle.std.proofs.Common.{◌<◌, arith}
+use Rattle.std.specs.Prelude.{◌≢◌}
+use Rattle.std.specs.List.{range_with_len}
+use Rattle.std.proofs.lemmas.List.Elements.{All-weaker}
+use Rattle.list_laws.proofs.Lists.{All-from_contains}
+use Rattle.list_laws.proofs.RisingLemmas.{IsStrictlyIncreasing-range}
+use Rattle.search.proofs.EarliestLemmas.{distinct_from_increasing}
+use Rattle.search.proofs.LinkLemmas.{range_below}
+use Rattle.search.proofs.OpenLemmas.{range_push, IsChain-more}
+use Rattle.search.proofs.standing.all_linked.Goals as goal
+
+pub loop-place-preserved : goal.loop-place-preserved
+loop-place-preserved c =
+    let l = c.loop-place.links in
+    let size = c.args.size in
+    let p = c.loop-place.place in
+    let lt : p < size = c.loop-place-test.true in
+    let numbers = range_with_len 0 p in
+    let below = All-from_contains (λ n. n < p) numbers (range_below p) in
+    rw (c.push.ensures.links, range_push p) (IsChain-more l p size numbers c.push.ensures.within c.loop-place.invariant.0 lt
+    (All-weaker (λ n. n < p) (λ n. n < size) (λ n h. omega arith) numbers below)
+    (All-weaker (λ n. n < p) (λ n. n ≢ p) (λ n h same. absurd (omega arith)) numbers below)
+    (distinct_from_increasing numbers (IsStrictlyIncreasing-range p)) c.loop-place.invariant.1)

@@ -1,0 +1,59 @@
+use Rattle.std.proofs.Common.{◌≡◌, ℕ, ◌<◌, ◌≤◌, List, [], Some, length, refl, sym, ◌∙◌, subst, arith}
+use Rattle.std.specs.Prelude.{slice_get}
+use Rattle.std.proofs.lemmas.Option.{slice_get_read, same_Some, slice_get_within}
+use Rattle.events.specs.declared.operation.Operation.{Operation}
+use Rattle.search.specs.Remaining.{IsEarliestAnswer}
+use Rattle.search.specs.Standing.{places}
+use Rattle.search.proofs.EarliestLemmas.{IsOrder-from_none, IsOrder-not_yet, preceded_from_earliest}
+use Rattle.search.proofs.WalkLemmas.{cursor-past}
+use Rattle.search.proofs.standing.make_step.Goals as goal
+use Rattle.search.proofs.standing.make_step.Goals.{else-next-calls-via-then-next-calls+else-calls-next, else-next-calls-via-else-next-calls}
+
+-- a call at a place was invoked late where the one that was read there was
+late : (calls : List Operation) (n answered : ℕ) (a b : Operation) → slice_get calls n ≡ Some a → slice_get calls n ≡ Some b → answered < b.inv
+    → answered < a.inv
+late calls n answered a b here there h = subst (λ (x : Operation). answered < x.inv) (same_Some b a (sym there ∙ here)) h
+
+pub returns-in_default : goal.returns-in_default
+returns-in_default c =
+    let w = c.args.standing.now in
+    (refl, IsOrder-from_none [] c.args.calls.now (places w.levels.items) c.requires.stands.cursor.is_front (rw c.in_default.is at c.earliest_answer.ensures))
+
+pub try_call-requires-clause-may : goal.try_call-requires-clause-may
+try_call-requires-clause-may c =
+    let calls = c.args.calls.now in
+    let w = c.args.standing.now in
+    let path = places w.levels.items in
+    let earliest : IsEarliestAnswer calls path (Some c.in-Some.answered) = rw c.in-Some.is at c.earliest_answer.ensures in
+    let a = c.index-calls-next.result in
+    let here : slice_get calls w.next ≡ Some a = slice_get_read calls (length calls) w.next a refl c.if-next-calls.true c.index-calls-next.is in
+    record {
+      known = c.if-next-calls.true;
+      preceded =
+          preceded_from_earliest [] calls path c.in-Some.answered earliest w.next a here
+          (subst (λ (x : Operation). x.inv ≤ c.in-Some.answered) (sym c.index-calls-next.is) c.if-calls-next.true);
+      not_order = IsOrder-not_yet [] calls path c.in-Some.answered earliest;
+    }
+
+pub go_back-requires-clause-past : goal.go_back-requires-clause-past
+go_back-requires-clause-past c =
+    let calls = c.args.calls.now in
+    let w = c.args.standing.now in
+    let path = places w.levels.items in
+    let earliest : IsEarliestAnswer calls path (Some c.in-Some.answered) = rw c.in-Some.is at c.earliest_answer.ensures in
+    let not_order = IsOrder-not_yet [] calls path c.in-Some.answered earliest in
+    cursor-past calls c.requires.apart path w.next w.memo c.in-Some.answered c.requires.stands.cursor c.requires.stands.within c.requires.rising earliest
+    (λ a here. elim c.else-next-calls.branch [
+      | else-next-calls-via-then-next-calls+else-calls-next v ↦ late calls w.next c.in-Some.answered a v.index-calls-next.result here
+          (slice_get_read calls (length calls) w.next v.index-calls-next.result refl v.if-next-calls.true v.index-calls-next.is)
+          (subst (λ (x : Operation). c.in-Some.answered < x.inv) (sym v.index-calls-next.is) v.if-calls-next.false)
+      | else-next-calls-via-else-next-calls v ↦ absurd (omega (arith, v.if-next-calls.false, slice_get_within calls w.next a here))
+    ]) not_order
+
+pub go_back-requires-clause-not_order : goal.go_back-requires-clause-not_order
+go_back-requires-clause-not_order c =
+    let calls = c.args.calls.now in
+    let w = c.args.standing.now in
+    let path = places w.levels.items in
+    let earliest : IsEarliestAnswer calls path (Some c.in-Some.answered) = rw c.in-Some.is at c.earliest_answer.ensures in
+    IsOrder-not_yet [] calls path c.in-Some.answered earliest

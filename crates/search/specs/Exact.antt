@@ -1,0 +1,72 @@
+-- The exact answer of a search, and the laws that there is one, and only one.
+use Rattle.std.specs.Prelude.{◌≡◌, ◌⊎◌, ◌↔◌, ℕ, ◌<◌, true, List, length, All, Contains, ⊤}
+use Rattle.std.specs.List.Sorted.{IsStrictlyIncreasing}
+use Rattle.events.specs.declared.operation.Operation.{Operation}
+use Rattle.events.specs.Precedence.{NonePrecedesItself}
+use Rattle.map_object.specs.MapObject.{Contents}
+use Rattle.orders.specs.Orders.{IsCompletedAt, IsLinearizable}
+use Rattle.configurations.specs.Fronts.{IsFront}
+use Rattle.segments.specs.SegmentView.{SegmentView}
+use Rattle.segments.specs.SegmentOrders.{numbers_at, start_of, HasNoOrder}
+use Rattle.search.specs.LeastOrder.{is_at_or_before, IsLeastOrder}
+use Rattle.search.specs.LeastCounts.{HasCount, CountIsWithin, CountIsAbove}
+use Rattle.search.specs.declared.found.Found.{Found}
+use Rattle.search.specs.declared.found.Found.TheVariants.{Order, NoOrder, Spent}
+
+-- a list of numbers is the least order of the segment
+abbrev pub IsLeastOrderOf : Contents → SegmentView → List ℕ → Type 0
+IsLeastOrderOf start segment order = (places : List ℕ) × (order ≡ numbers_at segment places) × IsLeastOrder (start_of start segment) segment.calls places
+
+-- at most so many configurations of the segment count, and more than so many
+abbrev pub CountIsWithinOf : Contents → SegmentView → ℕ → Type 0
+CountIsWithinOf start segment budget = CountIsWithin (start_of start segment) segment.calls budget
+
+abbrev pub CountIsAboveOf : Contents → SegmentView → ℕ → Type 0
+CountIsAboveOf start segment budget = CountIsAbove (start_of start segment) segment.calls budget
+
+-- the exact answer: the least order, or that there is no order, where the count is within the budget, and else that it is spent
+abbrev pub IsExactAnswer : Contents → ℕ → SegmentView → Found → Type 0
+IsExactAnswer start budget segment (Order order) = IsLeastOrderOf start segment order.items × CountIsWithinOf start segment budget
+IsExactAnswer start budget segment NoOrder = HasNoOrder start segment × CountIsWithinOf start segment budget
+IsExactAnswer start budget segment Spent = CountIsAboveOf start segment budget
+
+-- two answers say the same
+abbrev pub AreSameAnswer : Found → Found → Type 0
+AreSameAnswer (Order a) (Order b) = a.items ≡ b.items
+AreSameAnswer NoOrder NoOrder = ⊤
+AreSameAnswer Spent Spent = ⊤
+AreSameAnswer a b = ⊥
+
+-- one answer only is exact
+abbrev pub OneExactAnswer : Type 0
+OneExactAnswer =
+    (start : Contents) (budget : ℕ) (segment : SegmentView) (a b : Found) → IsExactAnswer start budget segment a → IsExactAnswer start budget segment b
+    → AreSameAnswer a b
+
+-- some calls, none of which precedes itself, have a least order, or no order
+abbrev pub LeastOrderOrNone : Type 0
+LeastOrderOrNone =
+    (start : Contents) (calls : List Operation) → NonePrecedesItself calls
+    → ((order : List ℕ) × IsLeastOrder start calls order) ⊎ (IsLinearizable start calls → ⊥)
+
+-- and they have a count
+abbrev pub EachHasCount : Type 0
+EachHasCount = (start : Contents) (calls : List Operation) → NonePrecedesItself calls → (n : ℕ) × HasCount start calls n
+
+-- the least front that holds all completed calls
+pub record IsLeastWholeFront (start : Contents) (calls : List Operation) (order : List ℕ) : Type 0 where
+  pub is_front : IsFront start calls order
+  pub complete : (n : ℕ) → IsCompletedAt calls n → Contains order n
+  pub least : (other : List ℕ) → IsFront start calls other → ((n : ℕ) → IsCompletedAt calls n → Contains other n) → is_at_or_before order other ≡ true
+
+-- the least order is the least front that holds all completed calls
+abbrev pub LeastOrderIsByFronts : Type 0
+LeastOrderIsByFronts =
+    (start : Contents) (calls : List Operation) (order : List ℕ) → NonePrecedesItself calls
+    → IsLeastOrder start calls order ↔ IsLeastWholeFront start calls order
+
+-- lists of places compare as the lists of the numbers there
+abbrev pub PlacesCompareAsNumbers : Type 0
+PlacesCompareAsNumbers =
+    (segment : SegmentView) (xs ys : List ℕ) → IsStrictlyIncreasing segment.numbers → All (λ n. n < length segment.numbers) xs
+    → All (λ n. n < length segment.numbers) ys → is_at_or_before (numbers_at segment xs) (numbers_at segment ys) ≡ is_at_or_before xs ys

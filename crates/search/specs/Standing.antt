@@ -1,0 +1,120 @@
+-- Where a walk stands: what its stack, its map, its memo and its links say of the calls taken.
+use Rattle.std.specs.Prelude.{◌≡◌, ◌≢◌, ◌⊎◌, ℕ, ◌+◌, ◌-◌, ◌<◌, ◌≤◌, true, IsSomeAnd, List, [], ◌∷◌, ◌++◌, length, map, take, reverse, Option, Some, slice_get}
+use Rattle.std.specs.Prelude.{slice_index, All, AllPairs, Contains}
+use Rattle.std.specs.List.{range_with_len}
+use Rattle.events.specs.declared.event.Call.{Call}
+use Rattle.events.specs.declared.operation.Operation.{Operation}
+use Rattle.events.specs.Precedence.{is_before}
+use Rattle.map_object.specs.MapObject.{Contents}
+use Rattle.orders.specs.Orders.{calls_at, after_calls, IsOrder, IsLinearizable}
+use Rattle.configurations.specs.Fronts.{PrecedesAt}
+use Rattle.configurations.specs.Configurations.{Configuration, LeadsTo}
+use Rattle.search.specs.LeastCounts.{HasCount}
+use Rattle.search.specs.declared.standing.Level.{Level}
+use Rattle.search.specs.declared.standing.Standing.{Standing}
+use Rattle.search.specs.declared.standing.Progress.{Progress}
+use Rattle.search.specs.declared.standing.Progress.TheVariants.{Made, Order, NoOrder}
+use Rattle.search.specs.Cursor.{StandsAtCursor}
+use Rattle.search.specs.Links.{LinksView, AreWithin, AreLeft, unlinked, IsChain}
+use Rattle.search.specs.Undo.{undone}
+
+-- the calls taken, by place
+abbrev pub places : List Level → List ℕ
+places levels = map (λ level. level.place) levels
+
+-- the pairs after some calls
+abbrev pub pairs_after : List Operation → List ℕ → Contents
+pairs_after calls path = after_calls [] (calls_at calls path)
+
+-- the configuration to which some calls lead has this place in the memo
+abbrev pub IsConfigurationAt : List Operation → List Configuration → List ℕ → ℕ → Type 0
+IsConfigurationAt calls visited path at = (c : Configuration) × (slice_get visited at ≡ Some c) × LeadsTo [] calls path c
+
+-- a level of the stack: where the walk stood before its call, and what undoes the call
+pub record Remembers (calls : List Operation) (visited : List Configuration) (path : List ℕ) (level : Level) : Type 0 where
+  pub at : IsConfigurationAt calls visited path level.at
+  pub undo : undone (pairs_after calls (path ++ level.place ∷ [])) level.undo ≡ pairs_after calls path
+
+-- a call was answered before a place
+abbrev pub IsAnsweredBefore : List Operation → ℕ → ℕ → Type 0
+IsAnsweredBefore calls n place = IsSomeAnd (slice_get calls n) (λ a. is_before a.response place ≡ true)
+
+-- a call is answered no later than another
+abbrev pub IsNoLater : List Operation → ℕ → ℕ → Type 0
+IsNoLater calls m n = (place : ℕ) → IsAnsweredBefore calls n place → IsAnsweredBefore calls m place
+
+-- the first calls, as many as this, each answered no later than those behind it
+pub record IsByAnswer (calls : List Operation) (count : ℕ) (order : List ℕ) : Type 0 where
+  pub below : All (λ n. n < count) order
+  pub distinct : AllPairs (λ m n. m ≢ n) order
+  pub all : (n : ℕ) → n < count → Contains order n
+  pub sorted : AllPairs (IsNoLater calls) order
+
+-- the links of the calls left, in the order of their invocations and in that of their answers; the calls taken are given latest first
+pub record AreLinksOf (calls : List Operation) (out : List ℕ) (by_number by_answer : LinksView) : Type 0 where
+  pub number_size : length by_number.after ≡ length calls + 1
+  pub answer_size : length by_answer.after ≡ length calls + 1
+  pub calls_left : AreLeft (length calls) (range_with_len 0 (length calls)) out by_number
+  pub order : List ℕ
+  pub sorted : IsByAnswer calls (length calls) order
+  pub answers_left : AreLeft (length calls) order out by_answer
+
+-- a walk stands here
+pub record StandsWith (calls : List Operation) (levels : List Level) (next at : ℕ) (pairs : Contents) (visited : List Configuration)
+    (by_number by_answer : LinksView) : Type 0 where
+  pub cursor : StandsAtCursor [] calls (places levels) next visited
+  pub within : next ≤ length calls
+  pub left : next < length calls → Contains (places levels) next → ⊥
+  pub holds : pairs ≡ pairs_after calls (places levels)
+  pub stands_at : IsConfigurationAt calls visited (places levels) at
+  pub remembers : (i : ℕ) (level : Level) → slice_get levels i ≡ Some level → Remembers calls visited (places (take i levels)) level
+  pub links : AreLinksOf calls (reverse (places levels)) by_number by_answer
+
+abbrev pub Stands : List Operation → Standing → Type 0
+Stands calls s = StandsWith calls s.levels.items s.next s.at s.map s.memo s.calls s.answers
+
+-- the calls that are not tried yet, at all levels
+abbrev pub untried : ℕ → List Level → ℕ → ℕ
+untried size [] next = size - next
+untried size (level ∷ levels) next = (size - level.place) + untried size levels next
+
+-- the next call may be tried: there is one, all calls that precede it are taken, and a completed call is left
+pub record MayTry (calls : List Operation) (path : List ℕ) (next : ℕ) : Type 0 where
+  pub known : next < length calls
+  pub preceded : (m : ℕ) → PrecedesAt calls m next → Contains path m
+  pub not_order : IsOrder [] calls path → ⊥
+
+-- a walk has moved: one more configuration, or as many and fewer calls to try
+pub record HasMoved (calls : List Operation) (old new : Standing) : Type 0 where
+  pub stands : Stands calls new
+  pub progress :
+      ((length new.memo ≡ length old.memo) × (untried (length calls) new.levels.items new.next < untried (length calls) old.levels.items old.next)) ⊎
+      ((length new.memo ≡ length old.memo + 1)
+      × (untried (length calls) new.levels.items new.next ≤ untried (length calls) old.levels.items old.next + length calls))
+
+-- all is tried: there is no order, and what was visited is what counts
+pub record IsExhausted (calls : List Operation) (visited : List Configuration) : Type 0 where
+  pub none : IsLinearizable [] calls → ⊥
+  pub count : HasCount [] calls (length visited)
+
+-- what a step came to
+abbrev pub IsProgress : List Operation → Standing → Standing → Progress → Type 0
+IsProgress calls old new Made = HasMoved calls old new
+IsProgress calls old new Order = (new ≡ old) × IsOrder [] calls (places old.levels.items)
+IsProgress calls old new NoOrder = IsExhausted calls old.memo
+
+-- one call more on the stack, at the configuration that was visited last
+pub record IsPushed (size place : ℕ) (undo : Option Call) (old new : Standing) : Type 0 where
+  pub levels : new.levels.items ≡ old.levels.items ++ record { place = place; undo = undo; at = old.at } ∷ []
+  pub next : new.next ≡ slice_index (unlinked old.calls place).after size
+  pub at : new.at ≡ length old.memo - 1
+  pub map : new.map ≡ old.map
+  pub memo : new.memo ≡ old.memo
+  pub calls : new.calls ≡ unlinked old.calls place
+  pub answers : new.answers ≡ unlinked old.answers place
+  pub calls_within : AreWithin old.calls
+  pub answers_within : AreWithin old.answers
+
+-- the links of all calls, in the order of their answers
+abbrev pub IsLinkedByAnswer : List Operation → LinksView → Type 0
+IsLinkedByAnswer calls links = (order : List ℕ) × IsByAnswer calls (length calls) order × IsChain links (length calls) order (length calls)

@@ -1,0 +1,30 @@
+-- A search turn by turn, as its callers see it.
+use Rattle.std.specs.Prelude.{◌≡◌, ℕ, ◌+◌, ◌-◌, ◌*◌, ◌<◌, ◌≤◌, List, [], length, min}
+use Rattle.configurations.specs.Configurations.{Configuration}
+use Rattle.segments.specs.SegmentView.{SegmentView}
+use Rattle.search.specs.LeastCounts.{HasCount}
+use Rattle.search.specs.declared.standing.Level.{Level}
+use Rattle.search.specs.Standing.{untried}
+
+-- a walk: the segment and the budget, how many configurations are counted, and a number that falls at each turn
+pub record WalkView : Type 0 where
+  pub segment : SegmentView
+  pub budget : ℕ
+  pub len : ℕ
+  pub rest : ℕ
+
+-- the number that falls: the configurations that the budget still allows, each with all its calls, and the calls not tried yet
+abbrev pub rest_of : ℕ → ℕ → List Level → ℕ → List Configuration → ℕ
+rest_of budget size levels next visited = (budget + 1 - length visited) * (size + 1) + untried size levels next
+
+-- a walk goes on: at most one configuration more is counted, and the number falls
+pub record GoesOn (walk on : WalkView) : Type 0 where
+  pub segment : on.segment ≡ walk.segment
+  pub budget : on.budget ≡ walk.budget
+  pub len : walk.len ≤ on.len
+  pub one_more : on.len ≤ walk.len + 1
+  pub falls : on.rest < walk.rest
+
+-- a walk has counted enough to end: all that counts but one, or as many as the budget but one
+abbrev pub HasCountedEnough : WalkView → Type 0
+HasCountedEnough walk = (count : ℕ) → HasCount [] walk.segment.calls count → min count walk.budget ≤ walk.len + 1

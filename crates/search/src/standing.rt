@@ -1,0 +1,253 @@
+// Where a walk stands, and its steps.
+ghost use Rattle.std.specs.Prelude.{◌≡◌, ◌+◌, ◌<◌, ◌≤◌, ◌^◌, ℕ, [], true, false, length, take, drop, All, AllPairs, IfOk, OnOk};
+ghost use Rattle.std.specs.List.{range_with_len};
+ghost use Rattle.events.specs.Precedence.{NonePrecedesItself, is_before};
+ghost use Rattle.orders.specs.Orders.{IsOrder};
+ghost use Rattle.search.specs.Remaining.{IsEarliestAnswer};
+ghost use Rattle.search.specs.Cursor.{StandsAtCursor};
+ghost use Rattle.search.specs.Links.{IsChain};
+ghost use Rattle.search.specs.Standing.{places, Stands, MayTry, HasMoved, IsProgress, IsPushed, IsNoLater, IsByAnswer, IsLinkedByAnswer};
+
+use crate::links::Links;
+use crate::undo::{take_call, undo_call};
+use events::{Call, Memory, Operation};
+use map_object::SortedMap;
+use memo::{Config, Memo};
+use orders::may_come_next;
+use std::alloc::Global;
+
+/// A call taken: by its place, with what undoes it on the map, and the configuration before it, by its place
+/// in the memo.
+#[derive(Drop)]
+pub struct Level {
+    pub place: u32,
+    pub undo: Option<Call>,
+    pub at: usize,
+}
+
+/// Where a walk stands: the calls taken, the next one to try, or the number of calls where none is left, the
+/// configuration that it stands at, the map there, the configurations visited, and the calls left, in the
+/// order of their invocations and in that of their answers.
+#[derive(Drop)]
+pub struct Standing {
+    pub levels: Vec<Level>,
+    pub next: u32,
+    pub at: usize,
+    pub map: SortedMap,
+    pub memo: Memo,
+    pub calls: Links,
+    pub answers: Links,
+}
+
+/// What a step of a walk came to.
+#[derive(Drop)]
+pub enum Progress {
+    /// A call was tried, or the walk went back by one.
+    Made,
+    /// The calls taken are an order.
+    Order,
+    /// All is tried.
+    NoOrder,
+}
+
+/// Before any call.
+pub fn open_standing(alloc: Global, calls: &[Operation]) -> Result<Standing, Memory>
+    requires few { length calls.now + 1 < 2 ^ 32 }
+    requires apart { NonePrecedesItself calls.now }
+    ensures stands { IfOk result (Stands calls.now) }
+    ensures one { IfOk result (λ s. length s.memo ≡ 1) }
+{
+    let size = calls.len() as u32;
+    let mut memo = Memo::new(alloc);
+    if let Err((_config, memory)) = memo.visit(Config::start(alloc)) {
+        return Err(memory);
+    }
+    let by_number = all_linked(alloc, size)?;
+    let by_answer = linked_by_answer(alloc, calls)?;
+    Ok(Standing {
+        levels: Vec::new(alloc),
+        next: by_number.after(size),
+        at: 0,
+        map: SortedMap::new(alloc),
+        memo,
+        calls: by_number,
+        answers: by_answer,
+    })
+}
+
+/// One step: the next call is tried where it may come next, and else the walk goes back.
+pub fn make_step(
+    alloc: Global,
+    calls: &[Operation],
+    standing: &mut Standing,
+) -> Result<Progress, Memory>
+    requires few { length calls.now + 1 < 2 ^ 32 }
+    requires apart { NonePrecedesItself calls.now }
+    requires rising { AllPairs (λ a b. a.inv < b.inv) calls.now }
+    requires stands { Stands calls.now standing.old }
+    ensures { IfOk result (IsProgress calls.now standing.old standing.new) }
+{
+    let Some(answered) = earliest_answer(calls, standing) else {
+        return Ok(Progress::Order);
+    };
+    let next = standing.next;
+    if (next as usize) < calls.len() && calls[next as usize].inv <= answered {
+        try_call(alloc, calls, standing)?;
+        return Ok(Progress::Made);
+    }
+    go_back(alloc, calls, standing)
+}
+
+/// The earliest answer of a call left.
+fn earliest_answer(calls: &[Operation], standing: &Standing) -> Option<usize>
+    requires few { length calls.now + 1 < 2 ^ 32 }
+    requires stands { Stands calls.now standing.now }
+    ensures { IsEarliestAnswer calls.now (places standing.now.levels.items) result }
+{
+    let first = standing.answers.after(calls.len() as u32) as usize;
+    if first == calls.len() {
+        return None;
+    }
+    match &calls[first].response {
+        Some(response) => Some(response.res),
+        None => None,
+    }
+}
+
+/// Takes a call where its reply is legal and leads to a new configuration, and else passes it over.
+fn try_call(alloc: Global, calls: &[Operation], standing: &mut Standing) -> Result<(), Memory>
+    requires few { length calls.now + 1 < 2 ^ 32 }
+    requires apart { NonePrecedesItself calls.now }
+    requires stands { Stands calls.now standing.old }
+    requires may { MayTry calls.now (places standing.old.levels.items) standing.old.next }
+    ensures { OnOk result (HasMoved calls.now standing.old standing.new) }
+{
+    let place = standing.next;
+    let operation = &calls[place as usize];
+    if !may_come_next(&standing.map, operation) {
+        standing.next = standing.calls.after(place);
+        return Ok(());
+    }
+    let undo = take_call(alloc, &mut standing.map, operation)?;
+    let config = standing
+        .memo
+        .at(standing.at)
+        .with(alloc, place, &standing.map)?;
+    match standing.memo.visit(config) {
+        Ok(true) => {
+            push(calls.len() as u32, standing, place, undo)?;
+            Ok(())
+        }
+        Ok(false) => {
+            undo_call(alloc, &mut standing.map, undo)?;
+            standing.next = standing.calls.after(place);
+            Ok(())
+        }
+        Err((_config, memory)) => Err(memory),
+    }
+}
+
+/// One call further, at the configuration that was visited last.
+fn push(size: u32, standing: &mut Standing, place: u32, undo: Option<Call>) -> Result<(), Memory>
+    requires size { size < length standing.old.calls.after }
+    requires place { place < length standing.old.calls.after }
+    requires answer { place < length standing.old.answers.after }
+    requires visited { 0 < length standing.old.memo }
+    ensures { OnOk result (IsPushed size place undo standing.old standing.new) }
+{
+    let at = standing.at;
+    standing.levels.push(Level { place, undo, at })?;
+    standing.at = standing.memo.len() - 1;
+    standing.calls.unlink(place);
+    standing.answers.unlink(place);
+    standing.next = standing.calls.after(size);
+    Ok(())
+}
+
+/// Back by one call.
+fn go_back(alloc: Global, calls: &[Operation], standing: &mut Standing) -> Result<Progress, Memory>
+    requires apart { NonePrecedesItself calls.now }
+    requires stands { Stands calls.now standing.old }
+    requires past { StandsAtCursor [] calls.now (places standing.old.levels.items) (length calls.now) standing.old.memo }
+    requires not_order { IsOrder [] calls.now (places standing.old.levels.items) → ⊥ }
+    ensures { IfOk result (IsProgress calls.now standing.old standing.new) }
+{
+    let Some(level) = standing.levels.pop() else {
+        return Ok(Progress::NoOrder);
+    };
+    undo_call(alloc, &mut standing.map, level.undo)?;
+    standing.at = level.at;
+    standing.calls.put_back(level.place);
+    standing.answers.put_back(level.place);
+    standing.next = standing.calls.after(level.place);
+    Ok(Progress::Made)
+}
+
+/// All places below the size, linked by number.
+fn all_linked(alloc: Global, size: u32) -> Result<Links, Memory>
+    requires { size + 1 < 2 ^ 32 }
+    ensures size { IfOk result (λ l. length l.after ≡ size + 1) }
+    ensures chain { IfOk result (λ l. IsChain l size (range_with_len 0 size) size) }
+{
+    let mut links = Links::new(alloc, size)?;
+    for place in 0..size {
+        links.push(size, place);
+    }
+    Ok(links)
+}
+
+/// The places of all calls, linked by their answers.
+fn linked_by_answer(alloc: Global, calls: &[Operation]) -> Result<Links, Memory>
+    requires { length calls.now + 1 < 2 ^ 32 }
+    ensures size { IfOk result (λ l. length l.after ≡ length calls.now + 1) }
+    ensures chain { IfOk result (λ l. IsLinkedByAnswer calls.now l) }
+{
+    let order = order_of_answers(alloc, calls)?;
+    let size = calls.len() as u32;
+    let mut links = Links::new(alloc, size)?;
+    for place in &order {
+        links.push(size, *place);
+    }
+    Ok(links)
+}
+
+/// The places of all calls by their answers, those without one last. Each is put behind all that were
+/// answered before it, from the back on: at most one call of each process is passed.
+fn order_of_answers(alloc: Global, calls: &[Operation]) -> Result<Vec<u32>, Memory>
+    requires { length calls.now + 1 < 2 ^ 32 }
+    ensures { IfOk result (λ v. IsByAnswer calls.now (length calls.now) v.items) }
+{
+    let mut order = Vec::with_capacity(alloc, calls.len())?;
+    for place in 0..calls.len() {
+        let at = place_by_answer(calls, &order, place);
+        order.insert(at, place as u32)?;
+    }
+    Ok(order)
+}
+
+/// Where a call goes among others that stand by their answers.
+fn place_by_answer(calls: &[Operation], order: &[u32], place: usize) -> usize
+    requires known { place < length calls.now }
+    requires sorted { IsByAnswer calls.now place order.now }
+    ensures within { result ≤ length order.now }
+    ensures before { All (λ n. IsNoLater calls.now n place) (take result order.now) }
+    ensures behind { All (IsNoLater calls.now place) (drop result order.now) }
+{
+    let mut at = order.len();
+    while at > 0 && is_later(&calls[order[at - 1] as usize], &calls[place]) {
+        at -= 1;
+    }
+    at
+}
+
+/// Whether a call is answered later than another.
+fn is_later(a: &Operation, b: &Operation) -> bool
+    ensures later { result ≡ true → (place : ℕ) → is_before a.now.response place ≡ true → is_before b.now.response place ≡ true }
+    ensures no_later { result ≡ false → (place : ℕ) → is_before b.now.response place ≡ true → is_before a.now.response place ≡ true }
+{
+    match (&a.response, &b.response) {
+        (Some(first), Some(second)) => second.res < first.res,
+        (None, Some(_)) => true,
+        (_, None) => false,
+    }
+}

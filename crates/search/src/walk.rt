@@ -1,0 +1,127 @@
+// A search turn by turn.
+ghost use Rattle.std.specs.Prelude.{◌≡◌, ◌<◌, ◌≤◌, [], length, map, slice_index, All, IfOk};
+ghost use Rattle.search.specs.Exact.{IsExactAnswer};
+ghost use Rattle.search.specs.Found.{IsSoundAnswer};
+ghost use Rattle.search.specs.Standing.{places};
+ghost use Rattle.search.specs.Turn.{IsTurn};
+
+use crate::MAX_BUDGET;
+use crate::found::Found;
+use crate::standing::{Progress, Standing, make_step, open_standing};
+use events::Memory;
+use segments::Segment;
+use std::alloc::Global;
+use std::marker::Model;
+
+/// A search of a segment that goes on turn by turn. Contracts see the segment, the budget, the number of
+/// configurations counted and a number that falls at each turn.
+#[derive(Drop)]
+pub struct Walk {
+    segment: Segment,
+    budget: u32,
+    standing: Standing,
+}
+
+impl Model for Walk {
+    ghost use Rattle.std.specs.Prelude.{length};
+    ghost use Rattle.search.specs.Standing.{Stands};
+    ghost use Rattle.search.specs.Walk.{WalkView, rest_of};
+
+    ghost Value = { WalkView };
+
+    ghost view = { λ w. record { segment = w.segment; budget = w.budget; len = length w.standing.memo; rest = rest_of w.budget (length w.segment.calls) w.standing.levels.items w.standing.next w.standing.memo } };
+
+    ghost invariant = { λ w. Stands w.segment.calls w.standing };
+}
+
+/// What a turn came to.
+#[derive(Drop)]
+pub enum Turn {
+    /// The search goes on.
+    Going(Walk),
+    /// The search is over.
+    Done(Found),
+}
+
+impl Walk {
+    /// Before the first call of a segment, which is copied.
+    pub fn open(alloc: Global, segment: &Segment, budget: u32) -> Result<Walk, Memory>
+        requires { (1 ≤ budget) × (budget ≤ MAX_BUDGET) }
+        ensures segment { IfOk result (λ w. w.segment ≡ segment.now) }
+        ensures budget { IfOk result (λ w. w.budget ≡ budget) }
+        ensures len { IfOk result (λ w. w.len ≡ 1) }
+    {
+        let segment = segment.copy(alloc)?;
+        let standing = open_standing(alloc, segment.calls())?;
+        Ok(Walk {
+            segment,
+            budget,
+            standing,
+        })
+    }
+
+    /// How many configurations were counted: 1 at the opening.
+    pub fn len(&self) -> usize
+        ensures { result ≡ self.now.len }
+    {
+        self.standing.memo.len()
+    }
+
+    /// One turn: a call is tried, or the search goes back by one call, or it is over. A turn costs what it
+    /// tries, and not the length of the segment. On `Memory` the walk is lost.
+    pub fn turn(self, alloc: Global) -> Result<Turn, Memory>
+        ensures { IfOk result (IsTurn self) }
+    {
+        let Walk {
+            segment,
+            budget,
+            mut standing,
+        } = self;
+        if standing.memo.len() > budget as usize {
+            return Ok(Turn::Done(Found::Spent));
+        }
+        match make_step(alloc, segment.calls(), &mut standing)? {
+            Progress::Made => Ok(Turn::Going(Walk {
+                segment,
+                budget,
+                standing,
+            })),
+            Progress::Order => {
+                let order = order_of(alloc, segment.numbers(), &standing)?;
+                Ok(Turn::Done(Found::Order(order)))
+            }
+            Progress::NoOrder => Ok(Turn::Done(Found::NoOrder)),
+        }
+    }
+}
+
+/// The numbers of the calls taken.
+fn order_of(alloc: Global, numbers: &[u32], standing: &Standing) -> Result<Vec<u32>, Memory>
+    requires { All (λ place. place < length numbers.now) (places standing.now.levels.items) }
+    ensures { IfOk result (λ v. v.items ≡ map (λ place. slice_index numbers.now place) (places standing.now.levels.items)) }
+{
+    let mut order = Vec::with_capacity(alloc, standing.levels.len())?;
+    for level in &standing.levels {
+        order.push(numbers[level.place as usize])?;
+    }
+    Ok(order)
+}
+
+/// Searches a segment: the least order where there is one and the count is at most the budget, `NoOrder`
+/// where there is none and the count is at most the budget, and `Spent` where the count is greater.
+/// `Memory` where a growth was refused. It takes calls by rising number, and goes on from each configuration
+/// once. Each call tried is compared, by what it leads to, with all configurations met. Nothing recurses: the
+/// calls taken stand on a stack of its own.
+pub fn search(alloc: Global, segment: &Segment, budget: u32) -> Result<Found, Memory>
+    requires { (1 ≤ budget) × (budget ≤ MAX_BUDGET) }
+    ensures exact { IfOk result (IsExactAnswer [] budget segment.now) }
+    ensures sound { IfOk result (IsSoundAnswer [] budget segment.now) }
+{
+    let mut walk = Walk::open(alloc, segment, budget)?;
+    loop {
+        match walk.turn(alloc)? {
+            Turn::Going(on) => walk = on,
+            Turn::Done(found) => return Ok(found),
+        }
+    }
+}

@@ -1,0 +1,108 @@
+-- An order of all calls gives each segment an order, so a segment without order refutes the history.
+use Rattle.std.proofs.Common.{◌≡◌, ℕ, ◌<◌, false, List, length, get_or, filter, sym, subst}
+use Rattle.std.specs.Prelude.{◌≢◌, slice_get, slice_index, All, Contains}
+use Rattle.std.proofs.lemmas.List.Elements.{All-filter, All-contains, Contains-get_or}
+use Rattle.std.proofs.lemmas.List.Kept.{AllPairs-filter}
+use Rattle.events.specs.declared.operation.Operation.{Operation}
+use Rattle.list_laws.specs.Lists.{has_number}
+use Rattle.events.specs.Precedence.{precedes}
+use Rattle.map_object.specs.MapObject.{Contents}
+use Rattle.orders.specs.Orders.{calls_at, IsLegalOrder, IsCompletedAt, IsOrder, IsLinearizable}
+use Rattle.segments.specs.SegmentView.{SegmentView}
+use Rattle.segments.specs.Segments.{IsSegment, AreSegments}
+use Rattle.segments.specs.SegmentOrders.{start_of, IsOrderOf, HasNoOrder}
+use Rattle.list_laws.proofs.Lists.{All-from_contains}
+use Rattle.list_laws.proofs.NumberLemmas.{has_number-Contains, has_number-from_Contains}
+use Rattle.list_laws.proofs.FilterLemmas.{Contains-map, Contains-filter, Contains-from_filter, AreRelatedAs, AllPairs-filter_map, AllPairs-from_filter_map}
+use Rattle.orders.proofs.PlaceLemmas.{at_places, place_of, places_of, All-at_places, IsLegalOrder-numbers, IsLegalOrder-places, IsCompletedAt-number}
+use Rattle.orders.proofs.PlaceLemmas.{IsCompletedAt-place, Contains-place}
+use Rattle.orders.proofs.CallsAtLemmas.{length-calls_at}
+use Rattle.segments.proofs.PartLemmas.{IsLegal-part}
+use Rattle.segments.proofs.SegmentLemmas.{known-IsSegment, calls-IsSegment, GoesByKeys-segment}
+
+-- the calls of a segment, as they stand in a legal order of all, are a legal order from the pairs of its keys on
+IsLegalOrder-restricted : (start : Contents) (calls : List Operation) (segments : List SegmentView) (segment : SegmentView) (order : List ℕ)
+    → AreSegments calls segments
+    → Contains segments segment → IsLegalOrder start calls order
+    → IsLegalOrder (start_of start segment) calls (filter (has_number segment.numbers) order)
+IsLegalOrder-restricted start calls segments s order are is h =
+    let test = has_number s.numbers in
+    let R = λ (a b : Operation). precedes b a ≡ false in
+    record {
+      known = All-filter test (λ n. n < length calls) order h.known;
+      distinct = AllPairs-filter (λ m n. m ≢ n) test order h.distinct;
+      precedence =
+          AllPairs-filter_map R (slice_get calls) (filter test order)
+          (AllPairs-filter (AreRelatedAs R (slice_get calls)) test order (AllPairs-from_filter_map R (slice_get calls) order h.precedence));
+      legal = IsLegal-part calls test s.lo s.hi start order (λ k d within. GoesByKeys-segment calls segments s (get_or order k d) are is) h.legal;
+    }
+
+-- the calls of a segment, as they stand in an order of all, are an order of the segment
+pub IsOrderOf-restricted : (start : Contents) (calls : List Operation) (segments : List SegmentView) (segment : SegmentView) (order : List ℕ)
+    → AreSegments calls segments
+    → Contains segments segment → IsOrder start calls order
+    → IsOrderOf start segment (filter (has_number segment.numbers) order)
+IsOrderOf-restricted start calls segments s order are is h =
+    let test = has_number s.numbers in
+    let kept = filter test order in
+    let segment = All-contains (IsSegment calls) segments s are.each is in
+    let known = known-IsSegment calls s segment in
+    let its_calls = sym (calls-IsSegment calls s segment) in
+    let (places, placed, within) =
+    places_of s.numbers kept
+    (All-from_contains (Contains s.numbers) kept (λ n in_kept. has_number-Contains s.numbers n (Contains-from_filter test order n in_kept).1)) in
+    let legal_order : IsLegalOrder (start_of start s) calls (at_places s.numbers places) =
+    subst (IsLegalOrder (start_of start s) calls) placed (IsLegalOrder-restricted start calls segments s order are is h.legal_order) in (
+      places,
+      placed,
+      record {
+        legal_order =
+            subst (λ taken. IsLegalOrder (start_of start s) taken places) its_calls
+            (IsLegalOrder-places (start_of start s) calls s.numbers places known within legal_order);
+        complete = λ place completed.
+            let (below, by_number) = IsCompletedAt-number calls s.numbers place known (subst (λ taken. IsCompletedAt taken place) (sym its_calls) completed) in
+            let number = slice_index s.numbers place in
+            let in_kept =
+            Contains-filter test order number (h.complete number by_number)
+            (has_number-from_Contains s.numbers number (Contains-get_or s.numbers place 0 below)) in
+            Contains-place s.numbers places place segment.rising within below (subst (λ numbers. Contains numbers number) placed in_kept);
+      },
+    )
+
+-- where some segment has no order, the history has none
+pub not_linearizable-segment : (start : Contents) (calls : List Operation) (segments : List SegmentView) → AreSegments calls segments
+    → All (λ s. HasNoOrder start s → IsLinearizable start calls → ⊥) segments
+not_linearizable-segment start calls segments are =
+    All-from_contains (λ s. HasNoOrder start s → IsLinearizable start calls → ⊥) segments
+    (λ s is none h. let found = IsOrderOf-restricted start calls segments s h.0 are is h.1 in none (found.0, found.2))
+
+-- an order of a segment, by the numbers in the history
+pub record IsOrderByNumber (start : Contents) (calls : List Operation) (segment : SegmentView) (order : List ℕ) : Type 0 where
+  pub within : All (Contains segment.numbers) order
+  pub legal_order : IsLegalOrder (start_of start segment) calls order
+  pub complete : (n : ℕ) → Contains segment.numbers n → IsCompletedAt calls n → Contains order n
+
+-- each order of a segment is one by number
+pub IsOrderByNumber-from_order : (start : Contents) (calls : List Operation) (segment : SegmentView) (order : List ℕ) → IsSegment calls segment
+    → IsOrderOf start segment order
+    → IsOrderByNumber start calls segment order
+IsOrderByNumber-from_order start calls s order segment (places, placed, h) =
+    let known = known-IsSegment calls s segment in
+    let its_calls = calls-IsSegment calls s segment in
+    let its_legal : IsLegalOrder (start_of start s) (calls_at calls s.numbers) places =
+    subst (λ taken. IsLegalOrder (start_of start s) taken places) its_calls h.legal_order in
+    let within : All (λ place. place < length s.numbers) places = rw (length-calls_at calls s.numbers known) at its_legal.known in
+    record {
+      within = subst (All (Contains s.numbers)) (sym placed) (All-at_places s.numbers places within);
+      legal_order =
+          subst (IsLegalOrder (start_of start s) calls) (sym placed)
+          (IsLegalOrder-numbers (start_of start s) calls s.numbers places known segment.rising its_legal);
+      complete = λ n is completed.
+          let (place, below, number_is) = place_of s.numbers n is in
+          let at_place : IsCompletedAt (calls_at calls s.numbers) place =
+          IsCompletedAt-place calls s.numbers place known below (subst (IsCompletedAt calls) (sym number_is) completed) in
+          let taken = h.complete place (subst (λ taken. IsCompletedAt taken place) (sym its_calls) at_place) in
+          let among : Contains (at_places s.numbers places) (slice_index s.numbers place) =
+          Contains-map (λ place. slice_index s.numbers place) places place taken in
+          subst (Contains order) number_is (subst (λ numbers. Contains numbers (slice_index s.numbers place)) (sym placed) among);
+    }

@@ -1,0 +1,78 @@
+-- Laws of segments: their calls and their keys.
+use Rattle.std.proofs.Common.{◌≡◌, ℕ, ◌<◌, Bool, true, false, List, length, Some, refl, sym, ap, ◌∙◌, subst, inl, inr, ⊎_elim, arith}
+use Rattle.std.specs.Prelude.{slice_get, IsTrue, MatchBool, All, Contains}
+use Rattle.std.proofs.lemmas.Bool.{true≢false, cases_order, or_parts}
+use Rattle.std.proofs.lemmas.List.Elements.{All-contains}
+use Rattle.std.proofs.lemmas.Option.{same_Some, slice_get_within, slice_get-get_or}
+use Rattle.events.specs.declared.operation.Operation.{Operation}
+use Rattle.list_laws.specs.Lists.{has_number}
+use Rattle.events.specs.Precedence.{is_completed, belongs}
+use Rattle.events.specs.Keys.{low_key, high_key, may_change}
+use Rattle.orders.specs.Orders.{calls_at}
+use Rattle.segments.specs.SegmentView.{SegmentView}
+use Rattle.segments.specs.Segments.{IsSegment, AreSegments}
+use Rattle.list_laws.proofs.Lists.{Contains-at, place_of-Contains, All-from_contains}
+use Rattle.list_laws.proofs.NumberLemmas.{greatest_bound, has_number-Contains, has_number-from_Contains, least_bound, some_at}
+use Rattle.list_laws.proofs.FilterLemmas.{AllPairs-at, Contains-filter_map}
+use Rattle.segments.proofs.RangeLemmas.{IsInside, IsOutside}
+use Rattle.segments.proofs.PartLemmas.{GoesByKeys}
+
+-- the numbers of a segment are those of calls
+pub known-IsSegment : (calls : List Operation) (segment : SegmentView) → IsSegment calls segment → All (λ n. n < length calls) segment.numbers
+known-IsSegment calls segment h = All-from_contains (λ n. n < length calls) segment.numbers
+    (λ n is. let found = some_at (slice_get calls n) (λ a. IsTrue (belongs a)) (((h.members n n is).0 is).0) in slice_get_within calls n found.0 found.1)
+
+-- the calls of a segment are those with its numbers
+pub calls-IsSegment : (calls : List Operation) (segment : SegmentView) → IsSegment calls segment → segment.calls ≡ calls_at calls segment.numbers
+calls-IsSegment calls segment h = ap (λ s. s.calls) h.view
+
+-- each call of a segment is within its keys
+pub IsInside-segment : (calls : List Operation) (segment : SegmentView) (n : ℕ) (a : Operation) → IsSegment calls segment → Contains segment.numbers n
+    → slice_get calls n ≡ Some a
+    → IsInside segment.lo segment.hi a.call
+IsInside-segment calls segment n a h is here =
+    let among = Contains-filter_map (slice_get calls) segment.numbers n a is here in
+    record {
+      low_inside = rw (ap (λ s. s.lo) h.view) (least_bound (λ b. low_key b.call) (calls_at calls segment.numbers) a among);
+      high_inside = rw (ap (λ s. s.hi) h.view) (greatest_bound (λ b. high_key b.call) (calls_at calls segment.numbers) a among);
+    }
+
+-- two segments at different places have their keys apart, so the calls of the one leave the pairs of the other
+pub IsOutside-other : (calls : List Operation) (segments : List SegmentView) (i j : ℕ) (s t : SegmentView) (n : ℕ) (a : Operation) → AreSegments calls segments
+    → (i ≡ j → ⊥)
+    → slice_get segments i ≡ Some s → slice_get segments j ≡ Some t
+    → Contains t.numbers n → slice_get calls n ≡ Some a → IsOutside s.lo s.hi a.call
+IsOutside-other calls segments i j s t n a h apart s_at t_at is here =
+    let inside = IsInside-segment calls t n a (All-contains (IsSegment calls) segments t h.each (Contains-at segments j t t_at)) is here in
+    ⊎_elim (λ equal. absurd (apart equal)) (λ other. ⊎_elim
+    (λ before. let below = AllPairs-at (λ s t. s.hi < t.lo) segments i j s t h.by_key before s_at t_at in let low = inside.low_inside in
+    inr (inr (omega arith)))
+    (λ after. let below = AllPairs-at (λ s t. s.hi < t.lo) segments j i t s h.by_key after t_at s_at in let high = inside.high_inside in
+    inr (inl (omega arith))) other) (cases_order i j)
+
+-- a call that does not belong changes nothing
+may_change-from_belongs : (a : Operation) → belongs a ≡ false → may_change a.call ≡ false
+may_change-from_belongs a h = (or_parts (is_completed a) (may_change a.call) h).1
+
+-- the numbers of a segment go by its keys: all other calls leave its pairs
+pub GoesByKeys-segment : (calls : List Operation) (segments : List SegmentView) (segment : SegmentView) (n : ℕ) → AreSegments calls segments
+    → Contains segments segment
+    → GoesByKeys calls (has_number segment.numbers) segment.lo segment.hi n
+GoesByKeys-segment calls segments s n h s_is a here = by_test (has_number s.numbers n) refl
+  where
+    not_in : has_number s.numbers n ≡ false → Contains s.numbers n → ⊥
+    not_in no_number is = true≢false (sym (has_number-from_Contains s.numbers n is) ∙ no_number)
+
+    outside : has_number s.numbers n ≡ false → (b : Bool) → belongs a ≡ b → IsOutside s.lo s.hi a.call
+    outside no_number false e = inl (may_change-from_belongs a e)
+    outside no_number true e =
+        let (j, t, within, is, holds) = h.all n (rw here e) in
+        let (i, s_at) = place_of-Contains segments s s_is in
+        let t_at : slice_get segments j ≡ Some t = slice_get-get_or segments j t within ∙ ap Some is in
+        IsOutside-other calls segments i j s t n a h
+        (λ equal. not_in no_number
+        (subst (λ u. Contains u.numbers n) (same_Some t s (sym t_at ∙ (ap (slice_get segments) (sym equal) ∙ s_at))) holds)) s_at t_at holds here
+
+    by_test : (b : Bool) → has_number s.numbers n ≡ b → MatchBool b (IsInside s.lo s.hi a.call) (IsOutside s.lo s.hi a.call)
+    by_test true e = IsInside-segment calls s n a (All-contains (IsSegment calls) segments s h.each s_is) (has_number-Contains s.numbers n e) here
+    by_test false e = outside e (belongs a) refl

@@ -1,0 +1,15 @@
+use Rattle.segments.proofs.SegmentViewLemmas.{IsSegmentView-segment_of}
+use Rattle.segments.proofs.segment.Segment.of.Goals as goal
+
+pub invariant_of-result : goal.invariant_of-result
+invariant_of-result c =
+    rw (
+      c.greatest_key-hi.ensures,
+      c.least_key-lo.ensures,
+      c.deref-2.ensures.value,
+      c.deref.ensures.value,
+      c.in_ok-calls.ensures,
+      c.calls.ensures.calls,
+      c.in_ok-numbers.ensures.items,
+    )
+    (IsSegmentView-segment_of c.args.history.now c.args.numbers.now c.calls.ensures.history c.requires.not_empty c.requires.rising c.requires.known)

@@ -1,0 +1,5 @@
+pub mod Cuts
+pub mod SegmentOrders
+pub mod SegmentView
+pub mod Segments
+pub mod WholeSegments

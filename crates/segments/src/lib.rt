@@ -1,0 +1,6 @@
+//! Segments: some calls of a history, which are judged by themselves, and the cuts between them.
+#![tactic(auto)]
+
+mod segment;
+
+pub use segment::Segment;

@@ -1,0 +1,79 @@
+// A worker passes the gate to a segment before it searches it. What a search does cannot be seen from outside but for
+// the time that it takes, so this goes by the clock.
+use cutter::cut;
+use history::Segment;
+use layer_tests::worked::{gets, history_of};
+use pool::{Gate, search_all};
+use std::alloc::Global;
+use std::sync::atomic::{AtomicU64, Ordering};
+use std::test::Fail;
+use std::thread::Threads;
+use std::time::{Clock, Instant};
+
+/// Notes when the first two segments are entered, in nanoseconds since a start.
+#[derive(Drop)]
+struct Moments<'a, C> {
+    clock: &'a C,
+    start: Instant,
+    first: AtomicU64,
+    second: AtomicU64,
+}
+
+impl<C: Clock> Gate for Moments<'_, C> {
+    fn enter(&self, segment: usize) {
+        let entered = if segment == 0 {
+            &self.first
+        } else {
+            &self.second
+        };
+        if let Ok(passed) = self.start.elapsed(self.clock) {
+            let nanos = u64::try_from(passed.as_nanos()).unwrap_or(u64::MAX);
+            entered.store(nanos, Ordering::SeqCst);
+        }
+    }
+}
+
+/// How long it takes until the first segment is entered, and from then until the second one is, by one worker.
+fn until_entered<R: Threads + Clock + Sync>(
+    rt: &R,
+    alloc: Global,
+    segments: &[Segment],
+) -> Result<(u64, u64), Fail> {
+    let gate = Moments {
+        clock: rt,
+        start: Instant::now(rt)?,
+        first: AtomicU64::new(0),
+        second: AtomicU64::new(0),
+    };
+    search_all(rt, alloc, segments, 10_000, 1, &gate)?;
+    let first = gate.first.load(Ordering::SeqCst);
+    let second = gate.second.load(Ordering::SeqCst);
+    Ok((first, second.saturating_sub(first)))
+}
+
+/// Many gets at one key, and an insert at another.
+fn long_and_short(alloc: Global) -> Result<Vec<Segment>, Fail> {
+    let gets = gets(alloc, 4095)?;
+    let events = format!(in alloc; "{gets},{{\"invoke\":[\"insert\",9,90],\"process\":1}}")?;
+    Ok(cut(alloc, &history_of(alloc, &events)?)?)
+}
+
+/// The first of two segments takes long to search, and hardly anything is done before it is entered. So less time passes
+/// before it is entered than from then until the other segment is, unless the thread is held up in between, hence the
+/// least of five tries.
+#[test]
+fn a_segment_is_entered_before_it_is_searched(rt: HostRuntime) -> Result<(), Fail> {
+    let segments = long_and_short(rt.alloc())?;
+    assert!(rt; segments.len() == 2);
+    let (mut before, mut between) = (u64::MAX, u64::MAX);
+    for _ in 0..5u32 {
+        let (first, second) = until_entered(&rt, rt.alloc(), &segments)?;
+        before = before.min(first);
+        between = between.min(second);
+    }
+    assert!(rt;
+        0 < before && before < between,
+        "{before} and {between} nanoseconds"
+    );
+    Ok(())
+}

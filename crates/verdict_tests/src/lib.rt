@@ -1,0 +1,16 @@
+//! Tests of the verdict and of the workers that find it, through their public calls, on the worked histories of the
+//! layers' tests and on long ones: expected answers were worked out by hand.
+#![tactic(auto)]
+
+#[cfg(test)]
+mod gate_first;
+#[cfg(test)]
+mod gates;
+#[cfg(test)]
+mod long_verdicts;
+#[cfg(test)]
+mod meetings;
+#[cfg(test)]
+mod searches_by_workers;
+#[cfg(test)]
+mod verdicts;

@@ -1,0 +1,96 @@
+// Workers that meet at a gate: so many of them search side by side, and pass the caller's gate on their way.
+ghost use Rattle.std.specs.Prelude.{◌≤◌};
+
+use crate::gates::{Pair, Rounds};
+use cutter::cut;
+use judge::{Verdict, judge, judge_text};
+use layer_tests::worked::{history_of, inserts, text_of};
+use pool::{Gate, MAX_WORKERS, search_all};
+use search::Found;
+use std::alloc::Global;
+use std::process::Abort;
+use std::test::Fail;
+use std::thread::Threads;
+
+/// Searches the segments behind a gate; each holds one call, the one of its place.
+fn search_behind<R: Threads + Sync + Abort, G: Gate + Sync>(
+    rt: &R,
+    alloc: Global,
+    segments: u64,
+    workers: u32,
+    gate: &G,
+) -> Result<(), Fail>
+    requires { (1 ≤ workers) × (workers ≤ MAX_WORKERS) }
+{
+    let history = history_of(alloc, &inserts(alloc, segments)?)?;
+    let found = search_all(rt, alloc, &cut(alloc, &history)?, 1000, workers, gate)?;
+    assert_eq!(rt; found.len() as u64, segments);
+    for (number, found) in (0u32..).zip(found) {
+        assert!(rt; found == Found::Order(vec![in alloc; number]?));
+    }
+    Ok(())
+}
+
+/// Judges a history of so many segments behind a gate.
+fn judge_behind<R: Threads + Sync + Abort, G: Gate + Sync>(
+    rt: &R,
+    alloc: Global,
+    segments: u64,
+    workers: u32,
+    gate: &G,
+) -> Result<(), Fail>
+    requires { (1 ≤ workers) × (workers ≤ MAX_WORKERS) }
+{
+    let history = history_of(alloc, &inserts(alloc, segments)?)?;
+    let verdict = judge(rt, alloc, &history, 1000, workers, gate)?;
+    assert!(rt; matches!(&verdict, Verdict::Yes(order) if order.len() as u64 == segments));
+    Ok(())
+}
+
+/// Judges a text of so many segments behind a gate.
+fn judge_text_behind<R: Threads + Sync + Abort, G: Gate + Sync>(
+    rt: &R,
+    alloc: Global,
+    segments: u64,
+    workers: u32,
+    gate: &G,
+) -> Result<(), Fail>
+    requires { (1 ≤ workers) × (workers ≤ MAX_WORKERS) }
+{
+    let text = text_of(alloc, &inserts(alloc, segments)?)?;
+    let answer = judge_text(rt, alloc, text.as_bytes(), 1000, workers, gate);
+    assert!(rt; matches!(&answer, Ok((Verdict::Yes(order), _)) if order.len() as u64 == segments));
+    Ok(())
+}
+
+#[test]
+fn gate_two_workers(rt: HostRuntime) -> Result<(), Fail> {
+    let (searched, judged, text_judged) = (Pair::new(), Pair::new(), Pair::new());
+    search_behind(&rt, rt.alloc(), 2, 2, &searched)?;
+    judge_behind(&rt, rt.alloc(), 2, 2, &judged)?;
+    judge_text_behind(&rt, rt.alloc(), 2, 2, &text_judged)?;
+    let met = (searched.met(), judged.met(), text_judged.met());
+    assert_eq!(rt; met, (2, 2, 2), "both have seen the other");
+    Ok(())
+}
+
+#[test]
+fn three_workers_meet_again_and_again(rt: HostRuntime) -> Result<(), Fail> {
+    let (searched, judged, text_judged) = (Rounds::of(3), Rounds::of(3), Rounds::of(3));
+    search_behind(&rt, rt.alloc(), 12, 3, &searched)?;
+    judge_behind(&rt, rt.alloc(), 12, 3, &judged)?;
+    judge_text_behind(&rt, rt.alloc(), 12, 3, &text_judged)?;
+    let met = (searched.met(), judged.met(), text_judged.met());
+    assert_eq!(rt; met, (12, 12, 12), "each has seen its round full");
+    Ok(())
+}
+
+#[test]
+fn as_many_workers_as_are_asked_for_meet(rt: HostRuntime) -> Result<(), Fail> {
+    for workers in [1, 4, MAX_WORKERS] {
+        let gate = Rounds::of(u64::from(workers));
+        judge_text_behind(&rt, rt.alloc(), 128, workers, &gate)?;
+        assert_eq!(rt; gate.met(), 128, "{workers} workers");
+    }
+    Ok(())
+}

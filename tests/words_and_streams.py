@@ -1,0 +1,98 @@
+#!/usr/bin/env python3
+"""Runs the program on words and standard streams that no example has.
+
+    tests/words_and_streams.py
+
+Each run has to end with the status that docs/FORMATS.md gives, and to write what belongs to that status and nothing
+else. The last line counts the runs that passed and failed.
+"""
+
+import os
+import re
+import subprocess
+import sys
+import tempfile
+
+TOP = os.path.dirname(os.path.dirname(os.path.abspath(__file__)))
+PROGRAM = os.path.join(TOP, "crates", "bench", "out", "bench")
+EXAMPLES = os.path.join(TOP, "examples")
+ORDERED = os.path.join(EXAMPLES, "insert-then-get.json")
+CUT_SHORT = os.path.join(EXAMPLES, "cut-short.json")
+FULL = "/dev/full"
+LONGEST_TEXT = 16_777_216
+
+# What a stream gets, as regular expressions over all its bytes.
+NOTHING = rb""
+LINE = rb"[^\n]+\n"
+LINES = rb"([^\n]*\n)+"
+
+
+def refused_words():
+    """Lists of words that ask for nothing that can be done, or for help."""
+    yield "a word that is no text", [b"check", b"\xff"], LINE
+    yield "a word that begins as a text", [b"check", b"0", b"1\xff"], LINE
+    yield "no words", [], LINES
+    yield "help", ["--help"], LINES
+    yield "help on a subcommand", ["check", "--help"], LINES
+    yield "an unknown subcommand", ["prove"], LINES
+    yield "a number past the greatest", ["check", "4294967296"], LINES
+    yield "a budget of 0", ["judge", "--budget", "0"], LINES
+    yield "a budget past the greatest", ["judge", "--budget", "1000001"], LINES
+    yield "no workers", ["judge", "--workers", "0"], LINES
+    yield "too many workers", ["judge", "--workers", "65"], LINES
+
+
+def run(words, source, output=subprocess.PIPE, error=subprocess.PIPE):
+    """The exit status of the program, and what it wrote to the streams that are pipes."""
+    ran = subprocess.run([PROGRAM, *words], stdin=source, stdout=output, stderr=error, timeout=60, check=False)
+    return ran.returncode, ran.stdout or b"", ran.stderr or b""
+
+
+def runs(folder):
+    """What each run shows, its result, and the status, standard output and standard error that are wanted."""
+    for shows, words, told in refused_words():
+        with open(ORDERED, "rb") as source:
+            yield shows, run(words, source), (5, NOTHING, told)
+
+    long_text = os.path.join(folder, "long")
+    for spaces, wanted in ((0, (0, rb"ok\n", NOTHING)), (1, (3, NOTHING, rb"history: 1 TooLong\n"))):
+        with open(ORDERED, "rb") as source, open(long_text, "wb") as longer:
+            longer.write(source.read().ljust(LONGEST_TEXT + spaces))
+        with open(long_text, "rb") as source:
+            yield f"a text of {LONGEST_TEXT + spaces} bytes", run(["check", "0", "1"], source), wanted
+
+    unreadable = os.open(EXAMPLES, os.O_RDONLY)
+    yield "input that is a folder", run(["check"], unreadable), (6, NOTHING, rb"io\n")
+    os.close(unreadable)
+
+    for shows, words in (("an order", ["check", "0", "1"]), ("a verdict", ["judge"])):
+        with open(ORDERED, "rb") as source, open(FULL, "wb") as full:
+            yield f"{shows} to a full standard output", run(words, source, output=full), (6, NOTHING, rb"io\n")
+    reader, unread = os.pipe()
+    os.close(reader)
+    with open(ORDERED, "rb") as source:
+        yield "a verdict that nobody reads", run(["judge"], source, output=unread), (6, NOTHING, rb"io\n")
+    os.close(unread)
+    with open(CUT_SHORT, "rb") as source, open(FULL, "wb") as full:
+        yield "a fault to a full standard error", run(["judge"], source, error=full), (3, NOTHING, NOTHING)
+
+
+def main():
+    # Builds the program where that is still to do.
+    with open(ORDERED, "rb") as source:
+        subprocess.run([os.path.join(TOP, "bench"), "judge"], stdin=source, stdout=subprocess.DEVNULL, check=True)
+    passed = failed = 0
+    with tempfile.TemporaryDirectory() as folder:
+        for shows, got, wanted in runs(folder):
+            status, *patterns = wanted
+            if got[0] == status and all(map(re.fullmatch, patterns, got[1:])):
+                passed += 1
+            else:
+                failed += 1
+                print(f"{shows}: {got}, and wanted is {wanted}")
+    print(f"{passed} passed, {failed} failed")
+    return 1 if failed else 0
+
+
+if __name__ == "__main__":
+    sys.exit(main())
