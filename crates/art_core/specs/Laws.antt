@@ -1,0 +1,41 @@
+-- Laws of schedules.
+use Rattle.std.specs.Prelude.{◌≡◌, ℕ, List, [], ◌∷◌, ◌++◌, map, slice_get, Option, Some, None}
+use Rattle.std.specs.List.{AllZip}
+use Rattle.events.specs.declared.event.Call.{Call}
+use Rattle.art_rows.specs.declared.table.Shape.{Shape}
+use Rattle.art_steps.specs.declared.variant.Variant.{Variant}
+use Rattle.art_steps.specs.Act.{act}
+use Rattle.art_core.specs.declared.process.Process.{Process}
+use Rattle.art_core.specs.Core.{Plan, State, Move, Invokes, begun, moved, move_of, opened}
+use Rattle.art_core.specs.Runs.{Gives, run_on, run_from}
+
+-- a schedule goes on where an earlier one has come to
+abbrev pub RunsGoOn : Type 0
+RunsGoOn = (plan : Plan) (first : State) (earlier later : List ℕ) → run_from plan first (earlier ++ later) ≡ run_on plan (run_from plan first earlier) later
+
+-- the one list begins the other
+abbrev pub Begins : List Call → List Call → Type 0
+Begins script longer = (rest : List Call) × (longer ≡ script ++ rest)
+
+-- a schedule that runs on scripts runs on longer ones, to the same state
+abbrev pub RunsOnLongerScripts : Type 0
+RunsOnLongerScripts = (plan longer : Plan) (first : State) (schedule : List ℕ) (s : State) → longer.shape ≡ plan.shape → longer.variant ≡ plan.variant
+    → AllZip Begins plan.scripts longer.scripts → Gives plan first schedule s → Gives longer first schedule s
+
+-- the calls begun so far as scripts
+abbrev pub begun_plan : Shape → Variant → List Process → Plan
+begun_plan shape variant processes = record { shape = shape; variant = variant; scripts = map begun processes }
+
+-- what a process may do next, whichever call it begins
+abbrev pub MayMove : Shape → Variant → Process → Option Call → Move → Type 0
+MayMove shape variant q None m = (call : Call) × (m ≡ Invokes call)
+MayMove shape variant q (Some call) m = m ≡ move_of (act shape variant call q.got)
+
+-- Where a schedule gives a state, with the calls begun so far as scripts, it gives the next one with one process more behind it: whatever a process does next,
+-- its call included.
+abbrev pub MovesAreReached : Type 0
+MovesAreReached = (shape : Shape) (variant : Variant) (s : State) (schedule : List ℕ) (p : ℕ) (q : Process) (m : Move)
+    → Gives (begun_plan shape variant s.processes) (opened (begun_plan shape variant s.processes)) schedule s
+    → slice_get s.processes p ≡ Some q → MayMove shape variant q q.call m
+    → Gives (begun_plan shape variant (moved s p q m).processes) (opened (begun_plan shape variant (moved s p q m).processes)) (schedule ++ p ∷ [])
+    (moved s p q m)

@@ -1,0 +1,105 @@
+-- Schedules as they are written: items that name turns of a process, under a limit of turns.
+use Rattle.std.specs.Prelude.{◌≡◌, ℕ, zero, suc, Bool, false, ◌||◌, ◌==◌, nat_lt, if◌then◌else◌, List, [], ◌∷◌, length, take, slice_get, Option, Some, None}
+use Rattle.events.specs.declared.event.Call.{Call}
+use Rattle.art_steps.specs.declared.access.Point.{Point}
+use Rattle.art_steps.specs.declared.access.Point.TheVariants as point
+use Rattle.art_steps.specs.Act.{act, point_of}
+use Rattle.art_core.specs.declared.item.Item.{Item}
+use Rattle.art_core.specs.declared.item.Item.TheVariants.{Turns, End, Until}
+use Rattle.art_core.specs.declared.process.Process.{Process}
+use Rattle.art_core.specs.Core.{Plan, State, step, opened, finished}
+
+-- Why a turn is refused.
+pub data Refusal : Type 0 where
+  NoProcess NothingToDo TurnLimit : Refusal
+
+-- What a run has come to: its state, the turns left to it, and why it stopped, if it did.
+pub record Run : Type 0 where
+  pub state : State
+  pub left : ℕ
+  pub refused : Option Refusal
+
+-- one turn: a process, something to do, and a turn left are wanted in this order
+abbrev pub turn_with : Run → ℕ → Option Process → Option State → Run
+turn_with r left None next = record { state = r.state; left = r.left; refused = Some NoProcess }
+turn_with r left (Some q) None = record { state = r.state; left = r.left; refused = Some NothingToDo }
+turn_with r zero (Some q) (Some s) = record { state = r.state; left = r.left; refused = Some TurnLimit }
+turn_with r (suc left) (Some q) (Some s) = record { state = s; left = left; refused = None }
+
+abbrev pub turn : Plan → Run → ℕ → Run
+turn plan r p = turn_with r r.left (slice_get r.state.processes p) (step plan r.state p)
+
+-- the point that a process's next step is at: none with no open call
+abbrev pub point_in : Plan → List ℕ → Option Call → Option Point
+point_in plan got None = None
+point_in plan got (Some call) = point_of (act plan.shape plan.variant call got)
+
+abbrev pub next_point : Plan → Option Process → Option Point
+next_point plan None = None
+next_point plan (Some q) = point_in plan q.got q.call
+
+abbrev pub finished_count : Option Process → ℕ
+finished_count None = 0
+finished_count (Some q) = length (finished q)
+
+-- goes on where nothing was refused
+abbrev pub if_refused : Option Refusal → Run → (Run → Run) → Run
+if_refused None r f = f r
+if_refused (Some x) r f = r
+
+abbrev pub unless_refused : Run → (Run → Run) → Run
+unless_refused r f = if_refused r.refused r f
+
+abbrev pub turns_made : Plan → ℕ → ℕ → Run → Run
+turns_made plan p zero r = r
+turns_made plan p (suc n) r = unless_refused (turn plan r p) (turns_made plan p n)
+
+-- Turns of p until the test holds. Each takes one of the turns left; where none is left, one more is refused.
+abbrev pub turns_until : Plan → ℕ → (State → Bool) → ℕ → Run → Run
+turns_until plan p stop zero r = if stop r.state then r else turn plan r p
+turns_until plan p stop (suc left) r =
+    if stop r.state then r else unless_refused (turn plan r p) (turns_until plan p stop left)
+
+abbrev pub point_number : Point → ℕ
+point_number point.Child = 0
+point_number point.Check = 1
+point_number point.LockRoot = 2
+point_number point.LockRow = 3
+point_number point.Unlock = 4
+point_number point.Answer = 5
+
+abbrev pub is_at : Point → Option Point → Bool
+is_at q None = false
+is_at q (Some r) = point_number q == point_number r
+
+-- p has finished more than n calls
+abbrev pub has_finished : ℕ → ℕ → State → Bool
+has_finished p n s = nat_lt n (finished_count (slice_get s.processes p))
+
+-- what an item makes of a run
+abbrev pub made : Plan → Item → Run → Run
+made plan (Turns p n) r = turns_made plan p n r
+made plan (End p) r = turns_until plan p (has_finished p (finished_count (slice_get r.state.processes p))) r.left r
+made plan (Until p q) r =
+    turns_until plan p
+    (λ s. has_finished p (finished_count (slice_get r.state.processes p)) s || is_at q (next_point plan (slice_get s.processes p)))
+    r.left r
+
+-- the items in order, up to the first refused turn
+abbrev pub items_made : Plan → List Item → Run → Run
+items_made plan [] r = r
+items_made plan (i ∷ is) r = unless_refused (made plan i r) (items_made plan is)
+
+-- a run before its first turn
+abbrev pub begun_run : State → ℕ → Run
+begun_run s left = record { state = s; left = left; refused = None }
+
+unfoldable pub schedule_run : Plan → ℕ → List Item → Run
+schedule_run plan limit items = items_made plan items (begun_run (opened plan) limit)
+
+-- The run stops at item k for this cause: the items before it are made whole, and it is not.
+pub record StopsAt (plan : Plan) (items : List Item) (r : Run) (k : ℕ) (refusal : Refusal) : Type 0 where
+  pub item : Item
+  pub is_item : slice_get items k ≡ Some item
+  pub before : (items_made plan (take k items) r).refused ≡ None
+  pub stops : (made plan item (items_made plan (take k items) r)).refused ≡ Some refusal

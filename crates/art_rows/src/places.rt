@@ -1,0 +1,132 @@
+// Where the rows of a table stand.
+ghost use Rattle.std.specs.Prelude.{◌≡◌, ℕ, ◌<◌, ◌≤◌, ◌^◌, true, IfOk};
+ghost use Rattle.art_rows.specs.Table.{first_base, row_words, rows_of, table_words, root_base, is_base_of, kind_at, opening, base_of, IsWithinLimits};
+ghost use Rattle.art_rows.specs.Words.{child_of as child_in, is_small_child};
+
+use crate::table::{Child, Kind, Shape};
+use events::Memory;
+use std::alloc::Global;
+
+fn row_size(kind: Kind) -> u64
+    ensures { result ≡ row_words kind }
+{
+    match kind {
+        Kind::Four => 7,
+        Kind::Sixteen => 21,
+        Kind::FortyEight => 83,
+        Kind::Full => 258,
+    }
+}
+
+impl Shape {
+    /// How many rows of a kind there are.
+    pub fn rows(&self, kind: Kind) -> u64
+        ensures { result ≡ rows_of self.now kind }
+    {
+        match kind {
+            Kind::Four => u64::from(self.rows4),
+            Kind::Sixteen => u64::from(self.rows16),
+            Kind::FortyEight => u64::from(self.rows48),
+            Kind::Full => u64::from(self.rows256),
+        }
+    }
+
+    fn first(&self, kind: Kind) -> u64
+        ensures { result ≡ first_base self.now kind }
+    {
+        match kind {
+            Kind::Four => 5,
+            Kind::Sixteen => 5 + 7 * u64::from(self.rows4),
+            Kind::FortyEight => 5 + 7 * u64::from(self.rows4) + 21 * u64::from(self.rows16),
+            Kind::Full => {
+                5 + 7 * u64::from(self.rows4)
+                    + 21 * u64::from(self.rows16)
+                    + 83 * u64::from(self.rows48)
+            }
+        }
+    }
+
+    fn is_base(&self, kind: Kind, word: u64) -> bool
+        ensures { result ≡ is_base_of self.now kind word }
+    {
+        let first = self.first(kind);
+        first <= word
+            && (word - first) % row_size(kind) == 0
+            && (word - first) / row_size(kind) < self.rows(kind)
+    }
+
+    /// The kind of the row that begins at this word.
+    pub fn kind(&self, word: u64) -> Option<Kind>
+        ensures { result ≡ kind_at self.now word }
+    {
+        if self.is_base(Kind::Four, word) {
+            Some(Kind::Four)
+        } else if self.is_base(Kind::Sixteen, word) {
+            Some(Kind::Sixteen)
+        } else if self.is_base(Kind::FortyEight, word) {
+            Some(Kind::FortyEight)
+        } else if self.is_base(Kind::Full, word) {
+            Some(Kind::Full)
+        } else {
+            None
+        }
+    }
+
+    /// The base of a row by its number.
+    pub fn base(&self, kind: Kind, number: u64) -> u32
+        requires within { IsWithinLimits self.now }
+        requires number { number < rows_of self.now kind }
+        ensures { result ≡ base_of self.now kind number }
+    {
+        (self.first(kind) + row_size(kind) * number) as u32
+    }
+
+    /// The base of the root.
+    pub fn root(&self) -> usize
+        ensures { result ≡ root_base self.now }
+    {
+        self.first(Kind::Full) as usize
+    }
+
+    /// How many words the table has.
+    pub fn words(&self) -> usize
+        ensures { result ≡ table_words self.now }
+    {
+        self.root() + 258 * self.rows256 as usize
+    }
+
+    /// The words of the table as it is opened.
+    pub fn opening(&self, alloc: Global) -> Result<Vec<u64>, Memory>
+        requires root { 1 ≤ self.now.rows256 }
+        ensures { IfOk result (λ words. words.items ≡ opening self.now) }
+    {
+        let mut words = vec![in alloc; 0; self.words()]?;
+        words[4] = 1;
+        words[self.root() + 1] = 3;
+        Ok(words)
+    }
+
+    /// What a child word says.
+    pub fn child(&self, word: u64) -> Child
+        requires { table_words self.now < 2 ^ 32 }
+        ensures child { result ≡ child_in self.now word }
+        ensures small { is_small_child result ≡ true }
+    {
+        if word % 4 == 1 {
+            match self.kind(word / 4) {
+                Some(kind) => Child::Row {
+                    base: (word / 4) as u32,
+                    kind,
+                },
+                None => Child::Empty,
+            }
+        } else if word % 4 == 2 {
+            Child::Leaf {
+                key: (word / 2u64.pow(32)) as u32,
+                value: (word % 2u64.pow(32) / 4) as u32,
+            }
+        } else {
+            Child::Empty
+        }
+    }
+}

@@ -1,0 +1,4 @@
+pub mod Stages
+pub mod Automaton
+pub mod Scans
+pub mod Calls

@@ -1,0 +1,57 @@
+// From logs to a history.
+ghost use Rattle.std.specs.Prelude.{◌≡◌, ◌++◌, map, IfOk, OnOk};
+ghost use Rattle.events.specs.Histories.{IsHistory};
+ghost use Rattle.logs.specs.Logs.{events_by_stamp};
+
+use events::{Event, History, Memory};
+use std::alloc::Global;
+
+/// The history of stamped events: the events by rising stamp, and those of one stamp in the order in which they
+/// stand. For n events it takes time n log n. `Err` is want of memory.
+pub fn history_by_stamp(alloc: Global, mut stamped: Vec<(u64, Event)>) -> Result<History, Memory>
+    requires { IsHistory (events_by_stamp stamped.items) }
+    ensures { IfOk result (λ h. h ≡ events_by_stamp stamped.items) }
+{
+    stamped.sort_by_key(|event| event.0)?;
+    let events = without_stamps(alloc, stamped)?;
+    History::with_calls(alloc, events)
+}
+
+/// The events in the same order.
+fn without_stamps(alloc: Global, stamped: Vec<(u64, Event)>) -> Result<Vec<Event>, Memory>
+    ensures { IfOk result (λ events. events.items ≡ map (λ e. e.1) stamped.items) }
+{
+    let events = stamped.into_iter().map(|(_, event)| event).collect(alloc)?;
+    Ok(events)
+}
+
+/// Copies a log's events behind others. `Err` is want of memory.
+pub fn append_log(
+    alloc: Global,
+    stamped: &mut Vec<(u64, Event)>,
+    log: &[(u64, Event)],
+) -> Result<(), Memory>
+    ensures { OnOk result (stamped.new.items ≡ stamped.old.items ++ log.now) }
+{
+    for (stamp, event) in log {
+        let event = copy(alloc, event)?;
+        stamped.push((*stamp, event))?;
+    }
+    Ok(())
+}
+
+/// The same event again.
+fn copy(alloc: Global, event: &Event) -> Result<Event, Memory>
+    ensures { IfOk result (λ e. e ≡ event.now) }
+{
+    match event {
+        Event::Invoke { process, call } => Ok(Event::Invoke {
+            process: *process,
+            call: *call,
+        }),
+        Event::Answer { process, reply } => Ok(Event::Answer {
+            process: *process,
+            reply: reply.copy(alloc)?,
+        }),
+    }
+}

@@ -1,0 +1,85 @@
+-- What a machine begins with.
+use Rattle.std.proofs.Common.{◌≡◌, ℕ, zero, suc, List, [], ◌∷◌, ◌++◌, length, refl, ap, sym, subst, ◌∙◌, append_assoc}
+use Rattle.std.specs.Prelude.{Option, Some, None, slice_get, replicate, slice_set}
+use Rattle.std.specs.List.{AllZip}
+use Rattle.std.proofs.lemmas.List.{append-nil, length-set, length-replicate}
+use Rattle.list_laws.proofs.ZipLemmas.{zip_right}
+use Rattle.events.specs.declared.event.Call.{Call}
+use Rattle.art_rows.specs.declared.table.Shape.{Shape}
+use Rattle.art_rows.specs.Table.{opening, table_words}
+use Rattle.art_steps.specs.declared.variant.Variant.{Variant}
+use Rattle.art_core.specs.declared.process.Process.{Process}
+use Rattle.art_core.specs.Core.{Plan, idle}
+use Rattle.machine.specs.declared.runner.Runner.{Runner}
+use Rattle.machine.specs.declared.doing.Doing.{Doing}
+use Rattle.machine.specs.declared.doing.Doing.TheVariants.{Idle}
+use Rattle.machine.specs.Fitting.{FitsDoing, FitsProcess, IsFor, AreFor}
+use Rattle.machine.specs.Opening.{IsFresh}
+use Rattle.machine.specs.Running.{plan_of}
+
+-- some of the runners are there, for the first of the scripts
+pub record AreHalfOpened (all rest : List (List Call)) (runners : List Runner) : Type 0 where
+  pub done : List (List Call)
+  pub parts : all ≡ done ++ rest
+  pub fresh : AllZip IsFresh done runners
+
+zip-push : (xs : List (List Call)) (ys : List Runner) (x : List Call) (y : Runner) → AllZip IsFresh xs ys → IsFresh x y
+    → AllZip IsFresh (xs ++ x ∷ []) (ys ++ y ∷ [])
+zip-push [] [] x y h k = (k, tt)
+zip-push [] (z ∷ ys) x y h k = absurd h
+zip-push (w ∷ xs) [] x y h k = absurd h
+zip-push (w ∷ xs) (z ∷ ys) x y h k = (h.0, zip-push xs ys x y h.1 k)
+
+pub half-none : (all : List (List Call)) → AreHalfOpened all all []
+half-none all = record { done = []; parts = refl; fresh = tt }
+
+pub half-more : (all rest more : List (List Call)) (script : List Call) (runners : List Runner) (r : Runner) → AreHalfOpened all rest runners
+    → rest ≡ script ∷ more → IsFresh script r
+    → AreHalfOpened all more (runners ++ r ∷ [])
+half-more all rest more script runners r h e k = record {
+  done = h.done ++ script ∷ [];
+  parts = h.parts ∙ (ap (λ l. h.done ++ l) e ∙ sym (append_assoc h.done (script ∷ []) more));
+  fresh = zip-push h.done runners script r h.fresh k;
+}
+
+pub half-all : (all rest : List (List Call)) (runners : List Runner) → AreHalfOpened all rest runners → rest ≡ [] → AllZip IsFresh all runners
+half-all all rest runners h e = subst (λ l. AllZip IsFresh l runners) (sym (h.parts ∙ (ap (λ l. h.done ++ l) e ∙ append-nil h.done))) h.fresh
+
+pub zip-length : (xs : List (List Call)) (ys : List Runner) → AllZip IsFresh xs ys → length xs ≡ length ys
+zip-length [] [] h = refl
+zip-length [] (y ∷ ys) h = absurd h
+zip-length (x ∷ xs) [] h = absurd h
+zip-length (x ∷ xs) (y ∷ ys) h = ap suc (zip-length xs ys h.1)
+
+some-same : {A : Type 0} {x y : A} → ◌≡◌ {A = Option A} (Some x) (Some y) → x ≡ y
+some-same h = cc
+
+none-some : {A : Type 0} {y : A} → ◌≡◌ {A = Option A} None (Some y) → ⊥
+none-some h = cc
+
+all-idle : (n i : ℕ) (q : Process) → slice_get (replicate n idle) i ≡ Some q → q ≡ idle
+all-idle zero i q e = absurd (none-some e)
+all-idle (suc n) zero q e = sym (some-same e)
+all-idle (suc n) (suc i) q e = all-idle n i q e
+
+pub fits-idle : (shape : Shape) (variant : Variant) (scripts : List (List Call)) (runners : List Runner) → AllZip IsFresh scripts runners
+    → (i : ℕ) (r : Runner) (q : Process) → slice_get runners i ≡ Some r → slice_get (replicate (length scripts) idle) i ≡ Some q
+    → FitsProcess (plan_of shape variant scripts) i r q
+fits-idle shape variant scripts runners fresh i r q at is =
+    let z = zip_right IsFresh scripts runners i r fresh at in
+    subst (λ q. FitsProcess (plan_of shape variant scripts) i r q) (sym (all-idle (length scripts) i q is)) (record {
+      doing = subst (λ d. FitsDoing shape variant d None []) (sym z.2.doing) refl;
+      begun = sym z.2.begun;
+      log = sym z.2.log;
+      script = z.1 ∙ ap Some (sym z.2.script);
+    })
+
+pub tasks-idle : (shape : Shape) (scripts : List (List Call)) (runners : List Runner) → AllZip IsFresh scripts runners → AreFor shape runners
+tasks-idle shape scripts runners fresh i r at =
+    let z = zip_right IsFresh scripts runners i r fresh at in
+    subst (λ d. IsFor shape d) (sym z.2.doing) tt
+
+pub words-length : (shape : Shape) → length (opening shape) ≡ table_words shape
+words-length shape =
+    length-set (slice_set (replicate (table_words shape) 0) 4 1) _ 3
+    ∙ (length-set (replicate (table_words shape) 0) 4 1 ∙ length-replicate (table_words shape) 0)

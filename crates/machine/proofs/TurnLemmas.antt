@@ -1,0 +1,144 @@
+-- A task that fits still fits after its access.
+use Rattle.std.proofs.Common.{◌≡◌, ℕ, ◌+◌, ◌%◌, ◌^◌, List, [], ◌∷◌, ◌++◌, length, refl, ap, sym, subst, ◌∙◌, append_assoc, false}
+use Rattle.std.specs.Prelude.{Option, Some, None, is_some, slice_get, slice_index, slice_set, filter_map}
+use Rattle.std.proofs.lemmas.List.{append-nil, length-append}
+use Rattle.std.proofs.lemmas.List.Elements.{filter_map-append}
+use Rattle.events.specs.declared.event.Event.TheVariants.{Invoke, Answer}
+use Rattle.logs.specs.Logs.{Stamped}
+use Rattle.art.specs.Tasks.{rest_of}
+use Rattle.art_core.specs.declared.process.Process.{Process}
+use Rattle.art_core.specs.Core.{Plan, Invokes, Makes, Responds, begun, invoked, move_of, move_from, invocation, next_in}
+use Rattle.machine.specs.declared.doing.Open.{Open}
+use Rattle.machine.specs.declared.doing.Doing.TheVariants.{Idle, Going, Answered}
+use Rattle.machine.specs.declared.runner.Runner.{Runner}
+use Rattle.events.specs.declared.event.Call.{Call}
+use Rattle.events.specs.declared.event.Reply.{Reply}
+use Rattle.art_rows.specs.declared.table.Shape.{Shape}
+use Rattle.art_steps.specs.declared.variant.Variant.{Variant}
+use Rattle.art_steps.specs.declared.access.Access.{Access}
+use Rattle.art_steps.specs.declared.access.Point.{Point}
+use Rattle.art_steps.specs.Steps.{Turn, Rest, Asks, Answers, access_of, reply_of}
+use Rattle.art_steps.specs.Act.{act}
+use Rattle.art_steps.specs.Fits.{Fits}
+use Rattle.art_core.specs.Accesses.{got_by, words_after}
+use Rattle.machine.specs.declared.doing.Doing.{Doing}
+use Rattle.machine.specs.Fitting.{Advances, FitsDoing, FitsProcess, Moves}
+
+asks_of : (t : Turn) (a : Access) → access_of t ≡ Some a → (p : Option Point) × (t ≡ Asks a p)
+asks_of (Asks b p) a e = (p, ap (λ x. Asks x p) (some_same e))
+  where
+    some_same : {x y : Access} → ◌≡◌ {A = Option Access} (Some x) (Some y) → x ≡ y
+    some_same h = cc
+asks_of (Answers r) a e = absurd (none_some e)
+  where
+    none_some : {y : Access} → ◌≡◌ {A = Option Access} None (Some y) → ⊥
+    none_some h = cc
+
+pub answers_of : (t : Turn) (r : Reply) → reply_of t ≡ Some r → t ≡ Answers r
+answers_of (Asks b p) r e = absurd (none_some e)
+  where
+    none_some : {y : Reply} → ◌≡◌ {A = Option Reply} None (Some y) → ⊥
+    none_some h = cc
+answers_of (Answers q) r e = ap Answers (some_same e)
+  where
+    some_same : {x y : Reply} → ◌≡◌ {A = Option Reply} (Some x) (Some y) → x ≡ y
+    some_same h = cc
+
+pub unanswered : (o : Option Reply) → is_some o ≡ false → o ≡ None
+unanswered None h = refl
+unanswered (Some r) h = absurd (true_false h)
+  where
+    true_false : is_some (Some r) ≡ false → ⊥
+    true_false k = cc
+
+module _ (shape : Shape) (variant : Variant) (call : Call) (got old new : List ℕ) (rest rest' : Rest) (a : Access) (w : ℕ)
+    (fits : Fits shape variant call got rest) (asks : access_of (rest []) ≡ Some a) (gave : w ≡ got_by a old)
+    (goes : (more : List ℕ) → rest' more ≡ rest (w ∷ more)) where
+  pub asked : (p : Option Point) × (act shape variant call got ≡ Asks a p)
+  asked = let found = asks_of (rest []) a asks in (found.0, ap (act shape variant call) (sym (append-nil got)) ∙ (sym (fits []) ∙ found.1))
+
+  pub later : Fits shape variant call (got ++ got_by a old ∷ []) rest'
+  later = λ more. goes more
+      ∙ (fits (w ∷ more)
+      ∙ (ap (λ x. act shape variant call (got ++ x ∷ more)) gave ∙ ap (act shape variant call) (sym (append_assoc got (got_by a old ∷ []) more))))
+
+  pub answers : (r : Reply) → reply_of (rest' []) ≡ Some r → act shape variant call (got ++ got_by a old ∷ []) ≡ Answers r
+  answers r e = ap (act shape variant call) (sym (append-nil (got ++ got_by a old ∷ []))) ∙ (sym (later []) ∙ answers_of (rest' []) r e)
+
+  pub makes : (doing : Doing) → new ≡ words_after a old → FitsDoing shape variant doing (Some call) (got ++ got_by a old ∷ [])
+      → Advances shape variant call got old new doing
+  makes doing wrote f = record { access = a; point = asked.0; asks = asked.1; words = wrote; fits = f }
+
+-- A turn of a runner is the next move of the process that it fits.
+
+begun-append : (log : List Stamped) (e : Stamped)
+    → filter_map (λ e. invoked e.1) (log ++ e ∷ []) ≡ filter_map (λ e. invoked e.1) log ++ filter_map (λ e. invoked e.1) (e ∷ [])
+begun-append log e = filter_map-append (λ e. invoked e.1) log (e ∷ [])
+
+pub goes-on : (plan : Plan) (p : ℕ) (q : Process) (r : Runner) (call : Open) (old new : List ℕ) (doing : Doing)
+    → FitsProcess plan p (record r { doing = Going call }) q
+    → ((asked : Call) (got : List ℕ) → Fits plan.shape plan.variant asked got (rest_of call.task) → Advances plan.shape plan.variant asked got old new doing)
+    → Moves plan p q old new (record r { doing = doing })
+goes-on plan p q r call old new doing fits made =
+    let d = fits.doing in
+    let a = made d.0 q.got d.2 in
+    record {
+      move = Makes a.access;
+      is_next = ap (move_from plan p q) d.1 ∙ ap (λ t. Some (move_of t)) a.asks;
+      words = a.words;
+      fits = record {
+        doing = subst (λ o. FitsDoing plan.shape plan.variant doing o (q.got ++ got_by a.access old ∷ [])) (sym d.1) a.fits;
+        begun = fits.begun;
+        log = fits.log;
+        script = fits.script;
+      };
+    }
+
+pub responds : (plan : Plan) (p : ℕ) (q : Process) (r : Runner) (reply : Reply) (old new : List ℕ) (r2 : Runner)
+    → FitsProcess plan p (record r { doing = Answered reply }) q
+    → new ≡ slice_set old 0 ((slice_index old 0 + 1) % 2 ^ 64) → r2.log.items ≡ r.log.items ++ (slice_index old 0, Answer p reply) ∷ []
+    → r2.script ≡ r.script → r2.begun ≡ r.begun → r2.doing ≡ Idle → Moves plan p q old new r2
+responds plan p q r reply old new r2 fits wrote logged script begun_is idle =
+    let d = fits.doing in
+    record {
+      move = Responds reply;
+      is_next = ap (move_from plan p q) d.1 ∙ ap (λ t. Some (move_of t)) d.2;
+      words = wrote;
+      fits = record {
+        doing = subst (λ doing. FitsDoing plan.shape plan.variant doing None []) (sym idle) refl;
+        begun = ap (λ l. length l) (begun-append q.log (slice_index old 0, Answer p reply) ∙ append-nil (begun q)) ∙ (fits.begun ∙ sym begun_is);
+        log = ap (λ l. l ++ (slice_index old 0, Answer p reply) ∷ []) fits.log ∙ sym logged;
+        script = fits.script ∙ ap (λ v. Some v.items) (sym script);
+      };
+    }
+
+pub invokes : (plan : Plan) (p : ℕ) (q : Process) (r : Runner) (call : Call) (open_call : Open) (old new : List ℕ) (r2 : Runner) → FitsProcess plan p r q
+    → r.doing ≡ Idle
+    → slice_get r.script.items r.begun ≡ Some call → ((rest : List ℕ) → rest_of open_call.task rest ≡ act plan.shape plan.variant call rest)
+    → new ≡ slice_set old 0 ((slice_index old 0 + 1) % 2 ^ 64) → r2.log.items ≡ r.log.items ++ (slice_index old 0, Invoke p call) ∷ []
+    → r2.script ≡ r.script → r2.begun ≡ r.begun + 1 → r2.doing ≡ Going open_call → Moves plan p q old new r2
+invokes plan p q r call open_call old new r2 fits idle next rest wrote logged script begun_is going =
+    let none : q.call ≡ None = subst (λ doing. FitsDoing plan.shape plan.variant doing q.call q.got) idle fits.doing in
+    record {
+      move = Invokes call;
+      is_next =
+          ap (move_from plan p q) none ∙ ap invocation (ap (λ o. next_in o (length (begun q))) fits.script ∙ (ap (slice_get r.script.items) fits.begun ∙ next));
+      words = wrote;
+      fits = record {
+        doing = subst (λ doing. FitsDoing plan.shape plan.variant doing (Some call) []) (sym going) (call, refl, rest);
+        begun = ap (λ l. length l) (begun-append q.log (slice_index old 0, Invoke p call))
+            ∙ (length-append (begun q) (call ∷ []) ∙ (ap (λ n. n + 1) fits.begun ∙ sym begun_is));
+        log = ap (λ l. l ++ (slice_index old 0, Invoke p call) ∷ []) fits.log ∙ sym logged;
+        script = fits.script ∙ ap (λ v. Some v.items) (sym script);
+      };
+    }
+
+-- what a runner is doing, named
+pub refit : (plan : Plan) (p : ℕ) (q : Process) (r r2 : Runner) → FitsProcess plan p r q → r2.doing ≡ r.doing → r2.begun ≡ r.begun → r2.log.items ≡ r.log.items
+    → r2.script.items ≡ r.script.items → FitsProcess plan p r2 q
+refit plan p q r r2 fits doing begun_is log script = record {
+  doing = subst (λ d. FitsDoing plan.shape plan.variant d q.call q.got) (sym doing) fits.doing;
+  begun = fits.begun ∙ sym begun_is;
+  log = fits.log ∙ sym log;
+  script = fits.script ∙ ap Some (sym script);
+}

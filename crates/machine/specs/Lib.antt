@@ -1,0 +1,5 @@
+pub mod Fitting
+pub mod Working
+pub mod Machines
+pub mod Running
+pub mod Opening

@@ -1,0 +1,16 @@
+//! The core run by schedules: processes that make the accesses of their calls over a vector of words, one step a turn.
+#![tactic(auto)]
+
+mod doing;
+mod fault;
+mod machine_turn;
+mod machines;
+mod opening;
+mod runner;
+mod surface;
+mod table;
+mod turns;
+
+pub use fault::{MachineFault, RunFault};
+pub use machines::Machine;
+pub use runner::Runner;

@@ -1,0 +1,24 @@
+// Processes on one vector of words, that step when they are told to.
+ghost use Rattle.std.specs.Prelude.{◌≡◌, ◌≤◌, length};
+ghost use Rattle.art_rows.specs.Table.{table_words};
+ghost use Rattle.machine.specs.Fitting.{AreFor};
+
+use crate::fault::MachineFault;
+use crate::runner::Runner;
+use art::{Shape, Variant};
+use events::Memory;
+use std::alloc::Global;
+
+/// The core under way: the words of the table, the processes, and the turns that are left.
+#[derive(Drop)]
+pub struct Machine {
+    pub(crate) shape: Shape,
+    pub(crate) variant: Variant,
+    pub(crate) left: u32,
+    pub(crate) words: Vec<u64>,
+    pub(crate) runners: Vec<Runner>,
+    ghost root: { 1 ≤ shape.rows256 },
+    ghost long: { length words.items ≡ table_words shape },
+    ghost few: { length runners.items ≤ 64 },
+    ghost tasks: { ∥ AreFor shape runners.items ∥₁ },
+}
