@@ -12,14 +12,16 @@ use Rattle.judge.specs.declared.verdict.Verdict.{Verdict}
 use Rattle.judge.specs.declared.fault.JudgeFault.{JudgeFault}
 use Rattle.judge.specs.declared.fault.JudgeFault.TheVariants.{History, Memory}
 use Rattle.judge.specs.Shown.{IsShown}
+use Rattle.judge.specs.Exact.{IsExactVerdict}
 use Rattle.judge.specs.Reports.{verdict_data}
 
--- the text spells a history, what the verdict says of its calls is so, and this is the verdict's report
+-- the text spells a history, what the verdict says of its calls is so, it is the exact verdict, and this is its report
 pub record IsJudged (budget : ℕ) (text : List ℕ) (verdict : Verdict) (report : List ℕ) : Type 0 where
   pub events : List Event
   pub spelled : Spells text events
   pub history : IsHistory events
   pub shown : IsShown [] budget (operations events) verdict
+  pub exact : IsExactVerdict [] budget (operations events) verdict
   pub reported : report ≡ compact_text (verdict_data verdict)
 
 -- the judge's fault for a reader's: want of memory is one fault, whoever met it

@@ -1,5 +1,6 @@
 pub mod Shows
 pub mod Shown
+pub mod Exact
 pub mod Judged
 pub mod Reports
 pub mod Laws

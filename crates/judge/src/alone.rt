@@ -2,8 +2,9 @@
 ghost use Rattle.std.specs.Prelude.{◌≤◌, [], IfOk};
 ghost use Rattle.std.specs.List.{AllZip};
 ghost use Rattle.events.specs.Operations.{operations};
-ghost use Rattle.search.specs.Found.{IsSoundAnswer};
+ghost use Rattle.search.specs.Exact.{IsExactAnswer};
 ghost use Rattle.judge.specs.Shown.{IsShown};
+ghost use Rattle.judge.specs.Exact.{IsExactVerdict};
 
 use crate::conclusion::conclude;
 use crate::verdict::Verdict;
@@ -20,6 +21,7 @@ use std::alloc::Global;
 pub fn judge_alone(alloc: Global, history: &History, budget: u32) -> Result<Verdict, Memory>
     requires { (1 ≤ budget) × (budget ≤ MAX_BUDGET) }
     ensures shown { IfOk result (IsShown [] budget (operations history.now)) }
+    ensures exact { IfOk result (IsExactVerdict [] budget (operations history.now)) }
 {
     let segments = cut(alloc, history)?;
     let answers = search_each(alloc, &segments, budget)?;
@@ -29,7 +31,7 @@ pub fn judge_alone(alloc: Global, history: &History, budget: u32) -> Result<Verd
 /// What the search of each segment finds.
 fn search_each(alloc: Global, segments: &[Segment], budget: u32) -> Result<Vec<Found>, Memory>
     requires { (1 ≤ budget) × (budget ≤ MAX_BUDGET) }
-    ensures { IfOk result (λ v. AllZip (IsSoundAnswer [] budget) segments.now v.items) }
+    ensures { IfOk result (λ v. AllZip (IsExactAnswer [] budget) segments.now v.items) }
 {
     let mut answers = Vec::with_capacity(alloc, segments.len())?;
     for segment in segments {

@@ -5,8 +5,9 @@ ghost use Rattle.events.specs.Operations.{operations};
 ghost use Rattle.orders.specs.Orders.{IsLinearizable};
 ghost use Rattle.segments.specs.Segments.{AreSegments};
 ghost use Rattle.segments.specs.SegmentOrders.{HasNoOrder};
-ghost use Rattle.search.specs.Found.{IsSoundAnswer};
+ghost use Rattle.search.specs.Exact.{IsExactAnswer};
 ghost use Rattle.judge.specs.Shown.{IsShown};
+ghost use Rattle.judge.specs.Exact.{IsExactVerdict};
 
 use crate::verdict::Verdict;
 use events::{History, Memory};
@@ -27,8 +28,9 @@ pub(crate) fn conclude(
     requires segments { AreSegments (operations history.now) segments.items }
     requires refutes { All (λ s.
         HasNoOrder [] s → IsLinearizable [] (operations history.now) → ⊥) segments.items }
-    requires sound { AllZip (IsSoundAnswer [] budget) segments.items answers.items }
-    ensures { IfOk result (IsShown [] budget (operations history.now)) }
+    requires exact { AllZip (IsExactAnswer [] budget) segments.items answers.items }
+    ensures shown { IfOk result (IsShown [] budget (operations history.now)) }
+    ensures exact { IfOk result (IsExactVerdict [] budget (operations history.now)) }
 {
     let mut orders = Vec::with_capacity(alloc, segments.len())?;
     let mut lowest_spent = None;

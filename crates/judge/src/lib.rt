@@ -15,7 +15,7 @@ mod workers;
 
 pub use alone::judge_alone;
 pub use fault::JudgeFault;
-pub use laws::{finished_verdicts_agree, one_call_is_decided};
+pub use laws::{finished_verdicts_agree, one_call_is_decided, one_exact_verdict, one_report};
 pub use reports::report;
 pub use search::MAX_BUDGET;
 pub use texts::judge_text;

@@ -2,6 +2,7 @@
 ghost use Rattle.std.specs.Prelude.{◌≤◌, [], IfOk};
 ghost use Rattle.events.specs.Operations.{operations};
 ghost use Rattle.judge.specs.Shown.{IsShown};
+ghost use Rattle.judge.specs.Exact.{IsExactVerdict};
 
 use crate::conclusion::conclude;
 use crate::verdict::Verdict;
@@ -25,6 +26,7 @@ pub fn judge<R: Threads + Sync, G: Gate + Sync>(
     requires budget { (1 ≤ budget) × (budget ≤ MAX_BUDGET) }
     requires workers { (1 ≤ workers) × (workers ≤ MAX_WORKERS) }
     ensures shown { IfOk result (IsShown [] budget (operations history.now)) }
+    ensures exact { IfOk result (IsExactVerdict [] budget (operations history.now)) }
 {
     let segments = cut(alloc, history)?;
     let answers = search_all(rt, alloc, &segments, budget, workers, gate)?;

@@ -7,11 +7,13 @@ use Rattle.std.specs.List.{AllZip, HoldsAt}
 use Rattle.std.specs.Option.{IfSome}
 use Rattle.map_object.specs.MapObject.{Contents}
 use Rattle.segments.specs.SegmentView.{SegmentView}
+use Rattle.search.specs.Exact.{IsExactAnswer}
 use Rattle.search.specs.Found.{IsSoundAnswer}
+use Rattle.search.proofs.ExactLemmas.{sound_from_exact}
 use Rattle.search.specs.declared.found.Found.{Found}
 use Rattle.pool.specs.declared.worker.SegmentAnswer.{SegmentAnswer}
 use Rattle.pool.specs.Answers.{AnswersOneOf}
-use Rattle.pool.specs.Known.{with_answer, IsSoundIfKnown}
+use Rattle.pool.specs.Known.{with_answer, IsExactIfKnown}
 
 -- the answers in rest are still to be put, each at one of the places, and then all are
 pub record IsStillToPut (first : List (Option Found)) (all : List SegmentAnswer) (known : List (Option Found)) (rest : List SegmentAnswer) : Type 0 where
@@ -109,11 +111,19 @@ module _ {S A : Type 0} (P : S → A → Type 0) where
   IsHalfKnown-all {segments} {answers} {rest} h e = all_known segments answers (rw e at h.known)
 
 -- none of the known answers is wrong with those of a worker
-pub sound_after : {start : Contents} {budget : ℕ} {segments : List SegmentView} (known : List (Option Found)) (answers : List SegmentAnswer)
-    → AllZip (IsSoundIfKnown start budget) segments known → All (AnswersOneOf start budget segments) answers
-    → AllZip (IsSoundIfKnown start budget) segments (fold with_answer known answers)
-sound_after {start} {budget} {segments} known [] h sound = h
-sound_after {start} {budget} {segments} known (a ∷ answers) h sound =
-    let one : AnswersOneOf start budget segments a = All-head (AnswersOneOf start budget segments) a answers sound in
-    let put = none_wrong_after (IsSoundAnswer start budget) segments known a.segment a.found h one.one one.sound in
-    sound_after (with_answer known a) answers put (All-tail (AnswersOneOf start budget segments) a answers sound)
+pub exact_after : {start : Contents} {budget : ℕ} {segments : List SegmentView} (known : List (Option Found)) (answers : List SegmentAnswer)
+    → AllZip (IsExactIfKnown start budget) segments known → All (AnswersOneOf start budget segments) answers
+    → AllZip (IsExactIfKnown start budget) segments (fold with_answer known answers)
+exact_after {start} {budget} {segments} known [] h exact = h
+exact_after {start} {budget} {segments} known (a ∷ answers) h exact =
+    let one : AnswersOneOf start budget segments a = All-head (AnswersOneOf start budget segments) a answers exact in
+    let put = none_wrong_after (IsExactAnswer start budget) segments known a.segment a.found h one.one one.exact in
+    exact_after (with_answer known a) answers put (All-tail (AnswersOneOf start budget segments) a answers exact)
+
+-- exact answers are sound
+pub all_sound : (start : Contents) (budget : ℕ) (segments : List SegmentView) (answers : List Found)
+    → AllZip (IsExactAnswer start budget) segments answers → AllZip (IsSoundAnswer start budget) segments answers
+all_sound start budget [] [] h = tt
+all_sound start budget [] (a ∷ answers) h = absurd h
+all_sound start budget (s ∷ segments) [] h = absurd h
+all_sound start budget (s ∷ segments) (a ∷ answers) h = (sound_from_exact start budget s a h.0, all_sound start budget segments answers h.1)

@@ -3,13 +3,13 @@ use Rattle.std.specs.Prelude.{ℕ, List, Option, Some, IfSome, slice_set}
 use Rattle.map_object.specs.MapObject.{Contents}
 use Rattle.segments.specs.SegmentView.{SegmentView}
 use Rattle.search.specs.declared.found.Found.{Found}
-use Rattle.search.specs.Found.{IsSoundAnswer}
+use Rattle.search.specs.Exact.{IsExactAnswer}
 use Rattle.pool.specs.declared.worker.SegmentAnswer.{SegmentAnswer}
 
 -- the answer is put at its segment's place
 abbrev pub with_answer : List (Option Found) → SegmentAnswer → List (Option Found)
 with_answer known answer = slice_set known answer.segment (Some answer.found)
 
--- an answer that is known is sound
-abbrev pub IsSoundIfKnown : Contents → ℕ → SegmentView → Option Found → Type 0
-IsSoundIfKnown start budget segment known = IfSome known (IsSoundAnswer start budget segment)
+-- an answer that is known is exact
+abbrev pub IsExactIfKnown : Contents → ℕ → SegmentView → Option Found → Type 0
+IsExactIfKnown start budget segment known = IfSome known (IsExactAnswer start budget segment)

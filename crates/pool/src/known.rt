@@ -2,8 +2,8 @@
 ghost use Rattle.std.specs.Prelude.{◌≡◌, ◌<◌, ◌≤◌, [], replicate, fold, All, IfOk};
 ghost use Rattle.std.specs.List.{AllZip};
 ghost use Rattle.std.specs.declared.option.Option.TheVariants.{None};
-ghost use Rattle.search.specs.Found.{IsSoundAnswer};
-ghost use Rattle.pool.specs.Known.{with_answer, IsSoundIfKnown};
+ghost use Rattle.search.specs.Exact.{IsExactAnswer};
+ghost use Rattle.pool.specs.Known.{with_answer, IsExactIfKnown};
 
 use crate::gate::Gate;
 use crate::worker::{SegmentAnswer, enter_and_search};
@@ -49,8 +49,8 @@ pub(crate) fn complete<G: Gate>(
     known: Vec<Option<Found>>,
 ) -> Result<Vec<Found>, Memory>
     requires budget { (1 ≤ budget) × (budget ≤ MAX_BUDGET) }
-    requires sound { AllZip (IsSoundIfKnown [] budget) segments.now known.items }
-    ensures { IfOk result (λ v. AllZip (IsSoundAnswer [] budget) segments.now v.items) }
+    requires exact { AllZip (IsExactIfKnown [] budget) segments.now known.items }
+    ensures { IfOk result (λ v. AllZip (IsExactAnswer [] budget) segments.now v.items) }
 {
     let mut answers = Vec::with_capacity(alloc, known.len())?;
     for answer in known {

@@ -1,6 +1,7 @@
 // The search of all segments, by workers.
 ghost use Rattle.std.specs.Prelude.{◌≤◌, [], All, IfOk};
 ghost use Rattle.std.specs.List.{AllZip};
+ghost use Rattle.search.specs.Exact.{IsExactAnswer};
 ghost use Rattle.search.specs.Found.{IsSoundAnswer};
 ghost use Rattle.pool.specs.Answers.{AnswersOneOf};
 
@@ -35,6 +36,7 @@ pub fn search_all<R: Threads + Sync, G: Gate + Sync>(
 ) -> Result<Vec<Found>, Memory>
     requires budget { (1 ≤ budget) × (budget ≤ MAX_BUDGET) }
     requires workers { (1 ≤ workers) × (workers ≤ MAX_WORKERS) }
+    ensures exact { IfOk result (λ v. AllZip (IsExactAnswer [] budget) segments.now v.items) }
     ensures sound { IfOk result (λ v. AllZip (IsSoundAnswer [] budget) segments.now v.items) }
 {
     let answers = search_apart(rt, alloc, segments, budget, workers, gate)?;

@@ -1,7 +1,7 @@
 // What a worker does: it draws numbers, and searches the segments that have them.
 ghost use Rattle.std.specs.Prelude.{◌≡◌, ◌<◌, ◌≤◌, [], length, All, IfOk};
 ghost use Rattle.std.specs.List.{HoldsAt};
-ghost use Rattle.search.specs.Found.{IsSoundAnswer};
+ghost use Rattle.search.specs.Exact.{IsExactAnswer};
 ghost use Rattle.tickets.specs.Hands.{counter, counter_of};
 ghost use Rattle.pool.specs.Answers.{AnswersOneOf};
 
@@ -54,7 +54,7 @@ pub(crate) fn enter_and_search<G: Gate>(
 ) -> Result<Found, Memory>
     requires budget { (1 ≤ budget) × (budget ≤ MAX_BUDGET) }
     requires known { segment < length segments.now }
-    ensures { IfOk result (λ f. HoldsAt (λ s. IsSoundAnswer [] budget s f) segments.now segment) }
+    ensures { IfOk result (λ f. HoldsAt (λ s. IsExactAnswer [] budget s f) segments.now segment) }
 {
     gate.enter(segment);
     search(alloc, &segments[segment], budget)

@@ -1,9 +1,18 @@
 use Rattle.std.proofs.Common.{[]}
+use Rattle.std.proofs.lemmas.Result.{IfOk-weaker}
+use Rattle.std.specs.List.{AllZip}
+use Rattle.search.specs.Exact.{IsExactAnswer}
 use Rattle.search.specs.Found.{IsSoundAnswer}
-use Rattle.pool.proofs.KnownLemmas.{none_wrong, sound_after}
+use Rattle.pool.proofs.KnownLemmas.{none_wrong, exact_after, all_sound}
 use Rattle.pool.proofs.pool.search_all.Goals as goal
 
-pub complete-requires-clause-sound : goal.complete-requires-clause-sound
-complete-requires-clause-sound g c =
+pub complete-requires-clause-exact : goal.complete-requires-clause-exact
+complete-requires-clause-exact g c =
     rw c.in_ok-known.ensures
-    (sound_after _ c.in_ok-answers.answers.items (none_wrong (IsSoundAnswer [] c.args.budget) c.args.segments.now) c.in_ok-answers.ensures)
+    (exact_after _ c.in_ok-answers.answers.items (none_wrong (IsExactAnswer [] c.args.budget) c.args.segments.now) c.in_ok-answers.ensures)
+
+pub returns-clause-sound : goal.returns-clause-sound
+returns-clause-sound g c =
+    let segments = c.args.segments.now in
+    IfOk-weaker _ (λ v. AllZip (IsExactAnswer [] c.args.budget) segments v.items) (λ v. AllZip (IsSoundAnswer [] c.args.budget) segments v.items)
+    (λ v exact. all_sound [] c.args.budget segments v.items exact) c.complete.ensures

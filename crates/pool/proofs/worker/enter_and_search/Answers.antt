@@ -2,13 +2,13 @@ use Rattle.std.proofs.Common.{[]}
 use Rattle.std.proofs.lemmas.List.Elements.{at_read}
 use Rattle.std.proofs.lemmas.Result.{IfOk-weaker}
 use Rattle.std.specs.List.{HoldsAt}
-use Rattle.search.specs.Found.{IsSoundAnswer}
+use Rattle.search.specs.Exact.{IsExactAnswer}
 use Rattle.pool.proofs.worker.enter_and_search.Goals as goal
 
 pub returns : goal.returns
 returns g c =
     let segments = c.args.segments.now in
-    IfOk-weaker _ (IsSoundAnswer [] c.args.budget c.index-segments-segment.result)
-    (λ f. HoldsAt (λ s. IsSoundAnswer [] c.args.budget s f) segments c.args.segment)
-    (λ f sound. at_read segments (λ s. IsSoundAnswer [] c.args.budget s f) _ _ c.requires.known c.index-segments-segment.is sound)
-    c.search.ensures.sound
+    IfOk-weaker _ (IsExactAnswer [] c.args.budget c.index-segments-segment.result)
+    (λ f. HoldsAt (λ s. IsExactAnswer [] c.args.budget s f) segments c.args.segment)
+    (λ f exact. at_read segments (λ s. IsExactAnswer [] c.args.budget s f) _ _ c.requires.known c.index-segments-segment.is exact)
+    c.search.ensures.exact
