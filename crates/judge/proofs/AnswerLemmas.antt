@@ -10,23 +10,22 @@ use Rattle.std.proofs.lemmas.List.{append-nil, append_assoc, nil_from_length}
 use Rattle.std.proofs.lemmas.List.Elements.{All-nil, All-cons, All-append, All-push, All-weaker}
 use Rattle.map_object.specs.MapObject.{Contents}
 use Rattle.segments.specs.SegmentView.{SegmentView}
-use Rattle.segments.specs.SegmentOrders.{IsOrderOf}
 use Rattle.search.specs.declared.found.Found.{Found}
-use Rattle.search.specs.Found.{IsSoundAnswer}
-use Rattle.judge.specs.Shows.{HasOrder, IsBeyond, IsUnrefuted}
+use Rattle.search.specs.Exact.{IsExactAnswer}
+use Rattle.judge.specs.Exact.{IsOrderedBy, IsOrdered, IsSpent, IsOrderedOrSpent}
 
 -- the segment is the lowest whose search was spent
 pub record IsLowestSpent (start : Contents) (budget : ℕ) (segments : List SegmentView) (segment : SegmentView) : Type 0 where
   pub below : List SegmentView
   pub above : List SegmentView
   pub is : segments ≡ below ++ segment ∷ above
-  pub reaches : IsBeyond start budget segment
-  pub lowest : All (HasOrder start) below
-  pub unrefuted : All (IsUnrefuted start budget) above
+  pub spent : IsSpent start budget segment
+  pub lowest : All (IsOrdered start budget) below
+  pub unrefuted : All (IsOrderedOrSpent start budget) above
 
 -- each segment so far has its order, or this one of them is the lowest whose search was spent
 abbrev pub HaveShown : Contents → ℕ → List SegmentView → List (List ℕ) → Option SegmentView → Type 0
-HaveShown start budget segments orders None = AllZip (IsOrderOf start) segments orders
+HaveShown start budget segments orders None = AllZip (IsOrderedBy start budget) segments orders
 HaveShown start budget segments orders (Some segment) = IsLowestSpent start budget segments segment
 
 -- one more of each
@@ -37,92 +36,95 @@ AllZip-more R [] (b ∷ ys) x y h r = absurd h
 AllZip-more R (a ∷ xs) [] x y h r = absurd h
 AllZip-more R (a ∷ xs) (b ∷ ys) x y h r = (h.0, AllZip-more R xs ys x y h.1 r)
 
+-- a weaker relation holds too
+pub AllZip-weaker : {A B : Type 0} (R Q : A → B → Type 0) → ((x : A) (y : B) → R x y → Q x y) → (xs : List A) (ys : List B) → AllZip R xs ys → AllZip Q xs ys
+AllZip-weaker R Q weaker [] [] h = tt
+AllZip-weaker R Q weaker [] (y ∷ ys) h = absurd h
+AllZip-weaker R Q weaker (x ∷ xs) [] h = absurd h
+AllZip-weaker R Q weaker (x ∷ xs) (y ∷ ys) h = (weaker x y h.0, AllZip-weaker R Q weaker xs ys h.1)
+
 -- what holds wherever the relation holds, holds of each first one
 All-firsts : {A B : Type 0} (R : A → B → Type 0) (P : A → Type 0) → ((x : A) (y : B) → R x y → P x) → (xs : List A) (ys : List B) → AllZip R xs ys → All P xs
 All-firsts R P weaker [] ys h = All-nil P
 All-firsts R P weaker (x ∷ xs) [] h = absurd h
 All-firsts R P weaker (x ∷ xs) (y ∷ ys) h = All-cons P x xs (weaker x y h.0) (All-firsts R P weaker xs ys h.1)
 
--- a segment that has its order has one
-HasOrder-found : (start : Contents) (segment : SegmentView) (order : List ℕ) → IsOrderOf start segment order → HasOrder start segment
-HasOrder-found start segment order h = (h.0, h.2)
-
 -- segments that have their orders
-HasOrder-all : (start : Contents) (segments : List SegmentView) (orders : List (List ℕ)) → AllZip (IsOrderOf start) segments orders
-    → All (HasOrder start) segments
-HasOrder-all start segments orders h = All-firsts (IsOrderOf start) (HasOrder start) (HasOrder-found start) segments orders h
+pub IsOrdered-all : (start : Contents) (budget : ℕ) (segments : List SegmentView) (orders : List (List ℕ)) → AllZip (IsOrderedBy start budget) segments orders
+    → All (IsOrdered start budget) segments
+IsOrdered-all start budget segments orders h = All-firsts (IsOrderedBy start budget) (IsOrdered start budget) (λ s o found. (o, found)) segments orders h
 
 -- one more segment above the lowest that is spent
 IsLowestSpent-more : (start : Contents) (budget : ℕ) (segments : List SegmentView) (spent segment : SegmentView) → IsLowestSpent start budget segments spent
-    → IsUnrefuted start budget segment → IsLowestSpent start budget (segments ++ segment ∷ []) spent
+    → IsOrderedOrSpent start budget segment → IsLowestSpent start budget (segments ++ segment ∷ []) spent
 IsLowestSpent-more start budget segments spent segment h is = record {
   below = h.below;
   above = h.above ++ segment ∷ [];
   is = ap (λ l. l ++ segment ∷ []) h.is ∙ append_assoc h.below (spent ∷ h.above) (segment ∷ []);
-  reaches = h.reaches;
+  spent = h.spent;
   lowest = h.lowest;
-  unrefuted = All-push (IsUnrefuted start budget) h.above segment h.unrefuted is;
+  unrefuted = All-push (IsOrderedOrSpent start budget) h.above segment h.unrefuted is;
 }
 
 -- one more segment has its order
 pub HaveShown-found : (start : Contents) (budget : ℕ) (segments : List SegmentView) (orders : List (List ℕ)) (spent : Option SegmentView)
-    (segment : SegmentView) (order : List ℕ) → HaveShown start budget segments orders spent → IsOrderOf start segment order
+    (segment : SegmentView) (order : List ℕ) → HaveShown start budget segments orders spent → IsOrderedBy start budget segment order
     → HaveShown start budget (segments ++ segment ∷ []) (orders ++ order ∷ []) spent
-HaveShown-found start budget segments orders None segment order h found = AllZip-more (IsOrderOf start) segments orders segment order h found
+HaveShown-found start budget segments orders None segment order h found = AllZip-more (IsOrderedBy start budget) segments orders segment order h found
 HaveShown-found start budget segments orders (Some spent) segment order h found =
-    IsLowestSpent-more start budget segments spent segment h (inl (HasOrder-found start segment order found))
+    IsLowestSpent-more start budget segments spent segment h (inl (order, found))
 
 -- one more segment is spent, above the lowest
 pub HaveShown-spent : (start : Contents) (budget : ℕ) (segments : List SegmentView) (orders : List (List ℕ)) (spent : Option SegmentView)
-    (segment : SegmentView) → is_some spent ≡ true → HaveShown start budget segments orders spent → IsBeyond start budget segment
+    (segment : SegmentView) → is_some spent ≡ true → HaveShown start budget segments orders spent → IsSpent start budget segment
     → HaveShown start budget (segments ++ segment ∷ []) orders spent
 HaveShown-spent start budget segments orders None segment some h beyond = absurd (false≢true some)
 HaveShown-spent start budget segments orders (Some spent) segment some h beyond = IsLowestSpent-more start budget segments spent segment h (inr beyond)
 
 -- the first that is spent
 pub HaveShown-first : (start : Contents) (budget : ℕ) (segments : List SegmentView) (orders : List (List ℕ)) (spent : Option SegmentView)
-    (segment : SegmentView) → is_some spent ≡ false → HaveShown start budget segments orders spent → IsBeyond start budget segment
+    (segment : SegmentView) → is_some spent ≡ false → HaveShown start budget segments orders spent → IsSpent start budget segment
     → HaveShown start budget (segments ++ segment ∷ []) orders (Some segment)
 HaveShown-first start budget segments orders (Some spent) segment none h beyond = absurd (false≢true (sym none))
 HaveShown-first start budget segments orders None segment none h beyond = record {
   below = segments;
   above = [];
   is = refl;
-  reaches = beyond;
-  lowest = HasOrder-all start segments orders h;
-  unrefuted = All-nil (IsUnrefuted start budget);
+  spent = beyond;
+  lowest = IsOrdered-all start budget segments orders h;
+  unrefuted = All-nil (IsOrderedOrSpent start budget);
 }
 
 -- none so far is refuted
-pub IsUnrefuted-all : (start : Contents) (budget : ℕ) (segments : List SegmentView) (orders : List (List ℕ)) (spent : Option SegmentView)
-    → HaveShown start budget segments orders spent → All (IsUnrefuted start budget) segments
-IsUnrefuted-all start budget segments orders None h =
-    All-firsts (IsOrderOf start) (IsUnrefuted start budget) (λ s o found. inl (HasOrder-found start s o found)) segments orders h
-IsUnrefuted-all start budget segments orders (Some spent) h = subst (All (IsUnrefuted start budget)) (sym h.is)
-    (All-append (IsUnrefuted start budget) h.below (spent ∷ h.above) (All-weaker (HasOrder start) (IsUnrefuted start budget) (λ s is. inl is) h.below h.lowest)
-    (All-cons (IsUnrefuted start budget) spent h.above (inr h.reaches) h.unrefuted))
+pub IsOrderedOrSpent-all : (start : Contents) (budget : ℕ) (segments : List SegmentView) (orders : List (List ℕ)) (spent : Option SegmentView)
+    → HaveShown start budget segments orders spent → All (IsOrderedOrSpent start budget) segments
+IsOrderedOrSpent-all start budget segments orders None h =
+    All-firsts (IsOrderedBy start budget) (IsOrderedOrSpent start budget) (λ s o found. inl (o, found)) segments orders h
+IsOrderedOrSpent-all start budget segments orders (Some spent) h = subst (All (IsOrderedOrSpent start budget)) (sym h.is)
+    (All-append (IsOrderedOrSpent start budget) h.below (spent ∷ h.above) (All-weaker (IsOrdered start budget) (IsOrderedOrSpent start budget) (λ s is. inl is) h.below h.lowest)
+    (All-cons (IsOrderedOrSpent start budget) spent h.above (inr h.spent) h.unrefuted))
 
 -- ---- a walk over the segments with their answers
 
--- the segments before the rest have shown what they have, and the answers on the rest are sound
+-- the segments before the rest have shown what they have, and the answers on the rest are exact
 pub record IsUnderWay (start : Contents) (budget : ℕ) (segments rest : List SegmentView) (answers : List Found) (orders : List (List ℕ))
     (spent : Option SegmentView) : Type 0 where
   pub before : List SegmentView
   pub parts : segments ≡ before ++ rest
   pub shown : HaveShown start budget before orders spent
-  pub sound : AllZip (IsSoundAnswer start budget) rest answers
+  pub exact : AllZip (IsExactAnswer start budget) rest answers
 
 -- before the first
 pub IsUnderWay-start : {start : Contents} {budget : ℕ} {segments : List SegmentView} {answers : List Found}
-    → AllZip (IsSoundAnswer start budget) segments answers → IsUnderWay start budget segments segments answers [] None
-IsUnderWay-start sound = record { before = []; parts = refl; shown = tt; sound = sound }
+    → AllZip (IsExactAnswer start budget) segments answers → IsUnderWay start budget segments segments answers [] None
+IsUnderWay-start exact = record { before = []; parts = refl; shown = tt; exact = exact }
 
--- the next answer is sound
+-- the next answer is exact
 pub IsUnderWay-answer : {start : Contents} {budget : ℕ} {segments rest later : List SegmentView} {answers others : List Found} {orders : List
     (List ℕ)} {spent : Option SegmentView} {segment : SegmentView} {answer : Found}
     → IsUnderWay start budget segments rest answers orders spent → rest ≡ segment ∷ later → answers ≡ answer ∷ others
-    → IsSoundAnswer start budget segment answer
-IsUnderWay-answer h e f = (rw (e, f) at h.sound).0
+    → IsExactAnswer start budget segment answer
+IsUnderWay-answer h e f = (rw (e, f) at h.exact).0
 
 -- the walk goes on with what the segments up to the next have shown
 pub IsUnderWay-next : {start : Contents} {budget : ℕ} {segments rest later : List SegmentView} {answers others : List Found} {orders orders_next : List
@@ -134,7 +136,7 @@ IsUnderWay-next {later} {segment} h e f shown = record {
   before = h.before ++ segment ∷ [];
   parts = h.parts ∙ ap (λ l. h.before ++ l) e ∙ sym (append_assoc h.before (segment ∷ []) later);
   shown = shown;
-  sound = (rw (e, f) at h.sound).1;
+  exact = (rw (e, f) at h.exact).1;
 }
 
 -- an iterator that is at its end has no rest
@@ -149,9 +151,9 @@ pub IsUnderWay-all : {start : Contents} {budget : ℕ} {segments : List SegmentV
     → HaveShown start budget segments orders spent
 IsUnderWay-all {start} {budget} {segments} {orders} {spent} rest answers h none =
     let end : into_iter_items rest ≡ [] =
-    ⊎_elim (λ e. nil_at_end rest e.1.0) (λ e. nil (into_iter_items rest) (rw (nil_at_end answers e.1.0) at h.sound)) none in
+    ⊎_elim (λ e. nil_at_end rest e.1.0) (λ e. nil (into_iter_items rest) (rw (nil_at_end answers e.1.0) at h.exact)) none in
     subst (λ s. HaveShown start budget s orders spent) (sym (h.parts ∙ ap (λ l. h.before ++ l) end ∙ append-nil h.before)) h.shown
   where
-    nil : (rest : List SegmentView) → AllZip (IsSoundAnswer start budget) rest [] → rest ≡ []
+    nil : (rest : List SegmentView) → AllZip (IsExactAnswer start budget) rest [] → rest ≡ []
     nil [] h = refl
     nil (s ∷ rest) h = absurd h

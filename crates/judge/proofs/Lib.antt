@@ -1,4 +1,5 @@
 mod ReportLemmas
 mod AnswerLemmas
+mod VerdictLemmas
 mod OneCallLemmas
 pub mod ReachedLemmas

@@ -1,5 +1,5 @@
 -- The exact verdict: one function of the history and the budget.
-use Rattle.std.specs.Prelude.{◌≡◌, ◌⊎◌, ◌×◌, ℕ, List, ◌∷◌, ◌++◌, All, ⊥}
+use Rattle.std.specs.Prelude.{◌≡◌, ◌⊎◌, ℕ, List, ◌∷◌, ◌++◌, All}
 use Rattle.std.specs.List.{AllZip}
 use Rattle.events.specs.declared.operation.Operation.{Operation}
 use Rattle.map_object.specs.MapObject.{Contents}

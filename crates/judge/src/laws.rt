@@ -1,5 +1,9 @@
-// Laws of verdicts: each function only carries its clause.
+// Laws of verdicts: each function only carries its clause; one that rests on laws of other crates calls them.
 ghost use Rattle.judge.specs.Laws.{FinishedVerdictsAgree, OneCallIsDecided, OneExactVerdict, OneReport};
+
+use cutter::one_list_of_segments;
+use history_text::one_history;
+use merge_orders::one_merged_order;
 
 /// Two finished verdicts on one history are both yes or both no, at whatever budgets they were found.
 pub fn finished_verdicts_agree()
@@ -15,9 +19,15 @@ pub fn one_call_is_decided()
 /// number of workers and their turns.
 pub fn one_exact_verdict()
     ensures { OneExactVerdict }
-{}
+{
+    one_list_of_segments();
+    one_merged_order();
+}
 
 /// One report is answered to a text at a budget.
 pub fn one_report()
     ensures { OneReport }
-{}
+{
+    one_history();
+    one_exact_verdict();
+}
