@@ -1,1 +1,5 @@
+mod BitLemmas
+mod DigestLemmas
+mod PlacesLemmas
+mod WindowLemmas
 pub mod TakingLemmas

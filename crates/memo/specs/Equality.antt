@@ -1,11 +1,12 @@
 -- When two configurations are the same, as a test, with the proof that the test tells exactly this.
-use Rattle.std.specs.Prelude.{◌≡◌, ℕ, Bool, ◌==◌, ◌&&◌}
+use Rattle.std.specs.Prelude.{◌≡◌, ℕ, Bool, true, ◌==◌, ◌&&◌}
 use Rattle.std.specs.Bool.{Decides}
 use Rattle.std.specs.Cmp.{IsEquivalence, decided, unsigned_Decides}
 use Rattle.std.specs.Cmp.Lexicographic.{pointwise, pointwise_decides}
 use Rattle.std.proofs.Common.{ap, ap₂}
 use Rattle.std.proofs.lemmas.Bool.Decides.{Decides-and, Decides-like}
 use Rattle.configurations.specs.Configurations.{Configuration}
+use Rattle.memo.specs.Digest.{digest_of}
 use Rattle.configurations.proofs.ConfigurationLemmas.{same_configuration}
 
 -- two pairs have the same key and the same value
@@ -21,7 +22,7 @@ abbrev pair_of : ℕ → ℕ → ℕ × ℕ
 pair_of key value = (key, value)
 
 -- pairs are the same where their keys and their values are
-Decides-is_same_pair : (a b : ℕ × ℕ) → Decides (is_same_pair a b) (a ≡ b)
+pub Decides-is_same_pair : (a b : ℕ × ℕ) → Decides (is_same_pair a b) (a ≡ b)
 Decides-is_same_pair a b =
     Decides-like (is_same_pair a b) (λ e. ap₂ pair_of e.0 e.1) (λ e. (ap (λ (p : ℕ × ℕ). p.0) e, ap (λ (p : ℕ × ℕ). p.1) e))
     (Decides-and (a.0 == b.0) (a.1 == b.1) (unsigned_Decides a.0 b.0) (unsigned_Decides a.1 b.1))
@@ -36,3 +37,7 @@ Decides-is_same a b =
 -- the test is an equivalence
 pub is_same-equivalence : IsEquivalence is_same
 is_same-equivalence = decided is_same Decides-is_same
+
+-- configurations that are the same have the same digest, so what is fed of it is the same
+pub same_digest : {X : Type 0} (f : ℕ → X) (a b : Configuration) → is_same a b ≡ true → f (digest_of a) ≡ f (digest_of b)
+same_digest f a b same = ap (λ (c : Configuration). f (digest_of c)) ((Decides-is_same a b).0 same)

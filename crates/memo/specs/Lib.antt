@@ -1,2 +1,4 @@
+pub mod Digest
 pub mod Equality
 pub mod Taking
+pub mod Windows

@@ -1,34 +1,39 @@
 // Configurations of a search.
 ghost use Rattle.std.specs.Prelude.{◌≡◌, ◌⊎◌, ◌↔◌, ℕ, [], IsTrue, IfOk, Contains};
 ghost use Rattle.std.specs.List.Sorted.{IsStrictlyIncreasing};
+ghost use Rattle.memo.specs.Digest.{digest_of};
 ghost use Rattle.memo.specs.Taking.{with_place};
 
+use crate::digests::{change, mix, sum_of};
+use crate::places::Places;
 use events::Memory;
 use map_object::SortedMap;
 use std::alloc::Global;
+use std::hash::{Hash, Hasher};
 use std::marker::Model;
 
 /// Where a search stands: the set of calls taken, each named by its place in the list of calls, and the
 /// pairs that the map then holds. Contracts see the places by rising number and the pairs by rising key.
 #[derive(Debug, Drop)]
 pub struct Config {
-    taken: Vec<u32>,
+    places: Places,
     pairs: Vec<(u64, u64)>,
+    digest: u64,
 }
 
 impl Model for Config {
-    ghost use Rattle.std.specs.List.Sorted.{IsStrictlyIncreasing};
     ghost use Rattle.configurations.specs.Configurations.{Configuration};
+    ghost use Rattle.memo.specs.Digest.{HasDigest};
 
     ghost Value = { Configuration };
 
-    ghost view = { λ c. record { taken = c.taken.items; pairs = c.pairs.items } };
+    ghost view = { λ c. record { taken = c.places; pairs = c.pairs.items } };
 
-    ghost invariant = { λ c. IsStrictlyIncreasing c.taken.items };
+    ghost invariant = { λ c. HasDigest c.places c.pairs.items c.digest };
 }
 
-/// Two configurations are equal exactly where the same calls are taken and the same pairs are held. It costs
-/// at most the calls and the pairs of one of them.
+/// Two configurations are equal exactly where the same calls are taken and the same pairs are held. Digests that
+/// differ tell most others apart; else it costs at most the calls and the pairs of one of them.
 impl PartialEq for Config {
     ghost use Rattle.std.specs.Prelude.{◌≡◌, ◌↔◌, IsTrue};
     ghost use Rattle.std.specs.Cmp.{partial_equiv_from_equiv};
@@ -42,7 +47,10 @@ impl PartialEq for Config {
         ensures value { result ≡ is_same self.now other.now }
         ensures exact { IsTrue result ↔ (self.now ≡ other.now) }
     {
-        self.taken == other.taken && self.pairs == other.pairs
+        if self.digest != other.digest {
+            return false;
+        }
+        self.places.is_same(&other.places) && self.pairs == other.pairs
     }
 }
 
@@ -52,26 +60,54 @@ impl Eq for Config {
     ghost laws = { is_same-equivalence };
 }
 
+/// Only the digest is hashed.
+impl Hash for Config {
+    ghost use Rattle.std.specs.Hash as fed;
+    ghost use Rattle.memo.specs.Digest.{digest_of};
+    ghost use Rattle.memo.specs.Equality.{same_digest};
+
+    ghost hash_input = { λ c. fed.u64 (digest_of c) };
+
+    ghost respects_eq = { λ a b same. same_digest fed.u64 a b same };
+
+    fn hash<H: Hasher>(&self, state: &mut H) {
+        state.write_u64(self.digest);
+    }
+}
+
 impl Config {
-    /// No call taken, no pairs held: where a search begins. It takes no memory.
-    pub fn start(alloc: Global) -> Config
-        ensures { result ≡ record { taken = []; pairs = [] } }
+    /// No call taken, and the pairs of the map: where a search begins.
+    pub fn start(alloc: Global, map: &SortedMap) -> Result<Config, Memory>
+        ensures taken { IfOk result (λ c. c.taken ≡ []) }
+        ensures pairs { IfOk result (λ c. c.pairs ≡ map.now) }
     {
-        Config {
-            taken: Vec::new(alloc),
-            pairs: Vec::new(alloc),
-        }
+        let pairs = Vec::from_slice(alloc, map.pairs())?;
+        let digest = sum_of(&pairs);
+        Ok(Config {
+            places: Places::new(alloc),
+            pairs,
+            digest,
+        })
     }
 
-    /// Whether the call at `place` is taken, found by halves.
+    /// The sum modulo 2^64 of what the calls taken and the pairs held mix. Equal configurations have equal
+    /// digests.
+    pub fn digest(&self) -> u64
+        ensures { result ≡ digest_of self.now }
+    {
+        self.digest
+    }
+
+    /// Whether the call at `place` is taken.
     pub fn has(&self, place: u32) -> bool
         ensures { IsTrue result ↔ Contains self.now.taken place }
     {
-        self.taken.binary_search(&place).is_ok()
+        self.places.has(place)
     }
 
     /// The configuration after one more call, the one at `place`, which leaves the map `after`. On `Memory`
-    /// there is none. It costs as much as it copies: the calls taken and the pairs of the map.
+    /// there is none. It costs as much as it copies: the bits of the calls taken and the pairs of the map. Only
+    /// the pairs that changed are mixed anew.
     pub fn with(&self, alloc: Global, place: u32, after: &SortedMap) -> Result<Config, Memory>
         requires { Contains self.now.taken place → ⊥ }
         ensures taken { IfOk result (λ c. (n : ℕ)
@@ -81,22 +117,16 @@ impl Config {
         ensures exact { IfOk result (λ c. c
             ≡ record { taken = with_place self.now.taken place; pairs = after.now }) }
     {
-        let taken = with_place(alloc, &self.taken, place)?;
+        let places = self.places.with(alloc, place)?;
         let pairs = Vec::from_slice(alloc, after.pairs())?;
-        Ok(Config { taken, pairs })
+        let digest = self
+            .digest
+            .wrapping_add(mix(place as u64 + 1))
+            .wrapping_add(change(&self.pairs, &pairs));
+        Ok(Config {
+            places,
+            pairs,
+            digest,
+        })
     }
-}
-
-/// The places with one more among them, all rising.
-fn with_place(alloc: Global, taken: &[u32], place: u32) -> Result<Vec<u32>, Memory>
-    requires rising { IsStrictlyIncreasing taken.now }
-    requires new { Contains taken.now place → ⊥ }
-    ensures { IfOk result (λ v. v.items ≡ with_place taken.now place) }
-{
-    let (lower, higher) = taken.split_at(taken.partition_point(|number| *number < place));
-    let mut longer = Vec::with_capacity(alloc, taken.len() + 1)?;
-    longer.extend_from_slice(lower)?;
-    longer.push(place)?;
-    longer.extend_from_slice(higher)?;
-    Ok(longer)
 }

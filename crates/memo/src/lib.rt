@@ -1,10 +1,13 @@
 //! Configurations of a search, and the memo that tells a new one from those visited: Lowe 2017.
 //!
-//! What a configuration is, and which are reachable, stands in `history`'s definitions.
+//! What a configuration is, and which are reachable, stands in `configurations`' definitions.
 #![tactic(auto)]
 
 mod config;
+mod digests;
 mod memo;
+mod places;
+mod windows;
 
 pub use config::Config;
 pub use memo::Memo;

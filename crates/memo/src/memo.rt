@@ -4,26 +4,24 @@ ghost use Rattle.configurations.specs.Counts.{AreDistinct};
 
 use crate::config::Config;
 use events::Memory;
+use indexmap::IndexSet;
 use std::alloc::Global;
 use std::marker::Model;
 
 /// The configurations that a search has visited, each once. Contracts see them in the order of their first
 /// visits.
-#[derive(Debug, Drop)]
+#[derive(Drop)]
 pub struct Memo {
-    visited: Vec<Config>,
+    visited: IndexSet<Config>,
 }
 
 impl Model for Memo {
     ghost use Rattle.std.specs.Prelude.{List};
     ghost use Rattle.configurations.specs.Configurations.{Configuration};
-    ghost use Rattle.configurations.specs.Counts.{AreDistinct};
 
     ghost Value = { List Configuration };
 
-    ghost view = { λ m. m.visited.items };
-
-    ghost invariant = { λ m. AreDistinct m.visited.items };
+    ghost view = { λ m. m.visited.keys };
 }
 
 impl Memo {
@@ -32,12 +30,13 @@ impl Memo {
         ensures { result ≡ [] }
     {
         Memo {
-            visited: Vec::new(alloc),
+            visited: IndexSet::new(alloc),
         }
     }
 
     /// Whether the configuration is new; from now on it is not. On `Memory` it is handed back, and nothing
-    /// has changed: only a new one can want memory. It compares the configuration with each one visited.
+    /// has changed: only a new one can want memory. It is looked up by its digest, and compared with those
+    /// visited that have the same.
     pub fn visit(&mut self, config: Config) -> Result<bool, (Config, Memory)>
         ensures new { IfOk result (λ new. IsTrue new ↔ (Contains self.old config → ⊥)) }
         ensures visited { IfOk result (λ new. self.new
@@ -46,11 +45,8 @@ impl Memo {
         ensures handed_back { IfErr result (λ e. e.0 ≡ config) }
         ensures unchanged { OnErr result (self.new ≡ self.old) }
     {
-        if self.has(&config) {
-            return Ok(false);
-        }
-        match self.visited.push(config) {
-            Ok(()) => Ok(true),
+        match self.visited.insert(config) {
+            Ok(new) => Ok(new),
             Err(refused) => Err((refused.value, Memory)),
         }
     }
@@ -60,7 +56,7 @@ impl Memo {
         requires { place < length self.now }
         ensures { slice_get self.now place ≡ Some result.now }
     {
-        &self.visited[place]
+        &self.visited.as_slice()[place]
     }
 
     /// How many configurations were visited.
@@ -76,12 +72,5 @@ impl Memo {
         ensures { IsTrue result ↔ (self.now ≡ []) }
     {
         self.visited.is_empty()
-    }
-
-    /// Whether the configuration was visited.
-    fn has(&self, config: &Config) -> bool
-        ensures { IsTrue result ↔ Contains self.now config.now }
-    {
-        self.visited.contains(config)
     }
 }

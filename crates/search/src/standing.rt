@@ -58,8 +58,10 @@ pub fn open_standing(alloc: Global, calls: &[Operation]) -> Result<Standing, Mem
     ensures one { IfOk result (λ s. length s.memo ≡ 1) }
 {
     let size = calls.len() as u32;
+    let map = SortedMap::new(alloc);
     let mut memo = Memo::new(alloc);
-    if let Err((_config, memory)) = memo.visit(Config::start(alloc)) {
+    let start = Config::start(alloc, &map)?;
+    if let Err((_config, memory)) = memo.visit(start) {
         return Err(memory);
     }
     let by_number = all_linked(alloc, size)?;
@@ -68,7 +70,7 @@ pub fn open_standing(alloc: Global, calls: &[Operation]) -> Result<Standing, Mem
         levels: Vec::new(alloc),
         next: by_number.after(size),
         at: 0,
-        map: SortedMap::new(alloc),
+        map,
         memo,
         calls: by_number,
         answers: by_answer,

@@ -1,0 +1,8 @@
+use Rattle.std.proofs.Common.{◌≡◌, ◌%◌, ◌^◌, take}
+use Rattle.std.specs.List.{sum_by}
+use Rattle.memo.specs.Digest.{mix_pair}
+use Rattle.memo.proofs.digests.sum_of.Given as goal
+
+-- the pairs passed are summed
+abbrev pub invariant-loop-pair : goal.invariant-loop-pair
+invariant-loop-pair l = l.sum ≡ sum_by mix_pair (take l.pair-index l.pairs) % 2 ^ 64

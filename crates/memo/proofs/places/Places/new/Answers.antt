@@ -1,0 +1,10 @@
+use Rattle.std.proofs.Common.{◌∙◌, sym, ap, subst}
+use Rattle.memo.specs.Windows.{places_of, ArePlaces}
+use Rattle.memo.proofs.WindowLemmas.{ArePlaces-none, places_of-none}
+use Rattle.memo.proofs.places.Places.new.Goals as goal
+
+pub invariant_of-result : goal.invariant_of-result
+invariant_of-result c = subst (ArePlaces 0) (sym c.new.ensures.items) ArePlaces-none
+
+pub returns : goal.returns
+returns c = ap (places_of 0) c.new.ensures.items ∙ places_of-none
