@@ -20,7 +20,7 @@ type Taken<'a> = (&'a [u32], &'a [(u64, u64)]);
 /// The configuration of calls taken.
 pub(crate) fn config_of(alloc: Global, taken: Taken<'_>) -> Result<Config, Fail> {
     let map = map_of(alloc, taken.1)?;
-    let mut config = Config::start(alloc);
+    let mut config = Config::start(alloc, &SortedMap::new(alloc))?;
     for place in taken.0 {
         if config.has(*place) {
             return Err(Fail::new("a call is taken twice"));
