@@ -86,3 +86,86 @@ fn a_visit_tells_whether_it_is_the_first(rt: HostRuntime) -> Result<(), Fail> {
     assert!(rt; !memo.is_empty());
     Ok(())
 }
+
+/// Digests, worked out from their definition. A pair of two zeros mixes to 0.
+static DIGESTS: [(Taken<'static>, u64); 5] = [
+    ((&[], &[]), 0),
+    ((&[0], &[]), 11400714820970677676),
+    ((&[0], &[(0, 0)]), 11400714820970677676),
+    ((&[0, 1, 3], &[(5, 50)]), 10619226948182405776),
+    ((&[3, 1, 0], &[(5, 50)]), 10619226948182405776),
+];
+
+#[test]
+fn digests_are_sums_of_what_is_mixed(rt: HostRuntime) -> Result<(), Fail> {
+    for (taken, digest) in &DIGESTS {
+        let config = config_of(rt.alloc(), *taken)?;
+        assert!(rt; config.digest() == *digest, "{config:?}");
+    }
+    Ok(())
+}
+
+/// Two configurations of one digest.
+static ALIKE: [Taken<'static>; 2] = [(&[0], &[]), (&[0], &[(0, 0)])];
+
+#[test]
+fn configurations_of_one_digest_are_told_apart(rt: HostRuntime) -> Result<(), Fail> {
+    let mut memo = Memo::new(rt.alloc());
+    for taken in &ALIKE {
+        assert!(rt; is_new(&mut memo, config_of(rt.alloc(), *taken)?)?);
+    }
+    assert!(rt; config_of(rt.alloc(), ALIKE[0])? != config_of(rt.alloc(), ALIKE[1])?);
+    Ok(())
+}
+
+/// A start holds the pairs of its map, and its digest is theirs.
+#[test]
+fn a_search_starts_with_pairs(rt: HostRuntime) -> Result<(), Fail> {
+    let map = map_of(rt.alloc(), &[(5, 50)])?;
+    let start = Config::start(rt.alloc(), &map)?;
+    assert!(rt; start.digest() == 4601199509110770395, "{start:?}");
+    assert!(rt; start.with(rt.alloc(), 0, &map)? == config_of(rt.alloc(), (&[0], &[(5, 50)]))?);
+    Ok(())
+}
+
+/// Places in the order in which they are taken, and how they are kept: the least one that is not taken, and the bits
+/// of those above it.
+type Form<'a> = (&'a [u32], &'a str);
+
+static FORMS: [Form<'static>; 9] = [
+    (&[], "least: 0, words: []"),
+    (&[0, 1, 2], "least: 3, words: []"),
+    (&[0, 1, 3], "least: 2, words: [1]"),
+    (&[3, 1, 0], "least: 2, words: [1]"),
+    (&[1], "least: 0, words: [1]"),
+    (&[64], "least: 0, words: [9223372036854775808]"),
+    (&[65], "least: 0, words: [0, 1]"),
+    (&[65, 0], "least: 1, words: [9223372036854775808]"),
+    (
+        &[67, 1, 65, 0, 2],
+        "least: 3, words: [11529215046068469760]",
+    ),
+];
+
+#[test]
+fn places_have_one_form(rt: HostRuntime) -> Result<(), Fail> {
+    for (places, want) in &FORMS {
+        let config = config_of(rt.alloc(), (*places, &[]))?;
+        let shown = format!(in rt.alloc(); "{config:?}")?;
+        assert!(rt; shown.contains(*want), "{shown}");
+    }
+    Ok(())
+}
+
+/// A run of places over more than two words is put below the least one that is not taken.
+#[test]
+fn a_long_run_is_no_word(rt: HostRuntime) -> Result<(), Fail> {
+    let map = SortedMap::new(rt.alloc());
+    let mut config = Config::start(rt.alloc(), &map)?.with(rt.alloc(), 132, &map)?;
+    for place in 1..=130 {
+        config = config.with(rt.alloc(), place, &map)?;
+    }
+    let shown = format!(in rt.alloc(); "{:?}", config.with(rt.alloc(), 0, &map)?)?;
+    assert!(rt; shown.contains("least: 131, words: [1]"), "{shown}");
+    Ok(())
+}
