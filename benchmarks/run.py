@@ -1,11 +1,13 @@
 #!/usr/bin/env python3
 """Times the program on histories that it generates, and prints the time and the peak memory of each run.
 
-    benchmarks/run.py [check|judge|segments|workers]..
+    benchmarks/run.py [check|judge|search|segments|workers]..
 
 A history for `check` is made by one sorted map that processes call in turn, so that the calls by number are an
 order of it. In one for `judge` and `segments` the calls overlap, and each has its effect at some moment while it is
-open. One for `workers` has segments that are equal but for their keys, of many configurations and without order.
+open. One for `search` is one segment without order: some pairs are held, some calls overlap, and then one key is seen
+with what nobody put there. One for `workers` has segments that are equal but for their keys, of many configurations and
+without order.
 """
 
 import json
@@ -163,6 +165,46 @@ def judge():
             show(name, ["judge", "--budget", str(MAX_BUDGET)], text, b'{"order":')
 
 
+def without_order(held, opened):
+    """The compact text of a history of one segment: inserts of as many keys, each answered before the next begins, calls
+    with their answers that all overlap, and a scan of all keys that is answered by what nobody inserted."""
+    events = []
+    for number in range(held):
+        events.append({"invoke": ["insert", 1000 + number, 1], "process": 0})
+        events.append({"answer": None, "process": 0})
+    for process, (call, _) in enumerate(opened):
+        events.append({"invoke": call, "process": process})
+    for process, (_, answer) in enumerate(opened):
+        events.append({"answer": answer, "process": process})
+    events.append({"invoke": ["scan", 0, 1000 + held], "process": 0})
+    events.append({"answer": [[0, 99]], "process": 0})
+    return text_of(events)
+
+
+def three_on_each(keys):
+    """On each key an insert, a get that sees it and a remove that takes it away, with their answers."""
+    for key in range(keys):
+        yield ["insert", key, 1], None
+        yield ["get", key], 1
+        yield ["remove", key], 1
+
+
+def search():
+    for held, most in ((0, 20), (200, 17)):
+        for number in (10, 13, 17, 20):
+            if number <= most:
+                text = without_order(held, [(["get", key], None) for key in range(number)])
+                name = f"judge, {number} overlapping gets, {held} pairs"
+                show(name, ["judge", "--budget", str(MAX_BUDGET)], text, b'{"calls":')
+    for budget in (1000, 10_000, 100_000, MAX_BUDGET):
+        text = without_order(0, list(three_on_each(10)))
+        show(f"judge, 30 overlapping calls on 10 keys, {budget}", ["judge", "--budget", str(budget)], text, b'{"calls":')
+    text = history([("get", 0)] * 4096)
+    show("judge, 4096 gets of one key", ["judge"], text, b'{"order":')
+    text = history(("insert", number, 1) for number in range(4096))
+    show("judge, 4096 calls on as many keys", ["judge"], text, b'{"order":')
+
+
 def segments():
     for count in (1024, 2048, 4096):
         text = history(("insert", number, 1) for number in range(count))
@@ -202,7 +244,7 @@ def workers():
 def main():
     # Builds the program where that is still to do.
     subprocess.run([os.path.join(TOP, "bench"), "judge"], input=history([]), stdout=subprocess.DEVNULL, check=True)
-    parts = {"check": check, "judge": judge, "segments": segments, "workers": workers}
+    parts = {"check": check, "judge": judge, "search": search, "segments": segments, "workers": workers}
     for part in sys.argv[1:] or parts:
         parts[part]()
 
