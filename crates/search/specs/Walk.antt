@@ -4,6 +4,7 @@ use Rattle.configurations.specs.Configurations.{Configuration}
 use Rattle.segments.specs.SegmentView.{SegmentView}
 use Rattle.search.specs.LeastCounts.{HasCount}
 use Rattle.search.specs.declared.standing.Level.{Level}
+use Rattle.search.specs.declared.standing.Standing.{Standing}
 use Rattle.search.specs.Standing.{untried}
 
 -- a walk: the segment and the budget, how many configurations are counted, and a number that falls at each turn
@@ -16,6 +17,11 @@ pub record WalkView : Type 0 where
 -- the number that falls: the configurations that the budget still allows, each with all its calls, and the calls not tried yet
 abbrev pub rest_of : ℕ → ℕ → List Level → ℕ → List Configuration → ℕ
 rest_of budget size levels next visited = (budget + 1 - length visited) * (size + 1) + untried size levels next
+
+-- what callers see of a walk of a segment that stands there
+abbrev pub walk_at : SegmentView → ℕ → Standing → WalkView
+walk_at segment budget w =
+    record { segment = segment; budget = budget; len = length w.memo; rest = rest_of budget (length segment.calls) w.levels.items w.next w.memo }
 
 -- a walk goes on: at most one configuration more is counted, and the number falls
 pub record GoesOn (walk on : WalkView) : Type 0 where

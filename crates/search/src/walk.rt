@@ -2,8 +2,8 @@
 ghost use Rattle.std.specs.Prelude.{◌≡◌, ◌<◌, ◌≤◌, [], length, map, slice_index, All, IfOk};
 ghost use Rattle.search.specs.Exact.{IsExactAnswer};
 ghost use Rattle.search.specs.Found.{IsSoundAnswer};
-ghost use Rattle.search.specs.Standing.{places};
-ghost use Rattle.search.specs.Turn.{IsTurn};
+ghost use Rattle.search.specs.Standing.{places, Stands};
+ghost use Rattle.search.specs.Turn.{IsTurn, IsTurnAt};
 
 use crate::MAX_BUDGET;
 use crate::found::Found;
@@ -23,13 +23,12 @@ pub struct Walk {
 }
 
 impl Model for Walk {
-    ghost use Rattle.std.specs.Prelude.{length};
     ghost use Rattle.search.specs.Standing.{Stands};
-    ghost use Rattle.search.specs.Walk.{WalkView, rest_of};
+    ghost use Rattle.search.specs.Walk.{WalkView, walk_at};
 
     ghost Value = { WalkView };
 
-    ghost view = { λ w. record { segment = w.segment; budget = w.budget; len = length w.standing.memo; rest = rest_of w.budget (length w.segment.calls) w.standing.levels.items w.standing.next w.standing.memo } };
+    ghost view = { λ w. walk_at w.segment w.budget w.standing };
 
     ghost invariant = { λ w. Stands w.segment.calls w.standing };
 }
@@ -77,21 +76,37 @@ impl Walk {
             budget,
             mut standing,
         } = self;
-        if standing.memo.len() > budget as usize {
-            return Ok(Turn::Done(Found::Spent));
-        }
-        match make_step(alloc, segment.calls(), &mut standing)? {
-            Progress::Made => Ok(Turn::Going(Walk {
+        match make_turn(alloc, &segment, budget, &mut standing)? {
+            None => Ok(Turn::Going(Walk {
                 segment,
                 budget,
                 standing,
             })),
-            Progress::Order => {
-                let order = order_of(alloc, segment.numbers(), &standing)?;
-                Ok(Turn::Done(Found::Order(order)))
-            }
-            Progress::NoOrder => Ok(Turn::Done(Found::NoOrder)),
+            Some(found) => Ok(Turn::Done(found)),
         }
+    }
+}
+
+/// One turn where a walk of a segment stands, and what is found where the search is over.
+fn make_turn(
+    alloc: Global,
+    segment: &Segment,
+    budget: u32,
+    standing: &mut Standing,
+) -> Result<Option<Found>, Memory>
+    requires { Stands segment.now.calls standing.old }
+    ensures { IfOk result (IsTurnAt segment.now budget standing.old standing.new) }
+{
+    if standing.memo.len() > budget as usize {
+        return Ok(Some(Found::Spent));
+    }
+    match make_step(alloc, segment.calls(), standing)? {
+        Progress::Made => Ok(None),
+        Progress::Order => {
+            let order = order_of(alloc, segment.numbers(), standing)?;
+            Ok(Some(Found::Order(order)))
+        }
+        Progress::NoOrder => Ok(Some(Found::NoOrder)),
     }
 }
 
@@ -110,18 +125,17 @@ fn order_of(alloc: Global, numbers: &[u32], standing: &Standing) -> Result<Vec<u
 /// Searches a segment: the least order where there is one and the count is at most the budget, `NoOrder`
 /// where there is none and the count is at most the budget, and `Spent` where the count is greater.
 /// `Memory` where a growth was refused. It takes calls by rising number, and goes on from each configuration
-/// once. Each call tried is compared, by what it leads to, with all configurations met. Nothing recurses: the
-/// calls taken stand on a stack of its own.
+/// once. What a call tried leads to is looked up among the configurations met. Nothing recurses: the calls taken
+/// stand on a stack of its own.
 pub fn search(alloc: Global, segment: &Segment, budget: u32) -> Result<Found, Memory>
     requires { (1 ≤ budget) × (budget ≤ MAX_BUDGET) }
     ensures exact { IfOk result (IsExactAnswer [] budget segment.now) }
     ensures sound { IfOk result (IsSoundAnswer [] budget segment.now) }
 {
-    let mut walk = Walk::open(alloc, segment, budget)?;
+    let mut standing = open_standing(alloc, segment.calls())?;
     loop {
-        match walk.turn(alloc)? {
-            Turn::Going(on) => walk = on,
-            Turn::Done(found) => return Ok(found),
+        if let Some(found) = make_turn(alloc, segment, budget, &mut standing)? {
+            return Ok(found);
         }
     }
 }
