@@ -1,5 +1,6 @@
 -- Bits of words: one more is set, the lowest are dropped, zeros at the end are dropped.
-use Rattle.std.proofs.Common.{◌≡◌, ℕ, ◌+◌, ◌-◌, ◌*◌, ◌/◌, ◌%◌, ◌^◌, ◌<◌, ◌≤◌, List, ◌∷◌, [], ◌++◌, length, map, take, drop, replicate, set, get_or, max, sym, ap, ap₂, ◌∙◌, ⊎_elim, w64, length-set, get_or-set_same, get_or-set_other, arith}
+use Rattle.std.proofs.Common.{◌≡◌, ℕ, ◌+◌, ◌-◌, ◌*◌, ◌/◌, ◌%◌, ◌^◌, ◌<◌, ◌≤◌, List, ◌∷◌, [], ◌++◌, length, map}
+use Rattle.std.proofs.Common.{take, drop, replicate, set, get_or, max, sym, ap, ap₂, ◌∙◌, ⊎_elim, w64, length-set, get_or-set_same, get_or-set_other, arith}
 use Rattle.std.specs.Prelude.{◌≢◌, bit_or}
 use Rattle.std.specs.Int.{bit_at, trailing_ones}
 use Rattle.std.specs.List.{range_with_len}
@@ -9,7 +10,8 @@ use Rattle.std.proofs.Math.ListN.{get_or-append}
 use Rattle.std.proofs.Math.Seq.{get_or-append_right}
 use Rattle.std.proofs.lemmas.List.FromFn.{length-map-range_with_len, get_or-map-range_with_len}
 use Rattle.std.proofs.lemmas.Nat.{shr-shr, div-add-mod', pow_pos, or_lt}
-use Rattle.std.proofs.lemmas.Nat.Bits.{bit_at-zero, bit_at_or, bit_at_set_same, bit_at_set_other, bit_at_above, bit_at_cat_low, bit_at_cat_high, bit_at_ones, bit_at-trailing_ones}
+use Rattle.std.proofs.lemmas.Nat.Bits.{bit_at-zero, bit_at_or, bit_at_set_same, bit_at_set_other}
+use Rattle.std.proofs.lemmas.Nat.Bits.{bit_at_above, bit_at_cat_low, bit_at_cat_high, bit_at_ones, bit_at-trailing_ones}
 use Rattle.memo.specs.Windows.{bit_of, IsTrimmed, AreWords, shifted_word}
 use Rattle.memo.proofs.WindowLemmas.{bit_of-past, bit_of-at}
 

@@ -1,6 +1,6 @@
 -- Sums of mixed numbers modulo 2^64, and how they change.
 use Rattle.std.proofs.Common.{◌≡◌, ℕ, ◌+◌, ◌-◌, ◌/◌, ◌%◌, ◌^◌, ◌<◌, true, false, List, [], ◌∷◌, refl, sym, ap, ◌∙◌, subst, ⊎_elim, arith}
-use Rattle.std.specs.Prelude.{bit_xor, nat_lt, filter, Contains}
+use Rattle.std.specs.Prelude.{◌⊎◌, bit_xor, nat_lt, filter, Contains}
 use Rattle.std.specs.List.{sum_by}
 use Rattle.std.proofs.lemmas.Bool.{cases_order}
 use Rattle.std.proofs.lemmas.Bool.Decides.{nat_tests}
@@ -39,9 +39,9 @@ module _ (f : ℕ → ℕ) (place : ℕ) where
   sum_apart (x ∷ xs) new =
       let rest = sum_apart xs (λ h. new (Contains-later x xs place h)) in
       ⊎_elim (λ is. absurd (new (subst (λ (y : ℕ). Contains (y ∷ xs) place) (sym is) (Contains-first place xs))))
-      (λ apart. ⊎_elim
-      (λ low. rw (lower low, not_above low, sum_by-cons f x (filter (λ n. nat_lt n place) xs), sum_by-cons f x xs) (omega (arith, rest)))
-      (λ high. rw (not_below high, upper high, sum_by-cons f x (filter (λ n. nat_lt place n) xs), sum_by-cons f x xs) (omega (arith, rest)))
+      (λ (apart : (x < place) ⊎ (place < x)). ⊎_elim
+      (λ (low : x < place). rw (lower low, not_above low, sum_by-cons f x (filter (λ n. nat_lt n place) xs), sum_by-cons f x xs) (omega (arith, rest)))
+      (λ (high : place < x). rw (not_below high, upper high, sum_by-cons f x (filter (λ n. nat_lt place n) xs), sum_by-cons f x xs) (omega (arith, rest)))
       apart)
       (cases_order x place)
     where

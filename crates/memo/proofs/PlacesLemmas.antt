@@ -16,7 +16,8 @@ module _ (least : ℕ) (words : List ℕ) (place more : ℕ) (longer : List ℕ)
   places_of-with = sym (places_of-is more longer (with_place (places_of least words) place)
       (with_place-rises (places_of least words) place (places_of-rises least words))
       (λ n. (
-        λ h. (same n).1 (⊎_elim (λ old. inl ((Contains-places_of least words n).0 old)) (λ is. inr is) ((Contains-with_place (places_of least words) place n).0 h)),
+        λ h. (same n).1
+            (⊎_elim (λ old. inl ((Contains-places_of least words n).0 old)) (λ is. inr is) ((Contains-with_place (places_of least words) place n).0 h)),
         λ h. (Contains-with_place (places_of least words) place n).1
             (⊎_elim (λ old. inl ((Contains-places_of least words n).1 old)) (λ is. inr is) ((same n).0 h)),
       )))
@@ -77,7 +78,8 @@ module _ (least : ℕ) (words : List ℕ) (run : ℕ) (fewer : List ℕ) (ones :
 
       old : IsAmong least words n → IsAmong next fewer n
       old (inl low) = inl (omega (arith, low))
-      old (inr high) = ⊎_elim (λ is. absurd (at_end is high.1)) (λ apart. ⊎_elim (λ lt. inl lt) (λ gt. inr (gt, higher n gt ∙ high.1)) apart) (cases_order n next)
+      old (inr high) = ⊎_elim (λ is. absurd (at_end is high.1))
+          (λ apart. ⊎_elim (λ lt. inl lt) (λ gt. inr (gt, higher n gt ∙ high.1)) apart) (cases_order n next)
         where
           at_end : n ≡ next → bit_of words (n - (least + 1)) ≡ 1 → ⊥
           at_end is one =

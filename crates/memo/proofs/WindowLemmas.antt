@@ -67,7 +67,8 @@ Contains-places_of least words n = (
 pub places_of-rises : (least : ℕ) (words : List ℕ) → IsStrictlyIncreasing (places_of least words)
 unfolding places_of
 places_of-rises least words =
-    IsStrictlyIncreasing-filter (is_among least words) (range_with_len 0 (least + 1 + 64 * length words)) (IsStrictlyIncreasing-range (least + 1 + 64 * length words))
+    let size = least + 1 + 64 * length words in
+    IsStrictlyIncreasing-filter (is_among least words) (range_with_len 0 size) (IsStrictlyIncreasing-range size)
 
 -- a rising list of exactly these numbers is the set's
 pub places_of-is : (least : ℕ) (words numbers : List ℕ) → IsStrictlyIncreasing numbers → ((n : ℕ) → Contains numbers n ↔ IsAmong least words n)
@@ -137,7 +138,9 @@ same_places l m a b is_a is_b same =
 pub least_small : (least : ℕ) (words : List ℕ) → All (λ n. n < 2 ^ 32) (places_of least words) → least ≤ 2 ^ 32
 least_small least words small =
     ⊎_elim (λ none. omega (arith, none))
-    (λ some. omega (arith, All-contains (λ n. n < 2 ^ 32) (places_of least words) (least - 1) small ((Contains-places_of least words (least - 1)).1 (inl (omega (arith, some))))))
+    (λ some.
+    let last : Contains (places_of least words) (least - 1) = (Contains-places_of least words (least - 1)).1 (inl (omega (arith, some))) in
+    omega (arith, All-contains (λ n. n < 2 ^ 32) (places_of least words) (least - 1) small last))
     (cases_lt least 1)
 
 -- after a run of ones each number is of 32 bits too

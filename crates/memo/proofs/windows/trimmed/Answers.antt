@@ -9,7 +9,10 @@ use Rattle.memo.proofs.windows.trimmed.Goals as goal
 
 -- the last word is 0
 last : (c : goal.After-pop-zero) → slice_get c.loop-words.words.items (length c.loop-words.words.items - 1) ≡ Some 0
-last c = ap (λ (words : List ℕ). slice_get words (length words - 1)) (sym c.deref.ensures.value) ∙ sym c.in-Some-eq0.ensures.value ∙ ap Some c.in-Some-eq0.field-0-test
+last c =
+    ap (λ (words : List ℕ). slice_get words (length words - 1)) (sym c.deref.ensures.value)
+    ∙ sym c.in-Some-eq0.ensures.value
+    ∙ ap Some c.in-Some-eq0.field-0-test
 
 -- it is the one taken away
 popped : (c : goal.After-pop-zero) → c.pop-zero.result ≡ Some 0

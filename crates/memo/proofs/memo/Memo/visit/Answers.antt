@@ -30,5 +30,6 @@ pub returns-clause-refused : goal.returns-clause-refused
 returns-clause-refused c = elim c.match-insert.branch [
   | in-Ok w ↦ rw w.result-is tt
   | in-Err w ↦ rw (w.result-is, ← c.self.view_is)
-      (not_from_Decides (list_any (is_same c.args.config) c.self.inside.visited.keys) (Decides-visited c.self.inside.visited.keys c.args.config) w.in-Err.ensures.absent)
+      (let keys = c.self.inside.visited.keys in
+      not_from_Decides (list_any (is_same c.args.config) keys) (Decides-visited keys c.args.config) w.in-Err.ensures.absent)
 ]

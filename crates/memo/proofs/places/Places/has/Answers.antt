@@ -19,7 +19,8 @@ returns-then-self-place c =
     let words = c.self.inside.words.items in
     let n = c.args.place in
     let at = n - (least + 1) in
-    let bit = Decides-at c.has_bit.result _ (c.has_bit.ensures ∙ ap (λ (ws : List ℕ). bit_of ws at == 1) c.deref.ensures.value) (Decides-eqb (bit_of words at) 1) in
+    let is = c.has_bit.ensures ∙ ap (λ (ws : List ℕ). bit_of ws at == 1) c.deref.ensures.value in
+    let bit = Decides-at c.has_bit.result (bit_of words at == 1) is (Decides-eqb (bit_of words at) 1) in
     rw (← c.self.view_is) (
       (λ set. (Contains-places_of least words n).1 (inr (c.if-self-place.true, bit.0 set))),
       (λ h. ⊎_elim (λ low. absurd (omega (arith, low, c.if-place-self.false))) (λ high. bit.1 high.1) ((Contains-places_of least words n).0 h)),
