@@ -1,16 +1,16 @@
 // A call as it goes on, one access at a time.
 ghost use Rattle.std.specs.Prelude.{◌≡◌, ℕ, ◌<◌, true, false, List, [], ◌∷◌, Some, None, OnOk, is_some};
-ghost use Rattle.art_rows.specs.Table.{IsWithinLimits};
-ghost use Rattle.art_steps.specs.Rows.{locks, is_scan};
+ghost use Rattle.art_steps.specs.Rows.{is_scan};
 ghost use Rattle.art_steps.specs.Act.{act};
 ghost use Rattle.art_steps.specs.Steps.{access_of};
 ghost use Rattle.art_stages.specs.Stages.{IsCallAt, reply_for};
-ghost use Rattle.art_stages.specs.Automaton.{start_at};
-ghost use Rattle.art.specs.Sound.{is_sound};
+ghost use Rattle.art_setting.specs.Sound.{is_sound};
 
-use crate::rows::locks;
+use art_access::{access_at, point_at};
+use art_after::stage_after;
 use art_rows::Shape;
-use art_stages::{Outcome, Stage, Target};
+use art_setting::Setting;
+use art_stages::{Outcome, Stage};
 use art_steps::{Access, Point, TreeCall, Variant};
 use events::{Memory, Reply};
 use std::alloc::Global;
@@ -18,14 +18,11 @@ use std::alloc::Global;
 /// A call under way. It keeps what it still needs, and none of the words that it got. So far it is a call on one key.
 #[derive(Drop)]
 pub struct Task {
-    pub(crate) shape: Shape,
-    pub(crate) variant: Variant,
-    pub(crate) call: TreeCall,
+    pub(crate) setting: Setting,
     pub(crate) stage: Stage,
-    ghost within: { IsWithinLimits shape },
-    ghost no_scan: { is_scan call ≡ false },
+    ghost no_scan: { is_scan setting.call ≡ false },
     ghost sound: { is_sound stage ≡ true },
-    ghost reached: { ∥ IsCallAt shape variant call stage ∥₁ },
+    ghost reached: { ∥ IsCallAt setting.shape setting.variant setting.call stage ∥₁ },
 }
 
 impl Task {
@@ -43,11 +40,14 @@ impl Task {
         ensures act { (rest : List ℕ) → rest_of result rest ≡ act shape variant call rest }
         ensures asks { is_some (reply_of (rest_of result [])) ≡ false }
     {
-        Task {
+        let setting = Setting {
             shape,
             variant,
             call,
-            stage: first_stage(variant),
+        };
+        Task {
+            setting,
+            stage: setting.start(),
         }
     }
 
@@ -67,14 +67,14 @@ impl Task {
         ensures access { access_of (rest_of self.now []) ≡ Some result }
         ensures in_table { word_of result < table_words (shape_of self.now) }
     {
-        self.asked()
+        access_at(&self.setting, self.stage)
     }
 
     /// The point of the next access; `Answer` where the reply is known.
     pub fn point(&self) -> Option<Point>
         ensures { result ≡ point_of (rest_of self.now []) }
     {
-        self.mark()
+        point_at(&self.setting, self.stage)
     }
 
     /// The access got this; the reply, once it is known.
@@ -85,27 +85,10 @@ impl Task {
         ensures fits { (rest : List ℕ) → rest_of self.new rest ≡ rest_of self.old (got ∷ rest) }
         ensures reply { reply_of (rest_of self.new []) ≡ result }
     {
-        self.stage = self.after(got);
+        self.stage = stage_after(&self.setting, self.stage, got);
         match self.stage {
             Stage::Over { outcome } => Some(reply_with(outcome)),
             _ => None,
-        }
-    }
-}
-
-/// Where a call begins.
-pub(crate) fn first_stage(variant: Variant) -> Stage
-    ensures stage { result ≡ start_at (locks variant) }
-    ensures sound { is_sound result ≡ true }
-{
-    if locks(variant) {
-        Stage::Lock {
-            target: Target::Root,
-            first: true,
-        }
-    } else {
-        Stage::Wait {
-            target: Target::Root,
         }
     }
 }

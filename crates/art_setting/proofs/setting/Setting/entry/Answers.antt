@@ -1,9 +1,9 @@
 use Rattle.std.proofs.Common.{◌+◌, ap, sym, ◌∙◌}
 use Rattle.art_rows.specs.Words.{place_of}
 use Rattle.art_stages.specs.Stages.{keys_in, byte_in}
-use Rattle.art.specs.Tasks.{setting_of}
-use Rattle.art.proofs.StageLemmas.{in_keys, counted, entry_some, entry_new, entry_none}
-use Rattle.art.proofs.task.Task.entry.Goals as goal
+use Rattle.art_setting.specs.Settings.{setting_of}
+use Rattle.art_setting.proofs.KeyLemmas.{in_keys, counted, entry_some, entry_new, entry_none}
+use Rattle.art_setting.proofs.setting.Setting.entry.Goals as goal
 
 pub returns-in-Some-clause-entry : goal.returns-in-Some-clause-entry
 returns-in-Some-clause-entry c =

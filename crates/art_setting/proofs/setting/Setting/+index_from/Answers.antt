@@ -1,6 +1,6 @@
 use Rattle.std.proofs.Common.{◌-◌, arith}
 use Rattle.art_rows.proofs.WriterLemmas.{byte_fits, byte_below}
-use Rattle.art.proofs.task.Task.+index_from.Goals as goal
+use Rattle.art_setting.proofs.setting.Setting.+index_from.Goals as goal
 
 pub overflow_mul-result : goal.overflow_mul-result
 overflow_mul-result t c = omega (arith, byte_fits (c.args.left - 1) c.index_from.result 0 (omega arith) (omega arith) c.index_from.ensures.below)

@@ -1,0 +1,351 @@
+// The stage that comes after a word.
+ghost use Rattle.std.specs.Prelude.{◌≡◌, true, Some, None};
+ghost use Rattle.art_rows.specs.Words.{child_of, child_word, is_small_child};
+ghost use Rattle.art_steps.specs.Rows.{locks, releases_early, is_insert};
+ghost use Rattle.art_steps.specs.Steps.{reply_of};
+ghost use Rattle.art_stages.specs.Automaton.{turn_at, stage_after, pair_after, put_keys_after};
+ghost use Rattle.art_stages.specs.declared.stage.Stage.TheVariants.{ClaimPair as Claiming, ClaimGrow as ClaimingNext, Unlock as UnlockAll};
+ghost use Rattle.art_stages.specs.declared.stage.Stage.TheVariants.{Lock, Exchange, Wait, Between, Check};
+ghost use Rattle.art_stages.specs.declared.stage.Outcome.TheVariants.{Value, Refused};
+ghost use Rattle.art_setting.specs.Sound.{is_sound, is_sound_target, is_sound_finding};
+ghost use Rattle.art_setting.specs.Settings.{setting_of};
+
+use crate::found::{among, below, checked, entered, find, found, over};
+use crate::grown::{copied, entries, fill, keys_stored, leaf_stored, spread_on};
+use crate::works::{moves, release, taken};
+use art_rows::{Kind, child_word, row_word, version_is_locked, version_is_obsolete};
+use art_setting::{Setting, next_kind};
+use art_stages::{
+    Down, Finding, Growing, Hold, Keys, Outcome, Pair, PairWord, Position, Spread, Stage, Target,
+};
+
+/// LOCK after a load of the version.
+fn locked(setting: &Setting, target: Target, version: u64) -> Stage
+    requires { is_sound_target target ≡ true }
+    ensures stage { result ≡ stage_after (setting_of setting.now) (Lock target true) version }
+    ensures sound { is_sound result ≡ true }
+{
+    if version_is_locked(version) {
+        Stage::Lock {
+            target,
+            first: false,
+        }
+    } else {
+        Stage::Exchange { target, version }
+    }
+}
+
+/// LOCK after an exchange of it.
+fn exchanged(setting: &Setting, target: Target, version: u64, got: u64) -> Stage
+    requires { is_sound_target target ≡ true }
+    ensures stage { result ≡ stage_after (setting_of setting.now) (Exchange target version) got }
+    ensures sound { is_sound result ≡ true }
+{
+    if got == version {
+        entered(setting, target, version)
+    } else {
+        Stage::Lock {
+            target,
+            first: false,
+        }
+    }
+}
+
+/// WAIT after a load of the version.
+fn waited(setting: &Setting, target: Target, version: u64) -> Stage
+    requires { is_sound_target target ≡ true }
+    ensures stage { result ≡ stage_after (setting_of setting.now) (Wait target) version }
+    ensures sound { is_sound result ≡ true }
+{
+    if version_is_locked(version) {
+        Stage::Wait { target }
+    } else if version_is_obsolete(version) {
+        setting.start()
+    } else {
+        entered(setting, target, version)
+    }
+}
+
+fn between_passed(setting: &Setting, down: Down, kept: u64, got: u64) -> Stage
+    ensures stage { result ≡ stage_after (setting_of setting.now) (Between down kept) got }
+    ensures sound { is_sound result ≡ true }
+{
+    if setting.locks() || got == down.above.kept {
+        Stage::Info { down, kept }
+    } else {
+        setting.start()
+    }
+}
+
+/// The word of a child that is moved: as it was read, or 0 where it is of no form.
+fn moved(setting: &Setting, word: u64) -> u64
+    ensures { result ≡ child_word (child_of setting.now.shape word) }
+{
+    child_word(setting.shape.child(word))
+}
+
+/// PAIR after its claim.
+fn pair_claimed(setting: &Setting, hold: Hold, pair: Pair, number: u64) -> Stage
+    requires { is_small_child pair.child ≡ true }
+    ensures stage { result ≡ stage_after (setting_of setting.now) (Claiming hold pair) number }
+    ensures sound { is_sound result ≡ true }
+{
+    if number < setting.shape.rows(Kind::Four) {
+        Stage::StorePair {
+            hold,
+            pair,
+            base: setting.shape.base(Kind::Four, number),
+            word: PairWord::Info,
+        }
+    } else {
+        refused(hold)
+    }
+}
+
+/// GROW after its claim.
+fn grow_claimed(setting: &Setting, hold: Hold, slot: usize, keys: Keys, number: u64) -> Stage
+    ensures stage { result ≡ stage_after (setting_of setting.now) (ClaimingNext hold slot keys) number }
+    ensures sound { is_sound result ≡ true }
+{
+    let kind = next_kind(hold.row.kind);
+    if number < setting.shape.rows(kind) {
+        Stage::GrowInfo {
+            growing: Growing {
+                hold,
+                slot,
+                keys,
+                base: setting.shape.base(kind, number),
+            },
+        }
+    } else {
+        refused(hold)
+    }
+}
+
+fn put_keys_stored(setting: &Setting, hold: Hold, keys: Keys) -> Stage
+    ensures stage { result ≡ put_keys_after (locks setting.now.variant) hold.row.kind hold keys }
+    ensures sound { is_sound result ≡ true }
+{
+    match hold.row.kind {
+        Kind::Four => put_done(hold),
+        Kind::Sixteen => Stage::PutMore { hold, keys },
+        Kind::FortyEight => Stage::PutCount { hold, keys },
+        Kind::Full => release(setting, hold.above, Some(Outcome::Value { value: None })),
+    }
+}
+
+fn row_checked(setting: &Setting, place: Position, finding: Finding, got: u64) -> Stage
+    requires { is_sound_finding finding ≡ true }
+    ensures stage { result ≡ stage_after (setting_of setting.now) (Check place finding) got }
+    ensures sound { is_sound result ≡ true }
+{
+    if got == place.row.kept {
+        found(setting, place, finding)
+    } else {
+        setting.start()
+    }
+}
+
+/// The stage after an access that got this word.
+pub fn stage_after(setting: &Setting, stage: Stage, got: u64) -> Stage
+    requires sound { is_sound stage ≡ true }
+    requires asks { reply_of (turn_at (setting_of setting.now) stage) ≡ None }
+    ensures stage { result ≡ stage_after (setting_of setting.now) stage got }
+    ensures sound { is_sound result ≡ true }
+{
+    match stage {
+        Stage::Lock { target, .. } => locked(setting, target, got),
+        Stage::Exchange { target, version } => exchanged(setting, target, version, got),
+        Stage::Wait { target } => waited(setting, target, got),
+        Stage::Leave { down } => Stage::Lock {
+            target: Target::Below { down },
+            first: true,
+        },
+        Stage::Between { down, kept } => between_passed(setting, down, kept, got),
+        Stage::Info { down, kept } => below(setting, down, kept, got),
+        Stage::Find { place } => find(setting, place, got),
+        Stage::FindKeys { place, count } => Stage::FindMore {
+            place,
+            count,
+            first: got,
+        },
+        Stage::FindMore {
+            place,
+            count,
+            first,
+        } => among(
+            setting,
+            place,
+            Keys {
+                first,
+                second: got,
+                count,
+            },
+        ),
+        Stage::FindCount { place, index } => {
+            let keys = Keys {
+                first: index,
+                second: 0,
+                count: got,
+            };
+            checked(setting, place, Finding::Lacks { keys })
+        }
+        Stage::Slot { place, slot } => {
+            let child = setting.shape.child(got);
+            checked(setting, place, Finding::Has { slot, child })
+        }
+        Stage::Check { place, finding } => row_checked(setting, place, finding, got),
+        Stage::CheckLast { row } => {
+            if got == row.kept {
+                over(None)
+            } else {
+                setting.start()
+            }
+        }
+        Stage::LetGo { place, finding, .. } => found(setting, place, finding),
+        Stage::Take { taking } => {
+            if got == taking.row.kept {
+                taken(setting, taking.held, taking.below, taking.work, taking.row)
+            } else {
+                release(setting, taking.held, None)
+            }
+        }
+        Stage::Write { hold, reply, .. } => Stage::Unlock {
+            hold,
+            outcome: Some(Outcome::Value { value: reply }),
+        },
+        Stage::ClaimPair { hold, pair } => pair_claimed(setting, hold, pair, got),
+        Stage::StorePair {
+            hold,
+            pair,
+            base,
+            word,
+        } => pair_stored(hold, pair, base, word),
+        Stage::PutLoad { hold, keys, left } => Stage::PutStore {
+            hold,
+            keys,
+            left,
+            word: moved(setting, got),
+        },
+        Stage::PutStore {
+            hold,
+            keys,
+            left,
+            ..
+        } => moves(hold, keys, left),
+        Stage::PutLeaf { hold, keys } => Stage::PutKeys { hold, keys },
+        Stage::PutKeys { hold, keys } => put_keys_stored(setting, hold, keys),
+        Stage::PutMore { hold, keys } => Stage::PutCount { hold, keys },
+        Stage::PutCount { hold, .. } => put_done(hold),
+        Stage::ClaimGrow { hold, slot, keys } => grow_claimed(setting, hold, slot, keys, got),
+        Stage::GrowInfo { growing } => fill(growing),
+        Stage::GrowLoad {
+            growing,
+            place,
+            left,
+        } => Stage::GrowStore {
+            growing,
+            place,
+            left,
+            word: moved(setting, got),
+        },
+        Stage::GrowStore {
+            growing,
+            place,
+            left,
+            ..
+        } => copied(growing, place, left),
+        Stage::SpreadIndex {
+            growing,
+            place,
+            left,
+        } => entries(
+            Spread {
+                growing,
+                place,
+                left,
+                word: got,
+            },
+            0,
+            8,
+        ),
+        Stage::SpreadLoad {
+            spread,
+            entry,
+            after,
+        } => Stage::SpreadStore {
+            spread,
+            entry,
+            after,
+            word: moved(setting, got),
+        },
+        Stage::SpreadStore {
+            spread,
+            entry,
+            after,
+            ..
+        } => spread_on(spread, entry, after),
+        Stage::GrowLeaf { growing } => leaf_stored(growing),
+        Stage::GrowKeys {
+            growing,
+            place,
+            left,
+        } => keys_stored(growing, place, left),
+        Stage::GrowCount { growing } => Stage::Hang { growing },
+        Stage::Hang { growing } => Stage::Obsolete { hold: growing.hold },
+        Stage::Obsolete { hold } => {
+            release(setting, hold.above, Some(Outcome::Value { value: None }))
+        }
+        Stage::Unlock { hold, outcome } => release(setting, hold.above, outcome),
+        Stage::Over { .. } => unreachable!(),
+    }
+}
+
+/// PAIR after one of its words.
+fn pair_stored(hold: Hold, pair: Pair, base: u32, word: PairWord) -> Stage
+    requires { is_small_child pair.child ≡ true }
+    ensures stage { result ≡ pair_after hold pair base word }
+    ensures sound { is_sound result ≡ true }
+{
+    let word = match word {
+        PairWord::Info => PairWord::Keys,
+        PairWord::Keys => PairWord::Lesser,
+        PairWord::Lesser => PairWord::Greater,
+        PairWord::Greater => {
+            return Stage::Write {
+                hold,
+                slot: pair.slot,
+                word: row_word(base),
+                reply: None,
+            };
+        }
+    };
+    Stage::StorePair {
+        hold,
+        pair,
+        base,
+        word,
+    }
+}
+
+/// What is held is unlocked, and the call is refused.
+fn refused(hold: Hold) -> Stage
+    ensures stage { result ≡ UnlockAll hold (Some Refused) }
+    ensures sound { is_sound result ≡ true }
+{
+    Stage::Unlock {
+        hold,
+        outcome: Some(Outcome::Refused),
+    }
+}
+
+/// The row is unlocked, and the reply is none.
+fn put_done(hold: Hold) -> Stage
+    ensures stage { result ≡ UnlockAll hold (Some (Value None)) }
+    ensures sound { is_sound result ≡ true }
+{
+    Stage::Unlock {
+        hold,
+        outcome: Some(Outcome::Value { value: None }),
+    }
+}

@@ -1,0 +1,511 @@
+// Where a call comes to with what it found: the way down.
+ghost use Rattle.std.specs.Prelude.{◌≡◌, ◌<◌, ◌%◌, true, Some, None, if◌then◌else◌, slice_index};
+ghost use Rattle.art_rows.specs.Words.{entries_of, is_small_child};
+ghost use Rattle.art_steps.specs.Rows.{locks, releases_early, is_insert, leaves_out_check, path_differs_at};
+ghost use Rattle.art_steps.specs.Updates.{overwriting};
+ghost use Rattle.art_stages.specs.Stages.{row_at, held, byte_in};
+ghost use Rattle.art_stages.specs.Automaton.{hold_alone, down_from, keys_one, seek_coupled, overwrite_unlocked, seek_unlocked, insert_coupled};
+ghost use Rattle.art_stages.specs.Automaton.{let_go_at, place_coupled, grow_unlocked, insert_unlocked, leaf_work, pair_work, below_at};
+ghost use Rattle.art_after.specs.Descents.{after_found, after_finding, after_words, after_index, after_first, after_arrival, after_entry, after_info};
+ghost use Rattle.art_stages.specs.declared.stage.Stage.TheVariants.{Unlock as UnlockAll, Over as Ended, Wait as WaitFor, Write as WriteTo, Leave, Lock};
+ghost use Rattle.art_stages.specs.declared.stage.Finding.TheVariants.{Has};
+ghost use Rattle.art_rows.specs.declared.table.Child.TheVariants.{Leaf};
+ghost use Rattle.art_stages.specs.declared.stage.Target.TheVariants.{Below as BelowRow};
+ghost use Rattle.art_stages.specs.declared.stage.Outcome.TheVariants.{Value};
+ghost use Rattle.art_setting.specs.Sound.{is_sound, is_sound_finding, is_sound_work, is_sound_target};
+ghost use Rattle.art_setting.specs.Settings.{setting_of};
+
+use crate::works::{begin_work, take_above, take_alone, taken};
+use art_rows::{
+    Child, Kind, child_word, index_entry, info_level, key_byte, key_difference, path_byte,
+    path_difference,
+};
+use art_setting::{Setting, child_slot, is_full, key_among};
+use art_stages::{Down, Finding, Held, Hold, Keys, Outcome, Pair, Position, Stage, Target, Work};
+
+/// Where a get or remove that locks is once FIND is done.
+fn seek_locked(setting: &Setting, row: Held, finding: Finding) -> Stage
+    ensures stage { result ≡ seek_coupled (releases_early setting.now.variant) (setting_of setting.now) row finding }
+    ensures sound { is_sound result ≡ true }
+{
+    match finding {
+        Finding::Lacks { .. } => unlocked(row, None),
+        Finding::Has { slot, child } => match child {
+            Child::Empty => unlocked(row, None),
+            Child::Row { base, kind } => leave(setting, down_from(row, slot, base, kind)),
+            Child::Leaf { key, value } => {
+                if key == setting.call.key() {
+                    match setting.call.overwriting(value) {
+                        Some(word) => write(row, slot, word, Some(value)),
+                        None => unlocked(row, Some(value)),
+                    }
+                } else {
+                    unlocked(row, None)
+                }
+            }
+        },
+    }
+}
+
+/// On to a row below, which is locked before the row above is unlocked, or after it.
+fn leave(setting: &Setting, down: Down) -> Stage
+    ensures stage { result ≡ (if releases_early setting.now.variant then Leave down else Lock (BelowRow down) true) }
+    ensures sound { is_sound result ≡ true }
+{
+    if setting.releases_early() {
+        Stage::Leave { down }
+    } else {
+        Stage::Lock {
+            target: Target::Below { down },
+            first: true,
+        }
+    }
+}
+
+/// Where one that does not lock is then.
+fn seek_free(setting: &Setting, row: Held, finding: Finding) -> Stage
+    ensures stage { result ≡ seek_unlocked (setting_of setting.now) row finding }
+    ensures sound { is_sound result ≡ true }
+{
+    match finding {
+        Finding::Lacks { .. } => over(None),
+        Finding::Has { slot, child } => match child {
+            Child::Empty => over(None),
+            Child::Row { base, kind } => wait_below(down_from(row, slot, base, kind)),
+            Child::Leaf { key, value } => {
+                if key == setting.call.key() {
+                    overwrite(setting, row, slot, value)
+                } else {
+                    over(None)
+                }
+            }
+        },
+    }
+}
+
+fn overwrite(setting: &Setting, row: Held, slot: usize, value: u32) -> Stage
+    ensures stage { result ≡ overwrite_unlocked (setting_of setting.now) row slot value (overwriting setting.now.call value) }
+    ensures sound { is_sound result ≡ true }
+{
+    match setting.call.overwriting(value) {
+        Some(word) => take_alone(
+            setting,
+            row,
+            Work::Write {
+                slot,
+                word,
+                reply: Some(value),
+            },
+        ),
+        None => over(Some(value)),
+    }
+}
+
+/// The leaf that an insert writes into a slot.
+fn leaf_work(setting: &Setting, slot: usize, reply: Option<u32>) -> Work
+    ensures work { result ≡ leaf_work (setting_of setting.now) slot reply }
+    ensures sound { is_sound_work result ≡ true }
+{
+    Work::Write {
+        slot,
+        word: child_word(setting.call.leaf()),
+        reply,
+    }
+}
+
+/// The leaf of another key and the new one, in one slot.
+fn pair_work(setting: &Setting, slot: usize, key: u32, value: u32) -> Work
+    requires { is_small_child (Leaf key value) ≡ true }
+    ensures work { result ≡ pair_work (setting_of setting.now) slot key value }
+    ensures sound { is_sound_work result ≡ true }
+{
+    let level = key_difference(key, setting.call.key());
+    Work::Pair {
+        pair: Pair {
+            slot,
+            level,
+            byte: key_byte(key, level),
+            child: Child::Leaf { key, value },
+        },
+    }
+}
+
+/// Where an insert that locks is once FIND is done and the row above is unlocked.
+fn insert_locked(setting: &Setting, row: Held, finding: Finding) -> Stage
+    requires { is_sound_finding finding ≡ true }
+    ensures stage { result ≡ insert_coupled (setting_of setting.now) row finding }
+    ensures sound { is_sound result ≡ true }
+{
+    let hold = Hold { row, above: None };
+    match finding {
+        Finding::Lacks { keys } => begin_work(setting, hold, Work::Put { keys }),
+        Finding::Has { slot, child } => match child {
+            Child::Empty => begin_work(setting, hold, leaf_work(setting, slot, None)),
+            Child::Row { base, kind } => Stage::Lock {
+                target: Target::Below {
+                    down: down_from(row, slot, base, kind),
+                },
+                first: true,
+            },
+            Child::Leaf { key, value } => {
+                if key == setting.call.key() {
+                    begin_work(setting, hold, leaf_work(setting, slot, Some(value)))
+                } else {
+                    begin_work(setting, hold, pair_work(setting, slot, key, value))
+                }
+            }
+        },
+    }
+}
+
+/// Where it is before the row above is unlocked.
+fn let_go(setting: &Setting, row: Held, above: Option<Held>, slot: usize, finding: Finding) -> Stage
+    requires { is_sound_finding finding ≡ true }
+    ensures stage { result ≡ let_go_at (setting_of setting.now) row above slot finding }
+    ensures sound { is_sound result ≡ true }
+{
+    match above {
+        None => insert_locked(setting, row, finding),
+        Some(above) => Stage::LetGo {
+            above,
+            place: Position {
+                row,
+                above: None,
+                slot,
+            },
+            finding,
+        },
+    }
+}
+
+/// Where it is once FIND is done.
+fn place_locked(setting: &Setting, place: Position, finding: Finding) -> Stage
+    requires { is_sound_finding finding ≡ true }
+    ensures stage { result ≡ place_coupled (setting_of setting.now) place finding }
+    ensures sound { is_sound result ≡ true }
+{
+    match finding {
+        Finding::Has { .. } => let_go(setting, place.row, place.above, place.slot, finding),
+        Finding::Lacks { keys } => {
+            if is_full(place.row.kind, keys) {
+                Stage::ClaimGrow {
+                    hold: Hold {
+                        row: place.row,
+                        above: place.above,
+                    },
+                    slot: place.slot,
+                    keys,
+                }
+            } else {
+                let_go(setting, place.row, place.above, place.slot, finding)
+            }
+        }
+    }
+}
+
+/// Where an insert that does not lock is once its row is full.
+fn grow_free(setting: &Setting, row: Held, above: Option<Held>, slot: usize, keys: Keys) -> Stage
+    ensures stage { result ≡ grow_unlocked (setting_of setting.now) row above slot keys }
+    ensures sound { is_sound result ≡ true }
+{
+    match above {
+        None => take_alone(setting, row, Work::Grow { slot, keys }),
+        Some(above) => take_above(setting, above, row, Work::Grow { slot, keys }),
+    }
+}
+
+/// Where it is once FIND is done.
+fn insert_free(setting: &Setting, place: Position, finding: Finding) -> Stage
+    requires { is_sound_finding finding ≡ true }
+    ensures stage { result ≡ insert_unlocked (setting_of setting.now) place finding }
+    ensures sound { is_sound result ≡ true }
+{
+    let row = place.row;
+    match finding {
+        Finding::Lacks { keys } => {
+            if is_full(row.kind, keys) {
+                grow_free(setting, row, place.above, place.slot, keys)
+            } else {
+                take_alone(setting, row, Work::Put { keys })
+            }
+        }
+        Finding::Has { slot, child } => match child {
+            Child::Empty => take_alone(setting, row, leaf_work(setting, slot, None)),
+            Child::Row { base, kind } => wait_below(down_from(row, slot, base, kind)),
+            Child::Leaf { key, value } => insert_at_leaf(setting, row, slot, key, value),
+        },
+    }
+}
+
+/// Where it is once FIND has found a leaf.
+fn insert_at_leaf(setting: &Setting, row: Held, slot: usize, key: u32, value: u32) -> Stage
+    requires { is_small_child (Leaf key value) ≡ true }
+    ensures stage { result ≡ insert_unlocked (setting_of setting.now) (record { row = row; above = None; slot = 0 }) (Has slot (Leaf key value)) }
+    ensures sound { is_sound result ≡ true }
+{
+    if key == setting.call.key() {
+        take_alone(setting, row, leaf_work(setting, slot, Some(value)))
+    } else if key_difference(key, setting.call.key()) <= info_level(row.kind, row.info) {
+        Stage::Wait {
+            target: Target::Root,
+        }
+    } else {
+        take_alone(setting, row, pair_work(setting, slot, key, value))
+    }
+}
+
+pub(crate) fn found(setting: &Setting, place: Position, finding: Finding) -> Stage
+    requires { is_sound_finding finding ≡ true }
+    ensures stage { result ≡ after_found (setting_of setting.now) place finding }
+    ensures sound { is_sound result ≡ true }
+{
+    match (setting.locks(), setting.is_insert()) {
+        (true, false) => seek_locked(setting, place.row, finding),
+        (true, true) => place_locked(setting, place, finding),
+        (false, false) => seek_free(setting, place.row, finding),
+        (false, true) => insert_free(setting, place, finding),
+    }
+}
+
+pub(crate) fn checked(setting: &Setting, place: Position, finding: Finding) -> Stage
+    requires { is_sound_finding finding ≡ true }
+    ensures stage { result ≡ after_finding (setting_of setting.now) place finding }
+    ensures sound { is_sound result ≡ true }
+{
+    if setting.locks() || setting.leaves_out_check() {
+        found(setting, place, finding)
+    } else {
+        Stage::Check { place, finding }
+    }
+}
+
+/// Where the call is once the key words of a row are loaded.
+pub(crate) fn among(setting: &Setting, place: Position, keys: Keys) -> Stage
+    ensures stage { result ≡ after_words (setting_of setting.now) place keys }
+    ensures sound { is_sound result ≡ true }
+{
+    match key_among(place.row.kind, keys, setting.byte(place.row)) {
+        None => checked(setting, place, Finding::Lacks { keys }),
+        Some(i) => Stage::Slot {
+            place,
+            slot: child_slot(place.row.kind, place.row.base, i),
+        },
+    }
+}
+
+/// Where it is once the index word of the byte is loaded.
+fn indexed(setting: &Setting, place: Position, index: u64) -> Stage
+    requires { place.row.kind ≡ Kind.FortyEight }
+    ensures stage { result ≡ after_index (setting_of setting.now) place index }
+    ensures sound { is_sound result ≡ true }
+{
+    let entry = index_entry(index, setting.byte(place.row));
+    if entry != 0 {
+        Stage::Slot {
+            place,
+            slot: place.row.base as usize + 35 + (entry - 1) as usize,
+        }
+    } else if setting.is_insert() {
+        Stage::FindCount { place, index }
+    } else {
+        checked(
+            setting,
+            place,
+            Finding::Lacks {
+                keys: keys_one(index),
+            },
+        )
+    }
+}
+
+/// Where the call is once FIND's first word is loaded.
+pub(crate) fn find(setting: &Setting, place: Position, got: u64) -> Stage
+    ensures stage { result ≡ after_first (setting_of setting.now) place got }
+    ensures sound { is_sound result ≡ true }
+{
+    match place.row.kind {
+        Kind::Four => among(setting, place, keys_one(got)),
+        Kind::Sixteen => Stage::FindKeys { place, count: got },
+        Kind::FortyEight => indexed(setting, place, got),
+        Kind::Full => {
+            let slot = place.row.base as usize + 2 + setting.byte(place.row) as usize;
+            let child = setting.shape.child(got);
+            checked(setting, place, Finding::Has { slot, child })
+        }
+    }
+}
+
+/// Where it is once the row below is locked or waited for.
+fn arrived(setting: &Setting, down: Down, kept: u64) -> Stage
+    ensures stage { result ≡ after_arrival (setting_of setting.now) down kept }
+    ensures sound { is_sound result ≡ true }
+{
+    let straight = if setting.locks() {
+        setting.releases_early() || setting.is_insert()
+    } else {
+        setting.leaves_out_check()
+    };
+    if straight {
+        Stage::Info { down, kept }
+    } else {
+        Stage::Between { down, kept }
+    }
+}
+
+pub(crate) fn entered(setting: &Setting, target: Target, kept: u64) -> Stage
+    requires { is_sound_target target ≡ true }
+    ensures stage { result ≡ after_entry (setting_of setting.now) target kept }
+    ensures sound { is_sound result ≡ true }
+{
+    match target {
+        Target::Root => Stage::Find {
+            place: Position {
+                row: Held {
+                    base: setting.shape.root() as u32,
+                    kind: Kind::Full,
+                    info: 3,
+                    kept,
+                },
+                above: None,
+                slot: setting.shape.root(),
+            },
+        },
+        Target::Below { down } => arrived(setting, down, kept),
+        Target::Taken { taking } => {
+            let row = Held {
+                base: taking.row.base,
+                kind: taking.row.kind,
+                info: taking.row.info,
+                kept,
+            };
+            taken(setting, taking.held, taking.below, taking.work, row)
+        }
+    }
+}
+
+/// Where it is once the info of the row below is loaded.
+pub(crate) fn below(setting: &Setting, down: Down, kept: u64, info: u64) -> Stage
+    ensures stage { result ≡ after_info (setting_of setting.now) down (held down.base down.kind info kept) }
+    ensures sound { is_sound result ≡ true }
+{
+    let row = Held {
+        base: down.base,
+        kind: down.kind,
+        info,
+        kept,
+    };
+    match path_difference(down.kind, info, setting.call.key()) {
+        None => Stage::Find {
+            place: Position {
+                row,
+                above: Some(down.above),
+                slot: down.slot,
+            },
+        },
+        Some(level) => beside(setting, down, row, level),
+    }
+}
+
+/// Where it is once the path of the row below differs from the key at this level.
+fn beside(setting: &Setting, down: Down, row: Held, level: u32) -> Stage
+    ensures stage { result ≡ below_at (locks setting.now.variant) (is_insert setting.now.call) (setting_of setting.now) down row (Some level) }
+    ensures sound { is_sound result ≡ true }
+{
+    let pair = Pair {
+        slot: down.slot,
+        level,
+        byte: path_byte(row.kind, row.info, level),
+        child: Child::Row {
+            base: row.base,
+            kind: row.kind,
+        },
+    };
+    match (setting.locks(), setting.is_insert()) {
+        (true, false) => unlocked(row, None),
+        (true, true) => Stage::ClaimPair {
+            hold: Hold {
+                row,
+                above: Some(down.above),
+            },
+            pair,
+        },
+        (false, false) => {
+            if setting.leaves_out_check() {
+                over(None)
+            } else {
+                Stage::CheckLast { row }
+            }
+        }
+        (false, true) => {
+            if level <= info_level(down.above.kind, down.above.info) {
+                Stage::Wait {
+                    target: Target::Root,
+                }
+            } else {
+                take_alone(setting, down.above, Work::Pair { pair })
+            }
+        }
+    }
+}
+
+/// The row is unlocked, and then the call has this value.
+fn unlocked(row: Held, value: Option<u32>) -> Stage
+    ensures stage { result ≡ UnlockAll (hold_alone row) (Some (Value value)) }
+    ensures sound { is_sound result ≡ true }
+{
+    Stage::Unlock {
+        hold: Hold { row, above: None },
+        outcome: Some(Outcome::Value { value }),
+    }
+}
+
+pub(crate) fn over(value: Option<u32>) -> Stage
+    ensures stage { result ≡ Ended (Value value) }
+    ensures sound { is_sound result ≡ true }
+{
+    Stage::Over {
+        outcome: Outcome::Value { value },
+    }
+}
+
+fn wait_below(down: Down) -> Stage
+    ensures stage { result ≡ WaitFor (BelowRow down) }
+    ensures sound { is_sound result ≡ true }
+{
+    Stage::Wait {
+        target: Target::Below { down },
+    }
+}
+
+fn write(row: Held, slot: usize, word: u64, reply: Option<u32>) -> Stage
+    ensures stage { result ≡ WriteTo (hold_alone row) slot word reply }
+    ensures sound { is_sound result ≡ true }
+{
+    Stage::Write {
+        hold: Hold { row, above: None },
+        slot,
+        word,
+        reply,
+    }
+}
+
+fn down_from(above: Held, slot: usize, base: u32, kind: Kind) -> Down
+    ensures { result ≡ down_from above slot base kind }
+{
+    Down {
+        above,
+        slot,
+        base,
+        kind,
+    }
+}
+
+fn keys_one(first: u64) -> Keys
+    ensures { result ≡ keys_one first }
+{
+    Keys {
+        first,
+        second: 0,
+        count: 0,
+    }
+}

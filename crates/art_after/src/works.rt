@@ -1,0 +1,161 @@
+// Taking rows, and where the work in them begins.
+ghost use Rattle.std.specs.Prelude.{◌≡◌, ◌≢◌, ◌-◌, ◌≤◌, true, Some, None};
+ghost use Rattle.art_rows.specs.Words.{is_small_child};
+ghost use Rattle.art_steps.specs.Rows.{locks};
+ghost use Rattle.art_stages.specs.Stages.{place_in};
+ghost use Rattle.art_stages.specs.Automaton.{take_at, take_alone, taken_at, work_at, put_at, moves_at, release_at, after_with};
+ghost use Rattle.art_setting.specs.Sound.{is_sound, is_sound_work, has_keys};
+ghost use Rattle.art_setting.specs.Settings.{setting_of};
+
+use art_rows::Kind;
+use art_setting::{Setting, count};
+use art_stages::{Held, Hold, Keys, Outcome, Stage, Taking, Target, Work};
+
+/// A row is taken: it is locked from the version that was kept, or in one variant from any.
+fn take_row(setting: &Setting, taking: Taking) -> Stage
+    requires { is_sound_work taking.work ≡ true }
+    ensures stage { result ≡ take_at (setting_of setting.now) taking }
+    ensures sound { is_sound result ≡ true }
+{
+    if setting.takes_unchecked() {
+        Stage::Lock {
+            target: Target::Taken { taking },
+            first: true,
+        }
+    } else {
+        Stage::Take { taking }
+    }
+}
+
+/// A row is taken for some work in it.
+pub(crate) fn take_alone(setting: &Setting, row: Held, work: Work) -> Stage
+    requires { is_sound_work work ≡ true }
+    ensures stage { result ≡ take_alone (setting_of setting.now) row work }
+    ensures sound { is_sound result ≡ true }
+{
+    take_row(
+        setting,
+        Taking {
+            row,
+            held: None,
+            below: None,
+            work,
+        },
+    )
+}
+
+/// A row is taken, and then the row below it, for some work in both.
+pub(crate) fn take_above(setting: &Setting, above: Held, row: Held, work: Work) -> Stage
+    requires { is_sound_work work ≡ true }
+    ensures stage { result ≡ take_at (setting_of setting.now) (record { row = above; held = None; below = Some row; work = work }) }
+    ensures sound { is_sound result ≡ true }
+{
+    take_row(
+        setting,
+        Taking {
+            row: above,
+            held: None,
+            below: Some(row),
+            work,
+        },
+    )
+}
+
+/// Where the call is once a row is taken.
+pub(crate) fn taken(
+    setting: &Setting,
+    held: Option<Held>,
+    below: Option<Held>,
+    work: Work,
+    row: Held,
+) -> Stage
+    requires { is_sound_work work ≡ true }
+    ensures stage { result ≡ taken_at (setting_of setting.now) held below work row }
+    ensures sound { is_sound result ≡ true }
+{
+    match below {
+        Some(below) => take_row(
+            setting,
+            Taking {
+                row: below,
+                held: Some(row),
+                below: None,
+                work,
+            },
+        ),
+        None => begin_work(setting, Hold { row, above: held }, work),
+    }
+}
+
+/// Where the work begins.
+pub(crate) fn begin_work(setting: &Setting, hold: Hold, work: Work) -> Stage
+    requires { is_sound_work work ≡ true }
+    ensures stage { result ≡ work_at (setting_of setting.now) hold work }
+    ensures sound { is_sound result ≡ true }
+{
+    match work {
+        Work::Write { slot, word, reply } => Stage::Write {
+            hold,
+            slot,
+            word,
+            reply,
+        },
+        Work::Pair { pair } => Stage::ClaimPair { hold, pair },
+        Work::Put { keys } => put(setting, hold, keys),
+        Work::Grow { slot, keys } => Stage::ClaimGrow { hold, slot, keys },
+    }
+}
+
+/// Where PUT begins.
+fn put(setting: &Setting, hold: Hold, keys: Keys) -> Stage
+    ensures stage { result ≡ put_at hold.row.kind (setting_of setting.now) hold keys }
+    ensures sound { is_sound result ≡ true }
+{
+    match hold.row.kind {
+        Kind::Four | Kind::Sixteen => moves(
+            hold,
+            keys,
+            count(hold.row.kind, keys).saturating_sub(setting.place(hold, keys)),
+        ),
+        Kind::FortyEight => Stage::PutLeaf { hold, keys },
+        Kind::Full => Stage::Unlock {
+            hold,
+            outcome: Some(Outcome::Value { value: None }),
+        },
+    }
+}
+
+/// Where it is once a row's rows above it are still to be unlocked.
+pub(crate) fn release(setting: &Setting, above: Option<Held>, outcome: Option<Outcome>) -> Stage
+    ensures stage { result ≡ release_at (locks setting.now.variant) above outcome }
+    ensures sound { is_sound result ≡ true }
+{
+    match above {
+        Some(row) => Stage::Unlock {
+            hold: Hold { row, above: None },
+            outcome,
+        },
+        None => match outcome {
+            Some(outcome) => Stage::Over { outcome },
+            None => setting.start(),
+        },
+    }
+}
+
+/// Where PUT is with so many children still to be moved.
+#[tactic(auto, using(crate::proofs::LoopLemmas::moves_none, crate::proofs::LoopLemmas::moves_some))]
+pub(crate) fn moves(hold: Hold, keys: Keys, left: u32) -> Stage
+    requires { has_keys hold.row.kind ≡ true }
+    ensures stage { result ≡ moves_at hold keys left }
+    ensures sound { is_sound result ≡ true }
+{
+    if left == 0 {
+        Stage::PutLeaf { hold, keys }
+    } else {
+        Stage::PutLoad {
+            hold,
+            keys,
+            left: left - 1,
+        }
+    }
+}
