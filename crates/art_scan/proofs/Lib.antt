@@ -1,0 +1,3 @@
+mod NextLemmas
+mod RangeLemmas
+mod WayLemmas

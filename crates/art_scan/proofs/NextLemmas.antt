@@ -1,0 +1,96 @@
+-- The next byte, index word or child of a scan, by what is met.
+use Rattle.std.proofs.Common.{◌≡◌, ℕ, zero, suc, ◌+◌, ◌-◌, List, [], ◌∷◌, refl, ap, sym, ◌∙◌, Bool, true, false, arith}
+use Rattle.std.proofs.lemmas.Bool.{false≢true}
+use Rattle.std.specs.Prelude.{if◌then◌else◌, Option, Some, None, filter}
+use Rattle.art_rows.specs.declared.table.Kind.{Kind}
+use Rattle.art_rows.specs.declared.table.Kind.TheVariants.{Four, Sixteen, FortyEight, Full}
+use Rattle.art_steps.specs.Scan.{bytes_of}
+use Rattle.art_stages.specs.declared.stage.Held.{Held}
+use Rattle.art_stages.specs.declared.stage.Frame.{Frame}
+use Rattle.art_stages.specs.declared.stage.ScanStep.TheVariants.{Index}
+use Rattle.art_stages.specs.Stages.{row_at}
+use Rattle.art_stages.specs.Scans.{Walk, ScanAt, at, in_word, slot_at, bytes_at, child_from, index_at_list, words_at, frame_at}
+use Rattle.art_scan.specs.Walks.{has_any, frame_test, frame_slot}
+
+less_one : (n : ℕ) → suc n - 1 ≡ n
+less_one n = omega arith
+
+-- index words
+
+list_some : (n : Held) (w : Walk) (j m : ℕ) (xs : List ℕ) (other : ScanAt) → has_any xs ≡ true → index_at_list n w j m xs other ≡ at (Index n j m) w
+list_some n w j m [] other h = absurd (false≢true h)
+list_some n w j m (x ∷ xs) other h = refl
+
+list_none : (n : Held) (w : Walk) (j m : ℕ) (xs : List ℕ) (other : ScanAt) → has_any xs ≡ false → index_at_list n w j m xs other ≡ other
+list_none n w j m [] other h = refl
+list_none n w j m (x ∷ xs) other h = absurd (false≢true (sym h))
+
+pub words_none : (low high : ℕ) (n : Held) (w : Walk) (j m : ℕ) (other : ScanAt) → m ≡ 0 → words_at low high n w j m other ≡ other
+words_none low high n w j zero other e = refl
+words_none low high n w j (suc m) other e = absurd (omega (arith, e))
+
+pub words_some : (low high : ℕ) (n : Held) (w : Walk) (j m : ℕ) (other : ScanAt) → (m ≡ 0 → ⊥)
+    → has_any (filter (in_word j) (bytes_of low high (row_at n))) ≡ true → words_at low high n w j m other ≡ at (Index n j (m - 1)) w
+words_some low high n w j zero other some h = absurd (some refl)
+words_some low high n w j (suc m) other some h =
+    list_some n w j m (filter (in_word j) (bytes_of low high (row_at n))) (words_at low high n w (j + 1) m other) h
+    ∙ ap (λ k. at (Index n j k) w) (sym (less_one m))
+
+pub words_skip : (low high : ℕ) (n : Held) (w : Walk) (j m : ℕ) (other : ScanAt) → (m ≡ 0 → ⊥)
+    → has_any (filter (in_word j) (bytes_of low high (row_at n))) ≡ false → words_at low high n w j m other ≡ words_at low high n w (j + 1) (m - 1) other
+words_skip low high n w j zero other some h = absurd (some refl)
+words_skip low high n w j (suc m) other some h =
+    list_none n w j m (filter (in_word j) (bytes_of low high (row_at n))) (words_at low high n w (j + 1) m other) h
+    ∙ ap (λ k. words_at low high n w (j + 1) k other) (sym (less_one m))
+
+-- bytes
+
+module _ (test : ℕ → Bool) (slot_of : ℕ → Option ℕ) (child : ℕ → ℕ → ℕ → ScanAt) where
+  pub bytes_none : (x n : ℕ) (other : ScanAt) → n ≡ 0 → bytes_at test slot_of child x n other ≡ other
+  bytes_none x zero other e = refl
+  bytes_none x (suc n) other e = absurd (omega (arith, e))
+
+  pub bytes_found : (x n slot : ℕ) (other : ScanAt) → (n ≡ 0 → ⊥) → test x ≡ true → slot_of x ≡ Some slot
+      → bytes_at test slot_of child x n other ≡ child (x + 1) (n - 1) slot
+  bytes_found x zero slot other some t e = absurd (some refl)
+  bytes_found x (suc n) slot other some t e =
+      ap (λ b. if b then slot_at (slot_of x) (child (x + 1) n) (bytes_at test slot_of child (x + 1) n other)
+      else bytes_at test slot_of child (x + 1) n other) t
+      ∙ (ap (λ o. slot_at o (child (x + 1) n) (bytes_at test slot_of child (x + 1) n other)) e ∙ ap (λ k. child (x + 1) k slot) (sym (less_one n)))
+
+  pub bytes_empty : (x n : ℕ) (other : ScanAt) → (n ≡ 0 → ⊥) → test x ≡ true → slot_of x ≡ None
+      → bytes_at test slot_of child x n other ≡ bytes_at test slot_of child (x + 1) (n - 1) other
+  bytes_empty x zero other some t e = absurd (some refl)
+  bytes_empty x (suc n) other some t e =
+      ap (λ b. if b then slot_at (slot_of x) (child (x + 1) n) (bytes_at test slot_of child (x + 1) n other)
+      else bytes_at test slot_of child (x + 1) n other) t
+      ∙ (ap (λ o. slot_at o (child (x + 1) n) (bytes_at test slot_of child (x + 1) n other)) e
+      ∙ ap (λ k. bytes_at test slot_of child (x + 1) k other) (sym (less_one n)))
+
+  pub bytes_not : (x n : ℕ) (other : ScanAt) → (n ≡ 0 → ⊥) → test x ≡ false
+      → bytes_at test slot_of child x n other ≡ bytes_at test slot_of child (x + 1) (n - 1) other
+  bytes_not x zero other some t = absurd (some refl)
+  bytes_not x (suc n) other some t =
+      ap (λ b. if b then slot_at (slot_of x) (child (x + 1) n) (bytes_at test slot_of child (x + 1) n other)
+      else bytes_at test slot_of child (x + 1) n other) t
+      ∙ ap (λ k. bytes_at test slot_of child (x + 1) k other) (sym (less_one n))
+
+-- a row's children: its bytes, and in kind 48 the index words behind this one
+
+abbrev pub behind_bytes : Kind → ℕ → ℕ → Walk → Frame → ScanAt → ScanAt
+behind_bytes FortyEight low high w f other = words_at low high f.row w (f.index + 1) f.words other
+behind_bytes kind low high w f other = other
+
+pub frame_bytes : (kind : Kind) (low high : ℕ) (w : Walk) (f : Frame) (other : ScanAt)
+    → frame_at kind low high w f other
+    ≡ bytes_at (frame_test kind low high f) (frame_slot kind f) (child_from w f) f.byte f.left (behind_bytes kind low high w f other)
+frame_bytes Four low high w f other = refl
+frame_bytes Sixteen low high w f other = refl
+frame_bytes FortyEight low high w f other = refl
+frame_bytes Full low high w f other = refl
+
+pub behind_none : (kind : Kind) (low high : ℕ) (w : Walk) (f : Frame) (other : ScanAt) → (kind ≡ FortyEight → ⊥) → behind_bytes kind low high w f other ≡ other
+behind_none Four low high w f other h = refl
+behind_none Sixteen low high w f other h = refl
+behind_none FortyEight low high w f other h = absurd (h refl)
+behind_none Full low high w f other h = refl

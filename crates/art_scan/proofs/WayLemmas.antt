@@ -1,0 +1,47 @@
+-- The way of a scan, from its lowest row on.
+use Rattle.std.proofs.Common.{◌≡◌, ℕ, List, [], ◌∷◌, refl, ap, sym, ◌∙◌, true, false}
+use Rattle.std.proofs.lemmas.Bool.{false≢true}
+use Rattle.std.specs.Prelude.{Some, None}
+use Rattle.art_rows.specs.declared.table.Kind.TheVariants.{Full}
+use Rattle.art_steps.specs.Rows.{Setting}
+use Rattle.art_stages.specs.declared.stage.Held.{Held}
+use Rattle.art_stages.specs.declared.stage.Frame.{Frame}
+use Rattle.art_stages.specs.declared.stage.ScanStep.{ScanStep}
+use Rattle.art_stages.specs.Automaton.{keys_one}
+use Rattle.art_stages.specs.Scans.{Walk, ScanAt, at, on_way, with_frame, frame_of, frame_at, way_at, resume_at, row_begins, visit_list}
+use Rattle.art_scan.specs.Walks.{has_any, step_or}
+
+-- a way is gone on whatever way the walk has
+pub way_same : (c : Setting) (low high : ℕ) (w : Walk) (other fs : List Frame) → way_at c low high w fs ≡ way_at c low high (on_way w other) fs
+way_same c low high w other [] = refl
+way_same c low high w other (f ∷ fs) = ap (frame_at f.row.kind low high (on_way w fs) f) (way_same c low high w other fs)
+
+pub resume_frame : (c : Setting) (low high : ℕ) (w : Walk) (f : Frame)
+    → resume_at c low high (with_frame w f) ≡ frame_at f.row.kind low high w f (resume_at c low high w)
+resume_frame c low high w f = ap (frame_at f.row.kind low high w f) (sym (way_same c low high w (f ∷ w.way) w.way))
+
+pub resume_some : (c : Setting) (low high : ℕ) (w : Walk) (f : Frame) (step : ScanStep)
+    → ((v : Walk) (other : ScanAt) → frame_at f.row.kind low high v f other ≡ step_or (Some step) v other)
+    → at step w ≡ resume_at c low high (with_frame w f)
+resume_some c low high w f step next = sym (resume_frame c low high w f ∙ next w (resume_at c low high w))
+
+pub resume_none : (c : Setting) (low high : ℕ) (w : Walk) (f : Frame)
+    → ((v : Walk) (other : ScanAt) → frame_at f.row.kind low high v f other ≡ step_or None v other)
+    → resume_at c low high w ≡ resume_at c low high (with_frame w f)
+resume_none c low high w f next = sym (resume_frame c low high w f ∙ next w (resume_at c low high w))
+
+pub begins_full : (c : Setting) (low high : ℕ) (n : Held) (w : Walk) → n.kind ≡ Full
+    → resume_at c low high (with_frame w (frame_of n (keys_one 0) 0 0)) ≡ row_begins n.kind c low high n w
+begins_full c low high n w e =
+    resume_frame c low high w (frame_of n (keys_one 0) 0 0)
+    ∙ (ap (λ k. frame_at k low high w (frame_of n (keys_one 0) 0 0) (resume_at c low high w)) e ∙ sym (ap (λ k. row_begins k c low high n w) e))
+
+pub visit_some : (c : Setting) (low high : ℕ) (n : Held) (w : Walk) (xs : List ℕ) → has_any xs ≡ true
+    → row_begins n.kind c low high n w ≡ visit_list c low high n w xs
+visit_some c low high n w [] h = absurd (false≢true h)
+visit_some c low high n w (x ∷ xs) h = refl
+
+pub visit_none : (c : Setting) (low high : ℕ) (n : Held) (w : Walk) (xs : List ℕ) → has_any xs ≡ false
+    → resume_at c low high w ≡ visit_list c low high n w xs
+visit_none c low high n w [] h = refl
+visit_none c low high n w (x ∷ xs) h = absurd (false≢true (sym h))

@@ -1,0 +1,46 @@
+-- What a scan has, as its automaton sees it, and the stage with it.
+use Rattle.std.specs.Prelude.{ℕ, List, [], ◌∷◌, Bool, true, false, ◌<◌, Option, Some, None, drop, reverse, vec_len, vec_capacity}
+use Rattle.art_rows.specs.declared.table.Kind.{Kind}
+use Rattle.art_rows.specs.declared.table.Kind.TheVariants.{FortyEight, Full}
+use Rattle.art_rows.specs.Table.{child_at}
+use Rattle.art_rows.specs.Words.{place_of}
+use Rattle.art_steps.specs.Scan.{with_leaf}
+use Rattle.art_stages.specs.declared.stage.Frame.{Frame}
+use Rattle.art_stages.specs.declared.stage.ScanStep.{ScanStep}
+use Rattle.art_stages.specs.Stages.{keys_among}
+use Rattle.art_stages.specs.Scans.{Walk, ScanAt, at, walked, lies, word_test, entry_slot, place_slot}
+use Rattle.art_scan.specs.declared.lists.Lists.{Lists}
+
+-- of the rows those that are not yet released; the way has the lowest row first
+abbrev pub walk_of : Lists → Walk
+walk_of l = record { rows = drop l.released l.rows.items; pairs = l.pairs.items; way = reverse l.way.items }
+
+-- there is room for a row, a pair and a row on the way
+pub record HasRoom (l : Lists) : Type 0 where
+  pub rows : vec_len l.rows < vec_capacity l.rows
+  pub pairs : vec_len l.pairs < vec_capacity l.pairs
+  pub way : vec_len l.way < vec_capacity l.way
+
+-- a leaf is met
+abbrev pub with_pair : ℕ → ℕ → ℕ → ℕ → Walk → Walk
+with_pair low high key value w = record { rows = w.rows; pairs = (with_leaf low high key value (walked w)).pairs; way = w.way }
+
+-- the scan is at this step with this walk, or else where it otherwise goes
+abbrev pub step_or : Option ScanStep → Walk → ScanAt → ScanAt
+step_or None w other = other
+step_or (Some step) w other = at step w
+
+-- which bytes of a frame are walked, and the slot of each
+abbrev pub frame_test : Kind → ℕ → ℕ → Frame → ℕ → Bool
+frame_test FortyEight low high f = word_test low high f
+frame_test kind low high f = lies low high f
+
+abbrev pub frame_slot : Kind → Frame → ℕ → Option ℕ
+frame_slot FortyEight f x = entry_slot f x
+frame_slot Full f x = Some (child_at Full f.row.base x)
+frame_slot kind f x = place_slot f.row.kind f.row.base (place_of x (keys_among kind f.keys))
+
+-- the list has an item
+abbrev pub has_any : List ℕ → Bool
+has_any [] = false
+has_any (x ∷ xs) = true

@@ -1,0 +1,41 @@
+// The bytes of a row under which keys can lie.
+ghost use Rattle.std.specs.Prelude.{◌≡◌, ◌+◌, ◌≤◌, ◌<◌, filter};
+ghost use Rattle.art_steps.specs.Scan.{can_lie as can_hold, bytes_of};
+ghost use Rattle.art_steps.specs.Steps.{numbers};
+ghost use Rattle.art_stages.specs.Stages.{row_at};
+ghost use Rattle.art_stages.specs.Scans.{in_word};
+ghost use Rattle.art_scan.specs.Walks.{has_any};
+
+use crate::ranges::can_lie;
+use art_stages::Held;
+
+/// Is there one among so many bytes from this one on?
+fn is_met_from(low: u64, high: u64, row: Held, byte: u32, left: u32) -> bool
+    requires { byte + left ≤ 256 }
+    ensures { result ≡ has_any (filter (can_hold low high (row_at row)) (numbers byte left)) }
+{
+    left != 0 && (can_lie(low, high, row, byte) || is_met_from(low, high, row, byte + 1, left - 1))
+}
+
+/// Is there one at all?
+pub fn is_met(low: u64, high: u64, row: Held) -> bool
+    ensures { result ≡ has_any (bytes_of low high (row_at row)) }
+{
+    is_met_from(low, high, row, 0, 256)
+}
+
+fn is_met_in_from(low: u64, high: u64, row: Held, word: u32, byte: u32, left: u32) -> bool
+    requires { byte + left ≤ 256 }
+    ensures { result ≡ has_any (filter (in_word word) (filter (can_hold low high (row_at row)) (numbers byte left))) }
+{
+    left != 0
+        && (byte / 8 == word && can_lie(low, high, row, byte)
+            || is_met_in_from(low, high, row, word, byte + 1, left - 1))
+}
+
+/// Is there one in this index word of a row of kind 48?
+pub fn is_met_in(low: u64, high: u64, row: Held, word: u32) -> bool
+    ensures { result ≡ has_any (filter (in_word word) (bytes_of low high (row_at row))) }
+{
+    is_met_in_from(low, high, row, word, 0, 256)
+}

@@ -1,0 +1,107 @@
+// The next child of a row that a scan walks.
+ghost use Rattle.std.specs.Prelude.{◌≡◌, ◌+◌, ◌<◌, ◌≤◌, true, nat_le, IfSome};
+ghost use Rattle.art_stages.specs.Scans.{Walk, ScanAt, bytes_at, child_from, words_at, frame_at};
+ghost use Rattle.art_scan.specs.Sound.{is_sound_frame, is_sound_step};
+ghost use Rattle.art_scan.specs.Walks.{step_or, frame_test, frame_slot};
+
+use crate::bytes::is_met_in;
+use crate::ranges::can_lie;
+use art_rows::{Kind, index_entry};
+use art_setting::{child_slot, key_among};
+use art_stages::{Frame, Held, ScanStep};
+
+/// Is a byte walked?
+fn is_walked(low: u64, high: u64, frame: Frame, byte: u32) -> bool
+    requires { byte < 256 }
+    ensures { result ≡ frame_test frame.row.kind low high frame byte }
+{
+    match frame.row.kind {
+        Kind::FortyEight => can_lie(low, high, frame.row, byte) && byte / 8 == frame.index,
+        _ => can_lie(low, high, frame.row, byte),
+    }
+}
+
+/// The slot of a byte, where it has one.
+fn slot_of(frame: Frame, byte: u32) -> Option<usize>
+    requires { byte < 256 }
+    ensures { result ≡ frame_slot frame.row.kind frame byte }
+{
+    let row = frame.row;
+    match row.kind {
+        Kind::Four | Kind::Sixteen => match key_among(row.kind, frame.keys, byte) {
+            None => None,
+            Some(place) => Some(child_slot(row.kind, row.base, place)),
+        },
+        Kind::FortyEight => {
+            let entry = index_entry(frame.keys.first, byte);
+            if entry == 0 {
+                None
+            } else {
+                Some(child_slot(Kind::FortyEight, row.base, entry - 1))
+            }
+        }
+        Kind::Full => Some(child_slot(Kind::Full, row.base, byte)),
+    }
+}
+
+/// The next child among so many bytes from this one on.
+fn next_byte(low: u64, high: u64, frame: Frame, byte: u32, left: u32) -> Option<ScanStep>
+    requires bytes { byte + left ≤ 256 }
+    requires words { nat_le (frame.index + frame.words) 31 ≡ true }
+    ensures next { (w : Walk) (other : ScanAt) → bytes_at (frame_test frame.row.kind low high frame) (frame_slot frame.row.kind frame) (child_from w frame) byte left other ≡ step_or result w other }
+    ensures sound { IfSome result (λ s. is_sound_step s ≡ true) }
+{
+    if left == 0 {
+        return None;
+    }
+    if is_walked(low, high, frame, byte) {
+        if let Some(slot) = slot_of(frame, byte) {
+            let frame = Frame {
+                row: frame.row,
+                keys: frame.keys,
+                byte: byte + 1,
+                left: left - 1,
+                index: frame.index,
+                words: frame.words,
+            };
+            return Some(ScanStep::Child { frame, slot });
+        }
+    }
+    next_byte(low, high, frame, byte + 1, left - 1)
+}
+
+/// The next index word that holds a byte, among so many from this one on.
+pub fn next_word(low: u64, high: u64, row: Held, index: u32, words: u32) -> Option<ScanStep>
+    requires { index + words ≤ 32 }
+    ensures next { (w : Walk) (other : ScanAt) → words_at low high row w index words other ≡ step_or result w other }
+    ensures sound { IfSome result (λ s. is_sound_step s ≡ true) }
+{
+    if words == 0 {
+        None
+    } else if is_met_in(low, high, row, index) {
+        Some(ScanStep::Index {
+            row,
+            index,
+            words: words - 1,
+        })
+    } else {
+        next_word(low, high, row, index + 1, words - 1)
+    }
+}
+
+/// The next child of a row, or the next index word.
+pub fn next_child(low: u64, high: u64, frame: Frame) -> Option<ScanStep>
+    requires { is_sound_frame frame ≡ true }
+    ensures next { (w : Walk) (other : ScanAt) → frame_at frame.row.kind low high w frame other ≡ step_or result w other }
+    ensures sound { IfSome result (λ s. is_sound_step s ≡ true) }
+{
+    match next_byte(low, high, frame, frame.byte, frame.left) {
+        Some(step) => Some(step),
+        None => match frame.row.kind {
+            Kind::FortyEight => {
+                next_word(low, high, frame.row, frame.index + 1, frame.words)
+            }
+            _ => None,
+        },
+    }
+}

@@ -1,0 +1,9 @@
+//! A scan as an automaton: the walk over the rows and leaves between two keys, one atomic access at a time.
+#![tactic(auto)]
+
+mod bytes;
+mod children;
+mod lists;
+mod ranges;
+mod steps;
+mod walks;

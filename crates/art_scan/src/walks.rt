@@ -1,0 +1,119 @@
+// Where a scan goes on: the next child, index word or row, or its end.
+ghost use Rattle.std.specs.Prelude.{◌≡◌, ◌<◌, true, vec_len, vec_capacity};
+ghost use Rattle.art_stages.specs.Automaton.{keys_one as one_word};
+ghost use Rattle.art_stages.specs.Scans.{Walk, at, with_frame, frame_of as frame_from, close_at, resume_at, row_begins, visit_at, enter_at};
+ghost use Rattle.art_setting.specs.Settings.{setting_of};
+ghost use Rattle.art_scan.specs.Sound.{is_sound_frame, is_sound_step};
+ghost use Rattle.art_scan.specs.Walks.{walk_of};
+
+use crate::bytes::is_met;
+use crate::children::{next_child, next_word};
+use crate::lists::Lists;
+use art_rows::Kind;
+use art_setting::Setting;
+use art_stages::{Entry, Frame, Held, Keys, ScanStep};
+
+/// A row is locked or waited for.
+pub fn enter(setting: &Setting, entry: Entry) -> ScanStep
+    ensures step { (w : Walk) → at result w ≡ enter_at (setting_of setting.now) entry w }
+    ensures sound { is_sound_step result ≡ true }
+{
+    if setting.locks() {
+        ScanStep::Lock { entry, first: true }
+    } else {
+        ScanStep::Wait { entry }
+    }
+}
+
+/// Nothing is left to walk: the rows are released, or checked, or left as they are.
+pub fn close(setting: &Setting, lists: &mut Lists) -> ScanStep
+    ensures step { at result (walk_of lists.new) ≡ close_at (setting_of setting.now) (walk_of lists.old) }
+    ensures sound { is_sound_step result ≡ true }
+{
+    if !setting.locks() && setting.leaves_out_check() {
+        lists.release_all();
+    }
+    lists.release()
+}
+
+/// The walk goes on at the lowest row of the way that has a child left.
+pub fn resume(setting: &Setting, low: u64, high: u64, lists: &mut Lists) -> ScanStep
+    ensures step { at result (walk_of lists.new) ≡ resume_at (setting_of setting.now) low high (walk_of lists.old) }
+    ensures sound { is_sound_step result ≡ true }
+{
+    match lists.ascend() {
+        None => close(setting, lists),
+        Some(frame) => match next_child(low, high, frame) {
+            Some(step) => step,
+            None => resume(setting, low, high, lists),
+        },
+    }
+}
+
+/// It goes on at this row.
+pub fn go_on(setting: &Setting, low: u64, high: u64, frame: Frame, lists: &mut Lists) -> ScanStep
+    requires { is_sound_frame frame ≡ true }
+    ensures step { at result (walk_of lists.new) ≡ resume_at (setting_of setting.now) low high (with_frame (walk_of lists.old) frame) }
+    ensures sound { is_sound_step result ≡ true }
+{
+    match next_child(low, high, frame) {
+        Some(step) => step,
+        None => resume(setting, low, high, lists),
+    }
+}
+
+/// A row with what was read of it, from its first byte on.
+pub fn frame_of(row: Held, keys: Keys, index: u32, words: u32) -> Frame
+    ensures { result ≡ frame_from row keys index words }
+{
+    Frame {
+        row,
+        keys,
+        byte: 0,
+        left: 256,
+        index,
+        words,
+    }
+}
+
+/// What one word says.
+pub fn keys_one(first: u64) -> Keys
+    ensures { result ≡ one_word first }
+{
+    Keys {
+        first,
+        second: 0,
+        count: 0,
+    }
+}
+
+/// The walk of a row begins.
+fn begin_row(setting: &Setting, low: u64, high: u64, row: Held, lists: &mut Lists) -> ScanStep
+    ensures step { at result (walk_of lists.new) ≡ row_begins row.kind (setting_of setting.now) low high row (walk_of lists.old) }
+    ensures sound { is_sound_step result ≡ true }
+{
+    match row.kind {
+        Kind::Four | Kind::Sixteen => ScanStep::Keys { row },
+        Kind::FortyEight => match next_word(low, high, row, 0, 32) {
+            Some(step) => step,
+            None => resume(setting, low, high, lists),
+        },
+        Kind::Full => {
+            go_on(setting, low, high, frame_of(row, keys_one(0), 0, 0), lists)
+        }
+    }
+}
+
+/// A row is met; where no key can lie below it, nothing more is loaded of it.
+pub fn visit(setting: &Setting, low: u64, high: u64, row: Held, lists: &mut Lists) -> ScanStep
+    requires { vec_len lists.old.rows < vec_capacity lists.old.rows }
+    ensures step { at result (walk_of lists.new) ≡ visit_at (setting_of setting.now) low high row (walk_of lists.old) }
+    ensures sound { is_sound_step result ≡ true }
+{
+    lists.meet(row);
+    if is_met(low, high, row) {
+        begin_row(setting, low, high, row, lists)
+    } else {
+        resume(setting, low, high, lists)
+    }
+}
