@@ -1,14 +1,17 @@
 -- The way of a scan, from its lowest row on.
 use Rattle.std.proofs.Common.{◌≡◌, ℕ, List, [], ◌∷◌, refl, ap, sym, ◌∙◌, true, false}
 use Rattle.std.proofs.lemmas.Bool.{false≢true}
-use Rattle.std.specs.Prelude.{Some, None}
+use Rattle.std.specs.Prelude.{Option, Some, None}
 use Rattle.art_rows.specs.declared.table.Kind.TheVariants.{Full}
 use Rattle.art_steps.specs.Rows.{Setting}
+use Rattle.art_steps.specs.Steps.{reply_of}
 use Rattle.art_stages.specs.declared.stage.Held.{Held}
 use Rattle.art_stages.specs.declared.stage.Frame.{Frame}
 use Rattle.art_stages.specs.declared.stage.ScanStep.{ScanStep}
+use Rattle.art_stages.specs.declared.stage.ScanStep.TheVariants.{Lock, Exchange, Wait, Info, Keys, FirstKeys, SecondKeys, Index, Child, Release, Over}
 use Rattle.art_stages.specs.Automaton.{keys_one}
-use Rattle.art_stages.specs.Scans.{Walk, ScanAt, at, on_way, with_frame, frame_of, frame_at, way_at, resume_at, row_begins, visit_list}
+use Rattle.art_stages.specs.Scans.{Walk, ScanAt, at, on_way, with_frame, frame_of, frame_at, way_at, scan_turn, resume_at, row_begins, visit_list}
+use Rattle.art_scan.specs.Sound.{is_over}
 use Rattle.art_scan.specs.Walks.{has_any, step_or}
 
 -- a way is gone on whatever way the walk has
@@ -45,3 +48,20 @@ pub visit_none : (c : Setting) (low high : ℕ) (n : Held) (w : Walk) (xs : List
     → resume_at c low high w ≡ visit_list c low high n w xs
 visit_none c low high n w [] h = refl
 visit_none c low high n w (x ∷ xs) h = absurd (false≢true (sym h))
+
+-- where no reply is known, the scan is not over
+pub asks_on : (c : Setting) (step : ScanStep) (w : Walk) → reply_of (scan_turn c (at step w)) ≡ None → is_over step ≡ false
+asks_on c (Lock entry first) w e = refl
+asks_on c (Exchange entry v) w e = refl
+asks_on c (Wait entry) w e = refl
+asks_on c (Info base kind kept) w e = refl
+asks_on c (Keys n) w e = refl
+asks_on c (FirstKeys n count) w e = refl
+asks_on c (SecondKeys n count first) w e = refl
+asks_on c (Index n j m) w e = refl
+asks_on c (Child f slot) w e = refl
+asks_on c (Release n) w e = refl
+asks_on c Over w e = absurd (none_some e)
+  where
+    none_some : {A : Type 0} {y : A} → ◌≡◌ {A = Option A} (Some y) None → ⊥
+    none_some h = cc

@@ -5,5 +5,9 @@ mod bytes;
 mod children;
 mod lists;
 mod ranges;
+mod scanning;
 mod steps;
+mod turns;
 mod walks;
+
+pub use scanning::Scanning;

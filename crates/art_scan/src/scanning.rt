@@ -1,0 +1,103 @@
+// A scan as it goes on, one access at a time.
+ghost use Rattle.std.specs.Prelude.{◌≡◌, true};
+ghost use Rattle.art_scan.specs.Sound.{is_sound_step};
+
+use crate::lists::Lists;
+use crate::steps::step_after;
+use crate::turns::{access_at, point_at};
+use crate::walks::enter;
+use art_setting::Setting;
+use art_stages::{Entry, ScanStep};
+use art_steps::{Access, Point};
+use events::{Memory, Reply};
+use std::alloc::Global;
+use std::mem;
+
+/// A scan under way between two keys, both included. It takes its first room where it is made ready.
+#[derive(Drop)]
+pub struct Scanning {
+    pub(crate) low: u64,
+    pub(crate) high: u64,
+    pub(crate) step: ScanStep,
+    pub(crate) lists: Option<Lists>,
+    ghost sound: { is_sound_step step ≡ true },
+}
+
+impl Scanning {
+    ghost use Rattle.std.specs.Prelude.{Some, None, OnOk, is_some};
+    ghost use Rattle.art_steps.specs.Steps.{access_of, reply_of};
+    ghost use Rattle.art_steps.specs.Act.{point_of};
+    ghost use Rattle.art_stages.specs.Scans.{scan_start, scan_turn, scan_after};
+    ghost use Rattle.art_setting.specs.Settings.{setting_of};
+    ghost use Rattle.art_scan.specs.Scans.{scan_of, low_of, high_of, IsRoomy};
+
+    /// A scan that has made no access yet.
+    pub fn begin(setting: &Setting, low: u64, high: u64) -> Scanning
+        ensures low { low_of result ≡ low }
+        ensures high { high_of result ≡ high }
+        ensures begins { scan_of result ≡ scan_start (setting_of setting.now) }
+    {
+        Scanning {
+            low,
+            high,
+            step: enter(setting, Entry::Root),
+            lists: None,
+        }
+    }
+
+    /// Takes the room that the next access may want.
+    pub fn ready(&mut self, alloc: Global) -> Result<(), Memory>
+        ensures low { low_of self.new ≡ low_of self.old }
+        ensures high { high_of self.new ≡ high_of self.old }
+        ensures room { OnOk result (IsRoomy self.new) }
+        ensures same { scan_of self.new ≡ scan_of self.old }
+    {
+        let mut lists = match mem::replace(&mut self.lists, None) {
+            Some(lists) => lists,
+            None => Lists::new(alloc),
+        };
+        let reserved = lists.reserve();
+        self.lists = Some(lists);
+        reserved
+    }
+
+    /// The next access.
+    pub fn next(&self, setting: &Setting) -> Access
+        requires asks { reply_of (scan_turn (setting_of setting.now) (scan_of self.now)) ≡ None }
+        ensures { access_of (scan_turn (setting_of setting.now) (scan_of self.now)) ≡ Some result }
+    {
+        access_at(setting, self.step)
+    }
+
+    /// The point of the next access; `Answer` where the reply is known.
+    pub fn point(&self, setting: &Setting) -> Option<Point>
+        ensures { result ≡ point_of (scan_turn (setting_of setting.now) (scan_of self.now)) }
+    {
+        point_at(setting, self.step)
+    }
+
+    /// The access got this; the reply, once it is known, with the pairs that the scan has found.
+    pub fn take(&mut self, setting: &Setting, got: u64) -> Option<Reply>
+        requires room { IsRoomy self.old }
+        ensures low { low_of self.new ≡ low_of self.old }
+        ensures high { high_of self.new ≡ high_of self.old }
+        ensures next { result ≡ None → scan_of self.new ≡ scan_after (setting_of setting.now) (low_of self.old) (high_of self.old) (scan_of self.old) got }
+        ensures reply { reply_of (scan_turn (setting_of setting.now) (scan_after (setting_of setting.now) (low_of self.old) (high_of self.old) (scan_of self.old) got)) ≡ result }
+        ensures over { is_some (reply_of (scan_turn (setting_of setting.now) (scan_of self.new))) ≡ is_some result }
+    {
+        match mem::replace(&mut self.lists, None) {
+            None => unreachable!(),
+            Some(mut lists) => {
+                let step = step_after(setting, self.low, self.high, self.step, got, &mut lists);
+                self.step = step;
+                match step {
+                    ScanStep::Over => Some(Reply::Pairs(lists.into_pairs())),
+                    _ => {
+                        self.lists = Some(lists);
+                        None
+                    }
+                }
+            }
+        }
+    }
+}
