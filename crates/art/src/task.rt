@@ -1,37 +1,41 @@
 // A call as it goes on, one access at a time.
-ghost use Rattle.std.specs.Prelude.{◌≡◌, ℕ, ◌<◌, true, false, List, [], ◌∷◌, Some, None, OnOk, is_some};
-ghost use Rattle.art_steps.specs.Rows.{is_scan};
+ghost use Rattle.std.specs.Prelude.{◌≡◌, ℕ, ◌<◌, false, List, [], ◌∷◌, Some, None, OnOk, is_some};
 ghost use Rattle.art_steps.specs.Act.{act};
-ghost use Rattle.art_steps.specs.Steps.{access_of};
-ghost use Rattle.art_stages.specs.Stages.{IsCallAt, reply_for};
-ghost use Rattle.art_setting.specs.Sound.{is_sound};
+ghost use Rattle.art_steps.specs.Steps.{access_of, reply_of};
+ghost use Rattle.art_stages.specs.Calls.{rest_at, call_begun};
+ghost use Rattle.art_setting.specs.Settings.{setting_of as call_setting};
+ghost use Rattle.art.specs.Going.{at_of, keys_between, scanned_in, IsReached};
 
-use art_access::{access_at, point_at};
-use art_after::stage_after;
+use crate::key_call::KeyCall;
 use art_rows::Shape;
+use art_scan::Scanning;
 use art_setting::Setting;
-use art_stages::{Outcome, Stage};
 use art_steps::{Access, Point, TreeCall, Variant};
-use events::{Memory, Reply};
+use events::{Call, Memory, Reply};
 use std::alloc::Global;
 
-/// A call under way. It keeps what it still needs, and none of the words that it got. So far it is a call on one key.
+/// Where a call is.
+#[derive(Drop)]
+pub(crate) enum Going {
+    OnKey(KeyCall),
+    OnScan(Scanning),
+}
+
+/// A call under way. It keeps what it still needs, and none of the words that it got.
 #[derive(Drop)]
 pub struct Task {
     pub(crate) setting: Setting,
-    pub(crate) stage: Stage,
-    ghost no_scan: { is_scan setting.call ≡ false },
-    ghost sound: { is_sound stage ≡ true },
-    ghost reached: { ∥ IsCallAt setting.shape setting.variant setting.call stage ∥₁ },
+    pub(crate) going: Going,
+    ghost keys: { keys_between setting.call ≡ scanned_in going },
+    ghost reached: { is_some (reply_of (rest_at (call_setting setting) (at_of going) [])) ≡ false → ∥ IsReached (call_setting setting) (at_of going) ∥₁ },
 }
 
 impl Task {
-    ghost use Rattle.art_steps.specs.Steps.{reply_of};
     ghost use Rattle.art_steps.specs.Act.{point_of};
     ghost use Rattle.art_steps.specs.Fits.{word_of};
     ghost use Rattle.art_rows.specs.Table.{table_words};
-    ghost use Rattle.art.specs.Tasks.{rest_of, shape_of, IsReady};
     ghost use Rattle.art.specs.Built.{IsBuilt};
+    ghost use Rattle.art.specs.Tasks.{rest_of, shape_of, IsReady};
 
     /// A call that has made no access yet.
     pub fn begin(shape: Shape, variant: Variant, call: TreeCall) -> Task
@@ -47,18 +51,20 @@ impl Task {
         };
         Task {
             setting,
-            stage: setting.start(),
+            going: begun(&setting),
         }
     }
 
-    /// Takes the room that the next access may want.
+    /// Takes the room that the next access may want. Where memory is wanting the call is as it was.
     pub fn ready(&mut self, alloc: Global) -> Result<(), Memory>
         ensures shape { shape_of self.new ≡ shape_of self.old }
         ensures room { OnOk result (IsReady self.new) }
         ensures same { (rest : List ℕ) → rest_of self.new rest ≡ rest_of self.old rest }
     {
-        let _alloc = alloc;
-        Ok(())
+        match &mut self.going {
+            Going::OnKey(_) => Ok(()),
+            Going::OnScan(scan) => scan.ready(alloc),
+        }
     }
 
     /// The next access.
@@ -67,38 +73,45 @@ impl Task {
         ensures access { access_of (rest_of self.now []) ≡ Some result }
         ensures in_table { word_of result < table_words (shape_of self.now) }
     {
-        access_at(&self.setting, self.stage)
+        match &self.going {
+            Going::OnKey(call) => call.next(&self.setting),
+            Going::OnScan(scan) => scan.next(&self.setting),
+        }
     }
 
     /// The point of the next access; `Answer` where the reply is known.
     pub fn point(&self) -> Option<Point>
         ensures { result ≡ point_of (rest_of self.now []) }
     {
-        point_at(&self.setting, self.stage)
+        match &self.going {
+            Going::OnKey(call) => call.point(&self.setting),
+            Going::OnScan(scan) => scan.point(&self.setting),
+        }
     }
 
-    /// The access got this; the reply, once it is known.
+    /// The access got this; the reply, once it is known. A scan gives its pairs away with it.
     pub fn take(&mut self, got: u64) -> Option<Reply>
         requires asks { reply_of (rest_of self.old []) ≡ None }
         requires ready { IsReady self.old }
         ensures shape { shape_of self.new ≡ shape_of self.old }
-        ensures fits { (rest : List ℕ) → rest_of self.new rest ≡ rest_of self.old (got ∷ rest) }
-        ensures reply { reply_of (rest_of self.new []) ≡ result }
+        ensures fits { result ≡ None → (rest : List ℕ) → rest_of self.new rest ≡ rest_of self.old (got ∷ rest) }
+        ensures reply { reply_of (rest_of self.old (got ∷ [])) ≡ result }
+        ensures over { is_some (reply_of (rest_of self.new [])) ≡ is_some result }
     {
-        self.stage = stage_after(&self.setting, self.stage, got);
-        match self.stage {
-            Stage::Over { outcome } => Some(reply_with(outcome)),
-            _ => None,
+        match &mut self.going {
+            Going::OnKey(call) => call.take(&self.setting, got),
+            Going::OnScan(scan) => scan.take(&self.setting, got),
         }
     }
 }
 
-fn reply_with(outcome: Outcome) -> Reply
-    ensures { result ≡ reply_for outcome }
+/// Where a call begins.
+fn begun(setting: &Setting) -> Going
+    ensures at { at_of result ≡ call_begun (call_setting setting.now) }
+    ensures keys { keys_between setting.now.call ≡ scanned_in result }
 {
-    match outcome {
-        Outcome::Value { value: None } => Reply::None,
-        Outcome::Value { value: Some(value) } => Reply::Some(u64::from(value)),
-        Outcome::Refused => Reply::Refused,
+    match setting.call.call() {
+        Call::Scan(low, high) => Going::OnScan(Scanning::begin(setting, low, high)),
+        _ => Going::OnKey(KeyCall::begin(setting)),
     }
 }

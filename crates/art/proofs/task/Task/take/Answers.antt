@@ -1,33 +1,62 @@
-use Rattle.std.proofs.Common.{refl, ap, sym, Some, ◌∙◌}
-use Rattle.art_steps.specs.Steps.{reply_of}
-use Rattle.art_stages.proofs.TurnLemmas.{next}
-use Rattle.art_stages.proofs.CallLemmas.{key_goes_on, call-goes-on, no_reply, over_reply}
 use Rattle.art.specs.Tasks.{setting_of}
+use Rattle.art.specs.declared.task.Going.TheVariants.{OnKey}
+use Rattle.art.proofs.GoingLemmas.{asks_going, key_fits, key_reply, key_over, key_keys, key_reached}
+use Rattle.art.proofs.GoingLemmas.{scan_keys, scan_fits, scan_reply, scan_over, scan_reached}
 use Rattle.art.proofs.task.Task.take.Goals as goal
 
-pub stage_after-self-requires-clause-asks : goal.stage_after-self-requires-clause-asks
-stage_after-self-requires-clause-asks c = ap reply_of (sym (next (setting_of c.args.self.now) c.args.self.now.stage)) ∙ c.requires.asks
+pub take-requires : goal.take-requires
+take-requires c = record {
+  asks = asks_going (setting_of c.args.self.now) c.args.self.now.going (OnKey c.in-OnKey.call) c.in-OnKey.is c.requires.asks;
+}
+
+pub invariant_of-self-clause-keys : goal.invariant_of-self-clause-keys
+invariant_of-self-clause-keys c =
+    key_keys (setting_of c.args.self.now) c.args.self.now.going c.in-OnKey.call c.take.new.self c.args.got c.take.result c.in-OnKey.is c.args.self.now.keys
+    c.take.ensures.next c.take.ensures.reply
 
 pub invariant_of-self-clause-reached : goal.invariant_of-self-clause-reached
 invariant_of-self-clause-reached c =
-    call-goes-on c.args.self.now.setting.shape c.args.self.now.setting.variant c.args.self.now.setting.call
-    c.args.self.now.stage c.stage_after-self.result c.args.got c.args.self.now.reached
-    (λ rest. key_goes_on
-    (setting_of c.args.self.now) c.args.self.now.stage c.stage_after-self.result c.args.got rest c.args.self.now.no_scan c.stage_after-self.ensures.stage)
+    key_reached (setting_of c.args.self.now) c.args.self.now.going c.in-OnKey.call c.take.new.self c.args.got c.take.result c.in-OnKey.is c.args.self.now.keys
+    c.take.ensures.next c.take.ensures.reply
+    c.requires.asks c.args.self.now.reached
 
-pub returns-in-Over-clause-fits : goal.returns-in-Over-clause-fits
-returns-in-Over-clause-fits c = λ rest.
-    key_goes_on
-    (setting_of c.args.self.now) c.args.self.now.stage c.stage_after-self.result c.args.got rest c.args.self.now.no_scan c.stage_after-self.ensures.stage
+pub invariant_of-self-in-OnScan-clause-keys : goal.invariant_of-self-in-OnScan-clause-keys
+invariant_of-self-in-OnScan-clause-keys c =
+    scan_keys (setting_of c.args.self.now) c.args.self.now.going c.in-OnScan.scan c.take-in-OnScan.new.self c.in-OnScan.is c.args.self.now.keys
+    c.take-in-OnScan.ensures.low c.take-in-OnScan.ensures.high
 
-pub returns-in-Over-clause-reply : goal.returns-in-Over-clause-reply
-returns-in-Over-clause-reply c =
-    over_reply (setting_of c.args.self.now) c.stage_after-self.result c.in-Over.outcome c.in-Over.is ∙ ap Some (sym c.reply_with.ensures)
+pub invariant_of-self-in-OnScan-clause-reached : goal.invariant_of-self-in-OnScan-clause-reached
+invariant_of-self-in-OnScan-clause-reached c =
+    scan_reached (setting_of c.args.self.now) c.args.self.now.going c.in-OnScan.scan c.take-in-OnScan.new.self c.in-OnScan.is c.args.self.now.keys
+    c.take-in-OnScan.ensures.low c.take-in-OnScan.ensures.high c.args.got c.take-in-OnScan.result c.take-in-OnScan.ensures.next c.take-in-OnScan.ensures.reply c.take-in-OnScan.ensures.over
+    c.requires.asks c.args.self.now.reached
 
-pub returns-in_default : goal.returns-in_default
-returns-in_default c = record {
-  shape = refl;
-  fits = λ rest. key_goes_on
-      (setting_of c.args.self.now) c.args.self.now.stage c.stage_after-self.result c.args.got rest c.args.self.now.no_scan c.stage_after-self.ensures.stage;
-  reply = no_reply (setting_of c.args.self.now) c.stage_after-self.result c.in_default.not-Over;
-}
+pub returns-in-OnKey-clause-fits : goal.returns-in-OnKey-clause-fits
+returns-in-OnKey-clause-fits c = λ none.
+    key_fits (setting_of c.args.self.now) c.args.self.now.going c.in-OnKey.call c.take.new.self c.args.got c.take.result c.in-OnKey.is c.args.self.now.keys
+    c.take.ensures.next c.take.ensures.reply
+
+pub returns-in-OnKey-clause-reply : goal.returns-in-OnKey-clause-reply
+returns-in-OnKey-clause-reply c =
+    key_reply (setting_of c.args.self.now) c.args.self.now.going c.in-OnKey.call c.take.new.self c.args.got c.take.result c.in-OnKey.is c.args.self.now.keys
+    c.take.ensures.next c.take.ensures.reply
+
+pub returns-in-OnKey-clause-over : goal.returns-in-OnKey-clause-over
+returns-in-OnKey-clause-over c =
+    key_over (setting_of c.args.self.now) c.args.self.now.going c.in-OnKey.call c.take.new.self c.args.got c.take.result c.in-OnKey.is c.args.self.now.keys
+    c.take.ensures.next c.take.ensures.reply
+
+pub returns-in-OnScan-clause-fits : goal.returns-in-OnScan-clause-fits
+returns-in-OnScan-clause-fits c =
+    scan_fits (setting_of c.args.self.now) c.args.self.now.going c.in-OnScan.scan c.take-in-OnScan.new.self c.in-OnScan.is c.args.self.now.keys
+    c.take-in-OnScan.ensures.low c.take-in-OnScan.ensures.high c.args.got c.take-in-OnScan.result c.take-in-OnScan.ensures.next c.take-in-OnScan.ensures.reply c.take-in-OnScan.ensures.over
+
+pub returns-in-OnScan-clause-reply : goal.returns-in-OnScan-clause-reply
+returns-in-OnScan-clause-reply c =
+    scan_reply (setting_of c.args.self.now) c.args.self.now.going c.in-OnScan.scan c.take-in-OnScan.new.self c.in-OnScan.is c.args.self.now.keys
+    c.take-in-OnScan.ensures.low c.take-in-OnScan.ensures.high c.args.got c.take-in-OnScan.result c.take-in-OnScan.ensures.next c.take-in-OnScan.ensures.reply c.take-in-OnScan.ensures.over
+
+pub returns-in-OnScan-clause-over : goal.returns-in-OnScan-clause-over
+returns-in-OnScan-clause-over c =
+    scan_over (setting_of c.args.self.now) c.args.self.now.going c.in-OnScan.scan c.take-in-OnScan.new.self c.in-OnScan.is c.args.self.now.keys
+    c.take-in-OnScan.ensures.low c.take-in-OnScan.ensures.high c.args.got c.take-in-OnScan.result c.take-in-OnScan.ensures.next c.take-in-OnScan.ensures.reply c.take-in-OnScan.ensures.over

@@ -1,0 +1,74 @@
+// A call on a key as it goes on.
+ghost use Rattle.std.specs.Prelude.{◌≡◌, true};
+ghost use Rattle.art_stages.specs.Stages.{reply_for};
+ghost use Rattle.art_setting.specs.Sound.{is_sound};
+
+use art_access::{access_at, point_at};
+use art_after::stage_after;
+use art_setting::Setting;
+use art_stages::{Outcome, Stage};
+use art_steps::{Access, Point};
+use events::Reply;
+
+/// A get, an insert or a remove under way.
+#[derive(Drop)]
+pub struct KeyCall {
+    pub stage: Stage,
+    pub ghost sound: { is_sound stage ≡ true },
+}
+
+impl KeyCall {
+    ghost use Rattle.std.specs.Prelude.{Some, None};
+    ghost use Rattle.art_steps.specs.Rows.{locks};
+    ghost use Rattle.art_steps.specs.Steps.{access_of, reply_of};
+    ghost use Rattle.art_steps.specs.Act.{point_of};
+    ghost use Rattle.art_stages.specs.Automaton.{start_at, turn_at, stage_after as stage_behind};
+    ghost use Rattle.art_setting.specs.Settings.{setting_of};
+
+    /// A call that has made no access yet.
+    pub fn begin(setting: &Setting) -> KeyCall
+        ensures { result.stage ≡ start_at (locks setting.now.variant) }
+    {
+        KeyCall {
+            stage: setting.start(),
+        }
+    }
+
+    /// The next access.
+    pub fn next(&self, setting: &Setting) -> Access
+        requires asks { reply_of (turn_at (setting_of setting.now) self.now.stage) ≡ None }
+        ensures { access_of (turn_at (setting_of setting.now) self.now.stage) ≡ Some result }
+    {
+        access_at(setting, self.stage)
+    }
+
+    /// The point of the next access; `Answer` where the reply is known.
+    pub fn point(&self, setting: &Setting) -> Option<Point>
+        ensures { result ≡ point_of (turn_at (setting_of setting.now) self.now.stage) }
+    {
+        point_at(setting, self.stage)
+    }
+
+    /// The access got this; the reply, once it is known.
+    pub fn take(&mut self, setting: &Setting, got: u64) -> Option<Reply>
+        requires asks { reply_of (turn_at (setting_of setting.now) self.old.stage) ≡ None }
+        ensures next { self.new.stage ≡ stage_behind (setting_of setting.now) self.old.stage got }
+        ensures reply { reply_of (turn_at (setting_of setting.now) self.new.stage) ≡ result }
+    {
+        self.stage = stage_after(setting, self.stage, got);
+        match self.stage {
+            Stage::Over { outcome } => Some(reply_with(outcome)),
+            _ => None,
+        }
+    }
+}
+
+fn reply_with(outcome: Outcome) -> Reply
+    ensures { result ≡ reply_for outcome }
+{
+    match outcome {
+        Outcome::Value { value: None } => Reply::None,
+        Outcome::Value { value: Some(value) } => Reply::Some(u64::from(value)),
+        Outcome::Refused => Reply::Refused,
+    }
+}
