@@ -51,19 +51,18 @@ unanswered (Some r) h = absurd (true_false h)
     true_false : is_some (Some r) ≡ false → ⊥
     true_false k = cc
 
-module _ (shape : Shape) (variant : Variant) (call : Call) (got old new : List ℕ) (rest rest' : Rest) (a : Access) (w : ℕ)
-    (fits : Fits shape variant call got rest) (asks : access_of (rest []) ≡ Some a) (gave : w ≡ got_by a old)
-    (goes : (more : List ℕ) → rest' more ≡ rest (w ∷ more)) where
+module _ (shape : Shape) (variant : Variant) (call : Call) (got old new : List ℕ) (rest : Rest) (a : Access) (w : ℕ)
+    (fits : Fits shape variant call got rest) (asks : access_of (rest []) ≡ Some a) (gave : w ≡ got_by a old) where
   pub asked : (p : Option Point) × (act shape variant call got ≡ Asks a p)
   asked = let found = asks_of (rest []) a asks in (found.0, ap (act shape variant call) (sym (append-nil got)) ∙ (sym (fits []) ∙ found.1))
 
-  pub later : Fits shape variant call (got ++ got_by a old ∷ []) rest'
-  later = λ more. goes more
+  pub later : (rest' : Rest) → ((more : List ℕ) → rest' more ≡ rest (w ∷ more)) → Fits shape variant call (got ++ got_by a old ∷ []) rest'
+  later rest' goes = λ more. goes more
       ∙ (fits (w ∷ more)
       ∙ (ap (λ x. act shape variant call (got ++ x ∷ more)) gave ∙ ap (act shape variant call) (sym (append_assoc got (got_by a old ∷ []) more))))
 
-  pub answers : (r : Reply) → reply_of (rest' []) ≡ Some r → act shape variant call (got ++ got_by a old ∷ []) ≡ Answers r
-  answers r e = ap (act shape variant call) (sym (append-nil (got ++ got_by a old ∷ []))) ∙ (sym (later []) ∙ answers_of (rest' []) r e)
+  pub answers : (r : Reply) → reply_of (rest (w ∷ [])) ≡ Some r → act shape variant call (got ++ got_by a old ∷ []) ≡ Answers r
+  answers r e = ap (λ x. act shape variant call (got ++ x ∷ [])) (sym gave) ∙ (sym (fits (w ∷ [])) ∙ answers_of (rest (w ∷ [])) r e)
 
   pub makes : (doing : Doing) → new ≡ words_after a old → FitsDoing shape variant doing (Some call) (got ++ got_by a old ∷ [])
       → Advances shape variant call got old new doing
