@@ -1,5 +1,5 @@
 -- A task that goes on, by where it is.
-use Rattle.std.proofs.Common.{◌≡◌, ℕ, ◌<◌, ◌≤◌, List, [], ◌∷◌, ◌++◌, refl, ap, sym, subst, ◌∙◌, Bool, true, false}
+use Rattle.std.proofs.Common.{◌≡◌, ℕ, ◌<◌, ◌≤◌, List, [], ◌∷◌, ◌++◌, append_assoc, refl, ap, sym, subst, ◌∙◌, Bool, true, false}
 use Rattle.std.proofs.Math.Logic.{∥∥₁_elim, ∥∥₁_map}
 use Rattle.std.proofs.Props.{props}
 use Rattle.std.proofs.lemmas.Bool.{false≢true}
@@ -11,7 +11,7 @@ use Rattle.art_rows.specs.Table.{table_words}
 use Rattle.art_steps.specs.declared.access.Access.{Access}
 use Rattle.art_steps.specs.declared.access.Point.{Point}
 use Rattle.art_steps.specs.Act.{point_of, act}
-use Rattle.art_steps.specs.Fits.{word_of}
+use Rattle.art_steps.specs.Fits.{Fits, word_of}
 use Rattle.art_steps.specs.Rows.{Setting, locks, is_scan}
 use Rattle.art_steps.specs.Steps.{Turn, Asks, Answers, Rest, access_of, reply_of}
 use Rattle.art_steps.proofs.AccessLemmas.{act-stays}
@@ -22,7 +22,6 @@ use Rattle.art_stages.specs.Automaton.{start_at, stage_after, turn_at}
 use Rattle.art_stages.specs.Scans.{ScanAt, at, no_walk, scan_turn, scan_start, scan_after}
 use Rattle.art_stages.specs.Calls.{CallAt, OnKey, OnScan, rest_at, call_turn, call_begun, begun_as}
 use Rattle.art_stages.proofs.BehindLemmas.{call_next, behind}
-use Rattle.art_stages.proofs.CallLemmas.{fits-more}
 use Rattle.art_stages.proofs.StepLemmas.{goes_on}
 use Rattle.art_stages.proofs.ScanLemmas.{scan_goes_on}
 use Rattle.art_scan.specs.declared.scanning.Scanning.{Scanning}
@@ -165,11 +164,16 @@ scan_on : (c : Setting) (low high : ℕ) (s : ScanAt) (w : ℕ) (rest : List ℕ
     → rest_at c (OnScan low high (scan_after c low high s w)) rest ≡ rest_at c (OnScan low high s) (w ∷ rest)
 scan_on c low high s w rest keys = scan_goes_on c low high s w rest (a_scan c.call low high keys)
 
+fits_more : (c : Setting) (got : List ℕ) (w : ℕ) (rest rest' : Rest) → Fits c.shape c.variant c.call got rest
+    → ((more : List ℕ) → rest' more ≡ rest (w ∷ more)) → Fits c.shape c.variant c.call (got ++ w ∷ []) rest'
+fits_more c got w rest rest' fits goes =
+    λ more. goes more ∙ (fits (w ∷ more) ∙ ap (act c.shape c.variant c.call) (sym (append_assoc got (w ∷ []) more)))
+
 reached_more : (c : Setting) (at next : CallAt) (w : ℕ) → ∥ IsReached c at ∥₁
     → ((more : List ℕ) → rest_at c next more ≡ rest_at c at (w ∷ more)) → ∥ IsReached c next ∥₁
 reached_more c at next w reached goes =
     ∥∥₁_map reached
-    (λ (x : IsReached c at). (x.0 ++ w ∷ [], fits-more c.shape c.variant c.call x.0 w (rest_at c at) (rest_at c next) x.1 goes))
+    (λ (x : IsReached c at). (x.0 ++ w ∷ [], fits_more c x.0 w (rest_at c at) (rest_at c next) x.1 goes))
 
 module _ (c : Setting) (going : Going) (k after : KeyCall) (w : ℕ) (result : Option Reply) (is : going ≡ KeyIs k)
     (keys : keys_between c.call ≡ scanned_in going) (next : after.stage ≡ stage_after c k.stage w) (reply : reply_of (turn_at c after.stage) ≡ result) where

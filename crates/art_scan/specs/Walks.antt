@@ -8,7 +8,7 @@ use Rattle.art_steps.specs.Scan.{with_leaf}
 use Rattle.art_stages.specs.declared.stage.Frame.{Frame}
 use Rattle.art_stages.specs.declared.stage.ScanStep.{ScanStep}
 use Rattle.art_stages.specs.Stages.{keys_among}
-use Rattle.art_stages.specs.Scans.{Walk, ScanAt, at, walked, lies, word_test, entry_slot, place_slot}
+use Rattle.art_stages.specs.Scans.{Walk, ScanAt, at, walked, bytes_at, child_from, lies, word_test, entry_slot, place_slot}
 use Rattle.art_scan.specs.declared.lists.Lists.{Lists}
 
 -- of the rows those that are not yet released; the way has the lowest row first
@@ -39,6 +39,10 @@ abbrev pub frame_slot : Kind → Frame → ℕ → Option ℕ
 frame_slot FortyEight f x = entry_slot f x
 frame_slot Full f x = Some (child_at Full f.row.base x)
 frame_slot kind f x = place_slot f.row.kind f.row.base (place_of x (keys_among kind f.keys))
+
+-- so many of its bytes from this one on
+abbrev pub bytes_of_frame : ℕ → ℕ → Walk → Frame → ℕ → ℕ → ScanAt → ScanAt
+bytes_of_frame low high w f x n other = bytes_at (frame_test f.row.kind low high f) (frame_slot f.row.kind f) (child_from w f) x n other
 
 -- the list has an item
 abbrev pub has_any : List ℕ → Bool

@@ -1,8 +1,8 @@
 // The next child of a row that a scan walks.
 ghost use Rattle.std.specs.Prelude.{◌≡◌, ◌+◌, ◌<◌, ◌≤◌, true, nat_le, IfSome};
-ghost use Rattle.art_stages.specs.Scans.{Walk, ScanAt, bytes_at, child_from, words_at, frame_at};
+ghost use Rattle.art_stages.specs.Scans.{Walk, ScanAt, words_at, frame_at};
 ghost use Rattle.art_scan.specs.Sound.{is_sound_frame, is_sound_step};
-ghost use Rattle.art_scan.specs.Walks.{step_or, frame_test, frame_slot};
+ghost use Rattle.art_scan.specs.Walks.{step_or, frame_test, frame_slot, bytes_of_frame};
 
 use crate::bytes::is_met_in;
 use crate::ranges::can_lie;
@@ -48,7 +48,7 @@ fn slot_of(frame: Frame, byte: u32) -> Option<usize>
 fn next_byte(low: u64, high: u64, frame: Frame, byte: u32, left: u32) -> Option<ScanStep>
     requires bytes { byte + left ≤ 256 }
     requires words { nat_le (frame.index + frame.words) 31 ≡ true }
-    ensures next { (w : Walk) (other : ScanAt) → bytes_at (frame_test frame.row.kind low high frame) (frame_slot frame.row.kind frame) (child_from w frame) byte left other ≡ step_or result w other }
+    ensures next { (w : Walk) (other : ScanAt) → bytes_of_frame low high w frame byte left other ≡ step_or result w other }
     ensures sound { IfSome result (λ s. is_sound_step s ≡ true) }
 {
     if left == 0 {
@@ -98,9 +98,7 @@ pub fn next_child(low: u64, high: u64, frame: Frame) -> Option<ScanStep>
     match next_byte(low, high, frame, frame.byte, frame.left) {
         Some(step) => Some(step),
         None => match frame.row.kind {
-            Kind::FortyEight => {
-                next_word(low, high, frame.row, frame.index + 1, frame.words)
-            }
+            Kind::FortyEight => { next_word(low, high, frame.row, frame.index + 1, frame.words) }
             _ => None,
         },
     }

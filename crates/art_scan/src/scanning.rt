@@ -27,9 +27,9 @@ impl Scanning {
     ghost use Rattle.std.specs.Prelude.{Some, None, OnOk, is_some};
     ghost use Rattle.art_steps.specs.Steps.{access_of, reply_of};
     ghost use Rattle.art_steps.specs.Act.{point_of};
-    ghost use Rattle.art_stages.specs.Scans.{scan_start, scan_turn, scan_after};
+    ghost use Rattle.art_stages.specs.Scans.{scan_start, scan_turn};
     ghost use Rattle.art_setting.specs.Settings.{setting_of};
-    ghost use Rattle.art_scan.specs.Scans.{scan_of, low_of, high_of, IsRoomy};
+    ghost use Rattle.art_scan.specs.Scans.{scan_of, scan_behind, low_of, high_of, IsRoomy};
 
     /// A scan that has made no access yet.
     pub fn begin(setting: &Setting, low: u64, high: u64) -> Scanning
@@ -81,8 +81,8 @@ impl Scanning {
         requires room { IsRoomy self.old }
         ensures low { low_of self.new ≡ low_of self.old }
         ensures high { high_of self.new ≡ high_of self.old }
-        ensures next { result ≡ None → scan_of self.new ≡ scan_after (setting_of setting.now) (low_of self.old) (high_of self.old) (scan_of self.old) got }
-        ensures reply { reply_of (scan_turn (setting_of setting.now) (scan_after (setting_of setting.now) (low_of self.old) (high_of self.old) (scan_of self.old) got)) ≡ result }
+        ensures next { result ≡ None → scan_of self.new ≡ scan_behind (setting_of setting.now) self.old got }
+        ensures reply { reply_of (scan_turn (setting_of setting.now) (scan_behind (setting_of setting.now) self.old got)) ≡ result }
         ensures over { is_some (reply_of (scan_turn (setting_of setting.now) (scan_of self.new))) ≡ is_some result }
     {
         match mem::replace(&mut self.lists, None) {

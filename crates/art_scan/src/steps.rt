@@ -21,7 +21,14 @@ fn restart(setting: &Setting, lists: &mut Lists) -> ScanStep
 }
 
 /// A row is locked, or waited for, with this version.
-fn entered(setting: &Setting, low: u64, high: u64, entry: Entry, kept: u64, lists: &mut Lists) -> ScanStep
+fn entered(
+    setting: &Setting,
+    low: u64,
+    high: u64,
+    entry: Entry,
+    kept: u64,
+    lists: &mut Lists,
+) -> ScanStep
     requires { vec_len lists.old.rows < vec_capacity lists.old.rows }
     ensures step { at result (walk_of lists.new) ≡ entry_at (setting_of setting.now) low high entry (walk_of lists.old) kept }
     ensures sound { is_sound_step result ≡ true }
@@ -41,18 +48,38 @@ fn entered(setting: &Setting, low: u64, high: u64, entry: Entry, kept: u64, list
 }
 
 /// A row's first word is read.
-fn keys_read(setting: &Setting, low: u64, high: u64, row: Held, word: u64, lists: &mut Lists) -> ScanStep
+fn keys_read(
+    setting: &Setting,
+    low: u64,
+    high: u64,
+    row: Held,
+    word: u64,
+    lists: &mut Lists,
+) -> ScanStep
     ensures step { at result (walk_of lists.new) ≡ keys_after_word row.kind (setting_of setting.now) low high row (walk_of lists.old) word }
     ensures sound { is_sound_step result ≡ true }
 {
     match row.kind {
         Kind::Sixteen => ScanStep::FirstKeys { row, count: word },
-        _ => go_on(setting, low, high, frame_of(row, keys_one(word), 0, 0), lists),
+        _ => go_on(
+            setting,
+            low,
+            high,
+            frame_of(row, keys_one(word), 0, 0),
+            lists,
+        ),
     }
 }
 
 /// A child of the row is read.
-fn child_read(setting: &Setting, low: u64, high: u64, frame: Frame, child: Child, lists: &mut Lists) -> ScanStep
+fn child_read(
+    setting: &Setting,
+    low: u64,
+    high: u64,
+    frame: Frame,
+    child: Child,
+    lists: &mut Lists,
+) -> ScanStep
     requires room { HasRoom lists.old }
     requires sound { is_sound_frame frame ≡ true }
     ensures step { at result (walk_of lists.new) ≡ child_after (setting_of setting.now) low high (with_frame (walk_of lists.old) frame) child }
@@ -86,7 +113,14 @@ fn released(setting: &Setting, row: Held, got: u64, lists: &mut Lists) -> ScanSt
 }
 
 /// The step after an access that got this word.
-pub fn step_after(setting: &Setting, low: u64, high: u64, step: ScanStep, got: u64, lists: &mut Lists) -> ScanStep
+pub fn step_after(
+    setting: &Setting,
+    low: u64,
+    high: u64,
+    step: ScanStep,
+    got: u64,
+    lists: &mut Lists,
+) -> ScanStep
     requires room { HasRoom lists.old }
     requires sound { is_sound_step step ≡ true }
     ensures step { at result (walk_of lists.new) ≡ step_behind (setting_of setting.now) low high step (walk_of lists.old) got }
@@ -95,16 +129,25 @@ pub fn step_after(setting: &Setting, low: u64, high: u64, step: ScanStep, got: u
     match step {
         ScanStep::Lock { entry, .. } => {
             if version_is_locked(got) {
-                ScanStep::Lock { entry, first: false }
+                ScanStep::Lock {
+                    entry,
+                    first: false,
+                }
             } else {
-                ScanStep::Exchange { entry, version: got }
+                ScanStep::Exchange {
+                    entry,
+                    version: got,
+                }
             }
         }
         ScanStep::Exchange { entry, version } => {
             if got == version {
                 entered(setting, low, high, entry, version, lists)
             } else {
-                ScanStep::Lock { entry, first: false }
+                ScanStep::Lock {
+                    entry,
+                    first: false,
+                }
             }
         }
         ScanStep::Wait { entry } => {
@@ -117,17 +160,36 @@ pub fn step_after(setting: &Setting, low: u64, high: u64, step: ScanStep, got: u
             }
         }
         ScanStep::Info { base, kind, kept } => {
-            let row = Held { base, kind, info: got, kept };
+            let row = Held {
+                base,
+                kind,
+                info: got,
+                kept,
+            };
             visit(setting, low, high, row, lists)
         }
         ScanStep::Keys { row } => keys_read(setting, low, high, row, got, lists),
-        ScanStep::FirstKeys { row, count } => ScanStep::SecondKeys { row, count, first: got },
+        ScanStep::FirstKeys { row, count } => ScanStep::SecondKeys {
+            row,
+            count,
+            first: got,
+        },
         ScanStep::SecondKeys { row, count, first } => {
-            let keys = Keys { first, second: got, count };
+            let keys = Keys {
+                first,
+                second: got,
+                count,
+            };
             go_on(setting, low, high, frame_of(row, keys, 0, 0), lists)
         }
         ScanStep::Index { row, index, words } => {
-            go_on(setting, low, high, frame_of(row, keys_one(got), index, words), lists)
+            go_on(
+                setting,
+                low,
+                high,
+                frame_of(row, keys_one(got), index, words),
+                lists,
+            )
         }
         ScanStep::Child { frame, .. } => {
             child_read(setting, low, high, frame, setting.shape.child(got), lists)

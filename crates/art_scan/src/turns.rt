@@ -108,10 +108,7 @@ pub fn point_at(setting: &Setting, step: ScanStep) -> Option<Point>
     ensures { (w : Walk) → result ≡ point_of (scan_turn (setting_of setting.now) (at step w)) }
 {
     match step {
-        ScanStep::Lock {
-            entry,
-            first: true,
-        } => Some(lock_point(setting, entry)),
+        ScanStep::Lock { entry, first: true } => Some(lock_point(setting, entry)),
         ScanStep::Keys { row } => keys_point(row),
         ScanStep::Release { row } => Some(release_point(setting, row)),
         ScanStep::Over => Some(Point::Answer),

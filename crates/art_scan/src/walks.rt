@@ -98,9 +98,7 @@ fn begin_row(setting: &Setting, low: u64, high: u64, row: Held, lists: &mut List
             Some(step) => step,
             None => resume(setting, low, high, lists),
         },
-        Kind::Full => {
-            go_on(setting, low, high, frame_of(row, keys_one(0), 0, 0), lists)
-        }
+        Kind::Full => { go_on(setting, low, high, frame_of(row, keys_one(0), 0, 0), lists) }
     }
 }
 

@@ -39,7 +39,6 @@ use Rattle.art_steps.specs.Updates.{spread_entry}
 use Rattle.art_steps.specs.Coupled as coupled
 use Rattle.art_steps.specs.Optimistic as optimistic
 use Rattle.art_steps.specs.Act.{act}
-use Rattle.art_steps.specs.Fits.{Fits}
 
 -- What the fields say.
 
@@ -445,7 +444,3 @@ rest_in c stage = part_of (locks c.variant) (is_insert c.call) (releases_early c
 
 abbrev pub setting : Shape → Variant → Call → Setting
 setting shape variant call = record { shape = shape; variant = variant; call = call }
-
--- The call comes to this stage behind some list of words that it got.
-abbrev pub IsCallAt : Shape → Variant → Call → Stage → Type 0
-IsCallAt shape variant call stage = (got : List ℕ) × Fits shape variant call got (rest_in (setting shape variant call) stage)

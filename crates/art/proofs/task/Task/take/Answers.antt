@@ -28,7 +28,8 @@ invariant_of-self-in-OnScan-clause-keys c =
 pub invariant_of-self-in-OnScan-clause-reached : goal.invariant_of-self-in-OnScan-clause-reached
 invariant_of-self-in-OnScan-clause-reached c =
     scan_reached (setting_of c.args.self.now) c.args.self.now.going c.in-OnScan.scan c.take-in-OnScan.new.self c.in-OnScan.is c.args.self.now.keys
-    c.take-in-OnScan.ensures.low c.take-in-OnScan.ensures.high c.args.got c.take-in-OnScan.result c.take-in-OnScan.ensures.next c.take-in-OnScan.ensures.reply c.take-in-OnScan.ensures.over
+    c.take-in-OnScan.ensures.low c.take-in-OnScan.ensures.high
+    c.args.got c.take-in-OnScan.result c.take-in-OnScan.ensures.next c.take-in-OnScan.ensures.reply c.take-in-OnScan.ensures.over
     c.requires.asks c.args.self.now.reached
 
 pub returns-in-OnKey-clause-fits : goal.returns-in-OnKey-clause-fits
@@ -49,14 +50,17 @@ returns-in-OnKey-clause-over c =
 pub returns-in-OnScan-clause-fits : goal.returns-in-OnScan-clause-fits
 returns-in-OnScan-clause-fits c =
     scan_fits (setting_of c.args.self.now) c.args.self.now.going c.in-OnScan.scan c.take-in-OnScan.new.self c.in-OnScan.is c.args.self.now.keys
-    c.take-in-OnScan.ensures.low c.take-in-OnScan.ensures.high c.args.got c.take-in-OnScan.result c.take-in-OnScan.ensures.next c.take-in-OnScan.ensures.reply c.take-in-OnScan.ensures.over
+    c.take-in-OnScan.ensures.low c.take-in-OnScan.ensures.high
+    c.args.got c.take-in-OnScan.result c.take-in-OnScan.ensures.next c.take-in-OnScan.ensures.reply c.take-in-OnScan.ensures.over
 
 pub returns-in-OnScan-clause-reply : goal.returns-in-OnScan-clause-reply
 returns-in-OnScan-clause-reply c =
     scan_reply (setting_of c.args.self.now) c.args.self.now.going c.in-OnScan.scan c.take-in-OnScan.new.self c.in-OnScan.is c.args.self.now.keys
-    c.take-in-OnScan.ensures.low c.take-in-OnScan.ensures.high c.args.got c.take-in-OnScan.result c.take-in-OnScan.ensures.next c.take-in-OnScan.ensures.reply c.take-in-OnScan.ensures.over
+    c.take-in-OnScan.ensures.low c.take-in-OnScan.ensures.high
+    c.args.got c.take-in-OnScan.result c.take-in-OnScan.ensures.next c.take-in-OnScan.ensures.reply c.take-in-OnScan.ensures.over
 
 pub returns-in-OnScan-clause-over : goal.returns-in-OnScan-clause-over
 returns-in-OnScan-clause-over c =
     scan_over (setting_of c.args.self.now) c.args.self.now.going c.in-OnScan.scan c.take-in-OnScan.new.self c.in-OnScan.is c.args.self.now.keys
-    c.take-in-OnScan.ensures.low c.take-in-OnScan.ensures.high c.args.got c.take-in-OnScan.result c.take-in-OnScan.ensures.next c.take-in-OnScan.ensures.reply c.take-in-OnScan.ensures.over
+    c.take-in-OnScan.ensures.low c.take-in-OnScan.ensures.high
+    c.args.got c.take-in-OnScan.result c.take-in-OnScan.ensures.next c.take-in-OnScan.ensures.reply c.take-in-OnScan.ensures.over
