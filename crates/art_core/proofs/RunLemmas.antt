@@ -108,7 +108,7 @@ get-set [] p q q' e = absurd (none-some e)
 get-set (r ∷ rs) zero q q' e = refl
 get-set (r ∷ rs) (suc p) q q' e = get-set rs p q q' e
 
-begun-more : (q : Process) (e : Stamped) → filter_map (λ x. invoked x.1) (q.log ++ e ∷ []) ≡ begun q ++ filter_map (λ x. invoked x.1) (e ∷ [])
+pub begun-more : (q : Process) (e : Stamped) → filter_map (λ x. invoked x.1) (q.log ++ e ∷ []) ≡ begun q ++ filter_map (λ x. invoked x.1) (e ∷ [])
 begun-more q e = filter_map-append (λ x. invoked x.1) q.log (e ∷ [])
 
 grows : (p n : ℕ) (m : Move) (q : Process) → Begins (begun q) (begun (after_move p m n q))

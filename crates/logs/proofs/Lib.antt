@@ -1,1 +1,2 @@
 mod SortLemmas
+pub mod GrowthLemmas

@@ -11,7 +11,7 @@ use Rattle.art_steps.specs.declared.access.Point.{Point}
 use Rattle.art_core.specs.Accesses.{got_by, words_after}
 use Rattle.art.specs.Tasks.{rest_of, shape_of}
 use Rattle.art_core.specs.declared.process.Process.{Process}
-use Rattle.art_core.specs.Core.{Plan, Move, begun, next_move, word_of_move, new_word, after_move}
+use Rattle.art_core.specs.Core.{Plan, State, Move, begun, next_move, word_of_move, new_word, after_move}
 use Rattle.machine.specs.declared.runner.Runner.{Runner}
 use Rattle.machine.specs.declared.doing.Doing.{Doing}
 use Rattle.machine.specs.declared.doing.Doing.TheVariants.{Idle, Going, Answered}
@@ -52,3 +52,11 @@ pub record Advances (shape : Shape) (variant : Variant) (call : Call) (got old n
   pub asks : act shape variant call got ≡ Asks access point
   pub words : new ≡ words_after access old
   pub fits : FitsDoing shape variant doing (Some call) (got ++ got_by access old ∷ [])
+
+-- Words and runners show this state of the plan: the same words, and each runner fits its process.
+pub record ShowsState (plan : Plan) (its_shape : Shape) (its_variant : Variant) (its_words : List ℕ) (runners : List Runner) (s : State) : Type 0 where
+  pub shape : plan.shape ≡ its_shape
+  pub variant : plan.variant ≡ its_variant
+  pub words : s.words ≡ its_words
+  pub many : length s.processes ≡ length runners
+  pub fits : (i : ℕ) (r : Runner) (q : Process) → slice_get runners i ≡ Some r → slice_get s.processes i ≡ Some q → FitsProcess plan i r q

@@ -1,4 +1,5 @@
 pub mod Fitting
+pub mod UnderWay
 pub mod Working
 pub mod Machines
 pub mod Running

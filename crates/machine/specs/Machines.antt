@@ -1,23 +1,25 @@
 -- What it means that a machine shows a state of the core, and why a turn is refused.
-use Rattle.std.specs.Prelude.{◌≡◌, ℕ, ◌<◌, ◌≤◌, length, slice_get, Some, IsSomeAnd}
-use Rattle.events.specs.declared.event.Call.{Call}
-use Rattle.art.specs.Built.{IsBuilt}
-use Rattle.art_core.specs.declared.process.Process.{Process}
+use Rattle.std.specs.Prelude.{◌≡◌, ℕ, ◌<◌, ◌≤◌, List, length, slice_get, IsSomeAnd}
 use Rattle.art_core.specs.Core.{Plan, State}
+use Rattle.art_core.specs.Claims.{IsRun}
 use Rattle.machine.specs.declared.runner.Runner.{Runner}
 use Rattle.machine.specs.declared.machines.Machine.{Machine}
 use Rattle.machine.specs.declared.fault.MachineFault.{MachineFault}
 use Rattle.machine.specs.declared.fault.MachineFault.TheVariants.{NoProcess, NothingToDo, TurnLimit, Memory, TooLong, NotJson, Shape}
-use Rattle.machine.specs.Fitting.{FitsProcess}
+use Rattle.machine.specs.Fitting.{ShowsState}
 use Rattle.machine.specs.Working.{HasNothingToDo}
 
 -- The machine shows this state of the plan: the same words, and each runner fits its process.
-pub record Shows (plan : Plan) (m : Machine) (s : State) : Type 0 where
-  pub shape : plan.shape ≡ m.shape
-  pub variant : plan.variant ≡ m.variant
-  pub words : s.words ≡ m.words.items
-  pub many : length s.processes ≡ length m.runners.items
-  pub fits : (i : ℕ) (r : Runner) (q : Process) → slice_get m.runners.items i ≡ Some r → slice_get s.processes i ≡ Some q → FitsProcess plan i r q
+abbrev pub Shows : Plan → Machine → State → Type 0
+Shows plan m s = ShowsState plan m.shape m.variant m.words.items m.runners.items s
+
+-- A schedule gives a state that the machine shows, of a plan within the limits and after few steps.
+pub record IsReached (m : Machine) : Type 0 where
+  pub plan : Plan
+  pub schedule : List ℕ
+  pub state : State
+  pub run : IsRun plan schedule state
+  pub shows : Shows plan m state
 
 abbrev pub turns_left : Machine → ℕ
 turns_left m = m.left
@@ -31,8 +33,3 @@ IsRefusedFor m p Memory = IsSomeAnd (slice_get m.runners.items p) (λ r. HasNoth
 IsRefusedFor m p TooLong = ⊥
 IsRefusedFor m p NotJson = ⊥
 IsRefusedFor m p Shape = ⊥
-
--- there is a task for the next call of p
-abbrev pub is_built_for : Machine → ℕ → Type 0
-is_built_for m p =
-    (r : Runner) (call : Call) → slice_get m.runners.items p ≡ Some r → slice_get r.script.items r.begun ≡ Some call → IsBuilt m.shape m.variant call
