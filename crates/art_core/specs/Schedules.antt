@@ -1,13 +1,12 @@
--- Schedules as they are written: items that name turns of a process, under a limit of turns.
+-- Schedules as they are written, computed: what items make of a run under a limit of turns.
 use Rattle.std.specs.Prelude.{◌≡◌, ℕ, zero, suc, Bool, false, ◌||◌, ◌==◌, nat_lt, if◌then◌else◌, List, [], ◌∷◌, length, take, slice_get, Option, Some, None}
-use Rattle.events.specs.declared.event.Call.{Call}
 use Rattle.art_steps.specs.declared.access.Point.{Point}
 use Rattle.art_steps.specs.declared.access.Point.TheVariants as point
-use Rattle.art_steps.specs.Act.{act, point_of}
 use Rattle.art_core.specs.declared.item.Item.{Item}
 use Rattle.art_core.specs.declared.item.Item.TheVariants.{Turns, End, Until}
 use Rattle.art_core.specs.declared.process.Process.{Process}
-use Rattle.art_core.specs.Core.{Plan, State, step, opened, finished}
+use Rattle.art_core.specs.Core.{Plan, State, step, opened}
+use Rattle.art_core.specs.NamedTurns.{next_point, finished_count}
 
 -- Why a turn is refused.
 pub data Refusal : Type 0 where
@@ -28,19 +27,6 @@ turn_with r (suc left) (Some q) (Some s) = record { state = s; left = left; refu
 
 abbrev pub turn : Plan → Run → ℕ → Run
 turn plan r p = turn_with r r.left (slice_get r.state.processes p) (step plan r.state p)
-
--- the point that a process's next step is at: none with no open call
-abbrev pub point_in : Plan → List ℕ → Option Call → Option Point
-point_in plan got None = None
-point_in plan got (Some call) = point_of (act plan.shape plan.variant call got)
-
-abbrev pub next_point : Plan → Option Process → Option Point
-next_point plan None = None
-next_point plan (Some q) = point_in plan q.got q.call
-
-abbrev pub finished_count : Option Process → ℕ
-finished_count None = 0
-finished_count (Some q) = length (finished q)
 
 -- goes on where nothing was refused
 abbrev pub if_refused : Option Refusal → Run → (Run → Run) → Run

@@ -1,3 +1,4 @@
 mod TurnLemmas
 mod MachineLemmas
 mod OpeningLemmas
+mod RecordLemmas

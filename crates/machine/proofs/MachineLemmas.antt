@@ -1,17 +1,30 @@
 -- A turn of a machine is a step of the state that it shows.
-use Rattle.std.proofs.Common.{◌≡◌, ℕ, zero, suc, ◌<◌, List, [], ◌∷◌, arith, length, refl, ap, sym, subst, ◌∙◌}
-use Rattle.std.specs.Prelude.{Option, Some, None, slice_get, slice_index, slice_set, IsSomeAnd}
+use Rattle.std.proofs.Common.{◌≡◌, ℕ, zero, suc, ◌+◌, ◌<◌, false, List, [], ◌∷◌, ◌++◌, arith, length, refl, ap, sym, subst, ◌∙◌}
+use Rattle.std.specs.Prelude.{Option, Some, None, is_some, slice_get, slice_index, slice_set, All, IsSome, IsSomeAnd}
 use Rattle.std.proofs.lemmas.List.{length-set}
+use Rattle.std.proofs.lemmas.Option.{slice_get_within}
 use Rattle.std.proofs.Math.Logic.{∥∥₁_elim, ∥∥₁_map}
 use Rattle.std.proofs.Props.{props}
+use Rattle.list_laws.proofs.Lists.{All-at}
 use Rattle.list_laws.proofs.NumberLemmas.{slice_get-below}
+use Rattle.events.specs.declared.event.Call.{Call}
 use Rattle.art_rows.specs.declared.table.Shape.{Shape}
+use Rattle.art_rows.specs.Table.{IsWithinLimits}
+use Rattle.art_steps.specs.declared.variant.Variant.{Variant}
+use Rattle.art_steps.specs.Rows.{is_scan}
+use Rattle.art.specs.Built.{IsBuilt}
 use Rattle.art_core.specs.declared.process.Process.{Process}
-use Rattle.art_core.specs.Core.{Plan, State, step, step_of, moved_by, moved, word_of_move, after_move}
+use Rattle.art_core.specs.Core.{Plan, State, begun, opened, next_in, next_move, invocation, move_from, step, step_of, moved_by, moved, word_of_move, after_move}
+use Rattle.art_core.specs.Runs.{run_on}
+use Rattle.art_core.proofs.RunLemmas.{run-on-append}
+use Rattle.art_core.proofs.HistoryLemmas.{one-step}
 use Rattle.machine.specs.declared.runner.Runner.{Runner}
 use Rattle.machine.specs.declared.doing.Doing.{Doing}
 use Rattle.machine.specs.declared.doing.Doing.TheVariants.{Idle, Going, Answered}
-use Rattle.machine.specs.Fitting.{FitsProcess, Moves, IsFor, AreFor}
+use Rattle.machine.specs.Fitting.{FitsDoing, FitsProcess, ShowsState, Moves, IsFor, AreFor}
+use Rattle.machine.specs.Refusals.{HasMove}
+use Rattle.machine.specs.UnderWay.{IsUnderWay}
+use Rattle.machine.specs.Working.{HasNothingToDo}
 
 none-some : {A : Type 0} {y : A} → ◌≡◌ {A = Option A} None (Some y) → ⊥
 none-some h = cc
@@ -54,52 +67,129 @@ pub are-for : (shape : Shape) (runners : List Runner) (p : ℕ) (r : Runner) →
     → ∥ AreFor shape (slice_set runners p r) ∥₁
 are-for shape runners p r are h = ∥∥₁_map are (λ (f : AreFor shape runners). item-set (λ i a. IsFor shape a.doing) runners p r h f)
 
--- the state after the step, and what of it fits
-pub record Stepped (plan : Plan) (s : State) (p : ℕ) (new : List ℕ) (runners : List Runner) : Type 0 where
+-- the state after the step, and that it is shown
+pub record Stepped (plan : Plan) (its_shape : Shape) (its_variant : Variant) (s : State) (p : ℕ) (new : List ℕ) (runners : List Runner) : Type 0 where
   pub next : State
   pub is : step plan s p ≡ Some next
-  pub words : next.words ≡ new
-  pub many : length next.processes ≡ length runners
-  pub fits : (i : ℕ) (r : Runner) (q : Process) → slice_get runners i ≡ Some r → slice_get next.processes i ≡ Some q → FitsProcess plan i r q
-
-pub steps : (plan : Plan) (s : State) (p : ℕ) (old new : List ℕ) (runners : List Runner) (r r2 : Runner) → s.words ≡ old → length s.processes ≡ length runners
-    → ((i : ℕ) (r : Runner) (q : Process) → slice_get runners i ≡ Some r → slice_get s.processes i ≡ Some q → FitsProcess plan i r q)
-    → slice_get runners p ≡ Some r → p < length runners → ((q : Process) → FitsProcess plan p r q → Moves plan p q old new r2)
-    → Stepped plan s p new (slice_set runners p r2)
-unfolding step
-steps plan s p old new runners r r2 same many fits here within moves =
-    let x = get-within s.processes p (subst (λ n. p < n) (sym many) within) in
-    let m = subst (λ w. Moves plan p x.0 w new r2) (sym same) (moves x.0 (fits p r x.0 here x.1)) in
-    record {
-      next = moved s p x.0 m.move;
-      is = ap (step_of plan s p) x.1 ∙ ap (moved_by s p x.0) m.is_next;
-      words = sym m.words;
-      many = length-set s.processes p _ ∙ (many ∙ sym (length-set runners p r2));
-      fits = items-set (λ i a b. FitsProcess plan i a b) runners s.processes p r2
-          (after_move p m.move (slice_index s.words (word_of_move m.move)) x.0) m.fits fits;
-    }
+  pub shows : ShowsState plan its_shape its_variant new runners next
 
 pub some-and : {A : Type 0} (P : A → Type 0) (o : Option A) (x : A) → o ≡ Some x → P x → IsSomeAnd o P
 some-and P o x e h = subst (λ o. IsSomeAnd o P) (sym e) h
 
--- after a refused step: nothing is otherwise
-pub record Refitted (plan : Plan) (s : State) (new : List ℕ) (runners : List Runner) : Type 0 where
-  pub words : s.words ≡ new
-  pub many : length s.processes ≡ length runners
-  pub fits : (i : ℕ) (r : Runner) (q : Process) → slice_get runners i ≡ Some r → slice_get s.processes i ≡ Some q → FitsProcess plan i r q
+module _ (shape : Shape) (variant : Variant) (old : List ℕ) (runners : List Runner) (p : ℕ) (r : Runner) (here : slice_get runners p ≡ Some r) where
+  -- the process that fits the runner
+  pub process-at : (plan : Plan) (s : State) → ShowsState plan shape variant old runners s
+      → (q : Process) × (slice_get s.processes p ≡ Some q) × FitsProcess plan p r q
+  process-at plan s shows =
+      let x = get-within s.processes p (subst (λ n. p < n) (sym shows.many) (slice_get_within runners p r here)) in
+      (x.0, x.1, shows.fits p r x.0 here x.1)
 
-pub refits : (plan : Plan) (s : State) (p : ℕ) (old new : List ℕ) (runners : List Runner) (r r2 : Runner) → s.words ≡ old → length s.processes ≡ length runners
-    → ((i : ℕ) (r : Runner) (q : Process) → slice_get runners i ≡ Some r → slice_get s.processes i ≡ Some q → FitsProcess plan i r q)
-    → slice_get runners p ≡ Some r → p < length runners → ((q : Process) → FitsProcess plan p r q → (new ≡ old) × FitsProcess plan p r2 q)
-    → Refitted plan s new (slice_set runners p r2)
-refits plan s p old new runners r r2 same many fits here within kept =
-    let x = get-within s.processes p (subst (λ n. p < n) (sym many) within) in
-    record {
-      words = same ∙ sym (kept x.0 (fits p r x.0 here x.1)).0;
-      many = many ∙ sym (length-set runners p r2);
-      fits = λ i a q e f. item-set (λ i a. (q : Process) → slice_get s.processes i ≡ Some q → FitsProcess plan i a q) runners p r2
-          (λ q f. (kept q (fits p r q here f)).1) (λ i a e q f. fits i a q e f) i a e q f;
-    }
+  pub steps : (plan : Plan) (s : State) (new : List ℕ) (r2 : Runner) → ShowsState plan shape variant old runners s
+      → ((q : Process) → FitsProcess plan p r q → Moves plan p q old new r2) → Stepped plan shape variant s p new (slice_set runners p r2)
+  unfolding step
+  steps plan s new r2 shows moves =
+      let x = process-at plan s shows in
+      let m = subst (λ w. Moves plan p x.0 w new r2) (sym shows.words) (moves x.0 x.2) in
+      record {
+        next = moved s p x.0 m.move;
+        is = ap (step_of plan s p) x.1 ∙ ap (moved_by s p x.0) m.is_next;
+        shows = record {
+          shape = shows.shape;
+          variant = shows.variant;
+          words = sym m.words;
+          many = length-set s.processes p _ ∙ (shows.many ∙ sym (length-set runners p r2));
+          fits = items-set (λ i a b. FitsProcess plan i a b) runners s.processes p r2
+              (after_move p m.move (slice_index s.words (word_of_move m.move)) x.0) m.fits shows.fits;
+        };
+      }
+
+  -- after a refused step nothing is otherwise
+  pub refits : (plan : Plan) (s : State) (new : List ℕ) (r2 : Runner) → ShowsState plan shape variant old runners s
+      → ((q : Process) → FitsProcess plan p r q → (new ≡ old) × FitsProcess plan p r2 q) → ShowsState plan shape variant new (slice_set runners p r2) s
+  refits plan s new r2 shows kept =
+      let x = process-at plan s shows in
+      record {
+        shape = shows.shape;
+        variant = shows.variant;
+        words = shows.words ∙ sym (kept x.0 x.2).0;
+        many = shows.many ∙ sym (length-set runners p r2);
+        fits = λ i a q e f. item-set (λ i a. (q : Process) → slice_get s.processes i ≡ Some q → FitsProcess plan i a q) runners p r2
+            (λ q f. (kept q (shows.fits p r q here f)).1) (λ i a e q f. shows.fits i a q e f) i a e q f;
+      }
+
+  -- it is under way after a step, and after a refused one
+  pub under-way-steps : (left fewer : ℕ) (new : List ℕ) (r2 : Runner) → fewer + 1 ≡ left
+      → ((plan : Plan) (q : Process) → plan.shape ≡ shape → plan.variant ≡ variant → FitsProcess plan p r q → Moves plan p q old new r2)
+      → ∥ IsUnderWay shape variant left old runners ∥₁ → ∥ IsUnderWay shape variant fewer new (slice_set runners p r2) ∥₁
+  under-way-steps left fewer new r2 one moves = λ is. ∥∥₁_map is (λ (u : IsUnderWay shape variant left old runners).
+      let st = steps u.plan u.state new r2 u.shows (λ q f. moves u.plan q u.shows.shape u.shows.variant f) in
+      record {
+        plan = u.plan;
+        schedule = u.schedule ++ p ∷ [];
+        state = st.next;
+        within = u.within;
+        no_scans = u.no_scans;
+        gives = run-on-append u.plan (Some (opened u.plan)) u.schedule (p ∷ [])
+            ∙ (ap (λ o. run_on u.plan o (p ∷ [])) u.gives ∙ ap (λ o. run_on u.plan o []) st.is);
+        few = let more = one-step u.plan u.state p st.next st.is in let was = u.few in omega (arith, more, was, one);
+        shows = st.shows;
+      })
+
+  pub under-way-kept : (left : ℕ) (new : List ℕ) (r2 : Runner)
+      → ((plan : Plan) (q : Process) → plan.shape ≡ shape → plan.variant ≡ variant → FitsProcess plan p r q → (new ≡ old) × FitsProcess plan p r2 q)
+      → ∥ IsUnderWay shape variant left old runners ∥₁ → ∥ IsUnderWay shape variant left new (slice_set runners p r2) ∥₁
+  under-way-kept left new r2 kept = λ is. ∥∥₁_map is (λ (u : IsUnderWay shape variant left old runners).
+      record {
+        plan = u.plan;
+        schedule = u.schedule;
+        state = u.state;
+        within = u.within;
+        no_scans = u.no_scans;
+        gives = u.gives;
+        few = u.few;
+        shows = refits u.plan u.state new r2 u.shows (λ q f. kept u.plan q u.shows.shape u.shows.variant f);
+      })
+
+  -- there is a task for the next call
+  pub is-built : (left : ℕ) (call : Call) → ∥ IsUnderWay shape variant left old runners ∥₁ → slice_get r.script.items r.begun ≡ Some call
+      → IsBuilt shape variant call
+  is-built left call is next = ∥∥₁_elim is (Prim.hlevel props) (λ (u : IsUnderWay shape variant left old runners).
+      let x = process-at u.plan u.state u.shows in
+      record {
+        within = subst IsWithinLimits u.shows.shape u.within.shape;
+        no_scan = All-at (λ call. is_scan call ≡ false) r.script.items r.begun call
+            (All-at (λ script. All (λ call. is_scan call ≡ false) script) u.plan.scripts p r.script.items u.no_scans x.2.script) next;
+      })
+
+  -- whether the process has a next move
+  pub no-move : (plan : Plan) (s : State) → ShowsState plan shape variant old runners s → HasNothingToDo r
+      → IsSomeAnd (slice_get s.processes p) (λ q. next_move plan p q ≡ None)
+  no-move plan s shows h =
+      let x = process-at plan s shows in
+      let none : x.0.call ≡ None = subst (λ doing. FitsDoing plan.shape plan.variant doing x.0.call x.0.got) h.idle x.2.doing in
+      some-and (λ q. next_move plan p q ≡ None) (slice_get s.processes p) x.0 x.1
+      (ap (move_from plan p x.0) none ∙ ap invocation
+      (ap (λ o. next_in o (length (begun x.0))) x.2.script ∙ (ap (slice_get r.script.items) x.2.begun ∙ h.over)))
+
+  pub has-move : (plan : Plan) (s : State) → ShowsState plan shape variant old runners s → (HasNothingToDo r → ⊥) → HasMove plan s p
+  has-move plan s shows h =
+      let x = process-at plan s shows in
+      some-and (λ q. IsSome (next_move plan p q)) (slice_get s.processes p) x.0 x.1 (moves x.0 x.2 r.doing refl x.2.doing)
+    where
+      begins : (plan : Plan) (q : Process) → FitsProcess plan p r q → (o : Option Call) → slice_get r.script.items r.begun ≡ o → r.doing ≡ Idle
+          → q.call ≡ None → IsSome (move_from plan p q None)
+      begins plan q f None e idle none = absurd (h (record { idle = idle; over = e }))
+      begins plan q f (Some call) e idle none =
+          ap (λ o. is_some (invocation o)) (ap (λ o. next_in o (length (begun q))) f.script ∙ (ap (slice_get r.script.items) f.begun ∙ e))
+
+      goes : (plan : Plan) (q : Process) (c : Call) → q.call ≡ Some c → IsSome (move_from plan p q q.call)
+      goes plan q c e = ap (λ o. is_some (move_from plan p q o)) e
+
+      moves : (q : Process) → FitsProcess plan p r q → (doing : Doing) → r.doing ≡ doing → FitsDoing plan.shape plan.variant doing q.call q.got
+          → IsSome (move_from plan p q q.call)
+      moves q f Idle e d = subst (λ o. IsSome (move_from plan p q o)) (sym d) (begins plan q f (slice_get r.script.items r.begun) refl e d)
+      moves q f (Going o) e d = goes plan q d.0 d.1
+      moves q f (Answered reply) e d = goes plan q d.0 d.1
 
 pub positive : (n : ℕ) → (n ≡ 0 → ⊥) → 0 < n
 positive zero h = absurd (h refl)

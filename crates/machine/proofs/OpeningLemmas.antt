@@ -1,8 +1,10 @@
 -- What a machine begins with.
-use Rattle.std.proofs.Common.{◌≡◌, ℕ, zero, suc, List, [], ◌∷◌, ◌++◌, length, refl, ap, sym, subst, ◌∙◌, append_assoc}
+use Rattle.std.proofs.Common.{◌≡◌, ℕ, zero, suc, ◌+◌, ◌*◌, ◌<◌, ◌^◌, List, [], ◌∷◌, ◌++◌, length, map, sum, arith, refl, ap, sym, subst, ◌∙◌, append_assoc}
 use Rattle.std.specs.Prelude.{Option, Some, None, slice_get, replicate, slice_set}
 use Rattle.std.specs.List.{AllZip}
 use Rattle.std.proofs.lemmas.List.{append-nil, length-set, length-replicate}
+use Rattle.std.proofs.lemmas.List.Sums.{sum-map}
+use Rattle.std.proofs.lemmas.List.Folds.{sum_by-replicate}
 use Rattle.list_laws.proofs.ZipLemmas.{zip_right}
 use Rattle.events.specs.declared.event.Call.{Call}
 use Rattle.art_rows.specs.declared.table.Shape.{Shape}
@@ -70,6 +72,7 @@ fits-idle shape variant scripts runners fresh i r q at is =
     subst (λ q. FitsProcess (plan_of shape variant scripts) i r q) (sym (all-idle (length scripts) i q is)) (record {
       doing = subst (λ d. FitsDoing shape variant d None []) (sym z.2.doing) refl;
       begun = sym z.2.begun;
+      finished = sym z.2.finished;
       log = sym z.2.log;
       script = z.1 ∙ ap Some (sym z.2.script);
     })
@@ -83,3 +86,6 @@ pub words-length : (shape : Shape) → length (opening shape) ≡ table_words sh
 words-length shape =
     length-set (slice_set (replicate (table_words shape) 0) 4 1) _ 3
     ∙ (length-set (replicate (table_words shape) 0) 4 1 ∙ length-replicate (table_words shape) 0)
+
+pub few-left : (n limit : ℕ) → limit < 2 ^ 32 → sum (map (λ q. q.steps) (replicate n idle)) + limit < 2 ^ 61
+few-left n limit h = omega (arith, sum-map (λ q. q.steps) (replicate n idle), sum_by-replicate (λ q. q.steps) n idle)

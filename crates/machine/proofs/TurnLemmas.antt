@@ -7,7 +7,7 @@ use Rattle.events.specs.declared.event.Event.TheVariants.{Invoke, Answer}
 use Rattle.logs.specs.Logs.{Stamped}
 use Rattle.art.specs.Tasks.{rest_of}
 use Rattle.art_core.specs.declared.process.Process.{Process}
-use Rattle.art_core.specs.Core.{Plan, Invokes, Makes, Responds, begun, invoked, move_of, move_from, invocation, next_in}
+use Rattle.art_core.specs.Core.{Plan, Invokes, Makes, Responds, begun, finished, invoked, answered, move_of, move_from, invocation, next_in}
 use Rattle.machine.specs.declared.doing.Open.{Open}
 use Rattle.machine.specs.declared.doing.Doing.TheVariants.{Idle, Going, Answered}
 use Rattle.machine.specs.declared.runner.Runner.{Runner}
@@ -74,11 +74,16 @@ begun-append : (log : List Stamped) (e : Stamped)
     → filter_map (λ e. invoked e.1) (log ++ e ∷ []) ≡ filter_map (λ e. invoked e.1) log ++ filter_map (λ e. invoked e.1) (e ∷ [])
 begun-append log e = filter_map-append (λ e. invoked e.1) log (e ∷ [])
 
-pub goes-on : (plan : Plan) (p : ℕ) (q : Process) (r : Runner) (call : Open) (old new : List ℕ) (doing : Doing)
+finished-append : (log : List Stamped) (e : Stamped)
+    → filter_map (λ e. answered e.1) (log ++ e ∷ []) ≡ filter_map (λ e. answered e.1) log ++ filter_map (λ e. answered e.1) (e ∷ [])
+finished-append log e = filter_map-append (λ e. answered e.1) log (e ∷ [])
+
+pub goes-on : (plan : Plan) (p : ℕ) (q : Process) (r : Runner) (call : Open) (old new : List ℕ) (r2 : Runner)
     → FitsProcess plan p (record r { doing = Going call }) q
-    → ((asked : Call) (got : List ℕ) → Fits plan.shape plan.variant asked got (rest_of call.task) → Advances plan.shape plan.variant asked got old new doing)
-    → Moves plan p q old new (record r { doing = doing })
-goes-on plan p q r call old new doing fits made =
+    → ((asked : Call) (got : List ℕ) → Fits plan.shape plan.variant asked got (rest_of call.task)
+    → Advances plan.shape plan.variant asked got old new r2.doing)
+    → r2.log.items ≡ r.log.items → r2.script ≡ r.script → r2.begun ≡ r.begun → r2.finished ≡ r.finished → Moves plan p q old new r2
+goes-on plan p q r call old new r2 fits made logged script begun_is finished_is =
     let d = fits.doing in
     let a = made d.0 q.got d.2 in
     record {
@@ -86,18 +91,19 @@ goes-on plan p q r call old new doing fits made =
       is_next = ap (move_from plan p q) d.1 ∙ ap (λ t. Some (move_of t)) a.asks;
       words = a.words;
       fits = record {
-        doing = subst (λ o. FitsDoing plan.shape plan.variant doing o (q.got ++ got_by a.access old ∷ [])) (sym d.1) a.fits;
-        begun = fits.begun;
-        log = fits.log;
-        script = fits.script;
+        doing = subst (λ o. FitsDoing plan.shape plan.variant r2.doing o (q.got ++ got_by a.access old ∷ [])) (sym d.1) a.fits;
+        begun = fits.begun ∙ sym begun_is;
+        finished = fits.finished ∙ sym finished_is;
+        log = fits.log ∙ sym logged;
+        script = fits.script ∙ ap (λ v. Some v.items) (sym script);
       };
     }
 
 pub responds : (plan : Plan) (p : ℕ) (q : Process) (r : Runner) (reply : Reply) (old new : List ℕ) (r2 : Runner)
     → FitsProcess plan p (record r { doing = Answered reply }) q
     → new ≡ slice_set old 0 ((slice_index old 0 + 1) % 2 ^ 64) → r2.log.items ≡ r.log.items ++ (slice_index old 0, Answer p reply) ∷ []
-    → r2.script ≡ r.script → r2.begun ≡ r.begun → r2.doing ≡ Idle → Moves plan p q old new r2
-responds plan p q r reply old new r2 fits wrote logged script begun_is idle =
+    → r2.script ≡ r.script → r2.begun ≡ r.begun → r2.finished ≡ r.finished + 1 → r2.doing ≡ Idle → Moves plan p q old new r2
+responds plan p q r reply old new r2 fits wrote logged script begun_is finished_is idle =
     let d = fits.doing in
     record {
       move = Responds reply;
@@ -106,6 +112,8 @@ responds plan p q r reply old new r2 fits wrote logged script begun_is idle =
       fits = record {
         doing = subst (λ doing. FitsDoing plan.shape plan.variant doing None []) (sym idle) refl;
         begun = ap (λ l. length l) (begun-append q.log (slice_index old 0, Answer p reply) ∙ append-nil (begun q)) ∙ (fits.begun ∙ sym begun_is);
+        finished = ap (λ l. length l) (finished-append q.log (slice_index old 0, Answer p reply))
+            ∙ (length-append (finished q) (reply ∷ []) ∙ (ap (λ n. n + 1) fits.finished ∙ sym finished_is));
         log = ap (λ l. l ++ (slice_index old 0, Answer p reply) ∷ []) fits.log ∙ sym logged;
         script = fits.script ∙ ap (λ v. Some v.items) (sym script);
       };
@@ -115,8 +123,8 @@ pub invokes : (plan : Plan) (p : ℕ) (q : Process) (r : Runner) (call : Call) (
     → r.doing ≡ Idle
     → slice_get r.script.items r.begun ≡ Some call → ((rest : List ℕ) → rest_of open_call.task rest ≡ act plan.shape plan.variant call rest)
     → new ≡ slice_set old 0 ((slice_index old 0 + 1) % 2 ^ 64) → r2.log.items ≡ r.log.items ++ (slice_index old 0, Invoke p call) ∷ []
-    → r2.script ≡ r.script → r2.begun ≡ r.begun + 1 → r2.doing ≡ Going open_call → Moves plan p q old new r2
-invokes plan p q r call open_call old new r2 fits idle next rest wrote logged script begun_is going =
+    → r2.script ≡ r.script → r2.begun ≡ r.begun + 1 → r2.finished ≡ r.finished → r2.doing ≡ Going open_call → Moves plan p q old new r2
+invokes plan p q r call open_call old new r2 fits idle next rest wrote logged script begun_is finished_is going =
     let none : q.call ≡ None = subst (λ doing. FitsDoing plan.shape plan.variant doing q.call q.got) idle fits.doing in
     record {
       move = Invokes call;
@@ -127,17 +135,9 @@ invokes plan p q r call open_call old new r2 fits idle next rest wrote logged sc
         doing = subst (λ doing. FitsDoing plan.shape plan.variant doing (Some call) []) (sym going) (call, refl, rest);
         begun = ap (λ l. length l) (begun-append q.log (slice_index old 0, Invoke p call))
             ∙ (length-append (begun q) (call ∷ []) ∙ (ap (λ n. n + 1) fits.begun ∙ sym begun_is));
+        finished = ap (λ l. length l) (finished-append q.log (slice_index old 0, Invoke p call) ∙ append-nil (finished q))
+            ∙ (fits.finished ∙ sym finished_is);
         log = ap (λ l. l ++ (slice_index old 0, Invoke p call) ∷ []) fits.log ∙ sym logged;
         script = fits.script ∙ ap (λ v. Some v.items) (sym script);
       };
     }
-
--- what a runner is doing, named
-pub refit : (plan : Plan) (p : ℕ) (q : Process) (r r2 : Runner) → FitsProcess plan p r q → r2.doing ≡ r.doing → r2.begun ≡ r.begun → r2.log.items ≡ r.log.items
-    → r2.script.items ≡ r.script.items → FitsProcess plan p r2 q
-refit plan p q r r2 fits doing begun_is log script = record {
-  doing = subst (λ d. FitsDoing plan.shape plan.variant d q.call q.got) (sym doing) fits.doing;
-  begun = fits.begun ∙ sym begun_is;
-  log = fits.log ∙ sym log;
-  script = fits.script ∙ ap Some (sym script);
-}

@@ -11,7 +11,7 @@ use Rattle.art_steps.specs.declared.access.Point.{Point}
 use Rattle.art_core.specs.Accesses.{got_by, words_after}
 use Rattle.art.specs.Tasks.{rest_of, shape_of}
 use Rattle.art_core.specs.declared.process.Process.{Process}
-use Rattle.art_core.specs.Core.{Plan, State, Move, begun, next_move, word_of_move, new_word, after_move}
+use Rattle.art_core.specs.Core.{Plan, State, Move, begun, finished, next_move, word_of_move, new_word, after_move}
 use Rattle.machine.specs.declared.runner.Runner.{Runner}
 use Rattle.machine.specs.declared.doing.Doing.{Doing}
 use Rattle.machine.specs.declared.doing.Doing.TheVariants.{Idle, Going, Answered}
@@ -35,6 +35,7 @@ FitsDoing shape variant (Answered r) call got = (c : Call) × (call ≡ Some c) 
 pub record FitsProcess (plan : Plan) (p : ℕ) (r : Runner) (q : Process) : Type 0 where
   pub doing : FitsDoing plan.shape plan.variant r.doing q.call q.got
   pub begun : length (begun q) ≡ r.begun
+  pub finished : length (finished q) ≡ r.finished
   pub log : q.log ≡ r.log.items
   pub script : slice_get plan.scripts p ≡ Some r.script.items
 

@@ -1,15 +1,15 @@
--- What a run of a schedule has come to.
-use Rattle.std.specs.Prelude.{◌≡◌, ℕ, ◌+◌, List, Option, Some, None}
+-- What a machine shows at opening, and after a run of a schedule.
+use Rattle.std.specs.Prelude.{◌≡◌, ℕ, ◌+◌, List, take, slice_get, Some}
 use Rattle.events.specs.declared.event.Call.{Call}
 use Rattle.art_rows.specs.declared.table.Shape.{Shape}
 use Rattle.art_steps.specs.declared.variant.Variant.{Variant}
 use Rattle.art_core.specs.declared.item.Item.{Item}
 use Rattle.art_core.specs.Core.{Plan, State, opened}
-use Rattle.art_core.specs.Schedules.{Run, Refusal, NoProcess, NothingToDo, TurnLimit, begun_run, items_made, StopsAt}
+use Rattle.art_core.specs.NamedTurns.{process_of_item, WantsTurn, AreMade, IsMadeWhole, AreMadeWhole}
 use Rattle.machine.specs.declared.machines.Machine.{Machine}
 use Rattle.machine.specs.declared.fault.MachineFault.{MachineFault}
-use Rattle.machine.specs.declared.fault.MachineFault.TheVariants as faults
 use Rattle.machine.specs.Machines.{Shows, turns_left}
+use Rattle.machine.specs.Refusals.{IsRefusedIn}
 
 abbrev pub plan_of : Shape → Variant → List (List Call) → Plan
 plan_of shape variant scripts = record { shape = shape; variant = variant; scripts = scripts }
@@ -19,21 +19,32 @@ pub record IsOpened (shape : Shape) (variant : Variant) (scripts : List (List Ca
   pub shows : Shows (plan_of shape variant scripts) m (opened (plan_of shape variant scripts))
   pub left : turns_left m ≡ limit
 
--- it shows the state of the run, and has its turns left
-pub record ShowsRun (plan : Plan) (m : Machine) (r : Run) : Type 0 where
-  pub shows : Shows plan m r.state
-  pub left : turns_left m ≡ r.left
+-- From the first state, with so many turns left, the items were made whole, and the machine shows the state after them.
+pub record HasMadeAll (plan : Plan) (items : List Item) (first : State) (left : ℕ) (m : Machine) : Type 0 where
+  pub state : State
+  pub made : ℕ
+  pub turns : AreMadeWhole plan items first made state
+  pub shows : Shows plan m state
+  pub costs : turns_left m + made ≡ left
 
-abbrev pub refusal_of : MachineFault → Option Refusal
-refusal_of faults.NoProcess = Some NoProcess
-refusal_of faults.NothingToDo = Some NothingToDo
-refusal_of faults.TurnLimit = Some TurnLimit
-refusal_of fault = None
+-- From the first state, with so many turns left, turns of the item were made, the next one that it names is refused for this cause, and the machine shows the
+-- state before it.
+pub record HasStoppedIn (plan : Plan) (item : Item) (first : State) (left : ℕ) (fault : MachineFault) (m : Machine) : Type 0 where
+  pub state : State
+  pub made : ℕ
+  pub turns : AreMade plan item first made state
+  pub wants : WantsTurn plan item first made state
+  pub refused : IsRefusedIn plan state (turns_left m) (process_of_item item) fault
+  pub shows : Shows plan m state
+  pub costs : turns_left m + made ≡ left
 
--- The turns before a refused one stand. A run that stops for want of memory after n turns is that of a machine with n turns left.
-abbrev pub StopsFor : Plan → State → ℕ → List Item → ℕ → MachineFault → Machine → Type 0
-StopsFor plan s left items k faults.Memory m =
-    (n : ℕ) × (turns_left m + n ≡ left) × StopsAt plan items (begun_run s n) k TurnLimit × Shows plan m (items_made plan items (begun_run s n)).state
-StopsFor plan s left items k fault m =
-    (refusal : Refusal) × (refusal_of fault ≡ Some refusal) × StopsAt plan items (begun_run s left) k refusal
-    × ShowsRun plan m (items_made plan items (begun_run s left))
+-- The items before this place were made whole, and the one there was stopped.
+pub record HasStoppedAt (plan : Plan) (items : List Item) (first : State) (left : ℕ) (place : ℕ) (fault : MachineFault) (m : Machine) : Type 0 where
+  pub item : Item
+  pub is_item : slice_get items place ≡ Some item
+  pub between : State
+  pub made : ℕ
+  pub before : AreMadeWhole plan (take place items) first made between
+  pub rest : ℕ
+  pub costs : rest + made ≡ left
+  pub stops : HasStoppedIn plan item between rest fault m

@@ -6,6 +6,7 @@ mod fault;
 mod machine_turn;
 mod machines;
 mod opening;
+mod recorded;
 mod runner;
 mod surface;
 mod table;

@@ -5,20 +5,17 @@ use std::alloc::Global;
 
 impl Machine {
     ghost use Rattle.std.specs.Prelude.{◌≡◌, ◌+◌, ℕ, slice_get, Some, None, OnOk, OnErr, IfErr, IsSomeAnd};
-    ghost use Rattle.events.specs.declared.event.Call.{Call};
-    ghost use Rattle.art.specs.Built.{IsBuilt};
     ghost use Rattle.art_core.specs.Core.{Plan, State, step};
-    ghost use Rattle.machine.specs.declared.runner.Runner.{Runner};
-    ghost use Rattle.machine.specs.Machines.{Shows, turns_left, IsRefusedFor, is_built_for};
+    ghost use Rattle.machine.specs.Machines.{Shows, turns_left};
+    ghost use Rattle.machine.specs.Refusals.{IsRefusedIn};
 
     /// One step of process p. A refused turn moves nothing.
     pub fn turn(&mut self, alloc: Global, p: usize) -> Result<(), MachineFault>
-        requires built { is_built_for self.old p }
         ensures moved { (plan : Plan) (s : State) → Shows plan self.old s → OnOk result (IsSomeAnd (step plan s p) (λ next. Shows plan self.new next)) }
         ensures left { OnOk result (turns_left self.new + 1 ≡ turns_left self.old) }
         ensures kept { (plan : Plan) (s : State) → Shows plan self.old s → OnErr result (Shows plan self.new s) }
         ensures same_left { OnErr result (turns_left self.new ≡ turns_left self.old) }
-        ensures refused { IfErr result (IsRefusedFor self.old p) }
+        ensures refused { (plan : Plan) (s : State) → Shows plan self.old s → IfErr result (IsRefusedIn plan s (turns_left self.old) p) }
     {
         if p >= self.runners.len() {
             return Err(MachineFault::NoProcess);

@@ -2,6 +2,7 @@
 ghost use Rattle.std.specs.Prelude.{◌≡◌, ◌≤◌, length};
 ghost use Rattle.art_rows.specs.Table.{table_words};
 ghost use Rattle.machine.specs.Fitting.{AreFor};
+ghost use Rattle.machine.specs.UnderWay.{IsUnderWay};
 
 use crate::fault::MachineFault;
 use crate::runner::Runner;
@@ -21,4 +22,5 @@ pub struct Machine {
     ghost long: { length words.items ≡ table_words shape },
     ghost few: { length runners.items ≤ 64 },
     ghost tasks: { ∥ AreFor shape runners.items ∥₁ },
+    ghost under_way: { ∥ IsUnderWay shape variant left words.items runners.items ∥₁ },
 }

@@ -27,6 +27,7 @@ fn fresh(alloc: Global, script: Vec<TreeCall>) -> Runner
     Runner {
         script,
         begun: 0,
+        finished: 0,
         doing: Doing::Idle,
         log: Vec::new(alloc),
     }

@@ -1,12 +1,17 @@
+ghost use Rattle.std.specs.Prelude.{◌≤◌, vec_len};
+
 use crate::doing::Doing;
 use art::TreeCall;
 use events::Event;
 
-/// A process: its script, how many calls of it were begun, what it is doing, and its events with their stamps.
+/// A process: its script, how many calls of it were begun and how many are finished, what it is doing, and its events with
+/// their stamps.
 #[derive(Drop)]
 pub struct Runner {
     pub script: Vec<TreeCall>,
     pub begun: usize,
+    pub finished: usize,
     pub doing: Doing,
     pub log: Vec<(u64, Event)>,
+    ghost few: { finished ≤ vec_len log },
 }

@@ -108,6 +108,7 @@ impl Runner {
     {
         self.log.push((words[0], Event::Answer { process, reply }))?;
         stamp(words);
+        self.finished += 1;
         self.doing = Doing::Idle;
         Ok(())
     }

@@ -1,7 +1,8 @@
-use Rattle.std.proofs.Common.{map, length, ap, sym, refl, ◌∙◌, arith}
+use Rattle.std.proofs.Common.{[], map, length, ap, sym, refl, ◌∙◌, arith}
 use Rattle.std.proofs.lemmas.List.{length-replicate}
-use Rattle.art_core.specs.Core.{idle}
-use Rattle.machine.proofs.OpeningLemmas.{zip-length, fits-idle, tasks-idle, words-length}
+use Rattle.art_core.specs.Core.{idle, opened}
+use Rattle.machine.specs.Running.{plan_of}
+use Rattle.machine.proofs.OpeningLemmas.{zip-length, few-left, fits-idle, tasks-idle, words-length}
 use Rattle.machine.proofs.machines.Machine.opened.Goals as goal
 
 pub invariant_of-result : goal.invariant_of-result
@@ -13,6 +14,25 @@ invariant_of-result c = record {
     c.requires.plan.few_scripts,
     zip-length (map (λ script. script.items) c.args.scripts.items) c.in_ok-runners.runners.items c.in_ok-runners.ensures,
   );
+  under_way = ∣
+      record {
+        plan = plan_of c.args.shape c.args.variant (map (λ script. script.items) c.args.scripts.items);
+        schedule = [];
+        state = opened (plan_of c.args.shape c.args.variant (map (λ script. script.items) c.args.scripts.items));
+        within = c.requires.plan;
+        no_scans = c.requires.no_scans;
+        gives = refl;
+        few = few-left (length (map (λ script. script.items) c.args.scripts.items)) c.args.limit c.ranges.limit.fits;
+        shows = record {
+          shape = refl;
+          variant = refl;
+          words = sym c.in_ok-words.ensures;
+          many = length-replicate (length (map (λ script. script.items) c.args.scripts.items)) idle
+              ∙ zip-length (map (λ script. script.items) c.args.scripts.items) c.in_ok-runners.runners.items c.in_ok-runners.ensures;
+          fits = fits-idle c.args.shape c.args.variant (map (λ script. script.items) c.args.scripts.items) c.in_ok-runners.runners.items
+              c.in_ok-runners.ensures;
+        };
+      } ∣₁;
   tasks = ∣ tasks-idle c.args.shape (map (λ script. script.items) c.args.scripts.items) c.in_ok-runners.runners.items c.in_ok-runners.ensures ∣₁;
 }
 

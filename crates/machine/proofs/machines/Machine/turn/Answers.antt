@@ -1,8 +1,10 @@
-use Rattle.std.proofs.Common.{◌≤◌, length, Some, sym, subst, rules, ap, ◌∙◌}
+use Rattle.std.proofs.Common.{◌≤◌, ◌-◌, length, set, Some, sym, subst, rules, arith, ap, ◌∙◌}
 use Rattle.std.proofs.lemmas.List.{with_items_is, length-set}
 use Rattle.std.proofs.lemmas.Option.{slice_get-get_or}
 use Rattle.art_core.specs.Core.{step}
-use Rattle.machine.proofs.MachineLemmas.{is-for, are-for, steps, some-and, refits, positive}
+use Rattle.machine.specs.Fitting.{ShowsState}
+use Rattle.machine.specs.UnderWay.{IsUnderWay}
+use Rattle.machine.proofs.MachineLemmas.{is-for, is-built, are-for, steps, some-and, refits, under-way-steps, under-way-kept, no-move, has-move, positive}
 use Rattle.machine.proofs.machines.Machine.turn.Goals as goal
 
 pub turn-requires-clause-is_for : goal.turn-requires-clause-is_for
@@ -12,8 +14,9 @@ turn-requires-clause-is_for c =
 
 pub turn-requires-clause-built : goal.turn-requires-clause-built
 turn-requires-clause-built c =
-    λ call e. c.requires.built c.index_mut.result.now call
-    (slice_get-get_or c.args.self.now.runners.items c.args.p c.index_mut.result.now (search rules) ∙ ap Some (sym c.index_mut.ensures.value)) e
+    λ call e. is-built c.args.self.now.shape c.args.self.now.variant c.args.self.now.words.items c.args.self.now.runners.items c.args.p c.index_mut.result.now
+    (slice_get-get_or c.args.self.now.runners.items c.args.p c.index_mut.result.now (search rules) ∙ ap Some (sym c.index_mut.ensures.value))
+    c.args.self.now.left call c.args.self.now.under_way e
 
 pub invariant_of-self-in-Ok-clause-tasks : goal.invariant_of-self-in-Ok-clause-tasks
 invariant_of-self-in-Ok-clause-tasks c =
@@ -23,38 +26,46 @@ pub invariant_of-self-in-Err-clause-tasks : goal.invariant_of-self-in-Err-clause
 invariant_of-self-in-Err-clause-tasks c =
     are-for c.args.self.now.shape c.args.self.now.runners.items c.args.p c.turn.new.self c.args.self.now.tasks c.turn.ensures.table
 
+pub invariant_of-self-in-Ok-clause-under_way : goal.invariant_of-self-in-Ok-clause-under_way
+invariant_of-self-in-Ok-clause-under_way c =
+    subst (λ w. ∥ IsUnderWay c.args.self.now.shape c.args.self.now.variant (c.args.self.now.left - 1) w (set c.args.self.now.runners.items c.args.p c.turn.new.self) ∥₁)
+    (sym (with_items_is c.args.self.now.words c.turn.new.words (c.turn.ensures.long ∙ (ap length c.deref_mut.ensures.value ∙ sym c.args.self.now.words.ok.0))))
+    (under-way-steps c.args.self.now.shape c.args.self.now.variant c.deref_mut.result.now c.args.self.now.runners.items c.args.p c.index_mut.result.now
+    (slice_get-get_or c.args.self.now.runners.items c.args.p c.index_mut.result.now (search rules) ∙ ap Some (sym c.index_mut.ensures.value))
+    c.args.self.now.left (c.args.self.now.left - 1) c.turn.new.words c.turn.new.self (omega arith)
+    (λ plan q shape variant f. c.in-Ok.ensures.moved plan q shape variant f)
+    (subst (λ w. ∥ IsUnderWay c.args.self.now.shape c.args.self.now.variant c.args.self.now.left w c.args.self.now.runners.items ∥₁)
+    (sym c.deref_mut.ensures.value) c.args.self.now.under_way))
+
+pub invariant_of-self-in-Err-clause-under_way : goal.invariant_of-self-in-Err-clause-under_way
+invariant_of-self-in-Err-clause-under_way c =
+    subst (λ w. ∥ IsUnderWay c.args.self.now.shape c.args.self.now.variant c.args.self.now.left w (set c.args.self.now.runners.items c.args.p c.turn.new.self) ∥₁)
+    (sym (with_items_is c.args.self.now.words c.turn.new.words (c.turn.ensures.long ∙ (ap length c.deref_mut.ensures.value ∙ sym c.args.self.now.words.ok.0))))
+    (under-way-kept c.args.self.now.shape c.args.self.now.variant c.deref_mut.result.now c.args.self.now.runners.items c.args.p c.index_mut.result.now
+    (slice_get-get_or c.args.self.now.runners.items c.args.p c.index_mut.result.now (search rules) ∙ ap Some (sym c.index_mut.ensures.value))
+    c.args.self.now.left c.turn.new.words c.turn.new.self (λ plan q shape variant f. c.in-Err.ensures.kept plan q f)
+    (subst (λ w. ∥ IsUnderWay c.args.self.now.shape c.args.self.now.variant c.args.self.now.left w c.args.self.now.runners.items ∥₁)
+    (sym c.deref_mut.ensures.value) c.args.self.now.under_way))
+
 pub returns-in-Ok-clause-moved : goal.returns-in-Ok-clause-moved
 returns-in-Ok-clause-moved c = λ plan s shows.
-    let st = steps plan s c.args.p c.deref_mut.result.now c.turn.new.words c.args.self.now.runners.items c.index_mut.result.now c.turn.new.self
-    (shows.words ∙ sym c.deref_mut.ensures.value) shows.many shows.fits
-    (slice_get-get_or c.args.self.now.runners.items c.args.p c.index_mut.result.now (search rules) ∙ ap Some (sym c.index_mut.ensures.value))
-    (search rules) (λ q f. c.in-Ok.ensures.moved plan q shows.shape shows.variant f) in
+    let st = steps c.args.self.now.shape c.args.self.now.variant c.deref_mut.result.now c.args.self.now.runners.items c.args.p c.index_mut.result.now
+    (slice_get-get_or c.args.self.now.runners.items c.args.p c.index_mut.result.now (search rules) ∙ ap Some (sym c.index_mut.ensures.value)) plan s c.turn.new.words c.turn.new.self
+    (subst (λ w. ShowsState plan c.args.self.now.shape c.args.self.now.variant w c.args.self.now.runners.items s) (sym c.deref_mut.ensures.value) shows)
+    (λ q f. c.in-Ok.ensures.moved plan q shows.shape shows.variant f) in
     some-and _ (step plan s c.args.p) st.next st.is
-    (record {
-      shape = shows.shape;
-      variant = shows.variant;
-      words = st.words
-          ∙ sym (with_items_is c.args.self.now.words c.turn.new.words
-          (c.turn.ensures.long ∙ (ap length c.deref_mut.ensures.value ∙ sym c.args.self.now.words.ok.0)));
-      many = st.many;
-      fits = st.fits;
-    })
+    (subst (λ w. ShowsState plan c.args.self.now.shape c.args.self.now.variant w (set c.args.self.now.runners.items c.args.p c.turn.new.self) st.next)
+    (sym (with_items_is c.args.self.now.words c.turn.new.words (c.turn.ensures.long ∙ (ap length c.deref_mut.ensures.value ∙ sym c.args.self.now.words.ok.0))))
+    st.shows)
 
 pub returns-in-Err-clause-kept : goal.returns-in-Err-clause-kept
 returns-in-Err-clause-kept c = λ plan s shows.
-    let r = refits plan s c.args.p c.deref_mut.result.now c.turn.new.words c.args.self.now.runners.items c.index_mut.result.now c.turn.new.self
-    (shows.words ∙ sym c.deref_mut.ensures.value) shows.many shows.fits
-    (slice_get-get_or c.args.self.now.runners.items c.args.p c.index_mut.result.now (search rules) ∙ ap Some (sym c.index_mut.ensures.value))
-    (search rules) (λ q f. c.in-Err.ensures.kept plan q f) in
-    record {
-      shape = shows.shape;
-      variant = shows.variant;
-      words = r.words
-          ∙ sym (with_items_is c.args.self.now.words c.turn.new.words
-          (c.turn.ensures.long ∙ (ap length c.deref_mut.ensures.value ∙ sym c.args.self.now.words.ok.0)));
-      many = r.many;
-      fits = r.fits;
-    }
+    subst (λ w. ShowsState plan c.args.self.now.shape c.args.self.now.variant w (set c.args.self.now.runners.items c.args.p c.turn.new.self) s)
+    (sym (with_items_is c.args.self.now.words c.turn.new.words (c.turn.ensures.long ∙ (ap length c.deref_mut.ensures.value ∙ sym c.args.self.now.words.ok.0))))
+    (refits c.args.self.now.shape c.args.self.now.variant c.deref_mut.result.now c.args.self.now.runners.items c.args.p c.index_mut.result.now
+    (slice_get-get_or c.args.self.now.runners.items c.args.p c.index_mut.result.now (search rules) ∙ ap Some (sym c.index_mut.ensures.value)) plan s c.turn.new.words c.turn.new.self
+    (subst (λ w. ShowsState plan c.args.self.now.shape c.args.self.now.variant w c.args.self.now.runners.items s) (sym c.deref_mut.ensures.value) shows)
+    (λ q f. c.in-Err.ensures.kept plan q f))
 
 pub invariant_of-self-in-Ok-clause-long : goal.invariant_of-self-in-Ok-clause-long
 invariant_of-self-in-Ok-clause-long c =
@@ -74,9 +85,24 @@ invariant_of-self-in-Err-clause-long c =
 pub invariant_of-self-in-Err-clause-few : goal.invariant_of-self-in-Err-clause-few
 invariant_of-self-in-Err-clause-few c = subst (λ n. n ≤ 64) (sym (length-set c.args.self.now.runners.items c.args.p c.turn.new.self)) c.args.self.now.few
 
+pub returns-then-not-has_work-clause-refused : goal.returns-then-not-has_work-clause-refused
+returns-then-not-has_work-clause-refused c = λ plan s shows.
+    no-move c.args.self.now.shape c.args.self.now.variant c.args.self.now.words.items c.args.self.now.runners.items c.args.p c.index.result.now
+    (slice_get-get_or c.args.self.now.runners.items c.args.p c.index.result.now (search rules) ∙ ap Some (sym c.index.ensures)) plan s shows
+    (c.has_work.ensures.no c.if-not-has_work.true)
+
+pub returns-then-self-eq0-clause-refused : goal.returns-then-self-eq0-clause-refused
+returns-then-self-eq0-clause-refused c = λ plan s shows. (
+  has-move c.args.self.now.shape c.args.self.now.variant c.args.self.now.words.items c.args.self.now.runners.items c.args.p c.index.result.now
+      (slice_get-get_or c.args.self.now.runners.items c.args.p c.index.result.now (search rules) ∙ ap Some (sym c.index.ensures)) plan s shows
+      (c.has_work.ensures.yes c.if-not-has_work.false),
+  c.if-self-eq0.true,
+)
+
 pub returns-in-Err-clause-refused : goal.returns-in-Err-clause-refused
-returns-in-Err-clause-refused c = (
-  some-and _ _ c.index.result.now (slice_get-get_or c.args.self.now.runners.items c.args.p c.index.result.now (search rules) ∙ ap Some (sym c.index.ensures))
+returns-in-Err-clause-refused c = λ plan s shows. (
+  has-move c.args.self.now.shape c.args.self.now.variant c.args.self.now.words.items c.args.self.now.runners.items c.args.p c.index.result.now
+      (slice_get-get_or c.args.self.now.runners.items c.args.p c.index.result.now (search rules) ∙ ap Some (sym c.index.ensures)) plan s shows
       (c.has_work.ensures.yes c.if-not-has_work.false),
   positive c.args.self.now.left c.if-self-eq0.false,
 )

@@ -1,0 +1,53 @@
+-- The history of a machine is that of each state that it shows.
+use Rattle.std.proofs.Common.{◌≡◌, ℕ, zero, suc, ◌+◌, ◌<◌, ◌^◌, List, [], ◌∷◌, ◌++◌, length, map, sum, arith, refl, sym, ap, subst, ◌∙◌}
+use Rattle.std.specs.Prelude.{Some, slice_get, flat_map}
+use Rattle.std.proofs.Math.Logic.{∥∥₁_elim, ∥∥₁_map}
+use Rattle.std.proofs.Props.{props}
+use Rattle.events.specs.Histories.{IsHistory}
+use Rattle.logs.specs.Logs.{events_by_stamp, history_of_logs}
+use Rattle.art_rows.specs.declared.table.Shape.{Shape}
+use Rattle.art_steps.specs.declared.variant.Variant.{Variant}
+use Rattle.art_core.specs.declared.process.Process.{Process}
+use Rattle.art_core.specs.Core.{Plan, State, history_of}
+use Rattle.art_core.specs.Claims.{IsRun}
+use Rattle.art_core.proofs.HistoryLemmas.{logs-are-history}
+use Rattle.machine.specs.declared.runner.Runner.{Runner}
+use Rattle.machine.specs.declared.machines.Machine.{Machine}
+use Rattle.machine.specs.Fitting.{FitsProcess, ShowsState}
+use Rattle.machine.specs.Machines.{IsReached, Shows}
+use Rattle.machine.specs.UnderWay.{IsUnderWay}
+
+is-run : (shape : Shape) (variant : Variant) (left : ℕ) (words : List ℕ) (runners : List Runner) (u : IsUnderWay shape variant left words runners)
+    → IsRun u.plan u.schedule u.state
+is-run shape variant left words runners u = record { within = u.within; gives = u.gives; few_steps = let few = u.few in omega arith }
+
+pub reached : (m : Machine) → ∥ IsReached m ∥₁
+reached m = ∥∥₁_map m.under_way (λ (u : IsUnderWay m.shape m.variant m.left m.words.items m.runners.items). record {
+  plan = u.plan;
+  schedule = u.schedule;
+  state = u.state;
+  run = is-run m.shape m.variant m.left m.words.items m.runners.items u;
+  shows = u.shows;
+})
+
+same-logs : (plan : Plan) (base : ℕ) (runners : List Runner) (processes : List Process) → length processes ≡ length runners
+    → ((i : ℕ) (r : Runner) (q : Process) → slice_get runners i ≡ Some r → slice_get processes i ≡ Some q → FitsProcess plan (base + i) r q)
+    → flat_map (λ log. log) (map (λ q. q.log) processes) ≡ flat_map (λ r. r.log.items) runners
+same-logs plan base [] [] same fits = refl
+same-logs plan base [] (q ∷ qs) same fits = absurd (omega arith)
+same-logs plan base (r ∷ rs) [] same fits = absurd (omega arith)
+same-logs plan base (r ∷ rs) (q ∷ qs) same fits =
+    ap (λ log. log ++ flat_map (λ log. log) (map (λ q. q.log) qs)) (fits 0 r q refl refl).log
+    ∙ ap (λ es. r.log.items ++ es) (same-logs plan (base + 1) rs qs (omega arith)
+    (λ i r q e f. subst (λ n. FitsProcess plan n r q) (omega arith) (fits (suc i) r q e f)))
+
+pub shown-history : (plan : Plan) (m : Machine) (s : State) → Shows plan m s → history_of s ≡ events_by_stamp (flat_map (λ r. r.log.items) m.runners.items)
+unfolding history_of
+shown-history plan m s shows =
+    ap events_by_stamp (same-logs plan 0 m.runners.items s.processes shows.many
+    (λ i r q e f. subst (λ n. FitsProcess plan n r q) (omega arith) (shows.fits i r q e f)))
+
+pub recorded-history : (m : Machine) → IsHistory (events_by_stamp (flat_map (λ r. r.log.items) m.runners.items))
+recorded-history m = ∥∥₁_elim m.under_way (Prim.hlevel props) (λ (u : IsUnderWay m.shape m.variant m.left m.words.items m.runners.items).
+    subst IsHistory (shown-history u.plan m u.state u.shows)
+    (logs-are-history u.plan u.schedule u.state (is-run m.shape m.variant m.left m.words.items m.runners.items u)))

@@ -1,0 +1,22 @@
+use Rattle.std.proofs.Common.{◌≡◌, IfOk, flat_map, ap, sym, subst, ◌∙◌}
+use Rattle.events.specs.Histories.{IsHistory}
+use Rattle.logs.specs.Logs.{events_by_stamp}
+use Rattle.machine.proofs.RecordLemmas.{reached, shown-history, recorded-history}
+use Rattle.machine.proofs.machines.Machine.history.Goals as goal
+
+pub returns-in_err-stamped-clause-reached : goal.returns-in_err-stamped-clause-reached
+returns-in_err-stamped-clause-reached c = reached c.args.self.now
+
+pub history_by_stamp-requires : goal.history_by_stamp-requires
+history_by_stamp-requires c =
+    subst (λ es. IsHistory (events_by_stamp es)) (sym (c.in_ok-stamped.ensures ∙ ap (flat_map (λ r. r.log.items)) c.deref.ensures.value))
+    (recorded-history c.args.self.now)
+
+pub returns-clause-history : goal.returns-clause-history
+returns-clause-history c = λ plan s shows.
+    subst (λ events. IfOk c.history_by_stamp.result (λ h. h ≡ events))
+    (ap events_by_stamp (c.in_ok-stamped.ensures ∙ ap (flat_map (λ r. r.log.items)) c.deref.ensures.value)
+    ∙ sym (shown-history plan c.args.self.now s shows)) c.history_by_stamp.ensures
+
+pub returns-clause-reached : goal.returns-clause-reached
+returns-clause-reached c = reached c.args.self.now

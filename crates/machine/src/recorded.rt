@@ -1,0 +1,35 @@
+// What a machine has recorded.
+use crate::machines::Machine;
+use crate::runner::Runner;
+use events::{Event, History, Memory};
+use logs::{append_log, history_by_stamp};
+use std::alloc::Global;
+
+impl Machine {
+    ghost use Rattle.std.specs.Prelude.{◌≡◌, IfOk};
+    ghost use Rattle.art_core.specs.Core.{Plan, State, history_of};
+    ghost use Rattle.machine.specs.Machines.{Shows, IsReached};
+
+    /// The history so far: all events by rising stamp. Open calls are pending, and calls that were not begun are not in it.
+    /// `Err` is want of memory.
+    pub fn history(&self, alloc: Global) -> Result<History, Memory>
+        ensures history { (plan : Plan) (s : State) → Shows plan self.now s → IfOk result (λ h. h ≡ history_of s) }
+        ensures reached { ∥ IsReached self.now ∥₁ }
+    {
+        let stamped = all_events(alloc, &self.runners)?;
+        history_by_stamp(alloc, stamped)
+    }
+}
+
+ghost use Rattle.std.specs.Prelude.{◌≡◌, flat_map, IfOk};
+
+/// The events of all processes with their stamps, process after process.
+fn all_events(alloc: Global, runners: &[Runner]) -> Result<Vec<(u64, Event)>, Memory>
+    ensures { IfOk result (λ all. all.items ≡ flat_map (λ r. r.log.items) runners.now) }
+{
+    let mut all = Vec::new(alloc);
+    for runner in runners {
+        append_log(alloc, &mut all, &runner.log)?;
+    }
+    Ok(all)
+}
