@@ -2,3 +2,4 @@ mod TurnLemmas
 mod MachineLemmas
 mod OpeningLemmas
 mod RecordLemmas
+mod RunningLemmas

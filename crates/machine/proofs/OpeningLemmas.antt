@@ -1,5 +1,5 @@
 -- What a machine begins with.
-use Rattle.std.proofs.Common.{◌≡◌, ℕ, zero, suc, ◌+◌, ◌*◌, ◌<◌, ◌^◌, List, [], ◌∷◌, ◌++◌, length, map, sum, arith, refl, ap, sym, subst, ◌∙◌, append_assoc}
+use Rattle.std.proofs.Common.{◌≡◌, ℕ, zero, suc, ◌+◌, ◌<◌, ◌^◌, List, [], ◌∷◌, ◌++◌, length, map, sum, arith, refl, ap, sym, subst, ◌∙◌, append_assoc}
 use Rattle.std.specs.Prelude.{Option, Some, None, slice_get, replicate, slice_set}
 use Rattle.std.specs.List.{AllZip}
 use Rattle.std.proofs.lemmas.List.{append-nil, length-set, length-replicate}
@@ -11,10 +11,8 @@ use Rattle.art_rows.specs.declared.table.Shape.{Shape}
 use Rattle.art_rows.specs.Table.{opening, table_words}
 use Rattle.art_steps.specs.declared.variant.Variant.{Variant}
 use Rattle.art_core.specs.declared.process.Process.{Process}
-use Rattle.art_core.specs.Core.{Plan, idle}
+use Rattle.art_core.specs.Core.{idle}
 use Rattle.machine.specs.declared.runner.Runner.{Runner}
-use Rattle.machine.specs.declared.doing.Doing.{Doing}
-use Rattle.machine.specs.declared.doing.Doing.TheVariants.{Idle}
 use Rattle.machine.specs.Fitting.{FitsDoing, FitsProcess, IsFor, AreFor}
 use Rattle.machine.specs.Opening.{IsFresh}
 use Rattle.machine.specs.Running.{plan_of}

@@ -1,10 +1,10 @@
 -- The history of a machine is that of each state that it shows.
-use Rattle.std.proofs.Common.{◌≡◌, ℕ, zero, suc, ◌+◌, ◌<◌, ◌^◌, List, [], ◌∷◌, ◌++◌, length, map, sum, arith, refl, sym, ap, subst, ◌∙◌}
+use Rattle.std.proofs.Common.{◌≡◌, ℕ, suc, ◌+◌, List, [], ◌∷◌, ◌++◌, length, map, arith, refl, ap, subst, ◌∙◌}
 use Rattle.std.specs.Prelude.{Some, slice_get, flat_map}
 use Rattle.std.proofs.Math.Logic.{∥∥₁_elim, ∥∥₁_map}
 use Rattle.std.proofs.Props.{props}
 use Rattle.events.specs.Histories.{IsHistory}
-use Rattle.logs.specs.Logs.{events_by_stamp, history_of_logs}
+use Rattle.logs.specs.Logs.{events_by_stamp}
 use Rattle.art_rows.specs.declared.table.Shape.{Shape}
 use Rattle.art_steps.specs.declared.variant.Variant.{Variant}
 use Rattle.art_core.specs.declared.process.Process.{Process}
@@ -13,7 +13,7 @@ use Rattle.art_core.specs.Claims.{IsRun}
 use Rattle.art_core.proofs.HistoryLemmas.{logs-are-history}
 use Rattle.machine.specs.declared.runner.Runner.{Runner}
 use Rattle.machine.specs.declared.machines.Machine.{Machine}
-use Rattle.machine.specs.Fitting.{FitsProcess, ShowsState}
+use Rattle.machine.specs.Fitting.{FitsProcess}
 use Rattle.machine.specs.Machines.{IsReached, Shows}
 use Rattle.machine.specs.UnderWay.{IsUnderWay}
 

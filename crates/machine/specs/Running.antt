@@ -27,6 +27,14 @@ pub record HasMadeAll (plan : Plan) (items : List Item) (first : State) (left : 
   pub shows : Shows plan m state
   pub costs : turns_left m + made ≡ left
 
+-- From the first state, with so many turns left, the item was made whole, and the machine shows the state after it.
+pub record HasMadeItem (plan : Plan) (item : Item) (first : State) (left : ℕ) (m : Machine) : Type 0 where
+  pub state : State
+  pub made : ℕ
+  pub turns : IsMadeWhole plan item first made state
+  pub shows : Shows plan m state
+  pub costs : turns_left m + made ≡ left
+
 -- From the first state, with so many turns left, turns of the item were made, the next one that it names is refused for this cause, and the machine shows the
 -- state before it.
 pub record HasStoppedIn (plan : Plan) (item : Item) (first : State) (left : ℕ) (fault : MachineFault) (m : Machine) : Type 0 where

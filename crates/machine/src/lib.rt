@@ -8,6 +8,7 @@ mod machines;
 mod opening;
 mod recorded;
 mod runner;
+mod runs;
 mod surface;
 mod table;
 mod turns;

@@ -13,7 +13,7 @@ ghost use Rattle.machine.specs.Fitting.{Advances, IsFor};
 use crate::doing::{Doing, Open};
 use crate::runner::Runner;
 use crate::table::{access, stamp};
-use art::{Shape, Task, Variant};
+use art::{Point, Shape, Task, Variant};
 use events::{Event, Memory, Reply};
 use std::alloc::Global;
 use std::mem;
@@ -37,6 +37,7 @@ pub fn advanced(words: &mut [u64], call: Open) -> Doing
 
 impl Runner {
     ghost use Rattle.std.specs.Prelude.{IsTrue, IsFalse};
+    ghost use Rattle.art_core.specs.NamedTurns.{point_in};
     ghost use Rattle.machine.specs.Working.{HasNothingToDo};
     ghost use Rattle.machine.specs.Fitting.{FitsProcess, Moves};
     ghost use Rattle.art.specs.Built.{IsBuilt};
@@ -142,6 +143,17 @@ impl Runner {
                 }
                 Ok(()) => self.respond(process, words, reply),
             },
+        }
+    }
+
+    /// The point that the next step is at.
+    pub fn point(&self) -> Option<Point>
+        ensures { (plan : Plan) (p : ℕ) (q : Process) → FitsProcess plan p self.now q → result ≡ point_in plan q.got q.call }
+    {
+        match &self.doing {
+            Doing::Idle => None,
+            Doing::Going(call) => call.task.point(),
+            Doing::Answered(_) => Some(Point::Answer),
         }
     }
 

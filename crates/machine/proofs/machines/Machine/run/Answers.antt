@@ -1,0 +1,27 @@
+use Rattle.std.proofs.Common.{take, sym, subst}
+use Rattle.std.proofs.lemmas.List.{take_more, take_all}
+use Rattle.std.proofs.lemmas.Option.{slice_get-get_or}
+use Rattle.machine.specs.Machines.{turns_left}
+use Rattle.machine.specs.Running.{HasMadeAll}
+use Rattle.machine.proofs.RunningLemmas.{all-more, all-stopped}
+use Rattle.machine.proofs.machines.Machine.run.Goals as goal
+
+pub returns-in-Err-clause-stopped : goal.returns-in-Err-clause-stopped
+returns-in-Err-clause-stopped c = λ plan s shows.
+    let h = c.loop-place.invariant plan s shows in
+    all-stopped plan c.args.schedule.now c.loop-place.place _ s (turns_left c.args.self.now) c.in-Err.fault c.loop-place.self c.make.new.self h
+    (slice_get-get_or c.args.schedule.now c.loop-place.place _ c.loop-place-test.true)
+    (c.in-Err.ensures.stopped plan h.state h.shows)
+
+pub loop-place-preserved : goal.loop-place-preserved
+loop-place-preserved c = λ plan s shows.
+    let h = c.loop-place.invariant plan s shows in
+    let more = all-more plan (take c.loop-place.place c.args.schedule.now) _ s (turns_left c.args.self.now) c.loop-place.self c.make.new.self h
+    (c.in_default.ensures.made plan h.state h.shows) in
+    subst (λ items. HasMadeAll plan items s (turns_left c.args.self.now) c.make.new.self)
+    (sym (take_more c.args.schedule.now c.loop-place.place _ c.loop-place-test.true)) more
+
+pub returns-clause-made : goal.returns-clause-made
+returns-clause-made c = λ plan s shows.
+    subst (λ items. HasMadeAll plan items s (turns_left c.args.self.now) c.loop-place.self)
+    (take_all c.loop-place.place c.args.schedule.now c.loop-place-test.false) (c.loop-place.invariant plan s shows)

@@ -1,0 +1,98 @@
+// Runs of schedules.
+ghost use Rattle.std.specs.Prelude.{◌≡◌, ◌↔◌, IsTrue, Some};
+
+use crate::fault::{MachineFault, RunFault};
+use crate::machines::Machine;
+use art::Point;
+use art_core::Item;
+use std::alloc::Global;
+
+impl Machine {
+    ghost use Rattle.std.specs.Prelude.{ℕ, slice_get, OnOk, IfErr};
+    ghost use Rattle.art_core.specs.Core.{Plan, State};
+    ghost use Rattle.art_core.specs.NamedTurns.{process_of_item, next_point, finished_count, WantsTurn};
+    ghost use Rattle.machine.specs.Machines.{Shows, turns_left};
+    ghost use Rattle.machine.specs.Running.{HasMadeAll, HasMadeItem, HasStoppedIn, HasStoppedAt};
+
+    /// Makes the turns that the items name, in order, up to the first that is refused. The turns before it stand, and the
+    /// refused one moves nothing.
+    pub fn run(&mut self, alloc: Global, schedule: &[Item]) -> Result<(), RunFault>
+        ensures made { (plan : Plan) (s : State) → Shows plan self.old s → OnOk result (HasMadeAll plan schedule.now s (turns_left self.old) self.new) }
+        ensures stopped { (plan : Plan) (s : State) → Shows plan self.old s → IfErr result (λ e. HasStoppedAt plan schedule.now s (turns_left self.old) e.item e.fault self.new) }
+    {
+        for (place, item) in schedule.iter().enumerate() {
+            if let Err(fault) = self.make(alloc, *item) {
+                return Err(RunFault { item: place, fault });
+            }
+        }
+        Ok(())
+    }
+
+    /// Makes the turns that an item names, up to the first that is refused.
+    fn make(&mut self, alloc: Global, item: Item) -> Result<(), MachineFault>
+        ensures made { (plan : Plan) (s : State) → Shows plan self.old s → OnOk result (HasMadeItem plan item s (turns_left self.old) self.new) }
+        ensures stopped { (plan : Plan) (s : State) → Shows plan self.old s → IfErr result (λ fault. HasStoppedIn plan item s (turns_left self.old) fault self.new) }
+    {
+        let process = process_of(item);
+        let before = self.finished(process);
+        let mut made = 0;
+        'turns: while self.wants(item, before, made) {
+            self.turn(alloc, process)?;
+            made += 1;
+        }
+        Ok(())
+    }
+
+    /// Whether an item names one turn more after so many, where its process had finished so many calls before the first.
+    fn wants(&self, item: Item, before: usize, made: u32) -> bool
+        ensures { (plan : Plan) (first now : State) → Shows plan self.now now
+            → before ≡ finished_count (slice_get first.processes (process_of_item item))
+            → IsTrue result ↔ WantsTurn plan item first made now }
+    {
+        match item {
+            Item::Turns { turns, .. } => made < turns,
+            Item::End { process } => self.finished(process) == before,
+            Item::Until { process, point } => {
+                self.finished(process) == before && !is_at(self.point(process), point)
+            }
+        }
+    }
+
+    /// How many calls a process has finished.
+    fn finished(&self, process: usize) -> usize
+        ensures { (plan : Plan) (s : State) → Shows plan self.now s → result ≡ finished_count (slice_get s.processes process) }
+    {
+        match self.runners.get(process) {
+            Some(runner) => runner.finished,
+            None => 0,
+        }
+    }
+
+    /// The point that a process's next step is at.
+    fn point(&self, process: usize) -> Option<Point>
+        ensures { (plan : Plan) (s : State) → Shows plan self.now s → result ≡ next_point plan (slice_get s.processes process) }
+    {
+        match self.runners.get(process) {
+            Some(runner) => runner.point(),
+            None => None,
+        }
+    }
+}
+
+ghost use Rattle.art_core.specs.NamedTurns.{process_of_item};
+
+/// The process that an item is about.
+fn process_of(item: Item) -> usize
+    ensures { result ≡ process_of_item item }
+{
+    match item {
+        Item::Turns { process, .. } | Item::End { process } | Item::Until { process, .. } =>
+            process,
+    }
+}
+
+fn is_at(next: Option<Point>, point: Point) -> bool
+    ensures { IsTrue result ↔ (next ≡ Some point) }
+{
+    next == Some(point)
+}
