@@ -1,5 +1,6 @@
 -- What a state logs is a history: each event is stamped higher than all before it, and is sound after them.
-use Rattle.std.proofs.Common.{◌≡◌, ◌≢◌, ℕ, zero, suc, ◌+◌, ◌*◌, ◌%◌, ◌^◌, ◌<◌, ◌≤◌, ◌==◌, Bool, true, false, ◌&&◌, cond, List, [], ◌∷◌, ◌++◌, length, map, arith, refl, sym}
+use Rattle.std.proofs.Common.{◌≡◌, ◌≢◌, ℕ, zero, suc, ◌+◌, ◌*◌, ◌%◌, ◌^◌, ◌<◌, ◌≤◌, ◌==◌, Bool, true, false, ◌&&◌, cond, arith, refl, sym}
+use Rattle.std.proofs.Common.{List, [], ◌∷◌, ◌++◌, length, map}
 use Rattle.std.proofs.Common.{ap, subst, ◌∙◌, inl, inr, eq-eqb, ne_eqb, IsTrue, get_or-set_other, get_or-set_same, sum}
 use Rattle.std.specs.Prelude.{Option, Some, None, is_some, ◌⊎◌, nat_lt, nat_le, All, slice_get, slice_index, slice_set, replicate, flat_map, filter_map, sum_by}
 use Rattle.std.specs.List.{AllZip}
@@ -199,7 +200,8 @@ module _ (plan : Plan) (s : State) (p : ℕ) (q q' : Process) (h : IsLogged plan
       clock = omega (arith, stands, h.clock, steps, sum-changed (λ q. q.steps) s.processes p q q' here);
       stamps = subst (λ k. AreBelow k (flat_map (λ log. log) (map (λ q. q.log) (slice_set s.processes p q')))) (sym stands)
           (subst (λ logs. AreBelow n (flat_map (λ log. log) logs)) (sym (map-same (λ q. q.log) s.processes p q q' here log)) h.stamps);
-      calls = ap call_count same ∙ (h.calls ∙ sym (ap (λ ns. sum ns) (map-same (λ q. length (begun q)) s.processes p q q' here (ap (λ b. length b) same-begun))));
+      calls = ap call_count same
+          ∙ (h.calls ∙ sym (ap (λ ns. sum ns) (map-same (λ q. length (begun q)) s.processes p q q' here (ap (λ b. length b) same-begun))));
       opens = λ i r at. ap (has_open_call i) same ∙ elim (changed-at s.processes p q' i r at) [
         | inl t ↦ subst (λ j. has_open_call j (logged s.processes) ≡ is_some r.call) (sym t.0)
             (h.opens p q here ∙ sym (ap (λ r. is_some r.call) t.1 ∙ ap (λ o. is_some o) call))

@@ -5,7 +5,8 @@ ghost use Rattle.art_rows.specs.declared.table.Shape.{Shape};
 ghost use Rattle.art_steps.specs.declared.variant.Variant.{Variant};
 ghost use Rattle.art_core.specs.Core.{Plan, State};
 ghost use Rattle.art_core.specs.Starts.{StartsOn, IsStartRefused};
-ghost use Rattle.art_core.specs.Claims.{SerialIsMap, CoupledIsLinearizable, OptimisticIsLinearizableWithoutScans, OptimisticIsLinearizable, ScanHasMoment, GetHasMoment};
+ghost use Rattle.art_core.specs.Claims.{SerialIsMap, CoupledIsLinearizable, OptimisticIsLinearizableWithoutScans};
+ghost use Rattle.art_core.specs.Claims.{OptimisticIsLinearizable, ScanHasMoment, GetHasMoment};
 ghost use Rattle.art_core.specs.Invariant.{Ghost, Invariant};
 
 /// Nothing is promised here but that the statements can be read.

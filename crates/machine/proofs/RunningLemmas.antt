@@ -29,7 +29,8 @@ module _ (m : Machine) (p : ℕ) (plan : Plan) (s : State) (shows : Shows plan m
         let x = process-at m.shape m.variant m.words.items m.runners.items p r here plan s shows in
         sym (ap finished_count x.1 ∙ x.2.finished)
 
-    pub point-at : (point : Option Point) → ((q : Process) → FitsProcess plan p r q → point ≡ point_in plan q.got q.call) → point ≡ next_point plan (slice_get s.processes p)
+    pub point-at : (point : Option Point) → ((q : Process) → FitsProcess plan p r q → point ≡ point_in plan q.got q.call)
+        → point ≡ next_point plan (slice_get s.processes p)
     point-at point is =
         let x = process-at m.shape m.variant m.words.items m.runners.items p r here plan s shows in
         is x.0 x.2 ∙ sym (ap (next_point plan) x.1)

@@ -18,7 +18,8 @@ impl Machine {
     /// refused one moves nothing.
     pub fn run(&mut self, alloc: Global, schedule: &[Item]) -> Result<(), RunFault>
         ensures made { (plan : Plan) (s : State) → Shows plan self.old s → OnOk result (HasMadeAll plan schedule.now s (turns_left self.old) self.new) }
-        ensures stopped { (plan : Plan) (s : State) → Shows plan self.old s → IfErr result (λ e. HasStoppedAt plan schedule.now s (turns_left self.old) e.item e.fault self.new) }
+        ensures stopped { (plan : Plan) (s : State) → Shows plan self.old s
+            → IfErr result (λ e. HasStoppedAt plan schedule.now s (turns_left self.old) e.item e.fault self.new) }
     {
         for (place, item) in schedule.iter().enumerate() {
             if let Err(fault) = self.make(alloc, *item) {
@@ -31,7 +32,8 @@ impl Machine {
     /// Makes the turns that an item names, up to the first that is refused.
     fn make(&mut self, alloc: Global, item: Item) -> Result<(), MachineFault>
         ensures made { (plan : Plan) (s : State) → Shows plan self.old s → OnOk result (HasMadeItem plan item s (turns_left self.old) self.new) }
-        ensures stopped { (plan : Plan) (s : State) → Shows plan self.old s → IfErr result (λ fault. HasStoppedIn plan item s (turns_left self.old) fault self.new) }
+        ensures stopped { (plan : Plan) (s : State) → Shows plan self.old s
+            → IfErr result (λ fault. HasStoppedIn plan item s (turns_left self.old) fault self.new) }
     {
         let process = process_of(item);
         let before = self.finished(process);

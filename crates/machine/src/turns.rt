@@ -24,7 +24,8 @@ pub fn advanced(words: &mut [u64], call: Open) -> Doing
     requires ready { IsReady call.task }
     ensures table { IsFor (shape_of call.task) result }
     ensures long { length words.new ≡ length words.old }
-    ensures made { (shape : Shape) (variant : Variant) (asked : Call) (got : List ℕ) → Fits shape variant asked got (rest_of call.task) → Advances shape variant asked got words.old words.new result }
+    ensures made { (shape : Shape) (variant : Variant) (asked : Call) (got : List ℕ) → Fits shape variant asked got (rest_of call.task)
+        → Advances shape variant asked got words.old words.new result }
 {
     let mut task = call.task;
     let next = task.next();
@@ -57,8 +58,10 @@ impl Runner {
         requires built { (call : Call) → slice_get self.old.script.items self.old.begun ≡ Some call → IsBuilt shape variant call }
         ensures table { IsFor shape self.new.doing }
         ensures long { length words.new ≡ length words.old }
-        ensures moved { (plan : Plan) (q : Process) → plan.shape ≡ shape → plan.variant ≡ variant → FitsProcess plan process self.old q → OnOk result (Moves plan process q words.old words.new self.new) }
-        ensures kept { (plan : Plan) (q : Process) → FitsProcess plan process self.old q → OnErr result ((words.new ≡ words.old) × FitsProcess plan process self.new q) }
+        ensures moved { (plan : Plan) (q : Process) → plan.shape ≡ shape → plan.variant ≡ variant → FitsProcess plan process self.old q
+            → OnOk result (Moves plan process q words.old words.new self.new) }
+        ensures kept { (plan : Plan) (q : Process) → FitsProcess plan process self.old q
+            → OnErr result ((words.new ≡ words.old) × FitsProcess plan process self.new q) }
     {
         let call = match self.script.get(self.begun) {
             Some(call) => *call,
@@ -82,8 +85,10 @@ impl Runner {
         requires table { length words.old ≡ table_words (shape_of call.task) }
         ensures table { IsFor (shape_of call.task) self.new.doing }
         ensures long { length words.new ≡ length words.old }
-        ensures moved { (plan : Plan) (p : ℕ) (q : Process) → FitsProcess plan p (record self.old { doing = Going call }) q → OnOk result (Moves plan p q words.old words.new self.new) }
-        ensures kept { (plan : Plan) (p : ℕ) (q : Process) → FitsProcess plan p (record self.old { doing = Going call }) q → OnErr result ((words.new ≡ words.old) × FitsProcess plan p self.new q) }
+        ensures moved { (plan : Plan) (p : ℕ) (q : Process) → FitsProcess plan p (record self.old { doing = Going call }) q
+            → OnOk result (Moves plan p q words.old words.new self.new) }
+        ensures kept { (plan : Plan) (p : ℕ) (q : Process) → FitsProcess plan p (record self.old { doing = Going call }) q
+            → OnErr result ((words.new ≡ words.old) × FitsProcess plan p self.new q) }
     {
         let mut task = call.task;
         match task.ready(alloc) {
@@ -105,7 +110,8 @@ impl Runner {
         ensures ok { IsOk result }
         ensures idle { self.new.doing ≡ Idle }
         ensures long { length words.new ≡ length words.old }
-        ensures moved { (plan : Plan) (q : Process) → FitsProcess plan process (record self.old { doing = Answered reply }) q → Moves plan process q words.old words.new self.new }
+        ensures moved { (plan : Plan) (q : Process) → FitsProcess plan process (record self.old { doing = Answered reply }) q
+            → Moves plan process q words.old words.new self.new }
     {
         self.log.push((words[0], Event::Answer { process, reply }))?;
         stamp(words);
@@ -130,8 +136,10 @@ impl Runner {
         requires built { (call : Call) → slice_get self.old.script.items self.old.begun ≡ Some call → IsBuilt shape variant call }
         ensures table { IsFor shape self.new.doing }
         ensures long { length words.new ≡ length words.old }
-        ensures moved { (plan : Plan) (q : Process) → plan.shape ≡ shape → plan.variant ≡ variant → FitsProcess plan process self.old q → OnOk result (Moves plan process q words.old words.new self.new) }
-        ensures kept { (plan : Plan) (q : Process) → FitsProcess plan process self.old q → OnErr result ((words.new ≡ words.old) × FitsProcess plan process self.new q) }
+        ensures moved { (plan : Plan) (q : Process) → plan.shape ≡ shape → plan.variant ≡ variant → FitsProcess plan process self.old q
+            → OnOk result (Moves plan process q words.old words.new self.new) }
+        ensures kept { (plan : Plan) (q : Process) → FitsProcess plan process self.old q
+            → OnErr result ((words.new ≡ words.old) × FitsProcess plan process self.new q) }
     {
         match mem::replace(&mut self.doing, Doing::Idle) {
             Doing::Idle => self.invoke(process, shape, variant, words),

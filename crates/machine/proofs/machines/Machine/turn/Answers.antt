@@ -28,7 +28,8 @@ invariant_of-self-in-Err-clause-tasks c =
 
 pub invariant_of-self-in-Ok-clause-under_way : goal.invariant_of-self-in-Ok-clause-under_way
 invariant_of-self-in-Ok-clause-under_way c =
-    subst (λ w. ∥ IsUnderWay c.args.self.now.shape c.args.self.now.variant (c.args.self.now.left - 1) w (set c.args.self.now.runners.items c.args.p c.turn.new.self) ∥₁)
+    subst (λ w. ∥ IsUnderWay c.args.self.now.shape c.args.self.now.variant (c.args.self.now.left - 1) w
+    (set c.args.self.now.runners.items c.args.p c.turn.new.self) ∥₁)
     (sym (with_items_is c.args.self.now.words c.turn.new.words (c.turn.ensures.long ∙ (ap length c.deref_mut.ensures.value ∙ sym c.args.self.now.words.ok.0))))
     (under-way-steps c.args.self.now.shape c.args.self.now.variant c.deref_mut.result.now c.args.self.now.runners.items c.args.p c.index_mut.result.now
     (slice_get-get_or c.args.self.now.runners.items c.args.p c.index_mut.result.now (search rules) ∙ ap Some (sym c.index_mut.ensures.value))
@@ -39,7 +40,8 @@ invariant_of-self-in-Ok-clause-under_way c =
 
 pub invariant_of-self-in-Err-clause-under_way : goal.invariant_of-self-in-Err-clause-under_way
 invariant_of-self-in-Err-clause-under_way c =
-    subst (λ w. ∥ IsUnderWay c.args.self.now.shape c.args.self.now.variant c.args.self.now.left w (set c.args.self.now.runners.items c.args.p c.turn.new.self) ∥₁)
+    subst (λ w. ∥ IsUnderWay c.args.self.now.shape c.args.self.now.variant c.args.self.now.left w
+    (set c.args.self.now.runners.items c.args.p c.turn.new.self) ∥₁)
     (sym (with_items_is c.args.self.now.words c.turn.new.words (c.turn.ensures.long ∙ (ap length c.deref_mut.ensures.value ∙ sym c.args.self.now.words.ok.0))))
     (under-way-kept c.args.self.now.shape c.args.self.now.variant c.deref_mut.result.now c.args.self.now.runners.items c.args.p c.index_mut.result.now
     (slice_get-get_or c.args.self.now.runners.items c.args.p c.index_mut.result.now (search rules) ∙ ap Some (sym c.index_mut.ensures.value))
@@ -50,7 +52,8 @@ invariant_of-self-in-Err-clause-under_way c =
 pub returns-in-Ok-clause-moved : goal.returns-in-Ok-clause-moved
 returns-in-Ok-clause-moved c = λ plan s shows.
     let st = steps c.args.self.now.shape c.args.self.now.variant c.deref_mut.result.now c.args.self.now.runners.items c.args.p c.index_mut.result.now
-    (slice_get-get_or c.args.self.now.runners.items c.args.p c.index_mut.result.now (search rules) ∙ ap Some (sym c.index_mut.ensures.value)) plan s c.turn.new.words c.turn.new.self
+    (slice_get-get_or c.args.self.now.runners.items c.args.p c.index_mut.result.now (search rules) ∙ ap Some (sym c.index_mut.ensures.value))
+    plan s c.turn.new.words c.turn.new.self
     (subst (λ w. ShowsState plan c.args.self.now.shape c.args.self.now.variant w c.args.self.now.runners.items s) (sym c.deref_mut.ensures.value) shows)
     (λ q f. c.in-Ok.ensures.moved plan q shows.shape shows.variant f) in
     some-and _ (step plan s c.args.p) st.next st.is
@@ -63,7 +66,8 @@ returns-in-Err-clause-kept c = λ plan s shows.
     subst (λ w. ShowsState plan c.args.self.now.shape c.args.self.now.variant w (set c.args.self.now.runners.items c.args.p c.turn.new.self) s)
     (sym (with_items_is c.args.self.now.words c.turn.new.words (c.turn.ensures.long ∙ (ap length c.deref_mut.ensures.value ∙ sym c.args.self.now.words.ok.0))))
     (refits c.args.self.now.shape c.args.self.now.variant c.deref_mut.result.now c.args.self.now.runners.items c.args.p c.index_mut.result.now
-    (slice_get-get_or c.args.self.now.runners.items c.args.p c.index_mut.result.now (search rules) ∙ ap Some (sym c.index_mut.ensures.value)) plan s c.turn.new.words c.turn.new.self
+    (slice_get-get_or c.args.self.now.runners.items c.args.p c.index_mut.result.now (search rules) ∙ ap Some (sym c.index_mut.ensures.value))
+    plan s c.turn.new.words c.turn.new.self
     (subst (λ w. ShowsState plan c.args.self.now.shape c.args.self.now.variant w c.args.self.now.runners.items s) (sym c.deref_mut.ensures.value) shows)
     (λ q f. c.in-Err.ensures.kept plan q f))
 

@@ -1,0 +1,165 @@
+// Two processes whose steps are interleaved: what leaving out a check makes of a call, and what the full tree answers.
+use crate::setups::{opened, recorded};
+use art::{Point, Variant};
+use art_core::Item;
+use events::Call;
+use machine::{Machine, MachineFault, RunFault};
+use std::alloc::Global;
+use std::process::Abort;
+use std::test::Fail;
+
+/// Runs the schedule on eight rows of each kind below the root.
+fn run_on_eights(
+    alloc: Global,
+    variant: Variant,
+    scripts: [&[Call]; 2],
+    schedule: &[Item],
+) -> Result<Machine, Fail> {
+    let mut machine = opened(alloc, [8, 8, 8, 1], variant, scripts, 1000)?;
+    machine.run(alloc, schedule)?;
+    Ok(machine)
+}
+
+/// A history's text, of events each with its process.
+fn history(alloc: Global, events: &[(u8, &str)]) -> Result<String, Fail> {
+    let mut text = String::from_str(alloc, "{\"events\":[")?;
+    for (place, (process, event)) in events.iter().enumerate() {
+        let comma = if place == 0 { "" } else { "," };
+        text.push_str(&format!(in alloc; "{comma}{{{event},\"process\":{process}}}")?)?;
+    }
+    text.push_str("],\"version\":1}")?;
+    Ok(text)
+}
+
+fn assert_recorded(
+    rt: &impl Abort,
+    alloc: Global,
+    machine: &Machine,
+    events: &[(u8, &str)],
+) -> Result<(), Fail> {
+    assert_eq!(rt; recorded(alloc, machine)?, history(alloc, events)?);
+    Ok(())
+}
+
+/// A get has read the key bytes when an insert shifts the children.
+#[test]
+fn a_get_that_checks_nothing_reads_a_shifted_child(rt: HostRuntime) -> Result<(), Fail> {
+    let alloc = rt.alloc();
+    let first = [Call::Insert(5, 50), Call::Insert(9, 90), Call::Get(5)];
+    let schedule = [
+        Item::End { process: 0 },
+        Item::End { process: 0 },
+        Item::Until {
+            process: 0,
+            point: Point::Child,
+        },
+        Item::End { process: 1 },
+        Item::End { process: 0 },
+    ];
+    for (variant, answer) in [
+        (Variant::ReadUnchecked, "\"answer\":null"),
+        (Variant::Optimistic, "\"answer\":50"),
+    ] {
+        let scripts: [&[Call]; 2] = [&first, &[Call::Insert(3, 30)]];
+        let machine = run_on_eights(alloc, variant, scripts, &schedule)?;
+        let expected = [
+            (0, "\"invoke\":[\"insert\",5,50]"),
+            (0, "\"answer\":null"),
+            (0, "\"invoke\":[\"insert\",9,90]"),
+            (0, "\"answer\":null"),
+            (0, "\"invoke\":[\"get\",5]"),
+            (1, "\"invoke\":[\"insert\",3,30]"),
+            (1, "\"answer\":null"),
+            (0, answer),
+        ];
+        assert_recorded(&rt, alloc, &machine, &expected)?;
+    }
+    Ok(())
+}
+
+/// An insert has read the root when another one hangs its leaf there.
+#[test]
+fn a_lock_that_checks_nothing_loses_an_insert(rt: HostRuntime) -> Result<(), Fail> {
+    let alloc = rt.alloc();
+    let schedule = [
+        Item::Until {
+            process: 0,
+            point: Point::LockRoot,
+        },
+        Item::End { process: 1 },
+        Item::End { process: 0 },
+        Item::End { process: 1 },
+    ];
+    for (variant, answer) in [
+        (Variant::LockUnchecked, "\"answer\":null"),
+        (Variant::Optimistic, "\"answer\":90"),
+    ] {
+        let scripts: [&[Call]; 2] = [&[Call::Insert(5, 50)], &[Call::Insert(9, 90), Call::Get(9)]];
+        let machine = run_on_eights(alloc, variant, scripts, &schedule)?;
+        let expected = [
+            (0, "\"invoke\":[\"insert\",5,50]"),
+            (1, "\"invoke\":[\"insert\",9,90]"),
+            (1, "\"answer\":null"),
+            (0, "\"answer\":null"),
+            (1, "\"invoke\":[\"get\",9]"),
+            (1, answer),
+        ];
+        assert_recorded(&rt, alloc, &machine, &expected)?;
+    }
+    Ok(())
+}
+
+/// A remove stands before a row that is replaced before it is locked. Under full coupling it holds the row above, so the
+/// insert that would replace the row waits until no turn is left.
+#[test]
+fn a_remove_that_lets_go_too_early_works_on_a_replaced_row(rt: HostRuntime) -> Result<(), Fail> {
+    let alloc = rt.alloc();
+    let inserts_and_get = [
+        Call::Insert(1, 10),
+        Call::Insert(2, 20),
+        Call::Insert(3, 30),
+        Call::Insert(4, 40),
+        Call::Insert(5, 50),
+        Call::Get(1),
+    ];
+    let schedule = [
+        Item::End { process: 1 },
+        Item::End { process: 1 },
+        Item::End { process: 1 },
+        Item::End { process: 1 },
+        Item::Until {
+            process: 0,
+            point: Point::LockRow,
+        },
+        Item::End { process: 1 },
+        Item::End { process: 0 },
+        Item::End { process: 1 },
+    ];
+    let scripts: [&[Call]; 2] = [&[Call::Remove(1)], &inserts_and_get];
+    let machine = run_on_eights(alloc, Variant::EarlyRelease, scripts, &schedule)?;
+    let expected = [
+        (1, "\"invoke\":[\"insert\",1,10]"),
+        (1, "\"answer\":null"),
+        (1, "\"invoke\":[\"insert\",2,20]"),
+        (1, "\"answer\":null"),
+        (1, "\"invoke\":[\"insert\",3,30]"),
+        (1, "\"answer\":null"),
+        (1, "\"invoke\":[\"insert\",4,40]"),
+        (1, "\"answer\":null"),
+        (0, "\"invoke\":[\"remove\",1]"),
+        (1, "\"invoke\":[\"insert\",5,50]"),
+        (1, "\"answer\":null"),
+        (0, "\"answer\":10"),
+        (1, "\"invoke\":[\"get\",1]"),
+        (1, "\"answer\":10"),
+    ];
+    assert_recorded(&rt, alloc, &machine, &expected)?;
+    let mut coupled = opened(alloc, [8, 8, 8, 1], Variant::Coupled, scripts, 1000)?;
+    let stopped = coupled.run(alloc, &schedule);
+    let fault = RunFault {
+        item: 5,
+        fault: MachineFault::TurnLimit,
+    };
+    assert_eq!(rt; stopped, Err(fault));
+    Ok(())
+}

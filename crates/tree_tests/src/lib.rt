@@ -1,0 +1,14 @@
+//! Tests of the trees under schedules, through the step machine's public calls.
+//!
+//! A proof covers what the contracts say. What these tests add is that each call answers where memory is ample, and
+//! that the definitions say what was meant: words and replies were worked out by hand.
+#![tactic(auto)]
+
+#[cfg(test)]
+mod interleavings;
+#[cfg(test)]
+mod refusals;
+#[cfg(test)]
+mod serial;
+#[cfg(test)]
+mod setups;
