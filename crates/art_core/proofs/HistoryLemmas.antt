@@ -4,7 +4,7 @@ use Rattle.std.proofs.Common.{List, [], ◌∷◌, ◌++◌, length, map}
 use Rattle.std.proofs.Common.{ap, subst, ◌∙◌, inl, inr, eq-eqb, ne_eqb, IsTrue, get_or-set_other, get_or-set_same, sum}
 use Rattle.std.specs.Prelude.{Option, Some, None, is_some, ◌⊎◌, nat_lt, nat_le, All, slice_get, slice_index, slice_set, replicate, flat_map, filter_map, sum_by}
 use Rattle.std.specs.List.{AllZip}
-use Rattle.std.proofs.lemmas.Bool.{leb-true, lt-leb, lt-ltb, le-leb}
+use Rattle.std.proofs.lemmas.Bool.{lt-leb, lt-ltb, le-leb}
 use Rattle.std.proofs.lemmas.List.{length-set, length-append, length-replicate, map-set, get_or-replicate}
 use Rattle.std.proofs.lemmas.List.Sums.{sum-map, sum_by-set, sum_by-cons}
 use Rattle.std.proofs.lemmas.List.Folds.{sum_by-replicate}
@@ -18,11 +18,11 @@ use Rattle.events.specs.declared.event.Reply.{Reply}
 use Rattle.events.specs.declared.event.Event.{Event}
 use Rattle.events.specs.declared.event.Event.TheVariants.{Invoke, Answer}
 use Rattle.events.specs.Events.{process_of, is_invocation}
-use Rattle.events.specs.Histories.{IsHistory, has_range, is_shaped, is_small, call_count, pair_count}
-use Rattle.events.specs.HistoryFaults.{has_open_call, is_out_of_turn, is_call_too_many, fault_after}
+use Rattle.events.specs.Histories.{IsHistory, has_range, call_count, pair_count}
+use Rattle.events.specs.HistoryFaults.{has_open_call, fault_after}
 use Rattle.events.specs.Limits.{call_limit, pair_limit, process_limit}
 use Rattle.events.proofs.HistoryLemmas.{IsHistory-push, has_open_call-push, call_count-push}
-use Rattle.logs.specs.Logs.{Stamped, events_by_stamp, history_of_logs}
+use Rattle.logs.specs.Logs.{events_by_stamp, history_of_logs}
 use Rattle.logs.proofs.GrowthLemmas.{AreBelow, history-push, below-push}
 use Rattle.art_rows.specs.declared.table.Shape.{Shape}
 use Rattle.art_rows.specs.Table.{opening, table_words, info_at, root_base}
@@ -33,12 +33,11 @@ use Rattle.art_steps.specs.Fits.{word_of}
 use Rattle.art_steps.specs.Steps.{Turn, Asks, Answers}
 use Rattle.art_steps.specs.TreeCalls.{is_tree_call}
 use Rattle.art_steps.proofs.AccessLemmas.{act-stays, act-small}
-use Rattle.art_core.specs.Accesses.{changed, told}
 use Rattle.art_core.specs.declared.process.Process.{Process}
-use Rattle.art_core.specs.Core.{Plan, State, Move, Invokes, Makes, Responds, process, begun, moved, word_of_move, after_move, idle, opened, history_of, move_of}
+use Rattle.art_core.specs.Core.{Plan, State, Move, Invokes, Makes, Responds, begun, moved, word_of_move, after_move, idle, opened, history_of, move_of}
 use Rattle.art_core.specs.Core.{invoked, next_in, next_call, next_move, move_from, invocation, moved_by, step_of, step}
-use Rattle.art_core.specs.Runs.{run_on, Gives, HasFewSteps}
-use Rattle.art_core.specs.Claims.{IsPlan, IsRun, LogsAreHistory}
+use Rattle.art_core.specs.Runs.{run_on, HasFewSteps}
+use Rattle.art_core.specs.Claims.{IsPlan, LogsAreHistory}
 use Rattle.art_core.proofs.RunLemmas.{begun-more}
 
 mod-small : (a w : ℕ) → a < w → a % w ≡ a

@@ -1,5 +1,5 @@
 -- The turns that items name, one after another.
-use Rattle.std.proofs.Common.{◌≡◌, ℕ, zero, suc, ◌+◌, ◌<◌, ◌≤◌, List, [], ◌∷◌, ◌++◌, refl, sym, ap, subst, ◌∙◌, arith, inl, inr, Option, Some, None}
+use Rattle.std.proofs.Common.{◌≡◌, ℕ, ◌+◌, List, [], ◌∷◌, ◌++◌, refl, sym, ap, subst, ◌∙◌, arith, inl, inr, Some}
 use Rattle.std.specs.Prelude.{replicate}
 use Rattle.std.proofs.lemmas.Bool.{cases_lt}
 use Rattle.std.proofs.lemmas.List.{replicate_more}
@@ -8,6 +8,7 @@ use Rattle.art_core.specs.declared.item.Item.{Item}
 use Rattle.art_core.specs.Core.{Plan, State, step}
 use Rattle.art_core.specs.Runs.{run_on, Gives}
 use Rattle.art_core.specs.NamedTurns.{process_of_item, WantsTurn, AreMade, IsMadeWhole, AreMadeWhole}
+use Rattle.art_core.specs.Laws.{NamedTurnsAreOne}
 use Rattle.art_core.proofs.RunLemmas.{run-on-append}
 
 pub made-none : (plan : Plan) (item : Item) (first : State) → AreMade plan item first 0 first
@@ -39,3 +40,21 @@ whole-more plan [] item first between now n m h whole =
     (m, 0, now, subst (λ s. IsMadeWhole plan item s m now) (sym h.1) whole, (refl, refl), let none = h.0 in omega arith)
 whole-more plan (i ∷ is) item first between now n m h whole =
     (h.0, h.1 + m, h.2, h.3, whole-more plan is item h.2 between now h.1 m h.4 whole, let sum = h.5 in omega arith)
+
+-- There is one way only.
+
+one-item : (plan : Plan) (item : Item) (first s t : State) (n m : ℕ) → IsMadeWhole plan item first n s → IsMadeWhole plan item first m t → (n ≡ m) × (s ≡ t)
+one-item plan item first s t n m h k = elim (cases_lt n m) [
+  | inl less ↦ absurd (h.over (k.turns.wanted n s less h.turns.gives))
+  | inr more ↦ elim (cases_lt m n) [
+    | inl less ↦ absurd (k.over (h.turns.wanted m t less k.turns.gives))
+    | inr same ↦ let e : n ≡ m = omega arith in (e, same-state plan item first n m s t e h.turns.gives k.turns.gives)
+  ]
+]
+
+pub one-list : NamedTurnsAreOne
+one-list plan [] first s t n m h k = (let p = h.0 in let q = k.0 in omega arith, sym h.1 ∙ k.1)
+one-list plan (item ∷ items) first s t n m h k =
+    let here = one-item plan item first h.2 k.2 h.0 k.0 h.3 k.3 in
+    let later = one-list plan items k.2 s t h.1 k.1 (subst (λ b. AreMadeWhole plan items b h.1 s) here.1 h.4) k.4 in
+    (let p = h.5 in let q = k.5 in let u = here.0 in let v = later.0 in omega arith, later.1)

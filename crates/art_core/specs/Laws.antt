@@ -1,5 +1,5 @@
 -- Laws of schedules.
-use Rattle.std.specs.Prelude.{◌≡◌, ℕ, List, [], ◌∷◌, ◌++◌, map, slice_get, Option, Some, None}
+use Rattle.std.specs.Prelude.{◌≡◌, ℕ, ◌+◌, List, [], ◌∷◌, ◌++◌, map, slice_get, Option, Some, None}
 use Rattle.std.specs.List.{AllZip}
 use Rattle.events.specs.declared.event.Call.{Call}
 use Rattle.art_rows.specs.declared.table.Shape.{Shape}
@@ -8,6 +8,9 @@ use Rattle.art_steps.specs.Act.{act}
 use Rattle.art_core.specs.declared.process.Process.{Process}
 use Rattle.art_core.specs.Core.{Plan, State, Move, Invokes, begun, moved, move_of, opened}
 use Rattle.art_core.specs.Runs.{Gives, run_on, run_from}
+use Rattle.art_core.specs.declared.item.Item.{Item}
+use Rattle.art_core.specs.NamedTurns.{AreMadeWhole}
+use Rattle.art_core.specs.Schedules.{Run, begun_run, items_made}
 
 -- a schedule goes on where an earlier one has come to
 abbrev pub RunsGoOn : Type 0
@@ -39,3 +42,19 @@ MovesAreReached = (shape : Shape) (variant : Variant) (s : State) (schedule : Li
     → slice_get s.processes p ≡ Some q → MayMove shape variant q q.call m
     → Gives (begun_plan shape variant (moved s p q m).processes) (opened (begun_plan shape variant (moved s p q m).processes)) (schedule ++ p ∷ [])
     (moved s p q m)
+
+-- The turns that items name are as many, and lead to one state.
+abbrev pub NamedTurnsAreOne : Type 0
+NamedTurnsAreOne = (plan : Plan) (items : List Item) (first s t : State) (n m : ℕ) → AreMadeWhole plan items first n s → AreMadeWhole plan items first m t
+    → (n ≡ m) × (s ≡ t)
+
+-- a run that was not refused made all the turns that its items name
+pub record HasComputed (plan : Plan) (items : List Item) (first : State) (left : ℕ) (r : Run) : Type 0 where
+  pub made : ℕ
+  pub turns : AreMadeWhole plan items first made r.state
+  pub costs : r.left + made ≡ left
+
+-- What is computed of a schedule is what its items name.
+abbrev pub SchedulesCompute : Type 0
+SchedulesCompute = (plan : Plan) (items : List Item) (first : State) (left : ℕ) → (items_made plan items (begun_run first left)).refused ≡ None
+    → HasComputed plan items first left (items_made plan items (begun_run first left))

@@ -1,5 +1,5 @@
 -- Schedules as they are written, computed: what items make of a run under a limit of turns.
-use Rattle.std.specs.Prelude.{◌≡◌, ℕ, zero, suc, Bool, false, ◌||◌, ◌==◌, nat_lt, if◌then◌else◌, List, [], ◌∷◌, length, take, slice_get, Option, Some, None}
+use Rattle.std.specs.Prelude.{ℕ, zero, suc, Bool, false, not, ◌||◌, ◌==◌, if◌then◌else◌, List, [], ◌∷◌, slice_get, Option, Some, None}
 use Rattle.art_steps.specs.declared.access.Point.{Point}
 use Rattle.art_steps.specs.declared.access.Point.TheVariants as point
 use Rattle.art_core.specs.declared.item.Item.{Item}
@@ -58,9 +58,9 @@ abbrev pub is_at : Point → Option Point → Bool
 is_at q None = false
 is_at q (Some r) = point_number q == point_number r
 
--- p has finished more than n calls
+-- p has finished another number of calls than n
 abbrev pub has_finished : ℕ → ℕ → State → Bool
-has_finished p n s = nat_lt n (finished_count (slice_get s.processes p))
+has_finished p n s = not (finished_count (slice_get s.processes p) == n)
 
 -- what an item makes of a run
 abbrev pub made : Plan → Item → Run → Run
@@ -82,10 +82,3 @@ begun_run s left = record { state = s; left = left; refused = None }
 
 unfoldable pub schedule_run : Plan → ℕ → List Item → Run
 schedule_run plan limit items = items_made plan items (begun_run (opened plan) limit)
-
--- The run stops at item k for this cause: the items before it are made whole, and it is not.
-pub record StopsAt (plan : Plan) (items : List Item) (r : Run) (k : ℕ) (refusal : Refusal) : Type 0 where
-  pub item : Item
-  pub is_item : slice_get items k ≡ Some item
-  pub before : (items_made plan (take k items) r).refused ≡ None
-  pub stops : (made plan item (items_made plan (take k items) r)).refused ≡ Some refusal

@@ -2,7 +2,6 @@
 use Rattle.std.proofs.Common.{◌≡◌, ℕ, zero, suc, ◌<◌, ◌≤◌, true, false, List, [], ◌∷◌, ◌++◌, map, arith, refl, sym, ap, ◌∙◌, append_assoc, subst}
 use Rattle.std.specs.Prelude.{nat_le, if◌then◌else◌, Option, Some, None, slice_get, slice_set, flat_map}
 use Rattle.std.proofs.lemmas.Bool.{le-leb, lt-leb}
-use Rattle.events.specs.declared.event.Event.{Event}
 use Rattle.logs.specs.Logs.{Stamped, placed, by_stamp, history_of_logs}
 
 -- each event is stamped lower
