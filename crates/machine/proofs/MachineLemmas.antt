@@ -1,17 +1,15 @@
 -- A turn of a machine is a step of the state that it shows.
 use Rattle.std.proofs.Common.{◌≡◌, ℕ, zero, suc, ◌+◌, ◌<◌, false, List, [], ◌∷◌, ◌++◌, arith, length, refl, ap, sym, subst, ◌∙◌}
-use Rattle.std.specs.Prelude.{Option, Some, None, is_some, slice_get, slice_index, slice_set, All, IsSome, IsSomeAnd}
+use Rattle.std.specs.Prelude.{Option, Some, None, is_some, slice_get, slice_index, slice_set, IsSome, IsSomeAnd}
 use Rattle.std.proofs.lemmas.List.{length-set}
 use Rattle.std.proofs.lemmas.Option.{slice_get_within}
 use Rattle.std.proofs.Math.Logic.{∥∥₁_elim, ∥∥₁_map}
 use Rattle.std.proofs.Props.{props}
-use Rattle.list_laws.proofs.Lists.{All-at}
 use Rattle.list_laws.proofs.NumberLemmas.{slice_get-below}
 use Rattle.events.specs.declared.event.Call.{Call}
 use Rattle.art_rows.specs.declared.table.Shape.{Shape}
 use Rattle.art_rows.specs.Table.{IsWithinLimits}
 use Rattle.art_steps.specs.declared.variant.Variant.{Variant}
-use Rattle.art_steps.specs.Rows.{is_scan}
 use Rattle.art.specs.Built.{IsBuilt}
 use Rattle.art_core.specs.declared.process.Process.{Process}
 use Rattle.art_core.specs.Core.{Plan, State, begun, opened, next_in, next_move, invocation, move_from, step, step_of, moved_by, moved, word_of_move, after_move}
@@ -128,7 +126,6 @@ module _ (shape : Shape) (variant : Variant) (old : List ℕ) (runners : List Ru
         schedule = u.schedule ++ p ∷ [];
         state = st.next;
         within = u.within;
-        no_scans = u.no_scans;
         gives = run-on-append u.plan (Some (opened u.plan)) u.schedule (p ∷ [])
             ∙ (ap (λ o. run_on u.plan o (p ∷ [])) u.gives ∙ ap (λ o. run_on u.plan o []) st.is);
         few = let more = one-step u.plan u.state p st.next st.is in let was = u.few in omega (arith, more, was, one);
@@ -144,22 +141,15 @@ module _ (shape : Shape) (variant : Variant) (old : List ℕ) (runners : List Ru
         schedule = u.schedule;
         state = u.state;
         within = u.within;
-        no_scans = u.no_scans;
         gives = u.gives;
         few = u.few;
         shows = refits u.plan u.state new r2 u.shows (λ q f. kept u.plan q u.shows.shape u.shows.variant f);
       })
 
   -- there is a task for the next call
-  pub is-built : (left : ℕ) (call : Call) → ∥ IsUnderWay shape variant left old runners ∥₁ → slice_get r.script.items r.begun ≡ Some call
-      → IsBuilt shape variant call
-  is-built left call is next = ∥∥₁_elim is (Prim.hlevel props) (λ (u : IsUnderWay shape variant left old runners).
-      let x = process-at u.plan u.state u.shows in
-      record {
-        within = subst IsWithinLimits u.shows.shape u.within.shape;
-        no_scan = All-at (λ call. is_scan call ≡ false) r.script.items r.begun call
-            (All-at (λ script. All (λ call. is_scan call ≡ false) script) u.plan.scripts p r.script.items u.no_scans x.2.script) next;
-      })
+  pub is-built : (left : ℕ) (call : Call) → ∥ IsUnderWay shape variant left old runners ∥₁ → IsBuilt shape variant call
+  is-built left call is = ∥∥₁_elim is (Prim.hlevel props) (λ (u : IsUnderWay shape variant left old runners).
+      record { within = subst IsWithinLimits u.shows.shape u.within.shape })
 
   -- whether the process has a next move
   pub no-move : (plan : Plan) (s : State) → ShowsState plan shape variant old runners s → HasNothingToDo r

@@ -7,8 +7,7 @@ use events::Memory;
 use std::alloc::Global;
 
 impl Machine {
-    ghost use Rattle.std.specs.Prelude.{◌≡◌, map, All, IfOk, IfErr, false};
-    ghost use Rattle.art_steps.specs.Rows.{is_scan};
+    ghost use Rattle.std.specs.Prelude.{◌≡◌, map, IfOk, IfErr};
     ghost use Rattle.art_core.specs.Core.{Plan, State};
     ghost use Rattle.art_core.specs.Claims.{IsPlan};
     ghost use Rattle.machine.specs.Machines.{Shows};
@@ -23,8 +22,7 @@ impl Machine {
         scripts: Vec<Vec<TreeCall>>,
         limit: u32,
     ) -> Result<Machine, MachineFault>
-        requires plan { IsPlan (plan_of shape variant (map (λ script. script.items) scripts.items)) }
-        requires no_scans { All (λ script. All (λ call. is_scan call ≡ false) script) (map (λ script. script.items) scripts.items) }
+        requires { IsPlan (plan_of shape variant (map (λ script. script.items) scripts.items)) }
         ensures opened { IfOk result (IsOpened shape variant (map (λ script. script.items) scripts.items) limit) }
         ensures refused { IfErr result (λ fault. fault ≡ faults.Memory) }
     {
@@ -41,8 +39,7 @@ impl Machine {
         scripts: Vec<Vec<TreeCall>>,
         limit: u32,
     ) -> Result<Machine, Memory>
-        requires plan { IsPlan (plan_of shape variant (map (λ script. script.items) scripts.items)) }
-        requires no_scans { All (λ script. All (λ call. is_scan call ≡ false) script) (map (λ script. script.items) scripts.items) }
+        requires { IsPlan (plan_of shape variant (map (λ script. script.items) scripts.items)) }
         ensures { IfOk result (IsOpened shape variant (map (λ script. script.items) scripts.items) limit) }
     {
         let words = shape.opening(alloc)?;

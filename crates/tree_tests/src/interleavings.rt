@@ -109,6 +109,44 @@ fn a_lock_that_checks_nothing_loses_an_insert(rt: HostRuntime) -> Result<(), Fai
     Ok(())
 }
 
+/// A scan has read the root's first slot when two inserts come, the second of them behind it.
+#[test]
+fn a_scan_that_is_not_validated_misses_the_first_of_two_inserts(
+    rt: HostRuntime,
+) -> Result<(), Fail> {
+    let alloc = rt.alloc();
+    let inserts = [Call::Insert(16777216, 1), Call::Insert(33554432, 2)];
+    let schedule = [
+        Item::Turns {
+            process: 0,
+            turns: 3,
+        },
+        Item::End { process: 1 },
+        Item::End { process: 1 },
+        Item::End { process: 0 },
+    ];
+    for (variant, answer) in [
+        (Variant::ScanUnvalidated, "\"answer\":[[33554432,2]]"),
+        (
+            Variant::Optimistic,
+            "\"answer\":[[16777216,1],[33554432,2]]",
+        ),
+    ] {
+        let scripts: [&[Call]; 2] = [&[Call::Scan(16777216, 33554432)], &inserts];
+        let machine = run_on_eights(alloc, variant, scripts, &schedule)?;
+        let expected = [
+            (0, "\"invoke\":[\"scan\",16777216,33554432]"),
+            (1, "\"invoke\":[\"insert\",16777216,1]"),
+            (1, "\"answer\":null"),
+            (1, "\"invoke\":[\"insert\",33554432,2]"),
+            (1, "\"answer\":null"),
+            (0, answer),
+        ];
+        assert_recorded(&rt, alloc, &machine, &expected)?;
+    }
+    Ok(())
+}
+
 /// A remove stands before a row that is replaced before it is locked. Under full coupling it holds the row above, so the
 /// insert that would replace the row waits until no turn is left.
 #[test]

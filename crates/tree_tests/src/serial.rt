@@ -47,7 +47,8 @@ fn rows_stand_where_keys_part(rt: HostRuntime) -> Result<(), Fail> {
         Call::Insert(0x0100_0001, 1),
         Call::Insert(0x0100_0002, 2),
         Call::Insert(0x0101_0000, 3),
-        Call::Get(0x0100_0002),
+        Call::Scan(0, 0xffff_ffff),
+        Call::Scan(0x0100_0002, 0x0100_ffff),
     ];
     let mut machine = opened(alloc, [8, 0, 0, 1], Variant::Coupled, [&calls, &[]], 1000)?;
     run_to_end(alloc, &mut machine, 3)?;
@@ -56,12 +57,16 @@ fn rows_stand_where_keys_part(rt: HostRuntime) -> Result<(), Fail> {
         words.as_slice(),
         [268, 131330, 260, 65538, 21, 49].as_slice()
     );
-    run_to_end(alloc, &mut machine, 1)?;
+    run_to_end(alloc, &mut machine, 2)?;
     let expected = [
         ("\"insert\",16777217,1", "null"),
         ("\"insert\",16777218,2", "null"),
         ("\"insert\",16842752,3", "null"),
-        ("\"get\",16777218", "2"),
+        (
+            "\"scan\",0,4294967295",
+            "[[16777217,1],[16777218,2],[16842752,3]]",
+        ),
+        ("\"scan\",16777218,16842751", "[[16777218,2]]"),
     ];
     assert_recorded(&rt, alloc, &machine, &expected)
 }
@@ -110,6 +115,29 @@ fn an_insert_is_refused_where_no_row_is_left_for_a_pair(rt: HostRuntime) -> Resu
         ("\"insert\",9,90", "\"refused\""),
         ("\"get\",9", "null"),
         ("\"get\",5", "50"),
+    ];
+    assert_recorded(&rt, alloc, &machine, &expected)
+}
+
+/// The greatest key and value that a tree holds.
+#[test]
+fn a_scan_finds_the_greatest_key(rt: HostRuntime) -> Result<(), Fail> {
+    let alloc = rt.alloc();
+    let calls = [
+        Call::Insert(4294967295, 1073741823),
+        Call::Scan(0, 4294967295),
+    ];
+    let mut machine = opened(
+        alloc,
+        [0, 0, 0, 1],
+        Variant::Optimistic,
+        [&calls, &[]],
+        10_000,
+    )?;
+    run_to_end(alloc, &mut machine, 2)?;
+    let expected = [
+        ("\"insert\",4294967295,1073741823", "null"),
+        ("\"scan\",0,4294967295", "[[4294967295,1073741823]]"),
     ];
     assert_recorded(&rt, alloc, &machine, &expected)
 }

@@ -1,7 +1,6 @@
 // Machines for the tests, and what they have recorded.
-ghost use Rattle.std.specs.Prelude.{◌≡◌, ◌≤◌, All, IfOk, IsTrue, false, vec_len};
+ghost use Rattle.std.specs.Prelude.{◌≤◌, All, IfOk, IsTrue, vec_len};
 ghost use Rattle.art_rows.specs.Table.{IsWithinLimits};
-ghost use Rattle.art_steps.specs.Rows.{is_scan};
 ghost use Rattle.art_steps.specs.TreeCalls.{is_tree_call};
 
 use art::{Shape, TreeCall, Variant};
@@ -54,7 +53,6 @@ fn is_within_limits(shape: Shape) -> bool
 
 fn script(alloc: Global, calls: &[Call]) -> Result<Vec<TreeCall>, Fail>
     ensures calls { IfOk result (λ script. All (λ call. IsTrue (is_tree_call call)) script.items) }
-    ensures no_scans { IfOk result (λ script. All (λ call. is_scan call ≡ false) script.items) }
     ensures few { IfOk result (λ script. vec_len script ≤ 100) }
 {
     if calls.len() > 100 {
@@ -68,12 +66,8 @@ fn script(alloc: Global, calls: &[Call]) -> Result<Vec<TreeCall>, Fail>
 }
 
 fn tree_call(call: &Call) -> Result<TreeCall, Fail>
-    ensures call { IfOk result (λ call. IsTrue (is_tree_call call)) }
-    ensures no_scan { IfOk result (λ call. is_scan call ≡ false) }
+    ensures { IfOk result (λ call. IsTrue (is_tree_call call)) }
 {
-    if matches!(call, Call::Scan(..)) {
-        return Err(Fail::new("a scan"));
-    }
     match TreeCall::new(call) {
         Some(call) => Ok(call),
         None => Err(Fail::new("beyond the trees' limits")),

@@ -7,11 +7,11 @@ use Rattle.machine.proofs.machines.Machine.opened.Goals as goal
 
 pub invariant_of-result : goal.invariant_of-result
 invariant_of-result c = record {
-  root = c.requires.plan.shape.root;
+  root = c.requires.shape.root;
   long = ap length c.in_ok-words.ensures ∙ words-length c.args.shape;
   few = omega (
     arith,
-    c.requires.plan.few_scripts,
+    c.requires.few_scripts,
     zip-length (map (λ script. script.items) c.args.scripts.items) c.in_ok-runners.runners.items c.in_ok-runners.ensures,
   );
   under_way = ∣
@@ -19,8 +19,7 @@ invariant_of-result c = record {
         plan = plan_of c.args.shape c.args.variant (map (λ script. script.items) c.args.scripts.items);
         schedule = [];
         state = opened (plan_of c.args.shape c.args.variant (map (λ script. script.items) c.args.scripts.items));
-        within = c.requires.plan;
-        no_scans = c.requires.no_scans;
+        within = c.requires;
         gives = refl;
         few = few-left (length (map (λ script. script.items) c.args.scripts.items)) c.args.limit c.ranges.limit.fits;
         shows = record {

@@ -16,7 +16,7 @@ pub turn-requires-clause-built : goal.turn-requires-clause-built
 turn-requires-clause-built c =
     λ call e. is-built c.args.self.now.shape c.args.self.now.variant c.args.self.now.words.items c.args.self.now.runners.items c.args.p c.index_mut.result.now
     (slice_get-get_or c.args.self.now.runners.items c.args.p c.index_mut.result.now (search rules) ∙ ap Some (sym c.index_mut.ensures.value))
-    c.args.self.now.left call c.args.self.now.under_way e
+    c.args.self.now.left call c.args.self.now.under_way
 
 pub invariant_of-self-in-Ok-clause-tasks : goal.invariant_of-self-in-Ok-clause-tasks
 invariant_of-self-in-Ok-clause-tasks c =
