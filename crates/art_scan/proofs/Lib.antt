@@ -1,3 +1,4 @@
+mod ByteLemmas
 mod NextLemmas
 mod RangeLemmas
 mod WayLemmas

@@ -1,5 +1,5 @@
 -- The next byte, index word or child of a scan, by what is met.
-use Rattle.std.proofs.Common.{◌≡◌, ℕ, zero, suc, ◌+◌, ◌-◌, List, [], ◌∷◌, refl, ap, sym, ◌∙◌, Bool, true, false, arith}
+use Rattle.std.proofs.Common.{◌≡◌, ℕ, zero, suc, ◌+◌, ◌-◌, ◌<◌, ◌≤◌, List, [], ◌∷◌, refl, ap, sym, ◌∙◌, Bool, true, false, arith}
 use Rattle.std.proofs.lemmas.Bool.{false≢true}
 use Rattle.std.specs.Prelude.{if◌then◌else◌, Option, Some, None, filter}
 use Rattle.art_rows.specs.declared.table.Kind.{Kind}
@@ -10,6 +10,7 @@ use Rattle.art_stages.specs.declared.stage.Frame.{Frame}
 use Rattle.art_stages.specs.declared.stage.ScanStep.TheVariants.{Index}
 use Rattle.art_stages.specs.Stages.{row_at}
 use Rattle.art_stages.specs.Scans.{Walk, ScanAt, at, in_word, slot_at, bytes_at, child_from, index_at_list, words_at, frame_at}
+use Rattle.art_scan.proofs.ByteLemmas.{bytes_skip}
 use Rattle.art_scan.specs.Walks.{has_any, frame_test, frame_slot}
 
 less_one : (n : ℕ) → suc n - 1 ≡ n
@@ -24,10 +25,6 @@ list_some n w j m (x ∷ xs) other h = refl
 list_none : (n : Held) (w : Walk) (j m : ℕ) (xs : List ℕ) (other : ScanAt) → has_any xs ≡ false → index_at_list n w j m xs other ≡ other
 list_none n w j m [] other h = refl
 list_none n w j m (x ∷ xs) other h = absurd (false≢true (sym h))
-
-pub words_none : (low high : ℕ) (n : Held) (w : Walk) (j m : ℕ) (other : ScanAt) → m ≡ 0 → words_at low high n w j m other ≡ other
-words_none low high n w j zero other e = refl
-words_none low high n w j (suc m) other e = absurd (omega (arith, e))
 
 pub words_some : (low high : ℕ) (n : Held) (w : Walk) (j m : ℕ) (other : ScanAt) → (m ≡ 0 → ⊥)
     → has_any (filter (in_word j) (bytes_of low high (row_at n))) ≡ true → words_at low high n w j m other ≡ at (Index n j (m - 1)) w
@@ -46,10 +43,6 @@ words_skip low high n w j (suc m) other some h =
 -- bytes
 
 module _ (test : ℕ → Bool) (slot_of : ℕ → Option ℕ) (child : ℕ → ℕ → ℕ → ScanAt) where
-  pub bytes_none : (x n : ℕ) (other : ScanAt) → n ≡ 0 → bytes_at test slot_of child x n other ≡ other
-  bytes_none x zero other e = refl
-  bytes_none x (suc n) other e = absurd (omega (arith, e))
-
   pub bytes_found : (x n slot : ℕ) (other : ScanAt) → (n ≡ 0 → ⊥) → test x ≡ true → slot_of x ≡ Some slot
       → bytes_at test slot_of child x n other ≡ child (x + 1) (n - 1) slot
   bytes_found x zero slot other some t e = absurd (some refl)
@@ -94,3 +87,22 @@ behind_none Four low high w f other h = refl
 behind_none Sixteen low high w f other h = refl
 behind_none FortyEight low high w f other h = absurd (h refl)
 behind_none Full low high w f other h = refl
+
+-- bytes without a slot are passed over, whether they are walked or not
+pub bytes_bare : (test : ℕ → Bool) (slot_of : ℕ → Option ℕ) (child : ℕ → ℕ → ℕ → ScanAt) (x n : ℕ) (other : ScanAt) → (n ≡ 0 → ⊥) → slot_of x ≡ None
+    → bytes_at test slot_of child x n other ≡ bytes_at test slot_of child (x + 1) (n - 1) other
+bytes_bare test slot_of child x n other some e = go (test x) refl
+  where
+    go : (b : Bool) → test x ≡ b → bytes_at test slot_of child x n other ≡ bytes_at test slot_of child (x + 1) (n - 1) other
+    go true t = bytes_empty test slot_of child x n other some t e
+    go false t = bytes_not test slot_of child x n other some t
+
+-- from a later byte on
+pub frame_from : (kind : Kind) (low high : ℕ) (w : Walk) (f : Frame) (d : ℕ) (other : ScanAt) → d ≤ f.left
+    → ((y : ℕ) → f.byte ≤ y → y < f.byte + d → frame_test kind low high f y ≡ false)
+    → frame_at kind low high w f other
+    ≡ bytes_at (frame_test kind low high f) (frame_slot kind f) (child_from w f) (f.byte + d) (f.left - d) (behind_bytes kind low high w f other)
+frame_from kind low high w f d other most h =
+    frame_bytes kind low high w f other
+    ∙ (ap (λ n. bytes_at (frame_test kind low high f) (frame_slot kind f) (child_from w f) f.byte n (behind_bytes kind low high w f other)) (omega (arith, most))
+    ∙ bytes_skip (frame_test kind low high f) (frame_slot kind f) (child_from w f) f.byte d (f.left - d) (behind_bytes kind low high w f other) h)

@@ -24,18 +24,10 @@ pub fn is_met(low: u64, high: u64, row: Held) -> bool
     is_met_from(low, high, row, 0, 256)
 }
 
-fn is_met_in_from(low: u64, high: u64, row: Held, word: u32, byte: u32, left: u32) -> bool
-    requires { byte + left ≤ 256 }
-    ensures { result ≡ has_any (filter (in_word word) (filter (can_hold low high (row_at row)) (numbers byte left))) }
-{
-    left != 0
-        && (byte / 8 == word && can_lie(low, high, row, byte)
-            || is_met_in_from(low, high, row, word, byte + 1, left - 1))
-}
-
 /// Is there one in this index word of a row of kind 48?
 pub fn is_met_in(low: u64, high: u64, row: Held, word: u32) -> bool
+    requires { word ≤ 31 }
     ensures { result ≡ has_any (filter (in_word word) (bytes_of low high (row_at row))) }
 {
-    is_met_in_from(low, high, row, word, 0, 256)
+    is_met_from(low, high, row, 8 * word, 8)
 }

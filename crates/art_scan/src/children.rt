@@ -1,5 +1,5 @@
 // The next child of a row that a scan walks.
-ghost use Rattle.std.specs.Prelude.{◌≡◌, ◌+◌, ◌<◌, ◌≤◌, true, nat_le, IfSome};
+ghost use Rattle.std.specs.Prelude.{◌≡◌, ◌+◌, ◌<◌, ◌≤◌, ℕ, true, false, nat_le, IfSome};
 ghost use Rattle.art_stages.specs.Scans.{Walk, ScanAt, words_at, frame_at};
 ghost use Rattle.art_scan.specs.Sound.{is_sound_frame, is_sound_step};
 ghost use Rattle.art_scan.specs.Walks.{step_or, frame_test, frame_slot, bytes_of_frame};
@@ -44,6 +44,35 @@ fn slot_of(frame: Frame, byte: u32) -> Option<usize>
     }
 }
 
+/// So many bytes come before those of a frame's index word, in kind 48.
+fn bytes_before(frame: Frame) -> u32
+    requires { is_sound_frame frame ≡ true }
+    ensures most { result ≤ frame.left }
+    ensures passed { (low high y : ℕ) → frame.byte ≤ y → y < frame.byte + result → frame_test frame.row.kind low high frame y ≡ false }
+{
+    match frame.row.kind {
+        Kind::FortyEight => {
+            let first = 8 * frame.index;
+            if frame.byte + frame.left <= first {
+                frame.left
+            } else {
+                first.saturating_sub(frame.byte)
+            }
+        }
+        _ => 0,
+    }
+}
+
+/// Do all bytes from this one on come behind those of its index word, in kind 48?
+fn is_past(frame: Frame, byte: u32) -> bool
+    ensures { result ≡ true → (low high y : ℕ) → byte ≤ y → frame_test frame.row.kind low high frame y ≡ false }
+{
+    match frame.row.kind {
+        Kind::FortyEight => byte / 8 > frame.index,
+        _ => false,
+    }
+}
+
 /// The next child among so many bytes from this one on.
 fn next_byte(low: u64, high: u64, frame: Frame, byte: u32, left: u32) -> Option<ScanStep>
     requires bytes { byte + left ≤ 256 }
@@ -54,20 +83,27 @@ fn next_byte(low: u64, high: u64, frame: Frame, byte: u32, left: u32) -> Option<
     if left == 0 {
         return None;
     }
-    if is_walked(low, high, frame, byte) {
-        if let Some(slot) = slot_of(frame, byte) {
-            let frame = Frame {
-                row: frame.row,
-                keys: frame.keys,
-                byte: byte + 1,
-                left: left - 1,
-                index: frame.index,
-                words: frame.words,
-            };
-            return Some(ScanStep::Child { frame, slot });
+    if is_past(frame, byte) {
+        return None;
+    }
+    match slot_of(frame, byte) {
+        None => next_byte(low, high, frame, byte + 1, left - 1),
+        Some(slot) => {
+            if is_walked(low, high, frame, byte) {
+                let frame = Frame {
+                    row: frame.row,
+                    keys: frame.keys,
+                    byte: byte + 1,
+                    left: left - 1,
+                    index: frame.index,
+                    words: frame.words,
+                };
+                Some(ScanStep::Child { frame, slot })
+            } else {
+                next_byte(low, high, frame, byte + 1, left - 1)
+            }
         }
     }
-    next_byte(low, high, frame, byte + 1, left - 1)
 }
 
 /// The next index word that holds a byte, among so many from this one on.
@@ -95,7 +131,8 @@ pub fn next_child(low: u64, high: u64, frame: Frame) -> Option<ScanStep>
     ensures next { (w : Walk) (other : ScanAt) → frame_at frame.row.kind low high w frame other ≡ step_or result w other }
     ensures sound { IfSome result (λ s. is_sound_step s ≡ true) }
 {
-    match next_byte(low, high, frame, frame.byte, frame.left) {
+    let passed = bytes_before(frame);
+    match next_byte(low, high, frame, frame.byte + passed, frame.left - passed) {
         Some(step) => Some(step),
         None => match frame.row.kind {
             Kind::FortyEight => { next_word(low, high, frame.row, frame.index + 1, frame.words) }

@@ -1,0 +1,142 @@
+-- The bytes of one index word, and bytes that are passed over.
+use Rattle.std.proofs.Common.{◌≡◌, ℕ, zero, suc, ◌+◌, ◌-◌, ◌*◌, ◌/◌, ◌<◌, ◌≤◌, List, [], ◌∷◌, ◌++◌, refl, ap, ◌∙◌, Bool, true, false, arith}
+use Rattle.std.proofs.lemmas.Bool.{eq-eqb, ne_eqb}
+use Rattle.std.proofs.lemmas.List.{append-nil}
+use Rattle.std.proofs.lemmas.List.Elements.{filter-append}
+use Rattle.std.specs.Prelude.{if◌then◌else◌, ◌&&◌, filter, Option}
+use Rattle.art_rows.specs.declared.table.Kind.{Kind}
+use Rattle.art_rows.specs.declared.table.Kind.TheVariants.{Four, Sixteen, FortyEight, Full}
+use Rattle.art_steps.specs.Steps.{numbers}
+use Rattle.art_stages.specs.declared.stage.Frame.{Frame}
+use Rattle.art_stages.specs.Scans.{ScanAt, in_word, lies, slot_at, bytes_at}
+use Rattle.art_scan.specs.Walks.{frame_test}
+
+zero_left : (m : ℕ) → 0 + m ≡ m
+zero_left m = omega arith
+
+zero_right : (x : ℕ) → x ≡ x + 0
+zero_right x = omega arith
+
+suc_left : (n m : ℕ) → suc n + m ≡ suc (n + m)
+suc_left n m = omega arith
+
+suc_right : (x n : ℕ) → x + 1 + n ≡ x + suc n
+suc_right x n = omega arith
+
+numbers_split : (x n m : ℕ) → numbers x (n + m) ≡ numbers x n ++ numbers (x + n) m
+numbers_split x zero m = ap (numbers x) (zero_left m) ∙ ap (λ y. numbers y m) (zero_right x)
+numbers_split x (suc n) m =
+    ap (numbers x) (suc_left n m)
+    ∙ ap (λ ys. x ∷ ys) (numbers_split (x + 1) n m ∙ ap (λ y. numbers (x + 1) n ++ numbers y m) (suc_right x n))
+
+none_in : (j : ℕ) (p : ℕ → Bool) (x n : ℕ) → ((y : ℕ) → x ≤ y → y < x + n → in_word j y ≡ false) → filter (in_word j) (filter p (numbers x n)) ≡ []
+none_in j p x zero h = refl
+none_in j p x (suc n) h = go (p x) (none_in j p (x + 1) n (λ y a b. h y (omega (arith, a)) (omega (arith, b))))
+  where
+    go : (b : Bool) → filter (in_word j) (filter p (numbers (x + 1) n)) ≡ []
+        → filter (in_word j) (if b then x ∷ filter p (numbers (x + 1) n) else filter p (numbers (x + 1) n)) ≡ []
+    go true e =
+        ap (λ b. if b then x ∷ filter (in_word j) (filter p (numbers (x + 1) n)) else filter (in_word j) (filter p (numbers (x + 1) n)))
+        (h x (omega arith) (omega arith)) ∙ e
+    go false e = e
+
+all_in : (j : ℕ) (p : ℕ → Bool) (x n : ℕ) → ((y : ℕ) → x ≤ y → y < x + n → in_word j y ≡ true)
+    → filter (in_word j) (filter p (numbers x n)) ≡ filter p (numbers x n)
+all_in j p x zero h = refl
+all_in j p x (suc n) h = go (p x) (all_in j p (x + 1) n (λ y a b. h y (omega (arith, a)) (omega (arith, b))))
+  where
+    go : (b : Bool) → filter (in_word j) (filter p (numbers (x + 1) n)) ≡ filter p (numbers (x + 1) n)
+        → filter (in_word j) (if b then x ∷ filter p (numbers (x + 1) n) else filter p (numbers (x + 1) n))
+        ≡ (if b then x ∷ filter p (numbers (x + 1) n) else filter p (numbers (x + 1) n))
+    go true e =
+        ap (λ b. if b then x ∷ filter (in_word j) (filter p (numbers (x + 1) n)) else filter (in_word j) (filter p (numbers (x + 1) n)))
+        (h x (omega arith) (omega arith)) ∙ ap (λ ys. x ∷ ys) e
+    go false e = e
+
+before : (j y : ℕ) → y < 8 * j → in_word j y ≡ false
+before j y h = ne_eqb (y / 8) j (λ e. omega (arith, h, e))
+
+within : (j y : ℕ) → 8 * j ≤ y → y < 8 * j + 8 → in_word j y ≡ true
+within j y a b = eq-eqb (y / 8) j (omega (arith, a, b))
+
+pub behind : (j y : ℕ) → 8 * j + 8 ≤ y → in_word j y ≡ false
+behind j y h = ne_eqb (y / 8) j (λ e. omega (arith, h, e))
+
+abbrev chosen : ℕ → (ℕ → Bool) → List ℕ → List ℕ
+chosen j p xs = filter (in_word j) (filter p xs)
+
+chosen_append : (j : ℕ) (p : ℕ → Bool) (xs ys : List ℕ) → chosen j p (xs ++ ys) ≡ chosen j p xs ++ chosen j p ys
+chosen_append j p xs ys = ap (filter (in_word j)) (filter-append p xs ys) ∙ filter-append (in_word j) (filter p xs) (filter p ys)
+
+word_split : (j k r : ℕ) (p : ℕ → Bool) → k ≡ 8 → filter (in_word j) (filter p (numbers 0 (8 * j + (k + r)))) ≡ filter p (numbers (8 * j) k)
+word_split j k r p e =
+    ap (chosen j p) (numbers_split 0 (8 * j) (k + r))
+    ∙ (ap (λ x. chosen j p (numbers 0 (8 * j) ++ numbers x (k + r))) (zero_left (8 * j))
+    ∙ (ap (λ ys. chosen j p (numbers 0 (8 * j) ++ ys)) (numbers_split (8 * j) k r)
+    ∙ (chosen_append j p (numbers 0 (8 * j)) (numbers (8 * j) k ++ numbers (8 * j + k) r)
+    ∙ (ap (λ ys. ys ++ chosen j p (numbers (8 * j) k ++ numbers (8 * j + k) r)) (none_in j p 0 (8 * j) (λ y a b. before j y (omega (arith, b))))
+    ∙ (chosen_append j p (numbers (8 * j) k) (numbers (8 * j + k) r)
+    ∙ (ap (λ ys. ys ++ chosen j p (numbers (8 * j + k) r)) (all_in j p (8 * j) k (λ y a b. within j y a (omega (arith, b, e))))
+    ∙ (ap (λ ys. filter p (numbers (8 * j) k) ++ ys) (none_in j p (8 * j + k) r (λ y a b. behind j y (omega (arith, a, e))))
+    ∙ append-nil (filter p (numbers (8 * j) k)))))))))
+
+-- the bytes of an index word are eight
+pub word_bytes : (j n k : ℕ) (p : ℕ → Bool) → j ≤ 31 → n ≡ 256 → k ≡ 8 → filter (in_word j) (filter p (numbers 0 n)) ≡ filter p (numbers (8 * j) k)
+word_bytes j n k p h e f = ap (λ m. filter (in_word j) (filter p (numbers 0 m))) (omega (arith, h, e, f)) ∙ word_split j k (248 - 8 * j) p f
+
+-- bytes that are not walked are passed over
+pub bytes_skip : (test : ℕ → Bool) (slot_of : ℕ → Option ℕ) (child : ℕ → ℕ → ℕ → ScanAt) (x d n : ℕ) (other : ScanAt)
+    → ((y : ℕ) → x ≤ y → y < x + d → test y ≡ false)
+    → bytes_at test slot_of child x (d + n) other ≡ bytes_at test slot_of child (x + d) n other
+bytes_skip test slot_of child x zero n other h =
+    ap (λ k. bytes_at test slot_of child x k other) (zero_left n) ∙ ap (λ y. bytes_at test slot_of child y n other) (zero_right x)
+bytes_skip test slot_of child x (suc d) n other h =
+    ap (λ k. bytes_at test slot_of child x k other) (suc_left d n)
+    ∙ (ap (λ b. if b then slot_at (slot_of x) (child (x + 1) (d + n)) (bytes_at test slot_of child (x + 1) (d + n) other)
+    else bytes_at test slot_of child (x + 1) (d + n) other) (h x (omega arith) (omega arith))
+    ∙ (bytes_skip test slot_of child (x + 1) d n other (λ y a b. h y (omega (arith, a)) (omega (arith, b)))
+    ∙ ap (λ y. bytes_at test slot_of child y n other) (suc_right x d)))
+
+pub bytes_past : (test : ℕ → Bool) (slot_of : ℕ → Option ℕ) (child : ℕ → ℕ → ℕ → ScanAt) (x n : ℕ) (other : ScanAt)
+    → ((y : ℕ) → x ≤ y → test y ≡ false) → bytes_at test slot_of child x n other ≡ other
+bytes_past test slot_of child x zero other h = refl
+bytes_past test slot_of child x (suc n) other h =
+    ap (λ b. if b then slot_at (slot_of x) (child (x + 1) n) (bytes_at test slot_of child (x + 1) n other)
+    else bytes_at test slot_of child (x + 1) n other) (h x (omega arith))
+    ∙ bytes_past test slot_of child (x + 1) n other (λ y a. h y (omega (arith, a)))
+
+and_false : (a b : Bool) → b ≡ false → (a && b) ≡ false
+and_false true b e = e
+and_false false b e = refl
+
+-- in kind 48 no byte before the index word or behind it is walked
+
+pub test_before : (kind : Kind) (low high : ℕ) (f : Frame) (y : ℕ) → kind ≡ FortyEight → y < 8 * f.index → frame_test kind low high f y ≡ false
+test_before Four low high f y e h = absurd (four e)
+  where
+    four : Four ≡ FortyEight → ⊥
+    four k = cc
+test_before Sixteen low high f y e h = absurd (sixteen e)
+  where
+    sixteen : Sixteen ≡ FortyEight → ⊥
+    sixteen k = cc
+test_before FortyEight low high f y e h = and_false (lies low high f y) (in_word f.index y) (before f.index y h)
+test_before Full low high f y e h = absurd (full e)
+  where
+    full : Full ≡ FortyEight → ⊥
+    full k = cc
+
+pub test_behind : (kind : Kind) (low high : ℕ) (f : Frame) (y : ℕ) → kind ≡ FortyEight → 8 * f.index + 8 ≤ y → frame_test kind low high f y ≡ false
+test_behind Four low high f y e h = absurd (four e)
+  where
+    four : Four ≡ FortyEight → ⊥
+    four k = cc
+test_behind Sixteen low high f y e h = absurd (sixteen e)
+  where
+    sixteen : Sixteen ≡ FortyEight → ⊥
+    sixteen k = cc
+test_behind FortyEight low high f y e h = and_false (lies low high f y) (in_word f.index y) (behind f.index y h)
+test_behind Full low high f y e h = absurd (full e)
+  where
+    full : Full ≡ FortyEight → ⊥
+    full k = cc
