@@ -13,8 +13,8 @@ use Rattle.events.specs.declared.event.Event.TheVariants.{Invoke, Answer}
 use Rattle.events.specs.declared.fault.HistoryFault.{HistoryFault}
 use Rattle.events.specs.Limits.{call_limit}
 use Rattle.events.specs.Events.{process_of, is_invocation, events_of, takes_turns, IsWellFormed}
-use Rattle.events.specs.Histories.{is_shaped, is_small, call_count, IsHistory}
-use Rattle.events.specs.HistoryFaults.{ends_waiting, has_open_call, is_out_of_turn, is_call_too_many, event_fault, fault_after, IsFirstFault}
+use Rattle.events.specs.Histories.{is_shaped, is_small, call_count, AreHistoryEvents}
+use Rattle.events.specs.HistoryFaults.{ends_waiting, has_open_call, is_out_of_turn, is_call_too_many, event_fault, fault_after}
 
 -- a process's events, with one event more
 events_of-push : (p : ℕ) (before : List Event) (e : Event) → events_of p (before ++ e ∷ []) ≡ events_of p before ++ cond (process_of e == p) (e ∷ []) []
@@ -88,8 +88,8 @@ room calls (Invoke p call) h within = let below = leb-false call_limit calls h i
 room calls (Answer p reply) h within = omega arith
 
 -- a history with one event more, where nothing is wrong with it
-pub IsHistory-push : (before : List Event) (e : Event) → IsHistory before → fault_after before e ≡ None → IsHistory (before ++ e ∷ [])
-IsHistory-push before e h none =
+pub AreHistoryEvents-push : (before : List Event) (e : Event) → AreHistoryEvents before → fault_after before e ≡ None → AreHistoryEvents (before ++ e ∷ [])
+AreHistoryEvents-push before e h none =
     let sound = IsSound-from_none (length before) (call_count before) (has_open_call (process_of e) before) e none in
     record {
       shaped = rw (list_all-append is_shaped before (e ∷ []), h.shaped, sound.shaped) refl;
@@ -139,16 +139,10 @@ own_events before e rest h =
     rw own at (rw (filter-append (λ x. process_of x == process_of e) before (e ∷ rest)) at h)
 
 -- nothing is wrong with an event of a history, after those before it
-pub IsHistory-next : (before rest : List Event) (e : Event) → IsHistory (before ++ e ∷ rest) → fault_after before e ≡ None
-IsHistory-next before rest e h = none-from_IsSound (length before) (call_count before) (has_open_call (process_of e) before) e (record {
+pub AreHistoryEvents-next : (before rest : List Event) (e : Event) → AreHistoryEvents (before ++ e ∷ rest) → fault_after before e ≡ None
+AreHistoryEvents-next before rest e h = none-from_IsSound (length before) (call_count before) (has_open_call (process_of e) before) e (record {
   shaped = passes_at is_shaped before e rest h.shaped;
   small = passes_at is_small before e rest h.small;
   calls_left = some_left (call_count before) (call_count rest) e (calls_before before e rest h.calls);
   in_turn = in_turn_at false (events_of (process_of e) before) e (events_of (process_of e) rest) (own_events before e rest (h.well_formed (process_of e)));
 })
-
--- a list with a first fault is no history
-pub IsFirstFault-not_history : (events : List Event) (fault : HistoryFault) → IsFirstFault events fault → IsHistory events → ⊥
-IsFirstFault-not_history events fault first h =
-    let none = IsHistory-next first.before first.rest first.event (rw (← first.parts) h) in
-    absurd (cc (first.shows, none))

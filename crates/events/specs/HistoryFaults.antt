@@ -1,12 +1,15 @@
--- The first fault of a list of events that is no history.
+-- The first fault of pairs and events that are no history: that of the pairs comes before that of the events.
 use Rattle.events.specs.declared.fault.HistoryFault.TheVariants as faults
-use Rattle.std.specs.Prelude.{◌≡◌, ℕ, Bool, false, not, ◌||◌, nat_le, if◌then◌else◌, List, [], ◌∷◌, ◌++◌, length, Option, Some, None, ⊤}
+use Rattle.std.specs.Prelude.{◌≡◌, ℕ, ◌⊎◌, Bool, false, not, ◌||◌, nat_lt, nat_le, if◌then◌else◌, List, [], ◌∷◌, ◌++◌, length, Option, Some, None, ⊤}
+use Rattle.std.specs.List.{list_all}
 use Rattle.events.specs.declared.event.Event.{Event}
 use Rattle.events.specs.declared.event.Event.TheVariants.{Invoke, Answer}
 use Rattle.events.specs.declared.fault.HistoryFault.{HistoryFault}
-use Rattle.events.specs.Limits.{call_limit}
+use Rattle.events.specs.Limits.{call_limit, start_limit}
 use Rattle.events.specs.Events.{process_of, is_invocation, events_of}
-use Rattle.events.specs.Histories.{is_shaped, is_small, call_count, IsHistory}
+use Rattle.events.specs.HistoryView.{HistoryView}
+use Rattle.events.specs.Starts.{IsStart}
+use Rattle.events.specs.Histories.{is_shaped, is_small, call_count, AreHistoryEvents}
 
 -- whether the last event is an invocation, where `waiting` says so of an empty list
 abbrev pub ends_waiting : Bool → List Event → Bool
@@ -39,21 +42,49 @@ event_fault place calls has_open e =
 abbrev pub fault_after : List Event → Event → Option HistoryFault
 fault_after before e = event_fault (length before) (call_count before) (has_open_call (process_of e) before) e
 
--- the list begins with a history, and the event after that shows the fault
-pub record IsFirstFault (events : List Event) (fault : HistoryFault) : Type 0 where
-  pub before : List Event
-  pub event : Event
-  pub rest : List Event
-  pub parts : events ≡ before ++ event ∷ rest
-  pub history : IsHistory before
-  pub shows : fault_after before event ≡ Some fault
+-- whether a key is above those of all pairs before it: of pairs by rising key, above the last one
+abbrev pub is_above : List (ℕ × ℕ) → ℕ → Bool
+is_above before key = list_all (λ pair. nat_lt pair.0 key) before
 
--- why a list of events was refused: its first fault, unless memory ran out
-abbrev pub IsRefusedFor : List Event → HistoryFault → Type 0
-IsRefusedFor events faults.Memory = ⊤
-IsRefusedFor events fault = IsFirstFault events fault
+-- what is wrong with the pair that follows these: it is one too many, or its key does not rise
+abbrev pub pair_fault_after : List (ℕ × ℕ) → ℕ × ℕ → Option HistoryFault
+pair_fault_after before pair =
+    if nat_le start_limit (length before) then Some faults.TooMany
+    else if not (is_above before pair.0) then Some (faults.Start (length before))
+    else None
+
+-- the list begins with items that are sound, and the item after those shows the fault
+pub record IsFirstFaultOf {X : Type 0} (IsSound : List X → Type 0) (fault_of_next : List X → X → Option HistoryFault) (items : List X) (fault : HistoryFault)
+    : Type 0 where
+  pub before : List X
+  pub next : X
+  pub rest : List X
+  pub parts : items ≡ before ++ next ∷ rest
+  pub sound : IsSound before
+  pub shows : fault_of_next before next ≡ Some fault
+
+-- the first fault of pairs, and of events
+abbrev pub IsFirstPairFault : List (ℕ × ℕ) → HistoryFault → Type 0
+IsFirstPairFault pairs fault = IsFirstFaultOf IsStart pair_fault_after pairs fault
+
+abbrev pub IsFirstEventFault : List Event → HistoryFault → Type 0
+IsFirstEventFault events fault = IsFirstFaultOf AreHistoryEvents fault_after events fault
+
+-- the first fault: that of the pairs, or where they show none that of the events
+abbrev pub IsFirstFault : HistoryView → HistoryFault → Type 0
+IsFirstFault history fault = IsFirstPairFault history.start fault ⊎ (IsStart history.start × IsFirstEventFault history.events fault)
+
+-- why pairs and events were refused: their first fault, unless memory ran out
+abbrev pub IsRefusedFor : HistoryView → HistoryFault → Type 0
+IsRefusedFor history faults.Memory = ⊤
+IsRefusedFor history fault = IsFirstFault history fault
 
 -- why an event was refused after others: its fault there, unless memory ran out
 abbrev pub IsRefusedAfter : List Event → Event → HistoryFault → Type 0
 IsRefusedAfter before e faults.Memory = ⊤
 IsRefusedAfter before e fault = fault_after before e ≡ Some fault
+
+-- and why a pair was
+abbrev pub IsPairRefusedAfter : List (ℕ × ℕ) → ℕ × ℕ → HistoryFault → Type 0
+IsPairRefusedAfter before pair faults.Memory = ⊤
+IsPairRefusedAfter before pair fault = pair_fault_after before pair ≡ Some fault

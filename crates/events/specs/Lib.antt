@@ -1,5 +1,7 @@
 pub mod Limits
 pub mod Events
+pub mod HistoryView
+pub mod Starts
 pub mod Histories
 pub mod HistoryFaults
 pub mod Keys

@@ -12,3 +12,7 @@ call_limit = 4096
 -- the most pairs in one reply
 abbrev pub pair_limit : ℕ
 pair_limit = 4096
+
+-- the most pairs that a history starts with
+abbrev pub start_limit : ℕ
+start_limit = 4096

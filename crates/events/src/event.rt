@@ -16,6 +16,8 @@ pub enum Call {
     Remove(u64),
     /// All pairs from the first key to the last, both included.
     Scan(u64, u64),
+    /// A key, the value that it has to have, and the one that it then is to hold.
+    Replace(u64, u64, u64),
 }
 
 impl Call {
@@ -26,7 +28,8 @@ impl Call {
         ensures { result ≡ low_key self.now }
     {
         match self {
-            Call::Get(key) | Call::Insert(key, _) | Call::Remove(key) => *key,
+            Call::Get(key) | Call::Insert(key, _) | Call::Remove(key) | Call::Replace(key, _, _) =>
+                *key,
             Call::Scan(low, _) => *low,
         }
     }
@@ -36,7 +39,8 @@ impl Call {
         ensures { result ≡ high_key self.now }
     {
         match self {
-            Call::Get(key) | Call::Insert(key, _) | Call::Remove(key) => *key,
+            Call::Get(key) | Call::Insert(key, _) | Call::Remove(key) | Call::Replace(key, _, _) =>
+                *key,
             Call::Scan(_, high) => *high,
         }
     }
@@ -45,7 +49,7 @@ impl Call {
     pub fn may_change(&self) -> bool
         ensures { result ≡ may_change self.now }
     {
-        matches!(self, Call::Insert(..) | Call::Remove(_))
+        matches!(self, Call::Insert(..) | Call::Remove(_) | Call::Replace(..))
     }
 }
 

@@ -2,7 +2,7 @@ use crate::memory::Memory;
 use std::alloc::AllocFailed;
 use thiserror::Error;
 
-/// Why a text or a list of events is no history: its first fault.
+/// Why a text, or pairs and events, are no history: its first fault.
 #[derive(Debug, Drop, Error)]
 pub enum HistoryFault {
     /// The text has more than `MAX_TEXT` bytes.
@@ -11,14 +11,15 @@ pub enum HistoryFault {
     /// The text is no JSON in UTF-8.
     #[error("2 NotJson")]
     NotJson,
-    /// The text is no object of `events`, an array, and `version`, the number 1, alone.
+    /// The text is no object of a history: `events`, an array, and `version`, the number 1, alone; or these
+    /// with the number 2 and `start`, an array.
     #[error("3 Version")]
     Version,
     /// The event at this place has no form that an event has.
     #[error("4 Shape at event {event}")]
     Shape { event: usize },
-    /// A process number of `PROCESSES` or more, a call past `MAX_CALLS`, or a reply of more than
-    /// `MAX_PAIRS` pairs.
+    /// A process number of `PROCESSES` or more, a call past `MAX_CALLS`, a reply of more than `MAX_PAIRS`
+    /// pairs, or a starting pair past `MAX_START`.
     #[error("5 TooMany")]
     TooMany,
     /// The event at this place comes out of turn: an invocation while its process has an open call,
@@ -28,6 +29,9 @@ pub enum HistoryFault {
     /// Want of memory.
     #[error("7 Memory")]
     Memory,
+    /// The starting pair at this place is no pair of numbers, or its key is not above the one before.
+    #[error("8 Start at pair {pair}")]
+    Start { pair: usize },
 }
 
 impl From<Memory> for HistoryFault {

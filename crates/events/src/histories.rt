@@ -1,5 +1,6 @@
-// Histories: well-formed lists of events within the limits, with their calls.
+// Histories: starting pairs and well-formed lists of events within the limits, with their calls.
 ghost use Rattle.std.specs.Prelude.{◌≡◌, IfOk, IfErr, OnOk, OnErr};
+ghost use Rattle.events.specs.HistoryView.{HistoryView, with_no_start};
 
 use crate::event::Event;
 use crate::fault::HistoryFault;
@@ -7,27 +8,30 @@ use crate::memory::Memory;
 use crate::open_calls::OpenCalls;
 use crate::operation::Operation;
 use crate::operations::operations_of;
+use crate::starts::test_start;
 use std::alloc::Global;
 use std::marker::Model;
 
-/// A history: its events are well formed and within the limits. Contracts see the list of events.
+/// A history: the pairs that the map holds at the start, and events, well formed and within the limits.
+/// Contracts see the two lists.
 #[derive(Debug, Drop)]
 pub struct History {
+    start: Vec<(u64, u64)>,
     events: Vec<Event>,
     calls: Vec<Operation>,
 }
 
 impl Model for History {
-    ghost use Rattle.std.specs.Prelude.{List, ◌≡◌};
-    ghost use Rattle.events.specs.declared.event.Event.{Event};
+    ghost use Rattle.std.specs.Prelude.{◌≡◌};
+    ghost use Rattle.events.specs.HistoryView.{HistoryView};
     ghost use Rattle.events.specs.Histories.{IsHistory};
     ghost use Rattle.events.specs.Operations.{operations};
 
-    ghost Value = { List Event };
+    ghost Value = { HistoryView };
 
-    ghost view = { λ h. h.events.items };
+    ghost view = { λ h. record { start = h.start.items; events = h.events.items } };
 
-    ghost invariant = { λ h. IsHistory h.events.items × (h.calls.items ≡ operations h.events.items) };
+    ghost invariant = { λ h. IsHistory (record { start = h.start.items; events = h.events.items }) × (h.calls.items ≡ operations h.events.items) };
 }
 
 impl History {
@@ -36,32 +40,69 @@ impl History {
     ghost use Rattle.events.specs.HistoryFaults.{IsRefusedFor};
     ghost use Rattle.events.specs.Operations.{operations};
 
-    /// The history of these events, with the calls that they make. Otherwise their first fault: `Shape` for
-    /// a scan whose first key is above its last, `TooMany`, `NotWellFormed`, or `Memory`. It takes time
-    /// in proportion to the events, for a fixed number of processes.
+    /// The history of these events from the empty map on, with the calls that they make. Otherwise their first
+    /// fault: `Shape` for a scan whose first key is above its last, `TooMany`, `NotWellFormed`, or `Memory`. It
+    /// takes time in proportion to the events, for a fixed number of processes.
     pub fn from_events(alloc: Global, events: Vec<Event>) -> Result<History, HistoryFault>
-        ensures ok { IfOk result (λ h. h ≡ events.items) }
-        ensures history { OnOk result (IsHistory events.items) }
-        ensures refused { IfErr result (IsRefusedFor events.items) }
-        ensures accepted { IsHistory events.items → IfErr result (λ e. e ≡ faults.Memory) }
+        ensures ok { IfOk result (λ h. h ≡ with_no_start events.items) }
+        ensures history { OnOk result (IsHistory (with_no_start events.items)) }
+        ensures refused { IfErr result (IsRefusedFor (with_no_start events.items)) }
+        ensures accepted { IsHistory (with_no_start events.items)
+            → IfErr result (λ e. e ≡ faults.Memory) }
     {
-        test_events(&events)?;
-        Ok(History::with_calls(alloc, events)?)
+        History::with_start(alloc, Vec::new(alloc), events)
     }
 
-    /// The history of events that are known to be one. It takes time in proportion to them, for a fixed number of
-    /// processes.
-    pub fn with_calls(alloc: Global, events: Vec<Event>) -> Result<History, Memory>
-        requires { IsHistory events.items }
-        ensures { IfOk result (λ h. h ≡ events.items) }
+    /// The history of these events from these pairs on, with the calls that they make. Otherwise the first fault:
+    /// of the pairs `TooMany` or `Start`, then of the events as `from_events` answers it; or `Memory`. It takes
+    /// time in proportion to the pairs and the events, for a fixed number of processes.
+    pub fn with_start(
+        alloc: Global,
+        start: Vec<(u64, u64)>,
+        events: Vec<Event>,
+    ) -> Result<History, HistoryFault>
+        ensures ok { IfOk result (λ h. h ≡ record { start = start.items; events = events.items }) }
+        ensures history { OnOk result
+            (IsHistory (record { start = start.items; events = events.items })) }
+        ensures refused { IfErr result
+            (IsRefusedFor (record { start = start.items; events = events.items })) }
+        ensures accepted { IsHistory (record { start = start.items; events = events.items })
+            → IfErr result (λ e. e ≡ faults.Memory) }
+    {
+        test_start(&start)?;
+        test_events(&events)?;
+        Ok(History::with_calls(alloc, start, events)?)
+    }
+
+    /// The history of pairs and events that are known to be one. It takes time in proportion to the events, for a
+    /// fixed number of processes.
+    pub fn with_calls(
+        alloc: Global,
+        start: Vec<(u64, u64)>,
+        events: Vec<Event>,
+    ) -> Result<History, Memory>
+        requires { IsHistory (record { start = start.items; events = events.items }) }
+        ensures { IfOk result (λ h. h ≡ record { start = start.items; events = events.items }) }
     {
         let calls = operations_of(alloc, &events)?;
-        Ok(History { events, calls })
+        Ok(History {
+            start,
+            events,
+            calls,
+        })
+    }
+
+    /// The pairs of a key and a value that the map holds at the start, by rising key.
+    pub fn start(&self) -> &[(u64, u64)]
+        ensures start { result.now ≡ self.now.start }
+        ensures history { IsHistory self.now }
+    {
+        &self.start
     }
 
     /// The events, in their order.
     pub fn events(&self) -> &[Event]
-        ensures events { result.now ≡ self.now }
+        ensures events { result.now ≡ self.now.events }
         ensures history { IsHistory self.now }
     {
         &self.events
@@ -69,21 +110,20 @@ impl History {
 
     /// The calls by number: call i is the i-th invocation, from 0.
     pub fn calls(&self) -> &[Operation]
-        ensures calls { result.now ≡ operations self.now }
+        ensures calls { result.now ≡ operations self.now.events }
         ensures history { IsHistory self.now }
     {
         &self.calls
     }
 }
 
-ghost use Rattle.events.specs.Histories.{IsHistory};
-ghost use Rattle.events.specs.HistoryFaults.{IsFirstFault};
-ghost use Rattle.events.specs.Operations.{operations, operation_of, response_from};
+ghost use Rattle.events.specs.Histories.{AreHistoryEvents};
+ghost use Rattle.events.specs.HistoryFaults.{IsFirstEventFault};
 
 /// Whether the events are those of a history; else their first fault.
 fn test_events(events: &[Event]) -> Result<(), HistoryFault>
-    ensures ok { OnOk result (IsHistory events.now) }
-    ensures first { IfErr result (IsFirstFault events.now) }
+    ensures ok { OnOk result (AreHistoryEvents events.now) }
+    ensures first { IfErr result (IsFirstEventFault events.now) }
 {
     let mut kept = OpenCalls::new();
     for (place, event) in events.iter().enumerate() {

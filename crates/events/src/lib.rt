@@ -9,6 +9,7 @@ mod memory;
 mod open_calls;
 mod operation;
 mod operations;
+mod starts;
 mod turns;
 
 pub use event::{Call, Event, Pairs, Reply};
@@ -27,3 +28,6 @@ pub const MAX_CALLS: usize = 4096;
 
 /// The most pairs that one reply lists.
 pub const MAX_PAIRS: usize = 4096;
+
+/// The most pairs that a history starts with.
+pub const MAX_START: usize = 4096;

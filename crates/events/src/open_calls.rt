@@ -2,7 +2,7 @@
 ghost use Rattle.std.specs.Prelude.{◌≡◌, ◌<◌, ◌⊎◌, ◌++◌, ◌∷◌, [], List, length, slice_index_or, OnOk, IfErr, Some, false};
 ghost use Rattle.events.specs.declared.event.Event.{Event};
 ghost use Rattle.events.specs.Events.{process_of, is_invocation};
-ghost use Rattle.events.specs.Histories.{has_range, pair_count, IsHistory};
+ghost use Rattle.events.specs.Histories.{has_range, pair_count, AreHistoryEvents};
 ghost use Rattle.events.specs.HistoryFaults.{event_fault, fault_after};
 
 use crate::event::{Call, Event, Reply};
@@ -33,8 +33,8 @@ impl OpenCalls {
     /// Tests the event at a place, and notes it where nothing is wrong with it.
     pub fn take(&mut self, place: usize, event: &Event) -> Result<(), HistoryFault>
         ensures history { (before : List Event) → AreOpenAfter before self.old
-            → length before ≡ place → IsHistory before
-            → OnOk result (IsHistory (before ++ event.now ∷ [])) }
+            → length before ≡ place → AreHistoryEvents before
+            → OnOk result (AreHistoryEvents (before ++ event.now ∷ [])) }
         ensures after { (before : List Event) → AreOpenAfter before self.old
             → OnOk result (AreOpenAfter (before ++ event.now ∷ []) self.new) }
         ensures fault { (before : List Event) → AreOpenAfter before self.old

@@ -10,9 +10,9 @@ returns-in_err-take-clause-first c =
     let size : length (take c.loop-place.place c.args.events.now) ≡ c.loop-place.place = grind (arith, common_steps) in
     rw (p.1, p.2) (record {
       before = take c.loop-place.place c.args.events.now;
-      event = c.index-events-place.result;
+      next = c.index-events-place.result;
       rest = drop (c.loop-place.place + 1) c.args.events.now;
       parts = parts_at c.args.events.now c.loop-place.place c.index-events-place.result c.loop-place-test.true c.index-events-place.is;
-      history = c.loop-place.invariant.history;
+      sound = c.loop-place.invariant.history;
       shows = c.in_err-take.ensures.fault (take c.loop-place.place c.args.events.now) c.loop-place.invariant.open_calls size;
     })

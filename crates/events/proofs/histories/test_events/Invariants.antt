@@ -1,7 +1,7 @@
 use Rattle.std.proofs.Common.{take}
-use Rattle.events.specs.Histories.{IsHistory}
+use Rattle.events.specs.Histories.{AreHistoryEvents}
 use Rattle.events.specs.OpenCalls.{AreOpenAfter}
 use Rattle.events.proofs.histories.test_events.Given as goal
 
 abbrev pub invariant-loop-place : goal.invariant-loop-place
-invariant-loop-place l = record { history : IsHistory (take l.place l.events); open_calls : AreOpenAfter (take l.place l.events) l.kept }
+invariant-loop-place l = record { history : AreHistoryEvents (take l.place l.events); open_calls : AreOpenAfter (take l.place l.events) l.kept }

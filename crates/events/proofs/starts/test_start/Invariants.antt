@@ -1,0 +1,6 @@
+use Rattle.std.proofs.Common.{take}
+use Rattle.events.specs.Starts.{IsStart}
+use Rattle.events.proofs.starts.test_start.Given as goal
+
+abbrev pub invariant-loop-place : goal.invariant-loop-place
+invariant-loop-place l = IsStart (take l.place l.pairs)

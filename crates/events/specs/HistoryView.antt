@@ -1,0 +1,19 @@
+-- What a contract sees of a history.
+use Rattle.std.specs.Prelude.{ℕ, List, [], ◌∷◌, ◌++◌}
+use Rattle.events.specs.declared.event.Event.{Event}
+
+-- the pairs that the map holds at the start, and what happened then
+pub record HistoryView : Type 0 where
+  pub start : List (ℕ × ℕ)
+  pub events : List Event
+
+-- a history that starts with no pairs
+abbrev pub with_no_start : List Event → HistoryView
+with_no_start events = record { start = []; events = events }
+
+-- the same history with one event more, and with one pair more at its start
+abbrev pub with_event : HistoryView → Event → HistoryView
+with_event history event = record { start = history.start; events = history.events ++ event ∷ [] }
+
+abbrev pub with_pair : HistoryView → ℕ × ℕ → HistoryView
+with_pair history pair = record { start = history.start ++ pair ∷ []; events = history.events }
