@@ -21,7 +21,8 @@ abbrev SplitsAlike : {X : Type 0} → List X → List X → X → X → Type 0
 SplitsAlike before ahead next after = ((before ≡ ahead) × (next ≡ after)) ⊎ (GoesOnWith before ahead after ⊎ GoesOnWith ahead before next)
 
 -- the same, with one item more in front
-splits_on : {X : Type 0} (x : X) (before ahead : List X) (next after : X) → SplitsAlike before ahead next after → SplitsAlike (x ∷ before) (x ∷ ahead) next after
+splits_on : {X : Type 0} (x : X) (before ahead : List X) (next after : X) → SplitsAlike before ahead next after
+    → SplitsAlike (x ∷ before) (x ∷ ahead) next after
 splits_on {X = X} x before ahead next after (inl h) = inl (ap (λ (xs : List X). x ∷ xs) h.0, h.1)
 splits_on {X = X} x before ahead next after (inr (inl h)) = inr (inl (record { more = h.more; parts = ap (λ (xs : List X). x ∷ xs) h.parts }))
 splits_on {X = X} x before ahead next after (inr (inr h)) = inr (inr (record { more = h.more; parts = ap (λ (xs : List X). x ∷ xs) h.parts }))
@@ -33,7 +34,8 @@ two_splits [] (a ∷ ahead) next after rest more h = inr (inr (record { more = a
 two_splits (b ∷ before) [] next after rest more h = inr (inl (record { more = before; parts = (cc) }))
 two_splits {X = X} (b ∷ before) (a ∷ ahead) next after rest more h =
     let same : b ≡ a = cc in
-    subst (λ (x : X). SplitsAlike (x ∷ before) (a ∷ ahead) next after) (sym same) (splits_on a before ahead next after (two_splits before ahead next after rest more (cc)))
+    subst (λ (x : X). SplitsAlike (x ∷ before) (a ∷ ahead) next after) (sym same)
+    (splits_on a before ahead next after (two_splits before ahead next after rest more (cc)))
 
 -- where no item of a sound list shows a fault after those before it
 module _ {X : Type 0} (IsSound : List X → Type 0) (fault_of_next : List X → X → Option HistoryFault)

@@ -1,5 +1,7 @@
 -- What a search by halves finds among pairs by rising key.
-use Rattle.std.proofs.Common.{◌≡◌, ℕ, suc, ◌+◌, ◌<◌, ◌≤◌, ◌∷◌, ◌++◌, length, slice_set, get_or, take, drop, Some, None, Result, Ok, Err, IfOk, IfErr, sym, ap}
+use Rattle.std.proofs.Common.{◌≡◌, ℕ, suc, ◌+◌, ◌<◌, ◌≤◌, ◌∷◌, ◌++◌, length, slice_set, get_or, take, drop, Some, None, Result, Ok, Err, IfOk, IfErr, refl, sym, ap}
+use Rattle.std.proofs.Common.{eq-eqb, inl, inr}
+use Rattle.std.proofs.lemmas.Bool.Decides.{eqb_tells}
 use Rattle.std.proofs.Common.{subst, arith, drop-cons}
 use Rattle.std.specs.List.{insert}
 use Rattle.std.specs.List.Sorted.{IsSearchInRange, IsBinarySearchResult, IsNonDecreasingBy}
@@ -8,7 +10,8 @@ use Rattle.std.proofs.lemmas.Cmp.{ranked}
 use Rattle.std.proofs.lemmas.List.{set_split, take-append-drop, get_or-take, get_or-drop, length-take-le, length-drop}
 use Rattle.std.proofs.lemmas.List.Sorted.{IsNonDecreasingBy-from_default}
 use Rattle.std.proofs.lemmas.Bool.Decides.{nat_tests}
-use Rattle.map_object.specs.MapObject.{Contents, IsRising, value_at, below, above}
+use Rattle.map_object.specs.MapObject.{Contents, IsRising, value_at, below, above, after}
+use Rattle.events.specs.declared.event.Call.TheVariants.{Replace}
 use Rattle.map_object.proofs.MapLemmas.{IsRising-insert, AreBelow, AreAbove, below_gap, above_gap, value_at_gap, below_found, above_found, value_at_found}
 use Rattle.map_object.specs.Places.{IsAt, IsGapFor}
 
@@ -78,6 +81,18 @@ module _ (m : Contents) (rising : IsRising m) (key : ℕ) where
 module _ (m : Contents) (key i value : ℕ) where
   pub written : IsAt m key i → slice_set m i (key, value) ≡ below key m ++ (key, value) ∷ above key m
   written at = rw (at.below, at.above) (set_split m i (key, value) at.in_range)
+
+  -- a replacement of the value there
+  pub replaced : (expected : ℕ) (found : ℕ × ℕ) → IsAt m key i → found ≡ get_or m i found → found.1 ≡ expected
+      → slice_set m i (key, value) ≡ after m (Replace key expected value)
+  replaced expected found at is same = rw (at.value found, ← is, eq-eqb found.1 expected same) (written at)
+
+  pub not_replaced : (expected : ℕ) (found : ℕ × ℕ) → IsAt m key i → found ≡ get_or m i found → (found.1 ≡ expected → ⊥)
+      → m ≡ after m (Replace key expected value)
+  not_replaced expected found at is other = elim (eqb_tells found.1 expected) [
+    | inl h ↦ absurd (other h.1)
+    | inr h ↦ rw (at.value found, ← is, h.0) refl
+  ]
 
   pub rising_written : IsRising m → IsAt m key i → IsRising (slice_set m i (key, value))
   rising_written rising at = rw (written at) (IsRising-insert m rising key value)

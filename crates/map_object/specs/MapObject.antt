@@ -1,8 +1,9 @@
 -- The sequential object: an ordered map, as the list of its pairs by rising key.
 use Rattle.events.specs.declared.event.Reply.TheVariants as replies
-use Rattle.std.specs.Prelude.{◌≡◌, ℕ, ◌<◌, ◌⊎◌, ◌==◌, ◌&&◌, nat_lt, nat_le, if◌then◌else◌, List, [], ◌∷◌, ◌++◌, filter, Option, Some, None, AllPairs}
+use Rattle.std.specs.Prelude.{◌≡◌, ℕ, ◌⊎◌, ◌==◌, ◌&&◌, Bool, false, nat_lt, nat_le, if◌then◌else◌, List, [], ◌∷◌, ◌++◌, filter, Option, Some, None}
 use Rattle.events.specs.declared.event.Call.{Call}
-use Rattle.events.specs.declared.event.Call.TheVariants.{Get, Insert, Remove, Scan}
+use Rattle.events.specs.declared.event.Call.TheVariants.{Get, Insert, Remove, Scan, Replace}
+use Rattle.events.specs.Starts.{KeysRise}
 use Rattle.events.specs.declared.event.Reply.{Reply}
 
 -- pairs of a key and a value
@@ -11,7 +12,7 @@ Contents = List (ℕ × ℕ)
 
 -- each key is below the later ones
 abbrev pub IsRising : Contents → Type 0
-IsRising m = AllPairs (λ a b. a.0 < b.0) m
+IsRising m = KeysRise m
 
 -- the value at a key
 abbrev pub value_at : Contents → ℕ → Option ℕ
@@ -28,6 +29,15 @@ above key m = filter (λ pair. nat_lt key pair.0) m
 abbrev pub within : ℕ → ℕ → Contents → Contents
 within low high m = filter (λ pair. nat_le low pair.0 && nat_le pair.0 high) m
 
+-- the pairs with a value put at a key
+abbrev pub put : ℕ → ℕ → Contents → Contents
+put key value m = below key m ++ (key, value) ∷ above key m
+
+-- whether a value or none is this value
+abbrev pub is_just : Option ℕ → ℕ → Bool
+is_just None value = false
+is_just (Some found) value = found == value
+
 -- a value or none, as a reply
 abbrev pub value_reply : Option ℕ → Reply
 value_reply None = replies.None
@@ -39,13 +49,15 @@ reply_to m (Get key) = value_reply (value_at m key)
 reply_to m (Insert key value) = value_reply (value_at m key)
 reply_to m (Remove key) = value_reply (value_at m key)
 reply_to m (Scan low high) = replies.Pairs (within low high m)
+reply_to m (Replace key expected value) = value_reply (value_at m key)
 
 -- the pairs after a call, unless it is refused
 abbrev pub after : Contents → Call → Contents
 after m (Get key) = m
-after m (Insert key value) = below key m ++ (key, value) ∷ above key m
+after m (Insert key value) = put key value m
 after m (Remove key) = below key m ++ above key m
 after m (Scan low high) = m
+after m (Replace key expected value) = if is_just (value_at m key) expected then put key value m else m
 
 -- the pairs after a call that was answered so: a refused call changes nothing
 abbrev pub after_reply : Contents → Call → Reply → Contents

@@ -2,6 +2,7 @@
 ghost use Rattle.std.specs.Prelude.{◌≡◌, ◌↔◌, ◌++◌, ◌∷◌, [], IsTrue, IfOk, IfErr, OnOk, OnErr};
 ghost use Rattle.map_object.specs.MapObject.{IsRising, IsLegalReply, value_at, below, above, within, reply_to, after};
 ghost use Rattle.map_object.specs.Places.{IsAt, IsGapFor};
+ghost use Rattle.events.specs.declared.event.Call.TheVariants.{Replace};
 
 use crate::replies::{is_list, is_value, value_reply};
 use events::{Call, Memory, Pairs, Reply};
@@ -32,6 +33,15 @@ impl SortedMap {
         SortedMap {
             pairs: Vec::new(alloc),
         }
+    }
+
+    /// The map of these pairs, whose keys rise. They are copied.
+    pub fn of(alloc: Global, pairs: &[(u64, u64)]) -> Result<SortedMap, Memory>
+        requires { IsRising pairs.now }
+        ensures { IfOk result (λ m. m ≡ pairs.now) }
+    {
+        let pairs = Vec::from_slice(alloc, pairs)?;
+        Ok(SortedMap { pairs })
     }
 
     /// The pairs of a key and a value, by rising key.
@@ -77,6 +87,9 @@ impl SortedMap {
                 let pairs = Vec::from_slice(alloc, self.range(low, high))?;
                 Ok(Reply::Pairs(Pairs::new(pairs)))
             }
+            Call::Replace(key, expected, replacement) => {
+                Ok(value_reply(self.replace(key, expected, replacement)))
+            }
         }
     }
 
@@ -89,9 +102,8 @@ impl SortedMap {
             return true;
         }
         match *call {
-            Call::Get(key) | Call::Insert(key, _) | Call::Remove(key) => {
-                is_value(reply, self.value(key))
-            }
+            Call::Get(key) | Call::Insert(key, _) | Call::Remove(key) | Call::Replace(key, _, _) =>
+                { is_value(reply, self.value(key)) }
             Call::Scan(low, high) => is_list(reply, self.range(low, high)),
         }
     }
@@ -123,6 +135,23 @@ impl SortedMap {
     {
         match self.place(key) {
             Ok(at) => Some(self.pairs.remove(at).1),
+            Err(_) => None,
+        }
+    }
+
+    /// Puts the replacement at the key where the expected value is there, and gives the value that was there.
+    fn replace(&mut self, key: u64, expected: u64, replacement: u64) -> Option<u64>
+        ensures old { result ≡ value_at self.old key }
+        ensures after { self.new ≡ after self.old (Replace key expected replacement) }
+    {
+        match self.place(key) {
+            Ok(at) => {
+                let found = self.pairs[at].1;
+                if found == expected {
+                    self.pairs[at] = (key, replacement);
+                }
+                Some(found)
+            }
             Err(_) => None,
         }
     }
