@@ -2,7 +2,7 @@
 use Rattle.events.specs.declared.event.Reply.TheVariants as replies
 use Rattle.std.proofs.Common.{◌≡◌, ◌≢◌, ℕ, List, [], ◌∷◌, Option, Some, None, inr, refl, sym, subst, ◌∙◌}
 use Rattle.events.specs.declared.event.Call.{Call}
-use Rattle.events.specs.declared.event.Call.TheVariants.{Get, Insert, Remove, Scan}
+use Rattle.events.specs.declared.event.Call.TheVariants.{Get, Insert, Remove, Scan, Replace}
 use Rattle.events.specs.declared.event.Reply.{Reply}
 use Rattle.events.specs.declared.operation.Operation.{Operation}
 use Rattle.events.specs.declared.operation.Response.{Response}
@@ -21,6 +21,7 @@ reply_to_answers m (Get key) e = value_answers (value_at m key) e
 reply_to_answers m (Insert key value) e = value_answers (value_at m key) e
 reply_to_answers m (Remove key) e = value_answers (value_at m key) e
 reply_to_answers m (Scan low high) e = cc
+reply_to_answers m (Replace key expected value) e = value_answers (value_at m key) e
 
 -- a call that is not refused is done
 pub after_reply-answer : (m : Contents) (call : Call) (reply : Reply) → reply ≢ replies.Refused → after_reply m call reply ≡ after m call

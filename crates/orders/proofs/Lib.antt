@@ -2,3 +2,4 @@ pub mod CallsAtLemmas
 pub mod LegalLemmas
 pub mod OrderLemmas
 pub mod PlaceLemmas
+mod PlainLemmas

@@ -1,3 +1,4 @@
 pub mod Laws
 pub mod Leads
 pub mod Orders
+pub mod PlainOrders

@@ -1,9 +1,11 @@
--- Legal lists of calls, and the orders of a history: Herlihy and Wing 1990, section 2, where an order is a linearization.
+-- Legal lists of calls, and the orders of a history from the pairs that it starts with: Herlihy and Wing 1990, section 2, where an order is a linearization.
 use Rattle.std.specs.Prelude.{◌≡◌, ◌≢◌, ℕ, ◌<◌, false, IsTrue, IsSomeAnd, List, [], ◌∷◌, length, Option, Some, None, slice_get, filter_map, All, AllPairs}
 use Rattle.std.specs.Prelude.{Contains, ⊤}
 use Rattle.events.specs.declared.event.Call.{Call}
 use Rattle.events.specs.declared.operation.Operation.{Operation}
 use Rattle.events.specs.declared.operation.Response.{Response}
+use Rattle.events.specs.HistoryView.{HistoryView}
+use Rattle.events.specs.Operations.{operations}
 use Rattle.events.specs.Precedence.{is_completed, precedes}
 use Rattle.map_object.specs.MapObject.{Contents, after, after_reply, IsLegalReply}
 
@@ -54,3 +56,11 @@ pub record IsOrder (start : Contents) (calls : List Operation) (order : List ℕ
 -- the calls are linearizable: they have an order
 abbrev pub IsLinearizable : Contents → List Operation → Type 0
 IsLinearizable start calls = (order : List ℕ) × IsOrder start calls order
+
+-- an order of a history: one of its calls, from the pairs that it starts with
+abbrev pub IsOrderOfHistory : HistoryView → List ℕ → Type 0
+IsOrderOfHistory history order = IsOrder history.start (operations history.events) order
+
+-- a history is linearizable: it has an order
+abbrev pub IsLinearizableHistory : HistoryView → Type 0
+IsLinearizableHistory history = IsLinearizable history.start (operations history.events)

@@ -4,5 +4,5 @@
 mod laws;
 mod recorded;
 
-pub use laws::legal_lists_lead;
+pub use laws::{legal_lists_lead, plain_histories_have_plain_orders};
 pub use recorded::{apply, may_come_next};

@@ -36,6 +36,9 @@ fn may_change(call: &Operation) -> bool
 {
     match &call.response {
         Some(response) if matches!(response.reply, Reply::Refused) => false,
-        _ => matches!(call.call, Call::Insert(..) | Call::Remove(..)),
+        _ => matches!(
+            call.call,
+            Call::Insert(..) | Call::Remove(..) | Call::Replace(..)
+        ),
     }
 }
