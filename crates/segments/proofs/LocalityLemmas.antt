@@ -1,16 +1,16 @@
 -- An order of all calls gives each segment an order, so a segment without order refutes the history.
-use Rattle.std.proofs.Common.{◌≡◌, ℕ, ◌<◌, false, List, length, get_or, filter, sym, subst}
+use Rattle.std.proofs.Common.{◌≡◌, ℕ, ◌<◌, false, List, length, get_or, filter, sym, ap, ap₂, ◌∙◌, subst}
 use Rattle.std.specs.Prelude.{◌≢◌, slice_get, slice_index, All, Contains}
 use Rattle.std.proofs.lemmas.List.Elements.{All-filter, All-contains, Contains-get_or}
 use Rattle.std.proofs.lemmas.List.Kept.{AllPairs-filter}
 use Rattle.events.specs.declared.operation.Operation.{Operation}
 use Rattle.list_laws.specs.Lists.{has_number}
 use Rattle.events.specs.Precedence.{precedes}
-use Rattle.map_object.specs.MapObject.{Contents}
+use Rattle.map_object.specs.MapObject.{Contents, within}
 use Rattle.orders.specs.Orders.{calls_at, IsLegalOrder, IsCompletedAt, IsOrder, IsLinearizable}
 use Rattle.segments.specs.SegmentView.{SegmentView}
 use Rattle.segments.specs.Segments.{IsSegment, AreSegments}
-use Rattle.segments.specs.SegmentOrders.{start_of, IsOrderOf, HasNoOrder}
+use Rattle.segments.specs.SegmentOrders.{IsOrderOf, HasNoOrder}
 use Rattle.list_laws.proofs.Lists.{All-from_contains}
 use Rattle.list_laws.proofs.NumberLemmas.{has_number-Contains, has_number-from_Contains}
 use Rattle.list_laws.proofs.FilterLemmas.{Contains-map, Contains-filter, Contains-from_filter, AreRelatedAs, AllPairs-filter_map, AllPairs-from_filter_map}
@@ -20,9 +20,17 @@ use Rattle.orders.proofs.CallsAtLemmas.{length-calls_at}
 use Rattle.segments.proofs.PartLemmas.{IsLegal-part}
 use Rattle.segments.proofs.SegmentLemmas.{known-IsSegment, calls-IsSegment, GoesByKeys-segment}
 
+-- the pairs of a segment's keys, with which it starts
+abbrev pub start_of : Contents → SegmentView → Contents
+start_of start segment = within segment.lo segment.hi start
+
+start_is : (start : Contents) (calls : List Operation) (segment : SegmentView) → IsSegment start calls segment → segment.start ≡ start_of start segment
+start_is start calls segment h =
+    ap (λ s. s.start) h.view ∙ ap₂ (λ lo hi. within lo hi start) (ap (λ s. s.lo) (sym h.view)) (ap (λ s. s.hi) (sym h.view))
+
 -- the calls of a segment, as they stand in a legal order of all, are a legal order from the pairs of its keys on
 IsLegalOrder-restricted : (start : Contents) (calls : List Operation) (segments : List SegmentView) (segment : SegmentView) (order : List ℕ)
-    → AreSegments calls segments
+    → AreSegments start calls segments
     → Contains segments segment → IsLegalOrder start calls order
     → IsLegalOrder (start_of start segment) calls (filter (has_number segment.numbers) order)
 IsLegalOrder-restricted start calls segments s order are is h =
@@ -34,20 +42,21 @@ IsLegalOrder-restricted start calls segments s order are is h =
       precedence =
           AllPairs-filter_map R (slice_get calls) (filter test order)
           (AllPairs-filter (AreRelatedAs R (slice_get calls)) test order (AllPairs-from_filter_map R (slice_get calls) order h.precedence));
-      legal = IsLegal-part calls test s.lo s.hi start order (λ k d within. GoesByKeys-segment calls segments s (get_or order k d) are is) h.legal;
+      legal = IsLegal-part calls test s.lo s.hi start order (λ k d within. GoesByKeys-segment start calls segments s (get_or order k d) are is) h.legal;
     }
 
 -- the calls of a segment, as they stand in an order of all, are an order of the segment
 pub IsOrderOf-restricted : (start : Contents) (calls : List Operation) (segments : List SegmentView) (segment : SegmentView) (order : List ℕ)
-    → AreSegments calls segments
+    → AreSegments start calls segments
     → Contains segments segment → IsOrder start calls order
-    → IsOrderOf start segment (filter (has_number segment.numbers) order)
+    → IsOrderOf segment (filter (has_number segment.numbers) order)
 IsOrderOf-restricted start calls segments s order are is h =
     let test = has_number s.numbers in
     let kept = filter test order in
-    let segment = All-contains (IsSegment calls) segments s are.each is in
-    let known = known-IsSegment calls s segment in
-    let its_calls = sym (calls-IsSegment calls s segment) in
+    let segment = All-contains (IsSegment start calls) segments s are.each is in
+    let known = known-IsSegment start calls s segment in
+    let its_calls = sym (calls-IsSegment start calls s segment) in
+    let its_start = sym (start_is start calls s segment) in
     let (places, placed, within) =
     places_of s.numbers kept
     (All-from_contains (Contains s.numbers) kept (λ n in_kept. has_number-Contains s.numbers n (Contains-from_filter test order n in_kept).1)) in
@@ -57,8 +66,9 @@ IsOrderOf-restricted start calls segments s order are is h =
       placed,
       record {
         legal_order =
-            subst (λ taken. IsLegalOrder (start_of start s) taken places) its_calls
-            (IsLegalOrder-places (start_of start s) calls s.numbers places known within legal_order);
+            subst (λ m. IsLegalOrder m s.calls places) its_start
+            (subst (λ taken. IsLegalOrder (start_of start s) taken places) its_calls
+            (IsLegalOrder-places (start_of start s) calls s.numbers places known within legal_order));
         complete = λ place completed.
             let (below, by_number) = IsCompletedAt-number calls s.numbers place known (subst (λ taken. IsCompletedAt taken place) (sym its_calls) completed) in
             let number = slice_index s.numbers place in
@@ -70,10 +80,10 @@ IsOrderOf-restricted start calls segments s order are is h =
     )
 
 -- where some segment has no order, the history has none
-pub not_linearizable-segment : (start : Contents) (calls : List Operation) (segments : List SegmentView) → AreSegments calls segments
-    → All (λ s. HasNoOrder start s → IsLinearizable start calls → ⊥) segments
+pub not_linearizable-segment : (start : Contents) (calls : List Operation) (segments : List SegmentView) → AreSegments start calls segments
+    → All (λ s. HasNoOrder s → IsLinearizable start calls → ⊥) segments
 not_linearizable-segment start calls segments are =
-    All-from_contains (λ s. HasNoOrder start s → IsLinearizable start calls → ⊥) segments
+    All-from_contains (λ s. HasNoOrder s → IsLinearizable start calls → ⊥) segments
     (λ s is none h. let found = IsOrderOf-restricted start calls segments s h.0 are is h.1 in none (found.0, found.2))
 
 -- an order of a segment, by the numbers in the history
@@ -83,14 +93,15 @@ pub record IsOrderByNumber (start : Contents) (calls : List Operation) (segment 
   pub complete : (n : ℕ) → Contains segment.numbers n → IsCompletedAt calls n → Contains order n
 
 -- each order of a segment is one by number
-pub IsOrderByNumber-from_order : (start : Contents) (calls : List Operation) (segment : SegmentView) (order : List ℕ) → IsSegment calls segment
-    → IsOrderOf start segment order
+pub IsOrderByNumber-from_order : (start : Contents) (calls : List Operation) (segment : SegmentView) (order : List ℕ) → IsSegment start calls segment
+    → IsOrderOf segment order
     → IsOrderByNumber start calls segment order
 IsOrderByNumber-from_order start calls s order segment (places, placed, h) =
-    let known = known-IsSegment calls s segment in
-    let its_calls = calls-IsSegment calls s segment in
+    let known = known-IsSegment start calls s segment in
+    let its_calls = calls-IsSegment start calls s segment in
     let its_legal : IsLegalOrder (start_of start s) (calls_at calls s.numbers) places =
-    subst (λ taken. IsLegalOrder (start_of start s) taken places) its_calls h.legal_order in
+    subst (λ taken. IsLegalOrder (start_of start s) taken places) its_calls
+    (subst (λ m. IsLegalOrder m s.calls places) (start_is start calls s segment) h.legal_order) in
     let within : All (λ place. place < length s.numbers) places = rw (length-calls_at calls s.numbers known) at its_legal.known in
     record {
       within = subst (All (Contains s.numbers)) (sym placed) (All-at_places s.numbers places within);

@@ -7,10 +7,10 @@ use Rattle.std.proofs.lemmas.Bool.{false≢true, and_parts, and_from, and_left, 
 use Rattle.std.proofs.lemmas.List.{append-nil}
 use Rattle.std.proofs.lemmas.List.Elements.{filter-append}
 use Rattle.events.specs.declared.event.Call.{Call}
-use Rattle.events.specs.declared.event.Call.TheVariants.{Get, Insert, Remove, Scan}
+use Rattle.events.specs.declared.event.Call.TheVariants.{Get, Insert, Remove, Scan, Replace}
 use Rattle.events.specs.declared.event.Reply.{Reply}
 use Rattle.events.specs.declared.operation.Response.{Response}
-use Rattle.map_object.specs.MapObject.{Contents, value_at, below, above, within, value_reply, reply_to, after, after_reply}
+use Rattle.map_object.specs.MapObject.{Contents, value_at, below, above, within, put, is_just, value_reply, reply_to, after, after_reply}
 use Rattle.orders.specs.Orders.{after_call, IsLegalCall}
 use Rattle.events.specs.Keys.{low_key, high_key, may_change}
 use Rattle.list_laws.proofs.FilterLemmas.{filter_comm, filter_implied, filter_excluded}
@@ -24,7 +24,7 @@ in_range-true : (low high key : ℕ) → low ≤ key → key ≤ high → in_ran
 in_range-true low high key above below = and_from (nat_le low key) (nat_le key high) (le-leb low key above) (le-leb key high below)
 
 -- a key that passes the test is from low to high
-bounds : (low high key : ℕ) → in_range low high key ≡ true → (low ≤ key) × (key ≤ high)
+pub bounds : (low high key : ℕ) → in_range low high key ≡ true → (low ≤ key) × (key ≤ high)
 bounds low high key h = let parts = and_parts (nat_le low key) (nat_le key high) h in (leb-true low key parts.0, leb-true key high parts.1)
 
 -- a value that is not at its key may be left out
@@ -55,6 +55,17 @@ within-remove low high m key lo hi =
     let p = λ (pair : ℕ × ℕ). in_range low high pair.0 in
     filter-append p (below key m) (above key m) ∙ rw (filter_comm p (λ pair. nat_lt pair.0 key) m, filter_comm p (λ pair. nat_lt key pair.0) m) refl
 
+-- a replacement within a range is one among its pairs
+within-replace : (low high : ℕ) (m : Contents) (key expected value : ℕ) → low ≤ key → key ≤ high
+    → within low high (after m (Replace key expected value)) ≡ after (within low high m) (Replace key expected value)
+within-replace low high m key expected value lo hi =
+    within_either (is_just (value_at m key) expected)
+    ∙ rw (value_at-within low high m key lo hi) refl
+  where
+    within_either : (b : Bool) → within low high (cond b (put key value m) m) ≡ cond b (put key value (within low high m)) (within low high m)
+    within_either true = within-insert low high m key value lo hi
+    within_either false = refl
+
 -- a range within a range has its pairs there
 pub within-within : (low high a b : ℕ) (m : Contents) → low ≤ a → b ≤ high → within a b (within low high m) ≡ within a b m
 within-within low high a b m lo hi =
@@ -75,6 +86,7 @@ pub reply_to-within : (low high : ℕ) (m : Contents) (call : Call) → IsInside
 reply_to-within low high m (Get key) h = ap value_reply (value_at-within low high m key h.low_inside h.high_inside)
 reply_to-within low high m (Insert key value) h = ap value_reply (value_at-within low high m key h.low_inside h.high_inside)
 reply_to-within low high m (Remove key) h = ap value_reply (value_at-within low high m key h.low_inside h.high_inside)
+reply_to-within low high m (Replace key expected value) h = ap value_reply (value_at-within low high m key h.low_inside h.high_inside)
 reply_to-within low high m (Scan a b) h = ap replies.Pairs (within-within low high a b m h.low_inside h.high_inside)
 
 -- a call within a range changes the pairs of the range as it does all
@@ -83,6 +95,7 @@ within-after low high m (Get key) h = refl
 within-after low high m (Insert key value) h = within-insert low high m key value h.low_inside h.high_inside
 within-after low high m (Remove key) h = within-remove low high m key h.low_inside h.high_inside
 within-after low high m (Scan a b) h = refl
+within-after low high m (Replace key expected value) h = within-replace low high m key expected value h.low_inside h.high_inside
 
 -- what is below a key that is below a range is not in the range
 within-below_low : (low high : ℕ) (m : Contents) (key : ℕ) → key < low → within low high (below key m) ≡ []
@@ -130,12 +143,23 @@ within-insert_outside low high m key value out =
 within-remove_outside : (low high : ℕ) (m : Contents) (key : ℕ) → (key < low) ⊎ (high < key) → within low high (after m (Remove key)) ≡ within low high m
 within-remove_outside low high m key out = filter-append (λ pair. in_range low high pair.0) (below key m) (above key m) ∙ around low high m key out
 
+-- a replacement outside a range leaves its pairs
+within-replace_outside : (low high : ℕ) (m : Contents) (key expected value : ℕ) → (key < low) ⊎ (high < key)
+    → within low high (after m (Replace key expected value)) ≡ within low high m
+within-replace_outside low high m key expected value out = either (is_just (value_at m key) expected)
+  where
+    either : (b : Bool) → within low high (cond b (put key value m) m) ≡ within low high m
+    either true = within-insert_outside low high m key value out
+    either false = refl
+
 -- a call outside a range leaves the pairs of the range
 pub within_left : (low high : ℕ) (m : Contents) (call : Call) → IsOutside low high call → within low high (after m call) ≡ within low high m
 within_left low high m (Get key) h = refl
 within_left low high m (Insert key value) h = ⊎_elim (λ same. absurd (false≢true (sym same))) (λ out. within-insert_outside low high m key value out) h
 within_left low high m (Remove key) h = ⊎_elim (λ same. absurd (false≢true (sym same))) (λ out. within-remove_outside low high m key out) h
 within_left low high m (Scan a b) h = refl
+within_left low high m (Replace key expected value) h =
+    ⊎_elim (λ same. absurd (false≢true (sym same))) (λ out. within-replace_outside low high m key expected value out) h
 
 -- what holds after a call and where nothing changed holds after it was answered so
 after_reply_either : (P : Contents → Contents → Type 0) (m n : Contents) (call : Call) (reply : Reply) → P m n → P (after m call) (after n call)

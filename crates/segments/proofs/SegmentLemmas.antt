@@ -8,6 +8,7 @@ use Rattle.events.specs.declared.operation.Operation.{Operation}
 use Rattle.list_laws.specs.Lists.{has_number}
 use Rattle.events.specs.Precedence.{is_completed, belongs}
 use Rattle.events.specs.Keys.{low_key, high_key, may_change}
+use Rattle.map_object.specs.MapObject.{Contents}
 use Rattle.orders.specs.Orders.{calls_at}
 use Rattle.segments.specs.SegmentView.{SegmentView}
 use Rattle.segments.specs.Segments.{IsSegment, AreSegments}
@@ -18,19 +19,22 @@ use Rattle.segments.proofs.RangeLemmas.{IsInside, IsOutside}
 use Rattle.segments.proofs.PartLemmas.{GoesByKeys}
 
 -- the numbers of a segment are those of calls
-pub known-IsSegment : (calls : List Operation) (segment : SegmentView) → IsSegment calls segment → All (λ n. n < length calls) segment.numbers
-known-IsSegment calls segment h = All-from_contains (λ n. n < length calls) segment.numbers
+pub known-IsSegment : (start : Contents) (calls : List Operation) (segment : SegmentView) → IsSegment start calls segment
+    → All (λ n. n < length calls) segment.numbers
+known-IsSegment start calls segment h = All-from_contains (λ n. n < length calls) segment.numbers
     (λ n is. let found = some_at (slice_get calls n) (λ a. IsTrue (belongs a)) (((h.members n n is).0 is).0) in slice_get_within calls n found.0 found.1)
 
 -- the calls of a segment are those with its numbers
-pub calls-IsSegment : (calls : List Operation) (segment : SegmentView) → IsSegment calls segment → segment.calls ≡ calls_at calls segment.numbers
-calls-IsSegment calls segment h = ap (λ s. s.calls) h.view
+pub calls-IsSegment : (start : Contents) (calls : List Operation) (segment : SegmentView) → IsSegment start calls segment
+    → segment.calls ≡ calls_at calls segment.numbers
+calls-IsSegment start calls segment h = ap (λ s. s.calls) h.view
 
 -- each call of a segment is within its keys
-pub IsInside-segment : (calls : List Operation) (segment : SegmentView) (n : ℕ) (a : Operation) → IsSegment calls segment → Contains segment.numbers n
+pub IsInside-segment : (start : Contents) (calls : List Operation) (segment : SegmentView) (n : ℕ) (a : Operation) → IsSegment start calls segment
+    → Contains segment.numbers n
     → slice_get calls n ≡ Some a
     → IsInside segment.lo segment.hi a.call
-IsInside-segment calls segment n a h is here =
+IsInside-segment start calls segment n a h is here =
     let among = Contains-filter_map (slice_get calls) segment.numbers n a is here in
     record {
       low_inside = rw (ap (λ s. s.lo) h.view) (least_bound (λ b. low_key b.call) (calls_at calls segment.numbers) a among);
@@ -38,12 +42,13 @@ IsInside-segment calls segment n a h is here =
     }
 
 -- two segments at different places have their keys apart, so the calls of the one leave the pairs of the other
-pub IsOutside-other : (calls : List Operation) (segments : List SegmentView) (i j : ℕ) (s t : SegmentView) (n : ℕ) (a : Operation) → AreSegments calls segments
+pub IsOutside-other : (start : Contents) (calls : List Operation) (segments : List SegmentView) (i j : ℕ) (s t : SegmentView) (n : ℕ) (a : Operation)
+    → AreSegments start calls segments
     → (i ≡ j → ⊥)
     → slice_get segments i ≡ Some s → slice_get segments j ≡ Some t
     → Contains t.numbers n → slice_get calls n ≡ Some a → IsOutside s.lo s.hi a.call
-IsOutside-other calls segments i j s t n a h apart s_at t_at is here =
-    let inside = IsInside-segment calls t n a (All-contains (IsSegment calls) segments t h.each (Contains-at segments j t t_at)) is here in
+IsOutside-other start calls segments i j s t n a h apart s_at t_at is here =
+    let inside = IsInside-segment start calls t n a (All-contains (IsSegment start calls) segments t h.each (Contains-at segments j t t_at)) is here in
     ⊎_elim (λ equal. absurd (apart equal)) (λ other. ⊎_elim
     (λ before. let below = AllPairs-at (λ s t. s.hi < t.lo) segments i j s t h.by_key before s_at t_at in let low = inside.low_inside in
     inr (inr (omega arith)))
@@ -55,10 +60,11 @@ may_change-from_belongs : (a : Operation) → belongs a ≡ false → may_change
 may_change-from_belongs a h = (or_parts (is_completed a) (may_change a.call) h).1
 
 -- the numbers of a segment go by its keys: all other calls leave its pairs
-pub GoesByKeys-segment : (calls : List Operation) (segments : List SegmentView) (segment : SegmentView) (n : ℕ) → AreSegments calls segments
+pub GoesByKeys-segment : (start : Contents) (calls : List Operation) (segments : List SegmentView) (segment : SegmentView) (n : ℕ)
+    → AreSegments start calls segments
     → Contains segments segment
     → GoesByKeys calls (has_number segment.numbers) segment.lo segment.hi n
-GoesByKeys-segment calls segments s n h s_is a here = by_test (has_number s.numbers n) refl
+GoesByKeys-segment start calls segments s n h s_is a here = by_test (has_number s.numbers n) refl
   where
     not_in : has_number s.numbers n ≡ false → Contains s.numbers n → ⊥
     not_in no_number is = true≢false (sym (has_number-from_Contains s.numbers n is) ∙ no_number)
@@ -69,10 +75,10 @@ GoesByKeys-segment calls segments s n h s_is a here = by_test (has_number s.numb
         let (j, t, within, is, holds) = h.all n (rw here e) in
         let (i, s_at) = place_of-Contains segments s s_is in
         let t_at : slice_get segments j ≡ Some t = slice_get-get_or segments j t within ∙ ap Some is in
-        IsOutside-other calls segments i j s t n a h
+        IsOutside-other start calls segments i j s t n a h
         (λ equal. not_in no_number
         (subst (λ u. Contains u.numbers n) (same_Some t s (sym t_at ∙ (ap (slice_get segments) (sym equal) ∙ s_at))) holds)) s_at t_at holds here
 
     by_test : (b : Bool) → has_number s.numbers n ≡ b → MatchBool b (IsInside s.lo s.hi a.call) (IsOutside s.lo s.hi a.call)
-    by_test true e = IsInside-segment calls s n a (All-contains (IsSegment calls) segments s h.each s_is) (has_number-Contains s.numbers n e) here
+    by_test true e = IsInside-segment start calls s n a (All-contains (IsSegment start calls) segments s h.each s_is) (has_number-Contains s.numbers n e) here
     by_test false e = outside e (belongs a) refl

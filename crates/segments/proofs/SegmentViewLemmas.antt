@@ -1,18 +1,23 @@
 -- What holds of the calls that some numbers name.
-use Rattle.std.proofs.Common.{◌≡◌, ℕ, zero, suc, ◌<◌, ◌≤◌, true, false, List, [], ◌∷◌, length, Option, Some, None, arith}
+use Rattle.std.proofs.Common.{◌≡◌, ℕ, zero, suc, ◌<◌, ◌≤◌, true, false, List, [], ◌∷◌, length, get_or, Option, Some, None, arith}
 use Rattle.std.specs.Prelude.{◌≢◌, map, slice_get, IfSome, All, AllPairs}
 use Rattle.std.specs.List.{cons_option, list_all}
 use Rattle.std.specs.List.Sorted.{IsStrictlyIncreasing}
 use Rattle.std.proofs.lemmas.Bool.{and_parts, leb-true}
-use Rattle.std.proofs.lemmas.List.Kept.{AllPairs-from_increasing}
-use Rattle.std.proofs.lemmas.List.Elements.{All-nil, All-cons, All-head, All-tail, All-contains, All-weaker}
+use Rattle.std.proofs.lemmas.List.Kept.{AllPairs-from_increasing, AllPairs-filter}
+use Rattle.std.proofs.lemmas.List.Elements.{All-nil, All-cons, All-head, All-tail, All-contains, All-weaker, filter_passes}
+use Rattle.std.proofs.lemmas.List.Sums.{length-filter, count_by-le-length}
 use Rattle.events.specs.declared.event.Call.{Call}
-use Rattle.events.specs.declared.event.Call.TheVariants.{Get, Insert, Remove, Scan}
+use Rattle.events.specs.declared.event.Call.TheVariants.{Get, Insert, Remove, Scan, Replace}
 use Rattle.events.specs.declared.event.Event.{Event}
 use Rattle.events.specs.declared.event.Event.TheVariants.{Invoke, Answer}
 use Rattle.events.specs.declared.operation.Operation.{Operation}
 use Rattle.list_laws.specs.Lists.{least, greatest}
-use Rattle.events.specs.Histories.{has_range, is_shaped, IsHistory}
+use Rattle.events.specs.Histories.{has_range, is_shaped, AreHistoryEvents, IsHistory}
+use Rattle.events.specs.HistoryView.{HistoryView}
+use Rattle.events.specs.Starts.{IsStart}
+use Rattle.map_object.specs.MapObject.{Contents, within}
+use Rattle.segments.proofs.RangeLemmas.{in_range, bounds}
 use Rattle.events.specs.Operations.{operation_of, operations_from, operations}
 use Rattle.events.specs.Precedence.{precedes}
 use Rattle.events.specs.Keys.{low_key, high_key}
@@ -52,9 +57,10 @@ keys_in_order (Get key) h = omega arith
 keys_in_order (Insert key value) h = omega arith
 keys_in_order (Remove key) h = omega arith
 keys_in_order (Scan low high) h = leb-true low high h
+keys_in_order (Replace key expected value) h = omega arith
 
 -- no call of a history has its least key above its greatest
-pub keys_in_order-operations : (events : List Event) → IsHistory events → All (λ a. low_key a.call ≤ high_key a.call) (operations events)
+pub keys_in_order-operations : (events : List Event) → AreHistoryEvents events → All (λ a. low_key a.call ≤ high_key a.call) (operations events)
 keys_in_order-operations events h =
     All-weaker (λ a. has_range a.call ≡ true) (λ a. low_key a.call ≤ high_key a.call) (λ a shaped. keys_in_order a.call shaped) (operations events)
     (has_range-operations_from 0 events h.shaped)
@@ -74,17 +80,29 @@ AllPairs-calls_at R calls numbers known rising h = AllPairs-from_at R (calls_at 
     let (n, n_here, n_call) = number_at calls numbers j b known second in
     AllPairs-at R calls m n a b h (AllPairs-at (λ m n. m < n) numbers i j m n (AllPairs-from_increasing numbers rising) before m_here n_here) m_call n_call)
 
+-- the pairs of a range are pairs that a history may start with, and within the range
+IsStart-within : (low high : ℕ) (m : Contents) → IsStart m → IsStart (within low high m)
+IsStart-within low high m h = record {
+  rising = AllPairs-filter (λ (a : ℕ × ℕ) (b : ℕ × ℕ). a.0 < b.0) (λ (pair : ℕ × ℕ). in_range low high pair.0) m h.rising;
+  few = omega (arith, h.few, length-filter (λ (pair : ℕ × ℕ). in_range low high pair.0) m, count_by-le-length (λ (pair : ℕ × ℕ). in_range low high pair.0) m);
+}
+
+within-bounds : (low high : ℕ) (m : Contents) → All (λ pair. (low ≤ pair.0) × (pair.0 ≤ high)) (within low high m)
+within-bounds low high m k d inside =
+    bounds low high (get_or (within low high m) k d).0 (filter_passes (λ (pair : ℕ × ℕ). in_range low high pair.0) m k d inside)
+
 -- calls of a history by rising number are a segment
-pub IsSegmentView-segment_of : (events : List Event) (numbers : List ℕ) → IsHistory events → numbers ≢ [] → IsStrictlyIncreasing numbers
-    → All (λ n. n < length (operations events)) numbers → IsSegmentView (segment_of (operations events) numbers)
-IsSegmentView-segment_of events numbers h not_empty rising known =
+pub IsSegmentView-segment_of : (history : HistoryView) (numbers : List ℕ) → IsHistory history → numbers ≢ [] → IsStrictlyIncreasing numbers
+    → All (λ n. n < length (operations history.events)) numbers → IsSegmentView (segment_of history.start (operations history.events) numbers)
+IsSegmentView-segment_of history numbers h not_empty rising known =
+    let events = history.events in
     let calls = operations events in
     let taken = calls_at calls numbers in
     record {
       not_empty = not_empty;
       rising = rising;
       one_call_each = length-calls_at calls numbers known;
-      few = omega (arith, length-calls_at calls numbers known, length-rising_le numbers (length calls) rising known, length-operations_le events h);
+      few = omega (arith, length-calls_at calls numbers known, length-rising_le numbers (length calls) rising known, length-operations_le events h.events);
       invocations_rise = AllPairs-calls_at (λ a b. a.inv < b.inv) calls numbers known rising (inv_rises events);
       none_precedes_itself = All-calls_at (λ a. precedes a a ≡ false) calls numbers (NonePrecedesItself-operations events);
       keys = All-from_contains (λ a. NamesKeysWithin (least (map (λ a. low_key a.call) taken)) (greatest (map (λ a. high_key a.call) taken)) a.call) taken
@@ -92,7 +110,9 @@ IsSegmentView-segment_of events numbers h not_empty rising known =
             low_within = least_bound (λ a. low_key a.call) taken a here;
             in_order =
                 All-contains (λ a. low_key a.call ≤ high_key a.call) taken a
-                (All-calls_at (λ a. low_key a.call ≤ high_key a.call) calls numbers (keys_in_order-operations events h)) here;
+                (All-calls_at (λ a. low_key a.call ≤ high_key a.call) calls numbers (keys_in_order-operations events h.events)) here;
             high_within = greatest_bound (λ a. high_key a.call) taken a here;
           });
+      start = IsStart-within (least (map (λ a. low_key a.call) taken)) (greatest (map (λ a. high_key a.call) taken)) history.start h.start;
+      start_within = within-bounds (least (map (λ a. low_key a.call) taken)) (greatest (map (λ a. high_key a.call) taken)) history.start;
     }

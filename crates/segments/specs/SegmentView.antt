@@ -4,23 +4,28 @@ use Rattle.std.specs.List.Sorted.{IsStrictlyIncreasing}
 use Rattle.events.specs.declared.event.Call.{Call}
 use Rattle.events.specs.declared.operation.Operation.{Operation}
 use Rattle.events.specs.Limits.{call_limit}
+use Rattle.events.specs.Starts.{IsStart}
+use Rattle.map_object.specs.MapObject.{Contents, within}
 use Rattle.list_laws.specs.Lists.{least, greatest}
 use Rattle.events.specs.Precedence.{NonePrecedesItself}
 use Rattle.events.specs.Keys.{low_key, high_key}
 use Rattle.orders.specs.Orders.{calls_at}
 
--- some calls by number, with the least and the greatest key that they name
+-- some calls by number, with the least and the greatest key that they name, and the pairs from the one to the other that the map holds at the start
 pub record SegmentView : Type 0 where
   pub numbers : List ℕ
   pub calls : List Operation
   pub lo : ℕ
   pub hi : ℕ
+  pub start : Contents
 
--- the calls of a history that have these numbers
-abbrev pub segment_of : List Operation → List ℕ → SegmentView
-segment_of calls numbers =
+-- the calls that have these numbers, where the map holds these pairs at the start
+abbrev pub segment_of : Contents → List Operation → List ℕ → SegmentView
+segment_of start calls numbers =
     let taken = calls_at calls numbers in
-    record { numbers = numbers; calls = taken; lo = least (map (λ a. low_key a.call) taken); hi = greatest (map (λ a. high_key a.call) taken) }
+    let lo = least (map (λ a. low_key a.call) taken) in
+    let hi = greatest (map (λ a. high_key a.call) taken) in
+    record { numbers = numbers; calls = taken; lo = lo; hi = hi; start = within lo hi start }
 
 -- all keys of a call are within a range
 pub record NamesKeysWithin (low high : ℕ) (call : Call) : Type 0 where
@@ -37,3 +42,5 @@ pub record IsSegmentView (segment : SegmentView) : Type 0 where
   pub invocations_rise : AllPairs (λ a b. a.inv < b.inv) segment.calls
   pub none_precedes_itself : NonePrecedesItself segment.calls
   pub keys : All (λ a. NamesKeysWithin segment.lo segment.hi a.call) segment.calls
+  pub start : IsStart segment.start
+  pub start_within : All (λ pair. (segment.lo ≤ pair.0) × (pair.0 ≤ segment.hi)) segment.start

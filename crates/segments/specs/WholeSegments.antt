@@ -2,6 +2,7 @@
 use Rattle.std.specs.Prelude.{◌≡◌, ◌≢◌, ◌↔◌, ℕ, List, [], Contains}
 use Rattle.std.specs.List.Sorted.{IsStrictlyIncreasing}
 use Rattle.events.specs.declared.operation.Operation.{Operation}
+use Rattle.map_object.specs.MapObject.{Contents}
 use Rattle.segments.specs.Cuts.{BelongsAt}
 use Rattle.segments.specs.SegmentView.{SegmentView, segment_of}
 
@@ -10,8 +11,8 @@ abbrev pub NoneBelongs : List Operation → Type 0
 NoneBelongs calls = (n : ℕ) → BelongsAt calls n → ⊥
 
 -- all calls that belong to a segment, by rising number
-pub record IsWholeSegment (calls : List Operation) (segment : SegmentView) : Type 0 where
+pub record IsWholeSegment (start : Contents) (calls : List Operation) (segment : SegmentView) : Type 0 where
   pub not_empty : segment.numbers ≢ []
   pub rising : IsStrictlyIncreasing segment.numbers
   pub members : (n : ℕ) → Contains segment.numbers n ↔ BelongsAt calls n
-  pub view : segment ≡ segment_of calls segment.numbers
+  pub view : segment ≡ segment_of start calls segment.numbers

@@ -5,6 +5,7 @@ ghost use Rattle.list_laws.specs.Lists.{least, greatest};
 ghost use Rattle.events.specs.Keys.{low_key, high_key};
 ghost use Rattle.segments.specs.Cuts.{BelongsAt};
 ghost use Rattle.events.specs.Operations.{operations};
+ghost use Rattle.map_object.specs.MapObject.{within};
 ghost use Rattle.orders.specs.Orders.{calls_at};
 ghost use Rattle.segments.specs.SegmentView.{segment_of, IsSegmentView};
 ghost use Rattle.segments.specs.WholeSegments.{NoneBelongs, IsWholeSegment};
@@ -14,13 +15,14 @@ use std::alloc::Global;
 use std::marker::Model;
 
 /// Some calls of a history by rising number, at least one, with the least and the greatest key that they
-/// name. Contracts see these four.
+/// name, and the pairs of the history's start from the one to the other. Contracts see these five.
 #[derive(Debug, Drop)]
 pub struct Segment {
     numbers: Vec<u32>,
     calls: Vec<Operation>,
     lo: u64,
     hi: u64,
+    start: Vec<(u64, u64)>,
 }
 
 impl Model for Segment {
@@ -28,36 +30,39 @@ impl Model for Segment {
 
     ghost Value = { SegmentView };
 
-    ghost view = { λ s. record { numbers = s.numbers.items; calls = s.calls.items; lo = s.lo; hi = s.hi } };
+    ghost view = { λ s. record { numbers = s.numbers.items; calls = s.calls.items; lo = s.lo; hi = s.hi; start = s.start.items } };
 
-    ghost invariant = { λ s. IsSegmentView (record { numbers = s.numbers.items; calls = s.calls.items; lo = s.lo; hi = s.hi }) };
+    ghost invariant = { λ s. IsSegmentView (record { numbers = s.numbers.items; calls = s.calls.items; lo = s.lo; hi = s.hi; start = s.start.items }) };
 }
 
 impl Segment {
-    /// The calls with these numbers. They are copied, with the pairs of their replies.
+    /// The calls with these numbers. They are copied, with the pairs of their replies, and so are the starting
+    /// pairs from the least key that they name to the greatest.
     pub fn of(alloc: Global, history: &History, numbers: &[u32]) -> Result<Segment, Memory>
         requires not_empty { numbers.now ≢ [] }
         requires rising { IsStrictlyIncreasing numbers.now }
-        requires known { All (λ n. n < length (operations history.now)) numbers.now }
-        ensures { IfOk result (λ s. s ≡ segment_of (operations history.now) numbers.now) }
+        requires known { All (λ n. n < length (operations history.now.events)) numbers.now }
+        ensures { IfOk result (λ s. s ≡ segment_of history.now.start (operations history.now.events) numbers.now) }
     {
         let calls = copies_of(alloc, history.calls(), numbers)?;
         let numbers = Vec::from_slice(alloc, numbers)?;
         let lo = least_key(&calls);
         let hi = greatest_key(&calls);
+        let start = pairs_within(alloc, history.start(), lo, hi)?;
         Ok(Segment {
             numbers,
             calls,
             lo,
             hi,
+            start,
         })
     }
 
     /// All calls of the history but pending gets and pending scans, or `None` where there are none. They
     /// are copied, with the pairs of their replies.
     pub fn whole(alloc: Global, history: &History) -> Result<Option<Segment>, Memory>
-        ensures { IfOk result (λ o. MatchOption o (NoneBelongs (operations history.now))
-            (IsWholeSegment (operations history.now))) }
+        ensures { IfOk result (λ o. MatchOption o (NoneBelongs (operations history.now.events))
+            (IsWholeSegment history.now.start (operations history.now.events))) }
     {
         let numbers = numbers_that_belong(alloc, history.calls())?;
         if numbers.is_empty() {
@@ -97,17 +102,27 @@ impl Segment {
         self.hi
     }
 
+    /// The pairs of the history's start from its least key to its greatest, by rising key.
+    pub fn start(&self) -> &[(u64, u64)]
+        ensures start { result.now ≡ self.now.start }
+        ensures segment { IsSegmentView self.now }
+    {
+        &self.start
+    }
+
     /// The same segment again.
     pub fn copy(&self, alloc: Global) -> Result<Segment, Memory>
         ensures { IfOk result (λ s. s ≡ self.now) }
     {
         let numbers = Vec::from_slice(alloc, &self.numbers)?;
         let calls = copies(alloc, &self.calls)?;
+        let start = Vec::from_slice(alloc, &self.start)?;
         Ok(Segment {
             numbers,
             calls,
             lo: self.lo,
             hi: self.hi,
+            start,
         })
     }
 }
@@ -136,6 +151,24 @@ fn copies_of(alloc: Global, calls: &[Operation], numbers: &[u32]) -> Result<Vec<
     let mut taken = Vec::new(alloc);
     for number in numbers {
         taken.push(calls[*number as usize].copy(alloc)?)?;
+    }
+    Ok(taken)
+}
+
+/// The pairs with a key from the one to the other, both included.
+fn pairs_within(
+    alloc: Global,
+    pairs: &[(u64, u64)],
+    lo: u64,
+    hi: u64,
+) -> Result<Vec<(u64, u64)>, Memory>
+    ensures { IfOk result (λ v. v.items ≡ within lo hi pairs.now) }
+{
+    let mut taken = Vec::new(alloc);
+    for pair in pairs {
+        if lo <= pair.0 && pair.0 <= hi {
+            taken.push(*pair)?;
+        }
     }
     Ok(taken)
 }

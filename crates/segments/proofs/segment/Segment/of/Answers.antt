@@ -4,6 +4,8 @@ use Rattle.segments.proofs.segment.Segment.of.Goals as goal
 pub invariant_of-result : goal.invariant_of-result
 invariant_of-result c =
     rw (
+      c.in_ok-start.ensures,
+      c.start.ensures.start,
       c.greatest_key-hi.ensures,
       c.least_key-lo.ensures,
       c.deref-2.ensures.value,

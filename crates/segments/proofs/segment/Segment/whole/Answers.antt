@@ -6,11 +6,12 @@ use Rattle.segments.proofs.BelongingLemmas.{BelongsAt-below}
 use Rattle.segments.proofs.segment.Segment.whole.Goals as goal
 
 pub numbers_that_belong-requires : goal.numbers_that_belong-requires
-numbers_that_belong-requires c = rw c.calls.ensures.calls (let few = length-operations_le c.args.history.now c.calls.ensures.history in omega arith)
+numbers_that_belong-requires c = rw c.calls.ensures.calls (let few = length-operations_le c.args.history.now.events c.calls.ensures.history.events in omega
+    arith)
 
 pub of-requires-clause-known : goal.of-requires-clause-known
 of-requires-clause-known c =
-    let calls = operations c.args.history.now in
+    let calls = operations c.args.history.now.events in
     let numbers = c.in_ok-numbers.numbers.items in
     rw c.deref.ensures.value
     (All-from_contains (λ n. n < length calls) numbers
