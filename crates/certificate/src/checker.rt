@@ -1,7 +1,7 @@
 // Whether a list of numbers is an order of a history.
 ghost use Rattle.std.specs.Prelude.{◌≡◌, [], OnOk, IfErr};
 ghost use Rattle.events.specs.Operations.{operations};
-ghost use Rattle.orders.specs.Orders.{IsOrder};
+ghost use Rattle.orders.specs.Orders.{IsOrderOfHistory};
 ghost use Rattle.certificate.specs.declared.fault.OrderFault.TheVariants as faults;
 ghost use Rattle.certificate.specs.Faults.{IsRefusedFor};
 
@@ -10,19 +10,20 @@ use crate::prefix::Prefix;
 use events::History;
 use std::alloc::Global;
 
-/// Whether the numbers are an order of the history, from the empty map on: they name calls, each once
+/// Whether the numbers are an order of the history, from the pairs that it starts with: they name calls, each once
 /// and each completed one among them, no later call precedes an earlier one, and the map gives each
 /// completed call its recorded reply. Otherwise the first fault: that of the least place which shows
 /// one, and there `Unknown` before `Repeated`, `Precedence` and `Reply`; at the end `Missing`. `Memory`
-/// says nothing of the numbers. It goes once over them and once over the calls, beside the map's work.
+/// says nothing of the numbers. It goes once over them and once over the calls, beside the map's work,
+/// and copies the starting pairs.
 pub fn check(alloc: Global, history: &History, order: &[u32]) -> Result<(), OrderFault>
-    ensures ok { OnOk result (IsOrder [] (operations history.now) order.now) }
-    ensures refused { IfErr result (IsRefusedFor [] (operations history.now) order.now) }
-    ensures accepted { IsOrder [] (operations history.now) order.now
+    ensures ok { OnOk result (IsOrderOfHistory history.now order.now) }
+    ensures refused { IfErr result (IsRefusedFor history.now.start (operations history.now.events) order.now) }
+    ensures accepted { IsOrderOfHistory history.now order.now
         → IfErr result (λ e. e ≡ faults.Memory) }
 {
     let calls = history.calls();
-    let mut prefix = Prefix::new(alloc, calls)?;
+    let mut prefix = Prefix::new(alloc, history.start(), calls)?;
     for (place, number) in order.iter().enumerate() {
         prefix.take(alloc, calls, place, *number)?;
     }

@@ -1,7 +1,7 @@
 // The numbers are tested one after another, each by what is kept of those before it.
 ghost use Rattle.std.specs.Prelude.{◌≡◌, ◌+◌, ◌↔◌, if◌then◌else◌, ℕ, List, [], Option, Some, length, vec_len, slice_get};
 ghost use Rattle.std.specs.Prelude.{IsTrue, IfNone, IfSome, IfOk, IfErr, OnOk, OnErr};
-ghost use Rattle.map_object.specs.MapObject.{Contents, after};
+ghost use Rattle.map_object.specs.MapObject.{Contents, IsRising, after};
 ghost use Rattle.orders.specs.Orders.{IsOrder, IsLegalCall, after_call};
 ghost use Rattle.certificate.specs.OrderFaults.{IsLeastMissing};
 ghost use Rattle.events.specs.Precedence.{is_before};
@@ -27,12 +27,13 @@ impl Prefix {
     ghost use Rattle.certificate.specs.Faults.{IsRefusedFor};
     ghost use Rattle.certificate.specs.Prefix.{IsPrefixOf};
 
-    /// Before any number.
-    pub fn new(alloc: Global, calls: &[Operation]) -> Result<Prefix, Memory>
-        ensures { IfOk result (IsPrefixOf [] calls.now []) }
+    /// Before any number, where the map holds these pairs at the start.
+    pub fn new(alloc: Global, start: &[(u64, u64)], calls: &[Operation]) -> Result<Prefix, Memory>
+        requires { IsRising start.now }
+        ensures { IfOk result (IsPrefixOf start.now calls.now []) }
     {
         Ok(Prefix {
-            map: SortedMap::new(alloc),
+            map: SortedMap::of(alloc, start)?,
             taken: vec![in alloc; false; calls.len()]?,
             latest: 0,
         })

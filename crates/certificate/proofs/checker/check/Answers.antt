@@ -1,4 +1,4 @@
-use Rattle.std.proofs.Common.{[], subst, arith}
+use Rattle.std.proofs.Common.{subst, arith}
 use Rattle.std.proofs.lemmas.List.{take_all}
 use Rattle.std.proofs.lemmas.Option.{slice_get-get_or}
 use Rattle.std.proofs.lemmas.Result.{err_from_is_err_and}
@@ -10,10 +10,11 @@ use Rattle.certificate.proofs.checker.check.Goals as goal
 use Rattle.certificate.proofs.checker.check.Goals.{In_err-take}
 
 -- a number that is not taken shows why the list is refused
-refused : (c : In_err-take) → IsRefusedFor [] (operations c.args.history.now) c.args.order.now c.in_err-take.field-0.0
+refused : (c : In_err-take) → IsRefusedFor c.args.history.now.start (operations c.args.history.now.events) c.args.order.now c.in_err-take.field-0.0
 refused c =
     rw (← c.calls-calls.ensures.calls)
-    (c.in_err-take.ensures.refused [] c.args.order.now (slice_get-get_or c.args.order.now c.loop-place.place 0 (omega arith)) c.loop-place.invariant)
+    (c.in_err-take.ensures.refused c.args.history.now.start c.args.order.now (slice_get-get_or c.args.order.now c.loop-place.place 0 (omega arith))
+    c.loop-place.invariant)
 
 pub returns-in_err-take-clause-refused : goal.returns-in_err-take-clause-refused
 returns-in_err-take-clause-refused c =
@@ -23,13 +24,15 @@ returns-in_err-take-clause-refused c =
 pub returns-in_err-take-clause-accepted : goal.returns-in_err-take-clause-accepted
 returns-in_err-take-clause-accepted c = λ h.
     let p = err_from_is_err_and c.from_residual-in_err-take.result c.from_residual-in_err-take.ensures.1 in
-    rw (p.1, p.2) (refused_order [] _ c.args.order.now c.in_err-take.field-0.0 (refused (goal.at.returns-in_err-take-clause-accepted c).In_err-take) h)
+    rw (p.1, p.2) (refused_order c.args.history.now.start _ c.args.order.now c.in_err-take.field-0.0
+    (refused (goal.at.returns-in_err-take-clause-accepted c).In_err-take) h)
 
 pub loop-place-preserved : goal.loop-place-preserved
-loop-place-preserved c = c.in_ok-take.ensures.ok [] c.args.order.now (slice_get-get_or _ c.loop-place.place 0 (omega arith)) c.loop-place.invariant
+loop-place-preserved c = c.in_ok-take.ensures.ok c.args.history.now.start c.args.order.now (slice_get-get_or _ c.loop-place.place 0 (omega arith))
+    c.loop-place.invariant
 
 pub returns-in-Some-clause-refused : goal.returns-in-Some-clause-refused
 returns-in-Some-clause-refused c =
-    rw (← c.calls-calls.ensures.calls) (c.in-Some.ensures.missing [] c.args.order.now
-    (subst (λ order. IsPrefixOf [] c.calls-calls.result.now order c.loop-place.prefix)
+    rw (← c.calls-calls.ensures.calls) (c.in-Some.ensures.missing c.args.history.now.start c.args.order.now
+    (subst (λ order. IsPrefixOf c.args.history.now.start c.calls-calls.result.now order c.loop-place.prefix)
     (take_all c.loop-place.place c.args.order.now (omega arith)) c.loop-place.invariant))
