@@ -5,7 +5,7 @@ use Rattle.std.proofs.lemmas.Bool.{false≢true, both_ways, cases_Bool, or_left,
 use Rattle.std.proofs.lemmas.List.Elements.{All-contains, Contains-append_left, Contains-append_right, Contains-append_cases}
 use Rattle.std.proofs.lemmas.Option.{same_Some, slice_get-get_or}
 use Rattle.events.specs.declared.event.Call.{Call}
-use Rattle.events.specs.declared.event.Call.TheVariants.{Get, Insert, Remove, Scan}
+use Rattle.events.specs.declared.event.Call.TheVariants.{Get, Insert, Remove, Scan, Replace}
 use Rattle.events.specs.declared.operation.Operation.{Operation}
 use Rattle.events.specs.Precedence.{is_completed}
 use Rattle.events.specs.Keys.{low_key, high_key, may_change}
@@ -25,6 +25,7 @@ one_key (Get key) h = refl
 one_key (Insert key value) h = refl
 one_key (Remove key) h = refl
 one_key (Scan low high) h = absurd (false≢true h)
+one_key (Replace key expected value) h = refl
 
 -- a call that belongs and has keys on both sides of c is a completed scan over c
 spans-from_keys : (c : ℕ) (a : Operation) → belongs a ≡ true → low_key a.call < c → c ≤ high_key a.call → spans c a ≡ true

@@ -2,11 +2,12 @@
 use Rattle.std.proofs.Common.{◌≡◌, ℕ, ◌<◌, ◌≤◌, List, [], ◌∷◌, length, refl, sym, ap, ◌∙◌, subst, ⊎_elim, arith}
 use Rattle.std.specs.Prelude.{All, AllPairs, Contains}
 use Rattle.std.proofs.lemmas.List.Elements.{All-head, All-tail, All-contains, All-weaker}
-use Rattle.events.specs.declared.event.Event.{Event}
 use Rattle.events.specs.declared.operation.Operation.{Operation}
+use Rattle.events.specs.HistoryView.{HistoryView}
 use Rattle.events.specs.Histories.{IsHistory}
 use Rattle.events.specs.Keys.{low_key, high_key}
 use Rattle.events.specs.Operations.{operations}
+use Rattle.map_object.specs.MapObject.{Contents}
 use Rattle.segments.specs.SegmentView.{SegmentView, segment_of}
 use Rattle.segments.specs.Segments.{IsSegment, AreSegments}
 use Rattle.list_laws.proofs.Lists.{AllPairs-head, AllPairs-tail, Contains-first, Contains-later, Contains-cases, Contains-nil, Contains-at}
@@ -25,32 +26,35 @@ some_number [] h = absurd (h refl)
 some_number (n ∷ numbers) h = (n, Contains-first n numbers)
 
 -- a segment has a call, so its least key is not above its greatest
-keys_in_order-segment : (calls : List Operation) (segment : SegmentView) → KeysInOrder calls → IsSegment calls segment → segment.lo ≤ segment.hi
-keys_in_order-segment calls segment in_order h =
+keys_in_order-segment : (start : Contents) (calls : List Operation) (segment : SegmentView) → KeysInOrder calls → IsSegment start calls segment
+    → segment.lo ≤ segment.hi
+keys_in_order-segment start calls segment in_order h =
     let (n, is) = some_number segment.numbers h.not_empty in
-    let (a, here) = slice_get-below calls n (All-contains (λ n. n < length calls) segment.numbers n (known-IsSegment calls segment h) is) in
-    let inside = IsInside-segment calls segment n a h is here in
+    let (a, here) = slice_get-below calls n (All-contains (λ n. n < length calls) segment.numbers n (known-IsSegment start calls segment h) is) in
+    let inside = IsInside-segment start calls segment n a h is here in
     let low = inside.low_inside in
     let high = inside.high_inside in
     let keys = All-contains (λ a. low_key a.call ≤ high_key a.call) calls a in_order (Contains-at calls n a here) in
     omega arith
 
 -- two segments with a call in common are one
-same_segment : (calls : List Operation) (s t : SegmentView) (n : ℕ) → IsSegment calls s → IsSegment calls t → Contains s.numbers n → Contains t.numbers n
+same_segment : (start : Contents) (calls : List Operation) (s t : SegmentView) (n : ℕ) → IsSegment start calls s → IsSegment start calls t
+    → Contains s.numbers n → Contains t.numbers n
     → s ≡ t
-same_segment calls s t n s_is t_is in_s in_t =
+same_segment start calls s t n s_is t_is in_s in_t =
     let numbers = rising_unique s.numbers t.numbers s_is.rising t_is.rising
     (λ k. (λ is. (t_is.members n k in_t).1 ((s_is.members n k in_s).0 is), λ is. (s_is.members n k in_s).1 ((t_is.members n k in_t).0 is))) in
-    s_is.view ∙ (ap (segment_of calls) numbers ∙ sym t_is.view)
+    s_is.view ∙ (ap (segment_of start calls) numbers ∙ sym t_is.view)
 
 -- each segment of one list is in the other
-in_other : (calls : List Operation) (a b : List SegmentView) (s : SegmentView) → AreSegments calls a → AreSegments calls b → Contains a s → Contains b s
-in_other calls a b s a_are b_are is =
-    let s_is = All-contains (IsSegment calls) a s a_are.each is in
+in_other : (start : Contents) (calls : List Operation) (a b : List SegmentView) (s : SegmentView) → AreSegments start calls a → AreSegments start calls b
+    → Contains a s → Contains b s
+in_other start calls a b s a_are b_are is =
+    let s_is = All-contains (IsSegment start calls) a s a_are.each is in
     let (n, in_s) = some_number s.numbers s_is.not_empty in
     let (k, t, within, t_at, in_t) = b_are.all n ((s_is.members n n in_s).0 in_s).0 in
     let t_in : Contains b t = (k, within, t_at) in
-    subst (Contains b) (same_segment calls t s n (All-contains (IsSegment calls) b t b_are.each t_in) s_is in_t in_s) t_in
+    subst (Contains b) (same_segment start calls t s n (All-contains (IsSegment start calls) b t b_are.each t_in) s_is in_t in_s) t_in
 
 -- what is in a list and lies beyond its first element is in the rest
 later : (s : SegmentView) (b : List SegmentView) (u : SegmentView) → s.lo ≤ s.hi → s.hi < u.lo → Contains (s ∷ b) u → Contains b u
@@ -86,15 +90,17 @@ same_ranges (s ∷ a) (t ∷ b) keys_a keys_b up_a up_b to from =
         (Contains-cases s a t (from t (Contains-first t b)))) (Contains-cases t b s (to s (Contains-first s a)))
 
 -- there is one list of segments, where no scan has its ends the wrong way round
-pub AreSegments-unique : (calls : List Operation) (a b : List SegmentView) → KeysInOrder calls → AreSegments calls a → AreSegments calls b → a ≡ b
-AreSegments-unique calls a b in_order a_are b_are =
-    same_ranges a b (keys a a_are) (keys b b_are) a_are.by_key b_are.by_key (λ s is. in_other calls a b s a_are b_are is)
-    (λ s is. in_other calls b a s b_are a_are is)
+pub AreSegments-unique : (start : Contents) (calls : List Operation) (a b : List SegmentView) → KeysInOrder calls → AreSegments start calls a
+    → AreSegments start calls b → a ≡ b
+AreSegments-unique start calls a b in_order a_are b_are =
+    same_ranges a b (keys a a_are) (keys b b_are) a_are.by_key b_are.by_key (λ s is. in_other start calls a b s a_are b_are is)
+    (λ s is. in_other start calls b a s b_are a_are is)
   where
-    keys : (segments : List SegmentView) → AreSegments calls segments → All (λ s. s.lo ≤ s.hi) segments
-    keys segments are = All-weaker (IsSegment calls) (λ s. s.lo ≤ s.hi) (λ s is. keys_in_order-segment calls s in_order is) segments are.each
+    keys : (segments : List SegmentView) → AreSegments start calls segments → All (λ s. s.lo ≤ s.hi) segments
+    keys segments are = All-weaker (IsSegment start calls) (λ s. s.lo ≤ s.hi) (λ s is. keys_in_order-segment start calls s in_order is) segments are.each
 
 -- a history has one list of segments
-pub AreSegments-unique_of_history : (events : List Event) (a b : List SegmentView) → IsHistory events → AreSegments (operations events) a
-    → AreSegments (operations events) b → a ≡ b
-AreSegments-unique_of_history events a b h a_are b_are = AreSegments-unique (operations events) a b (keys_in_order-operations events h) a_are b_are
+pub AreSegments-unique_of_history : (history : HistoryView) (a b : List SegmentView) → IsHistory history
+    → AreSegments history.start (operations history.events) a → AreSegments history.start (operations history.events) b → a ≡ b
+AreSegments-unique_of_history history a b h a_are b_are =
+    AreSegments-unique history.start (operations history.events) a b (keys_in_order-operations history.events h.events) a_are b_are

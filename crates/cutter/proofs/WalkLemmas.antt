@@ -13,6 +13,7 @@ use Rattle.events.specs.declared.operation.Operation.{Operation}
 use Rattle.list_laws.specs.Lists.{least}
 use Rattle.events.specs.Keys.{low_key, high_key}
 use Rattle.segments.specs.Cuts.{BelongsAt, AreTogether}
+use Rattle.map_object.specs.MapObject.{Contents}
 use Rattle.orders.specs.Orders.{calls_at}
 use Rattle.segments.specs.SegmentView.{SegmentView, segment_of}
 use Rattle.segments.specs.Segments.{IsSegment, AreSegments}
@@ -64,10 +65,11 @@ number_in : (ranges : List KeyRange) (numbers : List ℕ) (r : KeyRange) → Are
 number_in ranges numbers r h is = Contains-permutation (numbers_of ranges) numbers r.number h.same (Contains-map (λ (r : KeyRange). r.number) ranges r is)
 
 -- ranges that hang together, apart from those before them and those after them, are the ranges of a segment
-IsSegment-chained : (calls : List Operation) (before chained after : List KeyRange) (numbers : List ℕ) (first : KeyRange)
+IsSegment-chained : (start : Contents) (calls : List Operation) (before chained after : List KeyRange) (numbers : List ℕ) (first : KeyRange)
     → AreRanges calls (before ++ (chained ++ after)) → AreApart before (chained ++ after)
-    → AreChained chained → AreApart chained after → Contains chained first → AreNumbersOf chained numbers → IsSegment calls (segment_of calls numbers)
-IsSegment-chained calls before chained after numbers first h apart_before hang apart_after first_is its = record {
+    → AreChained chained → AreApart chained after → Contains chained first → AreNumbersOf chained numbers
+    → IsSegment start calls (segment_of start calls numbers)
+IsSegment-chained start calls before chained after numbers first h apart_before hang apart_after first_is its = record {
   not_empty = λ e. Contains-nil first.number (subst (λ ns. Contains ns first.number) e (number_in chained numbers first its first_is));
   rising = its.rising;
   members = λ m n m_in. (forth m n m_in, back m n m_in);
@@ -109,18 +111,18 @@ IsSegment-chained calls before chained after numbers first h apart_before hang a
         (Contains-append_cases before (chained ++ after) s s_is))
 
 -- the segments of the ranges before the rest, which lies beyond them
-pub record AreSegmentsBefore (calls : List Operation) (rest : List KeyRange) (segments : List SegmentView) : Type 0 where
+pub record AreSegmentsBefore (start : Contents) (calls : List Operation) (rest : List KeyRange) (segments : List SegmentView) : Type 0 where
   pub before : List KeyRange
   pub ranges : AreRanges calls (before ++ rest)
   pub apart : AreApart before rest
   pub by_low_key : RiseByLow rest
-  pub each : All (IsSegment calls) segments
+  pub each : All (IsSegment start calls) segments
   pub all : All (λ r. Any (λ s. Contains s.numbers r.number) segments) before
   pub by_key : AllPairs (λ s t. s.hi < t.lo) segments
   pub below : All (λ s. All (λ r. s.hi < r.low) rest) segments
 
 -- the keys of a segment are those of its ranges
-module _ (calls : List Operation) (ranges : List KeyRange) (numbers : List ℕ) (first : KeyRange) (each : All (IsRangeOf calls) ranges)
+module _ (start : Contents) (calls : List Operation) (ranges : List KeyRange) (numbers : List ℕ) (first : KeyRange) (each : All (IsRangeOf calls) ranges)
     (its : AreNumbersOf ranges numbers) (first_is : Contains ranges first) where
   -- the range of a call that has one of the numbers
   range_at : (a : Operation) → Contains (calls_at calls numbers) a → (r : KeyRange) × Contains ranges r × (r.low ≡ low_key a.call) × (r.high ≡ high_key a.call)
@@ -138,30 +140,31 @@ module _ (calls : List Operation) (ranges : List KeyRange) (numbers : List ℕ) 
       (range.operation, Contains-filter_map (slice_get calls) numbers first.number range.operation (number_in ranges numbers first its first_is) range.here)
 
   -- what ends below all the ranges ends below the segment
-  below_segment : (b : ℕ) → All (λ r. b < r.low) ranges → b < (segment_of calls numbers).lo
+  below_segment : (b : ℕ) → All (λ r. b < r.low) ranges → b < (segment_of start calls numbers).lo
   below_segment b h = least_above (λ a. low_key a.call) (calls_at calls numbers) first_call.0 b first_call.1
       (All-from_contains (λ a. b < low_key a.call) (calls_at calls numbers)
       (λ a is. let (r, r_is, low, high) = range_at a is in omega (arith, low, All-contains (λ r. b < r.low) ranges r h r_is)))
 
   -- the segment ends below what all the ranges end below
-  segment_below : (c : ℕ) → All (λ r. r.high < c) ranges → (segment_of calls numbers).hi < c
+  segment_below : (c : ℕ) → All (λ r. r.high < c) ranges → (segment_of start calls numbers).hi < c
   segment_below c h =
       let (top, top_is, hi_is) = greatest_is (λ a. high_key a.call) (calls_at calls numbers) first_call.0 first_call.1 in
       let (r, r_is, low, high) = range_at top top_is in
       omega (arith, hi_is, high, All-contains (λ r. r.high < c) ranges r h r_is)
 
 -- a chain of ranges is the next segment
-AreSegmentsBefore-chained : (calls : List Operation) (chained after : List KeyRange) (segments : List SegmentView) (numbers : List ℕ) (first : KeyRange)
-    → AreSegmentsBefore calls (chained ++ after) segments
+AreSegmentsBefore-chained : (start : Contents) (calls : List Operation) (chained after : List KeyRange) (segments : List SegmentView) (numbers : List ℕ)
+    (first : KeyRange)
+    → AreSegmentsBefore start calls (chained ++ after) segments
     → AreChained chained → AreApart chained after → Contains chained first → AreNumbersOf chained numbers
-    → AreSegmentsBefore calls after (segments ++ segment_of calls numbers ∷ [])
-AreSegmentsBefore-chained calls chained after segments numbers first h hang apart first_is its = record {
+    → AreSegmentsBefore start calls after (segments ++ segment_of start calls numbers ∷ [])
+AreSegmentsBefore-chained start calls chained after segments numbers first h hang apart first_is its = record {
   before = h.before ++ chained;
   ranges = subst (AreRanges calls) (sym (append_assoc h.before chained after)) h.ranges;
   apart = AreApart-append h.before chained after (AreApart-back h.before chained after h.apart) apart;
   by_low_key = AllPairs-back (λ r s. r.low ≤ s.low) chained after h.by_low_key;
-  each = All-push (IsSegment calls) segments segment h.each
-      (IsSegment-chained calls h.before chained after numbers first h.ranges h.apart hang apart first_is its);
+  each = All-push (IsSegment start calls) segments segment h.each
+      (IsSegment-chained start calls h.before chained after numbers first h.ranges h.apart hang apart first_is its);
   all = All-append (λ r. Any (λ s. Contains s.numbers r.number) (segments ++ segment ∷ [])) h.before chained
       (All-weaker (λ r. Any (λ s. Contains s.numbers r.number) segments) (λ r. Any (λ s. Contains s.numbers r.number) (segments ++ segment ∷ []))
       (λ r found. Any-from_contains (λ s. Contains s.numbers r.number) (segments ++ segment ∷ []) found.1
@@ -169,45 +172,46 @@ AreSegmentsBefore-chained calls chained after segments numbers first h hang apar
       (All-from_contains (λ r. Any (λ s. Contains s.numbers r.number) (segments ++ segment ∷ [])) chained
       (λ r is. Any-push (λ s. Contains s.numbers r.number) segments segment (number_in chained numbers r its is)));
   by_key = all_pairs_push (λ s t. s.hi < t.lo) segments segment h.by_key
-      (λ k d within. below_segment calls chained numbers first each its first_is (get_or segments k d).hi
+      (λ k d within. below_segment start calls chained numbers first each its first_is (get_or segments k d).hi
       (All-front (λ r. (get_or segments k d).hi < r.low) chained after (h.below k d within)));
   below = All-push (λ s. All (λ r. s.hi < r.low) after) segments segment
       (All-weaker (λ s. All (λ r. s.hi < r.low) (chained ++ after)) (λ s. All (λ r. s.hi < r.low) after)
       (λ s below. All-back (λ r. s.hi < r.low) chained after below) segments h.below)
-      (All-from_contains (λ r. segment.hi < r.low) after (λ r is. segment_below calls chained numbers first each its first_is r.low
+      (All-from_contains (λ r. segment.hi < r.low) after (λ r is. segment_below start calls chained numbers first each its first_is r.low
       (All-weaker (λ z. All (λ s. z.high < s.low) after) (λ z. z.high < r.low)
       (λ z below. All-contains (λ s. z.high < s.low) after r below is) chained apart)));
 }
   where
     segment : SegmentView
-    segment = segment_of calls numbers
+    segment = segment_of start calls numbers
 
     each : All (IsRangeOf calls) chained
     each = All-front (IsRangeOf calls) chained after (All-back (IsRangeOf calls) h.before (chained ++ after) h.ranges.each)
 
 -- the first of the rest that hang together are the next segment
-pub AreSegmentsBefore-more : (calls : List Operation) (rest : List KeyRange) (len : ℕ) (segments : List SegmentView) (numbers : List ℕ)
-    → AreSegmentsBefore calls rest segments → 0 < len → len ≤ length rest
+pub AreSegmentsBefore-more : (start : Contents) (calls : List Operation) (rest : List KeyRange) (len : ℕ) (segments : List SegmentView) (numbers : List ℕ)
+    → AreSegmentsBefore start calls rest segments → 0 < len → len ≤ length rest
     → AreChained (take len rest) → AreApart (take len rest) (drop len rest) → IsStrictlyIncreasing numbers → IsPermutation (numbers_of (take len rest)) numbers
-    → AreSegmentsBefore calls (drop len rest) (segments ++ segment_of calls numbers ∷ [])
-AreSegmentsBefore-more calls [] len segments numbers h some within hang apart rising same = absurd (omega arith)
-AreSegmentsBefore-more calls (r ∷ rest) len segments numbers h some within hang apart rising same =
-    AreSegmentsBefore-chained calls (take len (r ∷ rest)) (drop len (r ∷ rest)) segments numbers (get_or (take len (r ∷ rest)) 0 r)
-    (subst (λ ranges. AreSegmentsBefore calls ranges segments) (sym (take-append-drop len (r ∷ rest))) h) hang apart
+    → AreSegmentsBefore start calls (drop len rest) (segments ++ segment_of start calls numbers ∷ [])
+AreSegmentsBefore-more start calls [] len segments numbers h some within hang apart rising same = absurd (omega arith)
+AreSegmentsBefore-more start calls (r ∷ rest) len segments numbers h some within hang apart rising same =
+    AreSegmentsBefore-chained start calls (take len (r ∷ rest)) (drop len (r ∷ rest)) segments numbers (get_or (take len (r ∷ rest)) 0 r)
+    (subst (λ ranges. AreSegmentsBefore start calls ranges segments) (sym (take-append-drop len (r ∷ rest))) h) hang apart
     (Contains-get_or (take len (r ∷ rest)) 0 r (omega (arith, length-take-le len (r ∷ rest) within))) (record { rising = rising; same = same })
 
 -- the first of the rest have different numbers
-pub distinct_first : (calls : List Operation) (rest : List KeyRange) (len : ℕ) (segments : List SegmentView) → AreSegmentsBefore calls rest segments
+pub distinct_first : (start : Contents) (calls : List Operation) (rest : List KeyRange) (len : ℕ) (segments : List SegmentView)
+    → AreSegmentsBefore start calls rest segments
     → AllPairs (λ r s. r.number ≢ s.number) (take len rest)
-distinct_first calls rest len segments h =
+distinct_first start calls rest len segments h =
     let R = λ (r s : KeyRange). r.number ≢ s.number in
     AllPairs-front R (take len rest) (drop len rest) (subst (AllPairs R) (sym (take-append-drop len rest)) (AllPairs-back R h.before rest h.ranges.distinct))
 
 -- their numbers are those of calls
-pub known_first : (calls : List Operation) (rest : List KeyRange) (len : ℕ) (segments : List SegmentView) (numbers : List ℕ)
-    → AreSegmentsBefore calls rest segments → IsPermutation (numbers_of (take len rest)) numbers
+pub known_first : (start : Contents) (calls : List Operation) (rest : List KeyRange) (len : ℕ) (segments : List SegmentView) (numbers : List ℕ)
+    → AreSegmentsBefore start calls rest segments → IsPermutation (numbers_of (take len rest)) numbers
     → All (λ n. n < length calls) numbers
-known_first calls rest len segments numbers h same = All-permutation (λ n. n < length calls) (numbers_of (take len rest)) numbers same
+known_first start calls rest len segments numbers h same = All-permutation (λ n. n < length calls) (numbers_of (take len rest)) numbers same
     (All-map (λ n. n < length calls) (λ (r : KeyRange). r.number) (take len rest) (All-take (λ r. r.number < length calls) len rest
     (All-weaker (IsRangeOf calls) (λ r. r.number < length calls) (λ r range. slice_get_within calls r.number range.operation range.here) rest
     (All-back (IsRangeOf calls) h.before rest h.ranges.each))))
@@ -224,8 +228,9 @@ some_first rest len numbers some within same none = omega (
 )
 
 -- with nothing left these are the segments
-pub AreSegments-from_before : (calls : List Operation) (segments : List SegmentView) → AreSegmentsBefore calls [] segments → AreSegments calls segments
-AreSegments-from_before calls segments h = record {
+pub AreSegments-from_before : (start : Contents) (calls : List Operation) (segments : List SegmentView) → AreSegmentsBefore start calls [] segments
+    → AreSegments start calls segments
+AreSegments-from_before start calls segments h = record {
   each = h.each;
   all = λ n belonging.
       let (r, is, number) = range_from_belonging calls (h.before ++ []) n h.ranges belonging in

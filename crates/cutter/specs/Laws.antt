@@ -1,6 +1,6 @@
 -- Laws of segments.
 use Rattle.std.specs.Prelude.{◌≡◌, List}
-use Rattle.events.specs.declared.event.Event.{Event}
+use Rattle.events.specs.HistoryView.{HistoryView}
 use Rattle.events.specs.Histories.{IsHistory}
 use Rattle.events.specs.Operations.{operations}
 use Rattle.segments.specs.SegmentView.{SegmentView}
@@ -9,4 +9,5 @@ use Rattle.segments.specs.Segments.{AreSegments}
 -- a history has one list of segments only
 abbrev pub HasOneListOfSegments : Type 0
 HasOneListOfSegments =
-    (events : List Event) (a b : List SegmentView) → IsHistory events → AreSegments (operations events) a → AreSegments (operations events) b → a ≡ b
+    (history : HistoryView) (a b : List SegmentView) → IsHistory history → AreSegments history.start (operations history.events) a
+    → AreSegments history.start (operations history.events) b → a ≡ b

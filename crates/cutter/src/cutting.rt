@@ -1,7 +1,7 @@
 // The segments of a history, found by one walk over the ranges of its calls.
 ghost use Rattle.std.specs.Prelude.{◌≢◌, ◌<◌, ◌≤◌, [], length, take, drop, All, AllPairs, IfOk};
 ghost use Rattle.events.specs.Operations.{operations};
-ghost use Rattle.orders.specs.Orders.{IsLinearizable};
+ghost use Rattle.orders.specs.Orders.{IsLinearizableHistory};
 ghost use Rattle.segments.specs.Segments.{AreSegments};
 ghost use Rattle.segments.specs.SegmentOrders.{HasNoOrder};
 ghost use Rattle.cutter.specs.KeyRanges.{AreRanges, AreApart, AreChained};
@@ -12,12 +12,13 @@ use segments::Segment;
 use std::alloc::Global;
 
 /// The segments of the history, by rising key. Pending gets and pending scans are in none. Where one of them
-/// has no order, the history has none. For n calls it takes time in proportion to n log n, and to the pairs
+/// has no order from its own starting pairs, the history has none. For n calls it takes time in proportion to n log n, and to the pairs
 /// in their replies, which are copied.
 pub fn cut(alloc: Global, history: &History) -> Result<Vec<Segment>, Memory>
-    ensures segments { IfOk result (λ v. AreSegments (operations history.now) v.items) }
+    ensures segments { IfOk result (λ v.
+        AreSegments history.now.start (operations history.now.events) v.items) }
     ensures refutes { IfOk result (λ v. All (λ s.
-        HasNoOrder [] s → IsLinearizable [] (operations history.now) → ⊥) v.items) }
+        HasNoOrder s → IsLinearizableHistory history.now → ⊥) v.items) }
 {
     let ranges = ranges_by_low_key(alloc, history.calls())?;
     segments_of(alloc, history, &ranges)
@@ -29,9 +30,10 @@ fn segments_of(
     history: &History,
     ranges: &[KeyRange],
 ) -> Result<Vec<Segment>, Memory>
-    requires ranges { AreRanges (operations history.now) ranges.now }
+    requires ranges { AreRanges (operations history.now.events) ranges.now }
     requires by_low_key { AllPairs (λ r s. r.low ≤ s.low) ranges.now }
-    ensures { IfOk result (λ v. AreSegments (operations history.now) v.items) }
+    ensures { IfOk result (λ v.
+        AreSegments history.now.start (operations history.now.events) v.items) }
 {
     let mut segments = Vec::new(alloc);
     let mut rest = ranges;
