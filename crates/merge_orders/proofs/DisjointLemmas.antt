@@ -106,19 +106,19 @@ same_order orders order other n disjoint order_is other_is in_order in_other =
 -- orders of segments have no number in common, where no scan has its ends the wrong way round
 pub AreDisjoint-from_segments : (start : Contents) (calls : List Operation) (segments : List SegmentView) (orders : List (List ℕ))
     → All (λ a. low_key a.call ≤ high_key a.call) calls
-    → AreSegments calls segments → AllZip (IsOrderOf start) segments orders → AreDisjoint orders
+    → AreSegments start calls segments → AllZip IsOrderOf segments orders → AreDisjoint orders
 AreDisjoint-from_segments start calls segments orders in_order are zip i j d before within n in_first in_second =
-    let (s, s_at, first) = zip_right (IsOrderOf start) segments orders i (get_or orders i d) zip (slice_get-get_or orders i d (omega arith)) in
-    let (t, t_at, second) = zip_right (IsOrderOf start) segments orders j (get_or orders j d) zip (slice_get-get_or orders j d within) in
-    let s_is = All-contains (IsSegment calls) segments s are.each (Contains-at segments i s s_at) in
-    let t_is = All-contains (IsSegment calls) segments t are.each (Contains-at segments j t t_at) in
+    let (s, s_at, first) = zip_right IsOrderOf segments orders i (get_or orders i d) zip (slice_get-get_or orders i d (omega arith)) in
+    let (t, t_at, second) = zip_right IsOrderOf segments orders j (get_or orders j d) zip (slice_get-get_or orders j d within) in
+    let s_is = All-contains (IsSegment start calls) segments s are.each (Contains-at segments i s s_at) in
+    let t_is = All-contains (IsSegment start calls) segments t are.each (Contains-at segments j t t_at) in
     let in_s =
     All-contains (Contains s.numbers) (get_or orders i d) n (IsOrderByNumber-from_order start calls s (get_or orders i d) s_is first).within in_first in
     let in_t =
     All-contains (Contains t.numbers) (get_or orders j d) n (IsOrderByNumber-from_order start calls t (get_or orders j d) t_is second).within in_second in
-    let (a, here) = slice_get-below calls n (All-contains (λ n. n < length calls) s.numbers n (known-IsSegment calls s s_is) in_s) in
-    let below_high = (IsInside-segment calls s n a s_is in_s here).high_inside in
-    let above_low = (IsInside-segment calls t n a t_is in_t here).low_inside in
+    let (a, here) = slice_get-below calls n (All-contains (λ n. n < length calls) s.numbers n (known-IsSegment start calls s s_is) in_s) in
+    let below_high = (IsInside-segment start calls s n a s_is in_s here).high_inside in
+    let above_low = (IsInside-segment start calls t n a t_is in_t here).low_inside in
     let apart = AllPairs-at (λ s t. s.hi < t.lo) segments i j s t are.by_key before s_at t_at in
     let ends = All-contains (λ a. low_key a.call ≤ high_key a.call) calls a in_order (Contains-at calls n a here) in
     absurd (omega arith)

@@ -16,7 +16,7 @@ use Rattle.events.specs.Keys.{may_change}
 use Rattle.segments.specs.Cuts.{BelongsAt}
 use Rattle.segments.specs.SegmentView.{SegmentView}
 use Rattle.segments.specs.Segments.{IsSegment, AreSegments}
-use Rattle.segments.specs.SegmentOrders.{start_of, IsOrderOf}
+use Rattle.segments.specs.SegmentOrders.{IsOrderOf}
 use Rattle.merge_orders.specs.Merge.{point_of, IsMergedOrder}
 use Rattle.list_laws.proofs.Lists.{Contains-nil, Contains-cases, Contains-first, Contains-later, Contains-at, place_of-Contains, All-from_contains}
 use Rattle.list_laws.proofs.NumberLemmas.{has_number-Contains, has_number-from_Contains}
@@ -24,7 +24,7 @@ use Rattle.list_laws.proofs.FilterLemmas.{AreRelatedAs, AllPairs-from_filter, Al
 use Rattle.segments.proofs.RangeLemmas.{IsInside, IsOutside}
 use Rattle.segments.proofs.PartLemmas.{GoesByKeys, IsLegal-from_parts}
 use Rattle.segments.proofs.SegmentLemmas.{IsInside-segment, IsOutside-other}
-use Rattle.segments.proofs.LocalityLemmas.{IsOrderByNumber, IsOrderByNumber-from_order}
+use Rattle.segments.proofs.LocalityLemmas.{start_of, IsOrderByNumber, IsOrderByNumber-from_order}
 use Rattle.merge_orders.proofs.PointLemmas.{IsOrderAt, point_of-is, point_of-precedes}
 use Rattle.list_laws.proofs.ZipLemmas.{zip_left, zip_right}
 
@@ -49,16 +49,16 @@ record Part (start : Contents) (calls : List Operation) (segments : List Segment
   order : List ℕ
   segment_at : slice_get segments place ≡ Some segment
   order_at : slice_get orders place ≡ Some order
-  is_segment : IsSegment calls segment
+  is_segment : IsSegment start calls segment
   by_number : IsOrderByNumber start calls segment order
 
 -- each order is that of a segment
-part_of : (start : Contents) (calls : List Operation) (segments : List SegmentView) (orders : List (List ℕ)) (order : List ℕ) → AreSegments calls segments
-    → AllZip (IsOrderOf start) segments orders → Contains orders order → (p : Part start calls segments orders) × (p.order ≡ order)
+part_of : (start : Contents) (calls : List Operation) (segments : List SegmentView) (orders : List (List ℕ)) (order : List ℕ) → AreSegments start calls segments
+    → AllZip IsOrderOf segments orders → Contains orders order → (p : Part start calls segments orders) × (p.order ≡ order)
 part_of start calls segments orders order are zip is =
     let (i, order_at) = place_of-Contains orders order is in
-    let (s, segment_at, order_of) = zip_right (IsOrderOf start) segments orders i order zip order_at in
-    let segment = All-contains (IsSegment calls) segments s are.each (Contains-at segments i s segment_at) in (
+    let (s, segment_at, order_of) = zip_right IsOrderOf segments orders i order zip order_at in
+    let segment = All-contains (IsSegment start calls) segments s are.each (Contains-at segments i s segment_at) in (
       record {
         place = i;
         segment = s;
@@ -80,7 +80,7 @@ BelongsAt-from_completed calls n h = of_call (slice_get calls n) h
     of_call (Some a) h = or_left (is_completed a) (may_change a.call) h
 
 module _ (start : Contents) (calls : List Operation) (segments : List SegmentView) (orders : List (List ℕ)) (merged : List ℕ)
-    (are : AreSegments calls segments) (zip : AllZip (IsOrderOf start) segments orders) (h : IsMergedOrder calls orders merged) where
+    (are : AreSegments start calls segments) (zip : AllZip IsOrderOf segments orders) (h : IsMergedOrder calls orders merged) where
   -- each number of the merged order is in the order of a segment
   part_with : (n : ℕ) → Contains merged n → (p : Part start calls segments orders) × Contains p.order n
   part_with n is =
@@ -99,11 +99,11 @@ module _ (start : Contents) (calls : List Operation) (segments : List SegmentVie
     where
       by_test : (b : Bool) → has_number p.order n ≡ b → MatchBool b (IsInside p.segment.lo p.segment.hi a.call) (IsOutside p.segment.lo p.segment.hi a.call)
       by_test true e =
-          IsInside-segment calls p.segment n a p.is_segment
+          IsInside-segment start calls p.segment n a p.is_segment
           (All-contains (Contains p.segment.numbers) p.order n p.by_number.within (has_number-Contains p.order n e)) here
       by_test false e =
           let (q, in_q) = part_with n is in
-          IsOutside-other calls segments p.place q.place p.segment q.segment n a are
+          IsOutside-other start calls segments p.place q.place p.segment q.segment n a are
           (λ same. let equal = same_Some q.order p.order (sym q.order_at ∙ (ap (slice_get orders) (sym same) ∙ p.order_at)) in
           false≢true (sym e ∙ has_number-from_Contains p.order n (subst (λ o. Contains o n) equal in_q)))
           p.segment_at q.segment_at (All-contains (Contains q.segment.numbers) q.order n q.by_number.within in_q) here
@@ -161,8 +161,8 @@ module _ (start : Contents) (calls : List Operation) (segments : List SegmentVie
   merged_complete n completed =
       let (i, s, within, is, number) = are.all n (BelongsAt-from_completed calls n completed) in
       let s_at : slice_get segments i ≡ Some s = slice_get-get_or segments i s within ∙ ap Some is in
-      let (order, order_at, order_of) = zip_left (IsOrderOf start) segments orders i s zip s_at in
-      let segment = All-contains (IsSegment calls) segments s are.each (Contains-at segments i s s_at) in
+      let (order, order_at, order_of) = zip_left IsOrderOf segments orders i s zip s_at in
+      let segment = All-contains (IsSegment start calls) segments s are.each (Contains-at segments i s s_at) in
       let by_number = IsOrderByNumber-from_order start calls s order segment order_of in
       Contains-permutation (concat orders) merged n h.same_calls
       (Contains-concat orders order n (Contains-at orders i order order_at) (by_number.complete n number completed))
@@ -170,7 +170,7 @@ module _ (start : Contents) (calls : List Operation) (segments : List SegmentVie
 -- orders of the segments, merged by their points, are an order of all calls
 pub IsOrder-from_merged : (start : Contents) (calls : List Operation) (segments : List SegmentView) (orders : List (List ℕ)) (merged : List ℕ)
     → All (λ a. precedes a a ≡ false) calls
-    → AreSegments calls segments → AllZip (IsOrderOf start) segments orders → IsMergedOrder calls orders merged
+    → AreSegments start calls segments → AllZip IsOrderOf segments orders → IsMergedOrder calls orders merged
     → IsOrder start calls merged
 IsOrder-from_merged start calls segments orders merged none are zip h = record {
   legal_order = record {
@@ -183,13 +183,13 @@ IsOrder-from_merged start calls segments orders merged none are zip h = record {
 }
 
 -- the numbers of orders of segments are those of calls
-pub known-orders : (start : Contents) (calls : List Operation) (segments : List SegmentView) (orders : List (List ℕ)) → AreSegments calls segments
-    → AllZip (IsOrderOf start) segments orders → All (λ order. All (λ n. n < length calls) order) orders
+pub known-orders : (start : Contents) (calls : List Operation) (segments : List SegmentView) (orders : List (List ℕ)) → AreSegments start calls segments
+    → AllZip IsOrderOf segments orders → All (λ order. All (λ n. n < length calls) order) orders
 known-orders start calls segments orders are zip = All-from_contains (λ order. All (λ n. n < length calls) order) orders
     (λ order is. let (p, same) = part_of start calls segments orders order are zip is in subst (All (λ n. n < length calls)) same p.by_number.legal_order.known)
 
 -- an order of a segment has each number once
-pub distinct-orders : (start : Contents) (calls : List Operation) (segments : List SegmentView) (orders : List (List ℕ)) → AreSegments calls segments
-    → AllZip (IsOrderOf start) segments orders → All (AllPairs (λ m n. m ≢ n)) orders
+pub distinct-orders : (start : Contents) (calls : List Operation) (segments : List SegmentView) (orders : List (List ℕ)) → AreSegments start calls segments
+    → AllZip IsOrderOf segments orders → All (AllPairs (λ m n. m ≢ n)) orders
 distinct-orders start calls segments orders are zip = All-from_contains (AllPairs (λ m n. m ≢ n)) orders
     (λ order is. let (p, same) = part_of start calls segments orders order are zip is in subst (AllPairs (λ m n. m ≢ n)) same p.by_number.legal_order.distinct)

@@ -2,7 +2,7 @@
 use Rattle.std.proofs.Common.{ℕ, List}
 use Rattle.events.specs.declared.event.Event.{Event}
 use Rattle.map_object.specs.MapObject.{Contents}
-use Rattle.events.specs.Histories.{IsHistory}
+use Rattle.events.specs.Histories.{AreHistoryEvents}
 use Rattle.events.specs.Operations.{operations}
 use Rattle.merge_orders.proofs.DisjointLemmas.{AreDisjoint-from_segments}
 use Rattle.merge_orders.proofs.MergeLemmas.{known-orders, distinct-orders}
@@ -10,7 +10,7 @@ use Rattle.segments.proofs.SegmentViewLemmas.{keys_in_order-operations}
 use Rattle.merge_orders.specs.OrdersOfSegments.{AreOrdersOfSegments, NameCallsOnce}
 
 -- orders of the segments of a history name its calls once
-pub NameCallsOnce-from_segments : (start : Contents) (events : List Event) (orders : List (List ℕ)) → IsHistory events
+pub NameCallsOnce-from_segments : (start : Contents) (events : List Event) (orders : List (List ℕ)) → AreHistoryEvents events
     → AreOrdersOfSegments start (operations events) orders
     → NameCallsOnce (operations events) orders
 NameCallsOnce-from_segments start events orders history (segments, are, zip) = record {

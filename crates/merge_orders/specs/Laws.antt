@@ -1,8 +1,7 @@
 -- Laws of the points of calls and of the merged order.
 use Rattle.std.specs.Prelude.{◌≡◌, ◌≢◌, ℕ, List, AllPairs, Contains}
-use Rattle.events.specs.declared.event.Event.{Event}
 use Rattle.events.specs.declared.operation.Operation.{Operation}
-use Rattle.map_object.specs.MapObject.{Contents}
+use Rattle.events.specs.HistoryView.{HistoryView}
 use Rattle.events.specs.Histories.{IsHistory}
 use Rattle.events.specs.Operations.{operations}
 use Rattle.merge_orders.specs.Merge.{point_of, IsMergedOrder}
@@ -15,11 +14,11 @@ ShareNoPoint calls orders = AllPairs (λ order other. (m n : ℕ) → Contains o
 -- no two segments of a history share a point, whatever orders they have
 abbrev pub SegmentsShareNoPoint : Type 0
 SegmentsShareNoPoint =
-    (start : Contents) (events : List Event) (orders : List (List ℕ)) → IsHistory events → AreOrdersOfSegments start (operations events) orders
-    → ShareNoPoint (operations events) orders
+    (history : HistoryView) (orders : List (List ℕ)) → IsHistory history → AreOrdersOfSegments history.start (operations history.events) orders
+    → ShareNoPoint (operations history.events) orders
 
 -- orders of the segments of a history have one merged order only
 abbrev pub HasOneMergedOrder : Type 0
 HasOneMergedOrder =
-    (start : Contents) (events : List Event) (orders : List (List ℕ)) (a b : List ℕ) → IsHistory events → AreOrdersOfSegments start (operations events) orders
-    → IsMergedOrder (operations events) orders a → IsMergedOrder (operations events) orders b → a ≡ b
+    (history : HistoryView) (orders : List (List ℕ)) (a b : List ℕ) → IsHistory history → AreOrdersOfSegments history.start (operations history.events) orders
+    → IsMergedOrder (operations history.events) orders a → IsMergedOrder (operations history.events) orders b → a ≡ b

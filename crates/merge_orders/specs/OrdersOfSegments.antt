@@ -9,7 +9,7 @@ use Rattle.segments.specs.SegmentOrders.{IsOrderOf}
 
 -- one order for each segment of the calls, by rising key, and none where there is no segment
 abbrev pub AreOrdersOfSegments : Contents → List Operation → List (List ℕ) → Type 0
-AreOrdersOfSegments start calls orders = (segments : List SegmentView) × AreSegments calls segments × AllZip (IsOrderOf start) segments orders
+AreOrdersOfSegments start calls orders = (segments : List SegmentView) × AreSegments start calls segments × AllZip IsOrderOf segments orders
 
 -- the orders name calls, each of them once, and no call is in two of them
 pub record NameCallsOnce (calls : List Operation) (orders : List (List ℕ)) : Type 0 where

@@ -2,7 +2,7 @@
 ghost use Rattle.std.specs.Prelude.{◌≡◌, [], map, IfOk};
 ghost use Rattle.merge_orders.specs.Merge.{IsMergedOrder};
 ghost use Rattle.events.specs.Operations.{operations};
-ghost use Rattle.orders.specs.Orders.{IsOrder};
+ghost use Rattle.orders.specs.Orders.{IsOrderOfHistory};
 ghost use Rattle.merge_orders.specs.OrdersOfSegments.{AreOrdersOfSegments};
 
 use crate::points::{calls_at_points, numbers_of};
@@ -12,9 +12,11 @@ use std::alloc::Global;
 /// The merged order of the segments' orders: their calls by rising point, and those of one segment as its
 /// order has them. It is an order of the history. For n calls it takes time n log n. `Err` is want of memory.
 pub fn merge(alloc: Global, history: &History, orders: &[Vec<u32>]) -> Result<Vec<u32>, Memory>
-    requires { AreOrdersOfSegments [] (operations history.now) (map (λ v. v.items) orders.now) }
-    ensures merged { IfOk result (λ v. IsMergedOrder (operations history.now) (map (λ v. v.items) orders.now) v.items) }
-    ensures order { IfOk result (λ v. IsOrder [] (operations history.now) v.items) }
+    requires { AreOrdersOfSegments history.now.start (operations history.now.events)
+        (map (λ v. v.items) orders.now) }
+    ensures merged { IfOk result (λ v. IsMergedOrder (operations history.now.events)
+        (map (λ v. v.items) orders.now) v.items) }
+    ensures order { IfOk result (λ v. IsOrderOfHistory history.now v.items) }
 {
     let mut calls = calls_at_points(alloc, history.calls(), orders)?;
     calls.sort_by_key(|call| call.point)?;
