@@ -152,23 +152,24 @@ stopped_back calls count order (suc at) n d sorted le here =
 
 -- ---- before the first call
 
-pub StandsWith-open : (calls : List Operation) (levels : List Level) (next : ℕ) (pairs : Contents) (visited : List Configuration)
-    (by_number by_answer : LinksView) → NonePrecedesItself calls → levels ≡ [] → pairs ≡ [] → visited ≡ configuration_of [] [] ∷ []
+pub StandsWith-open : (start : Contents) (calls : List Operation) (levels : List Level) (next : ℕ) (pairs : Contents) (visited : List Configuration)
+    (by_number by_answer : LinksView) → NonePrecedesItself calls → levels ≡ [] → pairs ≡ start → visited ≡ configuration_of [] start ∷ []
     → next ≡ slice_index by_number.after (length calls) → length by_number.after ≡ length calls + 1
     → IsChain by_number (length calls) (range_with_len 0 (length calls)) (length calls) → length by_answer.after ≡ length calls + 1
-    → IsLinkedByAnswer calls by_answer → StandsWith calls levels next 0 pairs visited by_number by_answer
-StandsWith-open calls levels next pairs visited by_number by_answer apart levels_is pairs_is visited_is next_is number_size chain answer_size
+    → IsLinkedByAnswer calls by_answer → StandsWith start calls levels next 0 pairs visited by_number by_answer
+StandsWith-open start calls levels next pairs visited by_number by_answer apart levels_is pairs_is visited_is next_is number_size chain answer_size
     (order, sorted, by) =
     rw (levels_is, pairs_is, visited_is, next_is) (record {
       cursor =
-          StandsAtCursor-pass [] calls [] 0 (configuration_of [] [] ∷ []) (StandsAtCursor-open [] calls) apart
+          StandsAtCursor-pass start calls [] 0 (configuration_of [] start ∷ []) (StandsAtCursor-open start calls) apart
           (slice_index by_number.after (length calls)) left.later
           (λ k from below is_front. absurd (Contains-nil k (left.between k from below)))
           (λ is_order k below. absurd (Contains-nil k (left.between k (omega arith) below)));
       within = left.within;
       left = λ within taken. Contains-nil (slice_index by_number.after (length calls)) taken;
+      begins = refl;
       holds = refl;
-      stands_at = (configuration_of [] [], refl, LeadsTo-nil [] calls);
+      stands_at = (configuration_of [] start, refl, LeadsTo-nil start calls);
       remembers = λ i level is. absurd (none-some level is);
       links = record { number_size = number_size; answer_size = answer_size; calls_left = chain; order = order; sorted = sorted; answers_left = by };
     })

@@ -1,11 +1,11 @@
 -- A change of one key is undone by putting the key back.
-use Rattle.std.proofs.Common.{◌≡◌, ℕ, ◌<◌, Option, Some, None, [], ◌∷◌, ◌++◌, refl, sym, ap, ◌∙◌, inl, inr, ⊎_elim, arith}
-use Rattle.std.specs.Prelude.{◌⊎◌, All}
+use Rattle.std.proofs.Common.{◌≡◌, ℕ, ◌<◌, Bool, true, false, Option, Some, None, [], ◌∷◌, ◌++◌, refl, sym, ap, ◌∙◌, inl, inr, ⊎_elim, arith}
+use Rattle.std.specs.Prelude.{◌⊎◌, All, if◌then◌else◌}
 use Rattle.std.proofs.lemmas.Bool.{cases_order}
 use Rattle.std.proofs.lemmas.Bool.Decides.{nat_tests}
 use Rattle.events.specs.declared.event.Call.{Call}
-use Rattle.events.specs.declared.event.Call.TheVariants.{Insert, Remove}
-use Rattle.map_object.specs.MapObject.{Contents, IsRising, value_at, below, above, after}
+use Rattle.events.specs.declared.event.Call.TheVariants.{Insert, Remove, Replace}
+use Rattle.map_object.specs.MapObject.{Contents, IsRising, value_at, below, above, after, put, is_just}
 use Rattle.list_laws.proofs.Lists.{AllPairs-head, AllPairs-tail}
 use Rattle.map_object.proofs.MapLemmas.{AreAbove, AreBelow-below, AreAbove-above, below_none, above_all, value_at_above, below_found, above_found, below_gap}
 use Rattle.map_object.proofs.MapLemmas.{above_gap}
@@ -99,8 +99,20 @@ module _ (m : Contents) (key : ℕ) (rising : IsRising m) where
       ∙ ap (λ x. with_value key (value_at m key) (below key m) x) (above_gap key (below key m) (above key m) low high)
       ∙ joined m key rising
 
+  -- a replace is undone
+  pub replace_undone : (expected value : ℕ) → after (after m (Replace key expected value)) (restoring key (value_at m key)) ≡ m
+  replace_undone expected value = by_test (is_just (value_at m key) expected) refl
+    where
+      by_test : (test : Bool) → is_just (value_at m key) expected ≡ test → after (after m (Replace key expected value)) (restoring key (value_at m key)) ≡ m
+      by_test true is = ap (λ b. after (if b then put key value m else m) (restoring key (value_at m key))) is ∙ insert_undone value
+      by_test false is =
+          ap (λ b. after (if b then put key value m else m) (restoring key (value_at m key))) is ∙ after-restoring m key (value_at m key) ∙ joined m key rising
+
 -- a change of a key is undone
-pub change_undone : (m : Contents) (call : Call) (key : ℕ) → IsRising m → ((value : ℕ) × (call ≡ Insert key value)) ⊎ (call ≡ Remove key)
+pub change_undone : (m : Contents) (call : Call) (key : ℕ) → IsRising m
+    → ((value : ℕ) × (call ≡ Insert key value)) ⊎ ((call ≡ Remove key) ⊎ ((expected : ℕ) × (value : ℕ) × (call ≡ Replace key expected value)))
     → after (after m call) (restoring key (value_at m key)) ≡ m
 change_undone m call key rising (inl (value, is)) = ap (λ d. after (after m d) (restoring key (value_at m key))) is ∙ insert_undone m key rising value
-change_undone m call key rising (inr is) = ap (λ d. after (after m d) (restoring key (value_at m key))) is ∙ remove_undone m key rising
+change_undone m call key rising (inr (inl is)) = ap (λ d. after (after m d) (restoring key (value_at m key))) is ∙ remove_undone m key rising
+change_undone m call key rising (inr (inr (expected, value, is))) =
+    ap (λ d. after (after m d) (restoring key (value_at m key))) is ∙ replace_undone m key rising expected value

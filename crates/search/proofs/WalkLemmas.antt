@@ -30,7 +30,7 @@ use Rattle.search.specs.Cursor.{cursor, StandsAtCursor}
 use Rattle.search.specs.Remaining.{RemainsBefore, IsEarliestAnswer}
 use Rattle.search.specs.Links.{LinksView, AreWithin, unlinked, put_back, AreLeft, without}
 use Rattle.search.specs.Undo.{undone}
-use Rattle.search.specs.Standing.{IsExhausted, places, pairs_after, IsConfigurationAt, Remembers, IsAnsweredBefore, IsNoLater, AreLinksOf, StandsWith, untried}
+use Rattle.search.specs.Standing.{first_pairs, IsExhausted, places, pairs_after, IsConfigurationAt, Remembers, IsAnsweredBefore, IsNoLater, AreLinksOf, StandsWith, untried}
 use Rattle.search.proofs.LinkLemmas.{range_below, first_or, after-end, IsChain-left, AreLeft-take, left-Contains, left-from_Contains, IsNextLeft-first}
 use Rattle.search.proofs.LinkLemmas.{IsNextLeft-after}
 use Rattle.search.proofs.EarliestLemmas.{distinct_from_increasing}
@@ -151,50 +151,57 @@ module _ (calls : List Operation) (path : List ℕ) (by_number by_answer : Links
     λ r. ltb-true response.res place (ap (λ o. is_before o place) (sym done) ∙ answered_first x a is lt here place r),
   )
 
+-- one configuration more changes nothing of the first
+first_pairs-push : {at : ℕ} (visited : List Configuration) (d : Configuration) → at < length visited → first_pairs (visited ++ d ∷ []) ≡ first_pairs visited
+first_pairs-push [] d lt = absurd (omega arith)
+first_pairs-push (c ∷ visited) d lt = refl
+
 -- ---- steps
 
-module _ (calls : List Operation) (apart : NonePrecedesItself calls) (levels : List Level) (next at : ℕ) (pairs : Contents) (visited : List Configuration)
+module _ (start : Contents) (calls : List Operation) (apart : NonePrecedesItself calls) (levels : List Level) (next at : ℕ) (pairs : Contents) (visited : List Configuration)
     (by_number by_answer : LinksView) where
   -- the walk goes on to the next call left
-  pub StandsWith-pass : StandsAtCursor [] calls (places levels) (next + 1) visited → next < length calls → (Contains (places levels) next → ⊥)
-      → (IsOrder [] calls (places levels) → ⊥) → pairs ≡ pairs_after calls (places levels) → IsConfigurationAt calls visited (places levels) at
-      → ((i : ℕ) (level : Level) → slice_get levels i ≡ Some level → Remembers calls visited (places (take i levels)) level)
+  pub StandsWith-pass : StandsAtCursor start calls (places levels) (next + 1) visited → next < length calls → (Contains (places levels) next → ⊥)
+      → (IsOrder start calls (places levels) → ⊥) → first_pairs visited ≡ start → pairs ≡ pairs_after start calls (places levels)
+      → IsConfigurationAt start calls visited (places levels) at
+      → ((i : ℕ) (level : Level) → slice_get levels i ≡ Some level → Remembers start calls visited (places (take i levels)) level)
       → AreLinksOf calls (reverse (places levels)) by_number by_answer
-      → StandsWith calls levels (slice_index by_number.after next) at pairs visited by_number by_answer
-  StandsWith-pass stands lt new not_order holds stands_at remembers links =
+      → StandsWith start calls levels (slice_index by_number.after next) at pairs visited by_number by_answer
+  StandsWith-pass stands lt new not_order begins holds stands_at remembers links =
       let path = places levels in
       let left = IsNextLeft-after (length calls) (reverse path) by_number links.calls_left next lt (λ h. new (Contains-from_reverse path next h)) in
       record {
-        cursor = StandsAtCursor-pass [] calls path (next + 1) visited stands apart (slice_index by_number.after next) left.later
-            (λ k from below is_front. taken_again [] calls path k [] (subst (IsFront [] calls) (sym (append-nil (cursor path k))) is_front)
+        cursor = StandsAtCursor-pass start calls path (next + 1) visited stands apart (slice_index by_number.after next) left.later
+            (λ k from below is_front. taken_again start calls path k [] (subst (IsFront start calls) (sym (append-nil (cursor path k))) is_front)
             (Contains-from_reverse path k (left.between k from below)))
             (λ is_order. absurd (not_order is_order));
         within = left.within;
         left = λ within taken. left.new within (Contains-reverse path (slice_index by_number.after next) taken);
+        begins = begins;
         holds = holds;
         stands_at = stands_at;
         remembers = remembers;
         links = links;
       }
 
-  module _ (s : StandsWith calls levels next at pairs visited by_number by_answer) (lt : next < length calls)
-      (not_order : IsOrder [] calls (places levels) → ⊥) where
+  module _ (s : StandsWith start calls levels next at pairs visited by_number by_answer) (lt : next < length calls)
+      (not_order : IsOrder start calls (places levels) → ⊥) where
     -- the cursor passes a call that is not a next one
     pub cursor-illegal : (a : Operation) → slice_get calls next ≡ Some a → (IsLegalCall pairs a.call a.response → ⊥)
-        → StandsAtCursor [] calls (places levels) (next + 1) visited
-    cursor-illegal a here illegal = StandsAtCursor-pass [] calls (places levels) next visited s.cursor apart (next + 1) (omega arith)
+        → StandsAtCursor start calls (places levels) (next + 1) visited
+    cursor-illegal a here illegal = StandsAtCursor-pass start calls (places levels) next visited s.cursor apart (next + 1) (omega arith)
         (λ k from below is_front.
         let same : k ≡ next = omega arith in
-        let found = IsNext-from_front [] calls (places levels) next [] (subst (λ j. IsFront [] calls (cursor (places levels) j)) same is_front) in
+        let found = IsNext-from_front start calls (places levels) next [] (subst (λ j. IsFront start calls (cursor (places levels) j)) same is_front) in
         let call_is = same_Some found.call a (sym found.here ∙ here) in
         illegal (subst (λ m. IsLegalCall m a.call a.response) (sym s.holds)
-        (subst (λ (b : Operation). IsLegalCall (pairs_after calls (places levels)) b.call b.response) call_is found.legal)))
+        (subst (λ (b : Operation). IsLegalCall (pairs_after start calls (places levels)) b.call b.response) call_is found.legal)))
         (λ is_order. absurd (not_order is_order))
 
     -- a call that is passed over
-    pub StandsWith-passed : StandsAtCursor [] calls (places levels) (next + 1) visited
-        → StandsWith calls levels (slice_index by_number.after next) at pairs visited by_number by_answer
-    StandsWith-passed stands = StandsWith-pass stands lt (s.left lt) not_order s.holds s.stands_at s.remembers s.links
+    pub StandsWith-passed : StandsAtCursor start calls (places levels) (next + 1) visited
+        → StandsWith start calls levels (slice_index by_number.after next) at pairs visited by_number by_answer
+    StandsWith-passed stands = StandsWith-pass stands lt (s.left lt) not_order s.begins s.holds s.stands_at s.remembers s.links
 
     -- fewer calls are to try after it
     pub untried-passed : untried (length calls) levels (slice_index by_number.after next) < untried (length calls) levels next
@@ -207,35 +214,35 @@ module _ (calls : List Operation) (apart : NonePrecedesItself calls) (levels : L
     module _ (a : Operation) (here : slice_get calls next ≡ Some a) (preceded : (m : ℕ) → PrecedesAt calls m next → Contains (places levels) m)
         (legal : IsLegalCall pairs a.call a.response) where
       -- a call that may come next is taken
-      pub IsFront-taken : IsFront [] calls (cursor (places levels) next)
+      pub IsFront-taken : IsFront start calls (cursor (places levels) next)
       IsFront-taken =
-          IsFront-push [] calls (places levels) next a s.cursor.is_front here (s.left lt) preceded (subst (λ m. IsLegalCall m a.call a.response) s.holds legal)
+          IsFront-push start calls (places levels) next a s.cursor.is_front here (s.left lt) preceded (subst (λ m. IsLegalCall m a.call a.response) s.holds legal)
 
       -- to this configuration
       pub LeadsTo-taken : (c d : Configuration) → slice_get visited at ≡ Some c → IsStrictlyIncreasing d.taken
           → ((m : ℕ) → Contains d.taken m ↔ (Contains c.taken m ⊎ (m ≡ next))) → d.pairs ≡ after_call pairs a.call a.response
-          → LeadsTo [] calls (cursor (places levels) next) d
+          → LeadsTo start calls (cursor (places levels) next) d
       LeadsTo-taken c d at_is up taken held =
           let (b, b_at, leads) = s.stands_at in
           let same = same_Some b c (sym b_at ∙ at_is) in
-          let by = subst (LeadsTo [] calls (places levels)) same leads in
-          LeadsTo-push [] calls (places levels) next a c d by here up taken (held ∙ ap (λ m. after_call m a.call a.response) (s.holds ∙ sym by.pairs))
+          let by = subst (LeadsTo start calls (places levels)) same leads in
+          LeadsTo-push start calls (places levels) next a c d by here up taken (held ∙ ap (λ m. after_call m a.call a.response) (s.holds ∙ sym by.pairs))
 
       -- it was visited
-      pub cursor-seen : (d : Configuration) → LeadsTo [] calls (cursor (places levels) next) d → Contains visited d
-          → StandsAtCursor [] calls (places levels) (next + 1) visited
-      cursor-seen d leads within = StandsAtCursor-seen [] calls (places levels) next visited s.cursor apart d IsFront-taken leads within not_order
+      pub cursor-seen : (d : Configuration) → LeadsTo start calls (cursor (places levels) next) d → Contains visited d
+          → StandsAtCursor start calls (places levels) (next + 1) visited
+      cursor-seen d leads within = StandsAtCursor-seen start calls (places levels) next visited s.cursor apart d IsFront-taken leads within not_order
 
       -- it is new
-      module _ (d : Configuration) (leads : LeadsTo [] calls (cursor (places levels) next) d) (new : Contains visited d → ⊥) (undo : Option Call)
+      module _ (d : Configuration) (leads : LeadsTo start calls (cursor (places levels) next) d) (new : Contains visited d → ⊥) (undo : Option Call)
           (level : Level) (place_is : level.place ≡ next) (at_is : level.at ≡ at) (after_pairs : Contents)
           (after_is : after_pairs ≡ after_call pairs a.call a.response) (undo_is : undone after_pairs level.undo ≡ pairs) (within_number : AreWithin by_number)
           (within_answer : AreWithin by_answer) where
         path_is : places (levels ++ level ∷ []) ≡ cursor (places levels) next
         path_is = places-push levels level ∙ ap (cursor (places levels)) place_is
 
-        pairs_is : after_pairs ≡ pairs_after calls (cursor (places levels) next)
-        pairs_is = after_is ∙ ap (λ m. after_call m a.call a.response) s.holds ∙ sym (after_calls-push [] calls (places levels) next a here)
+        pairs_is : after_pairs ≡ pairs_after start calls (cursor (places levels) next)
+        pairs_is = after_is ∙ ap (λ m. after_call m a.call a.response) s.holds ∙ sym (after_calls-push start calls (places levels) next a here)
 
         links_pushed : AreLinksOf calls (next ∷ reverse (places levels)) (unlinked by_number next) (unlinked by_answer next)
         links_pushed = record {
@@ -255,52 +262,53 @@ module _ (calls : List Operation) (apart : NonePrecedesItself calls) (levels : L
         }
 
         remembers_pushed : (i : ℕ) (l : Level) → slice_get (levels ++ level ∷ []) i ≡ Some l
-            → Remembers calls (visited ++ d ∷ []) (places (take i (levels ++ level ∷ []))) l
+            → Remembers start calls (visited ++ d ∷ []) (places (take i (levels ++ level ∷ []))) l
         remembers_pushed i l is = ⊎_elim
             (λ old.
             let within = slice_get_within levels i l old in
             let before = s.remembers i l old in
-            subst (λ ls. Remembers calls (visited ++ d ∷ []) (places ls) l) (sym (take-append-le i levels (level ∷ []) (omega arith)))
+            subst (λ ls. Remembers start calls (visited ++ d ∷ []) (places ls) l) (sym (take-append-le i levels (level ∷ []) (omega arith)))
             (record {
               at =
                   (before.at.0, slice_get-append_left visited (d ∷ []) l.at (slice_get_within visited l.at before.at.0 before.at.1) ∙ before.at.1, before.at.2);
               undo = before.undo;
             }))
-            (λ pushed. subst (λ ls. Remembers calls (visited ++ d ∷ []) (places ls) l) (sym (take_at levels (level ∷ []) i pushed.0))
-            (subst (Remembers calls (visited ++ d ∷ []) (places levels)) (sym pushed.1) (record {
+            (λ pushed. subst (λ ls. Remembers start calls (visited ++ d ∷ []) (places ls) l) (sym (take_at levels (level ∷ []) i pushed.0))
+            (subst (Remembers start calls (visited ++ d ∷ []) (places levels)) (sym pushed.1) (record {
               at = (
                 s.stands_at.0,
                 ap (slice_get (visited ++ d ∷ [])) at_is
                     ∙ slice_get-append_left visited (d ∷ []) at (slice_get_within visited at s.stands_at.0 s.stands_at.1) ∙ s.stands_at.1,
                 s.stands_at.2,
               );
-              undo = ap (λ k. undone (pairs_after calls (places levels ++ k ∷ [])) level.undo) place_is ∙ ap (λ m. undone m level.undo) (sym pairs_is)
+              undo = ap (λ k. undone (pairs_after start calls (places levels ++ k ∷ [])) level.undo) place_is ∙ ap (λ m. undone m level.undo) (sym pairs_is)
                   ∙ undo_is ∙ s.holds;
             })))
             (place-push levels level i l is)
 
-        pub StandsWith-push : StandsWith calls (levels ++ level ∷ []) (slice_index (unlinked by_number next).after (length calls)) (length visited) after_pairs
+        pub StandsWith-push : StandsWith start calls (levels ++ level ∷ []) (slice_index (unlinked by_number next).after (length calls)) (length visited) after_pairs
             (visited ++ d ∷ []) (unlinked by_number next) (unlinked by_answer next)
         StandsWith-push =
-            let pushed = StandsAtCursor-push [] calls (places levels) next visited s.cursor d IsFront-taken leads new not_order in
+            let pushed = StandsAtCursor-push start calls (places levels) next visited s.cursor d IsFront-taken leads new not_order in
             let left = IsNextLeft-first (length calls) (next ∷ reverse (places levels)) (unlinked by_number next) links_pushed.calls_left in
             let out_is : next ∷ reverse (places levels) ≡ reverse (places (levels ++ level ∷ [])) =
             sym (reverse-push levels level ∙ ap (λ k. k ∷ reverse (places levels)) place_is) in
             let in_path : (k : ℕ) → Contains (next ∷ reverse (places levels)) k → Contains (cursor (places levels) next) k =
             λ k h. subst (λ ys. Contains ys k) path_is (Contains-from_reverse (places (levels ++ level ∷ [])) k (subst (λ ys. Contains ys k) out_is h)) in
             record {
-              cursor = subst (λ p. StandsAtCursor [] calls p (slice_index (unlinked by_number next).after (length calls)) (visited ++ d ∷ [])) (sym path_is)
-                  (StandsAtCursor-pass [] calls (cursor (places levels) next) 0 (visited ++ d ∷ []) pushed apart
+              cursor = subst (λ p. StandsAtCursor start calls p (slice_index (unlinked by_number next).after (length calls)) (visited ++ d ∷ [])) (sym path_is)
+                  (StandsAtCursor-pass start calls (cursor (places levels) next) 0 (visited ++ d ∷ []) pushed apart
                   (slice_index (unlinked by_number next).after (length calls)) left.later
-                  (λ k from below is_front. taken_again [] calls (cursor (places levels) next) k []
-                  (subst (IsFront [] calls) (sym (append-nil (cursor (cursor (places levels) next) k))) is_front) (in_path k (left.between k from below)))
+                  (λ k from below is_front. taken_again start calls (cursor (places levels) next) k []
+                  (subst (IsFront start calls) (sym (append-nil (cursor (cursor (places levels) next) k))) is_front) (in_path k (left.between k from below)))
                   (λ is_order k below. in_path k (left.between k (omega arith) below)));
               within = left.within;
               left = λ within taken. left.new within
                   (subst (λ ys. Contains ys (slice_index (unlinked by_number next).after (length calls))) (sym out_is)
                   (Contains-reverse (places (levels ++ level ∷ [])) (slice_index (unlinked by_number next).after (length calls)) taken));
-              holds = pairs_is ∙ ap (pairs_after calls) (sym path_is);
-              stands_at = (d, slice_get-middle visited d [], subst (λ p. LeadsTo [] calls p d) (sym path_is) leads);
+              begins = first_pairs-push visited d (slice_get_within visited at s.stands_at.0 s.stands_at.1) ∙ s.begins;
+              holds = pairs_is ∙ ap (pairs_after start calls) (sym path_is);
+              stands_at = (d, slice_get-middle visited d [], subst (λ p. LeadsTo start calls p d) (sym path_is) leads);
               remembers = remembers_pushed;
               links = subst (λ out. AreLinksOf calls out (unlinked by_number next) (unlinked by_answer next)) out_is links_pushed;
             }
@@ -316,14 +324,14 @@ module _ (calls : List Operation) (apart : NonePrecedesItself calls) (levels : L
 
 -- ---- back by one call
 
-module _ (calls : List Operation) (apart : NonePrecedesItself calls) where
+module _ (start : Contents) (calls : List Operation) (apart : NonePrecedesItself calls) where
   -- the cursor passes all calls after one that was invoked after the earliest answer
-  pub cursor-past : (path : List ℕ) (next : ℕ) (visited : List Configuration) (answered : ℕ) → StandsAtCursor [] calls path next visited → next ≤ length calls
+  pub cursor-past : (path : List ℕ) (next : ℕ) (visited : List Configuration) (answered : ℕ) → StandsAtCursor start calls path next visited → next ≤ length calls
       → AllPairs (λ a b. a.inv < b.inv) calls → IsEarliestAnswer calls path (Some answered)
-      → ((a : Operation) → slice_get calls next ≡ Some a → answered < a.inv) → (IsOrder [] calls path → ⊥) → StandsAtCursor [] calls path (length calls) visited
+      → ((a : Operation) → slice_get calls next ≡ Some a → answered < a.inv) → (IsOrder start calls path → ⊥) → StandsAtCursor start calls path (length calls) visited
   cursor-past path next visited answered stands within rising earliest late not_order =
-      StandsAtCursor-pass [] calls path next visited stands apart (length calls) within
-      (λ k from below is_front. none k from (IsNext-from_front [] calls path k [] is_front) (slice_get-below calls next (omega arith)))
+      StandsAtCursor-pass start calls path next visited stands apart (length calls) within
+      (λ k from below is_front. none k from (IsNext-from_front start calls path k [] is_front) (slice_get-below calls next (omega arith)))
       (λ is_order. absurd (not_order is_order))
     where
       later : (k : ℕ) (b a : Operation) → next ≤ k → slice_get calls k ≡ Some b → slice_get calls next ≡ Some a → answered < b.inv
@@ -333,53 +341,53 @@ module _ (calls : List Operation) (apart : NonePrecedesItself calls) where
           (λ lt. omega (arith, late a here, AllPairs-at (λ (x : Operation) (y : Operation). x.inv < y.inv) calls next k a b rising lt here there)) differ)
           (cases_order k next)
 
-      none : (k : ℕ) → next ≤ k → IsNext [] calls path k → (a : Operation) × (slice_get calls next ≡ Some a) → ⊥
+      none : (k : ℕ) → next ≤ k → IsNext start calls path k → (a : Operation) × (slice_get calls next ≡ Some a) → ⊥
       none k from found (a, here) =
           let remains = (earliest found.call.inv).0 (later k found.call a from found.here here) in
           remains.new (found.preceded remains.n (remains.call, found.call, remains.here, found.here, remains.before))
 
   -- nothing is left to go back to
-  pub IsExhausted-from_past : (visited : List Configuration) → StandsAtCursor [] calls [] (length calls) visited → (IsOrder [] calls [] → ⊥)
-      → IsExhausted calls visited
+  pub IsExhausted-from_past : (visited : List Configuration) → StandsAtCursor start calls [] (length calls) visited → (IsOrder start calls [] → ⊥)
+      → IsExhausted start calls visited
   IsExhausted-from_past visited stands not_order = record {
-    none = none_at_end [] calls [] (length calls) visited stands apart refl (omega arith) not_order;
-    count = HasCount-at_end [] calls [] (length calls) visited stands apart refl (omega arith) not_order;
+    none = none_at_end start calls [] (length calls) visited stands apart refl (omega arith) not_order;
+    count = HasCount-at_end start calls [] (length calls) visited stands apart refl (omega arith) not_order;
   }
 
   module _ (levels : List Level) (level : Level) (next at : ℕ) (pairs : Contents) (visited : List Configuration) (by_number by_answer : LinksView)
-      (s : StandsWith calls (levels ++ level ∷ []) next at pairs visited by_number by_answer)
-      (past : StandsAtCursor [] calls (places (levels ++ level ∷ [])) (length calls) visited)
-      (not_order : IsOrder [] calls (places (levels ++ level ∷ [])) → ⊥) where
+      (s : StandsWith start calls (levels ++ level ∷ []) next at pairs visited by_number by_answer)
+      (past : StandsAtCursor start calls (places (levels ++ level ∷ [])) (length calls) visited)
+      (not_order : IsOrder start calls (places (levels ++ level ∷ [])) → ⊥) where
     before_is : places (levels ++ level ∷ []) ≡ cursor (places levels) level.place
     before_is = places-push levels level
 
-    popped : StandsAtCursor [] calls (places levels) (level.place + 1) visited
+    popped : StandsAtCursor start calls (places levels) (level.place + 1) visited
     popped =
-        StandsAtCursor-pop [] calls (places levels) level.place (length calls) visited
-        (subst (λ p. StandsAtCursor [] calls p (length calls) visited) before_is past) (omega arith)
-        (λ is_order. not_order (subst (IsOrder [] calls) (sym before_is) is_order))
+        StandsAtCursor-pop start calls (places levels) level.place (length calls) visited
+        (subst (λ p. StandsAtCursor start calls p (length calls) visited) before_is past) (omega arith)
+        (λ is_order. not_order (subst (IsOrder start calls) (sym before_is) is_order))
 
-    whole : IsFront [] calls (cursor (places levels) level.place)
-    whole = subst (IsFront [] calls) before_is s.cursor.is_front
+    whole : IsFront start calls (cursor (places levels) level.place)
+    whole = subst (IsFront start calls) before_is s.cursor.is_front
 
     new : Contains (places levels) level.place → ⊥
     new h =
-        let found = IsNext-from_front [] calls (places levels) level.place [] whole in
+        let found = IsNext-from_front start calls (places levels) level.place [] whole in
         found.new h
 
     -- the call taken back has a number of the calls
     pub below-popped : level.place < length calls
     below-popped =
-        let found = IsNext-from_front [] calls (places levels) level.place [] whole in
+        let found = IsNext-from_front start calls (places levels) level.place [] whole in
         slice_get_within calls level.place found.call found.here
 
     -- the calls before it are no order
-    not_order_before : IsOrder [] calls (places levels) → ⊥
+    not_order_before : IsOrder start calls (places levels) → ⊥
     not_order_before is_order = new ((popped.first (places levels) is_order (ComesBefore-itself (places levels) (level.place + 1))).1 level.place (omega arith))
 
-    remembered : Remembers calls visited (places levels) level
+    remembered : Remembers start calls visited (places levels) level
     remembered =
-        subst (λ ls. Remembers calls visited (places ls) level) (take_at levels (level ∷ []) (length levels) refl)
+        subst (λ ls. Remembers start calls visited (places ls) level) (take_at levels (level ∷ []) (length levels) refl)
         (s.remembers (length levels) level (slice_get-middle levels level []))
 
     left_parts : AreLeft (length calls) (range_with_len 0 (length calls)) (level.place ∷ reverse (places levels)) by_number
@@ -390,16 +398,16 @@ module _ (calls : List Operation) (apart : NonePrecedesItself calls) where
 
     -- the walk stands before the call again, which it has tried
     pub StandsWith-back : (restored : Contents) → restored ≡ undone pairs level.undo
-        → StandsWith calls levels (slice_index (put_back by_number level.place).after level.place) level.at restored visited (put_back by_number level.place)
+        → StandsWith start calls levels (slice_index (put_back by_number level.place).after level.place) level.at restored visited (put_back by_number level.place)
         (put_back by_answer level.place)
     StandsWith-back restored restored_is =
-        StandsWith-pass calls apart levels level.place level.at restored visited (put_back by_number level.place) (put_back by_answer level.place)
-        popped below-popped new not_order_before
-        (restored_is ∙ ap (λ m. undone m level.undo) (s.holds ∙ ap (pairs_after calls) before_is) ∙ remembered.undo)
+        StandsWith-pass start calls apart levels level.place level.at restored visited (put_back by_number level.place) (put_back by_answer level.place)
+        popped below-popped new not_order_before s.begins
+        (restored_is ∙ ap (λ m. undone m level.undo) (s.holds ∙ ap (pairs_after start calls) before_is) ∙ remembered.undo)
         remembered.at
         (λ i l is.
         let within = slice_get_within levels i l is in
-        subst (λ ls. Remembers calls visited (places ls) l) (take-append-le i levels (level ∷ []) (omega arith))
+        subst (λ ls. Remembers start calls visited (places ls) l) (take-append-le i levels (level ∷ []) (omega arith))
         (s.remembers i l (slice_get-append_left levels (level ∷ []) i within ∙ is)))
         (record {
           number_size = length-set by_number.after (slice_index by_number.before level.place) level.place ∙ s.links.number_size;
@@ -423,14 +431,15 @@ module _ (calls : List Operation) (apart : NonePrecedesItself calls) where
         omega (arith, less, untried-push (length calls) levels level next)
 
 -- a walk whose parts are these stands so
-pub StandsWith-same : (calls : List Operation) (levels l : List Level) (next n at a : ℕ) (pairs m : Contents) (visited v : List Configuration)
+pub StandsWith-same : (start : Contents) (calls : List Operation) (levels l : List Level) (next n at a : ℕ) (pairs m : Contents)
+    (visited v : List Configuration)
     (by_number b by_answer d : LinksView) → l ≡ levels → n ≡ next → a ≡ at → m ≡ pairs → v ≡ visited → b ≡ by_number → d ≡ by_answer
-    → StandsWith calls levels next at pairs visited by_number by_answer → StandsWith calls l n a m v b d
-StandsWith-same calls levels l next n at a pairs m visited v by_number b by_answer d l_is n_is a_is m_is v_is b_is d_is s =
-    subst (λ x. StandsWith calls x n a m v b d) (sym l_is)
-    (subst (λ x. StandsWith calls levels x a m v b d) (sym n_is)
-    (subst (λ x. StandsWith calls levels next x m v b d) (sym a_is)
-    (subst (λ x. StandsWith calls levels next at x v b d) (sym m_is)
-    (subst (λ x. StandsWith calls levels next at pairs x b d) (sym v_is)
-    (subst (λ x. StandsWith calls levels next at pairs visited x d) (sym b_is)
-    (subst (λ x. StandsWith calls levels next at pairs visited by_number x) (sym d_is) s))))))
+    → StandsWith start calls levels next at pairs visited by_number by_answer → StandsWith start calls l n a m v b d
+StandsWith-same start calls levels l next n at a pairs m visited v by_number b by_answer d l_is n_is a_is m_is v_is b_is d_is s =
+    subst (λ x. StandsWith start calls x n a m v b d) (sym l_is)
+    (subst (λ x. StandsWith start calls levels x a m v b d) (sym n_is)
+    (subst (λ x. StandsWith start calls levels next x m v b d) (sym a_is)
+    (subst (λ x. StandsWith start calls levels next at x v b d) (sym m_is)
+    (subst (λ x. StandsWith start calls levels next at pairs x b d) (sym v_is)
+    (subst (λ x. StandsWith start calls levels next at pairs visited x d) (sym b_is)
+    (subst (λ x. StandsWith start calls levels next at pairs visited by_number x) (sym d_is) s))))))

@@ -7,28 +7,28 @@ use Rattle.map_object.specs.MapObject.{Contents}
 use Rattle.orders.specs.Orders.{IsCompletedAt, IsLinearizable}
 use Rattle.configurations.specs.Fronts.{IsFront}
 use Rattle.segments.specs.SegmentView.{SegmentView}
-use Rattle.segments.specs.SegmentOrders.{numbers_at, start_of, HasNoOrder}
+use Rattle.segments.specs.SegmentOrders.{numbers_at, HasNoOrder}
 use Rattle.search.specs.LeastOrder.{is_at_or_before, IsLeastOrder}
 use Rattle.search.specs.LeastCounts.{HasCount, CountIsWithin, CountIsAbove}
 use Rattle.search.specs.declared.found.Found.{Found}
 use Rattle.search.specs.declared.found.Found.TheVariants.{Order, NoOrder, Spent}
 
 -- a list of numbers is the least order of the segment
-abbrev pub IsLeastOrderOf : Contents → SegmentView → List ℕ → Type 0
-IsLeastOrderOf start segment order = (places : List ℕ) × (order ≡ numbers_at segment places) × IsLeastOrder (start_of start segment) segment.calls places
+abbrev pub IsLeastOrderOf : SegmentView → List ℕ → Type 0
+IsLeastOrderOf segment order = (places : List ℕ) × (order ≡ numbers_at segment places) × IsLeastOrder segment.start segment.calls places
 
 -- at most so many configurations of the segment count, and more than so many
-abbrev pub CountIsWithinOf : Contents → SegmentView → ℕ → Type 0
-CountIsWithinOf start segment budget = CountIsWithin (start_of start segment) segment.calls budget
+abbrev pub CountIsWithinOf : SegmentView → ℕ → Type 0
+CountIsWithinOf segment budget = CountIsWithin segment.start segment.calls budget
 
-abbrev pub CountIsAboveOf : Contents → SegmentView → ℕ → Type 0
-CountIsAboveOf start segment budget = CountIsAbove (start_of start segment) segment.calls budget
+abbrev pub CountIsAboveOf : SegmentView → ℕ → Type 0
+CountIsAboveOf segment budget = CountIsAbove segment.start segment.calls budget
 
 -- the exact answer: the least order, or that there is no order, where the count is within the budget, and else that it is spent
-abbrev pub IsExactAnswer : Contents → ℕ → SegmentView → Found → Type 0
-IsExactAnswer start budget segment (Order order) = IsLeastOrderOf start segment order.items × CountIsWithinOf start segment budget
-IsExactAnswer start budget segment NoOrder = HasNoOrder start segment × CountIsWithinOf start segment budget
-IsExactAnswer start budget segment Spent = CountIsAboveOf start segment budget
+abbrev pub IsExactAnswer : ℕ → SegmentView → Found → Type 0
+IsExactAnswer budget segment (Order order) = IsLeastOrderOf segment order.items × CountIsWithinOf segment budget
+IsExactAnswer budget segment NoOrder = HasNoOrder segment × CountIsWithinOf segment budget
+IsExactAnswer budget segment Spent = CountIsAboveOf segment budget
 
 -- two answers say the same
 abbrev pub AreSameAnswer : Found → Found → Type 0
@@ -40,7 +40,7 @@ AreSameAnswer a b = ⊥
 -- one answer only is exact
 abbrev pub OneExactAnswer : Type 0
 OneExactAnswer =
-    (start : Contents) (budget : ℕ) (segment : SegmentView) (a b : Found) → IsExactAnswer start budget segment a → IsExactAnswer start budget segment b
+    (budget : ℕ) (segment : SegmentView) (a b : Found) → IsExactAnswer budget segment a → IsExactAnswer budget segment b
     → AreSameAnswer a b
 
 -- some calls, none of which precedes itself, have a least order, or no order

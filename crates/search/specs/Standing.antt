@@ -23,17 +23,22 @@ abbrev pub places : List Level → List ℕ
 places levels = map (λ level. level.place) levels
 
 -- the pairs after some calls
-abbrev pub pairs_after : List Operation → List ℕ → Contents
-pairs_after calls path = after_calls [] (calls_at calls path)
+abbrev pub pairs_after : Contents → List Operation → List ℕ → Contents
+pairs_after start calls path = after_calls start (calls_at calls path)
 
 -- the configuration to which some calls lead has this place in the memo
-abbrev pub IsConfigurationAt : List Operation → List Configuration → List ℕ → ℕ → Type 0
-IsConfigurationAt calls visited path at = (c : Configuration) × (slice_get visited at ≡ Some c) × LeadsTo [] calls path c
+abbrev pub IsConfigurationAt : Contents → List Operation → List Configuration → List ℕ → ℕ → Type 0
+IsConfigurationAt start calls visited path at = (c : Configuration) × (slice_get visited at ≡ Some c) × LeadsTo start calls path c
+
+-- the pairs of the configuration that was visited first
+abbrev pub first_pairs : List Configuration → Contents
+first_pairs [] = []
+first_pairs (c ∷ visited) = c.pairs
 
 -- a level of the stack: where the walk stood before its call, and what undoes the call
-pub record Remembers (calls : List Operation) (visited : List Configuration) (path : List ℕ) (level : Level) : Type 0 where
-  pub at : IsConfigurationAt calls visited path level.at
-  pub undo : undone (pairs_after calls (path ++ level.place ∷ [])) level.undo ≡ pairs_after calls path
+pub record Remembers (start : Contents) (calls : List Operation) (visited : List Configuration) (path : List ℕ) (level : Level) : Type 0 where
+  pub at : IsConfigurationAt start calls visited path level.at
+  pub undo : undone (pairs_after start calls (path ++ level.place ∷ [])) level.undo ≡ pairs_after start calls path
 
 -- a call was answered before a place
 abbrev pub IsAnsweredBefore : List Operation → ℕ → ℕ → Type 0
@@ -60,18 +65,19 @@ pub record AreLinksOf (calls : List Operation) (out : List ℕ) (by_number by_an
   pub answers_left : AreLeft (length calls) order out by_answer
 
 -- a walk stands here
-pub record StandsWith (calls : List Operation) (levels : List Level) (next at : ℕ) (pairs : Contents) (visited : List Configuration)
-    (by_number by_answer : LinksView) : Type 0 where
-  pub cursor : StandsAtCursor [] calls (places levels) next visited
+pub record StandsWith (start : Contents) (calls : List Operation) (levels : List Level) (next at : ℕ) (pairs : Contents)
+    (visited : List Configuration) (by_number by_answer : LinksView) : Type 0 where
+  pub cursor : StandsAtCursor start calls (places levels) next visited
   pub within : next ≤ length calls
   pub left : next < length calls → Contains (places levels) next → ⊥
-  pub holds : pairs ≡ pairs_after calls (places levels)
-  pub stands_at : IsConfigurationAt calls visited (places levels) at
-  pub remembers : (i : ℕ) (level : Level) → slice_get levels i ≡ Some level → Remembers calls visited (places (take i levels)) level
+  pub begins : first_pairs visited ≡ start
+  pub holds : pairs ≡ pairs_after start calls (places levels)
+  pub stands_at : IsConfigurationAt start calls visited (places levels) at
+  pub remembers : (i : ℕ) (level : Level) → slice_get levels i ≡ Some level → Remembers start calls visited (places (take i levels)) level
   pub links : AreLinksOf calls (reverse (places levels)) by_number by_answer
 
-abbrev pub Stands : List Operation → Standing → Type 0
-Stands calls s = StandsWith calls s.levels.items s.next s.at s.map s.memo s.calls s.answers
+abbrev pub Stands : Contents → List Operation → Standing → Type 0
+Stands start calls s = StandsWith start calls s.levels.items s.next s.at s.map s.memo s.calls s.answers
 
 -- the calls that are not tried yet, at all levels
 abbrev pub untried : ℕ → List Level → ℕ → ℕ
@@ -79,29 +85,29 @@ untried size [] next = size - next
 untried size (level ∷ levels) next = (size - level.place) + untried size levels next
 
 -- the next call may be tried: there is one, all calls that precede it are taken, and a completed call is left
-pub record MayTry (calls : List Operation) (path : List ℕ) (next : ℕ) : Type 0 where
+pub record MayTry (start : Contents) (calls : List Operation) (path : List ℕ) (next : ℕ) : Type 0 where
   pub known : next < length calls
   pub preceded : (m : ℕ) → PrecedesAt calls m next → Contains path m
-  pub not_order : IsOrder [] calls path → ⊥
+  pub not_order : IsOrder start calls path → ⊥
 
 -- a walk has moved: one more configuration, or as many and fewer calls to try
-pub record HasMoved (calls : List Operation) (old new : Standing) : Type 0 where
-  pub stands : Stands calls new
+pub record HasMoved (start : Contents) (calls : List Operation) (old new : Standing) : Type 0 where
+  pub stands : Stands start calls new
   pub progress :
       ((length new.memo ≡ length old.memo) × (untried (length calls) new.levels.items new.next < untried (length calls) old.levels.items old.next)) ⊎
       ((length new.memo ≡ length old.memo + 1)
       × (untried (length calls) new.levels.items new.next ≤ untried (length calls) old.levels.items old.next + length calls))
 
 -- all is tried: there is no order, and what was visited is what counts
-pub record IsExhausted (calls : List Operation) (visited : List Configuration) : Type 0 where
-  pub none : IsLinearizable [] calls → ⊥
-  pub count : HasCount [] calls (length visited)
+pub record IsExhausted (start : Contents) (calls : List Operation) (visited : List Configuration) : Type 0 where
+  pub none : IsLinearizable start calls → ⊥
+  pub count : HasCount start calls (length visited)
 
 -- what a step came to
-abbrev pub IsProgress : List Operation → Standing → Standing → Progress → Type 0
-IsProgress calls old new Made = HasMoved calls old new
-IsProgress calls old new Order = (new ≡ old) × IsOrder [] calls (places old.levels.items)
-IsProgress calls old new NoOrder = IsExhausted calls old.memo
+abbrev pub IsProgress : Contents → List Operation → Standing → Standing → Progress → Type 0
+IsProgress start calls old new Made = HasMoved start calls old new
+IsProgress start calls old new Order = (new ≡ old) × IsOrder start calls (places old.levels.items)
+IsProgress start calls old new NoOrder = IsExhausted start calls old.memo
 
 -- one call more on the stack, at the configuration that was visited last
 pub record IsPushed (size place : ℕ) (undo : Option Call) (old new : Standing) : Type 0 where

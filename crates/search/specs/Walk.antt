@@ -1,5 +1,5 @@
 -- A search turn by turn, as its callers see it.
-use Rattle.std.specs.Prelude.{◌≡◌, ℕ, ◌+◌, ◌-◌, ◌*◌, ◌<◌, ◌≤◌, List, [], length, min}
+use Rattle.std.specs.Prelude.{◌≡◌, ℕ, ◌+◌, ◌-◌, ◌*◌, ◌<◌, ◌≤◌, List, length, min}
 use Rattle.configurations.specs.Configurations.{Configuration}
 use Rattle.segments.specs.SegmentView.{SegmentView}
 use Rattle.search.specs.LeastCounts.{HasCount}
@@ -33,4 +33,4 @@ pub record GoesOn (walk on : WalkView) : Type 0 where
 
 -- a walk has counted enough to end: all that counts but one, or as many as the budget but one
 abbrev pub HasCountedEnough : WalkView → Type 0
-HasCountedEnough walk = (count : ℕ) → HasCount [] walk.segment.calls count → min count walk.budget ≤ walk.len + 1
+HasCountedEnough walk = (count : ℕ) → HasCount walk.segment.start walk.segment.calls count → min count walk.budget ≤ walk.len + 1

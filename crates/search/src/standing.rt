@@ -2,6 +2,7 @@
 ghost use Rattle.std.specs.Prelude.{◌≡◌, ◌+◌, ◌<◌, ◌≤◌, ◌^◌, ℕ, [], true, false, length, take, drop, All, AllPairs, IfOk, OnOk};
 ghost use Rattle.std.specs.List.{range_with_len};
 ghost use Rattle.events.specs.Precedence.{NonePrecedesItself, is_before};
+ghost use Rattle.map_object.specs.MapObject.{Contents};
 ghost use Rattle.orders.specs.Orders.{IsOrder};
 ghost use Rattle.search.specs.Remaining.{IsEarliestAnswer};
 ghost use Rattle.search.specs.Cursor.{StandsAtCursor};
@@ -50,15 +51,14 @@ pub enum Progress {
     NoOrder,
 }
 
-/// Before any call.
-pub fn open_standing(alloc: Global, calls: &[Operation]) -> Result<Standing, Memory>
+/// Before any call, at the map that the calls begin with.
+pub fn open_standing(alloc: Global, map: SortedMap, calls: &[Operation]) -> Result<Standing, Memory>
     requires few { length calls.now + 1 < 2 ^ 32 }
     requires apart { NonePrecedesItself calls.now }
-    ensures stands { IfOk result (Stands calls.now) }
+    ensures stands { IfOk result (Stands map calls.now) }
     ensures one { IfOk result (λ s. length s.memo ≡ 1) }
 {
     let size = calls.len() as u32;
-    let map = SortedMap::new(alloc);
     let mut memo = Memo::new(alloc);
     let start = Config::start(alloc, &map)?;
     if let Err((_config, memory)) = memo.visit(start) {
@@ -83,11 +83,12 @@ pub fn make_step(
     calls: &[Operation],
     standing: &mut Standing,
 ) -> Result<Progress, Memory>
+    ghost start: { Contents }
     requires few { length calls.now + 1 < 2 ^ 32 }
     requires apart { NonePrecedesItself calls.now }
     requires rising { AllPairs (λ a b. a.inv < b.inv) calls.now }
-    requires stands { Stands calls.now standing.old }
-    ensures { IfOk result (IsProgress calls.now standing.old standing.new) }
+    requires stands { Stands start calls.now standing.old }
+    ensures { IfOk result (IsProgress start calls.now standing.old standing.new) }
 {
     let Some(answered) = earliest_answer(calls, standing) else {
         return Ok(Progress::Order);
@@ -102,8 +103,9 @@ pub fn make_step(
 
 /// The earliest answer of a call left.
 fn earliest_answer(calls: &[Operation], standing: &Standing) -> Option<usize>
+    ghost start: { Contents }
     requires few { length calls.now + 1 < 2 ^ 32 }
-    requires stands { Stands calls.now standing.now }
+    requires stands { Stands start calls.now standing.now }
     ensures { IsEarliestAnswer calls.now (places standing.now.levels.items) result }
 {
     let first = standing.answers.after(calls.len() as u32) as usize;
@@ -118,11 +120,12 @@ fn earliest_answer(calls: &[Operation], standing: &Standing) -> Option<usize>
 
 /// Takes a call where its reply is legal and leads to a new configuration, and else passes it over.
 fn try_call(alloc: Global, calls: &[Operation], standing: &mut Standing) -> Result<(), Memory>
+    ghost start: { Contents }
     requires few { length calls.now + 1 < 2 ^ 32 }
     requires apart { NonePrecedesItself calls.now }
-    requires stands { Stands calls.now standing.old }
-    requires may { MayTry calls.now (places standing.old.levels.items) standing.old.next }
-    ensures { OnOk result (HasMoved calls.now standing.old standing.new) }
+    requires stands { Stands start calls.now standing.old }
+    requires may { MayTry start calls.now (places standing.old.levels.items) standing.old.next }
+    ensures { OnOk result (HasMoved start calls.now standing.old standing.new) }
 {
     let place = standing.next;
     let operation = &calls[place as usize];
@@ -168,11 +171,12 @@ fn push(size: u32, standing: &mut Standing, place: u32, undo: Option<Call>) -> R
 
 /// Back by one call.
 fn go_back(alloc: Global, calls: &[Operation], standing: &mut Standing) -> Result<Progress, Memory>
+    ghost start: { Contents }
     requires apart { NonePrecedesItself calls.now }
-    requires stands { Stands calls.now standing.old }
-    requires past { StandsAtCursor [] calls.now (places standing.old.levels.items) (length calls.now) standing.old.memo }
-    requires not_order { IsOrder [] calls.now (places standing.old.levels.items) → ⊥ }
-    ensures { IfOk result (IsProgress calls.now standing.old standing.new) }
+    requires stands { Stands start calls.now standing.old }
+    requires past { StandsAtCursor start calls.now (places standing.old.levels.items) (length calls.now) standing.old.memo }
+    requires not_order { IsOrder start calls.now (places standing.old.levels.items) → ⊥ }
+    ensures { IfOk result (IsProgress start calls.now standing.old standing.new) }
 {
     let Some(level) = standing.levels.pop() else {
         return Ok(Progress::NoOrder);

@@ -38,7 +38,7 @@ fn do_call(alloc: Global, map: &mut SortedMap, call: &Call) -> Result<Option<Cal
 {
     let key = match *call {
         Call::Get(_) | Call::Scan(_, _) => return Ok(None),
-        Call::Insert(key, _) | Call::Remove(key) => key,
+        Call::Insert(key, _) | Call::Remove(key) | Call::Replace(key, _, _) => key,
     };
     let undo = restoring(key, map.value(key));
     let _reply = map.step(alloc, call)?;

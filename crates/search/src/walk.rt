@@ -1,5 +1,5 @@
 // A search turn by turn.
-ghost use Rattle.std.specs.Prelude.{◌≡◌, ◌<◌, ◌≤◌, [], length, map, slice_index, All, IfOk};
+ghost use Rattle.std.specs.Prelude.{◌≡◌, ◌<◌, ◌≤◌, length, map, slice_index, All, IfOk};
 ghost use Rattle.search.specs.Exact.{IsExactAnswer};
 ghost use Rattle.search.specs.Found.{IsSoundAnswer};
 ghost use Rattle.search.specs.Standing.{places, Stands};
@@ -9,6 +9,7 @@ use crate::MAX_BUDGET;
 use crate::found::Found;
 use crate::standing::{Progress, Standing, make_step, open_standing};
 use events::Memory;
+use map_object::SortedMap;
 use segments::Segment;
 use std::alloc::Global;
 use std::marker::Model;
@@ -30,7 +31,7 @@ impl Model for Walk {
 
     ghost view = { λ w. walk_at w.segment w.budget w.standing };
 
-    ghost invariant = { λ w. Stands w.segment.calls w.standing };
+    ghost invariant = { λ w. Stands w.segment.start w.segment.calls w.standing };
 }
 
 /// What a turn came to.
@@ -51,7 +52,7 @@ impl Walk {
         ensures len { IfOk result (λ w. w.len ≡ 1) }
     {
         let segment = segment.copy(alloc)?;
-        let standing = open_standing(alloc, segment.calls())?;
+        let standing = begin(alloc, &segment)?;
         Ok(Walk {
             segment,
             budget,
@@ -87,6 +88,15 @@ impl Walk {
     }
 }
 
+/// Before any call of a segment, at its starting pairs.
+fn begin(alloc: Global, segment: &Segment) -> Result<Standing, Memory>
+    ensures stands { IfOk result (Stands segment.now.start segment.now.calls) }
+    ensures one { IfOk result (λ s. length s.memo ≡ 1) }
+{
+    let map = SortedMap::of(alloc, segment.start())?;
+    open_standing(alloc, map, segment.calls())
+}
+
 /// One turn where a walk of a segment stands, and what is found where the search is over.
 fn make_turn(
     alloc: Global,
@@ -94,7 +104,7 @@ fn make_turn(
     budget: u32,
     standing: &mut Standing,
 ) -> Result<Option<Found>, Memory>
-    requires { Stands segment.now.calls standing.old }
+    requires { Stands segment.now.start segment.now.calls standing.old }
     ensures { IfOk result (IsTurnAt segment.now budget standing.old standing.new) }
 {
     if standing.memo.len() > budget as usize {
@@ -129,10 +139,10 @@ fn order_of(alloc: Global, numbers: &[u32], standing: &Standing) -> Result<Vec<u
 /// stand on a stack of its own.
 pub fn search(alloc: Global, segment: &Segment, budget: u32) -> Result<Found, Memory>
     requires { (1 ≤ budget) × (budget ≤ MAX_BUDGET) }
-    ensures exact { IfOk result (IsExactAnswer [] budget segment.now) }
-    ensures sound { IfOk result (IsSoundAnswer [] budget segment.now) }
+    ensures exact { IfOk result (IsExactAnswer budget segment.now) }
+    ensures sound { IfOk result (IsSoundAnswer budget segment.now) }
 {
-    let mut standing = open_standing(alloc, segment.calls())?;
+    let mut standing = begin(alloc, segment)?;
     loop {
         if let Some(found) = make_turn(alloc, segment, budget, &mut standing)? {
             return Ok(found);

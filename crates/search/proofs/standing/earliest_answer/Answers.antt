@@ -7,14 +7,14 @@ use Rattle.search.proofs.WalkLemmas.{earliest-none, earliest-first}
 use Rattle.search.proofs.standing.earliest_answer.Goals as goal
 
 pub returns-then-first-calls : goal.returns-then-first-calls
-returns-then-first-calls c =
-    let s = c.requires.stands in
+returns-then-first-calls g c =
+    let s = c.requires.1 in
     earliest-none c.args.calls.now (places c.args.standing.now.levels.items) c.args.standing.now.calls c.args.standing.now.answers s.links
     (sym c.after-first.ensures.after ∙ c.if-first-calls.true)
 
 pub returns-in-Some : goal.returns-in-Some
-returns-in-Some c =
-    let s = c.requires.stands in
+returns-in-Some g c =
+    let s = c.requires.1 in
     let calls = c.args.calls.now in
     let x = c.after-first.result in
     let below : x < length calls = omega (arith, c.after-first.ensures.within, s.links.answer_size, c.if-first-calls.false) in
@@ -24,8 +24,8 @@ returns-in-Some c =
     (sym c.after-first.ensures.after) below here (Some c.in-Some.response) (ap (λ (a : Operation). a.response) c.index-calls-first.is ∙ c.in-Some.is)
 
 pub returns-in-None : goal.returns-in-None
-returns-in-None c =
-    let s = c.requires.stands in
+returns-in-None g c =
+    let s = c.requires.1 in
     let calls = c.args.calls.now in
     let x = c.after-first.result in
     let below : x < length calls = omega (arith, c.after-first.ensures.within, s.links.answer_size, c.if-first-calls.false) in

@@ -1,4 +1,4 @@
-use Rattle.std.proofs.Common.{◌≡◌, true, List, [], ◌∷◌, ◌++◌, ap, ◌∙◌, subst}
+use Rattle.std.proofs.Common.{◌≡◌, true, List, [], ◌∷◌, ◌++◌, ap, refl, ◌∙◌, subst}
 use Rattle.std.specs.Prelude.{Contains}
 use Rattle.configurations.specs.Configurations.{Configuration}
 use Rattle.configurations.proofs.ConfigurationLemmas.{configuration_of, same_configuration}
@@ -14,7 +14,7 @@ returns-clause-stands c =
     let visited =
     (rw new at c.in_default.ensures.visited) ∙ ap (λ (v : List Configuration). v ++ start ∷ []) c.new-memo.ensures
     ∙ ap (λ (d : Configuration). d ∷ [])
-    (same_configuration start (configuration_of [] []) c.in_ok-start.ensures.taken (c.in_ok-start.ensures.pairs ∙ c.new-map.ensures)) in
-    StandsWith-open c.args.calls.now c.new.result.items c.after.result c.new-map.result c.visit.new.self c.in_ok-by_number.by_number
-    c.in_ok-by_answer.by_answer c.requires.apart c.new.ensures.items c.new-map.ensures visited c.after.ensures.after c.in_ok-by_number.ensures.size
+    (same_configuration start (configuration_of [] c.args.map) c.in_ok-start.ensures.taken c.in_ok-start.ensures.pairs) in
+    StandsWith-open c.args.map c.args.calls.now c.new.result.items c.after.result c.args.map c.visit.new.self c.in_ok-by_number.by_number
+    c.in_ok-by_answer.by_answer c.requires.apart c.new.ensures.items refl visited c.after.ensures.after c.in_ok-by_number.ensures.size
     c.in_ok-by_number.ensures.chain c.in_ok-by_answer.ensures.size c.in_ok-by_answer.ensures.chain

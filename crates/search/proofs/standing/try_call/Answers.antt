@@ -17,57 +17,57 @@ not_new : (config : Configuration) (visited : List Configuration) (new : Bool) �
 not_new config visited new h is = ⊎_elim (λ within. within) (λ out. absurd (both_ways new is (h.1 out))) (visited_or_not visited config)
 
 pub returns-then-not-may_come_next : goal.returns-then-not-may_come_next
-returns-then-not-may_come_next c =
+returns-then-not-may_come_next g c =
     let calls = c.args.calls.now in
     let w = c.args.standing.now in
-    let s = c.requires.stands in
-    let may = c.requires.may in
+    let s = c.requires.1.1.0 in
+    let may = c.requires.1.1.1 in
     let a = c.index-calls-place.result in
     let here : slice_get calls w.next ≡ Some a = slice_get_read calls (length calls) w.next a refl may.known c.index-calls-place.is in
     let cursor =
-    cursor-illegal calls c.requires.apart w.levels.items w.next w.at w.map w.memo w.calls w.answers s may.known may.not_order a here
+    cursor-illegal g.start calls c.requires.1.0 w.levels.items w.next w.at w.map w.memo w.calls w.answers s may.known may.not_order a here
     (iff_false c.may_come_next.ensures c.if-not-may_come_next.true) in
-    let stands = StandsWith-passed calls c.requires.apart w.levels.items w.next w.at w.map w.memo w.calls w.answers s may.known may.not_order cursor in
-    let less = untried-passed calls c.requires.apart w.levels.items w.next w.at w.map w.memo w.calls w.answers s may.known may.not_order in
+    let stands = StandsWith-passed g.start calls c.requires.1.0 w.levels.items w.next w.at w.map w.memo w.calls w.answers s may.known may.not_order cursor in
+    let less = untried-passed g.start calls c.requires.1.0 w.levels.items w.next w.at w.map w.memo w.calls w.answers s may.known may.not_order in
     record { stands = rw c.after-standing.ensures.after stands; progress = inl (refl, rw c.after-standing.ensures.after less) }
 
 pub at-requires : goal.at-requires
-at-requires c =
+at-requires g c =
     let w = c.args.standing.now in
-    let s = c.requires.stands in
+    let s = c.requires.1.1.0 in
     slice_get_within w.memo w.at s.stands_at.0 s.stands_at.1
 
 pub with-requires : goal.with-requires
-with-requires c = λ h.
+with-requires g c = λ h.
     let w = c.args.standing.now in
-    let s = c.requires.stands in
+    let s = c.requires.1.1.0 in
     let same = same_Some s.stands_at.0 c.at.result.now (sym s.stands_at.1 ∙ c.at.ensures) in
-    s.left c.requires.may.known ((s.stands_at.2.taken w.next).0 (subst (λ (d : Configuration). Contains d.taken w.next) (sym same) h))
+    s.left c.requires.1.1.1.known ((s.stands_at.2.taken w.next).0 (subst (λ (d : Configuration). Contains d.taken w.next) (sym same) h))
 
 pub returns-in_ok-undo_call-in-Ok-false : goal.returns-in_ok-undo_call-in-Ok-false
-returns-in_ok-undo_call-in-Ok-false c =
+returns-in_ok-undo_call-in-Ok-false g c =
     let calls = c.args.calls.now in
     let w = c.args.standing.now in
-    let s = c.requires.stands in
-    let may = c.requires.may in
+    let s = c.requires.1.1.0 in
+    let may = c.requires.1.1.1 in
     let a = c.index-calls-place.result in
     let here : slice_get calls w.next ≡ Some a = slice_get_read calls (length calls) w.next a refl may.known c.index-calls-place.is in
     let config = c.in_ok-config.config in
     let legal = c.may_come_next.ensures.0 c.if-not-may_come_next.false in
     let leads =
-    LeadsTo-taken calls c.requires.apart w.levels.items w.next w.at w.map w.memo w.calls w.answers s may.known may.not_order a here may.preceded legal
+    LeadsTo-taken g.start calls c.requires.1.0 w.levels.items w.next w.at w.map w.memo w.calls w.answers s may.known may.not_order a here may.preceded legal
     c.at.result.now config c.at.ensures c.in_ok-config.ensures.rising c.in_ok-config.ensures.taken
     (c.in_ok-config.ensures.pairs ∙ c.in_ok-undo.ensures.after) in
     let visited_is = rw c.in-Ok-false.field-0-test at c.in-Ok-false.ensures.visited in
     let within : Contains w.memo config = not_new config w.memo c.in-Ok-false.field-0 c.in-Ok-false.ensures.new c.in-Ok-false.field-0-test in
     let cursor =
-    cursor-seen calls c.requires.apart w.levels.items w.next w.at w.map w.memo w.calls w.answers s may.known may.not_order a here may.preceded legal config
+    cursor-seen g.start calls c.requires.1.0 w.levels.items w.next w.at w.map w.memo w.calls w.answers s may.known may.not_order a here may.preceded legal config
     leads within in
-    let stands = StandsWith-passed calls c.requires.apart w.levels.items w.next w.at w.map w.memo w.calls w.answers s may.known may.not_order cursor in
-    let less = untried-passed calls c.requires.apart w.levels.items w.next w.at w.map w.memo w.calls w.answers s may.known may.not_order in
+    let stands = StandsWith-passed g.start calls c.requires.1.0 w.levels.items w.next w.at w.map w.memo w.calls w.answers s may.known may.not_order cursor in
+    let less = untried-passed g.start calls c.requires.1.0 w.levels.items w.next w.at w.map w.memo w.calls w.answers s may.known may.not_order in
     record {
       stands =
-          StandsWith-same calls w.levels.items w.levels.items
+          StandsWith-same g.start calls w.levels.items w.levels.items
           (slice_index w.calls.after w.next) c.after-standing-in-Ok-false.result w.at w.at w.map c.undo_call.new.map w.memo c.visit.new.self w.calls w.calls
           w.answers w.answers refl c.after-standing-in-Ok-false.ensures.after refl (c.in_ok-undo_call-in-Ok-false.ensures ∙ c.in_ok-undo.ensures.undo)
           visited_is refl refl stands;
@@ -75,17 +75,17 @@ returns-in_ok-undo_call-in-Ok-false c =
     }
 
 pub returns-in_ok-push-in-Ok-true : goal.returns-in_ok-push-in-Ok-true
-returns-in_ok-push-in-Ok-true c =
+returns-in_ok-push-in-Ok-true g c =
     let calls = c.args.calls.now in
     let w = c.args.standing.now in
-    let s = c.requires.stands in
-    let may = c.requires.may in
+    let s = c.requires.1.1.0 in
+    let may = c.requires.1.1.1 in
     let a = c.index-calls-place.result in
     let here : slice_get calls w.next ≡ Some a = slice_get_read calls (length calls) w.next a refl may.known c.index-calls-place.is in
     let config = c.in_ok-config.config in
     let legal = c.may_come_next.ensures.0 c.if-not-may_come_next.false in
     let leads =
-    LeadsTo-taken calls c.requires.apart w.levels.items w.next w.at w.map w.memo w.calls w.answers s may.known may.not_order a here may.preceded legal
+    LeadsTo-taken g.start calls c.requires.1.0 w.levels.items w.next w.at w.map w.memo w.calls w.answers s may.known may.not_order a here may.preceded legal
     c.at.result.now config c.at.ensures c.in_ok-config.ensures.rising c.in_ok-config.ensures.taken
     (c.in_ok-config.ensures.pairs ∙ c.in_ok-undo.ensures.after) in
     let visited_is = rw c.in-Ok-true.field-0-test at c.in-Ok-true.ensures.visited in
@@ -93,16 +93,16 @@ returns-in_ok-push-in-Ok-true c =
     let p = c.in_ok-push-in-Ok-true.ensures in
     let level : Level = record { place = w.next; undo = c.in_ok-undo.undo; at = w.at } in
     let stands =
-    StandsWith-push calls c.requires.apart w.levels.items w.next w.at w.map w.memo w.calls w.answers s may.known may.not_order a here may.preceded legal config
+    StandsWith-push g.start calls c.requires.1.0 w.levels.items w.next w.at w.map w.memo w.calls w.answers s may.known may.not_order a here may.preceded legal config
     leads new c.in_ok-undo.undo level refl refl c.take_call.new.map c.in_ok-undo.ensures.after c.in_ok-undo.ensures.undo p.calls_within p.answers_within in
     let more =
-    untried-pushed calls c.requires.apart w.levels.items w.next w.at w.map w.memo w.calls w.answers s may.known may.not_order a here may.preceded legal config
+    untried-pushed g.start calls c.requires.1.0 w.levels.items w.next w.at w.map w.memo w.calls w.answers s may.known may.not_order a here may.preceded legal config
     leads new c.in_ok-undo.undo level refl refl c.take_call.new.map c.in_ok-undo.ensures.after c.in_ok-undo.ensures.undo p.calls_within p.answers_within in
     let one_more : length (w.memo ++ config ∷ []) ≡ length w.memo + 1 = length-append w.memo (config ∷ []) in
     let n = c.push.new.standing in
     record {
       stands =
-          StandsWith-same calls (w.levels.items ++ level ∷ []) n.levels.items (slice_index (unlinked w.calls w.next).after (length calls)) n.next
+          StandsWith-same g.start calls (w.levels.items ++ level ∷ []) n.levels.items (slice_index (unlinked w.calls w.next).after (length calls)) n.next
           (length w.memo) n.at c.take_call.new.map n.map (w.memo ++ config ∷ []) n.memo (unlinked w.calls w.next) n.calls (unlinked w.answers w.next) n.answers
           p.levels p.next (p.at ∙ omega (arith, ap length visited_is, one_more)) p.map (p.memo ∙ visited_is) p.calls p.answers stands;
       progress = inr (ap length (p.memo ∙ visited_is) ∙ one_more, rw (p.levels, p.next) more);
