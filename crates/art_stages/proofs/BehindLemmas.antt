@@ -1,7 +1,7 @@
 -- Every list of words got leaves a call at a stage.
 use Rattle.std.proofs.Common.{◌≡◌, ℕ, List, [], ◌∷◌, ◌++◌, refl, ap, ◌∙◌, false}
 use Rattle.events.specs.declared.event.Call.{Call}
-use Rattle.events.specs.declared.event.Call.TheVariants.{Get, Insert, Remove, Scan}
+use Rattle.events.specs.declared.event.Call.TheVariants.{Get, Insert, Remove, Scan, Replace}
 use Rattle.art_steps.specs.Rows.{Setting, locks, is_scan}
 use Rattle.art_steps.specs.Act.{act}
 use Rattle.art_stages.specs.declared.stage.Stage.{Stage}
@@ -32,6 +32,7 @@ behind_as : (c : Setting) (call : Call) (got more : List ℕ) → c.call ≡ cal
 behind_as c (Get k) got more e = key_behind c (start_at (locks c.variant)) got more (ap is_scan e) ∙ begins c (got ++ more) (ap is_scan e)
 behind_as c (Insert k v) got more e = key_behind c (start_at (locks c.variant)) got more (ap is_scan e) ∙ begins c (got ++ more) (ap is_scan e)
 behind_as c (Remove k) got more e = key_behind c (start_at (locks c.variant)) got more (ap is_scan e) ∙ begins c (got ++ more) (ap is_scan e)
+behind_as c (Replace k old new) got more e = key_behind c (start_at (locks c.variant)) got more (ap is_scan e) ∙ begins c (got ++ more) (ap is_scan e)
 behind_as c (Scan low high) got more e = scan_behind c low high (scan_start c) got more e ∙ scan_begins c low high (got ++ more) e
 
 pub behind : (c : Setting) (got more : List ℕ) → rest_at c (call_behind c got) more ≡ act c.shape c.variant c.call (got ++ more)

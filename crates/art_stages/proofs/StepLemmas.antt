@@ -2,7 +2,7 @@
 use Rattle.std.proofs.Common.{◌≡◌, ℕ, zero, suc, ◌+◌, ◌-◌, ◌*◌, List, [], ◌∷◌, refl, ap, sym, ◌∙◌, Bool, true, false}
 use Rattle.std.specs.Prelude.{if◌then◌else◌, ◌==◌, nat_lt, nat_le, slice_index, Option, Some, None}
 use Rattle.events.specs.declared.event.Call.{Call}
-use Rattle.events.specs.declared.event.Call.TheVariants.{Get, Insert, Remove, Scan}
+use Rattle.events.specs.declared.event.Call.TheVariants.{Get, Insert, Remove, Scan, Replace}
 use Rattle.events.specs.declared.event.Reply.{Reply}
 use Rattle.events.specs.declared.event.Reply.TheVariants as reply
 use Rattle.art_rows.specs.declared.table.Kind.{Kind}
@@ -719,9 +719,13 @@ procedure_step : (l e : Bool) (c : Setting) (again : Rest) (call : Call) (rest :
 unfolding part_of procedure coupled.seek coupled.insert optimistic.seek optimistic.insert
 procedure_step true e c again (Get k) rest locked s = ap (λ b. (if b then coupled.seek c else optimistic.seek c) again ends rest) (sym locked)
 procedure_step true e c again (Remove k) rest locked s = ap (λ b. (if b then coupled.seek c else optimistic.seek c) again ends rest) (sym locked)
+procedure_step true e c again (Replace k old new) rest locked s =
+    ap (λ b. (if b then coupled.seek c else optimistic.seek c) again ends rest) (sym locked)
 procedure_step true e c again (Insert k v) rest locked s = ap (λ b. (if b then coupled.insert c else optimistic.insert c) again ends rest) (sym locked)
 procedure_step false e c again (Get k) rest locked s = ap (λ b. (if b then coupled.seek c else optimistic.seek c) again ends rest) (sym locked)
 procedure_step false e c again (Remove k) rest locked s = ap (λ b. (if b then coupled.seek c else optimistic.seek c) again ends rest) (sym locked)
+procedure_step false e c again (Replace k old new) rest locked s =
+    ap (λ b. (if b then coupled.seek c else optimistic.seek c) again ends rest) (sym locked)
 procedure_step false e c again (Insert k v) rest locked s = ap (λ b. (if b then coupled.insert c else optimistic.insert c) again ends rest) (sym locked)
 procedure_step l e c again (Scan lo hi) rest locked s = absurd (false_true (sym s))
 

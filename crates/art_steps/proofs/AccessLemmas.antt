@@ -5,7 +5,7 @@ use Rattle.std.specs.Prelude.{min, if◌then◌else◌, ◌==◌, ◌&&◌, nat_
 use Rattle.std.proofs.lemmas.List.{length-append}
 use Rattle.std.proofs.lemmas.Bool.{false≢true}
 use Rattle.events.specs.declared.event.Call.{Call}
-use Rattle.events.specs.declared.event.Call.TheVariants.{Get, Insert, Remove, Scan}
+use Rattle.events.specs.declared.event.Call.TheVariants.{Get, Insert, Remove, Scan, Replace}
 use Rattle.events.specs.declared.event.Reply.{Reply}
 use Rattle.events.specs.declared.event.Reply.TheVariants as reply
 use Rattle.art_steps.specs.declared.variant.Variant.{Variant}
@@ -732,6 +732,7 @@ procedure-within : (c : Setting) (call : Call) → 1 ≤ c.shape.rows256 → Wit
 unfolding procedure
 procedure-within c (Get k) r = if-within (locks c.variant) (λ _. seek-within c r) (λ _. seek_optimistic-within c r)
 procedure-within c (Remove k) r = if-within (locks c.variant) (λ _. seek-within c r) (λ _. seek_optimistic-within c r)
+procedure-within c (Replace k old new) r = if-within (locks c.variant) (λ _. seek-within c r) (λ _. seek_optimistic-within c r)
 procedure-within c (Insert k v) r = if-within (locks c.variant) (λ _. insert-within c r) (λ _. insert_optimistic-within c r)
 procedure-within c (Scan lo hi) r = bind-within (scan-within c lo hi r) λ pairs few. give-within c.shape IsSmall _ few
 

@@ -2,7 +2,7 @@
 use Rattle.std.proofs.Common.{◌≡◌, ℕ, suc, ◌-◌, ◌*◌, ◌/◌, ◌%◌, List, [], ◌∷◌, ◌++◌, refl}
 use Rattle.std.specs.Prelude.{if◌then◌else◌, ◌==◌, nat_lt, nat_le, slice_index, Option, Some, None, filter}
 use Rattle.events.specs.declared.event.Call.{Call}
-use Rattle.events.specs.declared.event.Call.TheVariants.{Get, Insert, Remove, Scan}
+use Rattle.events.specs.declared.event.Call.TheVariants.{Get, Insert, Remove, Scan, Replace}
 use Rattle.events.specs.declared.event.Reply.{Reply}
 use Rattle.events.specs.declared.event.Reply.TheVariants as reply
 use Rattle.art_rows.specs.declared.table.Shape.{Shape}
@@ -512,6 +512,7 @@ procedure-delays : (n : ℕ) (c : Setting) (call : Call) → Delays n (procedure
 unfolding procedure
 procedure-delays n c (Get k) = if-delays (locks c.variant) (seek-delays n c) (seek_optimistic-delays n c)
 procedure-delays n c (Remove k) = if-delays (locks c.variant) (seek-delays n c) (seek_optimistic-delays n c)
+procedure-delays n c (Replace k old new) = if-delays (locks c.variant) (seek-delays n c) (seek_optimistic-delays n c)
 procedure-delays n c (Insert k v) = if-delays (locks c.variant) (insert-delays n c) (insert_optimistic-delays n c)
 procedure-delays n c (Scan lo hi) = bind-delays (scan-delays n c lo hi) λ pairs. give-keeps n _
 

@@ -1,7 +1,7 @@
 -- What a call does next after the words that it got.
 use Rattle.std.specs.Prelude.{ℕ, List, Option, Some, if◌then◌else◌}
 use Rattle.events.specs.declared.event.Call.{Call}
-use Rattle.events.specs.declared.event.Call.TheVariants.{Get, Insert, Remove, Scan}
+use Rattle.events.specs.declared.event.Call.TheVariants.{Get, Insert, Remove, Scan, Replace}
 use Rattle.events.specs.declared.event.Reply.{Reply}
 use Rattle.events.specs.declared.event.Reply.TheVariants as reply
 use Rattle.art_rows.specs.declared.table.Shape.{Shape}
@@ -17,6 +17,7 @@ use Rattle.art_steps.specs.Scan.{scan}
 unfoldable pub procedure : Setting → Call → Part Reply
 procedure c (Get k) = if locks c.variant then coupled.seek c else optimistic.seek c
 procedure c (Remove k) = if locks c.variant then coupled.seek c else optimistic.seek c
+procedure c (Replace k old new) = if locks c.variant then coupled.seek c else optimistic.seek c
 procedure c (Insert k v) = if locks c.variant then coupled.insert c else optimistic.insert c
 procedure c (Scan lo hi) = do
   pairs ← scan c lo hi

@@ -1,7 +1,7 @@
 -- Finding, locking and claiming rows.
 use Rattle.std.specs.Prelude.{ℕ, ◌-◌, ◌%◌, Bool, true, false, ◌==◌, nat_lt, if◌then◌else◌, List, [], length, slice_index, Option, Some, None}
 use Rattle.events.specs.declared.event.Call.{Call}
-use Rattle.events.specs.declared.event.Call.TheVariants.{Get, Insert, Remove, Scan}
+use Rattle.events.specs.declared.event.Call.TheVariants.{Get, Insert, Remove, Scan, Replace}
 use Rattle.events.specs.declared.event.Reply.TheVariants as reply
 use Rattle.art_rows.specs.declared.table.Shape.{Shape}
 use Rattle.art_rows.specs.declared.table.Kind.{Kind}
@@ -49,6 +49,7 @@ key_of (Get k) = k
 key_of (Insert k v) = k
 key_of (Remove k) = k
 key_of (Scan lo hi) = lo
+key_of (Replace k old new) = k
 
 -- the variants that lock each row that they read
 abbrev pub locks : Variant → Bool

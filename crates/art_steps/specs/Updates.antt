@@ -2,7 +2,7 @@
 use Rattle.std.specs.Prelude.{ℕ, ◌+◌, ◌-◌, ◌*◌, ◌%◌, ◌==◌, nat_lt, if◌then◌else◌, List, [], ◌∷◌, ◌++◌, map, take, set, slice_index, Option, Some, None}
 use Rattle.std.specs.Prelude.{unwrap_or}
 use Rattle.events.specs.declared.event.Call.{Call}
-use Rattle.events.specs.declared.event.Call.TheVariants.{Insert, Remove}
+use Rattle.events.specs.declared.event.Call.TheVariants.{Insert, Remove, Replace}
 use Rattle.events.specs.declared.event.Reply.{Reply}
 use Rattle.events.specs.declared.event.Reply.TheVariants as reply
 use Rattle.art_rows.specs.declared.table.Kind.{Kind}
@@ -23,6 +23,7 @@ new_leaf call = Empty
 -- What a call that finds its key's leaf, with this value, writes in its place: none where the leaf stays.
 abbrev pub overwriting : Call → ℕ → Option ℕ
 overwriting (Remove k) value = Some 0
+overwriting (Replace k old new) value = if value == old then Some (child_word (Leaf k new)) else None
 overwriting call value = None
 
 abbrev pub store_child : ℕ → Child → Part (Unit {0})

@@ -1,7 +1,7 @@
 // A call within the trees' limits.
 ghost use Rattle.std.specs.Prelude.{◌≡◌, true, IfSome, Some, None};
 
-use art_rows::Child;
+use art_rows::{Child, child_word};
 use events::Call;
 use std::marker::Model;
 
@@ -40,6 +40,7 @@ impl TreeCall {
             Call::Get(key) | Call::Remove(key) => *key < 1 << 32,
             Call::Insert(key, value) => *key < 1 << 32 && *value < 1 << 30,
             Call::Scan(low, high) => *low <= *high && *high < 1 << 32,
+            Call::Replace(key, old, new) => *key < 1 << 32 && *old < 1 << 30 && *new < 1 << 30,
         };
         if fits {
             Some(TreeCall { call: *call })
@@ -60,9 +61,11 @@ impl TreeCall {
         ensures { result ≡ key_of self.now }
     {
         match self.call {
-            Call::Get(key) | Call::Insert(key, _) | Call::Remove(key) | Call::Scan(key, _) => {
-                key as u32
-            }
+            Call::Get(key)
+            | Call::Insert(key, _)
+            | Call::Remove(key)
+            | Call::Scan(key, _)
+            | Call::Replace(key, _, _) => key as u32,
         }
     }
 
@@ -84,9 +87,15 @@ impl TreeCall {
     pub fn overwriting(&self, value: u32) -> Option<u64>
         ensures { result ≡ overwriting self.now value }
     {
-        let _value = value;
         match self.call {
             Call::Remove(_) => Some(0),
+            Call::Replace(key, old, new) if u64::from(value) == old => {
+                let leaf = Child::Leaf {
+                    key: key as u32,
+                    value: new as u32,
+                };
+                Some(child_word(leaf))
+            }
             _ => None,
         }
     }

@@ -1,7 +1,7 @@
 -- A history text that was read up to one byte more than a text may have tells all that is to be told of the whole.
 use Rattle.std.proofs.Common.{◌≡◌, ℕ, ◌+◌, ◌<◌, ◌≤◌, List, length, take, subst, inl, inr, arith, length-take, length-take-le, take_all}
 use Rattle.std.proofs.lemmas.Bool.{cases_lt}
-use Rattle.events.specs.declared.event.Event.{Event}
+use Rattle.events.specs.HistoryView.{HistoryView}
 use Rattle.events.specs.declared.fault.HistoryFault.{HistoryFault}
 use Rattle.events.specs.declared.fault.HistoryFault.TheVariants as faults
 use Rattle.history_text.specs.Limits.{text_limit}
@@ -20,13 +20,13 @@ same_text text fits = elim (cases_lt text_limit (length text)) [
 ]
 
 -- a history that the text read spells is the one of the whole
-IsTextOf-whole : (text : List ℕ) (events : List Event) → IsTextOf (take (text_limit + 1) text) events → IsTextOf text events
-IsTextOf-whole text events h = subst (λ (t : List ℕ). IsTextOf t events) (same_text text h.spelled.fits) h
+IsTextOf-whole : (text : List ℕ) (history : HistoryView) → IsTextOf (take (text_limit + 1) text) history → IsTextOf text history
+IsTextOf-whole text history h = subst (λ (t : List ℕ). IsTextOf t history) (same_text text h.spelled.json.fits) h
 
 -- a judgement of the text read is one of the whole
 IsJudged-whole : (text : List ℕ) (budget : ℕ) (verdict : Verdict) (report : List ℕ) → IsJudged budget (take (text_limit + 1) text) verdict report
     → IsJudged budget text verdict report
-IsJudged-whole text budget verdict report h = subst (λ (t : List ℕ). IsJudged budget t verdict report) (same_text text h.spelled.fits) h
+IsJudged-whole text budget verdict report h = subst (λ (t : List ℕ). IsJudged budget t verdict report) (same_text text h.spelled.json.fits) h
 
 whole : (text : List ℕ) (fault : HistoryFault) → length (take (text_limit + 1) text) ≤ text_limit → IsTextFault (take (text_limit + 1) text) fault
     → IsTextFault text fault
@@ -38,9 +38,10 @@ IsTextFault-whole text faults.TooLong h = let size = length-take (text_limit + 1
     h in omega (arith, size)
 IsTextFault-whole text faults.NotJson h = whole text faults.NotJson h.0 h
 IsTextFault-whole text faults.Version h = whole text faults.Version h.1.fits h
-IsTextFault-whole text (faults.Shape place) h = whole text (faults.Shape place) h.parts.fits h
-IsTextFault-whole text faults.TooMany h = whole text faults.TooMany h.parts.fits h
-IsTextFault-whole text (faults.NotWellFormed place) h = whole text (faults.NotWellFormed place) h.parts.fits h
+IsTextFault-whole text (faults.Shape place) h = whole text (faults.Shape place) h.1.fits h
+IsTextFault-whole text faults.TooMany h = whole text faults.TooMany h.1.fits h
+IsTextFault-whole text (faults.NotWellFormed place) h = whole text (faults.NotWellFormed place) h.1.fits h
+IsTextFault-whole text (faults.Start pair) h = whole text (faults.Start pair) h.1.fits h
 IsTextFault-whole text faults.Memory h = tt
 
 -- a refusal of the text read is one of the whole
@@ -55,8 +56,8 @@ IsCheckAnswer-whole order text Yes bytes h = ((h.0.0, IsTextOf-whole text h.0.0 
 IsCheckAnswer-whole order text No bytes h = (
   h.0,
   record {
-    events = h.1.events;
-    is_text = IsTextOf-whole text h.1.events h.1.is_text;
+    history = h.1.history;
+    is_text = IsTextOf-whole text h.1.history h.1.is_text;
     refused = h.1.refused;
     not_memory = h.1.not_memory;
   },

@@ -1,11 +1,11 @@
 -- What the program answers to a text, and to a text with an order of calls.
-use Rattle.std.specs.Prelude.{◌≡◌, ◌≢◌, ℕ, List, []}
-use Rattle.events.specs.declared.event.Event.{Event}
+use Rattle.std.specs.Prelude.{◌≡◌, ◌≢◌, ℕ, List}
+use Rattle.events.specs.HistoryView.{HistoryView}
 use Rattle.events.specs.declared.fault.HistoryFault.{HistoryFault}
 use Rattle.events.specs.declared.fault.HistoryFault.TheVariants as histories
 use Rattle.events.specs.Histories.{IsHistory}
 use Rattle.events.specs.Operations.{operations}
-use Rattle.orders.specs.Orders.{IsOrder}
+use Rattle.orders.specs.Orders.{IsOrderOfHistory}
 use Rattle.history_text.specs.Texts.{Spells}
 use Rattle.history_text.specs.TextFaults.{IsTextFault}
 use Rattle.certificate.specs.declared.fault.OrderFault.{OrderFault}
@@ -18,20 +18,20 @@ use Rattle.bench.specs.declared.outcome.Answer.TheVariants.{Yes, No, Undecided}
 use Rattle.bench.specs.Lines.{line, ok_line, order_fault_line, history_fault_line}
 use Rattle.bench.specs.Statuses.{answer_of}
 
--- the text spells these events, and they are a history
-pub record IsTextOf (text : List ℕ) (events : List Event) : Type 0 where
-  pub spelled : Spells text events
-  pub history : IsHistory events
+-- the text spells this, and it is a history
+pub record IsTextOf (text : List ℕ) (history : HistoryView) : Type 0 where
+  pub spelled : Spells text history
+  pub is_history : IsHistory history
 
 -- the text spells a history, and the numbers are an order of its calls
 abbrev pub SpellsOrdered : List ℕ → List ℕ → Type 0
-SpellsOrdered text order = (events : List Event) × IsTextOf text events × IsOrder [] (operations events) order
+SpellsOrdered text order = (history : HistoryView) × IsTextOf text history × IsOrderOfHistory history order
 
 -- the text spells a history, and for this fault the numbers are no order of its calls
 pub record SpellsUnordered (text order : List ℕ) (fault : OrderFault) : Type 0 where
-  pub events : List Event
-  pub is_text : IsTextOf text events
-  pub refused : IsRefusedFor [] (operations events) order fault
+  pub history : HistoryView
+  pub is_text : IsTextOf text history
+  pub refused : IsRefusedFor history.start (operations history.events) order fault
   pub not_memory : fault ≢ orders.Memory
 
 -- for this fault the text spells no history

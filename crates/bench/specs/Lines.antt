@@ -37,4 +37,5 @@ history_fault_line histories.Version = line (codes "history: 3 Version")
 history_fault_line (histories.Shape event) = line (codes "history: 4 Shape at event " ++ decimal event)
 history_fault_line histories.TooMany = line (codes "history: 5 TooMany")
 history_fault_line (histories.NotWellFormed event) = line (codes "history: 6 NotWellFormed at event " ++ decimal event)
+history_fault_line (histories.Start pair) = line (codes "history: 8 Start at pair " ++ decimal pair)
 history_fault_line histories.Memory = memory_line

@@ -35,6 +35,7 @@ pub fn history_fault_line(alloc: Global, fault: &HistoryFault) -> Result<String,
         HistoryFault::NotWellFormed { event } => {
             format!(in alloc; "history: 6 NotWellFormed at event {event}\n")
         }
+        HistoryFault::Start { pair } => format!(in alloc; "history: 8 Start at pair {pair}\n"),
         HistoryFault::Memory => String::from_str(alloc, "memory\n"),
     }
 }

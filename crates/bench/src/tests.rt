@@ -324,6 +324,7 @@ fn fault_lines_are_the_texts_of_faults(rt: HostRuntime) -> Result<(), Fail> {
         HistoryFault::Shape { event: 7 },
         HistoryFault::TooMany,
         HistoryFault::NotWellFormed { event: 4095 },
+        HistoryFault::Start { pair: 4095 },
     ];
     for fault in &faults {
         let line = history_fault_line(rt.alloc(), fault)?;

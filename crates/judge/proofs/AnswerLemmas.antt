@@ -8,25 +8,24 @@ use Rattle.std.specs.Vec.Iter.{into_iter_items, into_iter_len, into_iter_steps}
 use Rattle.std.proofs.lemmas.Bool.{false≢true}
 use Rattle.std.proofs.lemmas.List.{append-nil, append_assoc, nil_from_length}
 use Rattle.std.proofs.lemmas.List.Elements.{All-nil, All-cons, All-append, All-push, All-weaker}
-use Rattle.map_object.specs.MapObject.{Contents}
 use Rattle.segments.specs.SegmentView.{SegmentView}
 use Rattle.search.specs.declared.found.Found.{Found}
 use Rattle.search.specs.Exact.{IsExactAnswer}
 use Rattle.judge.specs.Exact.{IsOrderedBy, IsOrdered, IsSpent, IsOrderedOrSpent}
 
 -- the segment is the lowest whose search was spent
-pub record IsLowestSpent (start : Contents) (budget : ℕ) (segments : List SegmentView) (segment : SegmentView) : Type 0 where
+pub record IsLowestSpent (budget : ℕ) (segments : List SegmentView) (segment : SegmentView) : Type 0 where
   pub below : List SegmentView
   pub above : List SegmentView
   pub is : segments ≡ below ++ segment ∷ above
-  pub spent : IsSpent start budget segment
-  pub lowest : All (IsOrdered start budget) below
-  pub unrefuted : All (IsOrderedOrSpent start budget) above
+  pub spent : IsSpent budget segment
+  pub lowest : All (IsOrdered budget) below
+  pub unrefuted : All (IsOrderedOrSpent budget) above
 
 -- each segment so far has its order, or this one of them is the lowest whose search was spent
-abbrev pub HaveShown : Contents → ℕ → List SegmentView → List (List ℕ) → Option SegmentView → Type 0
-HaveShown start budget segments orders None = AllZip (IsOrderedBy start budget) segments orders
-HaveShown start budget segments orders (Some segment) = IsLowestSpent start budget segments segment
+abbrev pub HaveShown : ℕ → List SegmentView → List (List ℕ) → Option SegmentView → Type 0
+HaveShown budget segments orders None = AllZip (IsOrderedBy budget) segments orders
+HaveShown budget segments orders (Some segment) = IsLowestSpent budget segments segment
 
 -- one more of each
 pub AllZip-more : {A B : Type 0} (R : A → B → Type 0) (xs : List A) (ys : List B) (x : A) (y : B) → AllZip R xs ys → R x y
@@ -50,88 +49,88 @@ All-firsts R P weaker (x ∷ xs) [] h = absurd h
 All-firsts R P weaker (x ∷ xs) (y ∷ ys) h = All-cons P x xs (weaker x y h.0) (All-firsts R P weaker xs ys h.1)
 
 -- segments that have their orders
-pub IsOrdered-all : (start : Contents) (budget : ℕ) (segments : List SegmentView) (orders : List (List ℕ)) → AllZip (IsOrderedBy start budget) segments orders
-    → All (IsOrdered start budget) segments
-IsOrdered-all start budget segments orders h = All-firsts (IsOrderedBy start budget) (IsOrdered start budget) (λ s o found. (o, found)) segments orders h
+pub IsOrdered-all : (budget : ℕ) (segments : List SegmentView) (orders : List (List ℕ)) → AllZip (IsOrderedBy budget) segments orders
+    → All (IsOrdered budget) segments
+IsOrdered-all budget segments orders h = All-firsts (IsOrderedBy budget) (IsOrdered budget) (λ s o found. (o, found)) segments orders h
 
 -- one more segment above the lowest that is spent
-IsLowestSpent-more : (start : Contents) (budget : ℕ) (segments : List SegmentView) (spent segment : SegmentView) → IsLowestSpent start budget segments spent
-    → IsOrderedOrSpent start budget segment → IsLowestSpent start budget (segments ++ segment ∷ []) spent
-IsLowestSpent-more start budget segments spent segment h is = record {
+IsLowestSpent-more : (budget : ℕ) (segments : List SegmentView) (spent segment : SegmentView) → IsLowestSpent budget segments spent
+    → IsOrderedOrSpent budget segment → IsLowestSpent budget (segments ++ segment ∷ []) spent
+IsLowestSpent-more budget segments spent segment h is = record {
   below = h.below;
   above = h.above ++ segment ∷ [];
   is = ap (λ l. l ++ segment ∷ []) h.is ∙ append_assoc h.below (spent ∷ h.above) (segment ∷ []);
   spent = h.spent;
   lowest = h.lowest;
-  unrefuted = All-push (IsOrderedOrSpent start budget) h.above segment h.unrefuted is;
+  unrefuted = All-push (IsOrderedOrSpent budget) h.above segment h.unrefuted is;
 }
 
 -- one more segment has its order
-pub HaveShown-found : (start : Contents) (budget : ℕ) (segments : List SegmentView) (orders : List (List ℕ)) (spent : Option SegmentView)
-    (segment : SegmentView) (order : List ℕ) → HaveShown start budget segments orders spent → IsOrderedBy start budget segment order
-    → HaveShown start budget (segments ++ segment ∷ []) (orders ++ order ∷ []) spent
-HaveShown-found start budget segments orders None segment order h found = AllZip-more (IsOrderedBy start budget) segments orders segment order h found
-HaveShown-found start budget segments orders (Some spent) segment order h found =
-    IsLowestSpent-more start budget segments spent segment h (inl (order, found))
+pub HaveShown-found : (budget : ℕ) (segments : List SegmentView) (orders : List (List ℕ)) (spent : Option SegmentView)
+    (segment : SegmentView) (order : List ℕ) → HaveShown budget segments orders spent → IsOrderedBy budget segment order
+    → HaveShown budget (segments ++ segment ∷ []) (orders ++ order ∷ []) spent
+HaveShown-found budget segments orders None segment order h found = AllZip-more (IsOrderedBy budget) segments orders segment order h found
+HaveShown-found budget segments orders (Some spent) segment order h found =
+    IsLowestSpent-more budget segments spent segment h (inl (order, found))
 
 -- one more segment is spent, above the lowest
-pub HaveShown-spent : (start : Contents) (budget : ℕ) (segments : List SegmentView) (orders : List (List ℕ)) (spent : Option SegmentView)
-    (segment : SegmentView) → is_some spent ≡ true → HaveShown start budget segments orders spent → IsSpent start budget segment
-    → HaveShown start budget (segments ++ segment ∷ []) orders spent
-HaveShown-spent start budget segments orders None segment some h beyond = absurd (false≢true some)
-HaveShown-spent start budget segments orders (Some spent) segment some h beyond = IsLowestSpent-more start budget segments spent segment h (inr beyond)
+pub HaveShown-spent : (budget : ℕ) (segments : List SegmentView) (orders : List (List ℕ)) (spent : Option SegmentView)
+    (segment : SegmentView) → is_some spent ≡ true → HaveShown budget segments orders spent → IsSpent budget segment
+    → HaveShown budget (segments ++ segment ∷ []) orders spent
+HaveShown-spent budget segments orders None segment some h beyond = absurd (false≢true some)
+HaveShown-spent budget segments orders (Some spent) segment some h beyond = IsLowestSpent-more budget segments spent segment h (inr beyond)
 
 -- the first that is spent
-pub HaveShown-first : (start : Contents) (budget : ℕ) (segments : List SegmentView) (orders : List (List ℕ)) (spent : Option SegmentView)
-    (segment : SegmentView) → is_some spent ≡ false → HaveShown start budget segments orders spent → IsSpent start budget segment
-    → HaveShown start budget (segments ++ segment ∷ []) orders (Some segment)
-HaveShown-first start budget segments orders (Some spent) segment none h beyond = absurd (false≢true (sym none))
-HaveShown-first start budget segments orders None segment none h beyond = record {
+pub HaveShown-first : (budget : ℕ) (segments : List SegmentView) (orders : List (List ℕ)) (spent : Option SegmentView)
+    (segment : SegmentView) → is_some spent ≡ false → HaveShown budget segments orders spent → IsSpent budget segment
+    → HaveShown budget (segments ++ segment ∷ []) orders (Some segment)
+HaveShown-first budget segments orders (Some spent) segment none h beyond = absurd (false≢true (sym none))
+HaveShown-first budget segments orders None segment none h beyond = record {
   below = segments;
   above = [];
   is = refl;
   spent = beyond;
-  lowest = IsOrdered-all start budget segments orders h;
-  unrefuted = All-nil (IsOrderedOrSpent start budget);
+  lowest = IsOrdered-all budget segments orders h;
+  unrefuted = All-nil (IsOrderedOrSpent budget);
 }
 
 -- none so far is refuted
-pub IsOrderedOrSpent-all : (start : Contents) (budget : ℕ) (segments : List SegmentView) (orders : List (List ℕ)) (spent : Option SegmentView)
-    → HaveShown start budget segments orders spent → All (IsOrderedOrSpent start budget) segments
-IsOrderedOrSpent-all start budget segments orders None h =
-    All-firsts (IsOrderedBy start budget) (IsOrderedOrSpent start budget) (λ s o found. inl (o, found)) segments orders h
-IsOrderedOrSpent-all start budget segments orders (Some spent) h = subst (All (IsOrderedOrSpent start budget)) (sym h.is)
-    (All-append (IsOrderedOrSpent start budget) h.below (spent ∷ h.above) (All-weaker (IsOrdered start budget) (IsOrderedOrSpent start budget) (λ s is. inl is) h.below h.lowest)
-    (All-cons (IsOrderedOrSpent start budget) spent h.above (inr h.spent) h.unrefuted))
+pub IsOrderedOrSpent-all : (budget : ℕ) (segments : List SegmentView) (orders : List (List ℕ)) (spent : Option SegmentView)
+    → HaveShown budget segments orders spent → All (IsOrderedOrSpent budget) segments
+IsOrderedOrSpent-all budget segments orders None h =
+    All-firsts (IsOrderedBy budget) (IsOrderedOrSpent budget) (λ s o found. inl (o, found)) segments orders h
+IsOrderedOrSpent-all budget segments orders (Some spent) h = subst (All (IsOrderedOrSpent budget)) (sym h.is)
+    (All-append (IsOrderedOrSpent budget) h.below (spent ∷ h.above) (All-weaker (IsOrdered budget) (IsOrderedOrSpent budget) (λ s is. inl is) h.below h.lowest)
+    (All-cons (IsOrderedOrSpent budget) spent h.above (inr h.spent) h.unrefuted))
 
 -- ---- a walk over the segments with their answers
 
 -- the segments before the rest have shown what they have, and the answers on the rest are exact
-pub record IsUnderWay (start : Contents) (budget : ℕ) (segments rest : List SegmentView) (answers : List Found) (orders : List (List ℕ))
+pub record IsUnderWay (budget : ℕ) (segments rest : List SegmentView) (answers : List Found) (orders : List (List ℕ))
     (spent : Option SegmentView) : Type 0 where
   pub before : List SegmentView
   pub parts : segments ≡ before ++ rest
-  pub shown : HaveShown start budget before orders spent
-  pub exact : AllZip (IsExactAnswer start budget) rest answers
+  pub shown : HaveShown budget before orders spent
+  pub exact : AllZip (IsExactAnswer budget) rest answers
 
 -- before the first
-pub IsUnderWay-start : {start : Contents} {budget : ℕ} {segments : List SegmentView} {answers : List Found}
-    → AllZip (IsExactAnswer start budget) segments answers → IsUnderWay start budget segments segments answers [] None
+pub IsUnderWay-start : {budget : ℕ} {segments : List SegmentView} {answers : List Found}
+    → AllZip (IsExactAnswer budget) segments answers → IsUnderWay budget segments segments answers [] None
 IsUnderWay-start exact = record { before = []; parts = refl; shown = tt; exact = exact }
 
 -- the next answer is exact
-pub IsUnderWay-answer : {start : Contents} {budget : ℕ} {segments rest later : List SegmentView} {answers others : List Found} {orders : List
+pub IsUnderWay-answer : {budget : ℕ} {segments rest later : List SegmentView} {answers others : List Found} {orders : List
     (List ℕ)} {spent : Option SegmentView} {segment : SegmentView} {answer : Found}
-    → IsUnderWay start budget segments rest answers orders spent → rest ≡ segment ∷ later → answers ≡ answer ∷ others
-    → IsExactAnswer start budget segment answer
+    → IsUnderWay budget segments rest answers orders spent → rest ≡ segment ∷ later → answers ≡ answer ∷ others
+    → IsExactAnswer budget segment answer
 IsUnderWay-answer h e f = (rw (e, f) at h.exact).0
 
 -- the walk goes on with what the segments up to the next have shown
-pub IsUnderWay-next : {start : Contents} {budget : ℕ} {segments rest later : List SegmentView} {answers others : List Found} {orders orders_next : List
+pub IsUnderWay-next : {budget : ℕ} {segments rest later : List SegmentView} {answers others : List Found} {orders orders_next : List
     (List ℕ)} {spent spent_next : Option SegmentView} {segment : SegmentView} {answer : Found}
-    → (h : IsUnderWay start budget segments rest answers orders spent) → rest ≡ segment ∷ later → answers ≡ answer ∷ others
-    → HaveShown start budget (h.before ++ segment ∷ []) orders_next spent_next
-    → IsUnderWay start budget segments later others orders_next spent_next
+    → (h : IsUnderWay budget segments rest answers orders spent) → rest ≡ segment ∷ later → answers ≡ answer ∷ others
+    → HaveShown budget (h.before ++ segment ∷ []) orders_next spent_next
+    → IsUnderWay budget segments later others orders_next spent_next
 IsUnderWay-next {later} {segment} h e f shown = record {
   before = h.before ++ segment ∷ [];
   parts = h.parts ∙ ap (λ l. h.before ++ l) e ∙ sym (append_assoc h.before (segment ∷ []) later);
@@ -144,16 +143,16 @@ nil_at_end : {X : Type 0} (it : IntoIter X Global) → into_iter_len it ≡ 0 �
 nil_at_end it e = nil_from_length (into_iter_items it) (omega (arith, e, it.rest.ok.0))
 
 -- with one of the iterators at its end, all segments have shown what they have
-pub IsUnderWay-all : {start : Contents} {budget : ℕ} {segments : List SegmentView} {orders : List (List ℕ)} {spent : Option SegmentView}
+pub IsUnderWay-all : {budget : ℕ} {segments : List SegmentView} {orders : List (List ℕ)} {spent : Option SegmentView}
     (rest : IntoIter SegmentView Global) (answers : IntoIter Found Global)
-    → IsUnderWay start budget segments (into_iter_items rest) (into_iter_items answers) orders spent
+    → IsUnderWay budget segments (into_iter_items rest) (into_iter_items answers) orders spent
     → ((u : IntoIter SegmentView Global) × into_iter_steps rest None u) ⊎ ((u : IntoIter Found Global) × into_iter_steps answers None u)
-    → HaveShown start budget segments orders spent
-IsUnderWay-all {start} {budget} {segments} {orders} {spent} rest answers h none =
+    → HaveShown budget segments orders spent
+IsUnderWay-all {budget} {segments} {orders} {spent} rest answers h none =
     let end : into_iter_items rest ≡ [] =
     ⊎_elim (λ e. nil_at_end rest e.1.0) (λ e. nil (into_iter_items rest) (rw (nil_at_end answers e.1.0) at h.exact)) none in
-    subst (λ s. HaveShown start budget s orders spent) (sym (h.parts ∙ ap (λ l. h.before ++ l) end ∙ append-nil h.before)) h.shown
+    subst (λ s. HaveShown budget s orders spent) (sym (h.parts ∙ ap (λ l. h.before ++ l) end ∙ append-nil h.before)) h.shown
   where
-    nil : (rest : List SegmentView) → AllZip (IsExactAnswer start budget) rest [] → rest ≡ []
+    nil : (rest : List SegmentView) → AllZip (IsExactAnswer budget) rest [] → rest ≡ []
     nil [] h = refl
     nil (s ∷ rest) h = absurd h

@@ -6,7 +6,6 @@ use Rattle.std.proofs.lemmas.List.Kept.{AllPairs-from_increasing}
 use Rattle.events.specs.declared.operation.Operation.{Operation}
 use Rattle.map_object.specs.MapObject.{Contents}
 use Rattle.segments.specs.SegmentView.{SegmentView}
-use Rattle.segments.specs.SegmentOrders.{start_of}
 use Rattle.segments.specs.Segments.{IsSegment}
 use Rattle.list_laws.proofs.FilterLemmas.{AllPairs-weaker}
 use Rattle.list_laws.proofs.Lists.{length-distinct_below, Contains-first}
@@ -16,15 +15,15 @@ use Rattle.segments.proofs.SegmentLemmas.{known-IsSegment, calls-IsSegment}
 use Rattle.judge.specs.Shows.{ShowsUndecided}
 
 -- a segment has no more calls than the history
-length-segment_le : (calls : List Operation) (segment : SegmentView) → IsSegment calls segment → length segment.calls ≤ length calls
-length-segment_le calls segment h =
-    let known = known-IsSegment calls segment h in
+length-segment_le : (start : Contents) (calls : List Operation) (segment : SegmentView) → IsSegment start calls segment → length segment.calls ≤ length calls
+length-segment_le start calls segment h =
+    let known = known-IsSegment start calls segment h in
     let distinct =
     AllPairs-weaker (λ a b. a < b) (λ a b. a ≢ b) segment.numbers (λ a b a_is b_is less same. absurd (omega arith))
     (AllPairs-from_increasing segment.numbers h.rising) in
     omega (
       arith,
-      ap length (calls-IsSegment calls segment h),
+      ap length (calls-IsSegment start calls segment h),
       length-calls_at calls segment.numbers known,
       length-distinct_below segment.numbers (length calls) distinct known,
     )
@@ -34,6 +33,6 @@ pub one_call-decided : (start : Contents) (budget : ℕ) (calls : List Operation
     → ShowsUndecided start budget calls segment → ⊥
 one_call-decided start budget calls segment one two h =
     let is = Contains-append_right h.below (segment ∷ h.above) segment (Contains-first segment h.above) in
-    let of_calls = All-contains (IsSegment calls) (h.below ++ segment ∷ h.above) segment h.are_segments.each is in
-    let few : length segment.calls ≤ 1 = omega (arith, length-segment_le calls segment of_calls) in
-    absurd (omega (arith, reached_by_one_call (start_of start segment) segment.calls budget few h.reaches))
+    let of_calls = All-contains (IsSegment start calls) (h.below ++ segment ∷ h.above) segment h.are_segments.each is in
+    let few : length segment.calls ≤ 1 = omega (arith, length-segment_le start calls segment of_calls) in
+    absurd (omega (arith, reached_by_one_call segment.start segment.calls budget few h.reaches))

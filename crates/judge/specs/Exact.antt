@@ -12,49 +12,49 @@ use Rattle.judge.specs.declared.verdict.Verdict.{Verdict}
 use Rattle.judge.specs.declared.verdict.Verdict.TheVariants.{Yes, No, Undecided}
 
 -- this is the least order of the segment, and at most as many of its configurations count as the budget
-abbrev pub IsOrderedBy : Contents → ℕ → SegmentView → List ℕ → Type 0
-IsOrderedBy start budget segment order = IsLeastOrderOf start segment order × CountIsWithinOf start segment budget
+abbrev pub IsOrderedBy : ℕ → SegmentView → List ℕ → Type 0
+IsOrderedBy budget segment order = IsLeastOrderOf segment order × CountIsWithinOf segment budget
 
 -- the segment has an order, and at most as many of its configurations count as the budget
-abbrev pub IsOrdered : Contents → ℕ → SegmentView → Type 0
-IsOrdered start budget segment = (order : List ℕ) × IsOrderedBy start budget segment order
+abbrev pub IsOrdered : ℕ → SegmentView → Type 0
+IsOrdered budget segment = (order : List ℕ) × IsOrderedBy budget segment order
 
 -- it has none, and at most as many of its configurations count as the budget
-abbrev pub IsRefuted : Contents → ℕ → SegmentView → Type 0
-IsRefuted start budget segment = HasNoOrder start segment × CountIsWithinOf start segment budget
+abbrev pub IsRefuted : ℕ → SegmentView → Type 0
+IsRefuted budget segment = HasNoOrder segment × CountIsWithinOf segment budget
 
 -- more of its configurations count than the budget
-abbrev pub IsSpent : Contents → ℕ → SegmentView → Type 0
-IsSpent start budget segment = CountIsAboveOf start segment budget
+abbrev pub IsSpent : ℕ → SegmentView → Type 0
+IsSpent budget segment = CountIsAboveOf segment budget
 
 -- the segment is not refuted within the budget
-abbrev pub IsOrderedOrSpent : Contents → ℕ → SegmentView → Type 0
-IsOrderedOrSpent start budget segment = IsOrdered start budget segment ⊎ IsSpent start budget segment
+abbrev pub IsOrderedOrSpent : ℕ → SegmentView → Type 0
+IsOrderedOrSpent budget segment = IsOrdered budget segment ⊎ IsSpent budget segment
 
 -- yes: each segment has an order within the budget, and the order answered merges the least orders of all segments
 pub record IsExactYes (start : Contents) (budget : ℕ) (calls : List Operation) (order : List ℕ) : Type 0 where
   pub segments : List SegmentView
   pub orders : List (List ℕ)
-  pub are_segments : AreSegments calls segments
-  pub ordered : AllZip (IsOrderedBy start budget) segments orders
+  pub are_segments : AreSegments start calls segments
+  pub ordered : AllZip (IsOrderedBy budget) segments orders
   pub merged : IsMergedOrder calls orders order
 
 -- no: the named segment is the lowest that is refuted within the budget
 pub record IsExactNo (start : Contents) (budget : ℕ) (calls : List Operation) (segment : SegmentView) : Type 0 where
   pub below : List SegmentView
   pub above : List SegmentView
-  pub are_segments : AreSegments calls (below ++ segment ∷ above)
-  pub refuted : IsRefuted start budget segment
-  pub lowest : All (IsOrderedOrSpent start budget) below
+  pub are_segments : AreSegments start calls (below ++ segment ∷ above)
+  pub refuted : IsRefuted budget segment
+  pub lowest : All (IsOrderedOrSpent budget) below
 
 -- undecided: the named segment is the lowest that is spent, and no segment is refuted within the budget
 pub record IsExactUndecided (start : Contents) (budget : ℕ) (calls : List Operation) (segment : SegmentView) : Type 0 where
   pub below : List SegmentView
   pub above : List SegmentView
-  pub are_segments : AreSegments calls (below ++ segment ∷ above)
-  pub spent : IsSpent start budget segment
-  pub lowest : All (IsOrdered start budget) below
-  pub unrefuted : All (IsOrderedOrSpent start budget) above
+  pub are_segments : AreSegments start calls (below ++ segment ∷ above)
+  pub spent : IsSpent budget segment
+  pub lowest : All (IsOrdered budget) below
+  pub unrefuted : All (IsOrderedOrSpent budget) above
 
 -- the exact verdict on the calls at the budget
 abbrev pub IsExactVerdict : Contents → ℕ → List Operation → Verdict → Type 0

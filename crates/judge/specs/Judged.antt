@@ -1,7 +1,7 @@
 -- What is answered to a text: a verdict with its report, or why there is none.
 use Rattle.std.specs.Prelude.{◌≡◌, ◌≢◌, ℕ, List, [], ⊤}
 use Rattle.serde_json.specs.Written.{compact_text}
-use Rattle.events.specs.declared.event.Event.{Event}
+use Rattle.events.specs.HistoryView.{HistoryView}
 use Rattle.events.specs.declared.fault.HistoryFault.{HistoryFault}
 use Rattle.events.specs.declared.fault.HistoryFault.TheVariants as histories
 use Rattle.events.specs.Histories.{IsHistory}
@@ -17,11 +17,11 @@ use Rattle.judge.specs.Reports.{verdict_data}
 
 -- the text spells a history, what the verdict says of its calls is so, it is the exact verdict, and this is its report
 pub record IsJudged (budget : ℕ) (text : List ℕ) (verdict : Verdict) (report : List ℕ) : Type 0 where
-  pub events : List Event
-  pub spelled : Spells text events
-  pub history : IsHistory events
-  pub shown : IsShown [] budget (operations events) verdict
-  pub exact : IsExactVerdict [] budget (operations events) verdict
+  pub history : HistoryView
+  pub spelled : Spells text history
+  pub is_history : IsHistory history
+  pub shown : IsShown history.start budget (operations history.events) verdict
+  pub exact : IsExactVerdict history.start budget (operations history.events) verdict
   pub reported : report ≡ compact_text (verdict_data verdict)
 
 -- the judge's fault for a reader's: want of memory is one fault, whoever met it

@@ -3,7 +3,7 @@ use Rattle.std.specs.Prelude.{◌≡◌, ℕ, ◌≤◌, List, length}
 use Rattle.events.specs.declared.operation.Operation.{Operation}
 use Rattle.map_object.specs.MapObject.{Contents}
 use Rattle.segments.specs.SegmentView.{SegmentView}
-use Rattle.events.specs.declared.event.Event.{Event}
+use Rattle.events.specs.HistoryView.{HistoryView}
 use Rattle.events.specs.Histories.{IsHistory}
 use Rattle.events.specs.Operations.{operations}
 use Rattle.judge.specs.declared.verdict.Verdict.{Verdict}
@@ -26,8 +26,8 @@ OneCallIsDecided =
 -- one verdict on a history is exact at a budget
 abbrev pub OneExactVerdict : Type 0
 OneExactVerdict =
-    (start : Contents) (budget : ℕ) (events : List Event) (a b : Verdict) → IsHistory events → IsExactVerdict start budget (operations events) a
-    → IsExactVerdict start budget (operations events) b → AreSameVerdict a b
+    (budget : ℕ) (history : HistoryView) (a b : Verdict) → IsHistory history → IsExactVerdict history.start budget (operations history.events) a
+    → IsExactVerdict history.start budget (operations history.events) b → AreSameVerdict a b
 
 -- one report is answered to a text at a budget
 abbrev pub OneReport : Type 0

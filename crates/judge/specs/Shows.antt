@@ -7,21 +7,21 @@ use Rattle.map_object.specs.MapObject.{Contents}
 use Rattle.orders.specs.Orders.{IsOrder, IsLinearizable}
 use Rattle.segments.specs.SegmentView.{SegmentView}
 use Rattle.segments.specs.Segments.{AreSegments}
-use Rattle.segments.specs.SegmentOrders.{start_of, IsOrderOf, HasNoOrder}
+use Rattle.segments.specs.SegmentOrders.{IsOrderOf, HasNoOrder}
 use Rattle.merge_orders.specs.Merge.{IsMergedOrder}
 use Rattle.configurations.specs.Counts.{ReachesMoreThan}
 
 -- the calls of the segment have an order
-abbrev pub HasOrder : Contents → SegmentView → Type 0
-HasOrder start segment = IsLinearizable (start_of start segment) segment.calls
+abbrev pub HasOrder : SegmentView → Type 0
+HasOrder segment = IsLinearizable segment.start segment.calls
 
 -- the segment has more reachable configurations than the budget
-abbrev pub IsBeyond : Contents → ℕ → SegmentView → Type 0
-IsBeyond start budget segment = ReachesMoreThan (start_of start segment) segment.calls budget
+abbrev pub IsBeyond : ℕ → SegmentView → Type 0
+IsBeyond budget segment = ReachesMoreThan segment.start segment.calls budget
 
 -- no search that the budget covers finds the segment without order
-abbrev pub IsUnrefuted : Contents → ℕ → SegmentView → Type 0
-IsUnrefuted start budget segment = HasOrder start segment ⊎ IsBeyond start budget segment
+abbrev pub IsUnrefuted : ℕ → SegmentView → Type 0
+IsUnrefuted budget segment = HasOrder segment ⊎ IsBeyond budget segment
 
 -- yes: an order of the whole history, with all completed and some pending calls, that keeps each response-before-invocation pair and in which a sorted list
 -- used alone gives every recorded reply; it merges orders of the segments
@@ -29,8 +29,8 @@ pub record ShowsYes (start : Contents) (calls : List Operation) (order : List �
   pub segments : List SegmentView
   pub orders : List (List ℕ)
   pub is_order : IsOrder start calls order
-  pub are_segments : AreSegments calls segments
-  pub found : AllZip (IsOrderOf start) segments orders
+  pub are_segments : AreSegments start calls segments
+  pub found : AllZip IsOrderOf segments orders
   pub merged : IsMergedOrder calls orders order
 
 -- no: no such order exists, and the calls of the named segment have none by themselves either; no segment below it had to be named
@@ -38,15 +38,15 @@ pub record ShowsNo (start : Contents) (budget : ℕ) (calls : List Operation) (s
   pub below : List SegmentView
   pub above : List SegmentView
   pub no_order : IsLinearizable start calls → ⊥
-  pub segment_has_none : HasNoOrder start segment
-  pub are_segments : AreSegments calls (below ++ segment ∷ above)
-  pub lowest : All (IsUnrefuted start budget) below
+  pub segment_has_none : HasNoOrder segment
+  pub are_segments : AreSegments start calls (below ++ segment ∷ above)
+  pub lowest : All (IsUnrefuted budget) below
 
 -- undecided: the named segment has more reachable configurations than the budget; those below it have orders, and no segment above it makes it a no
 pub record ShowsUndecided (start : Contents) (budget : ℕ) (calls : List Operation) (segment : SegmentView) : Type 0 where
   pub below : List SegmentView
   pub above : List SegmentView
-  pub reaches : IsBeyond start budget segment
-  pub are_segments : AreSegments calls (below ++ segment ∷ above)
-  pub lowest : All (HasOrder start) below
-  pub unrefuted : All (IsUnrefuted start budget) above
+  pub reaches : IsBeyond budget segment
+  pub are_segments : AreSegments start calls (below ++ segment ∷ above)
+  pub lowest : All HasOrder below
+  pub unrefuted : All (IsUnrefuted budget) above

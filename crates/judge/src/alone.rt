@@ -1,5 +1,5 @@
 // The verdict on a history, found by one thread.
-ghost use Rattle.std.specs.Prelude.{◌≤◌, [], IfOk};
+ghost use Rattle.std.specs.Prelude.{◌≤◌, IfOk};
 ghost use Rattle.std.specs.List.{AllZip};
 ghost use Rattle.events.specs.Operations.{operations};
 ghost use Rattle.search.specs.Exact.{IsExactAnswer};
@@ -20,8 +20,8 @@ use std::alloc::Global;
 /// an error and decides nothing. It costs what the cut, the searches and the merge cost.
 pub fn judge_alone(alloc: Global, history: &History, budget: u32) -> Result<Verdict, Memory>
     requires { (1 ≤ budget) × (budget ≤ MAX_BUDGET) }
-    ensures shown { IfOk result (IsShown [] budget (operations history.now)) }
-    ensures exact { IfOk result (IsExactVerdict [] budget (operations history.now)) }
+    ensures shown { IfOk result (IsShown history.now.start budget (operations history.now.events)) }
+    ensures exact { IfOk result (IsExactVerdict history.now.start budget (operations history.now.events)) }
 {
     let segments = cut(alloc, history)?;
     let answers = search_each(alloc, &segments, budget)?;
@@ -31,7 +31,7 @@ pub fn judge_alone(alloc: Global, history: &History, budget: u32) -> Result<Verd
 /// What the search of each segment finds.
 fn search_each(alloc: Global, segments: &[Segment], budget: u32) -> Result<Vec<Found>, Memory>
     requires { (1 ≤ budget) × (budget ≤ MAX_BUDGET) }
-    ensures { IfOk result (λ v. AllZip (IsExactAnswer [] budget) segments.now v.items) }
+    ensures { IfOk result (λ v. AllZip (IsExactAnswer budget) segments.now v.items) }
 {
     let mut answers = Vec::with_capacity(alloc, segments.len())?;
     for segment in segments {

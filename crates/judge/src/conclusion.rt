@@ -1,5 +1,5 @@
 // What the answers on all segments of a history say of the history.
-ghost use Rattle.std.specs.Prelude.{[], All, IfOk};
+ghost use Rattle.std.specs.Prelude.{All, IfOk};
 ghost use Rattle.std.specs.List.{AllZip};
 ghost use Rattle.events.specs.Operations.{operations};
 ghost use Rattle.orders.specs.Orders.{IsLinearizable};
@@ -25,12 +25,12 @@ pub(crate) fn conclude(
     segments: Vec<Segment>,
     answers: Vec<Found>,
 ) -> Result<Verdict, Memory>
-    requires segments { AreSegments (operations history.now) segments.items }
+    requires segments { AreSegments history.now.start (operations history.now.events) segments.items }
     requires refutes { All (λ s.
-        HasNoOrder [] s → IsLinearizable [] (operations history.now) → ⊥) segments.items }
-    requires exact { AllZip (IsExactAnswer [] budget) segments.items answers.items }
-    ensures shown { IfOk result (IsShown [] budget (operations history.now)) }
-    ensures exact { IfOk result (IsExactVerdict [] budget (operations history.now)) }
+        HasNoOrder s → IsLinearizable history.now.start (operations history.now.events) → ⊥) segments.items }
+    requires exact { AllZip (IsExactAnswer budget) segments.items answers.items }
+    ensures shown { IfOk result (IsShown history.now.start budget (operations history.now.events)) }
+    ensures exact { IfOk result (IsExactVerdict history.now.start budget (operations history.now.events)) }
 {
     let mut orders = Vec::with_capacity(alloc, segments.len())?;
     let mut lowest_spent = None;

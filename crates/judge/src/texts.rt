@@ -1,6 +1,6 @@
 // From a history's text to its verdict and the report of it.
-ghost use Rattle.std.specs.Prelude.{◌≡◌, ◌≤◌, List, IfOk, IfErr, string_bytes};
-ghost use Rattle.events.specs.declared.event.Event.{Event};
+ghost use Rattle.std.specs.Prelude.{◌≡◌, ◌≤◌, IfOk, IfErr, string_bytes};
+ghost use Rattle.events.specs.HistoryView.{HistoryView};
 ghost use Rattle.events.specs.Histories.{IsHistory};
 ghost use Rattle.history_text.specs.Texts.{Spells};
 ghost use Rattle.judge.specs.declared.fault.JudgeFault.TheVariants as faults;
@@ -30,7 +30,7 @@ pub fn judge_text<R: Threads + Sync, G: Gate + Sync>(
     requires workers { (1 ≤ workers) × (workers ≤ MAX_WORKERS) }
     ensures judged { IfOk result (λ answer. IsJudged budget text.now answer.0 (string_bytes answer.1)) }
     ensures refused { IfErr result (IsUnjudged text.now) }
-    ensures accepted { (events : List Event) → Spells text.now events → IsHistory events
+    ensures accepted { (history : HistoryView) → Spells text.now history → IsHistory history
         → IfErr result (λ fault. fault ≡ faults.Memory) }
 {
     let history = read_history(alloc, text)?;

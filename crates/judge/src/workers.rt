@@ -1,5 +1,5 @@
 // The verdict on a history, found by workers.
-ghost use Rattle.std.specs.Prelude.{◌≤◌, [], IfOk};
+ghost use Rattle.std.specs.Prelude.{◌≤◌, IfOk};
 ghost use Rattle.events.specs.Operations.{operations};
 ghost use Rattle.judge.specs.Shown.{IsShown};
 ghost use Rattle.judge.specs.Exact.{IsExactVerdict};
@@ -25,8 +25,8 @@ pub fn judge<R: Threads + Sync, G: Gate + Sync>(
 ) -> Result<Verdict, Memory>
     requires budget { (1 ≤ budget) × (budget ≤ MAX_BUDGET) }
     requires workers { (1 ≤ workers) × (workers ≤ MAX_WORKERS) }
-    ensures shown { IfOk result (IsShown [] budget (operations history.now)) }
-    ensures exact { IfOk result (IsExactVerdict [] budget (operations history.now)) }
+    ensures shown { IfOk result (IsShown history.now.start budget (operations history.now.events)) }
+    ensures exact { IfOk result (IsExactVerdict history.now.start budget (operations history.now.events)) }
 {
     let segments = cut(alloc, history)?;
     let answers = search_all(rt, alloc, &segments, budget, workers, gate)?;

@@ -5,7 +5,6 @@ use Rattle.std.proofs.lemmas.List.{length-map}
 use Rattle.std.proofs.lemmas.List.Elements.{All-head, All-rest, All-tail}
 use Rattle.std.specs.List.{AllZip, HoldsAt}
 use Rattle.std.specs.Option.{IfSome}
-use Rattle.map_object.specs.MapObject.{Contents}
 use Rattle.segments.specs.SegmentView.{SegmentView}
 use Rattle.search.specs.Exact.{IsExactAnswer}
 use Rattle.search.specs.Found.{IsSoundAnswer}
@@ -111,19 +110,19 @@ module _ {S A : Type 0} (P : S → A → Type 0) where
   IsHalfKnown-all {segments} {answers} {rest} h e = all_known segments answers (rw e at h.known)
 
 -- none of the known answers is wrong with those of a worker
-pub exact_after : {start : Contents} {budget : ℕ} {segments : List SegmentView} (known : List (Option Found)) (answers : List SegmentAnswer)
-    → AllZip (IsExactIfKnown start budget) segments known → All (AnswersOneOf start budget segments) answers
-    → AllZip (IsExactIfKnown start budget) segments (fold with_answer known answers)
-exact_after {start} {budget} {segments} known [] h exact = h
-exact_after {start} {budget} {segments} known (a ∷ answers) h exact =
-    let one : AnswersOneOf start budget segments a = All-head (AnswersOneOf start budget segments) a answers exact in
-    let put = none_wrong_after (IsExactAnswer start budget) segments known a.segment a.found h one.one one.exact in
-    exact_after (with_answer known a) answers put (All-tail (AnswersOneOf start budget segments) a answers exact)
+pub exact_after : {budget : ℕ} {segments : List SegmentView} (known : List (Option Found)) (answers : List SegmentAnswer)
+    → AllZip (IsExactIfKnown budget) segments known → All (AnswersOneOf budget segments) answers
+    → AllZip (IsExactIfKnown budget) segments (fold with_answer known answers)
+exact_after {budget} {segments} known [] h exact = h
+exact_after {budget} {segments} known (a ∷ answers) h exact =
+    let one : AnswersOneOf budget segments a = All-head (AnswersOneOf budget segments) a answers exact in
+    let put = none_wrong_after (IsExactAnswer budget) segments known a.segment a.found h one.one one.exact in
+    exact_after (with_answer known a) answers put (All-tail (AnswersOneOf budget segments) a answers exact)
 
 -- exact answers are sound
-pub all_sound : (start : Contents) (budget : ℕ) (segments : List SegmentView) (answers : List Found)
-    → AllZip (IsExactAnswer start budget) segments answers → AllZip (IsSoundAnswer start budget) segments answers
-all_sound start budget [] [] h = tt
-all_sound start budget [] (a ∷ answers) h = absurd h
-all_sound start budget (s ∷ segments) [] h = absurd h
-all_sound start budget (s ∷ segments) (a ∷ answers) h = (sound_from_exact start budget s a h.0, all_sound start budget segments answers h.1)
+pub all_sound : (budget : ℕ) (segments : List SegmentView) (answers : List Found)
+    → AllZip (IsExactAnswer budget) segments answers → AllZip (IsSoundAnswer budget) segments answers
+all_sound budget [] [] h = tt
+all_sound budget [] (a ∷ answers) h = absurd h
+all_sound budget (s ∷ segments) [] h = absurd h
+all_sound budget (s ∷ segments) (a ∷ answers) h = (sound_from_exact budget s a h.0, all_sound budget segments answers h.1)

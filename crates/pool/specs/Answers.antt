@@ -1,12 +1,11 @@
 -- What a worker's answer says.
 use Rattle.std.specs.Prelude.{ℕ, ◌<◌, List, length}
 use Rattle.std.specs.List.{HoldsAt}
-use Rattle.map_object.specs.MapObject.{Contents}
 use Rattle.segments.specs.SegmentView.{SegmentView}
 use Rattle.search.specs.Exact.{IsExactAnswer}
 use Rattle.pool.specs.declared.worker.SegmentAnswer.{SegmentAnswer}
 
 -- the answer names one of the segments, and is exact for it
-pub record AnswersOneOf (start : Contents) (budget : ℕ) (segments : List SegmentView) (answer : SegmentAnswer) : Type 0 where
+pub record AnswersOneOf (budget : ℕ) (segments : List SegmentView) (answer : SegmentAnswer) : Type 0 where
   pub one : answer.segment < length segments
-  pub exact : HoldsAt (λ s. IsExactAnswer start budget s answer.found) segments answer.segment
+  pub exact : HoldsAt (λ s. IsExactAnswer budget s answer.found) segments answer.segment

@@ -1,6 +1,5 @@
 -- Answers that are known so far, at the places of their segments.
 use Rattle.std.specs.Prelude.{ℕ, List, Option, Some, IfSome, slice_set}
-use Rattle.map_object.specs.MapObject.{Contents}
 use Rattle.segments.specs.SegmentView.{SegmentView}
 use Rattle.search.specs.declared.found.Found.{Found}
 use Rattle.search.specs.Exact.{IsExactAnswer}
@@ -11,5 +10,5 @@ abbrev pub with_answer : List (Option Found) → SegmentAnswer → List (Option 
 with_answer known answer = slice_set known answer.segment (Some answer.found)
 
 -- an answer that is known is exact
-abbrev pub IsExactIfKnown : Contents → ℕ → SegmentView → Option Found → Type 0
-IsExactIfKnown start budget segment known = IfSome known (IsExactAnswer start budget segment)
+abbrev pub IsExactIfKnown : ℕ → SegmentView → Option Found → Type 0
+IsExactIfKnown budget segment known = IfSome known (IsExactAnswer budget segment)

@@ -49,8 +49,8 @@ pub(crate) fn complete<G: Gate>(
     known: Vec<Option<Found>>,
 ) -> Result<Vec<Found>, Memory>
     requires budget { (1 ≤ budget) × (budget ≤ MAX_BUDGET) }
-    requires exact { AllZip (IsExactIfKnown [] budget) segments.now known.items }
-    ensures { IfOk result (λ v. AllZip (IsExactAnswer [] budget) segments.now v.items) }
+    requires exact { AllZip (IsExactIfKnown budget) segments.now known.items }
+    ensures { IfOk result (λ v. AllZip (IsExactAnswer budget) segments.now v.items) }
 {
     let mut answers = Vec::with_capacity(alloc, known.len())?;
     for answer in known {

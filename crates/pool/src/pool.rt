@@ -36,8 +36,8 @@ pub fn search_all<R: Threads + Sync, G: Gate + Sync>(
 ) -> Result<Vec<Found>, Memory>
     requires budget { (1 ≤ budget) × (budget ≤ MAX_BUDGET) }
     requires workers { (1 ≤ workers) × (workers ≤ MAX_WORKERS) }
-    ensures exact { IfOk result (λ v. AllZip (IsExactAnswer [] budget) segments.now v.items) }
-    ensures sound { IfOk result (λ v. AllZip (IsSoundAnswer [] budget) segments.now v.items) }
+    ensures exact { IfOk result (λ v. AllZip (IsExactAnswer budget) segments.now v.items) }
+    ensures sound { IfOk result (λ v. AllZip (IsSoundAnswer budget) segments.now v.items) }
 {
     let answers = search_apart(rt, alloc, segments, budget, workers, gate)?;
     let known = in_place(alloc, segments.len(), answers)?;
@@ -55,7 +55,7 @@ fn search_apart<R: Threads + Sync, G: Gate + Sync>(
 ) -> Result<Vec<SegmentAnswer>, Memory>
     requires budget { (1 ≤ budget) × (budget ≤ MAX_BUDGET) }
     requires workers { (1 ≤ workers) × (workers ≤ MAX_WORKERS) }
-    ensures { IfOk result (λ v. All (AnswersOneOf [] budget segments.now) v.items) }
+    ensures { IfOk result (λ v. All (AnswersOneOf budget segments.now) v.items) }
 {
     // With a draw for each segment and one more, each worker can draw until no segment is left. The most draws that
     // tickets have would cut this past 2^55 segments, more than memory holds, and `complete` would search the others.

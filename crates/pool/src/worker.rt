@@ -30,7 +30,7 @@ pub(crate) fn work<G: Gate>(
 ) -> Result<Vec<SegmentAnswer>, Memory>
     requires budget { (1 ≤ budget) × (budget ≤ MAX_BUDGET) }
     requires own { counter_of hand ≡ counter tickets.now }
-    ensures { IfOk result (λ v. All (AnswersOneOf [] budget segments.now) v.items) }
+    ensures { IfOk result (λ v. All (AnswersOneOf budget segments.now) v.items) }
 {
     let mut answers = Vec::new(alloc);
     while hand.left() > 0 {
@@ -54,7 +54,7 @@ pub(crate) fn enter_and_search<G: Gate>(
 ) -> Result<Found, Memory>
     requires budget { (1 ≤ budget) × (budget ≤ MAX_BUDGET) }
     requires known { segment < length segments.now }
-    ensures { IfOk result (λ f. HoldsAt (λ s. IsExactAnswer [] budget s f) segments.now segment) }
+    ensures { IfOk result (λ f. HoldsAt (λ s. IsExactAnswer budget s f) segments.now segment) }
 {
     gate.enter(segment);
     search(alloc, &segments[segment], budget)

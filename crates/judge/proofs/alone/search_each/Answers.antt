@@ -11,7 +11,7 @@ loop-segment-init c = rw c.in_ok-answers.ensures.items tt
 
 pub loop-segment-preserved : goal.loop-segment-preserved
 loop-segment-preserved c =
-    let exact = IsExactAnswer [] c.args.budget in
+    let exact = IsExactAnswer c.args.budget in
     let segments = c.args.segments.now in
     let k = c.loop-segment.segment-index in
     let more =
@@ -22,4 +22,4 @@ loop-segment-preserved c =
 
 pub returns : goal.returns
 returns c =
-    subst (λ s. AllZip (IsExactAnswer [] c.args.budget) s c.loop-segment.answers.items) (take_all _ _ c.loop-segment-test.false) c.loop-segment.invariant
+    subst (λ s. AllZip (IsExactAnswer c.args.budget) s c.loop-segment.answers.items) (take_all _ _ c.loop-segment-test.false) c.loop-segment.invariant

@@ -32,7 +32,7 @@ loop-segment-preserved-in-Order-1 c =
     let steps = c.in-Some.ensures.steps in
     let orders = map (λ v. v.items) c.loop-segment.orders.items in
     let found = rw c.in-Order.is at (IsUnderWay-answer way steps.0.0 steps.1.0) in
-    let shown = HaveShown-found [] c.args.budget way.before orders c.loop-segment.lowest_spent c.in-Some.segment c.in-Order.order.items way.shown found in
+    let shown = HaveShown-found c.args.budget way.before orders c.loop-segment.lowest_spent c.in-Some.segment c.in-Order.order.items way.shown found in
     record {
       can_next = (tt, tt);
       is_finite = tt;
@@ -46,22 +46,22 @@ returns-in-NoOrder-clause-exact c =
     record {
       below = way.before;
       above = into_iter_items (zip_first c.next.new.self);
-      are_segments = subst (AreSegments (operations c.args.history.now)) (way.parts ∙ ap (λ l. way.before ++ l) steps.0.0) c.requires.segments;
+      are_segments = subst (AreSegments c.args.history.now.start (operations c.args.history.now.events)) (way.parts ∙ ap (λ l. way.before ++ l) steps.0.0) c.requires.segments;
       refuted = rw c.in-NoOrder.is at (IsUnderWay-answer way steps.0.0 steps.1.0);
-      lowest = IsOrderedOrSpent-all [] c.args.budget way.before (map (λ v. v.items) c.loop-segment.orders.items) c.loop-segment.lowest_spent way.shown;
+      lowest = IsOrderedOrSpent-all c.args.budget way.before (map (λ v. v.items) c.loop-segment.orders.items) c.loop-segment.lowest_spent way.shown;
     }
 
 pub returns-in-NoOrder-clause-shown : goal.returns-in-NoOrder-clause-shown
 returns-in-NoOrder-clause-shown c =
-    let calls = operations c.args.history.now in
+    let calls = operations c.args.history.now.events in
     let exact = returns-in-NoOrder-clause-exact c in
     let way = c.loop-segment.invariant.under_way in
     let segment = c.in-Some.segment in
     let above = into_iter_items (zip_first c.next.new.self) in
     let parts = way.parts ∙ ap (λ l. way.before ++ l) c.in-Some.ensures.steps.0.0 in
     let is = subst (λ s. Contains s segment) (sym parts) (Contains-append_right way.before (segment ∷ above) segment (Contains-first segment above)) in
-    shows_no [] c.args.budget calls segment exact
-    (All-contains (λ s. HasNoOrder [] s → IsLinearizable [] calls → ⊥) c.args.segments.items segment c.requires.refutes is exact.refuted.0)
+    shows_no c.args.budget c.args.history.now.start calls segment exact
+    (All-contains (λ s. HasNoOrder s → IsLinearizable c.args.history.now.start calls → ⊥) c.args.segments.items segment c.requires.refutes is exact.refuted.0)
 
 pub loop-segment-preserved-then-is_none : goal.loop-segment-preserved-then-is_none
 loop-segment-preserved-then-is_none c =
@@ -69,7 +69,7 @@ loop-segment-preserved-then-is_none c =
     let steps = c.in-Some.ensures.steps in
     let orders = map (λ v. v.items) c.loop-segment.orders.items in
     let spent = rw c.in-Spent.is at (IsUnderWay-answer way steps.0.0 steps.1.0) in
-    let shown = HaveShown-first [] c.args.budget way.before orders c.loop-segment.lowest_spent c.in-Some.segment c.if-is_none.ensures way.shown spent in
+    let shown = HaveShown-first c.args.budget way.before orders c.loop-segment.lowest_spent c.in-Some.segment c.if-is_none.ensures way.shown spent in
     record {
       can_next = (tt, tt);
       is_finite = tt;
@@ -82,7 +82,7 @@ loop-segment-preserved c =
     let steps = c.in-Some.ensures.steps in
     let orders = map (λ v. v.items) c.loop-segment.orders.items in
     let spent = rw c.in-Spent-2.is at (IsUnderWay-answer way steps.0.0 steps.1.0) in
-    let shown = HaveShown-spent [] c.args.budget way.before orders c.loop-segment.lowest_spent c.in-Some.segment c.if-is_none.ensures way.shown spent in
+    let shown = HaveShown-spent c.args.budget way.before orders c.loop-segment.lowest_spent c.in-Some.segment c.if-is_none.ensures way.shown spent in
     record {
       can_next = (tt, tt);
       is_finite = tt;
@@ -98,7 +98,7 @@ returns-in-Some-lowest_spent-clause-exact c =
     record {
       below = lowest.below;
       above = lowest.above;
-      are_segments = subst (AreSegments (operations c.args.history.now)) lowest.is c.requires.segments;
+      are_segments = subst (AreSegments c.args.history.now.start (operations c.args.history.now.events)) lowest.is c.requires.segments;
       spent = lowest.spent;
       lowest = lowest.lowest;
       unrefuted = lowest.unrefuted;
@@ -106,14 +106,14 @@ returns-in-Some-lowest_spent-clause-exact c =
 
 pub returns-in-Some-lowest_spent-clause-shown : goal.returns-in-Some-lowest_spent-clause-shown
 returns-in-Some-lowest_spent-clause-shown c =
-    shows_undecided [] c.args.budget (operations c.args.history.now) c.in-Some-lowest_spent.segment (returns-in-Some-lowest_spent-clause-exact c)
+    shows_undecided c.args.budget c.args.history.now.start (operations c.args.history.now.events) c.in-Some-lowest_spent.segment (returns-in-Some-lowest_spent-clause-exact c)
 
 pub merge-requires : goal.merge-requires
 merge-requires c = (
   c.args.segments.items,
   c.requires.segments,
   rw c.deref.ensures.value
-      (found_orders [] c.args.budget c.args.segments.items (map (λ v. v.items) c.loop-segment.orders.items)
+      (found_orders c.args.budget c.args.segments.items (map (λ v. v.items) c.loop-segment.orders.items)
       (rw c.in-None-lowest_spent.is at
       (IsUnderWay-all (zip_first c.loop-segment.segment-iterator)
       (zip_second c.loop-segment.segment-iterator) c.loop-segment.invariant.under_way c.in-None.ensures.steps))),
@@ -132,4 +132,4 @@ returns-clause-exact c = record {
 
 pub returns-clause-shown : goal.returns-clause-shown
 returns-clause-shown c =
-    shows_yes [] c.args.budget (operations c.args.history.now) _ (returns-clause-exact c) c.in_ok-merge-in-None-lowest_spent.ensures.order
+    shows_yes c.args.budget c.args.history.now.start (operations c.args.history.now.events) _ (returns-clause-exact c) c.in_ok-merge-in-None-lowest_spent.ensures.order

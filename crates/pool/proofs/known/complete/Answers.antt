@@ -7,12 +7,12 @@ use Rattle.pool.proofs.known.complete.Goals.{in-Some-answer, in-None-answer+in_o
 
 pub enter_and_search-requires-clause-known : goal.enter_and_search-requires-clause-known
 enter_and_search-requires-clause-known g c =
-    let next = IsHalfKnown-next (IsExactAnswer [] c.args.budget) c.loop-answer.invariant c.in-Some.ensures.steps.0 in
+    let next = IsHalfKnown-next (IsExactAnswer c.args.budget) c.loop-answer.invariant c.in-Some.ensures.steps.0 in
     omega (arith, next, c.loop-answer.answers.ok.0)
 
 pub loop-answer-preserved : goal.loop-answer-preserved
 loop-answer-preserved g c =
-    let P = IsExactAnswer [] c.args.budget in
+    let P = IsExactAnswer c.args.budget in
     rw c.in_ok-push.ensures.items
     (elim c.match-answer.branch [
       | in-Some-answer w ↦ rw w.found-is (IsHalfKnown-known P c.loop-answer.invariant c.in-Some.ensures.steps.0 w.in-Some-answer.is)
@@ -24,5 +24,5 @@ loop-answer-preserved g c =
 
 pub returns : goal.returns
 returns g c =
-    IsHalfKnown-all (IsExactAnswer [] c.args.budget) c.loop-answer.invariant
+    IsHalfKnown-all (IsExactAnswer c.args.budget) c.loop-answer.invariant
     (nil_from_length _ (omega (arith, c.in-None.ensures.steps.0, c.loop-answer.answer-iterator.rest.ok.0)))

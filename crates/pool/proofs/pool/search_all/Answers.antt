@@ -9,10 +9,10 @@ use Rattle.pool.proofs.pool.search_all.Goals as goal
 pub complete-requires-clause-exact : goal.complete-requires-clause-exact
 complete-requires-clause-exact g c =
     rw c.in_ok-known.ensures
-    (exact_after _ c.in_ok-answers.answers.items (none_wrong (IsExactAnswer [] c.args.budget) c.args.segments.now) c.in_ok-answers.ensures)
+    (exact_after _ c.in_ok-answers.answers.items (none_wrong (IsExactAnswer c.args.budget) c.args.segments.now) c.in_ok-answers.ensures)
 
 pub returns-clause-sound : goal.returns-clause-sound
 returns-clause-sound g c =
     let segments = c.args.segments.now in
-    IfOk-weaker _ (λ v. AllZip (IsExactAnswer [] c.args.budget) segments v.items) (λ v. AllZip (IsSoundAnswer [] c.args.budget) segments v.items)
-    (λ v exact. all_sound [] c.args.budget segments v.items exact) c.complete.ensures
+    IfOk-weaker _ (λ v. AllZip (IsExactAnswer c.args.budget) segments v.items) (λ v. AllZip (IsSoundAnswer c.args.budget) segments v.items)
+    (λ v exact. all_sound c.args.budget segments v.items exact) c.complete.ensures

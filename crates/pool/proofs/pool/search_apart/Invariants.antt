@@ -5,6 +5,6 @@ use Rattle.pool.proofs.pool.search_apart.Given as goal
 
 abbrev pub invariant-loop-answers : goal.invariant-loop-answers
 invariant-loop-answers g l = record {
-  so_far : All (AnswersOneOf [] l.fn.budget l.fn.segments) l.all.items;
-  rest : All (λ r. IfOk r (λ v. All (AnswersOneOf [] l.fn.budget l.fn.segments) v.items)) (into_iter_items l.answers-iterator);
+  so_far : All (AnswersOneOf l.fn.budget l.fn.segments) l.all.items;
+  rest : All (λ r. IfOk r (λ v. All (AnswersOneOf l.fn.budget l.fn.segments) v.items)) (into_iter_items l.answers-iterator);
 }

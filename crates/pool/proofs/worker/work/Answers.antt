@@ -7,6 +7,6 @@ pub loop-alloc-preserved : goal.loop-alloc-preserved
 loop-alloc-preserved g c = (
   search rules,
   rw c.in_ok-push.ensures.items
-      (All-push (AnswersOneOf [] c.args.budget c.args.segments.now) _ _ c.loop-alloc.invariant.1
+      (All-push (AnswersOneOf c.args.budget c.args.segments.now) _ _ c.loop-alloc.invariant.1
       (record { one = c.if-segment-segments.false; exact = c.in_ok-found.ensures })),
 )
