@@ -2,8 +2,8 @@
 #![tactic(auto)]
 
 pub use events::{
-    Call, Event, History, HistoryFault, MAX_CALLS, MAX_PAIRS, Memory, Operation, PROCESSES, Pairs,
-    Reply, Response, Turns,
+    Call, Event, History, HistoryFault, MAX_CALLS, MAX_PAIRS, MAX_START, Memory, Operation,
+    PROCESSES, Pairs, Reply, Response, Turns,
 };
 pub use history_text::{MAX_TEXT, one_history, one_text_fault, read_history, write_history};
 pub use segments::Segment;

@@ -9,7 +9,7 @@ use Rattle.serde_json.specs.Find.{as_number, as_str, as_array, as_object, as_u64
 use Rattle.serde_json.specs.View.{view, items_of, items_view, members_view}
 use Rattle.serde_json.specs.declared.value.Value.{Value}
 use Rattle.events.specs.declared.event.Call.{Call}
-use Rattle.events.specs.declared.event.Call.TheVariants.{Get, Insert, Remove, Scan}
+use Rattle.events.specs.declared.event.Call.TheVariants.{Get, Insert, Remove, Scan, Replace}
 use Rattle.events.specs.declared.event.Reply.{Reply}
 use Rattle.history_text.specs.Texts.{number_data, list_data, pair_data, call_data, reply_data}
 use Rattle.history_text.specs.ValueFaults.{object_of_two}
@@ -95,13 +95,15 @@ length_as vs ds h = sym (length-map vs view) ∙ ap length (list_data_injective 
 pub length_of_pair : (vs : List Value) (pair : ℕ × ℕ) → list_data (map view vs) ≡ pair_data pair → length vs ≡ 2
 length_of_pair vs pair h = length_as vs (number_data pair.0 ∷ number_data pair.1 ∷ []) h
 
--- a value that spells a call has two items or three
-pub length_of_call : (vs : List Value) (call : Call) → list_data (map view vs) ≡ call_data call → (2 ≤ length vs) × (length vs ≤ 3)
+-- a value that spells a call has two items, three or four
+pub length_of_call : (vs : List Value) (call : Call) → list_data (map view vs) ≡ call_data call → (2 ≤ length vs) × (length vs ≤ 4)
 length_of_call vs (Get key) h = let n = length_as vs (string (codes "get") ∷ number_data key ∷ []) h in (omega arith, omega arith)
 length_of_call vs (Insert key value) h = let n =
     length_as vs (string (codes "insert") ∷ number_data key ∷ number_data value ∷ []) h in (omega arith, omega arith)
 length_of_call vs (Remove key) h = let n = length_as vs (string (codes "remove") ∷ number_data key ∷ []) h in (omega arith, omega arith)
 length_of_call vs (Scan low high) h = let n = length_as vs (string (codes "scan") ∷ number_data low ∷ number_data high ∷ []) h in (omega arith, omega arith)
+length_of_call vs (Replace key old new) h =
+    let n = length_as vs (string (codes "replace") ∷ number_data key ∷ number_data old ∷ number_data new ∷ []) h in (omega arith, omega arith)
 
 -- ---- numbers
 
@@ -139,6 +141,30 @@ pub name_and_two_numbers : (vs : List Value) (x y z : Value) (s : List ℕ) (m n
     → list_data (map view vs) ≡ list_data (string s ∷ number_data m ∷ number_data n ∷ [])
 name_and_two_numbers vs x y z s m n len first second third name one two =
     rw (three_items vs x y z len first second third, string_found (view x) s name, number_found (view y) m one, number_found (view z) n two) refl
+
+-- a list of four values, each read at its place
+four_items : (vs : List Value) (x y z u : Value) → length vs ≡ 4 → x ≡ get_or vs 0 x → y ≡ get_or vs 1 y → z ≡ get_or vs 2 z → u ≡ get_or vs 3 u
+    → vs ≡ x ∷ y ∷ z ∷ u ∷ []
+four_items [] x y z u len first second third fourth = cc
+four_items (a ∷ []) x y z u len first second third fourth = cc
+four_items (a ∷ b ∷ []) x y z u len first second third fourth = cc
+four_items (a ∷ b ∷ e ∷ []) x y z u len first second third fourth = cc
+four_items (a ∷ b ∷ e ∷ f ∷ []) x y z u len first second third fourth = cc
+four_items (a ∷ b ∷ e ∷ f ∷ g ∷ vs) x y z u len first second third fourth = absurd (omega arith)
+
+-- the list of four values in which a name and three numbers were found
+pub name_and_three_numbers : (vs : List Value) (x y z u : Value) (s : List ℕ) (k m n : ℕ) → length vs ≡ 4 → x ≡ get_or vs 0 x → y ≡ get_or vs 1 y
+    → z ≡ get_or vs 2 z → u ≡ get_or vs 3 u
+    → Some s ≡ as_str (view x) → Some k ≡ option_and_then as_u64 (as_number (view y)) → Some m ≡ option_and_then as_u64 (as_number (view z))
+    → Some n ≡ option_and_then as_u64 (as_number (view u))
+    → list_data (map view vs) ≡ list_data (string s ∷ number_data k ∷ number_data m ∷ number_data n ∷ [])
+name_and_three_numbers vs x y z u s k m n len first second third fourth name one two three = rw (
+  four_items vs x y z u len first second third fourth,
+  string_found (view x) s name,
+  number_found (view y) k one,
+  number_found (view z) m two,
+  number_found (view u) n three,
+) refl
 
 -- ---- lists of values that are spelled one by one
 

@@ -1,5 +1,8 @@
 pub mod DataLemmas
+pub mod DocumentLemmas
 pub mod EventLemmas
+pub mod SpelledLemmas
+pub mod SplitLemmas
 pub mod TextFaultLemmas
 pub mod TextLemmas
 pub mod ValueFaultLemmas

@@ -1,99 +1,67 @@
--- A text spells one list of events only, and has one fault only.
+-- A text has one fault only, and with one it spells no history.
 use Rattle.events.specs.declared.fault.HistoryFault.TheVariants as faults
-use Rattle.std.proofs.Common.{◌≡◌, ◌≢◌, ℕ, ◌<◌, ◌≤◌, ◌⊎◌, Bool, true, false, not, cond, List, [], ◌∷◌, ◌++◌, length, map, Option, Some, None, IsUtf8, inl, inr}
-use Rattle.std.proofs.Common.{subst, refl, sym, ap, ◌∙◌, arith}
+use Rattle.std.proofs.Common.{◌≡◌, ◌≢◌, ℕ, ◌<◌, ◌≤◌, Bool, true, false, not, nat_le, cond, List, ◌∷◌, ◌++◌, length}
+use Rattle.std.proofs.Common.{map, Option, Some, None, is_some, IsUtf8, inl, inr}
+use Rattle.std.proofs.Common.{subst, refl, sym, ap, ◌∙◌, arith, ⊎_elim, leb-false, true≢false, Result, Ok, Err, IfErr}
+use Rattle.std.specs.Prelude.{◌⊎◌, IsTrue}
+use Rattle.std.specs.List.{list_all}
+use Rattle.std.proofs.lemmas.Bool.{and_parts}
+use Rattle.std.proofs.lemmas.List.Folds.{list_all-append}
 use Rattle.std.proofs.lemmas.Option.{same_Some, none-some}
 use Rattle.serde_json.specs.Data.{Data}
 use Rattle.serde_json.specs.Read.{read}
 use Rattle.events.specs.declared.event.Event.{Event}
 use Rattle.events.specs.declared.fault.HistoryFault.{HistoryFault}
+use Rattle.events.specs.HistoryView.{HistoryView}
+use Rattle.events.specs.Limits.{start_limit}
+use Rattle.events.specs.Starts.{IsStart}
+use Rattle.events.specs.Histories.{is_shaped, AreHistoryEvents, IsHistory}
+use Rattle.events.specs.HistoryFaults.{is_above, fault_after}
 use Rattle.history_text.specs.Limits.{text_limit}
-use Rattle.events.specs.Histories.{is_shaped, IsHistory}
-use Rattle.events.specs.HistoryFaults.{fault_after}
-use Rattle.history_text.specs.Texts.{event_data, document, history_data, IsJson, Spells}
-use Rattle.history_text.specs.TextFaults.{SpellsNoEvent, IsFaultAfter, ShowsFault, IsTextFault}
-use Rattle.history_text.specs.ValueFaults.{ShowsFaultAmong, IsFaultAmong}
-use Rattle.history_text.specs.TextLaws.{SpellsOneHistory, HasOneFault, FaultySpellsNoHistory}
-use Rattle.history_text.proofs.DataLemmas.{list_data_injective}
-use Rattle.events.proofs.HistoryLemmas.{IsHistory-next}
-use Rattle.history_text.proofs.TextLemmas.{event_data_injective, events_injective}
+use Rattle.history_text.specs.Texts.{pair_data, event_data, document, start_data, start_pairs, may_stand, IsJson, Spells}
+use Rattle.history_text.specs.TextFaults.{IsPairFaultAfter, ShowsPairFault, SpellsNoEvent, IsFaultAfter, AreEventsOfText, ShowsEventFault}
+use Rattle.history_text.specs.TextFaults.{IsDocumentFault, IsTextFault}
+use Rattle.history_text.specs.ValueFaults.{IsPairFaultAmong, ShowsPairFaultAmong, ShowsFaultAmong, IsFaultAmong}
+use Rattle.history_text.specs.TextLaws.{HasOneFault, FaultySpellsNoHistory}
+use Rattle.events.proofs.HistoryLemmas.{AreHistoryEvents-next}
+use Rattle.events.proofs.StartLemmas.{IsStart-next}
+use Rattle.history_text.proofs.TextLemmas.{pair_data_injective, event_data_injective}
+use Rattle.history_text.proofs.SplitLemmas.{GoesOnWith, SplitsAlike, item_at, two_splits}
+use Rattle.history_text.proofs.DocumentLemmas.{same_value, document_injective, start_data_injective, start_values}
 
--- a text has one value only
-same_value : (text : List ℕ) (d e : Data) → IsJson text d → IsJson text e → d ≡ e
-same_value text d e a b = same_Some d e (sym a.value ∙ b.value)
+-- ---- the fault of a pair after others
 
--- a document has one list of items
-document_injective : (xs ys : List Data) → document xs ≡ document ys → xs ≡ ys
-document_injective xs ys h = list_data_injective xs ys (cc)
+two_tests : (b c : Bool) (x y : HistoryFault) → cond b (Some x) (cond (not c) (Some y) None) ≡ None → (b ≡ false) × (c ≡ true)
+two_tests true c x y h = cc
+two_tests false true x y h = (refl, refl)
+two_tests false false x y h = cc
 
--- a text with two lists of items has equal ones
-same_items : (text : List ℕ) (xs ys : List Data) → IsJson text (document xs) → IsJson text (document ys) → xs ≡ ys
-same_items text xs ys a b = document_injective xs ys (same_value text (document xs) (document ys) a b)
+-- no value inside a start is faulty
+no_pair_fault_inside : (pairs before : List (ℕ × ℕ)) (d : Data) (fault : HistoryFault) → GoesOnWith pair_data pairs before d → IsStart pairs
+    → IsPairFaultAfter before d fault → ⊥
+no_pair_fault_inside pairs before d fault h start shows =
+    let none = IsStart-next before h.more h.item (subst IsStart h.parts start) in
+    let tests = two_tests (nat_le start_limit (length before)) (is_above before h.item.0) faults.TooMany (faults.Start (length before)) none in
+    let room = leb-false start_limit (length before) tests.0 in
+    ⊎_elim (λ a. absurd (omega (arith, a.1, room))) (λ a. true≢false (sym tests.1 ∙ a.2 h.item h.spelled)) shows
 
--- a text spells one list of events only
-pub one_history : SpellsOneHistory
-one_history text a b first second = events_injective a b (same_items text (map event_data a) (map event_data b) first second)
+-- a value has one fault only after the same pairs
+same_pair_fault : (before : List (ℕ × ℕ)) (d : Data) (f g : HistoryFault) → IsPairFaultAfter before d f → IsPairFaultAfter before d g → f ≡ g
+same_pair_fault before d f g (inl a) (inl b) = a.0 ∙ sym b.0
+same_pair_fault before d f g (inl a) (inr b) = absurd (omega (arith, a.1, b.1))
+same_pair_fault before d f g (inr a) (inl b) = absurd (omega (arith, a.1, b.1))
+same_pair_fault before d f g (inr a) (inr b) = a.0 ∙ sym b.0
 
--- ---- where a list of values is split twice
+-- two faulty values of a start at two splits are one
+pairs_alike : (f g : HistoryFault) (before ahead : List (ℕ × ℕ)) (next after : Data) → IsPairFaultAfter before next f → IsPairFaultAfter ahead after g
+    → IsStart before → IsStart ahead → SplitsAlike pair_data before ahead next after → f ≡ g
+pairs_alike f g before ahead next after a b first second (inl h) =
+    same_pair_fault ahead after f g
+    (subst (λ (d : Data). IsPairFaultAfter ahead d f) h.1 (subst (λ (pairs : List (ℕ × ℕ)). IsPairFaultAfter pairs next f) h.0 a)) b
+pairs_alike f g before ahead next after a b first second (inr (inl h)) = absurd (no_pair_fault_inside before ahead after g h first b)
+pairs_alike f g before ahead next after a b first second (inr (inr h)) = absurd (no_pair_fault_inside ahead before next f h second a)
 
--- the list goes on with an event of this value, and more
-record GoesOnWith (events before : List Event) (d : Data) : Type 0 where
-  event : Event
-  more : List Event
-  parts : events ≡ before ++ event ∷ more
-  spelled : d ≡ event_data event
-
--- the same, with one event more in front
-goes_on : (e : Event) (events before : List Event) (d : Data) → GoesOnWith events before d → GoesOnWith (e ∷ events) (e ∷ before) d
-goes_on e events before d h = record { event = h.event; more = h.more; parts = ap (λ xs. e ∷ xs) h.parts; spelled = h.spelled }
-
--- values that spell events as a whole spell one at each place
-event_at : (before events : List Event) (next : Data) (rest : List Data) → map event_data before ++ next ∷ rest ≡ map event_data events
-    → GoesOnWith events before next
-event_at [] [] next rest h = cc
-event_at [] (e ∷ events) next rest h = record { event = e; more = events; parts = refl; spelled = (cc) }
-event_at (b ∷ before) [] next rest h = cc
-event_at (b ∷ before) (e ∷ events) next rest h =
-    let same : b ≡ e = event_data_injective b e (cc) in
-    subst (λ (x : Event). GoesOnWith (e ∷ events) (x ∷ before) next) (sym same) (goes_on e events before next (event_at before events next rest (cc)))
-
--- two splits of a list of values: at one place, or one further on than the other
-abbrev SplitsAlike : List Event → List Event → Data → Data → Type 0
-SplitsAlike before ahead next after = ((before ≡ ahead) × (next ≡ after)) ⊎ (GoesOnWith before ahead after ⊎ GoesOnWith ahead before next)
-
--- the same, with one event more in front
-splits_on : (e : Event) (before ahead : List Event) (next after : Data) → SplitsAlike before ahead next after → SplitsAlike (e ∷ before) (e ∷ ahead) next after
-splits_on e before ahead next after (inl h) = inl (ap (λ xs. e ∷ xs) h.0, h.1)
-splits_on e before ahead next after (inr (inl h)) = inr (inl (goes_on e before ahead after h))
-splits_on e before ahead next after (inr (inr h)) = inr (inr (goes_on e ahead before next h))
-
--- two splits of one list are alike
-two_splits : (before ahead : List Event) (next after : Data) (rest more : List Data)
-    → map event_data before ++ next ∷ rest ≡ map event_data ahead ++ after ∷ more → SplitsAlike before ahead next after
-two_splits [] [] next after rest more h = inl (refl, (cc))
-two_splits [] (a ∷ ahead) next after rest more h = inr (inr (record { event = a; more = ahead; parts = refl; spelled = (cc) }))
-two_splits (b ∷ before) [] next after rest more h = inr (inl (record { event = b; more = before; parts = refl; spelled = (cc) }))
-two_splits (b ∷ before) (a ∷ ahead) next after rest more h =
-    let same : b ≡ a = event_data_injective b a (cc) in
-    subst (λ (x : Event). SplitsAlike (x ∷ before) (a ∷ ahead) next after) (sym same)
-    (splits_on a before ahead next after (two_splits before ahead next after rest more (cc)))
-
--- ---- the fault of a value after others
-
--- a value with a fault spells no event, or one that shows the fault
-abbrev FaultCases : List Event → Data → HistoryFault → Type 0
-FaultCases before d fault =
-    ((fault ≡ faults.Shape (length before)) × SpellsNoEvent d) ⊎ ((e : Event) × (d ≡ event_data e) × (fault_after before e ≡ Some fault))
-
--- the two cases cover each fault
-fault_cases : (before : List Event) (d : Data) (fault : HistoryFault) → IsFaultAfter before d fault → FaultCases before d fault
-fault_cases before d faults.TooLong h = inr h
-fault_cases before d faults.NotJson h = inr h
-fault_cases before d faults.Version h = inr h
-fault_cases before d (faults.Shape at) h = inl (ap faults.Shape h.0, h.1)
-fault_cases before d faults.TooMany h = inr h
-fault_cases before d (faults.NotWellFormed at) h = inr h
-fault_cases before d faults.Memory h = inr h
+-- ---- the fault of an event after others
 
 -- the fault of an event without the range that it needs is its shape
 fault_of_unshaped : (before : List Event) (e : Event) (shaped : Bool) (fault : HistoryFault) → is_shaped e ≡ shaped → (shaped ≡ true → ⊥)
@@ -102,145 +70,245 @@ fault_of_unshaped before e true fault is not h = absurd (not refl)
 fault_of_unshaped before e false fault is not h = let shows : fault_after before e ≡ Some (faults.Shape (length before)) =
     rw is refl in same_Some fault (faults.Shape (length before)) (sym h ∙ shows)
 
--- a value that spells no event can show no other fault by one
-fault_of_no_event : (before : List Event) (d : Data) (e : Event) (fault : HistoryFault) → SpellsNoEvent d → d ≡ event_data e
-    → fault_after before e ≡ Some fault → fault ≡ faults.Shape (length before)
-fault_of_no_event before d e fault none spelled h = fault_of_unshaped before e (is_shaped e) fault refl (λ shaped. none e spelled shaped) h
-
--- two faults after the same events are the same, case by case
-same_fault_by_cases : (before : List Event) (d : Data) (f g : HistoryFault) → FaultCases before d f → FaultCases before d g → f ≡ g
-same_fault_by_cases before d f g (inl a) (inl b) = a.0 ∙ sym b.0
-same_fault_by_cases before d f g (inl a) (inr b) = a.0 ∙ sym (fault_of_no_event before d b.0 g a.1 b.1 b.2)
-same_fault_by_cases before d f g (inr a) (inl b) = fault_of_no_event before d a.0 f b.1 a.1 a.2 ∙ sym b.0
-same_fault_by_cases before d f g (inr a) (inr b) =
-    let same : a.0 ≡ b.0 = event_data_injective a.0 b.0 (sym a.1 ∙ b.1) in
-    same_Some f g (sym a.2 ∙ (ap (fault_after before) same ∙ b.2))
-
--- a value has one fault only after the same events
-same_fault : (before : List Event) (d : Data) (f g : HistoryFault) → IsFaultAfter before d f → IsFaultAfter before d g → f ≡ g
-same_fault before d f g a b = same_fault_by_cases before d f g (fault_cases before d f a) (fault_cases before d g b)
-
 -- an event that shows no fault has a range where it needs one
 shaped_by : (shaped : Bool) (x : HistoryFault) (y : Option HistoryFault) → cond (not shaped) (Some x) y ≡ None → shaped ≡ true
 shaped_by true x y h = refl
 shaped_by false x y h = cc
 
--- the value of an event that shows no fault has none
-no_fault_by_cases : (before : List Event) (e : Event) (d : Data) (fault : HistoryFault) → fault_after before e ≡ None → d ≡ event_data e
-    → FaultCases before d fault → ⊥
-no_fault_by_cases before e d fault none spelled (inl a) = a.1 e spelled (shaped_by (is_shaped e) (faults.Shape (length before)) _ none)
-no_fault_by_cases before e d fault none spelled (inr a) =
-    let same : a.0 ≡ e = event_data_injective a.0 e (sym a.1 ∙ spelled) in
-    none-some fault (sym none ∙ (ap (fault_after before) (sym same) ∙ a.2))
+module _ (has_start : Bool) where
+  -- a value that spells no event can show no other fault by one
+  fault_of_no_event : (before : List Event) (d : Data) (e : Event) (fault : HistoryFault) → SpellsNoEvent has_start d → d ≡ event_data e
+      → IsTrue (may_stand has_start e) → fault_after before e ≡ Some fault → fault ≡ faults.Shape (length before)
+  fault_of_no_event before d e fault none spelled standing h =
+      fault_of_unshaped before e (is_shaped e) fault refl (λ shaped. none e spelled shaped standing) h
 
--- no value inside a history is faulty
-no_fault_inside : (events before : List Event) (d : Data) (fault : HistoryFault) → GoesOnWith events before d → IsHistory events → IsFaultAfter before d fault
-    → ⊥
-no_fault_inside events before d fault h history shows =
-    no_fault_by_cases before h.event d fault (IsHistory-next before h.more h.event (subst IsHistory h.parts history)) h.spelled
-    (fault_cases before d fault shows)
+  -- a value has one fault only after the same events
+  same_fault : (before : List Event) (d : Data) (f g : HistoryFault) → IsFaultAfter has_start before d f → IsFaultAfter has_start before d g → f ≡ g
+  same_fault before d f g (inl a) (inl b) = a.0 ∙ sym b.0
+  same_fault before d f g (inl a) (inr b) = a.0 ∙ sym (fault_of_no_event before d b.0 g a.1 b.1 b.2 b.3)
+  same_fault before d f g (inr a) (inl b) = fault_of_no_event before d a.0 f b.1 a.1 a.2 a.3 ∙ sym b.0
+  same_fault before d f g (inr a) (inr b) =
+      let same : a.0 ≡ b.0 = event_data_injective a.0 b.0 (sym a.1 ∙ b.1) in
+      same_Some f g (sym a.3 ∙ (ap (fault_after before) same ∙ b.3))
+
+  -- each event may stand where all may
+  stands_at : (before more : List Event) (e : Event) → list_all (may_stand has_start) (before ++ e ∷ more) ≡ true → may_stand has_start e ≡ true
+  stands_at before more e h =
+      let back = (and_parts (list_all (may_stand has_start) before) (list_all (may_stand has_start) (e ∷ more))
+      (sym (list_all-append (may_stand has_start) before (e ∷ more)) ∙ h)).1 in
+      (and_parts (may_stand has_start e) (list_all (may_stand has_start) more) back).0
+
+  -- no value inside the events of a history is faulty
+  no_fault_inside : (events before : List Event) (d : Data) (fault : HistoryFault) → GoesOnWith event_data events before d → AreEventsOfText has_start events
+      → IsFaultAfter has_start before d fault → ⊥
+  no_fault_inside events before d fault h are shows =
+      let history = subst AreHistoryEvents h.parts are.history in
+      let standing = stands_at before h.more h.item (subst (λ (es : List Event). list_all (may_stand has_start) es ≡ true) h.parts are.standing) in
+      let none = AreHistoryEvents-next before h.more h.item history in
+      ⊎_elim (λ a. a.1 h.item h.spelled (shaped_by (is_shaped h.item) (faults.Shape (length before)) _ none) standing)
+      (λ a.
+      let same : a.0 ≡ h.item = event_data_injective a.0 h.item (sym a.1 ∙ h.spelled) in
+      none-some fault (sym none ∙ (ap (fault_after before) (sym same) ∙ a.3))) shows
+
+  -- two faulty values at two splits are one
+  events_alike : (f g : HistoryFault) (before ahead : List Event) (next after : Data) → IsFaultAfter has_start before next f
+      → IsFaultAfter has_start ahead after g
+      → AreEventsOfText has_start before → AreEventsOfText has_start ahead → SplitsAlike event_data before ahead next after → f ≡ g
+  events_alike f g before ahead next after a b first second (inl h) =
+      same_fault ahead after f g
+      (subst (λ (d : Data). IsFaultAfter has_start ahead d f) h.1 (subst (λ (events : List Event). IsFaultAfter has_start events next f) h.0 a)) b
+  events_alike f g before ahead next after a b first second (inr (inl h)) = absurd (no_fault_inside before ahead after g h first b)
+  events_alike f g before ahead next after a b first second (inr (inr h)) = absurd (no_fault_inside ahead before next f h second a)
+
+-- ---- the fault of a value
+
+-- a value with a faulty start has no start that a history may have
+not_start : (d : Data) (fault : HistoryFault) (start : Option (List (ℕ × ℕ))) (items : List Data) → ShowsPairFault d fault
+    → d ≡ document (start_data start) items
+    → IsStart (start_pairs start) → ⊥
+not_start d fault start items h is sound =
+    let docs = document_injective (Some (map pair_data h.before ++ h.next ∷ h.rest)) (start_data start) h.events items (sym h.parts ∙ is) in
+    let values = start_values start (map pair_data h.before ++ h.next ∷ h.rest) docs.0 in
+    no_pair_fault_inside (start_pairs start) h.before h.next fault (item_at pair_data pair_data_injective h.before (start_pairs start) h.next h.rest values)
+    sound
+    h.shows
+
+one_pair_fault : (d : Data) (f g : HistoryFault) → ShowsPairFault d f → ShowsPairFault d g → f ≡ g
+one_pair_fault d f g a b =
+    let docs = document_injective (Some (map pair_data a.before ++ a.next ∷ a.rest)) (Some (map pair_data b.before ++ b.next ∷ b.rest)) a.events b.events
+    (sym a.parts ∙ b.parts) in
+    pairs_alike f g a.before b.before a.next b.next a.shows b.shows a.start b.start
+    (two_splits pair_data pair_data_injective a.before b.before a.next b.next a.rest b.rest (same_Some _ _ docs.0))
+
+one_event_fault : (d : Data) (f g : HistoryFault) → ShowsEventFault d f → ShowsEventFault d g → f ≡ g
+one_event_fault d f g a b =
+    let docs = document_injective (start_data a.start) (start_data b.start) (map event_data a.before ++ a.next ∷ a.rest)
+    (map event_data b.before ++ b.next ∷ b.rest)
+    (sym a.parts ∙ b.parts) in
+    let same = ap (λ (s : Option (List (ℕ × ℕ))). is_some s) (start_data_injective a.start b.start docs.0) in
+    events_alike (is_some b.start) f g a.before b.before a.next b.next (subst (λ (has : Bool). IsFaultAfter has a.before a.next f) same a.shows) b.shows
+    (subst (λ (has : Bool). AreEventsOfText has a.before) same a.events) b.events
+    (two_splits event_data event_data_injective a.before b.before a.next b.next a.rest b.rest docs.1)
+
+-- what a fault says of a value: its top level, a pair, or an event
+data IsFaultyDocument (d : Data) : HistoryFault → Type 0 where
+  version : ((start : Option (List Data)) (events : List Data) → d ≡ document start events → ⊥) → IsFaultyDocument d faults.Version
+  pair : (fault : HistoryFault) → ShowsPairFault d fault → IsFaultyDocument d fault
+  event : (fault : HistoryFault) → ShowsEventFault d fault → IsFaultyDocument d fault
+
+one_document_fault : (d : Data) {f g : HistoryFault} → IsFaultyDocument d f → IsFaultyDocument d g → f ≡ g
+one_document_fault d (version none) (version none2) = refl
+one_document_fault d (version none) (pair g b) = absurd (none (Some (map pair_data b.before ++ b.next ∷ b.rest)) b.events b.parts)
+one_document_fault d (version none) (event g b) = absurd (none (start_data b.start) (map event_data b.before ++ b.next ∷ b.rest) b.parts)
+one_document_fault d (pair f a) (version none) = absurd (none (Some (map pair_data a.before ++ a.next ∷ a.rest)) a.events a.parts)
+one_document_fault d (pair f a) (pair g b) = one_pair_fault d f g a b
+one_document_fault d (pair f a) (event g b) = absurd (not_start d f b.start _ a b.parts b.is_start)
+one_document_fault d (event f a) (version none) = absurd (none (start_data a.start) (map event_data a.before ++ a.next ∷ a.rest) a.parts)
+one_document_fault d (event f a) (pair g b) = absurd (not_start d g a.start _ b a.parts a.is_start)
+one_document_fault d (event f a) (event g b) = one_event_fault d f g a b
+
+shown_fault : (d : Data) (fault : HistoryFault) → ShowsPairFault d fault ⊎ ShowsEventFault d fault → IsFaultyDocument d fault
+shown_fault d fault (inl h) = pair fault h
+shown_fault d fault (inr h) = event fault h
 
 -- ---- the fault of a text
 
--- a text with a faulty event spells no history
-faulty_spells_none : (text : List ℕ) (fault : HistoryFault) (events : List Event) → ShowsFault text fault → Spells text events → IsHistory events → ⊥
-faulty_spells_none text fault events h spelled history =
-    let items = same_items text (map event_data h.before ++ h.next ∷ h.rest) (map event_data events) h.parts spelled in
-    no_fault_inside events h.before h.next fault (event_at h.before events h.next h.rest items) history h.shows
-
--- a text with a fault spells no history
-pub no_history : FaultySpellsNoHistory
-no_history text faults.TooLong events h other spelled history = omega (arith, h, spelled.fits)
-no_history text faults.NotJson events h other spelled history = h.1 (history_data events) spelled.utf8 spelled.value
-no_history text faults.Version events h other spelled history = h.2 (map event_data events) (same_value text h.0 (history_data events) h.1 spelled)
-no_history text (faults.Shape at) events h other spelled history = faulty_spells_none text (faults.Shape at) events h spelled history
-no_history text faults.TooMany events h other spelled history = faulty_spells_none text faults.TooMany events h spelled history
-no_history text (faults.NotWellFormed at) events h other spelled history = faulty_spells_none text (faults.NotWellFormed at) events h spelled history
-no_history text faults.Memory events h other spelled history = other refl
-
--- two faulty values at two splits are one
-shown_alike : (f g : HistoryFault) (before ahead : List Event) (next after : Data) → IsFaultAfter before next f → IsFaultAfter ahead after g → IsHistory before
-    → IsHistory ahead → SplitsAlike before ahead next after → f ≡ g
-shown_alike f g before ahead next after a b first second (inl h) =
-    same_fault ahead after f g (subst (λ (d : Data). IsFaultAfter ahead d f) h.1 (subst (λ (events : List Event). IsFaultAfter events next f) h.0 a)) b
-shown_alike f g before ahead next after a b first second (inr (inl h)) = absurd (no_fault_inside before ahead after g h first b)
-shown_alike f g before ahead next after a b first second (inr (inr h)) = absurd (no_fault_inside ahead before next f h second a)
-
--- a text shows one fault of an event only
-one_shown : (text : List ℕ) (f g : HistoryFault) → ShowsFault text f → ShowsFault text g → f ≡ g
-one_shown text f g a b =
-    let items = same_items text (map event_data a.before ++ a.next ∷ a.rest) (map event_data b.before ++ b.next ∷ b.rest) a.parts b.parts in
-    shown_alike f g a.before b.before a.next b.next a.shows b.shows a.history b.history (two_splits a.before b.before a.next b.next a.rest b.rest items)
-
--- what a fault says of a text: its length, that it is no JSON, its top level, or an event
+-- what a fault says of a text: its length, that it is no JSON, or a fault of its value
 data IsFaulty (text : List ℕ) : HistoryFault → Type 0 where
   too_long : text_limit < length text → IsFaulty text faults.TooLong
   not_json : length text ≤ text_limit → ((d : Data) → IsUtf8 text → read text ≡ Some d → ⊥) → IsFaulty text faults.NotJson
-  version : (d : Data) → IsJson text d → ((items : List Data) → d ≡ document items → ⊥) → IsFaulty text faults.Version
-  shows : (fault : HistoryFault) → ShowsFault text fault → IsFaulty text fault
+  faulty : (fault : HistoryFault) (d : Data) → IsJson text d → IsFaultyDocument d fault → IsFaulty text fault
 
 -- each fault but want of memory says one of these
 IsFaulty-from_fault : (text : List ℕ) (fault : HistoryFault) → IsTextFault text fault → fault ≢ faults.Memory → IsFaulty text fault
 IsFaulty-from_fault text faults.TooLong h other = too_long h
 IsFaulty-from_fault text faults.NotJson h other = not_json h.0 h.1
-IsFaulty-from_fault text faults.Version h other = version h.0 h.1 h.2
-IsFaulty-from_fault text (faults.Shape at) h other = shows (faults.Shape at) h
-IsFaulty-from_fault text faults.TooMany h other = shows faults.TooMany h
-IsFaulty-from_fault text (faults.NotWellFormed at) h other = shows (faults.NotWellFormed at) h
+IsFaulty-from_fault text faults.Version h other = faulty faults.Version h.0 h.1 (version h.2)
+IsFaulty-from_fault text (faults.Shape at) h other = faulty (faults.Shape at) h.0 h.1 (shown_fault h.0 (faults.Shape at) h.2)
+IsFaulty-from_fault text faults.TooMany h other = faulty faults.TooMany h.0 h.1 (shown_fault h.0 faults.TooMany h.2)
+IsFaulty-from_fault text (faults.NotWellFormed at) h other = faulty (faults.NotWellFormed at) h.0 h.1 (shown_fault h.0 (faults.NotWellFormed at) h.2)
 IsFaulty-from_fault text faults.Memory h other = absurd (other refl)
+IsFaulty-from_fault text (faults.Start at) h other = faulty (faults.Start at) h.0 h.1 (shown_fault h.0 (faults.Start at) h.2)
 
 -- what two faults say of one text agrees only where they are the same
 one_faulty : (text : List ℕ) {f g : HistoryFault} → IsFaulty text f → IsFaulty text g → f ≡ g
 one_faulty text (too_long a) (too_long b) = refl
 one_faulty text (too_long a) (not_json short none) = absurd (omega arith)
-one_faulty text (too_long a) (version d is other) = absurd (omega (arith, is.fits))
-one_faulty text (too_long a) (shows g b) = absurd (omega (arith, b.parts.fits))
+one_faulty text (too_long a) (faulty g d is b) = absurd (omega (arith, is.fits))
 one_faulty text (not_json short none) (too_long b) = absurd (omega arith)
 one_faulty text (not_json short none) (not_json short2 none2) = refl
-one_faulty text (not_json short none) (version d is other) = absurd (none d is.utf8 is.value)
-one_faulty text (not_json short none) (shows g b) = absurd (none _ b.parts.utf8 b.parts.value)
-one_faulty text (version d is other) (too_long b) = absurd (omega (arith, is.fits))
-one_faulty text (version d is other) (not_json short none) = absurd (none d is.utf8 is.value)
-one_faulty text (version d is other) (version d2 is2 no2) = refl
-one_faulty text (version d is other) (shows g b) = absurd (other (map event_data b.before ++ b.next ∷ b.rest) (same_value text d _ is b.parts))
-one_faulty text (shows f a) (too_long b) = absurd (omega (arith, a.parts.fits))
-one_faulty text (shows f a) (not_json short none) = absurd (none _ a.parts.utf8 a.parts.value)
-one_faulty text (shows f a) (version d is other) = absurd (other (map event_data a.before ++ a.next ∷ a.rest) (same_value text d _ is a.parts))
-one_faulty text (shows f a) (shows g b) = one_shown text f g a b
+one_faulty text (not_json short none) (faulty g d is b) = absurd (none d is.utf8 is.value)
+one_faulty text (faulty f d is a) (too_long b) = absurd (omega (arith, is.fits))
+one_faulty text (faulty f d is a) (not_json short none) = absurd (none d is.utf8 is.value)
+one_faulty text (faulty f d is a) (faulty g e is2 b) =
+    one_document_fault e (subst (λ (x : Data). IsFaultyDocument x f) (same_value text d e is is2) a) b
 
 -- a text has one fault only
 pub one_fault : HasOneFault
 one_fault text f g a b other_f other_g = one_faulty text (IsFaulty-from_fault text f a other_f) (IsFaulty-from_fault text g b other_g)
 
+-- a value that spells a history has no fault
+faulty_spells_none : (text : List ℕ) (d : Data) (history : HistoryView) {fault : HistoryFault} → IsJson text d → IsFaultyDocument d fault → Spells text history
+    → IsHistory history → ⊥
+faulty_spells_none text d history json (version none) spelled sound = none _ _ (same_value text d _ json spelled.json)
+faulty_spells_none text d history json (pair f a) spelled sound =
+    not_start d f spelled.start _ a (same_value text d _ json spelled.json) (subst IsStart spelled.starts sound.start)
+faulty_spells_none text d history json (event f a) spelled sound =
+    let docs = document_injective (start_data a.start) (start_data spelled.start) (map event_data a.before ++ a.next ∷ a.rest) (map event_data history.events)
+    (sym a.parts ∙ same_value text d _ json spelled.json) in
+    let same = ap (λ (s : Option (List (ℕ × ℕ))). is_some s) (start_data_injective a.start spelled.start docs.0) in
+    no_fault_inside (is_some spelled.start) history.events a.before a.next f
+    (item_at event_data event_data_injective a.before history.events a.next a.rest docs.1)
+    (record { history = sound.events; standing = spelled.standing }) (subst (λ (has : Bool). IsFaultAfter has a.before a.next f) same a.shows)
+
+-- a text with a fault spells no history
+not_spelled : (text : List ℕ) {f : HistoryFault} (history : HistoryView) → IsFaulty text f → Spells text history → IsHistory history → ⊥
+not_spelled text history (too_long a) spelled sound = omega (arith, spelled.json.fits)
+not_spelled text history (not_json short none) spelled sound = none _ spelled.json.utf8 spelled.json.value
+not_spelled text history (faulty f d is a) spelled sound = faulty_spells_none text d history is a spelled sound
+
+pub no_history : FaultySpellsNoHistory
+no_history text f history h other spelled sound = not_spelled text history (IsFaulty-from_fault text f h other) spelled sound
+
 -- where a text spells a history, only want of memory refuses it
-pub memory_alone : (text : List ℕ) (events : List Event) (fault : HistoryFault) → Spells text events → IsHistory events → IsTextFault text fault
+pub memory_alone : (text : List ℕ) (history : HistoryView) (fault : HistoryFault) → Spells text history → IsHistory history → IsTextFault text fault
     → fault ≡ faults.Memory
-memory_alone text events faults.TooLong spelled history h = absurd (no_history text faults.TooLong events h (λ e. cc) spelled history)
-memory_alone text events faults.NotJson spelled history h = absurd (no_history text faults.NotJson events h (λ e. cc) spelled history)
-memory_alone text events faults.Version spelled history h = absurd (no_history text faults.Version events h (λ e. cc) spelled history)
-memory_alone text events (faults.Shape at) spelled history h = absurd (no_history text (faults.Shape at) events h (λ e. cc) spelled history)
-memory_alone text events faults.TooMany spelled history h = absurd (no_history text faults.TooMany events h (λ e. cc) spelled history)
-memory_alone text events (faults.NotWellFormed at) spelled history h = absurd (no_history text (faults.NotWellFormed at) events h (λ e. cc) spelled history)
-memory_alone text events faults.Memory spelled history h = refl
+memory_alone text history faults.TooLong spelled sound h = absurd (no_history text faults.TooLong history h (λ e. cc) spelled sound)
+memory_alone text history faults.NotJson spelled sound h = absurd (no_history text faults.NotJson history h (λ e. cc) spelled sound)
+memory_alone text history faults.Version spelled sound h = absurd (no_history text faults.Version history h (λ e. cc) spelled sound)
+memory_alone text history (faults.Shape at) spelled sound h = absurd (no_history text (faults.Shape at) history h (λ e. cc) spelled sound)
+memory_alone text history faults.TooMany spelled sound h = absurd (no_history text faults.TooMany history h (λ e. cc) spelled sound)
+memory_alone text history (faults.NotWellFormed at) spelled sound h = absurd (no_history text (faults.NotWellFormed at) history h (λ e. cc) spelled sound)
+memory_alone text history faults.Memory spelled sound h = refl
+memory_alone text history (faults.Start at) spelled sound h = absurd (no_history text (faults.Start at) history h (λ e. cc) spelled sound)
 
--- the first faulty value among the items of a text
-shown_in_text : (text : List ℕ) (items : List Data) (fault : HistoryFault) → IsJson text (document items) → ShowsFaultAmong items fault → ShowsFault text fault
-shown_in_text text items fault json h = record {
-  before = h.before;
-  next = h.next;
-  rest = h.rest;
-  parts = subst (λ (xs : List Data). IsJson text (document xs)) h.parts json;
-  history = h.history;
-  shows = h.shows;
-}
+-- ---- from the values that were read
 
--- a fault among the items of a text is one of the text
-pub fault_of_items : (text : List ℕ) (items : List Data) (fault : HistoryFault) → IsJson text (document items) → IsFaultAmong items fault
-    → IsTextFault text fault
-fault_of_items text items faults.TooLong json h = absurd h
-fault_of_items text items faults.NotJson json h = absurd h
-fault_of_items text items faults.Version json h = absurd h
-fault_of_items text items (faults.Shape at) json h = shown_in_text text items (faults.Shape at) json h
-fault_of_items text items faults.TooMany json h = shown_in_text text items faults.TooMany json h
-fault_of_items text items (faults.NotWellFormed at) json h = shown_in_text text items (faults.NotWellFormed at) json h
-fault_of_items text items faults.Memory json h = tt
+-- a fault of its value is one of the text
+pub fault_of_document : (text : List ℕ) (d : Data) (fault : HistoryFault) → IsJson text d → IsDocumentFault d fault → IsTextFault text fault
+fault_of_document text d faults.TooLong json h = absurd h
+fault_of_document text d faults.NotJson json h = absurd h
+fault_of_document text d faults.Version json h = (d, json, h)
+fault_of_document text d (faults.Shape at) json h = (d, json, h)
+fault_of_document text d faults.TooMany json h = (d, json, h)
+fault_of_document text d (faults.NotWellFormed at) json h = (d, json, h)
+fault_of_document text d faults.Memory json h = tt
+fault_of_document text d (faults.Start at) json h = (d, json, h)
+
+-- a fault among the values of the start is one of the document
+pub fault_of_start : (d : Data) (items events : List Data) (fault : HistoryFault) → d ≡ document (Some items) events → IsPairFaultAmong items fault
+    → IsDocumentFault d fault
+fault_of_start d items events fault is h = by_fault fault h
+  where
+    shown : (g : HistoryFault) → ShowsPairFaultAmong items g → ShowsPairFault d g
+    shown g k = record {
+      before = k.before;
+      next = k.next;
+      rest = k.rest;
+      events = events;
+      parts = is ∙ ap (λ (xs : List Data). document (Some xs) events) k.parts;
+      start = k.start;
+      shows = k.shows;
+    }
+
+    by_fault : (g : HistoryFault) → IsPairFaultAmong items g → IsDocumentFault d g
+    by_fault faults.TooLong k = ⊎_elim (λ a. let e = a.0 in cc) (λ a. let e = a.0 in cc) k.shows
+    by_fault faults.NotJson k = ⊎_elim (λ a. let e = a.0 in cc) (λ a. let e = a.0 in cc) k.shows
+    by_fault faults.Version k = λ start more same. ⊎_elim (λ a. let e = a.0 in cc) (λ a. let e = a.0 in cc) k.shows
+    by_fault (faults.Shape at) k = inl (shown (faults.Shape at) k)
+    by_fault faults.TooMany k = inl (shown faults.TooMany k)
+    by_fault (faults.NotWellFormed at) k = inl (shown (faults.NotWellFormed at) k)
+    by_fault faults.Memory k = tt
+    by_fault (faults.Start at) k = inl (shown (faults.Start at) k)
+
+-- and one among the values of the events, where nothing is wrong with the start
+pub fault_of_events : (d : Data) (start : Option (List (ℕ × ℕ))) (items : List Data) (fault : HistoryFault) → d ≡ document (start_data start) items
+    → IsStart (start_pairs start) → IsFaultAmong (is_some start) items fault → IsDocumentFault d fault
+fault_of_events d start items fault is sound h = by_fault fault h
+  where
+    shown : (g : HistoryFault) → ShowsFaultAmong (is_some start) items g → ShowsEventFault d g
+    shown g k = record {
+      start = start;
+      before = k.before;
+      next = k.next;
+      rest = k.rest;
+      parts = is ∙ ap (λ (xs : List Data). document (start_data start) xs) k.parts;
+      is_start = sound;
+      events = k.events;
+      shows = k.shows;
+    }
+
+    by_fault : (g : HistoryFault) → IsFaultAmong (is_some start) items g → IsDocumentFault d g
+    by_fault faults.TooLong k = k
+    by_fault faults.NotJson k = k
+    by_fault faults.Version k = absurd k
+    by_fault (faults.Shape at) k = inr (shown (faults.Shape at) k)
+    by_fault faults.TooMany k = inr (shown faults.TooMany k)
+    by_fault (faults.NotWellFormed at) k = inr (shown (faults.NotWellFormed at) k)
+    by_fault faults.Memory k = tt
+    by_fault (faults.Start at) k = absurd k
+
+pub refused_with : (d : Data) (start : Option (List (ℕ × ℕ))) (items : List Data) (r : Result HistoryView HistoryFault)
+    → d ≡ document (start_data start) items → IsStart (start_pairs start) → IfErr r (IsFaultAmong (is_some start) items) → IfErr r (IsDocumentFault d)
+refused_with d start items (Ok h) is sound refused = tt
+refused_with d start items (Err fault) is sound refused = fault_of_events d start items fault is sound refused

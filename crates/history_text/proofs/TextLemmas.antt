@@ -3,7 +3,7 @@ use Rattle.events.specs.declared.event.Reply.TheVariants as replies
 use Rattle.std.proofs.Common.{◌≡◌, ℕ, List, [], ◌∷◌, map, codes, get_or, refl, sym, ap, arith}
 use Rattle.serde_json.specs.Data.{Data}
 use Rattle.events.specs.declared.event.Call.{Call}
-use Rattle.events.specs.declared.event.Call.TheVariants.{Get, Insert, Remove, Scan}
+use Rattle.events.specs.declared.event.Call.TheVariants.{Get, Insert, Remove, Scan, Replace}
 use Rattle.events.specs.declared.event.Reply.{Reply}
 use Rattle.events.specs.declared.event.Event.{Event}
 use Rattle.events.specs.declared.event.Event.TheVariants.{Invoke, Answer}
@@ -17,21 +17,30 @@ call_data_injective (Get key) (Get key2) h = cc
 call_data_injective (Get key) (Insert key2 value2) h = cc
 call_data_injective (Get key) (Remove key2) h = cc
 call_data_injective (Get key) (Scan low2 high2) h = cc
+call_data_injective (Get key) (Replace key2 old2 new2) h = cc
 call_data_injective (Insert key value) (Get key2) h = cc
 call_data_injective (Insert key value) (Insert key2 value2) h = cc
 call_data_injective (Insert key value) (Remove key2) h = cc
 call_data_injective (Insert key value) (Scan low2 high2) h = cc
+call_data_injective (Insert key value) (Replace key2 old2 new2) h = cc
 call_data_injective (Remove key) (Get key2) h = cc
 call_data_injective (Remove key) (Insert key2 value2) h = cc
 call_data_injective (Remove key) (Remove key2) h = cc
 call_data_injective (Remove key) (Scan low2 high2) h = cc
+call_data_injective (Remove key) (Replace key2 old2 new2) h = cc
 call_data_injective (Scan low high) (Get key2) h = cc
 call_data_injective (Scan low high) (Insert key2 value2) h = cc
 call_data_injective (Scan low high) (Remove key2) h = cc
 call_data_injective (Scan low high) (Scan low2 high2) h = cc
+call_data_injective (Scan low high) (Replace key2 old2 new2) h = cc
+call_data_injective (Replace key old new) (Get key2) h = cc
+call_data_injective (Replace key old new) (Insert key2 value2) h = cc
+call_data_injective (Replace key old new) (Remove key2) h = cc
+call_data_injective (Replace key old new) (Scan low2 high2) h = cc
+call_data_injective (Replace key old new) (Replace key2 old2 new2) h = cc
 
 -- a list is determined by its images under a function that keeps elements apart
-map_injective : {A B : Type 0} (f : A → B) → ((x y : A) → f x ≡ f y → x ≡ y) → (xs ys : List A) → map f xs ≡ map f ys → xs ≡ ys
+pub map_injective : {A B : Type 0} (f : A → B) → ((x y : A) → f x ≡ f y → x ≡ y) → (xs ys : List A) → map f xs ≡ map f ys → xs ≡ ys
 map_injective f apart [] [] h = refl
 map_injective f apart [] (y ∷ ys) h = cc
 map_injective f apart (x ∷ xs) [] h = cc
@@ -41,7 +50,7 @@ map_injective f apart (x ∷ xs) (y ∷ ys) h =
     cc
 
 -- a value spells one pair only
-pair_data_injective : (a b : ℕ × ℕ) → pair_data a ≡ pair_data b → a ≡ b
+pub pair_data_injective : (a b : ℕ × ℕ) → pair_data a ≡ pair_data b → a ≡ b
 pair_data_injective (k, v) (l, w) h = cc
 
 -- a value spells one reply only
@@ -82,6 +91,10 @@ event_data_injective (Answer p reply) (Invoke q call2) h = absurd (kinds_differ 
 event_data_injective (Answer p reply) (Answer q reply2) h =
     let same : reply ≡ reply2 = reply_data_injective reply reply2 (cc) in
     cc
+
+-- values spell one list of pairs only
+pub pairs_injective : (a b : List (ℕ × ℕ)) → map pair_data a ≡ map pair_data b → a ≡ b
+pairs_injective a b h = map_injective pair_data pair_data_injective a b h
 
 -- values spell one list of events only
 pub events_injective : (a b : List Event) → map event_data a ≡ map event_data b → a ≡ b

@@ -1,7 +1,9 @@
--- The first faulty value of a list: it spells no event, or one that may not follow those before it.
+-- The first faulty value of a list: it spells no pair or event, or one that may not follow those before it.
 use Rattle.events.specs.declared.fault.HistoryFault.TheVariants as faults
-use Rattle.std.proofs.Common.{◌≡◌, ℕ, ◌+◌, ◌<◌, Bool, true, false, not, ◌||◌, cond, List, ◌∷◌, ◌++◌, length, map, take, drop, get_or, Some, None, true≢false}
-use Rattle.std.proofs.Common.{subst, refl, sym, ap, ◌∙◌, arith}
+use Rattle.std.proofs.Common.{◌≡◌, ℕ, ◌+◌, ◌<◌, Bool, true, false, not, ◌||◌, nat_le, cond, List, ◌∷◌, ◌++◌, length, map, take, drop, get_or, Some, None}
+use Rattle.std.proofs.Common.{subst, refl, sym, ap, ◌∙◌, arith, inl, inr, leb-false}
+use Rattle.std.specs.Prelude.{IsTrue}
+use Rattle.std.proofs.lemmas.Bool.{leb-true}
 use Rattle.std.proofs.lemmas.List.{map-append, length-map, length-take-le}
 use Rattle.std.proofs.lemmas.Option.{same_Some}
 use Rattle.serde_json.specs.Data.{Data}
@@ -9,46 +11,102 @@ use Rattle.serde_json.specs.View.{view}
 use Rattle.serde_json.specs.declared.value.Value.{Value}
 use Rattle.events.specs.declared.event.Event.{Event}
 use Rattle.events.specs.declared.fault.HistoryFault.{HistoryFault}
+use Rattle.events.specs.Limits.{start_limit}
+use Rattle.events.specs.Starts.{IsStart}
 use Rattle.events.specs.Events.{process_of}
-use Rattle.events.specs.Histories.{is_shaped, is_small, call_count, IsHistory}
-use Rattle.events.specs.HistoryFaults.{is_out_of_turn, is_call_too_many, has_open_call, fault_after, IsRefusedAfter}
-use Rattle.history_text.specs.Texts.{event_data}
-use Rattle.history_text.specs.TextFaults.{SpellsNoEvent}
-use Rattle.history_text.specs.ValueFaults.{IsValueFault, IsFaultAmong}
+use Rattle.events.specs.Histories.{is_shaped, is_small, call_count}
+use Rattle.events.specs.HistoryFaults.{is_out_of_turn, is_call_too_many, has_open_call, fault_after, IsRefusedAfter, is_above, pair_fault_after}
+use Rattle.events.specs.HistoryFaults.{IsPairRefusedAfter}
+use Rattle.history_text.specs.Texts.{pair_data, event_data, may_stand}
+use Rattle.history_text.specs.TextFaults.{IsPairFaultAfter, AreEventsOfText}
+use Rattle.history_text.specs.ValueFaults.{IsValueFault, IsPairValueFault, ShowsPairFaultAmong, IsPairFaultAmong, ShowsFaultAmong, IsFaultAmong}
 use Rattle.list_laws.proofs.Places.{parts_at}
-use Rattle.history_text.proofs.TextLemmas.{event_data_injective}
+use Rattle.history_text.proofs.TextLemmas.{pair_data_injective}
 
--- where the values before a place spell events, there are as many events
-pub length_before : (vs : List Value) (before : List Event) (i : ℕ) → i < length vs → map view (take i vs) ≡ map event_data before → length before ≡ i
-length_before vs before i within spelled =
-    omega (arith, length-map (take i vs) view, length-map before event_data, ap length spelled, length-take-le i vs (omega arith))
+module _ {A : Type 0} (f : A → Data) where
+  -- where the values before a place spell items, there are as many items
+  pub length_before : (vs : List Value) (before : List A) (i : ℕ) → i < length vs → map view (take i vs) ≡ map f before → length before ≡ i
+  length_before vs before i within spelled =
+      omega (arith, length-map (take i vs) view, length-map before f, ap length spelled, length-take-le i vs (omega arith))
 
--- the values are those of the events, the value at the place, and the rest
-pub values_at : (vs : List Value) (before : List Event) (i : ℕ) (v : Value) → i < length vs → v ≡ get_or vs i v → map view (take i vs) ≡ map event_data before
-    → map view vs ≡ map event_data before ++ view v ∷ map view (drop (i + 1) vs)
-values_at vs before i v within here spelled =
-    ap (map view) (parts_at vs i v within here)
-    ∙ (map-append view (take i vs) (v ∷ drop (i + 1) vs) ∙ ap (λ xs. xs ++ view v ∷ map view (drop (i + 1) vs)) spelled)
+  -- the values are those of the items, the value at the place, and the rest
+  pub values_at : (vs : List Value) (before : List A) (i : ℕ) (v : Value) → i < length vs → v ≡ get_or vs i v → map view (take i vs) ≡ map f before
+      → map view vs ≡ map f before ++ view v ∷ map view (drop (i + 1) vs)
+  values_at vs before i v within here spelled =
+      ap (map view) (parts_at vs i v within here)
+      ∙ (map-append view (take i vs) (v ∷ drop (i + 1) vs) ∙ ap (λ xs. xs ++ view v ∷ map view (drop (i + 1) vs)) spelled)
+
+-- ---- pairs
 
 -- a value that is refused by itself is faulty wherever it stands
-pub fault_alone : (before : List Event) (d : Data) (fault : HistoryFault) → IsValueFault (length before) d fault → (rest items : List Data)
-    → items ≡ map event_data before ++ d ∷ rest → IsHistory before
-    → IsFaultAmong items fault
-fault_alone before d faults.TooLong h rest items parts history = h
-fault_alone before d faults.NotJson h rest items parts history = h
-fault_alone before d faults.Version h rest items parts history = h
-fault_alone before d (faults.Shape at) h rest items parts history =
-    record { before = before; next = d; rest = rest; parts = parts; history = history; shows = h }
-fault_alone before d faults.TooMany h rest items parts history = record {
+pub pair_fault_alone : (before : List (ℕ × ℕ)) (d : Data) (fault : HistoryFault) → IsPairValueFault (length before) d fault → (rest items : List Data)
+    → items ≡ map pair_data before ++ d ∷ rest → IsStart before → IsPairFaultAmong items fault
+pair_fault_alone before d faults.TooLong h rest items parts start = absurd h
+pair_fault_alone before d faults.NotJson h rest items parts start = absurd h
+pair_fault_alone before d faults.Version h rest items parts start = absurd h
+pair_fault_alone before d (faults.Shape at) h rest items parts start = absurd h
+pair_fault_alone before d faults.TooMany h rest items parts start =
+    record { before = before; next = d; rest = rest; parts = parts; start = start; shows = inl (refl, h) }
+pair_fault_alone before d (faults.NotWellFormed at) h rest items parts start = absurd h
+pair_fault_alone before d faults.Memory h rest items parts start = tt
+pair_fault_alone before d (faults.Start at) h rest items parts start = record {
   before = before;
   next = d;
   rest = rest;
   parts = parts;
-  history = history;
-  shows = (h.0, h.1, rw (h.2, h.3) refl);
+  start = start;
+  shows = inr (ap faults.Start h.0, h.1, λ pair spelled. absurd (h.2 pair spelled));
 }
-fault_alone before d (faults.NotWellFormed at) h rest items parts history = absurd h
-fault_alone before d faults.Memory h rest items parts history = tt
+
+-- a value whose pair may not follow those before it is faulty there
+pair_fault_shown : (before : List (ℕ × ℕ)) (pair : ℕ × ℕ) (d : Data) (fault : HistoryFault) → pair_fault_after before pair ≡ Some fault → d ≡ pair_data pair
+    → IsPairFaultAfter before d fault
+pair_fault_shown before pair d fault h is = by_tests (nat_le start_limit (length before)) refl (is_above before pair.0) refl h
+  where
+    by_tests : (b : Bool) → nat_le start_limit (length before) ≡ b → (c : Bool) → is_above before pair.0 ≡ c
+        → cond b (Some faults.TooMany) (cond (not c) (Some (faults.Start (length before))) None) ≡ Some fault → IsPairFaultAfter before d fault
+    by_tests true full c above shown = inl (sym (same_Some faults.TooMany fault shown), leb-true start_limit (length before) full)
+    by_tests false room false not_above shown = inr (
+      sym (same_Some (faults.Start (length before)) fault shown),
+      leb-false start_limit (length before) room,
+      λ other spelled. subst (λ (p : ℕ × ℕ). is_above before p.0 ≡ false) (pair_data_injective pair other (sym is ∙ spelled)) not_above,
+    )
+    by_tests false room true above shown = cc
+
+-- a value whose pair was refused after those before it is faulty there, unless memory ran out
+pub pair_fault_on_taking : (before : List (ℕ × ℕ)) (pair : ℕ × ℕ) (d : Data) (fault : HistoryFault) (rest items : List Data)
+    → IsPairRefusedAfter before pair fault → d ≡ pair_data pair → items ≡ map pair_data before ++ d ∷ rest → IsStart before → IsPairFaultAmong items fault
+pair_fault_on_taking before pair d fault rest items h is parts start = by_fault fault h
+  where
+    shown : (g : HistoryFault) → pair_fault_after before pair ≡ Some g → ShowsPairFaultAmong items g
+    shown g k = record { before = before; next = d; rest = rest; parts = parts; start = start; shows = pair_fault_shown before pair d g k is }
+
+    by_fault : (g : HistoryFault) → IsPairRefusedAfter before pair g → IsPairFaultAmong items g
+    by_fault faults.TooLong k = shown faults.TooLong k
+    by_fault faults.NotJson k = shown faults.NotJson k
+    by_fault faults.Version k = shown faults.Version k
+    by_fault (faults.Shape at) k = shown (faults.Shape at) k
+    by_fault faults.TooMany k = shown faults.TooMany k
+    by_fault (faults.NotWellFormed at) k = shown (faults.NotWellFormed at) k
+    by_fault faults.Memory k = tt
+    by_fault (faults.Start at) k = shown (faults.Start at) k
+
+-- ---- events
+
+-- a value that is refused by itself is faulty wherever it stands
+pub fault_alone : (has_start : Bool) (before : List Event) (d : Data) (fault : HistoryFault) → IsValueFault has_start (length before) d fault
+    → (rest items : List Data) → items ≡ map event_data before ++ d ∷ rest → AreEventsOfText has_start before
+    → IsFaultAmong has_start items fault
+fault_alone has_start before d faults.TooLong h rest items parts events = h
+fault_alone has_start before d faults.NotJson h rest items parts events = h
+fault_alone has_start before d faults.Version h rest items parts events = h
+fault_alone has_start before d (faults.Shape at) h rest items parts events =
+    record { before = before; next = d; rest = rest; parts = parts; events = events; shows = inl (ap faults.Shape h.0, h.1) }
+fault_alone has_start before d faults.TooMany h rest items parts events =
+    record { before = before; next = d; rest = rest; parts = parts; events = events; shows = inr (h.0, h.1, h.4, rw (h.2, h.3) refl) }
+fault_alone has_start before d (faults.NotWellFormed at) h rest items parts events = absurd h
+fault_alone has_start before d faults.Memory h rest items parts events = tt
+fault_alone has_start before d (faults.Start at) h rest items parts events = h
 
 -- which fault an event shows at a place, by whether it has a range where it needs one
 abbrev IsFaultBy : ℕ → Bool → HistoryFault → Type 0
@@ -74,43 +132,21 @@ IsFaultBy-fault_after before e fault h =
     three_faults (is_shaped e) (is_small e) (is_call_too_many (call_count before) e) (is_out_of_turn (has_open_call (process_of e) before) e)
     (length before) fault h
 
--- an event with no range where it needs one is no event of its value
-SpellsNoEvent-unshaped : (e : Event) (d : Data) → d ≡ event_data e → is_shaped e ≡ false → SpellsNoEvent d
-SpellsNoEvent-unshaped e d spelled unshaped e2 same shaped =
-    let is : e ≡ e2 = event_data_injective e e2 (sym spelled ∙ same) in
-    true≢false (sym shaped ∙ (ap is_shaped (sym is) ∙ unshaped))
-
--- a value whose event shows a fault is faulty there, by the fault
-fault_by : (before : List Event) (e : Event) (d : Data) (fault : HistoryFault) (rest items : List Data) → IsFaultBy (length before) (is_shaped e) fault
-    → fault_after before e ≡ Some fault → d ≡ event_data e
-    → items ≡ map event_data before ++ d ∷ rest → IsHistory before → IsFaultAmong items fault
-fault_by before e d faults.TooLong rest items k h spelled parts history = k
-fault_by before e d faults.NotJson rest items k h spelled parts history = k
-fault_by before e d faults.Version rest items k h spelled parts history = k
-fault_by before e d (faults.Shape at) rest items k h spelled parts history =
-    record { before = before; next = d; rest = rest; parts = parts; history = history; shows = (k.0, SpellsNoEvent-unshaped e d spelled k.1) }
-fault_by before e d faults.TooMany rest items k h spelled parts history =
-    record { before = before; next = d; rest = rest; parts = parts; history = history; shows = (e, spelled, h) }
-fault_by before e d (faults.NotWellFormed at) rest items k h spelled parts history =
-    record { before = before; next = d; rest = rest; parts = parts; history = history; shows = (e, spelled, h) }
-fault_by before e d faults.Memory rest items k h spelled parts history = tt
-
--- a value whose event may not follow those before it is faulty there
-pub fault_in_turn : (before : List Event) (e : Event) (d : Data) (fault : HistoryFault) (rest items : List Data) → fault_after before e ≡ Some fault
-    → d ≡ event_data e → items ≡ map event_data before ++ d ∷ rest → IsHistory before
-    → IsFaultAmong items fault
-fault_in_turn before e d fault rest items h spelled parts history =
-    fault_by before e d fault rest items (IsFaultBy-fault_after before e fault h) h spelled parts history
-
 -- a value whose event was refused after those before it is faulty there, unless memory ran out
-pub fault_on_taking : (before : List Event) (e : Event) (d : Data) (fault : HistoryFault) (rest items : List Data) → IsRefusedAfter before e fault
-    → d ≡ event_data e → items ≡ map event_data before ++ d ∷ rest → IsHistory before
-    → IsFaultAmong items fault
-fault_on_taking before e d faults.Memory rest items h spelled parts history = tt
-fault_on_taking before e d faults.TooLong rest items h spelled parts history = fault_in_turn before e d faults.TooLong rest items h spelled parts history
-fault_on_taking before e d faults.NotJson rest items h spelled parts history = fault_in_turn before e d faults.NotJson rest items h spelled parts history
-fault_on_taking before e d faults.Version rest items h spelled parts history = fault_in_turn before e d faults.Version rest items h spelled parts history
-fault_on_taking before e d (faults.Shape at) rest items h spelled parts history = fault_in_turn before e d (faults.Shape at) rest items h spelled parts history
-fault_on_taking before e d faults.TooMany rest items h spelled parts history = fault_in_turn before e d faults.TooMany rest items h spelled parts history
-fault_on_taking before e d (faults.NotWellFormed at) rest items h spelled parts history =
-    fault_in_turn before e d (faults.NotWellFormed at) rest items h spelled parts history
+pub fault_on_taking : (has_start : Bool) (before : List Event) (e : Event) (d : Data) (fault : HistoryFault) (rest items : List Data)
+    → IsRefusedAfter before e fault → d ≡ event_data e → IsTrue (may_stand has_start e) → items ≡ map event_data before ++ d ∷ rest
+    → AreEventsOfText has_start before → IsFaultAmong has_start items fault
+fault_on_taking has_start before e d fault rest items h spelled standing parts events = by_fault fault h
+  where
+    shown : (g : HistoryFault) → fault_after before e ≡ Some g → ShowsFaultAmong has_start items g
+    shown g k = record { before = before; next = d; rest = rest; parts = parts; events = events; shows = inr (e, spelled, standing, k) }
+
+    by_fault : (g : HistoryFault) → IsRefusedAfter before e g → IsFaultAmong has_start items g
+    by_fault faults.TooLong k = IsFaultBy-fault_after before e faults.TooLong k
+    by_fault faults.NotJson k = IsFaultBy-fault_after before e faults.NotJson k
+    by_fault faults.Version k = IsFaultBy-fault_after before e faults.Version k
+    by_fault (faults.Shape at) k = shown (faults.Shape at) k
+    by_fault faults.TooMany k = shown faults.TooMany k
+    by_fault (faults.NotWellFormed at) k = shown (faults.NotWellFormed at) k
+    by_fault faults.Memory k = tt
+    by_fault (faults.Start at) k = IsFaultBy-fault_after before e (faults.Start at) k

@@ -1,15 +1,17 @@
 -- The value of a history has no float, and nests five deep at most.
 use Rattle.events.specs.declared.event.Reply.TheVariants as replies
-use Rattle.std.proofs.Common.{◌≡◌, ℕ, ◌≤◌, List, [], ◌∷◌, map, false, refl, arith}
+use Rattle.std.proofs.Common.{◌≡◌, ℕ, ◌≤◌, Bool, List, [], ◌∷◌, map, true, false, cond, Some, None, refl, arith}
 use Rattle.serde_json.specs.Data.{Data, depth, items_depth}
 use Rattle.serde_json.specs.View.{items_of}
 use Rattle.serde_json.specs.Written.{has_float, items_have_float}
 use Rattle.events.specs.declared.event.Call.{Call}
-use Rattle.events.specs.declared.event.Call.TheVariants.{Get, Insert, Remove, Scan}
+use Rattle.events.specs.declared.event.Call.TheVariants.{Get, Insert, Remove, Scan, Replace}
 use Rattle.events.specs.declared.event.Reply.{Reply}
 use Rattle.events.specs.declared.event.Event.{Event}
 use Rattle.events.specs.declared.event.Event.TheVariants.{Invoke, Answer}
-use Rattle.history_text.specs.Texts.{pair_data, call_data, reply_data, event_data, history_data}
+use Rattle.history_text.specs.Texts.{pair_data, call_data, reply_data, event_data, document, history_data}
+use Rattle.events.specs.HistoryView.{HistoryView}
+use Rattle.events.specs.PlainHistories.{is_plain}
 
 module _ {A : Type 0} (f : A → Data) where
   -- a list has no float where no item has one
@@ -28,6 +30,7 @@ has_float-call (Get key) = refl
 has_float-call (Insert key value) = refl
 has_float-call (Remove key) = refl
 has_float-call (Scan low high) = refl
+has_float-call (Replace key old new) = refl
 
 -- a reply has no float
 has_float-reply : (reply : Reply) → has_float (reply_data reply) ≡ false
@@ -42,8 +45,20 @@ has_float-event (Invoke p call) = rw (has_float-call call) refl
 has_float-event (Answer p reply) = rw (has_float-reply reply) refl
 
 -- a history has no float
-pub has_float-history : (events : List Event) → has_float (history_data events) ≡ false
-has_float-history events = rw (items_have_float-map event_data has_float-event events) refl
+pub has_float-history : (history : HistoryView) → has_float (history_data history) ≡ false
+has_float-history history = either (is_plain history)
+  where
+    events : items_have_float (items_of (map event_data history.events)) ≡ false
+    events = items_have_float-map event_data has_float-event history.events
+
+    pairs : items_have_float (items_of (map pair_data history.start)) ≡ false
+    pairs = items_have_float-map pair_data (λ pair. refl) history.start
+
+    either : (b : Bool)
+        → has_float (cond b (document None (map event_data history.events)) (document (Some (map pair_data history.start)) (map event_data history.events)))
+        ≡ false
+    either true = rw events refl
+    either false = rw (events, pairs) refl
 
 -- a call nests two deep at most
 depth-call : (call : Call) → depth (call_data call) ≤ 2
@@ -51,6 +66,7 @@ depth-call (Get key) = omega arith
 depth-call (Insert key value) = omega arith
 depth-call (Remove key) = omega arith
 depth-call (Scan low high) = omega arith
+depth-call (Replace key old new) = omega arith
 
 -- a reply nests two deep at most
 depth-reply : (reply : Reply) → depth (reply_data reply) ≤ 2
@@ -65,5 +81,10 @@ depth-event (Invoke p call) = omega (arith, depth-call call)
 depth-event (Answer p reply) = omega (arith, depth-reply reply)
 
 -- a history nests five deep at most
-pub depth-history : (events : List Event) → depth (history_data events) ≤ 5
-depth-history events = omega (arith, items_depth-map event_data 3 depth-event events)
+pub depth-history : (history : HistoryView) → depth (history_data history) ≤ 5
+depth-history history = either (is_plain history)
+  where
+    either : (b : Bool)
+        → depth (cond b (document None (map event_data history.events)) (document (Some (map pair_data history.start)) (map event_data history.events))) ≤ 5
+    either true = omega (arith, items_depth-map event_data 3 depth-event history.events)
+    either false = omega (arith, items_depth-map event_data 3 depth-event history.events, items_depth-map pair_data 1 (λ pair. omega arith) history.start)

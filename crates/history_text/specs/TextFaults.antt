@@ -1,38 +1,78 @@
 -- The first fault of a text that spells no history.
 use Rattle.events.specs.declared.fault.HistoryFault.TheVariants as faults
-use Rattle.std.specs.Prelude.{◌≡◌, ℕ, ◌<◌, ◌≤◌, List, ◌∷◌, ◌++◌, length, map, Some, IsTrue, ⊤}
+use Rattle.std.specs.Prelude.{◌≡◌, ◌⊎◌, ℕ, ◌<◌, ◌≤◌, Bool, false, List, ◌∷◌, ◌++◌, length, map, Option, Some, is_some, IsTrue, ⊤}
+use Rattle.std.specs.List.{list_all}
 use Rattle.std.specs.Str.{IsUtf8}
 use Rattle.serde_json.specs.Data.{Data}
 use Rattle.serde_json.specs.Read.{read}
 use Rattle.events.specs.declared.event.Event.{Event}
 use Rattle.events.specs.declared.fault.HistoryFault.{HistoryFault}
+use Rattle.events.specs.Limits.{start_limit}
+use Rattle.events.specs.Starts.{IsStart}
+use Rattle.events.specs.Histories.{is_shaped, AreHistoryEvents}
+use Rattle.events.specs.HistoryFaults.{is_above, fault_after}
 use Rattle.history_text.specs.Limits.{text_limit}
-use Rattle.events.specs.Histories.{is_shaped, IsHistory}
-use Rattle.events.specs.HistoryFaults.{fault_after}
-use Rattle.history_text.specs.Texts.{event_data, document, IsJson}
+use Rattle.history_text.specs.Texts.{pair_data, event_data, document, start_data, start_pairs, may_stand, IsJson}
 
--- no event that has a range where it needs one has this value
-abbrev pub SpellsNoEvent : Data → Type 0
-SpellsNoEvent d = (e : Event) → d ≡ event_data e → IsTrue (is_shaped e) → ⊥
+-- ---- starting pairs
+
+-- what is wrong with the value that stands after these pairs: it is one too many, or it spells no pair with a key above theirs
+abbrev pub IsPairFaultAfter : List (ℕ × ℕ) → Data → HistoryFault → Type 0
+IsPairFaultAfter before d fault =
+    ((fault ≡ faults.TooMany) × (start_limit ≤ length before))
+    ⊎ ((fault ≡ faults.Start (length before)) × (length before < start_limit) × ((pair : ℕ × ℕ) → d ≡ pair_data pair → is_above before pair.0 ≡ false))
+
+-- the start begins with pairs that a history may start with, and what stands after them shows the fault, whatever the events are
+pub record ShowsPairFault (d : Data) (fault : HistoryFault) : Type 0 where
+  pub before : List (ℕ × ℕ)
+  pub next : Data
+  pub rest : List Data
+  pub events : List Data
+  pub parts : d ≡ document (Some (map pair_data before ++ next ∷ rest)) events
+  pub start : IsStart before
+  pub shows : IsPairFaultAfter before next fault
+
+-- ---- events
+
+-- no event that may stand there, and has a range where it needs one, has this value
+abbrev pub SpellsNoEvent : Bool → Data → Type 0
+SpellsNoEvent has_start d = (e : Event) → d ≡ event_data e → IsTrue (is_shaped e) → IsTrue (may_stand has_start e) → ⊥
 
 -- what is wrong with the value that stands after these events: it spells none, or one with a fault
-abbrev pub IsFaultAfter : List Event → Data → HistoryFault → Type 0
-IsFaultAfter before d (faults.Shape place) = (place ≡ length before) × SpellsNoEvent d
-IsFaultAfter before d fault = (e : Event) × (d ≡ event_data e) × (fault_after before e ≡ Some fault)
+abbrev pub IsFaultAfter : Bool → List Event → Data → HistoryFault → Type 0
+IsFaultAfter has_start before d fault =
+    ((fault ≡ faults.Shape (length before)) × SpellsNoEvent has_start d)
+    ⊎ ((e : Event) × (d ≡ event_data e) × IsTrue (may_stand has_start e) × (fault_after before e ≡ Some fault))
 
--- the text begins with the events of a history, and what stands after them shows the fault
-pub record ShowsFault (text : List ℕ) (fault : HistoryFault) : Type 0 where
+-- events of a history that may stand in a text with a start, or without one
+pub record AreEventsOfText (has_start : Bool) (events : List Event) : Type 0 where
+  pub history : AreHistoryEvents events
+  pub standing : IsTrue (list_all (may_stand has_start) events)
+
+-- nothing is wrong with the start, the events begin with those of a history, and what stands after them shows the fault
+pub record ShowsEventFault (d : Data) (fault : HistoryFault) : Type 0 where
+  pub start : Option (List (ℕ × ℕ))
   pub before : List Event
   pub next : Data
   pub rest : List Data
-  pub parts : IsJson text (document (map event_data before ++ next ∷ rest))
-  pub history : IsHistory before
-  pub shows : IsFaultAfter before next fault
+  pub parts : d ≡ document (start_data start) (map event_data before ++ next ∷ rest)
+  pub is_start : IsStart (start_pairs start)
+  pub events : AreEventsOfText (is_some start) before
+  pub shows : IsFaultAfter (is_some start) before next fault
 
--- why a text was refused: its length, then that it is no JSON, then its top level, then its first faulty event
+-- ---- the whole text
+
+-- what is wrong with the value of a text: its top level, then its first faulty pair, then its first faulty event; or memory ran out
+abbrev pub IsDocumentFault : Data → HistoryFault → Type 0
+IsDocumentFault d faults.TooLong = ⊥
+IsDocumentFault d faults.NotJson = ⊥
+IsDocumentFault d faults.Version = (start : Option (List Data)) (events : List Data) → d ≡ document start events → ⊥
+IsDocumentFault d faults.Memory = ⊤
+IsDocumentFault d fault = ShowsPairFault d fault ⊎ ShowsEventFault d fault
+
+-- why a text was refused: its length, then that it is no JSON, then what is wrong with its value
 abbrev pub IsTextFault : List ℕ → HistoryFault → Type 0
 IsTextFault text faults.TooLong = text_limit < length text
 IsTextFault text faults.NotJson = (length text ≤ text_limit) × ((d : Data) → IsUtf8 text → read text ≡ Some d → ⊥)
-IsTextFault text faults.Version = (d : Data) × IsJson text d × ((items : List Data) → d ≡ document items → ⊥)
 IsTextFault text faults.Memory = ⊤
-IsTextFault text fault = ShowsFault text fault
+IsTextFault text fault = (d : Data) × IsJson text d × IsDocumentFault d fault

@@ -1,57 +1,82 @@
 // From a JSON value to an event.
-ghost use Rattle.std.specs.Prelude.{◌≡◌, ◌≤◌, ◌∷◌, [], List, ℕ, map, IsTrue, IfOk, IfErr, IfSome, IfNone};
+ghost use Rattle.std.specs.Prelude.{◌≡◌, ◌≤◌, ◌<◌, ◌||◌, not, ◌∷◌, [], List, ℕ, map, IsTrue, IfOk, IfErr, IfSome, IfNone, OnOk};
 ghost use Rattle.serde_json.specs.Data.{Data, string};
 ghost use Rattle.serde_json.specs.View.{view};
 ghost use Rattle.events.specs.declared.event.Call.{Call};
 ghost use Rattle.events.specs.declared.event.Reply.{Reply};
 ghost use Rattle.events.specs.declared.fault.HistoryFault.TheVariants as faults;
 ghost use Rattle.events.specs.Histories.{has_range};
-ghost use Rattle.history_text.specs.Texts.{number_data, list_data, pair_data, call_data, reply_data, event_data};
-ghost use Rattle.history_text.specs.ValueFaults.{object_of_two, invocation_data, response_data, IsValueFault};
+ghost use Rattle.events.specs.PlainHistories.{is_replace};
+ghost use Rattle.history_text.specs.Texts.{number_data, list_data, pair_data, call_data, reply_data, event_data, may_stand};
+ghost use Rattle.history_text.specs.ValueFaults.{object_of_two, object_of_three, invocation_data, response_data, IsValueFault, IsPairValueFault};
 
-use events::{Call, Event, HistoryFault, Memory, PROCESSES, Pairs, Reply};
+use events::{Call, Event, HistoryFault, MAX_START, Memory, PROCESSES, Pairs, Reply};
 use serde_json::Value;
 use std::alloc::Global;
 
-/// The event at a place of a history's text. Otherwise why it is refused: `Shape`, `TooMany` for a process
-/// number that no `u8` holds, or `Memory`.
-pub fn event_of(alloc: Global, place: usize, value: &Value) -> Result<Event, HistoryFault>
+/// The event at a place of a history's text, which has a start or none. Otherwise why it is refused: `Shape`, a
+/// replace in a text without a start among them, `TooMany` for a process number that no `u8` holds, or `Memory`.
+pub fn event_of(
+    alloc: Global,
+    place: usize,
+    has_start: bool,
+    value: &Value,
+) -> Result<Event, HistoryFault>
     ensures ok { IfOk result (λ e. view value.now ≡ event_data e) }
-    ensures refused { IfErr result (IsValueFault place (view value.now)) }
+    ensures standing { IfOk result (λ e. IsTrue (may_stand has_start e)) }
+    ensures refused { IfErr result (IsValueFault has_start place (view value.now)) }
 {
     if let Some((call, process)) = two_members(value, "invoke", "process") {
-        return invocation_of(place, call, process);
+        return invocation_of(place, has_start, call, process);
     }
     if let Some((reply, process)) = two_members(value, "answer", "process") {
-        return response_of(alloc, place, reply, process);
+        return response_of(alloc, place, has_start, reply, process);
     }
     Err(HistoryFault::Shape { event: place })
 }
 
 /// The invocation that the values of its call and its process spell.
-fn invocation_of(place: usize, call: &Value, process: &Value) -> Result<Event, HistoryFault>
+fn invocation_of(
+    place: usize,
+    has_start: bool,
+    call: &Value,
+    process: &Value,
+) -> Result<Event, HistoryFault>
     ensures ok { IfOk result (λ e. event_data e
         ≡ invocation_data (view call.now) (view process.now)) }
-    ensures refused { IfErr result (IsValueFault place
+    ensures standing { IfOk result (λ e. IsTrue (may_stand has_start e)) }
+    ensures refused { IfErr result (IsValueFault has_start place
         (invocation_data (view call.now) (view process.now))) }
 {
     let (Some(call), Some(process)) = (call_of(call), process.as_u64()) else {
         return Err(HistoryFault::Shape { event: place });
     };
+    if !may_stand(has_start, &call) {
+        return Err(HistoryFault::Shape { event: place });
+    }
     let process = process_number(process)?;
     Ok(Event::Invoke { process, call })
+}
+
+/// Whether a call may stand in a text with a start, or without one.
+fn may_stand(has_start: bool, call: &Call) -> bool
+    ensures { result ≡ (has_start || not (is_replace call.now)) }
+{
+    has_start || !matches!(call, Call::Replace(..))
 }
 
 /// The response that the values of its reply and its process spell.
 fn response_of(
     alloc: Global,
     place: usize,
+    has_start: bool,
     reply: &Value,
     process: &Value,
 ) -> Result<Event, HistoryFault>
     ensures ok { IfOk result (λ e. event_data e
         ≡ response_data (view reply.now) (view process.now)) }
-    ensures refused { IfErr result (IsValueFault place
+    ensures standing { IfOk result (λ e. IsTrue (may_stand has_start e)) }
+    ensures refused { IfErr result (IsValueFault has_start place
         (response_data (view reply.now) (view process.now))) }
 {
     let (Some(reply), Some(process)) = (reply_of(alloc, reply)?, process.as_u64()) else {
@@ -93,6 +118,35 @@ pub fn two_members<'a>(
     }
 }
 
+/// The values of an object that has three members alone, by these names in this order.
+pub fn three_members<'a>(
+    value: &'a Value,
+    first: &str,
+    second: &str,
+    third: &str,
+) -> Option<(&'a Value, &'a Value, &'a Value)>
+    ensures some { IfSome result (λ found. view value.now
+        ≡ object_of_three first.now (view found.0.now) second.now (view found.1.now) third.now (view found.2.now)) }
+    ensures none { IfNone result ((d e f : Data)
+        → view value.now ≡ object_of_three first.now d second.now e third.now f → ⊥) }
+{
+    let mut members = value.as_object()?.iter();
+    let (first_name, first_value) = members.next()?;
+    let (second_name, second_value) = members.next()?;
+    let (third_name, third_value) = members.next()?;
+    if members.next().is_some() {
+        return None;
+    }
+    if first_name.as_str() == first
+        && second_name.as_str() == second
+        && third_name.as_str() == third
+    {
+        Some((first_value, second_value, third_value))
+    } else {
+        None
+    }
+}
+
 /// The call that a value spells, a scan only with its ends in order.
 fn call_of(value: &Value) -> Option<Call>
     ensures some { IfSome result (λ call. view value.now ≡ call_data call) }
@@ -104,6 +158,9 @@ fn call_of(value: &Value) -> Option<Call>
         [name, key] => one_number_call(name.as_str()?, key.as_u64()?),
         [name, first, second] => {
             two_number_call(name.as_str()?, first.as_u64()?, second.as_u64()?)
+        }
+        [name, key, old, new] => {
+            three_number_call(name.as_str()?, key.as_u64()?, old.as_u64()?, new.as_u64()?)
         }
         _ => None,
     }
@@ -139,6 +196,21 @@ fn two_number_call(name: &str, first: u64, second: u64) -> Option<Call>
     }
 }
 
+fn three_number_call(name: &str, key: u64, old: u64, new: u64) -> Option<Call>
+    ensures some { IfSome result (λ call. call_data call
+        ≡ list_data (string name.now ∷ number_data key ∷ number_data old ∷ number_data new ∷ [])) }
+    ensures range { IfSome result (λ call. IsTrue (has_range call)) }
+    ensures none { IfNone result ((call : Call)
+        → call_data call
+        ≡ list_data (string name.now ∷ number_data key ∷ number_data old ∷ number_data new ∷ [])
+        → ⊥) }
+{
+    match name {
+        "replace" => Some(Call::Replace(key, old, new)),
+        _ => None,
+    }
+}
+
 /// The reply that a value spells.
 fn reply_of(alloc: Global, value: &Value) -> Result<Option<Reply>, Memory>
     ensures some { IfOk result (λ found. IfSome found (λ reply. view value.now ≡ reply_data reply)) }
@@ -169,6 +241,19 @@ fn pairs_of(alloc: Global, items: &[Value]) -> Result<Option<Pairs>, Memory>
         pairs.push(pair)?;
     }
     Ok(Some(Pairs::new(pairs)))
+}
+
+/// The pair at a place of a text's start. Otherwise why it is refused: `TooMany` past `MAX_START`, whatever it is,
+/// or `Start`.
+pub fn starting_pair(place: usize, value: &Value) -> Result<(u64, u64), HistoryFault>
+    ensures ok { IfOk result (λ pair. view value.now ≡ pair_data pair) }
+    ensures room { OnOk result (place < MAX_START) }
+    ensures refused { IfErr result (IsPairValueFault place (view value.now)) }
+{
+    if place >= MAX_START {
+        return Err(HistoryFault::TooMany);
+    }
+    pair_of(value).ok_or(HistoryFault::Start { pair: place })
 }
 
 /// The pair of numbers that a value spells.

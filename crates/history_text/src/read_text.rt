@@ -1,35 +1,37 @@
 // From a text to a history.
-ghost use Rattle.std.specs.Prelude.{◌≡◌, List, map, IfOk, IfErr, IfSome, IfNone, OnOk};
+ghost use Rattle.std.specs.Prelude.{◌≡◌, [], List, Option, None, Some, Bool, is_some, map, IsTrue, IfOk, IfErr, IfSome, IfNone, OnOk};
+ghost use Rattle.std.specs.List.{list_all};
 ghost use Rattle.serde_json.specs.Data.{Data};
 ghost use Rattle.serde_json.specs.View.{view};
-ghost use Rattle.events.specs.declared.event.Event.{Event};
+ghost use Rattle.events.specs.HistoryView.{HistoryView};
 ghost use Rattle.events.specs.declared.fault.HistoryFault.TheVariants as faults;
 ghost use Rattle.events.specs.Histories.{IsHistory};
-ghost use Rattle.history_text.specs.Texts.{event_data, document, IsJson, Spells};
-ghost use Rattle.history_text.specs.TextFaults.{IsTextFault};
-ghost use Rattle.history_text.specs.ValueFaults.{IsFaultAmong};
+ghost use Rattle.history_text.specs.Texts.{pair_data, event_data, document, may_stand, IsJson, Spells};
+ghost use Rattle.history_text.specs.TextFaults.{IsDocumentFault, IsTextFault};
+ghost use Rattle.history_text.specs.ValueFaults.{IsFaultAmong, IsPairFaultAmong};
+ghost use Rattle.history_text.specs.Values.{SpellsAs};
 
 use crate::MAX_TEXT;
-use crate::read_event::{event_of, two_members};
+use crate::read_event::{event_of, starting_pair, three_members, two_members};
 use events::{History, HistoryFault, Turns};
 use serde_json::Value;
 use std::alloc::Global;
 
 /// The history that a text spells: JSON in UTF-8, in any spacing and order of members. Otherwise the text's
 /// first fault, or `Memory`: its length is tested first, then that it is JSON, then its top level
-/// (`Version`), then its events from the first on; of an event its shape is tested first, then the limits,
-/// then its turn. Beside the reading of the JSON it takes time in proportion to the events.
+/// (`Version`), then its starting pairs from the first on (`TooMany`, `Start`), then its events from the first
+/// on; of an event its shape is tested first, then the limits, then its turn. Beside the reading of the JSON it
+/// takes time in proportion to the pairs and the events.
 pub fn read_history(alloc: Global, text: &[u8]) -> Result<History, HistoryFault>
     ensures spelled { IfOk result (Spells text.now) }
     ensures history { IfOk result IsHistory }
     ensures refused { IfErr result (IsTextFault text.now) }
-    ensures accepted { (events : List Event) → Spells text.now events → IsHistory events
+    ensures accepted { (history : HistoryView) → Spells text.now history → IsHistory history
         → IfErr result (λ fault. fault ≡ faults.Memory) }
 {
     let value = value_of(alloc, text)?;
-    let items = items_of(&value).ok_or(HistoryFault::Version)?;
-    let events = events_of(alloc, items)?;
-    Ok(events.history(alloc)?)
+    let history = turns_of(alloc, &value)?;
+    Ok(history.history(alloc)?)
 }
 
 /// The JSON value of a text that is not too long.
@@ -47,10 +49,24 @@ fn value_of(alloc: Global, text: &[u8]) -> Result<Value, HistoryFault>
     }
 }
 
-/// The values of a document's events, where its top level is right.
-fn items_of(value: &Value) -> Option<&Vec<Value>>
-    ensures some { IfSome result (λ items. view value.now ≡ document (map view items.now.items)) }
-    ensures none { IfNone result ((items : List Data) → view value.now ≡ document items → ⊥) }
+/// The starting pairs and the events that a value spells, which are a history.
+fn turns_of(alloc: Global, value: &Value) -> Result<Turns, HistoryFault>
+    ensures spelled { IfOk result (SpellsAs (view value.now)) }
+    ensures history { IfOk result IsHistory }
+    ensures refused { IfErr result (IsDocumentFault (view value.now)) }
+{
+    if let Some(items) = events_alone(value) {
+        return events_of(alloc, Turns::new(alloc), false, items);
+    }
+    let (pairs, items) = start_and_events(value).ok_or(HistoryFault::Version)?;
+    let start = start_of(alloc, pairs)?;
+    events_of(alloc, start, true, items)
+}
+
+/// The values of the events of a document without a start, where its top level is right.
+fn events_alone(value: &Value) -> Option<&Vec<Value>>
+    ensures some { IfSome result (λ items. view value.now ≡ document None (map view items.now.items)) }
+    ensures none { IfNone result ((items : List Data) → view value.now ≡ document None items → ⊥) }
 {
     let (events, version) = two_members(value, "events", "version")?;
     if version.as_u64() == Some(1) {
@@ -60,16 +76,57 @@ fn items_of(value: &Value) -> Option<&Vec<Value>>
     }
 }
 
-/// The events that the values spell, which are those of a history.
-fn events_of(alloc: Global, items: &[Value]) -> Result<Turns, HistoryFault>
-    ensures ok { IfOk result (λ events. map view items.now ≡ map event_data events) }
-    ensures history { IfOk result IsHistory }
-    ensures refused { IfErr result (IsFaultAmong (map view items.now)) }
+/// The values of the start and of the events of a document with a start, where its top level is right.
+fn start_and_events(value: &Value) -> Option<(&Vec<Value>, &Vec<Value>)>
+    ensures some { IfSome result (λ found. view value.now
+        ≡ document (Some (map view found.0.now.items)) (map view found.1.now.items)) }
+    ensures none { IfNone result ((start items : List Data)
+        → view value.now ≡ document (Some start) items → ⊥) }
 {
-    let mut events = Turns::new(alloc);
-    for (place, item) in items.iter().enumerate() {
-        let event = event_of(alloc, place, item)?;
-        events.take(event)?;
+    let (events, start, version) = three_members(value, "events", "start", "version")?;
+    if version.as_u64() != Some(2) {
+        return None;
     }
-    Ok(events)
+    match (start.as_array(), events.as_array()) {
+        (Some(start), Some(events)) => Some((start, events)),
+        _ => None,
+    }
+}
+
+/// The starting pairs that the values spell, before any event.
+fn start_of(alloc: Global, items: &[Value]) -> Result<Turns, HistoryFault>
+    ensures spelled { IfOk result (λ h. map view items.now ≡ map pair_data h.start) }
+    ensures no_event { IfOk result (λ h. h.events ≡ []) }
+    ensures history { IfOk result IsHistory }
+    ensures refused { IfErr result (IsPairFaultAmong (map view items.now)) }
+{
+    let mut turns = Turns::new(alloc);
+    for (place, item) in items.iter().enumerate() {
+        let pair = starting_pair(place, item)?;
+        turns.take_pair(pair)?;
+    }
+    Ok(turns)
+}
+
+/// The events that the values spell, after the starting pairs: together they are a history.
+fn events_of(
+    alloc: Global,
+    start: Turns,
+    has_start: bool,
+    items: &[Value],
+) -> Result<Turns, HistoryFault>
+    requires history { IsHistory start }
+    requires no_event { start.events ≡ [] }
+    ensures start { IfOk result (λ h. h.start ≡ start.start) }
+    ensures spelled { IfOk result (λ h. map view items.now ≡ map event_data h.events) }
+    ensures standing { IfOk result (λ h. IsTrue (list_all (may_stand has_start) h.events)) }
+    ensures history { IfOk result IsHistory }
+    ensures refused { IfErr result (IsFaultAmong has_start (map view items.now)) }
+{
+    let mut turns = start;
+    for (place, item) in items.iter().enumerate() {
+        let event = event_of(alloc, place, has_start, item)?;
+        turns.take(event)?;
+    }
+    Ok(turns)
 }

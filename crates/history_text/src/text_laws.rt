@@ -1,7 +1,7 @@
 // Laws of the texts of histories: each function only carries its clause.
 ghost use Rattle.history_text.specs.TextLaws.{SpellsOneHistory, HasOneFault, FaultySpellsNoHistory};
 
-/// A text spells one list of events only, so what `read_history` answers is the only history there is to read.
+/// A text spells one history only, so what `read_history` answers is the only history there is to read.
 pub fn one_history()
     ensures { SpellsOneHistory }
 {}

@@ -2,6 +2,8 @@
 ghost use Rattle.std.specs.Prelude.{◌≡◌, ◌≤◌, map, IfOk, string_bytes, string_len};
 ghost use Rattle.serde_json.specs.View.{view};
 ghost use Rattle.serde_json.specs.Written.{compact_text};
+ghost use Rattle.std.specs.List.{list_all};
+ghost use Rattle.events.specs.PlainHistories.{is_plain_event, is_plain};
 ghost use Rattle.history_text.specs.Texts.{list_data, pair_data, call_data, reply_data, event_data, history_data, Spells};
 
 use crate::MAX_TEXT;
@@ -9,7 +11,8 @@ use events::{Call, Event, History, Memory, Reply};
 use serde_json::{Value, json};
 use std::alloc::{AllocError, Global};
 
-/// The text of a history in the compact form: no spaces, members by rising bytes, numbers in plain decimal.
+/// The text of a history in the compact form: no spaces, members by rising bytes, numbers in plain decimal. It is
+/// of version 1 where the history has neither starting pairs nor a replace, else of version 2.
 /// A text of more than `MAX_TEXT` bytes is written too, and the reader refuses it.
 pub fn write_history(alloc: Global, history: &History) -> Result<String, Memory>
     ensures compact { IfOk result
@@ -17,18 +20,56 @@ pub fn write_history(alloc: Global, history: &History) -> Result<String, Memory>
     ensures again { IfOk result
         (λ text. string_len text ≤ MAX_TEXT → Spells (string_bytes text) history.now) }
 {
-    let value = history_value(alloc, history.events())?;
+    let value = history_value(alloc, history)?;
     Ok(value.to_string(alloc)?)
 }
 
-fn history_value(alloc: Global, events: &[Event]) -> Result<Value, AllocError>
-    ensures { IfOk result (λ value. view value ≡ history_data events.now) }
+fn history_value(alloc: Global, history: &History) -> Result<Value, AllocError>
+    ensures { IfOk result (λ value. view value ≡ history_data history.now) }
+{
+    let events = events_value(alloc, history.events())?;
+    if is_plain(history) {
+        return json!(in alloc; {"events": events, "version": 1u64});
+    }
+    let start = pairs_value(alloc, history.start())?;
+    json!(in alloc; {"events": events, "start": start, "version": 2u64})
+}
+
+/// Whether a history has neither starting pairs nor a replace.
+fn is_plain(history: &History) -> bool
+    ensures { result ≡ is_plain history.now }
+{
+    history.start().is_empty() && are_plain_events(history.events())
+}
+
+fn are_plain_events(events: &[Event]) -> bool
+    ensures { result ≡ list_all is_plain_event events.now }
+{
+    for event in events {
+        if !is_plain_event(event) {
+            return false;
+        }
+    }
+    true
+}
+
+fn is_plain_event(event: &Event) -> bool
+    ensures { result ≡ is_plain_event event.now }
+{
+    match event {
+        Event::Invoke { call, .. } => !matches!(call, Call::Replace(..)),
+        Event::Answer { .. } => true,
+    }
+}
+
+fn events_value(alloc: Global, events: &[Event]) -> Result<Value, AllocError>
+    ensures { IfOk result (λ value. view value ≡ list_data (map event_data events.now)) }
 {
     let mut items = Vec::new(alloc);
     for event in events {
         items.push(event_value(alloc, event)?)?;
     }
-    json!(in alloc; {"events": items, "version": 1u64})
+    Ok(Value::from(items))
 }
 
 fn event_value(alloc: Global, event: &Event) -> Result<Value, AllocError>
@@ -54,6 +95,7 @@ fn call_value(alloc: Global, call: &Call) -> Result<Value, AllocError>
         Call::Insert(key, value) => json!(in alloc; ["insert", *key, *value]),
         Call::Remove(key) => json!(in alloc; ["remove", *key]),
         Call::Scan(low, high) => json!(in alloc; ["scan", *low, *high]),
+        Call::Replace(key, old, new) => json!(in alloc; ["replace", *key, *old, *new]),
     }
 }
 

@@ -1,12 +1,15 @@
--- The values read so far spell the events, which are a history.
+-- The values read so far spell the events, which are those of a history.
 use Rattle.std.proofs.Common.{◌≡◌, map, take}
 use Rattle.serde_json.specs.View.{view}
 use Rattle.events.specs.Histories.{IsHistory}
 use Rattle.history_text.specs.Texts.{event_data}
+use Rattle.history_text.specs.TextFaults.{AreEventsOfText}
 use Rattle.history_text.proofs.read_text.events_of.Given as goal
 
 abbrev pub invariant-loop-place : goal.invariant-loop-place
 invariant-loop-place l = record {
-  spelled : map view (take l.place l.items) ≡ map event_data l.events;
-  history : IsHistory l.events;
+  start : l.turns.start ≡ l.fn.start.start;
+  spelled : map view (take l.place l.items) ≡ map event_data l.turns.events;
+  history : IsHistory l.turns;
+  events : AreEventsOfText l.has_start l.turns.events;
 }

@@ -6,13 +6,14 @@ use Rattle.serde_json.specs.View.{view}
 use Rattle.serde_json.specs.Read.{max_depth}
 use Rattle.serde_json.specs.Written.{has_float, compact_text}
 use Rattle.history_text.specs.Texts.{history_data}
+use Rattle.history_text.proofs.SpelledLemmas.{Spells-written}
 use Rattle.history_text.proofs.WrittenLemmas.{has_float-history, depth-history}
 use Rattle.history_text.proofs.write_text.write_history.Goals as goal
 use Rattle.history_text.proofs.write_text.write_history.Goals.{After-to_string}
 
 module _ (c : After-to_string) where
   same : view c.in_ok-value.value ≡ history_data c.args.history.now
-  same = c.in_ok-value.ensures ∙ ap history_data c.events.ensures.events
+  same = c.in_ok-value.ensures
 
   shallow : depth (view c.in_ok-value.value) ≤ max_depth
   shallow = rw (same) (omega (arith, depth-history c.args.history.now))
@@ -25,8 +26,8 @@ returns-clause-compact c =
 pub returns-clause-again : goal.returns-clause-again
 returns-clause-again c = λ fits.
     let before = (goal.at.returns-clause-again c).After-to_string in
-    record {
+    Spells-written _ c.args.history.now (record {
       fits = omega (arith, c.in_ok-to_string.field-0.bytes.ok.0);
       utf8 = IsUtf8-string_bytes c.in_ok-to_string.field-0;
       value = c.in_ok-to_string.ensures.reads_back (shallow before) ∙ ap Some (same before);
-    }
+    })
