@@ -5,7 +5,7 @@ use Rattle.std.proofs.Props.{props}
 use Rattle.std.proofs.lemmas.Bool.{false≢true}
 use Rattle.std.specs.Prelude.{if◌then◌else◌, Option, Some, None, is_some}
 use Rattle.events.specs.declared.event.Call.{Call}
-use Rattle.events.specs.declared.event.Call.TheVariants.{Get, Insert, Remove, Scan}
+use Rattle.events.specs.declared.event.Call.TheVariants.{Get, Insert, Remove, Scan, Replace}
 use Rattle.events.specs.declared.event.Reply.{Reply}
 use Rattle.art_rows.specs.Table.{table_words}
 use Rattle.art_steps.specs.declared.access.Access.{Access}
@@ -37,6 +37,7 @@ pub no_scan : (call : Call) → keys_between call ≡ None → is_scan call ≡ 
 no_scan (Get k) e = refl
 no_scan (Insert k v) e = refl
 no_scan (Remove k) e = refl
+no_scan (Replace k old new) e = refl
 no_scan (Scan low high) e = absurd (some_none e)
   where
     some_none : {A : Type 0} {y : A} → ◌≡◌ {A = Option A} (Some y) None → ⊥
@@ -49,6 +50,7 @@ pub a_scan : (call : Call) (low high : ℕ) → keys_between call ≡ Some (low,
 a_scan (Get k) low high e = absurd (none_some e)
 a_scan (Insert k v) low high e = absurd (none_some e)
 a_scan (Remove k) low high e = absurd (none_some e)
+a_scan (Replace k old new) low high e = absurd (none_some e)
 a_scan (Scan a b) low high e = both (same e)
   where
     same : {x y : ℕ × ℕ} → ◌≡◌ {A = Option (ℕ × ℕ)} (Some x) (Some y) → x ≡ y
@@ -63,18 +65,21 @@ not_a_scan : (call : Call) → ((low high : ℕ) → call ≡ Scan low high → 
 not_a_scan (Get k) h = refl
 not_a_scan (Insert k v) h = refl
 not_a_scan (Remove k) h = refl
+not_a_scan (Replace k old new) h = refl
 not_a_scan (Scan low high) h = absurd (h low high refl)
 
 begun_as_key : (c : Setting) (call : Call) → is_scan call ≡ false → begun_as call c ≡ OnKey (start_at (locks c.variant))
 begun_as_key c (Get k) e = refl
 begun_as_key c (Insert k v) e = refl
 begun_as_key c (Remove k) e = refl
+begun_as_key c (Replace k old new) e = refl
 begun_as_key c (Scan low high) e = absurd (false≢true (sym e))
 
 none_between : (call : Call) → is_scan call ≡ false → keys_between call ≡ None
 none_between (Get k) e = refl
 none_between (Insert k v) e = refl
 none_between (Remove k) e = refl
+none_between (Replace k old new) e = refl
 none_between (Scan low high) e = absurd (false≢true (sym e))
 
 pub begun_key : (c : Setting) (call : Call) (k : KeyCall) → call ≡ c.call → ((low high : ℕ) → call ≡ Scan low high → ⊥)
@@ -110,6 +115,7 @@ begun_asks_as : (c : Setting) (call : Call) → is_some (reply_of (call_turn c (
 begun_asks_as c (Get k) = start_asks c (locks c.variant)
 begun_asks_as c (Insert k v) = start_asks c (locks c.variant)
 begun_asks_as c (Remove k) = start_asks c (locks c.variant)
+begun_asks_as c (Replace k old new) = start_asks c (locks c.variant)
 begun_asks_as c (Scan low high) = enter_asks c (locks c.variant)
 
 pub begun_asks : (c : Setting) (at : CallAt) → at ≡ call_begun c → is_some (reply_of (rest_at c at [])) ≡ false

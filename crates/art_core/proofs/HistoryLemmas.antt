@@ -13,15 +13,15 @@ use Rattle.std.proofs.lemmas.Option.{slice_get_within, get_or_from_slice_get, no
 use Rattle.list_laws.proofs.Lists.{All-at}
 use Rattle.list_laws.proofs.ZipLemmas.{zip_left}
 use Rattle.events.specs.declared.event.Call.{Call}
-use Rattle.events.specs.declared.event.Call.TheVariants.{Get, Insert, Remove, Scan}
+use Rattle.events.specs.declared.event.Call.TheVariants.{Get, Insert, Remove, Scan, Replace}
 use Rattle.events.specs.declared.event.Reply.{Reply}
 use Rattle.events.specs.declared.event.Event.{Event}
 use Rattle.events.specs.declared.event.Event.TheVariants.{Invoke, Answer}
 use Rattle.events.specs.Events.{process_of, is_invocation}
-use Rattle.events.specs.Histories.{IsHistory, has_range, call_count, pair_count}
+use Rattle.events.specs.Histories.{AreHistoryEvents, has_range, call_count, pair_count}
 use Rattle.events.specs.HistoryFaults.{has_open_call, fault_after}
 use Rattle.events.specs.Limits.{call_limit, pair_limit, process_limit}
-use Rattle.events.proofs.HistoryLemmas.{IsHistory-push, has_open_call-push, call_count-push}
+use Rattle.events.proofs.HistoryLemmas.{AreHistoryEvents-push, has_open_call-push, call_count-push}
 use Rattle.logs.specs.Logs.{events_by_stamp, history_of_logs}
 use Rattle.logs.proofs.GrowthLemmas.{AreBelow, history-push, below-push}
 use Rattle.art_rows.specs.declared.table.Shape.{Shape}
@@ -100,7 +100,7 @@ record IsLogged (plan : Plan) (s : State) : Type 0 where
   stamps : AreBelow (slice_index s.words 0) (flat_map (λ log. log) (map (λ q. q.log) s.processes))
   calls : call_count (logged s.processes) ≡ sum (map (λ q. length (begun q)) s.processes)
   opens : (i : ℕ) (q : Process) → slice_get s.processes i ≡ Some q → has_open_call i (logged s.processes) ≡ is_some q.call
-  history : IsHistory (logged s.processes)
+  history : AreHistoryEvents (logged s.processes)
 
 calls-within : (processes : List Process) (scripts : List (List Call)) → AllZip has_begun processes scripts
     → sum (map (λ q. length (begun q)) processes) ≤ sum (map (λ script. length script) scripts)
@@ -177,7 +177,7 @@ module _ (plan : Plan) (s : State) (p : ℕ) (q q' : Process) (h : IsLogged plan
           ∙ (call_count-push (logged s.processes) e
           ∙ omega (arith, h.calls, d.begins, sum-changed (λ q. length (begun q)) s.processes p q q' here));
       opens = λ i r at. ap (has_open_call i) more ∙ opens-more i r at;
-      history = subst IsHistory (sym more) (IsHistory-push (logged s.processes) e h.history sound);
+      history = subst AreHistoryEvents (sym more) (AreHistoryEvents-push (logged s.processes) e h.history sound);
     }
 
   -- An access leaves the clock and the logs.
@@ -206,7 +206,7 @@ module _ (plan : Plan) (s : State) (p : ℕ) (q q' : Process) (h : IsLogged plan
             (h.opens p q here ∙ sym (ap (λ r. is_some r.call) t.1 ∙ ap (λ o. is_some o) call))
         | inr t ↦ h.opens i r t.1
       ];
-      history = subst IsHistory (sym same) h.history;
+      history = subst AreHistoryEvents (sym same) h.history;
     }
       where
         its-script : (script : List Call) → slice_get plan.scripts p ≡ Some script → length (begun q) ≤ length script
@@ -220,6 +220,7 @@ has-range : (call : Call) → IsTrue (is_tree_call call) → has_range call ≡ 
 has-range (Get key) h = refl
 has-range (Insert key value) h = refl
 has-range (Remove key) h = refl
+has-range (Replace key old new) h = refl
 has-range (Scan low high) h = and-left (nat_le low high) _ h
   where
     and-left : (a b : Bool) → IsTrue (a && b) → a ≡ true
@@ -441,7 +442,7 @@ opened-logged plan =
       stamps = subst (AreBelow _) (sym (no-logs n)) tt;
       calls = ap call_count none ∙ sym (sum-none (λ q. length (begun q)) n refl);
       opens = λ i q at. ap (has_open_call i) none ∙ sym (ap (λ q. is_some q.call) (all-idle n i q at));
-      history = subst IsHistory (sym none) (record { shaped = refl; small = refl; calls = omega arith; well_formed = λ p. refl });
+      history = subst AreHistoryEvents (sym none) (record { shaped = refl; small = refl; calls = omega arith; well_formed = λ p. refl });
     }
 
 pub logs-are-history : LogsAreHistory

@@ -7,7 +7,7 @@ use Rattle.events.specs.declared.event.Reply.TheVariants as replies
 use Rattle.events.specs.declared.event.Event.{Event}
 use Rattle.events.specs.declared.event.Event.TheVariants.{Invoke, Answer}
 use Rattle.events.specs.declared.TheConstants.{PROCESSES, MAX_CALLS}
-use Rattle.events.specs.Histories.{IsHistory}
+use Rattle.events.specs.Histories.{AreHistoryEvents}
 use Rattle.events.specs.Operations.{operations}
 use Rattle.orders.specs.Orders.{IsLegal, after_calls, IsLinearizable}
 use Rattle.art_rows.specs.Table.{IsWithinLimits}
@@ -35,7 +35,7 @@ pub record IsRun (plan : Plan) (schedule : List ℕ) (s : State) : Type 0 where
 
 -- What a state logs is a history.
 abbrev pub LogsAreHistory : Type 0
-LogsAreHistory = (plan : Plan) (schedule : List ℕ) (s : State) → IsRun plan schedule s → IsHistory (history_of s)
+LogsAreHistory = (plan : Plan) (schedule : List ℕ) (s : State) → IsRun plan schedule s → AreHistoryEvents (history_of s)
 
 -- each call is answered before the next is invoked, the last one too
 abbrev pub IsSerial : List Event → Type 0

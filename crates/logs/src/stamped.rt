@@ -1,20 +1,27 @@
 // From logs to a history.
 ghost use Rattle.std.specs.Prelude.{◌≡◌, ◌++◌, map, IfOk, OnOk};
-ghost use Rattle.events.specs.Histories.{IsHistory};
+ghost use Rattle.events.specs.Histories.{AreHistoryEvents};
+ghost use Rattle.events.specs.Starts.{IsStart};
 ghost use Rattle.logs.specs.Logs.{events_by_stamp};
 
 use events::{Event, History, Memory};
 use std::alloc::Global;
 
-/// The history of stamped events: the events by rising stamp, and those of one stamp in the order in which they
-/// stand. For n events it takes time n log n. `Err` is want of memory.
-pub fn history_by_stamp(alloc: Global, mut stamped: Vec<(u64, Event)>) -> Result<History, Memory>
-    requires { IsHistory (events_by_stamp stamped.items) }
-    ensures { IfOk result (λ h. h ≡ events_by_stamp stamped.items) }
+/// The history of stamped events, where the map holds these pairs at the start: the events by rising stamp, and those
+/// of one stamp in the order in which they stand. For n events it takes time n log n. `Err` is want of memory.
+pub fn history_by_stamp(
+    alloc: Global,
+    start: Vec<(u64, u64)>,
+    mut stamped: Vec<(u64, Event)>,
+) -> Result<History, Memory>
+    requires start { IsStart start.items }
+    requires events { AreHistoryEvents (events_by_stamp stamped.items) }
+    ensures { IfOk result (λ h. h
+        ≡ record { start = start.items; events = events_by_stamp stamped.items }) }
 {
     stamped.sort_by_key(|event| event.0)?;
     let events = without_stamps(alloc, stamped)?;
-    History::with_calls(alloc, events)
+    History::with_calls(alloc, start, events)
 }
 
 /// The events in the same order.

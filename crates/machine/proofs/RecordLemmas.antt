@@ -3,7 +3,7 @@ use Rattle.std.proofs.Common.{◌≡◌, ℕ, suc, ◌+◌, List, [], ◌∷◌,
 use Rattle.std.specs.Prelude.{Some, slice_get, flat_map}
 use Rattle.std.proofs.Math.Logic.{∥∥₁_elim, ∥∥₁_map}
 use Rattle.std.proofs.Props.{props}
-use Rattle.events.specs.Histories.{IsHistory}
+use Rattle.events.specs.Histories.{AreHistoryEvents}
 use Rattle.logs.specs.Logs.{events_by_stamp}
 use Rattle.art_rows.specs.declared.table.Shape.{Shape}
 use Rattle.art_steps.specs.declared.variant.Variant.{Variant}
@@ -47,7 +47,7 @@ shown-history plan m s shows =
     ap events_by_stamp (same-logs plan 0 m.runners.items s.processes shows.many
     (λ i r q e f. subst (λ n. FitsProcess plan n r q) (omega arith) (shows.fits i r q e f)))
 
-pub recorded-history : (m : Machine) → IsHistory (events_by_stamp (flat_map (λ r. r.log.items) m.runners.items))
+pub recorded-history : (m : Machine) → AreHistoryEvents (events_by_stamp (flat_map (λ r. r.log.items) m.runners.items))
 recorded-history m = ∥∥₁_elim m.under_way (Prim.hlevel props) (λ (u : IsUnderWay m.shape m.variant m.left m.words.items m.runners.items).
-    subst IsHistory (shown-history u.plan m u.state u.shows)
+    subst AreHistoryEvents (shown-history u.plan m u.state u.shows)
     (logs-are-history u.plan u.schedule u.state (is-run m.shape m.variant m.left m.words.items m.runners.items u)))

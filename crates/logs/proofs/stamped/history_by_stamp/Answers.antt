@@ -1,7 +1,8 @@
 use Rattle.std.proofs.Common.{◌≡◌, List, IfOk, map, sym, ap, ◌∙◌, subst, rules}
 use Rattle.std.proofs.lemmas.List.Sorted.{answers_always}
 use Rattle.events.specs.declared.event.Event.{Event}
-use Rattle.events.specs.Histories.{IsHistory}
+use Rattle.events.specs.HistoryView.{HistoryView}
+use Rattle.events.specs.Histories.{AreHistoryEvents}
 use Rattle.logs.specs.Logs.{events_by_stamp}
 use Rattle.logs.proofs.SortLemmas.{sorted_is}
 use Rattle.logs.proofs.stamped.history_by_stamp.Goals as goal
@@ -17,7 +18,12 @@ same c =
     (c.sort_by_key.ensures.stable (λ e. e.0) (answers_always _ _ _ (λ f a r g h. search rules))))
 
 pub with_calls-requires : goal.with_calls-requires
-with_calls-requires c = subst IsHistory (sym (same (goal.at.with_calls-requires c).In_ok-events)) c.requires
+with_calls-requires c = record {
+  start = c.requires.start;
+  events = subst AreHistoryEvents (sym (same (goal.at.with_calls-requires c).In_ok-events)) c.requires.events;
+}
 
 pub returns : goal.returns
-returns c = subst (λ (events : List Event). IfOk c.with_calls.result (λ h. h ≡ events)) (same (goal.at.returns c).In_ok-events) c.with_calls.ensures
+returns c =
+    subst (λ (events : List Event). IfOk c.with_calls.result (λ (h : HistoryView). h ≡ record { start = c.args.start.items; events = events }))
+    (same (goal.at.returns c).In_ok-events) c.with_calls.ensures

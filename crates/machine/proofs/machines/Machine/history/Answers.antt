@@ -1,5 +1,6 @@
 use Rattle.std.proofs.Common.{◌≡◌, IfOk, flat_map, ap, sym, subst, ◌∙◌}
-use Rattle.events.specs.Histories.{IsHistory}
+use Rattle.events.specs.Histories.{AreHistoryEvents}
+use Rattle.events.specs.HistoryView.{HistoryView, with_no_start}
 use Rattle.logs.specs.Logs.{events_by_stamp}
 use Rattle.machine.proofs.RecordLemmas.{reached, shown-history, recorded-history}
 use Rattle.machine.proofs.machines.Machine.history.Goals as goal
@@ -7,16 +8,16 @@ use Rattle.machine.proofs.machines.Machine.history.Goals as goal
 pub returns-in_err-stamped-clause-reached : goal.returns-in_err-stamped-clause-reached
 returns-in_err-stamped-clause-reached c = reached c.args.self.now
 
-pub history_by_stamp-requires : goal.history_by_stamp-requires
-history_by_stamp-requires c =
-    subst (λ es. IsHistory (events_by_stamp es)) (sym (c.in_ok-stamped.ensures ∙ ap (flat_map (λ r. r.log.items)) c.deref.ensures.value))
+pub history_by_stamp-requires-clause-events : goal.history_by_stamp-requires-clause-events
+history_by_stamp-requires-clause-events c =
+    subst (λ es. AreHistoryEvents (events_by_stamp es)) (sym (c.in_ok-stamped.ensures ∙ ap (flat_map (λ r. r.log.items)) c.deref.ensures.value))
     (recorded-history c.args.self.now)
 
 pub returns-clause-history : goal.returns-clause-history
 returns-clause-history c = λ plan s shows.
-    subst (λ events. IfOk c.history_by_stamp.result (λ h. h ≡ events))
+    subst (λ events. IfOk c.history_by_stamp.result (λ (h : HistoryView). h ≡ with_no_start events))
     (ap events_by_stamp (c.in_ok-stamped.ensures ∙ ap (flat_map (λ r. r.log.items)) c.deref.ensures.value)
-    ∙ sym (shown-history plan c.args.self.now s shows)) c.history_by_stamp.ensures
+    ∙ sym (shown-history plan c.args.self.now s shows)) (rw c.new.ensures.items at c.history_by_stamp.ensures)
 
 pub returns-clause-reached : goal.returns-clause-reached
 returns-clause-reached c = reached c.args.self.now
