@@ -1,4 +1,5 @@
-//! Tests of the layers that stand beside the judge's, through their public calls: the sorted map, tickets and streams.
+//! Tests of the layers that stand beside the judge's, through their public calls: the sorted map, histories
+//! with a start, tickets and streams.
 //!
 //! A proof covers what the contracts say. What these tests add is that each call answers where memory is ample, and
 //! that the definitions say what was meant: expected answers were worked out by hand.
@@ -10,3 +11,5 @@ mod draws;
 mod ends;
 #[cfg(test)]
 mod maps;
+#[cfg(test)]
+mod starting_pairs;

@@ -56,6 +56,21 @@ const SCANS: Steps<'static> = &[
     ),
 ];
 
+/// A replace changes the value that it expects, and no other.
+const REPLACES: Steps<'static> = &[
+    (Call::Replace(7, 70, 71), "Some(70)"),
+    (Call::Get(7), "Some(71)"),
+    (Call::Replace(7, 70, 72), "Some(71)"),
+    (Call::Get(7), "Some(71)"),
+    (Call::Replace(5, 0, 1), "None"),
+    (Call::Get(5), "None"),
+    (Call::Replace(4, 40, 40), "Some(40)"),
+    (
+        Call::Scan(0, u64::MAX),
+        "[(0, 1), (4, 40), (7, 71), (18446744073709551615, 9)]",
+    ),
+];
+
 /// Does the calls in turn, and compares each answer.
 fn do_steps(alloc: Global, map: &mut SortedMap, steps: Steps<'_>) -> Result<(), Fail> {
     for (call, want) in steps {
@@ -89,6 +104,21 @@ fn a_scan_lists_both_ends(rt: HostRuntime) -> Result<(), Fail> {
 }
 
 #[test]
+fn a_replace_changes_the_value_that_it_expects(rt: HostRuntime) -> Result<(), Fail> {
+    do_steps(rt.alloc(), &mut four_pairs(rt.alloc())?, REPLACES)
+}
+
+#[test]
+fn a_map_of_pairs_holds_them(rt: HostRuntime) -> Result<(), Fail> {
+    let pairs = [(0, 1), (4, 40), (7, 70), (u64::MAX, 9)];
+    let mut map = SortedMap::of(rt.alloc(), &pairs)?;
+    assert!(rt; map.pairs() == pairs.as_slice());
+    do_steps(rt.alloc(), &mut map, SCANS)?;
+    assert!(rt; SortedMap::of(rt.alloc(), &[])?.pairs().is_empty());
+    Ok(())
+}
+
+#[test]
 fn a_copy_is_a_map_of_its_own(rt: HostRuntime) -> Result<(), Fail> {
     let mut map = four_pairs(rt.alloc())?;
     let mut copy = map.copy(rt.alloc())?;
@@ -106,7 +136,7 @@ enum Sample {
 }
 
 /// Calls on the four pairs, with replies and whether they fit.
-const SAMPLES: [(Call, Sample, bool); 23] = [
+const SAMPLES: [(Call, Sample, bool); 26] = [
     (Call::Get(4), Sample::Single(Reply::Some(40)), true),
     (Call::Get(4), Sample::Single(Reply::Some(70)), false),
     (Call::Get(4), Sample::Single(Reply::None), false),
@@ -122,6 +152,21 @@ const SAMPLES: [(Call, Sample, bool); 23] = [
     (Call::Remove(4), Sample::Single(Reply::None), false),
     (Call::Remove(4), Sample::Single(Reply::Refused), true),
     (Call::Remove(4), Sample::List(&[(4, 40)]), false),
+    (
+        Call::Replace(4, 40, 1),
+        Sample::Single(Reply::Some(40)),
+        true,
+    ),
+    (
+        Call::Replace(4, 40, 1),
+        Sample::Single(Reply::Some(1)),
+        false,
+    ),
+    (
+        Call::Replace(4, 1, 40),
+        Sample::Single(Reply::Some(40)),
+        true,
+    ),
     (Call::Get(5), Sample::Single(Reply::None), true),
     (Call::Scan(4, 7), Sample::List(&[(4, 40), (7, 70)]), true),
     // Out of order, another value, too short, no list.

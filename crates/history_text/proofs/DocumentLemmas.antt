@@ -41,7 +41,10 @@ same_view a b starts events = ap₂ view_of starts events
 -- a text spells one history only
 pub one_history : SpellsOneHistory
 one_history text a b first second =
-    let docs = document_injective (start_data first.start) (start_data second.start) (map event_data a.events) (map event_data b.events)
-    (same_value text _ _ first.json second.json) in
-    same_view a b (first.starts ∙ (ap start_pairs (start_data_injective first.start second.start docs.0) ∙ sym second.starts))
+    let one = first.spelled in
+    let other = second.spelled in
+    let same = same_value text first.value second.value first.json second.json in
+    let docs = document_injective (start_data one.start) (start_data other.start) (map event_data a.events) (map event_data b.events)
+    (sym one.value ∙ (same ∙ other.value)) in
+    same_view a b (one.starts ∙ (ap start_pairs (start_data_injective one.start other.start docs.0) ∙ sym other.starts))
     (events_injective a.events b.events docs.1)

@@ -1,5 +1,5 @@
 -- Which history a text spells, by its value.
-use Rattle.std.proofs.Common.{◌≡◌, ℕ, Bool, true, false, cond, List, [], ◌∷◌, map, Option, Some, None, is_some, Result, Ok, Err, IfOk, refl, ap, ◌∙◌, subst}
+use Rattle.std.proofs.Common.{◌≡◌, ℕ, Bool, true, false, cond, List, [], ◌∷◌, map, Option, Some, None, is_some, Result, Ok, Err, IfOk, refl, ap, ◌∙◌}
 use Rattle.std.specs.Prelude.{IsTrue}
 use Rattle.std.specs.List.{list_all}
 use Rattle.std.proofs.lemmas.Bool.{and_parts}
@@ -8,8 +8,7 @@ use Rattle.events.specs.declared.event.Event.{Event}
 use Rattle.events.specs.declared.fault.HistoryFault.{HistoryFault}
 use Rattle.events.specs.HistoryView.{HistoryView}
 use Rattle.events.specs.PlainHistories.{is_plain_event, has_no_pairs, is_plain}
-use Rattle.history_text.specs.Texts.{pair_data, event_data, document, start_data, start_pairs, may_stand, history_data, IsJson, Spells}
-use Rattle.history_text.specs.Values.{SpellsAs}
+use Rattle.history_text.specs.Texts.{pair_data, event_data, document, start_data, start_pairs, may_stand, history_data, IsJson, SpellsAs, Spells}
 
 -- any event may stand in a text with a start
 pub all_stand : (events : List Event) → list_all (may_stand true) events ≡ true
@@ -22,19 +21,15 @@ no_pairs (pair ∷ pairs) h = cc
 
 -- the text that a history is written as spells it
 pub Spells-written : (text : List ℕ) (history : HistoryView) → IsJson text (history_data history) → Spells text history
-Spells-written text history json = either (is_plain history) refl json
+Spells-written text history json = record { value = history_data history; json = json; spelled = either (is_plain history) refl }
   where
     either : (b : Bool) → is_plain history ≡ b
-        → IsJson text (cond b (document None (map event_data history.events)) (document (Some (map pair_data history.start)) (map event_data history.events)))
-        → Spells text history
-    either true plain is =
+        → SpellsAs (cond b (document None (map event_data history.events)) (document (Some (map pair_data history.start)) (map event_data history.events)))
+        history
+    either true plain =
         let parts = and_parts (has_no_pairs history.start) (list_all is_plain_event history.events) plain in
-        record { start = None; json = is; starts = no_pairs history.start parts.0; standing = parts.1 }
-    either false other is = record { start = Some history.start; json = is; starts = refl; standing = all_stand history.events }
-
--- a text whose value spells a history spells it
-pub Spells-value : (text : List ℕ) (d : Data) (history : HistoryView) → IsJson text d → SpellsAs d history → Spells text history
-Spells-value text d history json h = record { start = h.start; json = subst (IsJson text) h.value json; starts = h.starts; standing = h.standing }
+        record { start = None; value = refl; starts = no_pairs history.start parts.0; standing = parts.1 }
+    either false other = record { start = Some history.start; value = refl; starts = refl; standing = all_stand history.events }
 
 -- what the values of the events spell, after those of a start
 pub spelled_with : (d : Data) (start : Option (List (ℕ × ℕ))) (items : List Data) (r : Result HistoryView HistoryFault)

@@ -210,21 +210,25 @@ one_fault text f g a b other_f other_g = one_faulty text (IsFaulty-from_fault te
 -- a value that spells a history has no fault
 faulty_spells_none : (text : List ℕ) (d : Data) (history : HistoryView) {fault : HistoryFault} → IsJson text d → IsFaultyDocument d fault → Spells text history
     → IsHistory history → ⊥
-faulty_spells_none text d history json (version none) spelled sound = none _ _ (same_value text d _ json spelled.json)
+faulty_spells_none text d history json (version none) spelled sound =
+    let s = spelled.spelled in
+    none (start_data s.start) (map event_data history.events) (same_value text d spelled.value json spelled.json ∙ s.value)
 faulty_spells_none text d history json (pair f a) spelled sound =
-    not_start d f spelled.start _ a (same_value text d _ json spelled.json) (subst IsStart spelled.starts sound.start)
+    let s = spelled.spelled in
+    not_start d f s.start (map event_data history.events) a (same_value text d spelled.value json spelled.json ∙ s.value) (subst IsStart s.starts sound.start)
 faulty_spells_none text d history json (event f a) spelled sound =
-    let docs = document_injective (start_data a.start) (start_data spelled.start) (map event_data a.before ++ a.next ∷ a.rest) (map event_data history.events)
-    (sym a.parts ∙ same_value text d _ json spelled.json) in
-    let same = ap (λ (s : Option (List (ℕ × ℕ))). is_some s) (start_data_injective a.start spelled.start docs.0) in
-    no_fault_inside (is_some spelled.start) history.events a.before a.next f
+    let s = spelled.spelled in
+    let docs = document_injective (start_data a.start) (start_data s.start) (map event_data a.before ++ a.next ∷ a.rest) (map event_data history.events)
+    (sym a.parts ∙ (same_value text d spelled.value json spelled.json ∙ s.value)) in
+    let same = ap (λ (o : Option (List (ℕ × ℕ))). is_some o) (start_data_injective a.start s.start docs.0) in
+    no_fault_inside (is_some s.start) history.events a.before a.next f
     (item_at event_data event_data_injective a.before history.events a.next a.rest docs.1)
-    (record { history = sound.events; standing = spelled.standing }) (subst (λ (has : Bool). IsFaultAfter has a.before a.next f) same a.shows)
+    (record { history = sound.events; standing = s.standing }) (subst (λ (has : Bool). IsFaultAfter has a.before a.next f) same a.shows)
 
 -- a text with a fault spells no history
 not_spelled : (text : List ℕ) {f : HistoryFault} (history : HistoryView) → IsFaulty text f → Spells text history → IsHistory history → ⊥
 not_spelled text history (too_long a) spelled sound = omega (arith, spelled.json.fits)
-not_spelled text history (not_json short none) spelled sound = none _ spelled.json.utf8 spelled.json.value
+not_spelled text history (not_json short none) spelled sound = none spelled.value spelled.json.utf8 spelled.json.value
 not_spelled text history (faulty f d is a) spelled sound = faulty_spells_none text d history is a spelled sound
 
 pub no_history : FaultySpellsNoHistory

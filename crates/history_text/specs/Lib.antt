@@ -2,5 +2,4 @@ pub mod Limits
 pub mod TextFaults
 pub mod TextLaws
 pub mod Texts
-pub mod Values
 pub mod ValueFaults

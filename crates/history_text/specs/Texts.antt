@@ -77,9 +77,15 @@ pub record IsJson (text : List ℕ) (d : Data) : Type 0 where
   pub utf8 : IsUtf8 text
   pub value : read text ≡ Some d
 
--- the text spells this history
-pub record Spells (text : List ℕ) (history : HistoryView) : Type 0 where
+-- the value of a text spells this history
+pub record SpellsAs (d : Data) (history : HistoryView) : Type 0 where
   pub start : Option (List (ℕ × ℕ))
-  pub json : IsJson text (document (start_data start) (map event_data history.events))
+  pub value : d ≡ document (start_data start) (map event_data history.events)
   pub starts : history.start ≡ start_pairs start
   pub standing : IsTrue (list_all (may_stand (is_some start)) history.events)
+
+-- the text spells this history
+pub record Spells (text : List ℕ) (history : HistoryView) : Type 0 where
+  pub value : Data
+  pub json : IsJson text value
+  pub spelled : SpellsAs value history

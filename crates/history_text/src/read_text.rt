@@ -6,10 +6,9 @@ ghost use Rattle.serde_json.specs.View.{view};
 ghost use Rattle.events.specs.HistoryView.{HistoryView};
 ghost use Rattle.events.specs.declared.fault.HistoryFault.TheVariants as faults;
 ghost use Rattle.events.specs.Histories.{IsHistory};
-ghost use Rattle.history_text.specs.Texts.{pair_data, event_data, document, may_stand, IsJson, Spells};
+ghost use Rattle.history_text.specs.Texts.{pair_data, event_data, document, may_stand, IsJson, SpellsAs, Spells};
 ghost use Rattle.history_text.specs.TextFaults.{IsDocumentFault, IsTextFault};
 ghost use Rattle.history_text.specs.ValueFaults.{IsFaultAmong, IsPairFaultAmong};
-ghost use Rattle.history_text.specs.Values.{SpellsAs};
 
 use crate::MAX_TEXT;
 use crate::read_event::{event_of, starting_pair, three_members, two_members};

@@ -1,0 +1,173 @@
+// Histories that start with pairs: their texts, and what is handed on of the pairs.
+use history::{
+    Call, Event, History, HistoryFault, MAX_START, Reply, Segment, Turns, read_history,
+    write_history,
+};
+use std::alloc::Global;
+use std::test::Fail;
+
+/// Texts with the lines of their faults.
+static REFUSED: [(&str, &str); 15] = [
+    (r#"{"events":[],"version":2}"#, "3 Version"),
+    (r#"{"events":[],"start":[],"version":1}"#, "3 Version"),
+    (r#"{"events":[],"start":[],"version":3}"#, "3 Version"),
+    (r#"{"events":[],"start":{},"version":2}"#, "3 Version"),
+    (r#"{"events":{},"start":[7],"version":2}"#, "3 Version"),
+    (
+        r#"{"events":[],"more":[],"start":[],"version":2}"#,
+        "3 Version",
+    ),
+    (
+        r#"{"events":[],"start":[[5,7],[5,8]],"version":2}"#,
+        "8 Start at pair 1",
+    ),
+    (
+        r#"{"events":[],"start":[[3,2],[1,2],7],"version":2}"#,
+        "8 Start at pair 1",
+    ),
+    (
+        r#"{"events":[],"start":[[1,2],[3]],"version":2}"#,
+        "8 Start at pair 1",
+    ),
+    (
+        r#"{"events":[],"start":[[1,"2"]],"version":2}"#,
+        "8 Start at pair 0",
+    ),
+    (
+        r#"{"events":[7],"start":[7],"version":2}"#,
+        "8 Start at pair 0",
+    ),
+    (
+        r#"{"events":[7],"start":[[1,2]],"version":2}"#,
+        "4 Shape at event 0",
+    ),
+    (
+        r#"{"events":[{"invoke":["replace",1,2,3],"process":0}],"version":1}"#,
+        "4 Shape at event 0",
+    ),
+    (
+        r#"{"events":[{"invoke":["replace",1,2,3],"process":300}],"version":1}"#,
+        "4 Shape at event 0",
+    ),
+    (
+        r#"{"events":[{"invoke":["replace",1,2],"process":0}],"start":[],"version":2}"#,
+        "4 Shape at event 0",
+    ),
+];
+
+/// Texts, and the compact text of the same history.
+static REWRITTEN: [(&str, &str); 4] = [
+    (
+        r#"{"events":[],"start":[],"version":2}"#,
+        r#"{"events":[],"version":1}"#,
+    ),
+    (
+        r#"{"version": 2, "start": [[5, 7], [6, 0]], "events": []}"#,
+        r#"{"events":[],"start":[[5,7],[6,0]],"version":2}"#,
+    ),
+    (
+        r#"{"start":[],"events":[{"process":0,"invoke":["replace",5,7,8]}],"version":2}"#,
+        r#"{"events":[{"invoke":["replace",5,7,8],"process":0}],"start":[],"version":2}"#,
+    ),
+    (
+        r#"{"start":[],"events":[{"process":0,"invoke":["get",5]}],"version":2}"#,
+        r#"{"events":[{"invoke":["get",5],"process":0}],"version":1}"#,
+    ),
+];
+
+#[test]
+fn a_text_of_version_2_is_refused_by_its_first_fault(rt: HostRuntime) -> Result<(), Fail> {
+    let alloc = rt.alloc();
+    for (text, want) in &REFUSED {
+        let Err(fault) = read_history(alloc, text.as_bytes()) else {
+            return Err(Fail::new(format!(in alloc; "read: {text}")?));
+        };
+        assert!(rt; format!(in alloc; "{fault}")?.as_str() == *want, "{text}");
+    }
+    Ok(())
+}
+
+#[test]
+fn a_history_is_written_in_the_version_that_says_it(rt: HostRuntime) -> Result<(), Fail> {
+    let alloc = rt.alloc();
+    for (text, want) in &REWRITTEN {
+        let history = read_history(alloc, text.as_bytes())?;
+        assert!(rt; write_history(alloc, &history)?.as_str() == *want, "{text}");
+    }
+    Ok(())
+}
+
+/// So many pairs by rising key.
+fn rising_pairs(alloc: Global, count: usize) -> Result<Vec<(u64, u64)>, Fail> {
+    let mut pairs = Vec::new(alloc);
+    for key in 0..count {
+        pairs.push((key as u64, 0))?;
+    }
+    Ok(pairs)
+}
+
+/// A get of a key, answered none.
+fn get_of(alloc: Global, key: u64) -> Result<Vec<Event>, Fail> {
+    let mut events = Vec::new(alloc);
+    events.push(Event::Invoke {
+        process: 0,
+        call: Call::Get(key),
+    })?;
+    events.push(Event::Answer {
+        process: 0,
+        reply: Reply::None,
+    })?;
+    Ok(events)
+}
+
+#[test]
+fn a_history_starts_with_4096_pairs_at_most(rt: HostRuntime) -> Result<(), Fail> {
+    let alloc = rt.alloc();
+    let pairs = rising_pairs(alloc, MAX_START)?;
+    let history = History::with_start(alloc, pairs, get_of(alloc, 7)?)?;
+    assert!(rt; history.start().len() == 4096 && history.calls().len() == 1);
+    let pairs = rising_pairs(alloc, MAX_START + 1)?;
+    let refused = History::with_start(alloc, pairs, Vec::new(alloc));
+    assert!(rt; matches!(refused, Err(HistoryFault::TooMany)));
+    assert!(rt;
+        History::from_events(alloc, get_of(alloc, 7)?)?
+            .start()
+            .is_empty()
+    );
+    Ok(())
+}
+
+#[test]
+fn a_history_grows_by_a_pair(rt: HostRuntime) -> Result<(), Fail> {
+    let alloc = rt.alloc();
+    let mut turns = Turns::new(alloc);
+    turns.take_pair((5, 7))?;
+    assert!(rt;
+        matches!(
+            turns.take_pair((5, 8)),
+            Err(HistoryFault::Start { pair: 1 })
+        )
+    );
+    turns.take_pair((6, 0))?;
+    assert!(rt; turns.history(alloc)?.start() == [(5, 7), (6, 0)].as_slice());
+    Ok(())
+}
+
+#[test]
+fn a_segment_starts_with_the_pairs_of_its_keys(rt: HostRuntime) -> Result<(), Fail> {
+    let alloc = rt.alloc();
+    let start = Vec::from_slice(alloc, &[(1, 10), (4, 40), (5, 50), (6, 60), (9, 90)])?;
+    let mut events = get_of(alloc, 4)?;
+    for event in get_of(alloc, 6)? {
+        events.push(event)?;
+    }
+    let history = History::with_start(alloc, start, events)?;
+    let one = Segment::of(alloc, &history, &[1])?;
+    assert!(rt; one.start() == [(6, 60)].as_slice());
+    let Some(whole) = Segment::whole(alloc, &history)? else {
+        return Err(Fail::new("no segment"));
+    };
+    assert!(rt; whole.start() == [(4, 40), (5, 50), (6, 60)].as_slice());
+    assert!(rt; whole.copy(alloc)?.start() == whole.start());
+    Ok(())
+}
