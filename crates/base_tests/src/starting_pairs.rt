@@ -162,8 +162,6 @@ fn a_segment_starts_with_the_pairs_of_its_keys(rt: HostRuntime) -> Result<(), Fa
         events.push(event)?;
     }
     let history = History::with_start(alloc, start, events)?;
-    let one = Segment::of(alloc, &history, &[1])?;
-    assert!(rt; one.start() == [(6, 60)].as_slice());
     let Some(whole) = Segment::whole(alloc, &history)? else {
         return Err(Fail::new("no segment"));
     };
