@@ -22,12 +22,17 @@ pub(crate) fn config_of(alloc: Global, taken: Taken<'_>) -> Result<Config, Fail>
     let map = map_of(alloc, taken.1)?;
     let mut config = Config::start(alloc, &SortedMap::new(alloc))?;
     for place in taken.0 {
-        if config.has(*place) {
-            return Err(Fail::new("a call is taken twice"));
-        }
-        config = config.with(alloc, *place, &map)?;
+        config = after_call(alloc, &config, *place, &map)?;
     }
     Ok(config)
+}
+
+/// The configuration after one more call.
+fn after_call(alloc: Global, config: &Config, place: u32, map: &SortedMap) -> Result<Config, Fail> {
+    if config.has(place) {
+        return Err(Fail::new("a call is taken twice"));
+    }
+    Ok(config.with(alloc, place, map)?)
 }
 
 const TAKEN: Taken<'static> = (&[0, 1, 3], &[(5, 50)]);
@@ -161,11 +166,12 @@ fn places_have_one_form(rt: HostRuntime) -> Result<(), Fail> {
 #[test]
 fn a_long_run_is_no_word(rt: HostRuntime) -> Result<(), Fail> {
     let map = SortedMap::new(rt.alloc());
-    let mut config = Config::start(rt.alloc(), &map)?.with(rt.alloc(), 132, &map)?;
-    for place in 1..=130 {
-        config = config.with(rt.alloc(), place, &map)?;
+    let mut config = config_of(rt.alloc(), (&[132], &[]))?;
+    for place in 1..131 {
+        config = after_call(rt.alloc(), &config, place, &map)?;
     }
-    let shown = format!(in rt.alloc(); "{:?}", config.with(rt.alloc(), 0, &map)?)?;
+    config = after_call(rt.alloc(), &config, 0, &map)?;
+    let shown = format!(in rt.alloc(); "{config:?}")?;
     assert!(rt; shown.contains("least: 131, words: [1]"), "{shown}");
     Ok(())
 }
