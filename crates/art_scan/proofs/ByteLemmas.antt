@@ -11,16 +11,16 @@ use Rattle.art_stages.specs.declared.stage.Frame.{Frame}
 use Rattle.art_stages.specs.Scans.{ScanAt, in_word, lies, slot_at, bytes_at}
 use Rattle.art_scan.specs.Walks.{frame_test}
 
-zero_left : (m : ℕ) → 0 + m ≡ m
+pub zero_left : (m : ℕ) → 0 + m ≡ m
 zero_left m = omega arith
 
-zero_right : (x : ℕ) → x ≡ x + 0
+pub zero_right : (x : ℕ) → x ≡ x + 0
 zero_right x = omega arith
 
-suc_left : (n m : ℕ) → suc n + m ≡ suc (n + m)
+pub suc_left : (n m : ℕ) → suc n + m ≡ suc (n + m)
 suc_left n m = omega arith
 
-suc_right : (x n : ℕ) → x + 1 + n ≡ x + suc n
+pub suc_right : (x n : ℕ) → x + 1 + n ≡ x + suc n
 suc_right x n = omega arith
 
 numbers_split : (x n m : ℕ) → numbers x (n + m) ≡ numbers x n ++ numbers (x + n) m

@@ -1,4 +1,5 @@
 mod ByteLemmas
+mod KeyByteLemmas
 mod NextLemmas
 mod RangeLemmas
 mod WayLemmas

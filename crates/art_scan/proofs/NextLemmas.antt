@@ -104,5 +104,6 @@ pub frame_from : (kind : Kind) (low high : ℕ) (w : Walk) (f : Frame) (d : ℕ)
     ≡ bytes_at (frame_test kind low high f) (frame_slot kind f) (child_from w f) (f.byte + d) (f.left - d) (behind_bytes kind low high w f other)
 frame_from kind low high w f d other most h =
     frame_bytes kind low high w f other
-    ∙ (ap (λ n. bytes_at (frame_test kind low high f) (frame_slot kind f) (child_from w f) f.byte n (behind_bytes kind low high w f other)) (omega (arith, most))
+    ∙ (ap (λ n. bytes_at (frame_test kind low high f) (frame_slot kind f) (child_from w f) f.byte n (behind_bytes kind low high w f other))
+    (omega (arith, most))
     ∙ bytes_skip (frame_test kind low high f) (frame_slot kind f) (child_from w f) f.byte d (f.left - d) (behind_bytes kind low high w f other) h)

@@ -1,10 +1,11 @@
 // The next child of a row that a scan walks.
-ghost use Rattle.std.specs.Prelude.{◌≡◌, ◌+◌, ◌<◌, ◌≤◌, ℕ, true, false, nat_le, IfSome};
+ghost use Rattle.std.specs.Prelude.{◌≡◌, ◌+◌, ◌<◌, ◌≤◌, ℕ, true, false, nat_le, None, IfSome};
 ghost use Rattle.art_stages.specs.Scans.{Walk, ScanAt, words_at, frame_at};
 ghost use Rattle.art_scan.specs.Sound.{is_sound_frame, is_sound_step};
 ghost use Rattle.art_scan.specs.Walks.{step_or, frame_test, frame_slot, bytes_of_frame};
 
 use crate::bytes::is_met_in;
+use crate::next_keys::{next_key4, next_key16};
 use crate::ranges::can_lie;
 use art_rows::{Kind, index_entry};
 use art_setting::{child_slot, key_among};
@@ -73,6 +74,33 @@ fn is_past(frame: Frame, byte: u32) -> bool
     }
 }
 
+/// The bytes from this one up to the next that may have a slot have none.
+fn next_key(frame: Frame, byte: u32) -> u32
+    ensures { (y : ℕ) → byte ≤ y → y < result → frame_slot frame.row.kind frame y ≡ None }
+{
+    let keys = frame.keys;
+    match frame.row.kind {
+        Kind::Four => next_key4(keys.first, byte),
+        Kind::Sixteen => next_key16(keys.count, keys.first, keys.second, byte),
+        Kind::FortyEight | Kind::Full => byte,
+    }
+}
+
+/// So many of the bytes from this one on are passed over for that.
+fn bare_bytes(frame: Frame, byte: u32, left: u32) -> u32
+    ensures most { result ≤ left }
+    ensures bare { (y : ℕ) → byte ≤ y → y < byte + result → frame_slot frame.row.kind frame y ≡ None }
+{
+    let next = next_key(frame, byte);
+    if next <= byte {
+        0
+    } else if next - byte <= left {
+        next - byte
+    } else {
+        left
+    }
+}
+
 /// The next child among so many bytes from this one on.
 fn next_byte(low: u64, high: u64, frame: Frame, byte: u32, left: u32) -> Option<ScanStep>
     requires bytes { byte + left ≤ 256 }
@@ -80,27 +108,30 @@ fn next_byte(low: u64, high: u64, frame: Frame, byte: u32, left: u32) -> Option<
     ensures next { (w : Walk) (other : ScanAt) → bytes_of_frame low high w frame byte left other ≡ step_or result w other }
     ensures sound { IfSome result (λ s. is_sound_step s ≡ true) }
 {
-    if left == 0 {
+    let bare = bare_bytes(frame, byte, left);
+    if bare == left {
         return None;
     }
-    if is_past(frame, byte) {
+    let first = byte + bare;
+    let after = left - bare - 1;
+    if is_past(frame, first) {
         return None;
     }
-    match slot_of(frame, byte) {
-        None => next_byte(low, high, frame, byte + 1, left - 1),
+    match slot_of(frame, first) {
+        None => next_byte(low, high, frame, first + 1, after),
         Some(slot) => {
-            if is_walked(low, high, frame, byte) {
+            if is_walked(low, high, frame, first) {
                 let frame = Frame {
                     row: frame.row,
                     keys: frame.keys,
-                    byte: byte + 1,
-                    left: left - 1,
+                    byte: first + 1,
+                    left: after,
                     index: frame.index,
                     words: frame.words,
                 };
                 Some(ScanStep::Child { frame, slot })
             } else {
-                next_byte(low, high, frame, byte + 1, left - 1)
+                next_byte(low, high, frame, first + 1, after)
             }
         }
     }

@@ -4,6 +4,7 @@
 mod bytes;
 mod children;
 mod lists;
+mod next_keys;
 mod ranges;
 mod scanning;
 mod steps;

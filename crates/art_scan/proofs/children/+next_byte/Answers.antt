@@ -1,30 +1,49 @@
-use Rattle.std.proofs.Common.{sym, ◌∙◌}
+use Rattle.std.proofs.Common.{◌+◌, ◌-◌, sym, ◌∙◌, arith}
 use Rattle.art_stages.specs.Scans.{child_from}
 use Rattle.art_scan.specs.Walks.{frame_test, frame_slot}
 use Rattle.art_scan.proofs.ByteLemmas.{bytes_past}
+use Rattle.art_scan.proofs.KeyByteLemmas.{pass, pass_all}
 use Rattle.art_scan.proofs.NextLemmas.{bytes_found, bytes_not, bytes_bare}
 use Rattle.art_scan.proofs.children.+next_byte.Goals as goal
 
+pub returns-then-bare-left-clause-next : goal.returns-then-bare-left-clause-next
+returns-then-bare-left-clause-next t c = λ w other.
+    pass_all (frame_test c.args.frame.row.kind c.args.low c.args.high c.args.frame) (frame_slot c.args.frame.row.kind c.args.frame)
+    (child_from w c.args.frame) c.args.byte c.bare_bytes-bare.result c.args.left other
+    c.bare_bytes-bare.ensures.most c.if-bare-left.true c.bare_bytes-bare.ensures.bare
+
 pub returns-then-is_past-clause-next : goal.returns-then-is_past-clause-next
 returns-then-is_past-clause-next t c = λ w other.
-    bytes_past (frame_test c.args.frame.row.kind c.args.low c.args.high c.args.frame) (frame_slot c.args.frame.row.kind c.args.frame)
-    (child_from w c.args.frame) c.args.byte c.args.left other
+    pass (frame_test c.args.frame.row.kind c.args.low c.args.high c.args.frame) (frame_slot c.args.frame.row.kind c.args.frame)
+    (child_from w c.args.frame) c.args.byte c.bare_bytes-bare.result c.args.left other c.bare_bytes-bare.ensures.most c.bare_bytes-bare.ensures.bare
+    ∙ bytes_past (frame_test c.args.frame.row.kind c.args.low c.args.high c.args.frame) (frame_slot c.args.frame.row.kind c.args.frame)
+    (child_from w c.args.frame) (c.args.byte + c.bare_bytes-bare.result) (c.args.left - c.bare_bytes-bare.result) other
     (c.is_past.ensures c.if-is_past.true c.args.low c.args.high)
 
 pub returns-in-None-clause-next : goal.returns-in-None-clause-next
 returns-in-None-clause-next t c = λ w other.
-    bytes_bare (frame_test c.args.frame.row.kind c.args.low c.args.high c.args.frame) (frame_slot c.args.frame.row.kind c.args.frame)
-    (child_from w c.args.frame) c.args.byte c.args.left other c.if-left-eq0.false (sym c.slot_of.ensures ∙ c.in-None.is)
-    ∙ c.next_byte.ensures.next w other
+    pass (frame_test c.args.frame.row.kind c.args.low c.args.high c.args.frame) (frame_slot c.args.frame.row.kind c.args.frame)
+    (child_from w c.args.frame) c.args.byte c.bare_bytes-bare.result c.args.left other c.bare_bytes-bare.ensures.most c.bare_bytes-bare.ensures.bare
+    ∙ (bytes_bare (frame_test c.args.frame.row.kind c.args.low c.args.high c.args.frame) (frame_slot c.args.frame.row.kind c.args.frame)
+    (child_from w c.args.frame) (c.args.byte + c.bare_bytes-bare.result) (c.args.left - c.bare_bytes-bare.result) other
+    (λ e. c.if-bare-left.false (omega (arith, e, c.bare_bytes-bare.ensures.most))) (sym c.slot_of.ensures ∙ c.in-None.is)
+    ∙ c.next_byte.ensures.next w other)
 
 pub returns-then-is_walked-clause-next : goal.returns-then-is_walked-clause-next
 returns-then-is_walked-clause-next t c = λ w other.
-    bytes_found (frame_test c.args.frame.row.kind c.args.low c.args.high c.args.frame) (frame_slot c.args.frame.row.kind c.args.frame)
-    (child_from w c.args.frame) c.args.byte c.args.left c.in-Some.slot other
-    c.if-left-eq0.false (sym c.is_walked.ensures ∙ c.if-is_walked.true) (sym c.slot_of.ensures ∙ c.in-Some.is)
+    pass (frame_test c.args.frame.row.kind c.args.low c.args.high c.args.frame) (frame_slot c.args.frame.row.kind c.args.frame)
+    (child_from w c.args.frame) c.args.byte c.bare_bytes-bare.result c.args.left other c.bare_bytes-bare.ensures.most c.bare_bytes-bare.ensures.bare
+    ∙ bytes_found (frame_test c.args.frame.row.kind c.args.low c.args.high c.args.frame) (frame_slot c.args.frame.row.kind c.args.frame)
+    (child_from w c.args.frame) (c.args.byte + c.bare_bytes-bare.result) (c.args.left - c.bare_bytes-bare.result) c.in-Some.slot other
+    (λ e. c.if-bare-left.false (omega (arith, e, c.bare_bytes-bare.ensures.most)))
+    (sym c.is_walked.ensures ∙ c.if-is_walked.true) (sym c.slot_of.ensures ∙ c.in-Some.is)
 
 pub returns-else-is_walked-clause-next : goal.returns-else-is_walked-clause-next
 returns-else-is_walked-clause-next t c = λ w other.
-    bytes_not (frame_test c.args.frame.row.kind c.args.low c.args.high c.args.frame) (frame_slot c.args.frame.row.kind c.args.frame)
-    (child_from w c.args.frame) c.args.byte c.args.left other c.if-left-eq0.false (sym c.is_walked.ensures ∙ c.if-is_walked.false)
-    ∙ c.next_byte-else-is_walked.ensures.next w other
+    pass (frame_test c.args.frame.row.kind c.args.low c.args.high c.args.frame) (frame_slot c.args.frame.row.kind c.args.frame)
+    (child_from w c.args.frame) c.args.byte c.bare_bytes-bare.result c.args.left other c.bare_bytes-bare.ensures.most c.bare_bytes-bare.ensures.bare
+    ∙ (bytes_not (frame_test c.args.frame.row.kind c.args.low c.args.high c.args.frame) (frame_slot c.args.frame.row.kind c.args.frame)
+    (child_from w c.args.frame) (c.args.byte + c.bare_bytes-bare.result) (c.args.left - c.bare_bytes-bare.result) other
+    (λ e. c.if-bare-left.false (omega (arith, e, c.bare_bytes-bare.ensures.most)))
+    (sym c.is_walked.ensures ∙ c.if-is_walked.false)
+    ∙ c.next_byte-else-is_walked.ensures.next w other)
