@@ -4,7 +4,7 @@ ghost use Rattle.art_stages.specs.Scans.{Walk, ScanAt, words_at, frame_at};
 ghost use Rattle.art_scan.specs.Sound.{is_sound_frame, is_sound_step};
 ghost use Rattle.art_scan.specs.Walks.{step_or, frame_test, frame_slot, bytes_of_frame};
 
-use crate::bytes::is_met_in;
+use crate::met_bytes::is_met_in;
 use crate::next_keys::{next_key4, next_key16};
 use crate::ranges::can_lie;
 use art_rows::{Kind, index_entry};

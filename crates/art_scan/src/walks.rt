@@ -6,7 +6,7 @@ ghost use Rattle.art_setting.specs.Settings.{setting_of};
 ghost use Rattle.art_scan.specs.Sound.{is_sound_frame, is_sound_step};
 ghost use Rattle.art_scan.specs.Walks.{walk_of};
 
-use crate::bytes::is_met;
+use crate::met_bytes::is_met;
 use crate::children::{next_child, next_word};
 use crate::lists::Lists;
 use art_rows::Kind;

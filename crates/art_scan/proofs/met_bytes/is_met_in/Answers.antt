@@ -3,7 +3,7 @@ use Rattle.art_steps.specs.Scan.{can_lie}
 use Rattle.art_stages.specs.Stages.{row_at}
 use Rattle.art_scan.specs.Walks.{has_any}
 use Rattle.art_scan.proofs.ByteLemmas.{word_bytes}
-use Rattle.art_scan.proofs.bytes.is_met_in.Goals as goal
+use Rattle.art_scan.proofs.met_bytes.is_met_in.Goals as goal
 
 pub returns : goal.returns
 returns c =

@@ -1,4 +1,4 @@
-use Rattle.art_scan.proofs.bytes.+is_met_from.Given as goal
+use Rattle.art_scan.proofs.met_bytes.+is_met_from.Given as goal
 
 abbrev pub decreases-is_met_from : goal.decreases-is_met_from
 decreases-is_met_from l = l.left
