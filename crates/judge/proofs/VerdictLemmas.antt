@@ -63,7 +63,8 @@ module _ (budget : ℕ) where
 
   -- ---- what an exact verdict shows
 
-  pub shows_yes : (start : Contents) (calls : List Operation) (order : List ℕ) → IsExactYes start budget calls order → IsOrder start calls order → ShowsYes start calls order
+  pub shows_yes : (start : Contents) (calls : List Operation) (order : List ℕ) → IsExactYes start budget calls order → IsOrder start calls order
+      → ShowsYes start calls order
   shows_yes start calls order h is_order = record {
     segments = h.segments;
     orders = h.orders;
@@ -131,7 +132,8 @@ module _ (budget : ℕ) where
   -- ---- one verdict
 
   pub one_verdict : (history : HistoryView) (a b : Verdict) → HasOneListOfSegments → HasOneMergedOrder → IsHistory history
-      → IsExactVerdict history.start budget (operations history.events) a → IsExactVerdict history.start budget (operations history.events) b → AreSameVerdict a b
+      → IsExactVerdict history.start budget (operations history.events) a → IsExactVerdict history.start budget (operations history.events) b
+      → AreSameVerdict a b
   one_verdict history (Yes a) (Yes b) one_list one_merged is h k =
       let segments = one_list history h.segments k.segments is h.are_segments k.are_segments in
       let other = subst (λ s. AllZip (IsOrderedBy budget) s k.orders) (sym segments) k.ordered in
@@ -158,7 +160,8 @@ module _ (budget : ℕ) where
   one_verdict history (No a) (Undecided b) one_list one_merged is h k =
       let segments = one_list history (k.below ++ b ∷ k.above) (h.below ++ a ∷ h.above) is k.are_segments h.are_segments in
       refuted_is_not_else a h.refuted
-      (All-here (IsOrderedOrSpent budget) h.below a h.above (subst (All (IsOrderedOrSpent budget)) segments (none_refuted history.start (operations history.events) b k)))
+      (All-here (IsOrderedOrSpent budget) h.below a h.above (subst (All (IsOrderedOrSpent budget)) segments
+      (none_refuted history.start (operations history.events) b k)))
   one_verdict history (Undecided a) (Yes b) one_list one_merged is h k =
       let segments = one_list history k.segments (h.below ++ a ∷ h.above) is k.are_segments h.are_segments in
       let ordered = subst (All (IsOrdered budget)) segments (IsOrdered-all budget k.segments k.orders k.ordered) in
@@ -166,7 +169,8 @@ module _ (budget : ℕ) where
   one_verdict history (Undecided a) (No b) one_list one_merged is h k =
       let segments = one_list history (h.below ++ a ∷ h.above) (k.below ++ b ∷ k.above) is h.are_segments k.are_segments in
       refuted_is_not_else b k.refuted
-      (All-here (IsOrderedOrSpent budget) k.below b k.above (subst (All (IsOrderedOrSpent budget)) segments (none_refuted history.start (operations history.events) a h)))
+      (All-here (IsOrderedOrSpent budget) k.below b k.above (subst (All (IsOrderedOrSpent budget)) segments
+      (none_refuted history.start (operations history.events) a h)))
   one_verdict history (Undecided a) (Undecided b) one_list one_merged is h k =
       let segments = one_list history (h.below ++ a ∷ h.above) (k.below ++ b ∷ k.above) is h.are_segments k.are_segments in
       first_unique (IsSpent budget) (IsOrdered budget) ordered_is_not_spent h.below a h.above k.below b k.above segments h.spent k.spent

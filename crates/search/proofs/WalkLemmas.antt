@@ -30,7 +30,8 @@ use Rattle.search.specs.Cursor.{cursor, StandsAtCursor}
 use Rattle.search.specs.Remaining.{RemainsBefore, IsEarliestAnswer}
 use Rattle.search.specs.Links.{LinksView, AreWithin, unlinked, put_back, AreLeft, without}
 use Rattle.search.specs.Undo.{undone}
-use Rattle.search.specs.Standing.{first_pairs, IsExhausted, places, pairs_after, IsConfigurationAt, Remembers, IsAnsweredBefore, IsNoLater, AreLinksOf, StandsWith, untried}
+use Rattle.search.specs.Standing.{first_pairs, IsExhausted, places, pairs_after, IsConfigurationAt, Remembers, IsAnsweredBefore, IsNoLater}
+use Rattle.search.specs.Standing.{AreLinksOf, StandsWith, untried}
 use Rattle.search.proofs.LinkLemmas.{range_below, first_or, after-end, IsChain-left, AreLeft-take, left-Contains, left-from_Contains, IsNextLeft-first}
 use Rattle.search.proofs.LinkLemmas.{IsNextLeft-after}
 use Rattle.search.proofs.EarliestLemmas.{distinct_from_increasing}
@@ -158,7 +159,8 @@ first_pairs-push (c ∷ visited) d lt = refl
 
 -- ---- steps
 
-module _ (start : Contents) (calls : List Operation) (apart : NonePrecedesItself calls) (levels : List Level) (next at : ℕ) (pairs : Contents) (visited : List Configuration)
+module _ (start : Contents) (calls : List Operation) (apart : NonePrecedesItself calls) (levels : List Level) (next at : ℕ) (pairs : Contents)
+    (visited : List Configuration)
     (by_number by_answer : LinksView) where
   -- the walk goes on to the next call left
   pub StandsWith-pass : StandsAtCursor start calls (places levels) (next + 1) visited → next < length calls → (Contains (places levels) next → ⊥)
@@ -216,7 +218,8 @@ module _ (start : Contents) (calls : List Operation) (apart : NonePrecedesItself
       -- a call that may come next is taken
       pub IsFront-taken : IsFront start calls (cursor (places levels) next)
       IsFront-taken =
-          IsFront-push start calls (places levels) next a s.cursor.is_front here (s.left lt) preceded (subst (λ m. IsLegalCall m a.call a.response) s.holds legal)
+          IsFront-push start calls (places levels) next a s.cursor.is_front here (s.left lt) preceded
+          (subst (λ m. IsLegalCall m a.call a.response) s.holds legal)
 
       -- to this configuration
       pub LeadsTo-taken : (c d : Configuration) → slice_get visited at ≡ Some c → IsStrictlyIncreasing d.taken
@@ -286,7 +289,8 @@ module _ (start : Contents) (calls : List Operation) (apart : NonePrecedesItself
             })))
             (place-push levels level i l is)
 
-        pub StandsWith-push : StandsWith start calls (levels ++ level ∷ []) (slice_index (unlinked by_number next).after (length calls)) (length visited) after_pairs
+        pub StandsWith-push : StandsWith start calls (levels ++ level ∷ []) (slice_index (unlinked by_number next).after (length calls))
+            (length visited) after_pairs
             (visited ++ d ∷ []) (unlinked by_number next) (unlinked by_answer next)
         StandsWith-push =
             let pushed = StandsAtCursor-push start calls (places levels) next visited s.cursor d IsFront-taken leads new not_order in
@@ -326,9 +330,11 @@ module _ (start : Contents) (calls : List Operation) (apart : NonePrecedesItself
 
 module _ (start : Contents) (calls : List Operation) (apart : NonePrecedesItself calls) where
   -- the cursor passes all calls after one that was invoked after the earliest answer
-  pub cursor-past : (path : List ℕ) (next : ℕ) (visited : List Configuration) (answered : ℕ) → StandsAtCursor start calls path next visited → next ≤ length calls
+  pub cursor-past : (path : List ℕ) (next : ℕ) (visited : List Configuration) (answered : ℕ) → StandsAtCursor start calls path next visited
+      → next ≤ length calls
       → AllPairs (λ a b. a.inv < b.inv) calls → IsEarliestAnswer calls path (Some answered)
-      → ((a : Operation) → slice_get calls next ≡ Some a → answered < a.inv) → (IsOrder start calls path → ⊥) → StandsAtCursor start calls path (length calls) visited
+      → ((a : Operation) → slice_get calls next ≡ Some a → answered < a.inv) → (IsOrder start calls path → ⊥)
+      → StandsAtCursor start calls path (length calls) visited
   cursor-past path next visited answered stands within rising earliest late not_order =
       StandsAtCursor-pass start calls path next visited stands apart (length calls) within
       (λ k from below is_front. none k from (IsNext-from_front start calls path k [] is_front) (slice_get-below calls next (omega arith)))
@@ -398,7 +404,8 @@ module _ (start : Contents) (calls : List Operation) (apart : NonePrecedesItself
 
     -- the walk stands before the call again, which it has tried
     pub StandsWith-back : (restored : Contents) → restored ≡ undone pairs level.undo
-        → StandsWith start calls levels (slice_index (put_back by_number level.place).after level.place) level.at restored visited (put_back by_number level.place)
+        → StandsWith start calls levels (slice_index (put_back by_number level.place).after level.place) level.at restored visited
+        (put_back by_number level.place)
         (put_back by_answer level.place)
     StandsWith-back restored restored_is =
         StandsWith-pass start calls apart levels level.place level.at restored visited (put_back by_number level.place) (put_back by_answer level.place)

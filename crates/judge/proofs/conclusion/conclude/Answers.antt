@@ -10,7 +10,8 @@ use Rattle.orders.specs.Orders.{IsLinearizable}
 use Rattle.segments.specs.SegmentOrders.{HasNoOrder}
 use Rattle.segments.specs.Segments.{AreSegments}
 use Rattle.list_laws.proofs.Lists.{Contains-first}
-use Rattle.judge.proofs.AnswerLemmas.{HaveShown-found, HaveShown-spent, HaveShown-first, IsOrderedOrSpent-all, IsUnderWay-start, IsUnderWay-answer, IsUnderWay-next}
+use Rattle.judge.proofs.AnswerLemmas.{HaveShown-found, HaveShown-spent, HaveShown-first, IsOrderedOrSpent-all, IsUnderWay-start, IsUnderWay-answer}
+use Rattle.judge.proofs.AnswerLemmas.{IsUnderWay-next}
 use Rattle.judge.proofs.AnswerLemmas.{IsUnderWay-all}
 use Rattle.judge.proofs.VerdictLemmas.{found_orders, shows_yes, shows_no, shows_undecided}
 use Rattle.judge.proofs.conclusion.conclude.Goals as goal
@@ -46,7 +47,8 @@ returns-in-NoOrder-clause-exact c =
     record {
       below = way.before;
       above = into_iter_items (zip_first c.next.new.self);
-      are_segments = subst (AreSegments c.args.history.now.start (operations c.args.history.now.events)) (way.parts ∙ ap (λ l. way.before ++ l) steps.0.0) c.requires.segments;
+      are_segments = subst (AreSegments c.args.history.now.start (operations c.args.history.now.events)) (way.parts
+          ∙ ap (λ l. way.before ++ l) steps.0.0) c.requires.segments;
       refuted = rw c.in-NoOrder.is at (IsUnderWay-answer way steps.0.0 steps.1.0);
       lowest = IsOrderedOrSpent-all c.args.budget way.before (map (λ v. v.items) c.loop-segment.orders.items) c.loop-segment.lowest_spent way.shown;
     }
@@ -106,7 +108,8 @@ returns-in-Some-lowest_spent-clause-exact c =
 
 pub returns-in-Some-lowest_spent-clause-shown : goal.returns-in-Some-lowest_spent-clause-shown
 returns-in-Some-lowest_spent-clause-shown c =
-    shows_undecided c.args.budget c.args.history.now.start (operations c.args.history.now.events) c.in-Some-lowest_spent.segment (returns-in-Some-lowest_spent-clause-exact c)
+    shows_undecided c.args.budget c.args.history.now.start (operations c.args.history.now.events) c.in-Some-lowest_spent.segment
+    (returns-in-Some-lowest_spent-clause-exact c)
 
 pub merge-requires : goal.merge-requires
 merge-requires c = (
@@ -132,4 +135,5 @@ returns-clause-exact c = record {
 
 pub returns-clause-shown : goal.returns-clause-shown
 returns-clause-shown c =
-    shows_yes c.args.budget c.args.history.now.start (operations c.args.history.now.events) _ (returns-clause-exact c) c.in_ok-merge-in-None-lowest_spent.ensures.order
+    shows_yes c.args.budget c.args.history.now.start (operations c.args.history.now.events) _
+    (returns-clause-exact c) c.in_ok-merge-in-None-lowest_spent.ensures.order

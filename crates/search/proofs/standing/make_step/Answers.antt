@@ -16,8 +16,11 @@ late calls n answered a b here there h = subst (λ (x : Operation). answered < x
 
 pub returns-in_default : goal.returns-in_default
 returns-in_default g c =
-    let w = c.args.standing.now in
-    (refl, IsOrder-from_none g.start c.args.calls.now (places w.levels.items) c.requires.1.1.1.cursor.is_front (rw c.in_default.is at c.earliest_answer.ensures))
+    let w = c.args.standing.now in (
+      refl,
+      IsOrder-from_none g.start c.args.calls.now (places w.levels.items) c.requires.1.1.1.cursor.is_front
+          (rw c.in_default.is at c.earliest_answer.ensures),
+    )
 
 pub try_call-requires : goal.try_call-requires
 try_call-requires g c =

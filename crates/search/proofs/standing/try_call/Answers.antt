@@ -61,7 +61,8 @@ returns-in_ok-undo_call-in-Ok-false g c =
     let visited_is = rw c.in-Ok-false.field-0-test at c.in-Ok-false.ensures.visited in
     let within : Contains w.memo config = not_new config w.memo c.in-Ok-false.field-0 c.in-Ok-false.ensures.new c.in-Ok-false.field-0-test in
     let cursor =
-    cursor-seen g.start calls c.requires.1.0 w.levels.items w.next w.at w.map w.memo w.calls w.answers s may.known may.not_order a here may.preceded legal config
+    cursor-seen g.start calls c.requires.1.0 w.levels.items w.next w.at w.map w.memo w.calls w.answers s may.known may.not_order a here may.preceded legal
+    config
     leads within in
     let stands = StandsWith-passed g.start calls c.requires.1.0 w.levels.items w.next w.at w.map w.memo w.calls w.answers s may.known may.not_order cursor in
     let less = untried-passed g.start calls c.requires.1.0 w.levels.items w.next w.at w.map w.memo w.calls w.answers s may.known may.not_order in
@@ -93,10 +94,12 @@ returns-in_ok-push-in-Ok-true g c =
     let p = c.in_ok-push-in-Ok-true.ensures in
     let level : Level = record { place = w.next; undo = c.in_ok-undo.undo; at = w.at } in
     let stands =
-    StandsWith-push g.start calls c.requires.1.0 w.levels.items w.next w.at w.map w.memo w.calls w.answers s may.known may.not_order a here may.preceded legal config
+    StandsWith-push g.start calls c.requires.1.0 w.levels.items w.next w.at w.map w.memo w.calls w.answers s may.known may.not_order a here may.preceded
+    legal config
     leads new c.in_ok-undo.undo level refl refl c.take_call.new.map c.in_ok-undo.ensures.after c.in_ok-undo.ensures.undo p.calls_within p.answers_within in
     let more =
-    untried-pushed g.start calls c.requires.1.0 w.levels.items w.next w.at w.map w.memo w.calls w.answers s may.known may.not_order a here may.preceded legal config
+    untried-pushed g.start calls c.requires.1.0 w.levels.items w.next w.at w.map w.memo w.calls w.answers s may.known may.not_order a here may.preceded legal
+    config
     leads new c.in_ok-undo.undo level refl refl c.take_call.new.map c.in_ok-undo.ensures.after c.in_ok-undo.ensures.undo p.calls_within p.answers_within in
     let one_more : length (w.memo ++ config ∷ []) ≡ length w.memo + 1 = length-append w.memo (config ∷ []) in
     let n = c.push.new.standing in
