@@ -1,5 +1,6 @@
-// Two processes whose steps are interleaved: what leaving out a check makes of a call, and what the full tree answers.
-use crate::setups::{opened, recorded};
+// Two processes whose steps are interleaved: what leaving out a check makes of a call, which the verdict refutes, and what
+// the full tree answers.
+use crate::setups::{judged, opened, recorded};
 use art::{Point, Variant};
 use art_core::Item;
 use events::Call;
@@ -31,13 +32,16 @@ fn history(alloc: Global, events: &[(u8, &str)]) -> Result<String, Fail> {
     Ok(text)
 }
 
-fn assert_recorded(
+/// The machine has recorded these events, and this is the report on them.
+fn assert_judged(
     rt: &impl Abort,
     alloc: Global,
     machine: &Machine,
     events: &[(u8, &str)],
+    report: &str,
 ) -> Result<(), Fail> {
     assert_eq!(rt; recorded(alloc, machine)?, history(alloc, events)?);
+    assert_eq!(rt; judged(alloc, machine)?.as_str(), report);
     Ok(())
 }
 
@@ -56,9 +60,17 @@ fn a_get_that_checks_nothing_reads_a_shifted_child(rt: HostRuntime) -> Result<()
         Item::End { process: 1 },
         Item::End { process: 0 },
     ];
-    for (variant, answer) in [
-        (Variant::ReadUnchecked, "\"answer\":null"),
-        (Variant::Optimistic, "\"answer\":50"),
+    for (variant, answer, report) in [
+        (
+            Variant::ReadUnchecked,
+            "\"answer\":null",
+            "{\"calls\":[0,2],\"hi\":5,\"lo\":5,\"verdict\":\"no\"}",
+        ),
+        (
+            Variant::Optimistic,
+            "\"answer\":50",
+            "{\"order\":[0,1,2,3],\"verdict\":\"yes\"}",
+        ),
     ] {
         let scripts: [&[Call]; 2] = [&first, &[Call::Insert(3, 30)]];
         let machine = run_on_eights(alloc, variant, scripts, &schedule)?;
@@ -72,7 +84,7 @@ fn a_get_that_checks_nothing_reads_a_shifted_child(rt: HostRuntime) -> Result<()
             (1, "\"answer\":null"),
             (0, answer),
         ];
-        assert_recorded(&rt, alloc, &machine, &expected)?;
+        assert_judged(&rt, alloc, &machine, &expected, report)?;
     }
     Ok(())
 }
@@ -90,9 +102,17 @@ fn a_lock_that_checks_nothing_loses_an_insert(rt: HostRuntime) -> Result<(), Fai
         Item::End { process: 0 },
         Item::End { process: 1 },
     ];
-    for (variant, answer) in [
-        (Variant::LockUnchecked, "\"answer\":null"),
-        (Variant::Optimistic, "\"answer\":90"),
+    for (variant, answer, report) in [
+        (
+            Variant::LockUnchecked,
+            "\"answer\":null",
+            "{\"calls\":[1,2],\"hi\":9,\"lo\":9,\"verdict\":\"no\"}",
+        ),
+        (
+            Variant::Optimistic,
+            "\"answer\":90",
+            "{\"order\":[0,1,2],\"verdict\":\"yes\"}",
+        ),
     ] {
         let scripts: [&[Call]; 2] = [&[Call::Insert(5, 50)], &[Call::Insert(9, 90), Call::Get(9)]];
         let machine = run_on_eights(alloc, variant, scripts, &schedule)?;
@@ -104,7 +124,7 @@ fn a_lock_that_checks_nothing_loses_an_insert(rt: HostRuntime) -> Result<(), Fai
             (1, "\"invoke\":[\"get\",9]"),
             (1, answer),
         ];
-        assert_recorded(&rt, alloc, &machine, &expected)?;
+        assert_judged(&rt, alloc, &machine, &expected, report)?;
     }
     Ok(())
 }
@@ -125,11 +145,16 @@ fn a_scan_that_is_not_validated_misses_the_first_of_two_inserts(
         Item::End { process: 1 },
         Item::End { process: 0 },
     ];
-    for (variant, answer) in [
-        (Variant::ScanUnvalidated, "\"answer\":[[33554432,2]]"),
+    for (variant, answer, report) in [
+        (
+            Variant::ScanUnvalidated,
+            "\"answer\":[[33554432,2]]",
+            "{\"calls\":[0,1,2],\"hi\":33554432,\"lo\":16777216,\"verdict\":\"no\"}",
+        ),
         (
             Variant::Optimistic,
             "\"answer\":[[16777216,1],[33554432,2]]",
+            "{\"order\":[1,2,0],\"verdict\":\"yes\"}",
         ),
     ] {
         let scripts: [&[Call]; 2] = [&[Call::Scan(16777216, 33554432)], &inserts];
@@ -142,7 +167,7 @@ fn a_scan_that_is_not_validated_misses_the_first_of_two_inserts(
             (1, "\"answer\":null"),
             (0, answer),
         ];
-        assert_recorded(&rt, alloc, &machine, &expected)?;
+        assert_judged(&rt, alloc, &machine, &expected, report)?;
     }
     Ok(())
 }
@@ -191,7 +216,13 @@ fn a_remove_that_lets_go_too_early_works_on_a_replaced_row(rt: HostRuntime) -> R
         (1, "\"invoke\":[\"get\",1]"),
         (1, "\"answer\":10"),
     ];
-    assert_recorded(&rt, alloc, &machine, &expected)?;
+    assert_judged(
+        &rt,
+        alloc,
+        &machine,
+        &expected,
+        "{\"calls\":[0,4,6],\"hi\":1,\"lo\":1,\"verdict\":\"no\"}",
+    )?;
     let mut coupled = opened(alloc, [8, 8, 8, 1], Variant::Coupled, scripts, 1000)?;
     let stopped = coupled.run(alloc, &schedule);
     let fault = RunFault {

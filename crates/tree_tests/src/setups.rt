@@ -6,6 +6,7 @@ ghost use Rattle.art_steps.specs.TreeCalls.{is_tree_call};
 use art::{Shape, TreeCall, Variant};
 use events::Call;
 use history_text::write_history;
+use judge::{judge_alone, report};
 use machine::Machine;
 use std::alloc::Global;
 use std::test::Fail;
@@ -78,6 +79,13 @@ fn tree_call(call: &Call) -> Result<TreeCall, Fail>
 pub fn recorded(alloc: Global, machine: &Machine) -> Result<String, Fail> {
     let history = machine.history(alloc)?;
     Ok(write_history(alloc, &history)?)
+}
+
+/// The report of the verdict on what the machine has recorded.
+pub fn judged(alloc: Global, machine: &Machine) -> Result<String, Fail> {
+    let history = machine.history(alloc)?;
+    let verdict = judge_alone(alloc, &history, 1000)?;
+    Ok(report(alloc, &verdict)?)
 }
 
 /// The words at these places.
