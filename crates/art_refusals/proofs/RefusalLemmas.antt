@@ -5,7 +5,7 @@ use Rattle.std.proofs.lemmas.Bool.{false≢true}
 use Rattle.std.proofs.lemmas.List.{append-nil}
 use Rattle.std.specs.Prelude.{Option, Some, None, slice_index}
 use Rattle.events.specs.declared.event.Call.{Call}
-use Rattle.events.specs.declared.event.Call.TheVariants.{Get, Insert, Remove, Scan}
+use Rattle.events.specs.declared.event.Call.TheVariants.{Get, Insert, Remove, Scan, Replace}
 use Rattle.events.specs.declared.event.Reply.{Reply}
 use Rattle.events.specs.declared.event.Reply.TheVariants as reply
 use Rattle.art_rows.specs.declared.table.Kind.{Kind}
@@ -188,6 +188,7 @@ refused_as : (c : Setting) (call : Call) (got : List ℕ) → c.call ≡ call �
 refused_as c (Get k) got same e = key_refused c got (ap is_scan same) e
 refused_as c (Insert k v) got same e = key_refused c got (ap is_scan same) e
 refused_as c (Remove k) got same e = key_refused c got (ap is_scan same) e
+refused_as c (Replace k old new) got same e = key_refused c got (ap is_scan same) e
 refused_as c (Scan low high) got same e =
     absurd (scan_behind c low high (scan_start c) got same (ap reply_of (scan_begins c low high got same ∙ e)))
 
