@@ -6,9 +6,9 @@ ghost use Rattle.art_setting.specs.Settings.{setting_of};
 ghost use Rattle.art_scan.specs.Sound.{is_sound_frame, is_sound_step};
 ghost use Rattle.art_scan.specs.Walks.{walk_of};
 
-use crate::met_bytes::is_met;
 use crate::children::{next_child, next_word};
 use crate::lists::Lists;
+use crate::met_bytes::is_met;
 use art_rows::Kind;
 use art_setting::Setting;
 use art_stages::{Entry, Frame, Held, Keys, ScanStep};
