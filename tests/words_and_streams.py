@@ -1,5 +1,5 @@
 #!/usr/bin/env python3
-"""Runs the program on words and standard streams that no example has.
+"""Runs the program on words and standard streams that no example has, and in little stack.
 
     tests/words_and_streams.py
 
@@ -9,6 +9,7 @@ else. The last line counts the runs that passed and failed.
 
 import os
 import re
+import resource
 import subprocess
 import sys
 import tempfile
@@ -20,6 +21,8 @@ ORDERED = os.path.join(EXAMPLES, "insert-then-get.json")
 CUT_SHORT = os.path.join(EXAMPLES, "cut-short.json")
 FULL = "/dev/full"
 LONGEST_TEXT = 16_777_216
+MOST_CALLS = 4096
+LITTLE_STACK = 256 * 1024
 
 # What a stream gets, as regular expressions over all its bytes.
 NOTHING = rb""
@@ -42,10 +45,23 @@ def refused_words():
     yield "too many workers", ["judge", "--workers", "65"], LINES
 
 
-def run(words, source, output=subprocess.PIPE, error=subprocess.PIPE):
+def run(words, source, output=subprocess.PIPE, error=subprocess.PIPE, before=None):
     """The exit status of the program, and what it wrote to the streams that are pipes."""
-    ran = subprocess.run([PROGRAM, *words], stdin=source, stdout=output, stderr=error, timeout=60, check=False)
+    ran = subprocess.run(
+        [PROGRAM, *words], stdin=source, stdout=output, stderr=error, preexec_fn=before, timeout=60, check=False
+    )
     return ran.returncode, ran.stdout or b"", ran.stderr or b""
+
+
+def with_little_stack():
+    resource.setrlimit(resource.RLIMIT_STACK, (LITTLE_STACK, LITTLE_STACK))
+
+
+def deep_text(path):
+    """Writes a history whose calls are all in one segment, and each of them comes after all before it."""
+    call = '{"invoke":["get",5],"process":0},{"answer":null,"process":0}'
+    with open(path, "w", encoding="utf-8") as text:
+        text.write('{"events":[' + ",".join([call] * MOST_CALLS) + '],"version":1}')
 
 
 def runs(folder):
@@ -60,6 +76,13 @@ def runs(folder):
             longer.write(source.read().ljust(LONGEST_TEXT + spaces))
         with open(long_text, "rb") as source:
             yield f"a text of {LONGEST_TEXT + spaces} bytes", run(["check", "0", "1"], source), wanted
+
+    deep = os.path.join(folder, "deep")
+    deep_text(deep)
+    order = ",".join(map(str, range(MOST_CALLS)))
+    report = re.escape(f'{{"order":[{order}],"verdict":"yes"}}\n'.encode())
+    with open(deep, "rb") as source:
+        yield "a deep search in little stack", run(["judge"], source, before=with_little_stack), (0, report, NOTHING)
 
     unreadable = os.open(EXAMPLES, os.O_RDONLY)
     yield "input that is a folder", run(["check"], unreadable), (6, NOTHING, rb"io\n")
