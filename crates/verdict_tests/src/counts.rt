@@ -96,6 +96,14 @@ fn pending_inserts_of_what_was_not_seen(rt: HostRuntime) -> Result<(), Fail> {
     )
 }
 
+/// Where no call was answered the least order is that of no calls, and nothing else counts.
+#[test]
+fn pending_inserts_alone(rt: HostRuntime) -> Result<(), Fail> {
+    let alloc = rt.alloc();
+    let events = overlapping_inserts(alloc, 64, false)?;
+    assert_report(&rt, alloc, &events, 1, r#"{"order":[],"verdict":"yes"}"#)
+}
+
 /// Calls in a row have one configuration more than there are calls.
 #[test]
 fn gets_in_a_row(rt: HostRuntime) -> Result<(), Fail> {
