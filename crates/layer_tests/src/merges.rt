@@ -1,5 +1,5 @@
 // Segments of worked histories, and the orders of a history that merge theirs, from hand.
-ghost use Rattle.std.specs.Prelude.{[], map, IfOk};
+ghost use Rattle.std.specs.Prelude.{map, IfOk};
 ghost use Rattle.std.specs.List.{AllZip};
 ghost use Rattle.segments.specs.SegmentOrders.{IsOrderOf};
 
@@ -159,7 +159,7 @@ fn all_calls_but_pending_gets_and_scans(rt: HostRuntime) -> Result<(), Fail> {
 
 /// An order of each segment, where each has one.
 fn orders_of(alloc: Global, segments: &[Segment]) -> Result<Vec<Vec<u32>>, Fail>
-    ensures { IfOk result (λ v. AllZip (IsOrderOf []) segments.now (map (λ order. order.items) v.items)) }
+    ensures { IfOk result (λ v. AllZip IsOrderOf segments.now (map (λ order. order.items) v.items)) }
 {
     let mut orders = Vec::with_capacity(alloc, segments.len())?;
     for segment in segments {

@@ -4,4 +4,4 @@ use Rattle.segments.specs.SegmentOrders.{IsOrderOf}
 use Rattle.layer_tests.proofs.merges.orders_of.Given as goal
 
 abbrev pub invariant-loop-segment : goal.invariant-loop-segment
-invariant-loop-segment l = AllZip (IsOrderOf []) (take l.segment-index l.segments) (map (λ order. order.items) l.orders.items)
+invariant-loop-segment l = AllZip IsOrderOf (take l.segment-index l.segments) (map (λ order. order.items) l.orders.items)
