@@ -1,7 +1,7 @@
 //! The segments of a recorded history of an ordered map: the calls fall apart where no completed scan goes
 //! over a boundary between keys, and what falls apart is judged apart.
 //!
-//! What a cut and a segment are stands in `history`'s definitions.
+//! What a cut and a segment are stands in `segments`' definitions.
 #![tactic(auto)]
 
 mod cutting;

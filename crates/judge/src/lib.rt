@@ -1,7 +1,7 @@
 //! The judge of recorded histories: whether a history of an ordered map is linearizable, and the report of
 //! the verdict.
 //!
-//! What an order of a history is stands in `history`'s definitions, and what each verdict shows in `specs/`.
+//! What an order of a history is stands in `orders`' definitions, and what each verdict shows in `specs/`.
 #![tactic(auto)]
 
 mod alone;

@@ -1,5 +1,5 @@
 //! The sequential object: an ordered map from `u64` to `u64`, kept as pairs sorted by key. What it
-//! answers, and which pairs a call leaves, stands in `history`'s definitions of the object.
+//! answers, and which pairs a call leaves, stands in `specs/MapObject`.
 #![tactic(auto)]
 
 mod replies;
