@@ -7,13 +7,11 @@
 
 mod access;
 mod laws;
-mod statements;
 mod tree_call;
 mod variant;
 
 pub use access::{Access, Point};
 pub use laws::{accesses_stay_in_table, replies_list_few_pairs};
-pub use statements::statement_is_read;
 pub use tree_call::TreeCall;
 pub use variant::Variant;
 
