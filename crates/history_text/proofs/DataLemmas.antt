@@ -143,7 +143,7 @@ name_and_two_numbers vs x y z s m n len first second third name one two =
     rw (three_items vs x y z len first second third, string_found (view x) s name, number_found (view y) m one, number_found (view z) n two) refl
 
 -- a list of four values, each read at its place
-four_items : (vs : List Value) (x y z u : Value) → length vs ≡ 4 → x ≡ get_or vs 0 x → y ≡ get_or vs 1 y → z ≡ get_or vs 2 z → u ≡ get_or vs 3 u
+pub four_items : (vs : List Value) (x y z u : Value) → length vs ≡ 4 → x ≡ get_or vs 0 x → y ≡ get_or vs 1 y → z ≡ get_or vs 2 z → u ≡ get_or vs 3 u
     → vs ≡ x ∷ y ∷ z ∷ u ∷ []
 four_items [] x y z u len first second third fourth = cc
 four_items (a ∷ []) x y z u len first second third fourth = cc

@@ -12,7 +12,7 @@ use Rattle.history_text.specs.ValueFaults.{invocation_data, response_data}
 use Rattle.history_text.proofs.DataLemmas.{list_data_injective, first_names}
 
 -- a value spells one call only
-call_data_injective : (a b : Call) → call_data a ≡ call_data b → a ≡ b
+pub call_data_injective : (a b : Call) → call_data a ≡ call_data b → a ≡ b
 call_data_injective (Get key) (Get key2) h = cc
 call_data_injective (Get key) (Insert key2 value2) h = cc
 call_data_injective (Get key) (Remove key2) h = cc

@@ -15,17 +15,17 @@ use Rattle.events.specs.PlainHistories.{is_plain}
 
 module _ {A : Type 0} (f : A → Data) where
   -- a list has no float where no item has one
-  items_have_float-map : ((x : A) → has_float (f x) ≡ false) → (xs : List A) → items_have_float (items_of (map f xs)) ≡ false
+  pub items_have_float-map : ((x : A) → has_float (f x) ≡ false) → (xs : List A) → items_have_float (items_of (map f xs)) ≡ false
   items_have_float-map each [] = refl
   items_have_float-map each (x ∷ xs) = rw (each x, items_have_float-map each xs) refl
 
   -- a list nests as deep as its items
-  items_depth-map : (n : ℕ) → ((x : A) → depth (f x) ≤ n) → (xs : List A) → items_depth (items_of (map f xs)) ≤ n
+  pub items_depth-map : (n : ℕ) → ((x : A) → depth (f x) ≤ n) → (xs : List A) → items_depth (items_of (map f xs)) ≤ n
   items_depth-map n each [] = omega arith
   items_depth-map n each (x ∷ xs) = omega (arith, each x, items_depth-map n each xs)
 
 -- a call has no float
-has_float-call : (call : Call) → has_float (call_data call) ≡ false
+pub has_float-call : (call : Call) → has_float (call_data call) ≡ false
 has_float-call (Get key) = refl
 has_float-call (Insert key value) = refl
 has_float-call (Remove key) = refl
@@ -61,7 +61,7 @@ has_float-history history = either (is_plain history)
     either false = rw (events, pairs) refl
 
 -- a call nests two deep at most
-depth-call : (call : Call) → depth (call_data call) ≤ 2
+pub depth-call : (call : Call) → depth (call_data call) ≤ 2
 depth-call (Get key) = omega arith
 depth-call (Insert key value) = omega arith
 depth-call (Remove key) = omega arith

@@ -1,3 +1,4 @@
+pub mod JsonFaults
 pub mod Limits
 pub mod TextFaults
 pub mod TextLaws

@@ -2,16 +2,14 @@
 use Rattle.events.specs.declared.fault.HistoryFault.TheVariants as faults
 use Rattle.std.specs.Prelude.{◌≡◌, ◌⊎◌, ℕ, ◌<◌, ◌≤◌, Bool, false, List, ◌∷◌, ◌++◌, length, map, Option, Some, is_some, IsTrue, ⊤}
 use Rattle.std.specs.List.{list_all}
-use Rattle.std.specs.Str.{IsUtf8}
 use Rattle.serde_json.specs.Data.{Data}
-use Rattle.serde_json.specs.Read.{read}
 use Rattle.events.specs.declared.event.Event.{Event}
 use Rattle.events.specs.declared.fault.HistoryFault.{HistoryFault}
 use Rattle.events.specs.Limits.{start_limit}
 use Rattle.events.specs.Starts.{IsStart}
 use Rattle.events.specs.Histories.{is_shaped, AreHistoryEvents}
 use Rattle.events.specs.HistoryFaults.{is_above, fault_after}
-use Rattle.history_text.specs.Limits.{text_limit}
+use Rattle.history_text.specs.JsonFaults.{IsTooLong, IsNoJson}
 use Rattle.history_text.specs.Texts.{pair_data, event_data, document, start_data, start_pairs, may_stand, IsJson}
 
 -- ---- starting pairs
@@ -72,7 +70,7 @@ IsDocumentFault d fault = ShowsPairFault d fault ⊎ ShowsEventFault d fault
 
 -- why a text was refused: its length, then that it is no JSON, then what is wrong with its value
 abbrev pub IsTextFault : List ℕ → HistoryFault → Type 0
-IsTextFault text faults.TooLong = text_limit < length text
-IsTextFault text faults.NotJson = (length text ≤ text_limit) × ((d : Data) → IsUtf8 text → read text ≡ Some d → ⊥)
+IsTextFault text faults.TooLong = IsTooLong text
+IsTextFault text faults.NotJson = IsNoJson text
 IsTextFault text faults.Memory = ⊤
 IsTextFault text fault = (d : Data) × IsJson text d × IsDocumentFault d fault

@@ -1,14 +1,19 @@
 //! The texts of histories: read, tested to the first fault, and written.
 #![tactic(auto)]
 
+mod json_fault;
+mod json_text;
 mod read_event;
 mod read_text;
 mod text_laws;
 mod write_text;
 
+pub use json_fault::JsonFault;
+pub use json_text::json_of;
+pub use read_event::{call_of, pairs_of, two_members};
 pub use read_text::read_history;
 pub use text_laws::{one_history, one_text_fault};
-pub use write_text::write_history;
+pub use write_text::{call_value, write_history};
 
 /// The most bytes that a text has.
 pub const MAX_TEXT: usize = 16_777_216;

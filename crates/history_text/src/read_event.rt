@@ -4,6 +4,7 @@ ghost use Rattle.serde_json.specs.Data.{Data, string};
 ghost use Rattle.serde_json.specs.View.{view};
 ghost use Rattle.events.specs.declared.event.Call.{Call};
 ghost use Rattle.events.specs.declared.event.Reply.{Reply};
+ghost use Rattle.events.specs.declared.event.Reply.TheVariants as replies;
 ghost use Rattle.events.specs.declared.fault.HistoryFault.TheVariants as faults;
 ghost use Rattle.events.specs.Histories.{has_range};
 ghost use Rattle.events.specs.PlainHistories.{is_replace};
@@ -148,7 +149,7 @@ pub fn three_members<'a>(
 }
 
 /// The call that a value spells, a scan only with its ends in order.
-fn call_of(value: &Value) -> Option<Call>
+pub fn call_of(value: &Value) -> Option<Call>
     ensures some { IfSome result (λ call. view value.now ≡ call_data call) }
     ensures range { IfSome result (λ call. IsTrue (has_range call)) }
     ensures none { IfNone result ((call : Call)
@@ -221,15 +222,22 @@ fn reply_of(alloc: Global, value: &Value) -> Result<Option<Reply>, Memory>
         Value::Null => Ok(Some(Reply::None)),
         Value::Number(number) => Ok(number.as_u64().map(Reply::Some)),
         Value::String(text) if text.as_str() == "refused" => Ok(Some(Reply::Refused)),
-        Value::Array(items) => Ok(pairs_of(alloc, items)?.map(Reply::Pairs)),
+        Value::Array(items) => Ok(pairs_of(alloc, items)?.map(pairs_reply)),
         _ => Ok(None),
     }
 }
 
+/// The reply that lists the pairs.
+fn pairs_reply(pairs: Vec<(u64, u64)>) -> Reply
+    ensures { result ≡ replies.Pairs pairs.items }
+{
+    Reply::Pairs(Pairs::new(pairs))
+}
+
 /// The pairs that the items of an array spell.
-fn pairs_of(alloc: Global, items: &[Value]) -> Result<Option<Pairs>, Memory>
+pub fn pairs_of(alloc: Global, items: &[Value]) -> Result<Option<Vec<(u64, u64)>>, Memory>
     ensures some { IfOk result (λ found. IfSome found
-        (λ pairs. map view items.now ≡ map pair_data pairs)) }
+        (λ pairs. map view items.now ≡ map pair_data pairs.items)) }
     ensures none { IfOk result (λ found. IfNone found ((pairs : List (ℕ × ℕ))
         → map view items.now ≡ map pair_data pairs → ⊥)) }
 {
@@ -240,7 +248,7 @@ fn pairs_of(alloc: Global, items: &[Value]) -> Result<Option<Pairs>, Memory>
         };
         pairs.push(pair)?;
     }
-    Ok(Some(Pairs::new(pairs)))
+    Ok(Some(pairs))
 }
 
 /// The pair at a place of a text's start. Otherwise why it is refused: `TooMany` past `MAX_START`, whatever it is,
@@ -257,7 +265,7 @@ pub fn starting_pair(place: usize, value: &Value) -> Result<(u64, u64), HistoryF
 }
 
 /// The pair of numbers that a value spells.
-fn pair_of(value: &Value) -> Option<(u64, u64)>
+pub fn pair_of(value: &Value) -> Option<(u64, u64)>
     ensures some { IfSome result (λ pair. view value.now ≡ pair_data pair) }
     ensures none { IfNone result ((pair : ℕ × ℕ) → view value.now ≡ pair_data pair → ⊥) }
 {

@@ -10,7 +10,8 @@ ghost use Rattle.history_text.specs.Texts.{pair_data, event_data, document, may_
 ghost use Rattle.history_text.specs.TextFaults.{IsDocumentFault, IsTextFault};
 ghost use Rattle.history_text.specs.ValueFaults.{IsFaultAmong, IsPairFaultAmong};
 
-use crate::MAX_TEXT;
+use crate::json_fault::JsonFault;
+use crate::json_text::json_of;
 use crate::read_event::{event_of, starting_pair, three_members, two_members};
 use events::{History, HistoryFault, Turns};
 use serde_json::Value;
@@ -38,13 +39,11 @@ fn value_of(alloc: Global, text: &[u8]) -> Result<Value, HistoryFault>
     ensures ok { IfOk result (λ value. IsJson text.now (view value)) }
     ensures refused { IfErr result (IsTextFault text.now) }
 {
-    if text.len() > MAX_TEXT {
-        return Err(HistoryFault::TooLong);
-    }
-    match Value::from_slice(alloc, text) {
+    match json_of(alloc, text) {
         Ok(value) => Ok(value),
-        Err(error) if error.is_memory() => Err(HistoryFault::Memory),
-        Err(_) => Err(HistoryFault::NotJson),
+        Err(JsonFault::TooLong) => Err(HistoryFault::TooLong),
+        Err(JsonFault::NotJson) => Err(HistoryFault::NotJson),
+        Err(JsonFault::Memory) => Err(HistoryFault::Memory),
     }
 }
 

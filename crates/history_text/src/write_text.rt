@@ -87,7 +87,8 @@ fn event_value(alloc: Global, event: &Event) -> Result<Value, AllocError>
     }
 }
 
-fn call_value(alloc: Global, call: &Call) -> Result<Value, AllocError>
+/// The JSON value of a call.
+pub fn call_value(alloc: Global, call: &Call) -> Result<Value, AllocError>
     ensures { IfOk result (λ value. view value ≡ call_data call.now) }
 {
     match call {

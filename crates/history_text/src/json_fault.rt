@@ -1,0 +1,10 @@
+/// Why no JSON value was read from a text.
+#[derive(Clone, Copy, Debug, PartialEq, Eq)]
+pub enum JsonFault {
+    /// The text is longer than texts may be.
+    TooLong,
+    /// The text is no JSON in UTF-8.
+    NotJson,
+    /// Memory was wanted.
+    Memory,
+}
