@@ -1,0 +1,4 @@
+pub mod AmongLemmas
+pub mod JsonLemmas
+pub mod PlanTextLemmas
+pub mod WrittenPlanLemmas

@@ -1,0 +1,32 @@
+-- The value has no float and nests five deep at most, so it has a text that reads as it.
+use Rattle.std.proofs.Common.{◌≡◌, ◌≤◌, Some, ap, ◌∙◌, arith}
+use Rattle.std.proofs.lemmas.Str.{IsUtf8-string_bytes}
+use Rattle.serde_json.specs.Data.{depth}
+use Rattle.serde_json.specs.View.{view}
+use Rattle.serde_json.specs.Read.{max_depth}
+use Rattle.serde_json.specs.Written.{has_float, compact_text}
+use Rattle.plan_text.specs.PlanTexts.{written_data}
+use Rattle.plan_text.proofs.WrittenPlanLemmas.{has_float-plan, depth-plan, Spells-written}
+use Rattle.plan_text.proofs.write_text.write_plan.Goals as goal
+use Rattle.plan_text.proofs.write_text.write_plan.Goals.{After-to_string}
+
+module _ (c : After-to_string) where
+  same : view c.in_ok-value.value ≡ written_data c.args.plan.now
+  same = c.in_ok-value.ensures.value
+
+  shallow : depth (view c.in_ok-value.value) ≤ max_depth
+  shallow = rw (same) (omega (arith, depth-plan c.args.plan.now))
+
+pub returns-clause-compact : goal.returns-clause-compact
+returns-clause-compact c =
+    let is = same (goal.at.returns-clause-compact c).After-to_string in
+    c.in_ok-to_string.ensures.text (ap has_float is ∙ has_float-plan c.args.plan.now) ∙ ap compact_text is
+
+pub returns-clause-again : goal.returns-clause-again
+returns-clause-again c = λ fits.
+    let before = (goal.at.returns-clause-again c).After-to_string in
+    Spells-written _ c.args.plan.now c.in_ok-value.ensures.calls (record {
+      fits = omega (arith, c.in_ok-to_string.field-0.bytes.ok.0);
+      utf8 = IsUtf8-string_bytes c.in_ok-to_string.field-0;
+      value = c.in_ok-to_string.ensures.reads_back (shallow before) ∙ ap Some (same before);
+    })

@@ -1,0 +1,4 @@
+pub mod PlanTextFaults
+pub mod PlanTextLaws
+pub mod PlanTexts
+pub mod Scripts

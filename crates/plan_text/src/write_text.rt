@@ -1,0 +1,89 @@
+// From a plan to its text.
+ghost use Rattle.std.specs.Prelude.{◌≡◌, ◌≤◌, not, map, IfOk, OnOk, string_bytes, string_len};
+ghost use Rattle.serde_json.specs.View.{view};
+ghost use Rattle.serde_json.specs.Written.{compact_text};
+ghost use Rattle.events.specs.PlainHistories.{is_replace};
+ghost use Rattle.history_text.specs.Texts.{call_data};
+ghost use Rattle.plans.specs.Plans.{AreTreeCalls};
+ghost use Rattle.plan_text.specs.Scripts.{script_data, scripts_data};
+ghost use Rattle.plan_text.specs.PlanTexts.{is_plain_script, are_plain_scripts, written_data, SpellsPlan};
+
+use art_steps::TreeCall;
+use events::{Call, Memory};
+use history_text::{MAX_TEXT, call_value};
+use plans::Plan;
+use serde_json::{Value, json};
+use std::alloc::{AllocError, Global};
+
+/// The text of a plan in the compact form: no spaces, members by rising bytes, numbers in plain decimal. It is of version 1
+/// where no call is a replace, else of version 2. A text of more than `MAX_TEXT` bytes is written too, and the reader
+/// refuses it.
+pub fn write_plan(alloc: Global, plan: &Plan) -> Result<String, Memory>
+    ensures compact { IfOk result (λ text. string_bytes text ≡ compact_text (written_data plan.now)) }
+    ensures again { IfOk result (λ text. string_len text ≤ MAX_TEXT → SpellsPlan (string_bytes text) plan.now) }
+{
+    let value = plan_value(alloc, plan)?;
+    Ok(value.to_string(alloc)?)
+}
+
+fn plan_value(alloc: Global, plan: &Plan) -> Result<Value, AllocError>
+    ensures value { IfOk result (λ value. view value ≡ written_data plan.now) }
+    ensures calls { OnOk result (AreTreeCalls plan.now) }
+{
+    let scripts = scripts_value(alloc, plan.scripts())?;
+    if are_plain_scripts(plan.scripts()) {
+        json!(in alloc; {"scripts": scripts, "version": 1u64})
+    } else {
+        json!(in alloc; {"scripts": scripts, "version": 2u64})
+    }
+}
+
+/// Whether no call of any script is a replace.
+fn are_plain_scripts(scripts: &[Vec<TreeCall>]) -> bool
+    ensures { result ≡ are_plain_scripts (map (λ script. script.items) scripts.now) }
+{
+    for script in scripts {
+        if !is_plain_script(script) {
+            return false;
+        }
+    }
+    true
+}
+
+fn is_plain_script(calls: &[TreeCall]) -> bool
+    ensures { result ≡ is_plain_script calls.now }
+{
+    for call in calls {
+        if !is_plain_call(call) {
+            return false;
+        }
+    }
+    true
+}
+
+fn is_plain_call(call: &TreeCall) -> bool
+    ensures { result ≡ not (is_replace call.now) }
+{
+    !matches!(call.call(), Call::Replace(..))
+}
+
+/// The JSON value of the scripts.
+fn scripts_value(alloc: Global, scripts: &[Vec<TreeCall>]) -> Result<Value, AllocError>
+    ensures { IfOk result (λ value. view value ≡ scripts_data (map (λ script. script.items) scripts.now)) }
+{
+    let mut items = Vec::new(alloc);
+    for script in scripts {
+        items.push(script_value(alloc, script)?)?;
+    }
+    Ok(Value::from(items))
+}
+
+fn script_value(alloc: Global, calls: &[TreeCall]) -> Result<Value, AllocError>
+    ensures { IfOk result (λ value. view value ≡ script_data calls.now) }
+{
+    let mut items = Vec::new(alloc);
+    for call in calls {
+        items.push(call_value(alloc, &call.call())?)?;
+    }
+    Ok(Value::from(items))
+}
