@@ -1,0 +1,4 @@
+pub mod Mixes
+pub mod Drawn
+pub mod Workloads
+pub mod Laws

@@ -1,0 +1,14 @@
+//! Workloads: plans whose calls are drawn from the words of a PCG generator (O'Neill, "PCG: a family of simple fast
+//! space-efficient statistically good algorithms for random number generation", 2014), a stream of it for each process.
+#![tactic(auto)]
+
+mod drawn;
+mod drawn_plans;
+mod laws;
+mod mix;
+#[cfg(test)]
+mod tests;
+
+pub use drawn_plans::plan;
+pub use laws::{calls_follow_the_words, drawn_scripts_are_a_plan};
+pub use mix::Mix;
