@@ -33,13 +33,12 @@ pub struct Task {
 impl Task {
     ghost use Rattle.art_steps.specs.Act.{point_of};
     ghost use Rattle.art_steps.specs.Fits.{word_of};
-    ghost use Rattle.art_rows.specs.Table.{table_words};
-    ghost use Rattle.art.specs.Built.{IsBuilt};
+    ghost use Rattle.art_rows.specs.Table.{table_words, IsWithinLimits};
     ghost use Rattle.art.specs.Tasks.{rest_of, shape_of, IsReady};
 
     /// A call that has made no access yet.
     pub fn begin(shape: Shape, variant: Variant, call: TreeCall) -> Task
-        requires built { IsBuilt shape variant call }
+        requires { IsWithinLimits shape }
         ensures shape { shape_of result ≡ shape }
         ensures act { (rest : List ℕ) → rest_of result rest ≡ act shape variant call rest }
         ensures asks { is_some (reply_of (rest_of result [])) ≡ false }

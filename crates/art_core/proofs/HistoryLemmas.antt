@@ -5,7 +5,7 @@ use Rattle.std.proofs.Common.{ap, subst, ◌∙◌, inl, inr, eq-eqb, ne_eqb, Is
 use Rattle.std.specs.Prelude.{Option, Some, None, is_some, ◌⊎◌, nat_lt, nat_le, All, slice_get, slice_index, slice_set, replicate, flat_map, filter_map, sum_by}
 use Rattle.std.specs.List.{AllZip}
 use Rattle.std.proofs.lemmas.Bool.{lt-leb, lt-ltb, le-leb}
-use Rattle.std.proofs.lemmas.List.{length-set, length-append, length-replicate, map-set, get_or-replicate}
+use Rattle.std.proofs.lemmas.List.{length-set, length-append, length-replicate, map-set}
 use Rattle.std.proofs.lemmas.List.Sums.{sum-map, sum_by-set, sum_by-cons}
 use Rattle.std.proofs.lemmas.List.Folds.{sum_by-replicate}
 use Rattle.std.proofs.lemmas.Nat.{mod-mul-add}
@@ -25,7 +25,9 @@ use Rattle.events.proofs.HistoryLemmas.{AreHistoryEvents-push, has_open_call-pus
 use Rattle.logs.specs.Logs.{events_by_stamp, history_of_logs}
 use Rattle.logs.proofs.GrowthLemmas.{AreBelow, history-push, below-push}
 use Rattle.art_rows.specs.declared.table.Shape.{Shape}
-use Rattle.art_rows.specs.Table.{opening, table_words, info_at, root_base}
+use Rattle.map_object.specs.MapObject.{Contents}
+use Rattle.art_rows.specs.Table.{opening, table_words}
+use Rattle.art_steps.specs.declared.variant.Variant.{Variant}
 use Rattle.art_steps.specs.declared.access.Access.{Access}
 use Rattle.art_steps.specs.declared.access.Point.{Point}
 use Rattle.art_steps.specs.Act.{act}
@@ -34,9 +36,10 @@ use Rattle.art_steps.specs.Steps.{Turn, Asks, Answers}
 use Rattle.art_steps.specs.TreeCalls.{is_tree_call}
 use Rattle.art_steps.proofs.AccessLemmas.{act-stays, act-small}
 use Rattle.art_core.specs.declared.process.Process.{Process}
-use Rattle.art_core.specs.Core.{Plan, State, Move, Invokes, Makes, Responds, begun, moved, word_of_move, after_move, idle, opened, history_of, move_of}
-use Rattle.art_core.specs.Core.{invoked, next_in, next_call, next_move, move_from, invocation, moved_by, step_of, step}
+use Rattle.art_core.specs.Core.{Plan, State, Move, Invokes, Makes, Responds, begun, moved, word_of_move, after_move, idle, opened, opened_on, history_of}
+use Rattle.art_core.specs.Core.{move_of, invoked, next_in, next_call, next_move, move_from, invocation, moved_by, step_of, step}
 use Rattle.art_core.specs.Runs.{run_on, HasFewSteps}
+use Rattle.art_core.specs.Starts.{StartsOn, start_plan}
 use Rattle.art_core.specs.Claims.{IsPlan, LogsAreHistory}
 use Rattle.art_core.proofs.RunLemmas.{begun-more}
 
@@ -53,7 +56,7 @@ sum-changed f xs p x y h =
     let at = ap f (get_or_from_slice_get xs p x x h) in
     omega (arith, e, at, sum-map f (slice_set xs p y), sum-map f xs)
 
-map-same : {A B : Type 0} (f : A → B) (xs : List A) (p : ℕ) (x y : A) → slice_get xs p ≡ Some x → f y ≡ f x → map f (slice_set xs p y) ≡ map f xs
+pub map-same : {A B : Type 0} (f : A → B) (xs : List A) (p : ℕ) (x y : A) → slice_get xs p ≡ Some x → f y ≡ f x → map f (slice_set xs p y) ≡ map f xs
 map-same f [] p x y h e = refl
 map-same f (z ∷ zs) zero x y h e = ap (λ b. b ∷ map f zs) (e ∙ sym (ap f (same_Some z x h)))
 map-same f (z ∷ zs) (suc p) x y h e = ap (λ bs. f z ∷ bs) (map-same f zs p x y h e)
@@ -74,7 +77,7 @@ zip-length R (x ∷ xs) (y ∷ ys) h = ap suc (zip-length R xs ys h.1)
 suc-other : (i p : ℕ) → (i ≡ p → ⊥) → suc i ≡ suc p → ⊥
 suc-other i p h e = h (omega arith)
 
-changed-at : {A : Type 0} (xs : List A) (p : ℕ) (x : A) (i : ℕ) (a : A) → slice_get (slice_set xs p x) i ≡ Some a
+pub changed-at : {A : Type 0} (xs : List A) (p : ℕ) (x : A) (i : ℕ) (a : A) → slice_get (slice_set xs p x) i ≡ Some a
     → ((i ≡ p) × (a ≡ x)) ⊎ ((i ≡ p → ⊥) × (slice_get xs i ≡ Some a))
 changed-at [] p x i a h = absurd (none-some a h)
 changed-at (z ∷ zs) zero x zero a h = inl (refl, sym (same_Some x a h))
@@ -87,22 +90,22 @@ changed-at (z ∷ zs) (suc p) x (suc i) a h = elim (changed-at zs p x i a h) [
 
 -- What holds of each state that a schedule gives, after few steps.
 
-abbrev has_begun : Process → List Call → Type 0
+abbrev pub has_begun : Process → List Call → Type 0
 has_begun q script = length (begun q) ≤ length script
 
-abbrev logged : List Process → List Event
+abbrev pub logged : List Process → List Event
 logged ps = history_of_logs (map (λ q. q.log) ps)
 
-record IsLogged (plan : Plan) (s : State) : Type 0 where
-  table : length s.words ≡ table_words plan.shape
-  scripts : AllZip has_begun s.processes plan.scripts
-  clock : slice_index s.words 0 ≤ sum (map (λ q. q.steps) s.processes)
-  stamps : AreBelow (slice_index s.words 0) (flat_map (λ log. log) (map (λ q. q.log) s.processes))
-  calls : call_count (logged s.processes) ≡ sum (map (λ q. length (begun q)) s.processes)
-  opens : (i : ℕ) (q : Process) → slice_get s.processes i ≡ Some q → has_open_call i (logged s.processes) ≡ is_some q.call
-  history : AreHistoryEvents (logged s.processes)
+pub record IsLogged (plan : Plan) (s : State) : Type 0 where
+  pub table : length s.words ≡ table_words plan.shape
+  pub scripts : AllZip has_begun s.processes plan.scripts
+  pub clock : slice_index s.words 0 ≤ sum (map (λ q. q.steps) s.processes)
+  pub stamps : AreBelow (slice_index s.words 0) (flat_map (λ log. log) (map (λ q. q.log) s.processes))
+  pub calls : call_count (logged s.processes) ≡ sum (map (λ q. length (begun q)) s.processes)
+  pub opens : (i : ℕ) (q : Process) → slice_get s.processes i ≡ Some q → has_open_call i (logged s.processes) ≡ is_some q.call
+  pub history : AreHistoryEvents (logged s.processes)
 
-calls-within : (processes : List Process) (scripts : List (List Call)) → AllZip has_begun processes scripts
+pub calls-within : (processes : List Process) (scripts : List (List Call)) → AllZip has_begun processes scripts
     → sum (map (λ q. length (begun q)) processes) ≤ sum (map (λ script. length script) scripts)
 calls-within processes scripts h =
     subst (λ n. n ≤ sum (map (λ script. length script) scripts)) (sym (sum-map (λ q. length (begun q)) processes))
@@ -320,7 +323,7 @@ module _ (plan : Plan) (within : IsPlan plan) (s : State) (p : ℕ) (q : Process
       let stays = act-stays plan.shape plan.variant call within.shape.root q.got a point asks in
       accesses plan s p q (after_move p (Makes a) (slice_index s.words (word_of a)) q) h here few (word_of a) _ stays.0 refl refl refl
 
-  one-move : (o : Option Call) (m : Move) → q.call ≡ o → move_from plan p q o ≡ Some m → IsLogged plan (moved s p q m)
+  pub one-move : (o : Option Call) (m : Move) → q.call ≡ o → move_from plan p q o ≡ Some m → IsLogged plan (moved s p q m)
   one-move None m e k = begins (next_call plan p q) refl k
     where
       begins : (o : Option Call) → next_call plan p q ≡ o → invocation o ≡ Some m → IsLogged plan (moved s p q m)
@@ -334,14 +337,14 @@ module _ (plan : Plan) (within : IsPlan plan) (s : State) (p : ℕ) (q : Process
 
 -- A step is a move of a process.
 
-record IsMoved (plan : Plan) (s : State) (p : ℕ) (next : State) : Type 0 where
-  process : Process
-  here : slice_get s.processes p ≡ Some process
-  move : Move
-  is_next : next_move plan p process ≡ Some move
-  is : next ≡ moved s p process move
+pub record IsMoved (plan : Plan) (s : State) (p : ℕ) (next : State) : Type 0 where
+  pub process : Process
+  pub here : slice_get s.processes p ≡ Some process
+  pub move : Move
+  pub is_next : next_move plan p process ≡ Some move
+  pub is : next ≡ moved s p process move
 
-is-moved : (plan : Plan) (s : State) (p : ℕ) (next : State) → step plan s p ≡ Some next → IsMoved plan s p next
+pub is-moved : (plan : Plan) (s : State) (p : ℕ) (next : State) → step plan s p ≡ Some next → IsMoved plan s p next
 unfolding step
 is-moved plan s p next h = go (slice_get s.processes p) refl h
   where
@@ -354,7 +357,7 @@ is-moved plan s p next h = go (slice_get s.processes p) refl h
     go None e k = absurd (none-some next k)
     go (Some q) e k = moves q e (next_move plan p q) refl k
 
-abbrev all_steps : State → ℕ
+abbrev pub all_steps : State → ℕ
 all_steps s = sum (map (λ q. q.steps) s.processes)
 
 steps-after : (p n : ℕ) (m : Move) (q : Process) → (after_move p m n q).steps ≡ q.steps + 1
@@ -374,7 +377,7 @@ one-step plan s p next h =
       sum-changed (λ q. q.steps) s.processes p m.process (after_move p m.move n m.process) m.here,
     )
 
-nowhere : (plan : Plan) (schedule : List ℕ) (s : State) → run_on plan None schedule ≡ Some s → ⊥
+pub nowhere : (plan : Plan) (schedule : List ℕ) (s : State) → run_on plan None schedule ≡ Some s → ⊥
 nowhere plan [] s h = none-some s h
 nowhere plan (p ∷ schedule) s h = none-some s h
 
@@ -404,7 +407,7 @@ logged-on plan within (p ∷ schedule) first s h gives few = go (step plan first
         let fewer : all_steps first + 1 < 2 ^ 61 = omega (arith, one-step plan first p next e) in
         later next (subst (IsLogged plan) (sym m.is) (one-move plan within first p m.process h m.here fewer m.process.call m.move refl m.is_next)) k few
 
-no-logs : (n : ℕ) → flat_map (λ log. log) (map (λ q. q.log) (replicate n idle)) ≡ []
+pub no-logs : (n : ℕ) → flat_map (λ log. log) (map (λ q. q.log) (replicate n idle)) ≡ []
 no-logs zero = refl
 no-logs (suc n) = no-logs n
 
@@ -412,7 +415,7 @@ none-begun : (scripts : List (List Call)) → AllZip has_begun (replicate (lengt
 none-begun [] = tt
 none-begun (script ∷ scripts) = (omega arith, none-begun scripts)
 
-all-idle : (n i : ℕ) (q : Process) → slice_get (replicate n idle) i ≡ Some q → q ≡ idle
+pub all-idle : (n i : ℕ) (q : Process) → slice_get (replicate n idle) i ≡ Some q → q ≡ idle
 all-idle zero i q e = absurd (none-some q e)
 all-idle (suc n) zero q e = sym (same_Some idle q e)
 all-idle (suc n) (suc i) q e = all-idle n i q e
@@ -423,28 +426,68 @@ sum-none f n e = sum-map f (replicate n idle) ∙ (sum_by-replicate f n idle ∙
 not-zero : (n : ℕ) → 0 < n → 0 ≢ n
 not-zero n h e = omega arith
 
-clock-at-zero : (shape : Shape) → slice_index (opening shape) 0 ≡ 0
-clock-at-zero shape =
-    let first = not-zero (info_at (root_base shape)) (omega arith) in
-    let second = not-zero 4 (omega arith) in
-    get_or-set_other (slice_set (replicate (table_words shape) 0) 4 1) (info_at (root_base shape)) 0 3 0 first
-    ∙ (get_or-set_other (replicate (table_words shape) 0) 4 0 1 0 second ∙ get_or-replicate (table_words shape) 0 0 0 (omega arith))
-
-opened-logged : (plan : Plan) → IsLogged plan (opened plan)
-opened-logged plan =
+-- before the first step, on words of the table with the clock at 0
+pub opened-logged : (plan : Plan) (words : List ℕ) → length words ≡ table_words plan.shape → slice_index words 0 ≡ 0 → IsLogged plan (opened_on plan words)
+opened-logged plan words long zeroed =
     let n = length plan.scripts in
     let none : logged (replicate n idle) ≡ [] = ap events_by_stamp (no-logs n) in
     record {
-      table = length-set (slice_set (replicate (table_words plan.shape) 0) 4 1) _ 3
-          ∙ (length-set (replicate (table_words plan.shape) 0) 4 1 ∙ length-replicate (table_words plan.shape) 0);
+      table = long;
       scripts = none-begun plan.scripts;
-      clock = subst (λ k. k ≤ sum (map (λ q. q.steps) (replicate n idle))) (sym (clock-at-zero plan.shape)) (omega arith);
+      clock = subst (λ k. k ≤ sum (map (λ q. q.steps) (replicate n idle))) (sym zeroed) (omega arith);
       stamps = subst (AreBelow _) (sym (no-logs n)) tt;
       calls = ap call_count none ∙ sym (sum-none (λ q. length (begun q)) n refl);
       opens = λ i q at. ap (has_open_call i) none ∙ sym (ap (λ q. is_some q.call) (all-idle n i q at));
       history = subst AreHistoryEvents (sym none) (record { shaped = refl; small = refl; calls = omega arith; well_formed = λ p. refl });
     }
 
+-- A step changes words and processes, and not how many there are.
+
+pub step-lengths : (plan : Plan) (s : State) (p : ℕ) (next : State) → step plan s p ≡ Some next
+    → (length next.words ≡ length s.words) × (length next.processes ≡ length s.processes)
+step-lengths plan s p next h =
+    let m = is-moved plan s p next h in (
+      ap (λ t. length t.words) m.is ∙ length-set s.words (word_of_move m.move) _,
+      ap (λ t. length t.processes) m.is ∙ length-set s.processes p _,
+    )
+
+pub run-lengths : (plan : Plan) (schedule : List ℕ) (first s : State) → run_on plan (Some first) schedule ≡ Some s
+    → (length s.words ≡ length first.words) × (length s.processes ≡ length first.processes)
+run-lengths plan [] first s h = let same = sym (same_Some first s h) in (ap (λ t. length t.words) same, ap (λ t. length t.processes) same)
+run-lengths plan (p ∷ schedule) first s h = go (step plan first p) refl (run-lengths plan schedule) h
+  where
+    go : (o : Option State) → step plan first p ≡ o
+        → ((next s : State) → run_on plan (Some next) schedule ≡ Some s
+        → (length s.words ≡ length next.words) × (length s.processes ≡ length next.processes))
+        → run_on plan o schedule ≡ Some s → (length s.words ≡ length first.words) × (length s.processes ≡ length first.processes)
+    go None e later k = absurd (nowhere plan schedule s k)
+    go (Some next) e later k =
+        let rest = later next s k in
+        let here = step-lengths plan first p next e in
+        (rest.0 ∙ here.0, rest.1 ∙ here.1)
+
+pub opening-length : (shape : Shape) → length (opening shape) ≡ table_words shape
+opening-length shape =
+    length-set (slice_set (replicate (table_words shape) 0) 4 1) _ 3
+    ∙ (length-set (replicate (table_words shape) 0) 4 1 ∙ length-replicate (table_words shape) 0)
+
+pub start-length : (shape : Shape) (variant : Variant) (start : Contents) (words : List ℕ) → StartsOn shape variant start words
+    → length words ≡ table_words shape
+start-length shape variant start words h =
+    let plan = start_plan shape variant start in
+    ap (λ w. length w) h.leaves
+    ∙ (length-set h.state.words 0 0 ∙ ((run-lengths plan h.inserted.schedule (opened plan) h.state h.inserted.gives).0 ∙ opening-length shape))
+
+pub start-clock : (shape : Shape) (variant : Variant) (start : Contents) (words : List ℕ) → StartsOn shape variant start words → slice_index words 0 ≡ 0
+start-clock shape variant start words h = ap (λ w. slice_index w 0) h.leaves ∙ at-zero h.state.words
+  where
+    at-zero : (ws : List ℕ) → slice_index (slice_set ws 0 0) 0 ≡ 0
+    at-zero [] = refl
+    at-zero (w ∷ ws) = refl
+
 pub logs-are-history : LogsAreHistory
 unfolding history_of
-logs-are-history plan schedule s run = (logged-on plan run.within schedule (opened plan) s (opened-logged plan) run.gives run.few_steps).history
+logs-are-history plan start words schedule s run =
+    let first = opened-logged plan words (start-length plan.shape plan.variant start words run.starts)
+    (start-clock plan.shape plan.variant start words run.starts) in
+    (logged-on plan run.within schedule (opened_on plan words) s first run.gives run.few_steps).history

@@ -9,13 +9,15 @@ use Rattle.events.specs.declared.event.Event.TheVariants.{Invoke, Answer}
 use Rattle.events.specs.declared.TheConstants.{PROCESSES, MAX_CALLS}
 use Rattle.events.specs.Histories.{AreHistoryEvents}
 use Rattle.events.specs.Operations.{operations}
+use Rattle.map_object.specs.MapObject.{Contents}
 use Rattle.orders.specs.Orders.{IsLegal, after_calls, IsLinearizable}
 use Rattle.art_rows.specs.Table.{IsWithinLimits}
 use Rattle.art_steps.specs.declared.variant.Variant.TheVariants.{Coupled, Optimistic}
 use Rattle.art_steps.specs.TreeCalls.{is_tree_call}
 use Rattle.art_core.specs.declared.process.Process.{Process}
-use Rattle.art_core.specs.Core.{Plan, State, begun, history_of, known_reply, opened}
+use Rattle.art_core.specs.Core.{Plan, State, begun, history_of, known_reply, opened_on}
 use Rattle.art_core.specs.Runs.{Gives, HasFewSteps}
+use Rattle.art_core.specs.Starts.{StartsOn, IsStartOf}
 use Rattle.art_core.specs.Meaning.{Means}
 use Rattle.art_core.specs.Moments.{HasMoment, HasLastMoment}
 
@@ -27,15 +29,17 @@ pub record IsPlan (plan : Plan) : Type 0 where
   pub few_calls : sum (map (λ script. length script) plan.scripts) ≤ MAX_CALLS
   pub calls : All (λ script. All (λ call. IsTrue (is_tree_call call)) script) plan.scripts
 
--- A state that a schedule gives, of a plan within the limits, after few steps.
-pub record IsRun (plan : Plan) (schedule : List ℕ) (s : State) : Type 0 where
+-- A state that a schedule gives, of a plan within the limits, after few steps. It starts with these pairs, on these words.
+pub record IsRun (plan : Plan) (start : Contents) (words : List ℕ) (schedule : List ℕ) (s : State) : Type 0 where
   pub within : IsPlan plan
-  pub gives : Gives plan (opened plan) schedule s
+  pub start_within : IsStartOf plan start
+  pub starts : StartsOn plan.shape plan.variant start words
+  pub gives : Gives plan (opened_on plan words) schedule s
   pub few_steps : HasFewSteps s
 
 -- What a state logs is a history.
 abbrev pub LogsAreHistory : Type 0
-LogsAreHistory = (plan : Plan) (schedule : List ℕ) (s : State) → IsRun plan schedule s → AreHistoryEvents (history_of s)
+LogsAreHistory = (plan : Plan) (start : Contents) (words schedule : List ℕ) (s : State) → IsRun plan start words schedule s → AreHistoryEvents (history_of s)
 
 -- each call is answered before the next is invoked, the last one too
 abbrev pub IsSerial : List Event → Type 0
@@ -43,16 +47,18 @@ IsSerial [] = Unit {0}
 IsSerial (Invoke p call ∷ Answer q reply ∷ events) = (p ≡ q) × IsSerial events
 IsSerial events = ⊥
 
--- A serial schedule of a full tree does what the map does, and its words mean the map's pairs.
+-- A serial schedule of a full tree does what the map does from the starting pairs on, and its words mean the map's pairs.
 abbrev pub SerialIsMap : Type 0
 SerialIsMap =
-    (plan : Plan) (schedule : List ℕ) (s : State) → IsRun plan schedule s → (plan.variant ≡ Coupled) ⊎ (plan.variant ≡ Optimistic) → IsSerial (history_of s)
-    → IsLegal [] (operations (history_of s)) × Means plan.shape s.words (after_calls [] (operations (history_of s)))
+    (plan : Plan) (start : Contents) (words schedule : List ℕ) (s : State) → IsRun plan start words schedule s
+    → (plan.variant ≡ Coupled) ⊎ (plan.variant ≡ Optimistic) → IsSerial (history_of s)
+    → IsLegal start (operations (history_of s)) × Means plan.shape s.words (after_calls start (operations (history_of s)))
 
 -- The histories of the full trees are linearizable: first of the coupled one,
 abbrev pub CoupledIsLinearizable : Type 0
 CoupledIsLinearizable =
-    (plan : Plan) (schedule : List ℕ) (s : State) → IsRun plan schedule s → plan.variant ≡ Coupled → IsLinearizable [] (operations (history_of s))
+    (plan : Plan) (start : Contents) (words schedule : List ℕ) (s : State) → IsRun plan start words schedule s
+    → plan.variant ≡ Coupled → IsLinearizable start (operations (history_of s))
 
 abbrev pub is_scan_free : Call → Bool
 is_scan_free (Scan low high) = false
@@ -60,22 +66,29 @@ is_scan_free call = true
 
 -- then of the optimistic one where no script holds a scan,
 abbrev pub OptimisticIsLinearizableWithoutScans : Type 0
-OptimisticIsLinearizableWithoutScans = (plan : Plan) (schedule : List ℕ) (s : State) → IsRun plan schedule s → plan.variant ≡ Optimistic
-    → All (λ script. All (λ call. IsTrue (is_scan_free call)) script) plan.scripts → IsLinearizable [] (operations (history_of s))
+OptimisticIsLinearizableWithoutScans =
+    (plan : Plan) (start : Contents) (words schedule : List ℕ) (s : State) → IsRun plan start words schedule s
+    → plan.variant ≡ Optimistic
+    → All (λ script. All (λ call. IsTrue (is_scan_free call)) script) plan.scripts → IsLinearizable start (operations (history_of s))
 
 -- and then of the optimistic one with scans.
 abbrev pub OptimisticIsLinearizable : Type 0
 OptimisticIsLinearizable =
-    (plan : Plan) (schedule : List ℕ) (s : State) → IsRun plan schedule s → plan.variant ≡ Optimistic → IsLinearizable [] (operations (history_of s))
+    (plan : Plan) (start : Contents) (words schedule : List ℕ) (s : State) → IsRun plan start words schedule s
+    → plan.variant ≡ Optimistic → IsLinearizable start (operations (history_of s))
 
 -- A validated scan has one moment; a get that is answered has one for the last row that it read.
 
 abbrev pub ScanHasMoment : Type 0
-ScanHasMoment = (plan : Plan) (schedule : List ℕ) (s : State) (p low high : ℕ) (q : Process) (reply : Reply) → IsRun plan schedule s → plan.variant ≡ Optimistic
+ScanHasMoment =
+    (plan : Plan) (start : Contents) (words schedule : List ℕ) (s : State) (p low high : ℕ) (q : Process) (reply : Reply)
+    → IsRun plan start words schedule s → plan.variant ≡ Optimistic
     → slice_get s.processes p ≡ Some q → q.call ≡ Some (Scan low high) → known_reply plan q.got q.call ≡ Some reply → reply ≢ replies.Refused
-    → HasMoment plan (opened plan) schedule p (length (begun q)) (Scan low high) q.got reply
+    → HasMoment plan (opened_on plan words) schedule p (length (begun q)) (Scan low high) q.got reply
 
 abbrev pub GetHasMoment : Type 0
-GetHasMoment = (plan : Plan) (schedule : List ℕ) (s : State) (p key : ℕ) (q : Process) (reply : Reply) → IsRun plan schedule s → plan.variant ≡ Optimistic
+GetHasMoment =
+    (plan : Plan) (start : Contents) (words schedule : List ℕ) (s : State) (p key : ℕ) (q : Process) (reply : Reply)
+    → IsRun plan start words schedule s → plan.variant ≡ Optimistic
     → slice_get s.processes p ≡ Some q → q.call ≡ Some (Get key) → known_reply plan q.got q.call ≡ Some reply
-    → HasLastMoment plan (opened plan) schedule p (length (begun q)) (Get key) q.got
+    → HasLastMoment plan (opened_on plan words) schedule p (length (begun q)) (Get key) q.got

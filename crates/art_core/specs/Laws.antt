@@ -1,13 +1,15 @@
 -- Laws of schedules.
-use Rattle.std.specs.Prelude.{◌≡◌, ℕ, ◌+◌, List, [], ◌∷◌, ◌++◌, map, slice_get, Option, Some, None}
+use Rattle.std.specs.Prelude.{◌≡◌, ℕ, ◌+◌, List, [], ◌∷◌, ◌++◌, length, map, slice_get, Option, Some, None}
 use Rattle.std.specs.List.{AllZip}
 use Rattle.events.specs.declared.event.Call.{Call}
+use Rattle.map_object.specs.MapObject.{Contents}
 use Rattle.art_rows.specs.declared.table.Shape.{Shape}
 use Rattle.art_steps.specs.declared.variant.Variant.{Variant}
 use Rattle.art_steps.specs.Act.{act}
 use Rattle.art_core.specs.declared.process.Process.{Process}
-use Rattle.art_core.specs.Core.{Plan, State, Move, Invokes, begun, moved, move_of, opened}
+use Rattle.art_core.specs.Core.{Plan, State, Move, Invokes, begun, finished, moved, move_of, opened}
 use Rattle.art_core.specs.Runs.{Gives, run_on, run_from}
+use Rattle.art_core.specs.Starts.{StartsOn, IsStartRefused}
 use Rattle.art_core.specs.declared.item.Item.{Item}
 use Rattle.art_core.specs.NamedTurns.{AreMadeWhole}
 use Rattle.art_core.specs.Schedules.{Run, begun_run, items_made}
@@ -58,3 +60,13 @@ pub record HasComputed (plan : Plan) (items : List Item) (first : State) (left :
 abbrev pub SchedulesCompute : Type 0
 SchedulesCompute = (plan : Plan) (items : List Item) (first : State) (left : ℕ) → (items_made plan items (begun_run first left)).refused ≡ None
     → HasComputed plan items first left (items_made plan items (begun_run first left))
+
+-- Pairs start on one list of words only, and on none where one of them is refused.
+abbrev pub StartsAreOne : Type 0
+StartsAreOne = (shape : Shape) (variant : Variant) (start : Contents) (words : List ℕ) → StartsOn shape variant start words
+    → ((other : List ℕ) → StartsOn shape variant start other → words ≡ other) × (IsStartRefused shape variant start → ⊥)
+
+-- Where pairs start, each of their inserts is answered.
+abbrev pub StartsAreAnswered : Type 0
+StartsAreAnswered = (shape : Shape) (variant : Variant) (start : Contents) (words : List ℕ) (h : StartsOn shape variant start words)
+    → length (finished h.process) ≡ length start

@@ -1,43 +1,51 @@
--- Words on which a table holds pairs before the first step: serial inserts of the pairs, by rising key, without stamps.
-use Rattle.std.specs.Prelude.{◌≡◌, ◌≢◌, ℕ, List, [], ◌∷◌, ◌++◌, Option}
+-- Words on which a table holds pairs before the first step: one process has inserted them by itself, in their order.
+use Rattle.std.specs.Prelude.{◌≡◌, ◌≢◌, ℕ, ◌+◌, ◌≤◌, IsTrue, List, [], ◌∷◌, length, map, sum, slice_get, slice_set, All, Contains, Some, None}
 use Rattle.events.specs.declared.event.Call.{Call}
 use Rattle.events.specs.declared.event.Call.TheVariants.{Insert}
-use Rattle.events.specs.declared.event.Reply.{Reply}
 use Rattle.events.specs.declared.event.Reply.TheVariants as replies
-use Rattle.map_object.specs.MapObject.{Contents}
+use Rattle.events.specs.declared.TheConstants.{MAX_CALLS}
+use Rattle.map_object.specs.MapObject.{Contents, IsRising}
 use Rattle.art_rows.specs.declared.table.Shape.{Shape}
-use Rattle.art_rows.specs.Table.{opening}
+use Rattle.art_rows.specs.Table.{clock}
 use Rattle.art_steps.specs.declared.variant.Variant.{Variant}
-use Rattle.art_steps.specs.declared.access.Access.{Access}
-use Rattle.art_steps.specs.declared.access.Point.{Point}
-use Rattle.art_steps.specs.Steps.{Asks, Answers}
-use Rattle.art_steps.specs.Act.{act}
-use Rattle.art_core.specs.Accesses.{got_by, words_after}
+use Rattle.art_steps.specs.TreeCalls.{is_tree_call}
+use Rattle.art_core.specs.declared.process.Process.{Process}
+use Rattle.art_core.specs.Core.{Plan, State, finished, next_move, opened}
+use Rattle.art_core.specs.Runs.{Gives, HasFewSteps}
 
--- The call that got these words goes on alone: it comes from the first words to the last, and has this reply.
-pub data GoesOnAlone (shape : Shape) (variant : Variant) (call : Call) : List ℕ → List ℕ → List ℕ → Reply → Type 0 where
-  ends : {got words : List ℕ} {reply : Reply} → act shape variant call got ≡ Answers reply → GoesOnAlone shape variant call got words words reply
-  steps : {got words last : List ℕ} {reply : Reply} → (a : Access) → (p : Option Point) → act shape variant call got ≡ Asks a p
-      → GoesOnAlone shape variant call (got ++ got_by a words ∷ []) (words_after a words) last reply → GoesOnAlone shape variant call got words last reply
+-- the calls that insert the pairs
+abbrev pub inserts : Contents → List Call
+inserts pairs = map (λ pair. Insert pair.0 pair.1) pairs
 
--- the pairs are inserted one after another, none is refused, and these words come of it
-abbrev pub AreInserted : Shape → Variant → Contents → List ℕ → List ℕ → Type 0
-AreInserted shape variant [] words last = last ≡ words
-AreInserted shape variant ((key, value) ∷ m) words last =
-    (next : List ℕ) × (reply : Reply) × GoesOnAlone shape variant (Insert key value) [] words next reply × (reply ≢ replies.Refused)
-    × AreInserted shape variant m next last
+-- one process inserts the pairs
+abbrev pub start_plan : Shape → Variant → Contents → Plan
+start_plan shape variant start = record { shape = shape; variant = variant; scripts = inserts start ∷ [] }
 
--- one of the pairs is refused
-abbrev pub IsStartRefused : Shape → Variant → Contents → List ℕ → Type 0
-IsStartRefused shape variant [] words = ⊥
-IsStartRefused shape variant ((key, value) ∷ m) words =
-    (next : List ℕ) × (reply : Reply) × GoesOnAlone shape variant (Insert key value) [] words next reply
-    × IsRefusedHere reply (IsStartRefused shape variant m next)
-  where
-    IsRefusedHere : Reply → Type 0 → Type 0
-    IsRefusedHere replies.Refused later = Unit {0}
-    IsRefusedHere reply later = later
+-- Some schedule gives this state while the pairs are inserted, after few steps, and this process inserts them.
+pub record AreInsertedIn (shape : Shape) (variant : Variant) (start : Contents) (s : State) (process : Process) : Type 0 where
+  pub schedule : List ℕ
+  pub gives : Gives (start_plan shape variant start) (opened (start_plan shape variant start)) schedule s
+  pub few_steps : HasFewSteps s
+  pub is_process : slice_get s.processes 0 ≡ Some process
 
--- the words on which a machine with these starting pairs is opened
-abbrev pub StartsOn : Shape → Variant → Contents → List ℕ → Type 0
-StartsOn shape variant start words = AreInserted shape variant start (opening shape) words
+-- The words on which a machine with these pairs is opened: nothing is left to do, no insert was answered that it is refused, and the clock is set back to 0.
+pub record StartsOn (shape : Shape) (variant : Variant) (start : Contents) (words : List ℕ) : Type 0 where
+  pub state : State
+  pub process : Process
+  pub inserted : AreInsertedIn shape variant start state process
+  pub all : next_move (start_plan shape variant start) 0 process ≡ None
+  pub accepted : All (λ reply. reply ≢ replies.Refused) (finished process)
+  pub leaves : words ≡ slice_set state.words clock 0
+
+-- One of the inserts was answered that it is refused.
+pub record IsStartRefused (shape : Shape) (variant : Variant) (start : Contents) : Type 0 where
+  pub state : State
+  pub process : Process
+  pub inserted : AreInsertedIn shape variant start state process
+  pub refused : Contains (finished process) replies.Refused
+
+-- pairs with which the scripts of a plan may start
+pub record IsStartOf (plan : Plan) (start : Contents) : Type 0 where
+  pub rising : IsRising start
+  pub calls : All (λ call. IsTrue (is_tree_call call)) (inserts start)
+  pub few : length start + sum (map (λ script. length script) plan.scripts) ≤ MAX_CALLS

@@ -1,10 +1,9 @@
 // Statements that are not yet proved: a clause that cites one has it read. Each goes from here to a law of its own.
-ghost use Rattle.std.specs.Prelude.{List, ℕ};
 ghost use Rattle.map_object.specs.MapObject.{Contents};
 ghost use Rattle.art_rows.specs.declared.table.Shape.{Shape};
 ghost use Rattle.art_steps.specs.declared.variant.Variant.{Variant};
 ghost use Rattle.art_core.specs.Core.{Plan, State};
-ghost use Rattle.art_core.specs.Starts.{StartsOn, IsStartRefused};
+ghost use Rattle.art_core.specs.Starts.{IsStartRefused};
 ghost use Rattle.art_core.specs.Claims.{SerialIsMap, CoupledIsLinearizable, OptimisticIsLinearizableWithoutScans};
 ghost use Rattle.art_core.specs.Claims.{OptimisticIsLinearizable, ScanHasMoment, GetHasMoment};
 ghost use Rattle.art_core.specs.Invariant.{Ghost, Invariant};
@@ -18,6 +17,5 @@ pub fn statements_are_read()
     ensures scan { ScanHasMoment → ScanHasMoment }
     ensures get { GetHasMoment → GetHasMoment }
     ensures invariant { (plan : Plan) (s : State) (g : Ghost) → Invariant plan s g → Invariant plan s g }
-    ensures starts { (s : Shape) (v : Variant) (m : Contents) (w : List ℕ) → StartsOn s v m w → StartsOn s v m w }
-    ensures refused { (s : Shape) (v : Variant) (m : Contents) (w : List ℕ) → IsStartRefused s v m w → IsStartRefused s v m w }
+    ensures refused { (s : Shape) (v : Variant) (m : Contents) → IsStartRefused s v m → IsStartRefused s v m }
 {}

@@ -3,3 +3,4 @@ mod MachineLemmas
 mod OpeningLemmas
 mod RecordLemmas
 mod RunningLemmas
+mod StartingLemmas

@@ -7,12 +7,13 @@ use Rattle.std.proofs.Math.Logic.{∥∥₁_elim, ∥∥₁_map}
 use Rattle.std.proofs.Props.{props}
 use Rattle.list_laws.proofs.NumberLemmas.{slice_get-below}
 use Rattle.events.specs.declared.event.Call.{Call}
+use Rattle.map_object.specs.MapObject.{Contents}
 use Rattle.art_rows.specs.declared.table.Shape.{Shape}
 use Rattle.art_rows.specs.Table.{IsWithinLimits}
 use Rattle.art_steps.specs.declared.variant.Variant.{Variant}
-use Rattle.art.specs.Built.{IsBuilt}
 use Rattle.art_core.specs.declared.process.Process.{Process}
-use Rattle.art_core.specs.Core.{Plan, State, begun, opened, next_in, next_move, invocation, move_from, step, step_of, moved_by, moved, word_of_move, after_move}
+use Rattle.art_core.specs.Core.{Plan, State, begun, opened_on, next_in, next_move, invocation, move_from, step, step_of, moved_by, moved, after_move}
+use Rattle.art_core.specs.Core.{word_of_move}
 use Rattle.art_core.specs.Runs.{run_on}
 use Rattle.art_core.proofs.RunLemmas.{run-on-append}
 use Rattle.art_core.proofs.HistoryLemmas.{one-step}
@@ -116,40 +117,46 @@ module _ (shape : Shape) (variant : Variant) (old : List ℕ) (runners : List Ru
       }
 
   -- it is under way after a step, and after a refused one
-  pub under-way-steps : (left fewer : ℕ) (new : List ℕ) (r2 : Runner) → fewer + 1 ≡ left
+  pub under-way-steps : (start : Contents) (left fewer : ℕ) (new : List ℕ) (r2 : Runner) → fewer + 1 ≡ left
       → ((plan : Plan) (q : Process) → plan.shape ≡ shape → plan.variant ≡ variant → FitsProcess plan p r q → Moves plan p q old new r2)
-      → ∥ IsUnderWay shape variant left old runners ∥₁ → ∥ IsUnderWay shape variant fewer new (slice_set runners p r2) ∥₁
-  under-way-steps left fewer new r2 one moves = λ is. ∥∥₁_map is (λ (u : IsUnderWay shape variant left old runners).
+      → ∥ IsUnderWay shape variant start left old runners ∥₁ → ∥ IsUnderWay shape variant start fewer new (slice_set runners p r2) ∥₁
+  under-way-steps start left fewer new r2 one moves = λ is. ∥∥₁_map is (λ (u : IsUnderWay shape variant start left old runners).
       let st = steps u.plan u.state new r2 u.shows (λ q f. moves u.plan q u.shows.shape u.shows.variant f) in
       record {
         plan = u.plan;
+        first = u.first;
         schedule = u.schedule ++ p ∷ [];
         state = st.next;
         within = u.within;
-        gives = run-on-append u.plan (Some (opened u.plan)) u.schedule (p ∷ [])
+        start_within = u.start_within;
+        starts = u.starts;
+        gives = run-on-append u.plan (Some (opened_on u.plan u.first)) u.schedule (p ∷ [])
             ∙ (ap (λ o. run_on u.plan o (p ∷ [])) u.gives ∙ ap (λ o. run_on u.plan o []) st.is);
         few = let more = one-step u.plan u.state p st.next st.is in let was = u.few in omega (arith, more, was, one);
         shows = st.shows;
       })
 
-  pub under-way-kept : (left : ℕ) (new : List ℕ) (r2 : Runner)
+  pub under-way-kept : (start : Contents) (left : ℕ) (new : List ℕ) (r2 : Runner)
       → ((plan : Plan) (q : Process) → plan.shape ≡ shape → plan.variant ≡ variant → FitsProcess plan p r q → (new ≡ old) × FitsProcess plan p r2 q)
-      → ∥ IsUnderWay shape variant left old runners ∥₁ → ∥ IsUnderWay shape variant left new (slice_set runners p r2) ∥₁
-  under-way-kept left new r2 kept = λ is. ∥∥₁_map is (λ (u : IsUnderWay shape variant left old runners).
+      → ∥ IsUnderWay shape variant start left old runners ∥₁ → ∥ IsUnderWay shape variant start left new (slice_set runners p r2) ∥₁
+  under-way-kept start left new r2 kept = λ is. ∥∥₁_map is (λ (u : IsUnderWay shape variant start left old runners).
       record {
         plan = u.plan;
+        first = u.first;
         schedule = u.schedule;
         state = u.state;
         within = u.within;
+        start_within = u.start_within;
+        starts = u.starts;
         gives = u.gives;
         few = u.few;
         shows = refits u.plan u.state new r2 u.shows (λ q f. kept u.plan q u.shows.shape u.shows.variant f);
       })
 
-  -- there is a task for the next call
-  pub is-built : (left : ℕ) (call : Call) → ∥ IsUnderWay shape variant left old runners ∥₁ → IsBuilt shape variant call
-  is-built left call is = ∥∥₁_elim is (Prim.hlevel props) (λ (u : IsUnderWay shape variant left old runners).
-      record { within = subst IsWithinLimits u.shows.shape u.within.shape })
+  -- the table is within the limits
+  pub within-limits : (start : Contents) (left : ℕ) → ∥ IsUnderWay shape variant start left old runners ∥₁ → IsWithinLimits shape
+  within-limits start left is = ∥∥₁_elim is (Prim.hlevel props) (λ (u : IsUnderWay shape variant start left old runners).
+      subst IsWithinLimits u.shows.shape u.within.shape)
 
   -- whether the process has a next move
   pub no-move : (plan : Plan) (s : State) → ShowsState plan shape variant old runners s → HasNothingToDo r

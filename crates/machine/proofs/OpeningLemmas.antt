@@ -1,14 +1,13 @@
 -- What a machine begins with.
 use Rattle.std.proofs.Common.{◌≡◌, ℕ, zero, suc, ◌+◌, ◌<◌, ◌^◌, List, [], ◌∷◌, ◌++◌, length, map, sum, arith, refl, ap, sym, subst, ◌∙◌, append_assoc}
-use Rattle.std.specs.Prelude.{Option, Some, None, slice_get, replicate, slice_set}
+use Rattle.std.specs.Prelude.{Option, Some, None, slice_get, replicate}
 use Rattle.std.specs.List.{AllZip}
-use Rattle.std.proofs.lemmas.List.{append-nil, length-set, length-replicate}
+use Rattle.std.proofs.lemmas.List.{append-nil}
 use Rattle.std.proofs.lemmas.List.Sums.{sum-map}
 use Rattle.std.proofs.lemmas.List.Folds.{sum_by-replicate}
 use Rattle.list_laws.proofs.ZipLemmas.{zip_right}
 use Rattle.events.specs.declared.event.Call.{Call}
 use Rattle.art_rows.specs.declared.table.Shape.{Shape}
-use Rattle.art_rows.specs.Table.{opening, table_words}
 use Rattle.art_steps.specs.declared.variant.Variant.{Variant}
 use Rattle.art_core.specs.declared.process.Process.{Process}
 use Rattle.art_core.specs.Core.{idle}
@@ -79,11 +78,6 @@ pub tasks-idle : (shape : Shape) (scripts : List (List Call)) (runners : List Ru
 tasks-idle shape scripts runners fresh i r at =
     let z = zip_right IsFresh scripts runners i r fresh at in
     subst (λ d. IsFor shape d) (sym z.2.doing) tt
-
-pub words-length : (shape : Shape) → length (opening shape) ≡ table_words shape
-words-length shape =
-    length-set (slice_set (replicate (table_words shape) 0) 4 1) _ 3
-    ∙ (length-set (replicate (table_words shape) 0) 4 1 ∙ length-replicate (table_words shape) 0)
 
 pub few-left : (n limit : ℕ) → limit < 2 ^ 32 → sum (map (λ q. q.steps) (replicate n idle)) + limit < 2 ^ 61
 few-left n limit h = omega (arith, sum-map (λ q. q.steps) (replicate n idle), sum_by-replicate (λ q. q.steps) n idle)

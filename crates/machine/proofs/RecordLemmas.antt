@@ -4,7 +4,9 @@ use Rattle.std.specs.Prelude.{Some, slice_get, flat_map}
 use Rattle.std.proofs.Math.Logic.{∥∥₁_elim, ∥∥₁_map}
 use Rattle.std.proofs.Props.{props}
 use Rattle.events.specs.Histories.{AreHistoryEvents}
+use Rattle.events.specs.Starts.{IsStart}
 use Rattle.logs.specs.Logs.{events_by_stamp}
+use Rattle.map_object.specs.MapObject.{Contents}
 use Rattle.art_rows.specs.declared.table.Shape.{Shape}
 use Rattle.art_steps.specs.declared.variant.Variant.{Variant}
 use Rattle.art_core.specs.declared.process.Process.{Process}
@@ -17,16 +19,18 @@ use Rattle.machine.specs.Fitting.{FitsProcess}
 use Rattle.machine.specs.Machines.{IsReached, Shows}
 use Rattle.machine.specs.UnderWay.{IsUnderWay}
 
-is-run : (shape : Shape) (variant : Variant) (left : ℕ) (words : List ℕ) (runners : List Runner) (u : IsUnderWay shape variant left words runners)
-    → IsRun u.plan u.schedule u.state
-is-run shape variant left words runners u = record { within = u.within; gives = u.gives; few_steps = let few = u.few in omega arith }
+is-run : (shape : Shape) (variant : Variant) (start : Contents) (left : ℕ) (words : List ℕ) (runners : List Runner)
+    (u : IsUnderWay shape variant start left words runners) → IsRun u.plan start u.first u.schedule u.state
+is-run shape variant start left words runners u =
+    record { within = u.within; start_within = u.start_within; starts = u.starts; gives = u.gives; few_steps = let few = u.few in omega arith }
 
 pub reached : (m : Machine) → ∥ IsReached m ∥₁
-reached m = ∥∥₁_map m.under_way (λ (u : IsUnderWay m.shape m.variant m.left m.words.items m.runners.items). record {
+reached m = ∥∥₁_map m.under_way (λ (u : IsUnderWay m.shape m.variant m.start.items m.left m.words.items m.runners.items). record {
   plan = u.plan;
+  first = u.first;
   schedule = u.schedule;
   state = u.state;
-  run = is-run m.shape m.variant m.left m.words.items m.runners.items u;
+  run = is-run m.shape m.variant m.start.items m.left m.words.items m.runners.items u;
   shows = u.shows;
 })
 
@@ -48,6 +52,12 @@ shown-history plan m s shows =
     (λ i r q e f. subst (λ n. FitsProcess plan n r q) (omega arith) (shows.fits i r q e f)))
 
 pub recorded-history : (m : Machine) → AreHistoryEvents (events_by_stamp (flat_map (λ r. r.log.items) m.runners.items))
-recorded-history m = ∥∥₁_elim m.under_way (Prim.hlevel props) (λ (u : IsUnderWay m.shape m.variant m.left m.words.items m.runners.items).
+recorded-history m = ∥∥₁_elim m.under_way (Prim.hlevel props) (λ (u : IsUnderWay m.shape m.variant m.start.items m.left m.words.items m.runners.items).
     subst AreHistoryEvents (shown-history u.plan m u.state u.shows)
-    (logs-are-history u.plan u.schedule u.state (is-run m.shape m.variant m.left m.words.items m.runners.items u)))
+    (logs-are-history u.plan m.start.items u.first u.schedule u.state (is-run m.shape m.variant m.start.items m.left m.words.items m.runners.items u)))
+
+-- the starting pairs are some that a history may start with
+pub recorded-start : (m : Machine) → IsStart m.start.items
+recorded-start m = ∥∥₁_elim m.under_way (Prim.hlevel props) (λ (u : IsUnderWay m.shape m.variant m.start.items m.left m.words.items m.runners.items).
+    let few = u.start_within.few in
+    record { rising = u.start_within.rising; few = omega (arith, few) })

@@ -36,7 +36,7 @@ module _ (m : Machine) (p : ℕ) (plan : Plan) (s : State) (shows : Shows plan m
         is x.0 x.2 ∙ sym (ap (next_point plan) x.1)
 
   module _ (past : length m.runners.items ≤ p) where
-    absent : slice_get s.processes p ≡ None
+    pub absent : slice_get s.processes p ≡ None
     absent = slice_get_past s.processes p (let many = shows.many in omega arith)
 
     pub finished-past : 0 ≡ finished_count (slice_get s.processes p)

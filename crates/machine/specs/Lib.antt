@@ -5,3 +5,4 @@ pub mod Machines
 pub mod Refusals
 pub mod Running
 pub mod Opening
+pub mod Starting

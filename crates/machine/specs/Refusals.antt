@@ -2,7 +2,7 @@
 use Rattle.std.specs.Prelude.{◌≡◌, ℕ, ◌<◌, ◌≤◌, length, slice_get, None, IsSome, IsSomeAnd}
 use Rattle.art_core.specs.Core.{Plan, State, next_move}
 use Rattle.machine.specs.declared.fault.MachineFault.{MachineFault}
-use Rattle.machine.specs.declared.fault.MachineFault.TheVariants.{NoProcess, NothingToDo, TurnLimit, Memory, TooLong, NotJson, Shape}
+use Rattle.machine.specs.declared.fault.MachineFault.TheVariants.{NoProcess, NothingToDo, TurnLimit, Memory, TooLong, NotJson, Shape, StartRefused}
 
 -- process p has something to do: an open call, or one of its script to begin
 abbrev pub HasMove : Plan → State → ℕ → Type 0
@@ -17,3 +17,4 @@ IsRefusedIn plan s left p Memory = HasMove plan s p × (0 < left)
 IsRefusedIn plan s left p TooLong = ⊥
 IsRefusedIn plan s left p NotJson = ⊥
 IsRefusedIn plan s left p Shape = ⊥
+IsRefusedIn plan s left p StartRefused = ⊥

@@ -1,5 +1,5 @@
 -- What a machine shows at opening, and after a run of a schedule.
-use Rattle.std.specs.Prelude.{◌≡◌, ℕ, ◌+◌, List, take, slice_get, Some}
+use Rattle.std.specs.Prelude.{◌≡◌, ℕ, ◌+◌, List, [], take, slice_get, Some}
 use Rattle.events.specs.declared.event.Call.{Call}
 use Rattle.art_rows.specs.declared.table.Shape.{Shape}
 use Rattle.art_steps.specs.declared.variant.Variant.{Variant}
@@ -8,16 +8,17 @@ use Rattle.art_core.specs.Core.{Plan, State, opened}
 use Rattle.art_core.specs.NamedTurns.{process_of_item, WantsTurn, AreMade, IsMadeWhole, AreMadeWhole}
 use Rattle.machine.specs.declared.machines.Machine.{Machine}
 use Rattle.machine.specs.declared.fault.MachineFault.{MachineFault}
-use Rattle.machine.specs.Machines.{Shows, turns_left}
+use Rattle.machine.specs.Machines.{Shows, start_of, turns_left}
 use Rattle.machine.specs.Refusals.{IsRefusedIn}
 
 abbrev pub plan_of : Shape → Variant → List (List Call) → Plan
 plan_of shape variant scripts = record { shape = shape; variant = variant; scripts = scripts }
 
--- the machine shows the opening state of the plan, with so many turns left
+-- the machine shows the opening state of the plan, with so many turns left and no starting pairs
 pub record IsOpened (shape : Shape) (variant : Variant) (scripts : List (List Call)) (limit : ℕ) (m : Machine) : Type 0 where
   pub shows : Shows (plan_of shape variant scripts) m (opened (plan_of shape variant scripts))
   pub left : turns_left m ≡ limit
+  pub no_start : start_of m ≡ []
 
 -- From the first state, with so many turns left, the items were made whole, and the machine shows the state after them.
 pub record HasMadeAll (plan : Plan) (items : List Item) (first : State) (left : ℕ) (m : Machine) : Type 0 where

@@ -6,7 +6,7 @@ use std::alloc::Global;
 impl Machine {
     ghost use Rattle.std.specs.Prelude.{◌≡◌, ◌+◌, ℕ, slice_get, Some, None, OnOk, OnErr, IfErr, IsSomeAnd};
     ghost use Rattle.art_core.specs.Core.{Plan, State, step};
-    ghost use Rattle.machine.specs.Machines.{Shows, turns_left};
+    ghost use Rattle.machine.specs.Machines.{Shows, start_of, turns_left};
     ghost use Rattle.machine.specs.Refusals.{IsRefusedIn};
 
     /// One step of process p. A refused turn moves nothing.
@@ -14,6 +14,7 @@ impl Machine {
         ensures moved { (plan : Plan) (s : State) → Shows plan self.old s → OnOk result (IsSomeAnd (step plan s p) (λ next. Shows plan self.new next)) }
         ensures left { OnOk result (turns_left self.new + 1 ≡ turns_left self.old) }
         ensures kept { (plan : Plan) (s : State) → Shows plan self.old s → OnErr result (Shows plan self.new s) }
+        ensures same_start { start_of self.new ≡ start_of self.old }
         ensures same_left { OnErr result (turns_left self.new ≡ turns_left self.old) }
         ensures refused { (plan : Plan) (s : State) → Shows plan self.old s → IfErr result (IsRefusedIn plan s (turns_left self.old) p) }
     {

@@ -10,11 +10,13 @@ use art::{Shape, Variant};
 use events::Memory;
 use std::alloc::Global;
 
-/// The core under way: the words of the table, the processes, and the turns that are left.
+/// The core under way: the words of the table, the pairs that were in it at the start, the processes, and the turns that are
+/// left.
 #[derive(Drop)]
 pub struct Machine {
     pub(crate) shape: Shape,
     pub(crate) variant: Variant,
+    pub(crate) start: Vec<(u64, u64)>,
     pub(crate) left: u32,
     pub(crate) words: Vec<u64>,
     pub(crate) runners: Vec<Runner>,
@@ -22,5 +24,5 @@ pub struct Machine {
     ghost long: { length words.items ≡ table_words shape },
     ghost few: { length runners.items ≤ 64 },
     ghost tasks: { ∥ AreFor shape runners.items ∥₁ },
-    ghost under_way: { ∥ IsUnderWay shape variant left words.items runners.items ∥₁ },
+    ghost under_way: { ∥ IsUnderWay shape variant start.items left words.items runners.items ∥₁ },
 }

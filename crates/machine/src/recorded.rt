@@ -7,18 +7,20 @@ use std::alloc::Global;
 
 impl Machine {
     ghost use Rattle.std.specs.Prelude.{◌≡◌, IfOk};
-    ghost use Rattle.events.specs.HistoryView.{with_no_start};
+    ghost use Rattle.events.specs.HistoryView.{HistoryView};
     ghost use Rattle.art_core.specs.Core.{Plan, State, history_of};
-    ghost use Rattle.machine.specs.Machines.{Shows, IsReached};
+    ghost use Rattle.machine.specs.Machines.{Shows, start_of, IsReached};
 
-    /// The history so far: all events by rising stamp. Open calls are pending, and calls that were not begun are not in it.
-    /// `Err` is want of memory.
+    /// The history so far: the starting pairs, and all events by rising stamp. Open calls are pending, and calls that were
+    /// not begun are not in it. `Err` is want of memory.
     pub fn history(&self, alloc: Global) -> Result<History, Memory>
-        ensures history { (plan : Plan) (s : State) → Shows plan self.now s → IfOk result (λ h. h ≡ with_no_start (history_of s)) }
+        ensures history { (plan : Plan) (s : State) → Shows plan self.now s → IfOk result (λ h. h
+            ≡ record { start = start_of self.now; events = history_of s }) }
         ensures reached { ∥ IsReached self.now ∥₁ }
     {
         let stamped = all_events(alloc, &self.runners)?;
-        history_by_stamp(alloc, Vec::new(alloc), stamped)
+        let start = Vec::from_slice(alloc, &self.start)?;
+        history_by_stamp(alloc, start, stamped)
     }
 }
 

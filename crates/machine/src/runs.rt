@@ -11,7 +11,7 @@ impl Machine {
     ghost use Rattle.std.specs.Prelude.{ℕ, slice_get, OnOk, IfErr};
     ghost use Rattle.art_core.specs.Core.{Plan, State};
     ghost use Rattle.art_core.specs.NamedTurns.{process_of_item, next_point, finished_count, WantsTurn};
-    ghost use Rattle.machine.specs.Machines.{Shows, turns_left};
+    ghost use Rattle.machine.specs.Machines.{Shows, start_of, turns_left};
     ghost use Rattle.machine.specs.Running.{HasMadeAll, HasMadeItem, HasStoppedIn, HasStoppedAt};
 
     /// Makes the turns that the items name, in order, up to the first that is refused. The turns before it stand, and the
@@ -20,6 +20,7 @@ impl Machine {
         ensures made { (plan : Plan) (s : State) → Shows plan self.old s → OnOk result (HasMadeAll plan schedule.now s (turns_left self.old) self.new) }
         ensures stopped { (plan : Plan) (s : State) → Shows plan self.old s
             → IfErr result (λ e. HasStoppedAt plan schedule.now s (turns_left self.old) e.item e.fault self.new) }
+        ensures same_start { start_of self.new ≡ start_of self.old }
     {
         for (place, item) in schedule.iter().enumerate() {
             if let Err(fault) = self.make(alloc, *item) {
@@ -30,10 +31,11 @@ impl Machine {
     }
 
     /// Makes the turns that an item names, up to the first that is refused.
-    fn make(&mut self, alloc: Global, item: Item) -> Result<(), MachineFault>
+    pub(crate) fn make(&mut self, alloc: Global, item: Item) -> Result<(), MachineFault>
         ensures made { (plan : Plan) (s : State) → Shows plan self.old s → OnOk result (HasMadeItem plan item s (turns_left self.old) self.new) }
         ensures stopped { (plan : Plan) (s : State) → Shows plan self.old s
             → IfErr result (λ fault. HasStoppedIn plan item s (turns_left self.old) fault self.new) }
+        ensures same_start { start_of self.new ≡ start_of self.old }
     {
         let process = process_of(item);
         let before = self.finished(process);

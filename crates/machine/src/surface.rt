@@ -2,19 +2,23 @@
 use crate::fault::MachineFault;
 use crate::machines::Machine;
 use crate::opening::runners;
+use crate::starting::starting_words;
 use art::{Shape, TreeCall, Variant};
 use events::Memory;
 use std::alloc::Global;
 
 impl Machine {
     ghost use Rattle.std.specs.Prelude.{◌≡◌, map, IfOk, IfErr};
-    ghost use Rattle.art_core.specs.Core.{Plan, State};
+    ghost use Rattle.art_core.specs.Core.{Plan, State, opened_on};
     ghost use Rattle.art_core.specs.Claims.{IsPlan};
-    ghost use Rattle.machine.specs.Machines.{Shows};
+    ghost use Rattle.art_core.specs.Starts.{StartsOn, IsStartOf};
+    ghost use Rattle.machine.specs.Machines.{Shows, start_of, turns_left};
     ghost use Rattle.machine.specs.declared.fault.MachineFault.TheVariants as faults;
     ghost use Rattle.machine.specs.Running.{plan_of, IsOpened};
+    ghost use Rattle.machine.specs.Starting.{IsOpenedWith, IsNotOpened};
 
-    /// A machine before its first turn, with a script for each process and at most this many turns. `Err` is want of memory.
+    /// A machine before its first turn, with a script for each process and at most this many turns. It starts with no pairs.
+    /// `Err` is want of memory.
     pub fn open(
         alloc: Global,
         shape: Shape,
@@ -26,27 +30,70 @@ impl Machine {
         ensures opened { IfOk result (IsOpened shape variant (map (λ script. script.items) scripts.items) limit) }
         ensures refused { IfErr result (λ fault. fault ≡ faults.Memory) }
     {
-        match Machine::opened(alloc, shape, variant, scripts, limit) {
+        let words = match shape.opening(alloc) {
+            Ok(words) => words,
+            Err(_) => return Err(MachineFault::Memory),
+        };
+        match Machine::opened(
+            alloc,
+            shape,
+            variant,
+            Vec::new(alloc),
+            words,
+            scripts,
+            limit,
+        ) {
             Ok(machine) => Ok(machine),
             Err(_) => Err(MachineFault::Memory),
         }
     }
 
+    /// The same with pairs of a key and a value in the tree, by rising key. They are inserted one after another by steps of
+    /// the variant, which are no turns of the machine. `Err` is `StartRefused` where one of them has no place in the tree,
+    /// else want of memory. `TurnLimit` would be that `START_TURNS` steps are not enough to insert them.
+    pub fn open_with(
+        alloc: Global,
+        shape: Shape,
+        variant: Variant,
+        start: Vec<(u64, u64)>,
+        scripts: Vec<Vec<TreeCall>>,
+        limit: u32,
+    ) -> Result<Machine, MachineFault>
+        requires plan { IsPlan (plan_of shape variant (map (λ script. script.items) scripts.items)) }
+        requires start { IsStartOf (plan_of shape variant (map (λ script. script.items) scripts.items)) start.items }
+        ensures opened { IfOk result (IsOpenedWith shape variant start.items (map (λ script. script.items) scripts.items) limit) }
+        ensures refused { IfErr result (IsNotOpened shape variant start.items) }
+    {
+        let words = starting_words(alloc, shape, variant, &start)?;
+        match Machine::opened(alloc, shape, variant, start, words, scripts, limit) {
+            Ok(machine) => Ok(machine),
+            Err(_) => Err(MachineFault::Memory),
+        }
+    }
+
+    /// A machine before its first turn, on these words.
     fn opened(
         alloc: Global,
         shape: Shape,
         variant: Variant,
+        start: Vec<(u64, u64)>,
+        words: Vec<u64>,
         scripts: Vec<Vec<TreeCall>>,
         limit: u32,
     ) -> Result<Machine, Memory>
-        requires { IsPlan (plan_of shape variant (map (λ script. script.items) scripts.items)) }
-        ensures { IfOk result (IsOpened shape variant (map (λ script. script.items) scripts.items) limit) }
+        requires plan { IsPlan (plan_of shape variant (map (λ script. script.items) scripts.items)) }
+        requires start { IsStartOf (plan_of shape variant (map (λ script. script.items) scripts.items)) start.items }
+        requires words { StartsOn shape variant start.items words.items }
+        ensures shows { IfOk result (λ m. Shows (plan_of shape variant (map (λ script. script.items) scripts.items)) m
+            (opened_on (plan_of shape variant (map (λ script. script.items) scripts.items)) words.items)) }
+        ensures left { IfOk result (λ m. turns_left m ≡ limit) }
+        ensures start { IfOk result (λ m. start_of m ≡ start.items) }
     {
-        let words = shape.opening(alloc)?;
         let runners = runners(alloc, scripts)?;
         Ok(Machine {
             shape,
             variant,
+            start,
             left: limit,
             words,
             runners,

@@ -41,7 +41,7 @@ impl Runner {
     ghost use Rattle.art_core.specs.NamedTurns.{point_in};
     ghost use Rattle.machine.specs.Working.{HasNothingToDo};
     ghost use Rattle.machine.specs.Fitting.{FitsProcess, Moves};
-    ghost use Rattle.art.specs.Built.{IsBuilt};
+    ghost use Rattle.art_rows.specs.Table.{IsWithinLimits};
     ghost use Rattle.machine.specs.declared.doing.Doing.TheVariants.{Idle, Going, Answered};
 
     /// Draws the stamp of the next call's invocation.
@@ -55,7 +55,7 @@ impl Runner {
         requires table { length words.old ≡ table_words shape }
         requires idle { self.old.doing ≡ Idle }
         requires work { slice_get self.old.script.items self.old.begun ≢ None }
-        requires built { (call : Call) → slice_get self.old.script.items self.old.begun ≡ Some call → IsBuilt shape variant call }
+        requires limits { IsWithinLimits shape }
         ensures table { IsFor shape self.new.doing }
         ensures long { length words.new ≡ length words.old }
         ensures moved { (plan : Plan) (q : Process) → plan.shape ≡ shape → plan.variant ≡ variant → FitsProcess plan process self.old q
@@ -133,7 +133,7 @@ impl Runner {
         requires root { 1 ≤ shape.rows256 }
         requires is_for { IsFor shape self.old.doing }
         requires work { self.old.doing ≡ Idle → slice_get self.old.script.items self.old.begun ≢ None }
-        requires built { (call : Call) → slice_get self.old.script.items self.old.begun ≡ Some call → IsBuilt shape variant call }
+        requires limits { IsWithinLimits shape }
         ensures table { IsFor shape self.new.doing }
         ensures long { length words.new ≡ length words.old }
         ensures moved { (plan : Plan) (q : Process) → plan.shape ≡ shape → plan.variant ≡ variant → FitsProcess plan process self.old q

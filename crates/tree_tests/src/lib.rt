@@ -12,3 +12,5 @@ mod refusals;
 mod serial;
 #[cfg(test)]
 mod setups;
+#[cfg(test)]
+mod started;

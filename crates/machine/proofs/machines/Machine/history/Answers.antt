@@ -1,12 +1,20 @@
 use Rattle.std.proofs.Common.{◌≡◌, IfOk, flat_map, ap, sym, subst, ◌∙◌}
 use Rattle.events.specs.Histories.{AreHistoryEvents}
-use Rattle.events.specs.HistoryView.{HistoryView, with_no_start}
+use Rattle.events.specs.HistoryView.{HistoryView}
+use Rattle.events.specs.Starts.{IsStart}
 use Rattle.logs.specs.Logs.{events_by_stamp}
-use Rattle.machine.proofs.RecordLemmas.{reached, shown-history, recorded-history}
+use Rattle.machine.specs.Machines.{start_of}
+use Rattle.machine.proofs.RecordLemmas.{reached, shown-history, recorded-history, recorded-start}
 use Rattle.machine.proofs.machines.Machine.history.Goals as goal
 
 pub returns-in_err-stamped-clause-reached : goal.returns-in_err-stamped-clause-reached
 returns-in_err-stamped-clause-reached c = reached c.args.self.now
+
+pub returns-in_err-start-clause-reached : goal.returns-in_err-start-clause-reached
+returns-in_err-start-clause-reached c = reached c.args.self.now
+
+pub history_by_stamp-requires-clause-start : goal.history_by_stamp-requires-clause-start
+history_by_stamp-requires-clause-start c = subst IsStart (sym (c.in_ok-start.ensures.items ∙ c.deref-2.ensures.value)) (recorded-start c.args.self.now)
 
 pub history_by_stamp-requires-clause-events : goal.history_by_stamp-requires-clause-events
 history_by_stamp-requires-clause-events c =
@@ -15,9 +23,11 @@ history_by_stamp-requires-clause-events c =
 
 pub returns-clause-history : goal.returns-clause-history
 returns-clause-history c = λ plan s shows.
-    subst (λ events. IfOk c.history_by_stamp.result (λ (h : HistoryView). h ≡ with_no_start events))
+    subst (λ (h : HistoryView). IfOk c.history_by_stamp.result (λ (found : HistoryView). found ≡ h))
+    (ap (λ start. record { start = start; events = events_by_stamp c.in_ok-stamped.stamped.items }) (c.in_ok-start.ensures.items ∙ c.deref-2.ensures.value)
+    ∙ ap (λ events. record { start = start_of c.args.self.now; events = events })
     (ap events_by_stamp (c.in_ok-stamped.ensures ∙ ap (flat_map (λ r. r.log.items)) c.deref.ensures.value)
-    ∙ sym (shown-history plan c.args.self.now s shows)) (rw c.new.ensures.items at c.history_by_stamp.ensures)
+    ∙ sym (shown-history plan c.args.self.now s shows))) c.history_by_stamp.ensures
 
 pub returns-clause-reached : goal.returns-clause-reached
 returns-clause-reached c = reached c.args.self.now

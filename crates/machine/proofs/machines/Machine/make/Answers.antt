@@ -26,6 +26,7 @@ turns-preserved c = (
       (subst (λ p. IsSomeAnd (step plan h.state p) (λ t. Shows plan c.turn.new.self t)) c.process_of-process.ensures
       (c.in_ok-turn.ensures.moved plan h.state h.shows)),
   omega (arith, c.in_ok-turn.ensures.left, c.turns.invariant.1),
+  c.turn.ensures.same_start ∙ c.turns.invariant.2,
 )
 
 pub returns-clause-made : goal.returns-clause-made
@@ -34,3 +35,9 @@ returns-clause-made c = λ plan s shows.
     let was = c.finished-before.ensures plan s shows ∙ ap (λ p. finished_count (slice_get s.processes p)) c.process_of-process.ensures in
     turns-whole plan c.args.item s _ c.turns.made c.turns.self h
     (λ w. let t : c.wants.result ≡ true = (c.wants.ensures plan s h.state h.shows was).1 w in let f = c.turns-test.false in cc) c.turns.invariant.1
+
+pub returns-in_err-turn-clause-same_start : goal.returns-in_err-turn-clause-same_start
+returns-in_err-turn-clause-same_start c = c.turn.ensures.same_start ∙ c.turns.invariant.2
+
+pub returns-clause-same_start : goal.returns-clause-same_start
+returns-clause-same_start c = c.turns.invariant.2

@@ -1,8 +1,10 @@
-use Rattle.std.proofs.Common.{take}
+use Rattle.std.proofs.Common.{◌≡◌, take}
 use Rattle.art_core.specs.Core.{Plan, State}
-use Rattle.machine.specs.Machines.{Shows, turns_left}
+use Rattle.machine.specs.Machines.{Shows, start_of, turns_left}
 use Rattle.machine.specs.Running.{HasMadeAll}
 use Rattle.machine.proofs.machines.Machine.run.Given as goal
 
 abbrev pub invariant-loop-place : goal.invariant-loop-place
-invariant-loop-place l = (plan : Plan) (s : State) → Shows plan l.fn.self s → HasMadeAll plan (take l.place l.schedule) s (turns_left l.fn.self) l.self
+invariant-loop-place l =
+    ((plan : Plan) (s : State) → Shows plan l.fn.self s → HasMadeAll plan (take l.place l.schedule) s (turns_left l.fn.self) l.self)
+    × (start_of l.self ≡ start_of l.fn.self)

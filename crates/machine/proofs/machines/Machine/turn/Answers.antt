@@ -4,7 +4,7 @@ use Rattle.std.proofs.lemmas.Option.{slice_get-get_or}
 use Rattle.art_core.specs.Core.{step}
 use Rattle.machine.specs.Fitting.{ShowsState}
 use Rattle.machine.specs.UnderWay.{IsUnderWay}
-use Rattle.machine.proofs.MachineLemmas.{is-for, is-built, are-for, steps, some-and, refits, under-way-steps, under-way-kept, no-move, has-move, positive}
+use Rattle.machine.proofs.MachineLemmas.{is-for, within-limits, are-for, steps, some-and, refits, under-way-steps, under-way-kept, no-move, has-move, positive}
 use Rattle.machine.proofs.machines.Machine.turn.Goals as goal
 
 pub turn-requires-clause-is_for : goal.turn-requires-clause-is_for
@@ -12,11 +12,11 @@ turn-requires-clause-is_for c =
     is-for c.args.self.now.shape c.args.self.now.runners.items c.args.p c.index_mut.result.now c.args.self.now.tasks
     (slice_get-get_or c.args.self.now.runners.items c.args.p c.index_mut.result.now (search rules) ∙ ap Some (sym c.index_mut.ensures.value))
 
-pub turn-requires-clause-built : goal.turn-requires-clause-built
-turn-requires-clause-built c =
-    λ call e. is-built c.args.self.now.shape c.args.self.now.variant c.args.self.now.words.items c.args.self.now.runners.items c.args.p c.index_mut.result.now
+pub turn-requires-clause-limits : goal.turn-requires-clause-limits
+turn-requires-clause-limits c =
+    within-limits c.args.self.now.shape c.args.self.now.variant c.args.self.now.words.items c.args.self.now.runners.items c.args.p c.index_mut.result.now
     (slice_get-get_or c.args.self.now.runners.items c.args.p c.index_mut.result.now (search rules) ∙ ap Some (sym c.index_mut.ensures.value))
-    c.args.self.now.left call c.args.self.now.under_way
+    c.args.self.now.start.items c.args.self.now.left c.args.self.now.under_way
 
 pub invariant_of-self-in-Ok-clause-tasks : goal.invariant_of-self-in-Ok-clause-tasks
 invariant_of-self-in-Ok-clause-tasks c =
@@ -28,25 +28,25 @@ invariant_of-self-in-Err-clause-tasks c =
 
 pub invariant_of-self-in-Ok-clause-under_way : goal.invariant_of-self-in-Ok-clause-under_way
 invariant_of-self-in-Ok-clause-under_way c =
-    subst (λ w. ∥ IsUnderWay c.args.self.now.shape c.args.self.now.variant (c.args.self.now.left - 1) w
+    subst (λ w. ∥ IsUnderWay c.args.self.now.shape c.args.self.now.variant c.args.self.now.start.items (c.args.self.now.left - 1) w
     (set c.args.self.now.runners.items c.args.p c.turn.new.self) ∥₁)
     (sym (with_items_is c.args.self.now.words c.turn.new.words (c.turn.ensures.long ∙ (ap length c.deref_mut.ensures.value ∙ sym c.args.self.now.words.ok.0))))
     (under-way-steps c.args.self.now.shape c.args.self.now.variant c.deref_mut.result.now c.args.self.now.runners.items c.args.p c.index_mut.result.now
     (slice_get-get_or c.args.self.now.runners.items c.args.p c.index_mut.result.now (search rules) ∙ ap Some (sym c.index_mut.ensures.value))
-    c.args.self.now.left (c.args.self.now.left - 1) c.turn.new.words c.turn.new.self (omega arith)
+    c.args.self.now.start.items c.args.self.now.left (c.args.self.now.left - 1) c.turn.new.words c.turn.new.self (omega arith)
     (λ plan q shape variant f. c.in-Ok.ensures.moved plan q shape variant f)
-    (subst (λ w. ∥ IsUnderWay c.args.self.now.shape c.args.self.now.variant c.args.self.now.left w c.args.self.now.runners.items ∥₁)
+    (subst (λ w. ∥ IsUnderWay c.args.self.now.shape c.args.self.now.variant c.args.self.now.start.items c.args.self.now.left w c.args.self.now.runners.items ∥₁)
     (sym c.deref_mut.ensures.value) c.args.self.now.under_way))
 
 pub invariant_of-self-in-Err-clause-under_way : goal.invariant_of-self-in-Err-clause-under_way
 invariant_of-self-in-Err-clause-under_way c =
-    subst (λ w. ∥ IsUnderWay c.args.self.now.shape c.args.self.now.variant c.args.self.now.left w
+    subst (λ w. ∥ IsUnderWay c.args.self.now.shape c.args.self.now.variant c.args.self.now.start.items c.args.self.now.left w
     (set c.args.self.now.runners.items c.args.p c.turn.new.self) ∥₁)
     (sym (with_items_is c.args.self.now.words c.turn.new.words (c.turn.ensures.long ∙ (ap length c.deref_mut.ensures.value ∙ sym c.args.self.now.words.ok.0))))
     (under-way-kept c.args.self.now.shape c.args.self.now.variant c.deref_mut.result.now c.args.self.now.runners.items c.args.p c.index_mut.result.now
     (slice_get-get_or c.args.self.now.runners.items c.args.p c.index_mut.result.now (search rules) ∙ ap Some (sym c.index_mut.ensures.value))
-    c.args.self.now.left c.turn.new.words c.turn.new.self (λ plan q shape variant f. c.in-Err.ensures.kept plan q f)
-    (subst (λ w. ∥ IsUnderWay c.args.self.now.shape c.args.self.now.variant c.args.self.now.left w c.args.self.now.runners.items ∥₁)
+    c.args.self.now.start.items c.args.self.now.left c.turn.new.words c.turn.new.self (λ plan q shape variant f. c.in-Err.ensures.kept plan q f)
+    (subst (λ w. ∥ IsUnderWay c.args.self.now.shape c.args.self.now.variant c.args.self.now.start.items c.args.self.now.left w c.args.self.now.runners.items ∥₁)
     (sym c.deref_mut.ensures.value) c.args.self.now.under_way))
 
 pub returns-in-Ok-clause-moved : goal.returns-in-Ok-clause-moved

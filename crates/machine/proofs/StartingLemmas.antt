@@ -1,0 +1,116 @@
+-- A machine that inserts pairs until nothing is left to do.
+use Rattle.std.proofs.Common.{[], ◌∷◌, ◌≡◌, ℕ, ◌+◌, ◌<◌, ◌≤◌, List, length, take, refl, sym, ap, subst, ◌∙◌, arith, inl, inr, Some, None}
+use Rattle.std.proofs.Common.{get_or, IsTrue}
+use Rattle.std.specs.Prelude.{slice_get, replicate, filter_map, Contains, All}
+use Rattle.std.proofs.lemmas.List.{length-replicate, length-map, get_or-map, take_more}
+use Rattle.std.proofs.lemmas.List.Elements.{Contains-get_or, Contains-push_cases}
+use Rattle.list_laws.proofs.FilterLemmas.{Contains-filter_map, Contains-from_filter_map}
+use Rattle.list_laws.proofs.NumberLemmas.{some_at}
+use Rattle.events.specs.declared.event.Call.{Call}
+use Rattle.events.specs.declared.event.Call.TheVariants.{Insert}
+use Rattle.events.specs.declared.event.Reply.TheVariants as replies
+use Rattle.logs.specs.Logs.{Stamped}
+use Rattle.map_object.specs.MapObject.{Contents}
+use Rattle.art_rows.specs.declared.table.Shape.{Shape}
+use Rattle.art_steps.specs.declared.variant.Variant.{Variant}
+use Rattle.art_steps.specs.TreeCalls.{is_tree_call}
+use Rattle.art_core.specs.declared.item.Item.{Item}
+use Rattle.art_core.specs.declared.item.Item.TheVariants.{Turns}
+use Rattle.art_core.specs.declared.process.Process.{Process}
+use Rattle.art_core.specs.Core.{Plan, State, answered, next_move, opened}
+use Rattle.art_core.specs.NamedTurns.{AreMade}
+use Rattle.art_core.specs.Starts.{AreInsertedIn, inserts, start_plan}
+use Rattle.art_core.proofs.HistoryLemmas.{run-lengths}
+use Rattle.art_core.proofs.StartLemmas.{run-steps}
+use Rattle.machine.specs.declared.machines.Machine.{Machine}
+use Rattle.machine.specs.declared.starting.TheConstants.{START_TURNS}
+use Rattle.machine.specs.declared.fault.MachineFault.{MachineFault}
+use Rattle.machine.specs.declared.fault.MachineFault.TheVariants as faults
+use Rattle.machine.specs.Running.{HasMadeItem, HasStoppedIn, IsOpened}
+use Rattle.machine.specs.Starting.{HasInserted, IsNotOpened}
+
+-- Refusals in a log.
+
+module _ (log : List Stamped) (i : ℕ) (e : Stamped) (within : i < length log) (is : e ≡ get_or log i e) where
+  pub refusal-found : answered e.1 ≡ Some replies.Refused → Contains (filter_map (λ e. answered e.1) log) replies.Refused
+  refusal-found a =
+      Contains-filter_map (λ e. answered e.1) log e replies.Refused (subst (λ x. Contains log x) (sym is) (Contains-get_or log i e within)) a
+
+  pub no-refusal-yet : (Contains (filter_map (λ e. answered e.1) (take i log)) replies.Refused → ⊥) → (answered e.1 ≡ Some replies.Refused → ⊥)
+      → Contains (filter_map (λ e. answered e.1) (take (i + 1) log)) replies.Refused → ⊥
+  no-refusal-yet none other h =
+      let x = Contains-from_filter_map (λ e. answered e.1) (take (i + 1) log) replies.Refused h in
+      elim (Contains-push_cases (take i log) (get_or log i e) x.0 (subst (λ es. Contains es x.0) (take_more log i e within) x.1)) [
+        | inl before ↦ none (Contains-filter_map (λ e. answered e.1) (take i log) x.0 replies.Refused before x.2)
+        | inr same ↦ other (ap (λ e. answered e.1) (is ∙ same) ∙ x.2)
+      ]
+
+-- The inserts are calls that trees can do.
+
+pub insert-fits : (start : Contents) (i : ℕ) → All (λ call. IsTrue (is_tree_call call)) (inserts start) → i < length start
+    → IsTrue (is_tree_call (Insert (get_or start i (0, 0)).0 (get_or start i (0, 0)).1))
+insert-fits start i all within =
+    subst (λ call. IsTrue (is_tree_call call)) (get_or-map (λ pair. Insert pair.0 pair.1) start i (0, 0) (Insert 0 0) within)
+    (all i (Insert 0 0) (omega (arith, within, length-map start (λ pair. Insert pair.0 pair.1))))
+
+-- The run of the inserts: it names one turn more than there are.
+
+module _ (shape : Shape) (variant : Variant) (start : Contents) where
+  abbrev plan : Plan
+  plan = start_plan shape variant start
+
+  abbrev pub all_turns : Item
+  all_turns = Turns 0 (START_TURNS + 1)
+
+  inserted-in : (s : State) (process : Process) (made : ℕ) → AreMade plan all_turns (opened plan) made s → made ≤ START_TURNS
+      → slice_get s.processes 0 ≡ Some process → AreInsertedIn shape variant start s process
+  inserted-in s process made turns few is = record {
+    schedule = replicate made 0;
+    gives = turns.gives;
+    few_steps = omega (arith, few, run-steps plan (replicate made 0) (opened plan) s turns.gives, length-replicate {A = ℕ} made 0);
+    is_process = is;
+  }
+
+  -- the machine is opened for the inserts alone
+  pub opens : (scripts : List (List Call)) (m : Machine) → scripts ≡ inserts start ∷ [] → IsOpened shape variant scripts START_TURNS m
+      → IsOpened shape variant (inserts start ∷ []) START_TURNS m
+  opens scripts m one h = subst (λ scripts. IsOpened shape variant scripts START_TURNS m) one h
+
+  module _ (left : ℕ) (next : Machine) (has : left ≡ START_TURNS) where
+    pub not-made : HasMadeItem plan all_turns (opened plan) left next → ⊥
+    not-made h = let costs = h.costs in h.turns.over (omega (arith, has))
+
+    pub all-inserted : (fault : MachineFault) → fault ≡ faults.NothingToDo → HasStoppedIn plan all_turns (opened plan) left fault next
+        → HasInserted shape variant start next
+    all-inserted fault is stops =
+        let h = subst (λ fault. HasStoppedIn plan all_turns (opened plan) left fault next) is stops in
+        let x = some_at (slice_get h.state.processes 0) (λ q. next_move plan 0 q ≡ None) h.refused in
+        let costs = h.costs in
+        record {
+          state = h.state;
+          process = x.0;
+          inserted = inserted-in h.state x.0 h.made h.turns (omega (arith, has)) x.1;
+          all = x.2;
+          shows = h.shows;
+        }
+
+    pub not-opened : (fault : MachineFault) → (fault ≡ faults.NothingToDo → ⊥) → HasStoppedIn plan all_turns (opened plan) left fault next
+        → IsNotOpened shape variant start fault
+    not-opened faults.NoProcess other h =
+        let one = (run-lengths plan (replicate h.made 0) (opened plan) h.state h.turns.gives).1 in let none = h.refused in absurd (omega (arith, one, none))
+    not-opened faults.NothingToDo other h = absurd (other refl)
+    not-opened faults.TurnLimit other h =
+        let costs = h.costs in
+        let over = h.refused.1 in
+        record {
+          state = h.state;
+          schedule = replicate h.made 0;
+          gives = h.turns.gives;
+          long = length-replicate {A = ℕ} h.made 0 ∙ omega (arith, costs, over, has);
+          unfinished = h.refused.0;
+        }
+    not-opened faults.Memory other h = tt
+    not-opened faults.TooLong other h = absurd h.refused
+    not-opened faults.NotJson other h = absurd h.refused
+    not-opened faults.Shape other h = absurd h.refused
+    not-opened faults.StartRefused other h = absurd h.refused

@@ -1,0 +1,6 @@
+use Rattle.std.proofs.Common.{◌≡◌, take}
+use Rattle.art_core.specs.Starts.{inserts}
+use Rattle.machine.proofs.starting.start_script.Given as goal
+
+abbrev pub invariant-loop-key : goal.invariant-loop-key
+invariant-loop-key l = l.script.items ≡ inserts (take l.key-index l.start)
