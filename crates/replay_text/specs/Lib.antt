@@ -1,0 +1,5 @@
+pub mod Replays
+pub mod ReplayViews
+pub mod ReplayTexts
+pub mod ReplayTextFaults
+pub mod ReplayTextLaws

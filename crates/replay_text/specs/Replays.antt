@@ -1,0 +1,46 @@
+-- Replays: what is run, and by which schedule.
+use Rattle.std.specs.Prelude.{ℕ, ◌+◌, ◌≤◌, Bool, true, ◌&&◌, nat_le, IsTrue, List, length, map, sum, All}
+use Rattle.events.specs.declared.event.Call.{Call}
+use Rattle.events.specs.declared.event.Call.TheVariants.{Insert}
+use Rattle.events.specs.declared.TheConstants.{MAX_CALLS}
+use Rattle.map_object.specs.MapObject.{Contents, IsRising}
+use Rattle.art_rows.specs.declared.table.Shape.{Shape}
+use Rattle.art_steps.specs.declared.variant.Variant.{Variant}
+use Rattle.art_steps.specs.TreeCalls.{is_tree_call}
+use Rattle.art_core.specs.declared.item.Item.{Item}
+use Rattle.art_core.specs.declared.item.Item.TheVariants.{Turns, End, Until}
+use Rattle.art_core.specs.Starts.{IsStartOf}
+use Rattle.art_core.specs.Claims.{IsPlan}
+use Rattle.machine.specs.Running.{plan_of}
+
+-- the most turns of a machine, and of an item
+abbrev pub turn_limit : ℕ
+turn_limit = 1000000
+
+-- the most items of a schedule
+abbrev pub item_limit : ℕ
+item_limit = 100000
+
+-- what a contract sees of a replay
+pub record ReplayView : Type 0 where
+  pub limit : ℕ
+  pub shape : Shape
+  pub variant : Variant
+  pub start : Contents
+  pub scripts : List (List Call)
+  pub schedule : List Item
+
+-- whether an item that names a number of turns names some, and not too many
+abbrev pub is_item : Item → Bool
+is_item (Turns process turns) = nat_le 1 turns && nat_le turns turn_limit
+is_item (End process) = true
+is_item (Until process point) = true
+
+-- a replay within the limits
+pub record IsReplay (r : ReplayView) : Type 0 where
+  pub some_turn : 1 ≤ r.limit
+  pub few_turns : r.limit ≤ turn_limit
+  pub plan : IsPlan (plan_of r.shape r.variant r.scripts)
+  pub start : IsStartOf (plan_of r.shape r.variant r.scripts) r.start
+  pub few_items : length r.schedule ≤ item_limit
+  pub items : All (λ item. IsTrue (is_item item)) r.schedule
