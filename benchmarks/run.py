@@ -1,13 +1,14 @@
 #!/usr/bin/env python3
 """Times the program on histories that it generates, and prints the time and the peak memory of each run.
 
-    benchmarks/run.py [check|judge|search|segments|workers]..
+    benchmarks/run.py [check|judge|search|segments|workers|generate|replay]..
 
 A history for `check` is made by one sorted map that processes call in turn, so that the calls by number are an
 order of it. In one for `judge` and `segments` the calls overlap, and each has its effect at some moment while it is
 open. One for `search` is one segment without order: some pairs are held, some calls overlap, and then one key is seen
 with what nobody put there. One for `workers` has segments that are equal but for their keys, of many configurations and
-without order.
+without order. `generate` makes plans, and `replay` runs generated plans on both full trees, each call to its end or some turns
+at a time, and one call that waits for a lock as long as a machine may live.
 """
 
 import json
@@ -107,17 +108,17 @@ def long_scans(pairs, scans):
         yield ("scan", 0, great)
 
 
-def run(words, text):
+def run(words, text, statuses=(0, 1, 2)):
     """The seconds and the peak of memory, in MiB, of one run, with what it printed."""
     with tempfile.TemporaryFile() as source:
         source.write(text)
         source.seek(0)
         began = time.monotonic()
-        process = subprocess.Popen([PROGRAM, *words], stdin=source, stdout=subprocess.PIPE)
+        process = subprocess.Popen([PROGRAM, *words], stdin=source, stdout=subprocess.PIPE, stderr=subprocess.DEVNULL)
         answer = process.stdout.read()
         _, status, usage = os.wait4(process.pid, 0)
         seconds = time.monotonic() - began
-    assert os.WIFEXITED(status), status
+    assert os.WIFEXITED(status) and os.WEXITSTATUS(status) in statuses, status
     return seconds, usage.ru_maxrss / 1024, answer
 
 
@@ -241,10 +242,54 @@ def workers():
         show(f"judge, 8 equal segments, {number} workers", words, text, b'{"calls":')
 
 
+def generated(processes, calls, seed, most):
+    """The words that generate a plan of calls of all kinds on the keys up to the most."""
+    numbers = {"seed": seed, "processes": processes, "calls": calls, "get": 40, "insert": 30, "remove": 20, "scan": 10,
+               "lo": 0, "hi": most}
+    return ["generate", *(word for name, number in numbers.items() for word in (f"--{name}", str(number)))]
+
+
+def generate():
+    for processes, calls in ((1, 0), (4, 256), (4, 1024), (64, 64)):
+        show(f"generate, {calls} calls of {processes}", generated(processes, calls, 1, 4_294_967_295), b"", b'{"scripts":')
+
+
+def replay_text(variant, scripts, schedule, limit):
+    """The compact text of a replay over rows for thousands of keys."""
+    rows = [4096, 1024, 256, 64]
+    members = {"limit": limit, "rows": rows, "schedule": schedule, "scripts": scripts, "variant": variant, "version": 1}
+    return json.dumps(members, separators=(",", ":"), sort_keys=True).encode()
+
+
+def turns_of(variant, scripts, schedule):
+    """How many turns a schedule makes: the least limit at which none is refused."""
+    low, high = 1, 1_000_000
+    while low < high:
+        middle = (low + high) // 2
+        _, _, answer = run(["replay"], replay_text(variant, scripts, schedule, middle), (0, 3))
+        low, high = (low, middle) if answer else (middle + 1, high)
+    return low
+
+
+def replay():
+    for variant in ("coupled", "optimistic"):
+        for most in (63, 4_294_967_295):
+            _, _, answer = run(generated(4, 1000, 7, most), b"")
+            scripts = json.loads(answer)["scripts"]
+            schedule = [[number % 4, "end"] for number in range(4000)]
+            turns = turns_of(variant, scripts, schedule)
+            text = replay_text(variant, scripts, schedule, 1_000_000)
+            show(f"replay, {variant}, keys to {most}, {turns} turns", ["replay"], text, b'{"events":')
+    scripts = [[["insert", 5, 50]], [["get", 5]]]
+    schedule = [[0, "turns", 3], [1, "turns", 999_997]]
+    show("replay, a get that waits, 1000000 turns", ["replay"], replay_text("coupled", scripts, schedule, 1_000_000), b'{"events":')
+
+
 def main():
     # Builds the program where that is still to do.
     subprocess.run([os.path.join(TOP, "bench"), "judge"], input=history([]), stdout=subprocess.DEVNULL, check=True)
-    parts = {"check": check, "judge": judge, "search": search, "segments": segments, "workers": workers}
+    parts = {"check": check, "judge": judge, "search": search, "segments": segments, "workers": workers,
+             "generate": generate, "replay": replay}
     for part in sys.argv[1:] or parts:
         parts[part]()
 

@@ -1,4 +1,4 @@
--- What the program answers to a text, and to a text with an order of calls.
+-- What the program answers to a text, to a text with an order of calls, and to what a plan is drawn from.
 use Rattle.std.specs.Prelude.{◌≡◌, ◌≢◌, ℕ, List}
 use Rattle.events.specs.HistoryView.{HistoryView}
 use Rattle.events.specs.declared.fault.HistoryFault.{HistoryFault}
@@ -6,16 +6,26 @@ use Rattle.events.specs.declared.fault.HistoryFault.TheVariants as histories
 use Rattle.events.specs.Histories.{IsHistory}
 use Rattle.events.specs.Operations.{operations}
 use Rattle.orders.specs.Orders.{IsOrderOfHistory}
-use Rattle.history_text.specs.Texts.{Spells}
+use Rattle.history_text.specs.Texts.{Spells, history_data}
 use Rattle.history_text.specs.TextFaults.{IsTextFault}
 use Rattle.certificate.specs.declared.fault.OrderFault.{OrderFault}
 use Rattle.certificate.specs.declared.fault.OrderFault.TheVariants as orders
 use Rattle.certificate.specs.Faults.{IsRefusedFor}
 use Rattle.judge.specs.declared.verdict.Verdict.{Verdict}
 use Rattle.judge.specs.Judged.{IsJudged}
+use Rattle.serde_json.specs.Written.{compact_text}
+use Rattle.plans.specs.declared.fault.PlanFault.{PlanFault}
+use Rattle.plans.specs.declared.fault.PlanFault.TheVariants as plans
+use Rattle.plan_text.specs.PlanTexts.{written_data}
+use Rattle.workload.specs.declared.mix.Mix.{Mix}
+use Rattle.workload.specs.Mixes.{IsWholeMix, HasKeys, AreWithin}
+use Rattle.workload.specs.Workloads.{scripts_of, IsDrawFault}
 use Rattle.bench.specs.declared.outcome.Answer.{Answer}
 use Rattle.bench.specs.declared.outcome.Answer.TheVariants.{Yes, No, Undecided}
-use Rattle.bench.specs.Lines.{line, ok_line, order_fault_line, history_fault_line}
+use Rattle.replays.specs.declared.fault.ReplayFault.{ReplayFault}
+use Rattle.replays.specs.declared.fault.ReplayFault.TheVariants as replays
+use Rattle.replays.specs.Played.{IsPlayed, IsUnplayed}
+use Rattle.bench.specs.Lines.{line, ok_line, order_fault_line, history_fault_line, plan_fault_line, replay_fault_line}
 use Rattle.bench.specs.Statuses.{answer_of}
 
 -- the text spells this, and it is a history
@@ -56,3 +66,32 @@ pub record IsJudgeAnswer (budget : ℕ) (text : List ℕ) (answer : Answer) (byt
   pub judged : IsJudged budget text verdict report
   pub answer_is : answer ≡ answer_of verdict
   pub bytes_are : bytes ≡ line report
+
+-- `generate` answers so: yes, with the compact text of the plan that is drawn
+pub record IsGenerateAnswer (seed : ℕ) (mix : Mix) (processes calls : ℕ) (answer : Answer) (bytes : List ℕ) : Type 0 where
+  pub whole : IsWholeMix mix
+  pub keys : HasKeys mix
+  pub within : AreWithin processes calls
+  pub answer_is : answer ≡ Yes
+  pub bytes_are : bytes ≡ line (compact_text (written_data (scripts_of seed mix processes calls)))
+
+-- what no plan is drawn from is refused with this line, that of its first fault
+pub record IsGenerateRefusal (mix : Mix) (processes calls : ℕ) (bytes : List ℕ) : Type 0 where
+  pub fault : PlanFault
+  pub refused : IsDrawFault mix processes calls fault
+  pub not_memory : fault ≢ plans.Memory
+  pub bytes_are : bytes ≡ plan_fault_line fault
+
+-- `replay` answers the text so: yes, with the text of the history that its run records
+pub record IsReplayAnswer (text : List ℕ) (answer : Answer) (bytes : List ℕ) : Type 0 where
+  pub history : HistoryView
+  pub played : IsPlayed text history
+  pub answer_is : answer ≡ Yes
+  pub bytes_are : bytes ≡ line (compact_text (history_data history))
+
+-- a text that gives no history of a replay is refused with this line
+pub record IsReplayRefusal (text bytes : List ℕ) : Type 0 where
+  pub fault : ReplayFault
+  pub refused : IsUnplayed text fault
+  pub not_memory : fault ≢ replays.Memory
+  pub bytes_are : bytes ≡ replay_fault_line fault

@@ -19,6 +19,10 @@ change bytes failures old new = record {
   new = record { bytes = bytes new; failures = failures new };
 }
 
+-- an end is as it was
+abbrev pub IsUnused : Change → Type 0
+IsUnused end = end.new ≡ end.old
+
 -- no call failed
 abbrev pub IsSound : Change → Type 0
 IsSound end = end.new.failures ≡ end.old.failures

@@ -8,13 +8,16 @@ ghost use Rattle.bench.specs.Statuses.{words_status};
 
 use crate::check::run_check;
 use crate::ends::write_outcome;
+use crate::generate::run_generate;
 use crate::outcome::Outcome;
+use crate::replay::run_replay;
 use crate::verdict::run_judge;
 use command_line::{Line, read_line};
 use pool::Gate;
 use std::alloc::{AllocError, Global};
 use std::thread::Threads;
 use streams::{Sink, Source};
+use workload::Mix;
 
 /// The texts of the words.
 pub fn texts_of(alloc: Global, words: &[String]) -> Result<Vec<&str>, AllocError>
@@ -56,5 +59,27 @@ pub fn run<R: Threads + Sync, S: Source, O: Sink, F: Sink, G: Gate + Sync>(
         Line::Judge { budget, workers } => {
             run_judge(rt, alloc, source, output, faults, budget, workers, gate)
         }
+        Line::Generate {
+            seed,
+            processes,
+            calls,
+            get,
+            insert,
+            remove,
+            scan,
+            lo,
+            hi,
+        } => {
+            let mix = Mix {
+                get,
+                insert,
+                remove,
+                scan,
+                lo,
+                hi,
+            };
+            run_generate(alloc, output, faults, seed, &mix, processes, calls)
+        }
+        Line::Replay => run_replay(alloc, source, output, faults),
     }
 }

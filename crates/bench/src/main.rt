@@ -1,4 +1,4 @@
-//! The program: it reads a text from standard input and writes its answer to standard output.
+//! The program: it reads a text from standard input, or draws one, and writes its answer to standard output.
 //!
 //! What each subcommand does is an engine over any source and sinks, whose contract says how it comes out for
 //! what is read and what is written for that, and `run` does what the words of the command line ask for. This
@@ -8,8 +8,10 @@
 mod check;
 mod command;
 mod ends;
+mod generate;
 mod lines;
 mod outcome;
+mod replay;
 #[cfg(test)]
 mod tests;
 mod verdict;

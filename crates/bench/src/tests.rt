@@ -84,6 +84,54 @@ const TWO_KEYS: &str = r#"{"events":[
     {"invoke":["insert",1,10],"process":0},{"answer":null,"process":0},
     {"invoke":["insert",9,90],"process":0},{"answer":null,"process":0}],"version":1}"#;
 
+// Two gets at key 5, by one process.
+static TWO_GETS: [&str; 20] = [
+    "bench",
+    "generate",
+    "--seed",
+    "42",
+    "--processes",
+    "1",
+    "--calls",
+    "2",
+    "--get",
+    "100",
+    "--insert",
+    "0",
+    "--remove",
+    "0",
+    "--scan",
+    "0",
+    "--lo",
+    "5",
+    "--hi",
+    "5",
+];
+
+// The same, by no process.
+static NO_PROCESS: [&str; 20] = [
+    "bench",
+    "generate",
+    "--seed",
+    "42",
+    "--processes",
+    "0",
+    "--calls",
+    "2",
+    "--get",
+    "100",
+    "--insert",
+    "0",
+    "--remove",
+    "0",
+    "--scan",
+    "0",
+    "--lo",
+    "5",
+    "--hi",
+    "5",
+];
+
 const EMPTY: &str = r#"{"events":[],"version":1}"#;
 
 // ---- whole runs
@@ -474,6 +522,101 @@ fn as_many_calls_as_a_history_has(rt: HostRuntime) -> Result<(), Fail> {
     Ok(())
 }
 
+// ---- plans
+
+#[test]
+fn drawn_plans(rt: HostRuntime) -> Result<(), Fail> {
+    let alloc = rt.alloc();
+    let rows = [
+        (
+            "--processes 1 --calls 0 --get 100 --insert 0 --remove 0 --scan 0 --lo 5 --hi 5",
+            0,
+            "{\"scripts\":[[]],\"version\":1}\n",
+            "",
+        ),
+        (
+            "--processes 1 --calls 2 --get 100 --insert 0 --remove 0 --scan 0 --lo 5 --hi 5",
+            0,
+            "{\"scripts\":[[[\"get\",5],[\"get\",5]]],\"version\":1}\n",
+            "",
+        ),
+        (
+            "--processes 2 --calls 1 --get 0 --insert 0 --remove 100 --scan 0 --lo 7 --hi 7",
+            0,
+            "{\"scripts\":[[[\"remove\",7]],[[\"remove\",7]]],\"version\":1}\n",
+            "",
+        ),
+        // the third word of each of two streams, modulo 2^30
+        (
+            "--processes 2 --calls 1 --get 0 --insert 100 --remove 0 --scan 0 --lo 7 --hi 7",
+            0,
+            "{\"scripts\":[[[\"insert\",7,357083581]],[[\"insert\",7,418225680]]],\"version\":1}\n",
+            "",
+        ),
+        (
+            "--processes 1 --calls 1 --get 0 --insert 0 --remove 0 --scan 100 --lo 3 --hi 3",
+            0,
+            "{\"scripts\":[[[\"scan\",3,3]]],\"version\":1}\n",
+            "",
+        ),
+        (
+            "--processes 0 --calls 65 --get 100 --insert 0 --remove 0 --scan 1 --lo 9 --hi 0",
+            3,
+            "",
+            "plan: 1 BadMix\n",
+        ),
+        (
+            "--processes 64 --calls 65 --get 100 --insert 0 --remove 0 --scan 0 --lo 9 --hi 0",
+            3,
+            "",
+            "plan: 2 BadRange\n",
+        ),
+        (
+            "--processes 64 --calls 65 --get 100 --insert 0 --remove 0 --scan 0 --lo 0 --hi 9",
+            3,
+            "",
+            "plan: 3 TooMany\n",
+        ),
+        (
+            "--processes 0 --calls 1 --get 100 --insert 0 --remove 0 --scan 0 --lo 0 --hi 9",
+            3,
+            "",
+            "plan: 3 TooMany\n",
+        ),
+    ];
+    for (options, status, output, faults) in rows {
+        let line = format!(in alloc; "bench generate --seed 42 {options}")?;
+        leaves(&rt, alloc, &line, b"", status, output, faults)?;
+    }
+    Ok(())
+}
+
+// The greatest numbers are no fault of the command line, and nothing is read.
+#[test]
+fn generate_reads_nothing(rt: HostRuntime) -> Result<(), Fail> {
+    let alloc = rt.alloc();
+    let mut source = MemorySource::new(Vec::from_slice(alloc, b"{}")?, 1, Some(0));
+    let mut out = MemorySink::new(Vec::new(alloc), 7, None);
+    let mut err = MemorySink::new(Vec::new(alloc), 7, None);
+    let line =
+        "bench generate --seed 18446744073709551615 --processes 4294967295 --calls 4294967295 \
+        --get 4294967295 --insert 101 --remove 0 --scan 0 --lo 0 --hi 4294967295";
+    let words: Vec<&str> = line.split_whitespace().collect(alloc)?;
+    let status = run(
+        &rt,
+        alloc,
+        &mut source,
+        &mut out,
+        &mut err,
+        &words,
+        &OpenGate,
+    );
+    assert_eq!(rt; status, 3);
+    assert!(rt; out.bytes().is_empty());
+    assert!(rt; err.bytes() == "plan: 1 BadMix\n".as_bytes());
+    Ok(())
+}
+
 // ---- words that ask for nothing
 
 // The text that these words are refused with.
@@ -504,6 +647,9 @@ fn words_with_a_fault_are_told_it(rt: HostRuntime) -> Result<(), Fail> {
         "bench judge --workers x",
         "bench judge --budget 0",
         "bench judge --budget 1000001",
+        "bench generate",
+        "bench generate --seed 42 --processes 1 --calls 2 --get 100 --insert 0 --remove 0 --scan 0 --lo 5",
+        "bench generate --seed 42 --processes 1 --calls 2 --get 100 --insert 0 --remove 0 --scan 0 --lo 5 --hi 4294967296",
     ];
     for line in lines {
         let fault = text_of_fault(&rt, alloc, line)?;
@@ -582,6 +728,8 @@ fn failing_reads_and_writes(rt: HostRuntime) -> Result<(), Fail> {
     let report = "{\"calls\":[0,1],\"hi\":5,\"lo\":5,\"verdict\":\"no\"}\n";
     assert_reads_fail(&rt, alloc, &judge, text, 1, report)?;
     assert_writes_fail(&rt, alloc, &judge, text, 1, report)?;
+    let plan = "{\"scripts\":[[[\"get\",5],[\"get\",5]]],\"version\":1}\n";
+    assert_writes_fail(&rt, alloc, &TWO_GETS, b"", 0, plan)?;
     Ok(())
 }
 
@@ -593,6 +741,7 @@ fn failing_writes_to_the_faults(rt: HostRuntime) -> Result<(), Fail> {
     let rows = [
         (["bench", "check"].as_slice(), 3, "history: 3 Version\n"),
         (["bench", "judge"].as_slice(), 3, "history: 3 Version\n"),
+        (NO_PROCESS.as_slice(), 3, "plan: 3 TooMany\n"),
         (["bench", "drive"].as_slice(), 5, told.as_str()),
     ];
     for (words, status, fault) in rows {

@@ -1,17 +1,17 @@
 // `bench judge`: whether the history on the input has an order at all.
-ghost use Rattle.std.specs.Prelude.{◌≡◌, ◌<◌, ◌≤◌, IfOk, Some, string_bytes};
+ghost use Rattle.std.specs.Prelude.{◌<◌, ◌≤◌, Some};
 ghost use Rattle.bench.specs.Answers.{IsHistoryRefusal, IsJudgeAnswer};
 ghost use Rattle.bench.specs.Ends.{change};
-ghost use Rattle.bench.specs.Lines.{line};
 ghost use Rattle.bench.specs.Outcomes.{IsJudgeOutcome, IsTextOutcome};
 ghost use Rattle.bench.specs.Runs.{IsRun};
 
 use crate::ends::{text_from, write_outcome};
+use crate::lines::line_of;
 use crate::outcome::{Answer, Outcome};
 use history_text::MAX_TEXT;
 use judge::{JudgeFault, MAX_BUDGET, judge_text};
 use pool::{Gate, MAX_WORKERS};
-use std::alloc::{AllocError, Global};
+use std::alloc::Global;
 use std::thread::Threads;
 use streams::{Sink, Source};
 
@@ -65,12 +65,4 @@ pub fn judge_outcome<R: Threads + Sync, G: Gate + Sync>(
         Err(JudgeFault::History(fault)) => Outcome::of_history_fault(alloc, &fault),
         Err(JudgeFault::Memory) => Outcome::Memory,
     }
-}
-
-/// The text, and a line feed.
-fn line_of(mut text: String) -> Result<String, AllocError>
-    ensures { IfOk result (λ full. string_bytes full ≡ line (string_bytes text)) }
-{
-    text.push_str("\n")?;
-    Ok(text)
 }

@@ -20,3 +20,7 @@ workers_default = 1
 -- the greatest number that a `u64` holds
 abbrev pub u64_limit : ℕ
 u64_limit = 18446744073709551615
+
+-- the greatest number that a `u32` holds
+abbrev pub u32_limit : ℕ
+u32_limit = 4294967295

@@ -9,23 +9,31 @@ use Rattle.command_line.specs.Numbers.{IsNumber, IsNumberWithin, number_of}
 use Rattle.command_line.specs.Program.{bench_app, bench_table}
 use Rattle.command_line.specs.Requests.{Asked, Asks}
 use Rattle.command_line.specs.declared.line.Line.{Line}
-use Rattle.command_line.specs.declared.line.Line.TheVariants.{Check, Judge}
+use Rattle.command_line.specs.declared.line.Line.TheVariants.{Check, Judge, Generate, Replay}
 
 -- the subcommand of a line, the numbers of its options in the order of the table, and its calls
 abbrev pub asked_by : Line → Asked
 asked_by (Check order) = record { name = codes "check"; numbers = []; calls = order.items }
 asked_by (Judge budget workers) =
     record { name = codes "judge"; numbers = budget ∷ workers ∷ []; calls = [] }
+asked_by (Generate seed processes calls get insert remove scan lo hi) = record {
+  name = codes "generate";
+  numbers = seed ∷ processes ∷ calls ∷ get ∷ insert ∷ remove ∷ scan ∷ lo ∷ hi ∷ [];
+  calls = [];
+}
+asked_by Replay = record { name = codes "replay"; numbers = []; calls = [] }
 
 -- the words ask for this line, the program's name first
 abbrev pub IsLineOf : List Text → Line → Type 0
 IsLineOf words line = Asks bench_table (subcommand_of bench_app words) (asked_by line)
 
--- each number of the line is within its limits
+-- each number of the line is within its limits; those of `generate` have none but their types
 abbrev pub IsWithinLimits : Line → Type 0
 IsWithinLimits (Check order) = ⊤
 IsWithinLimits (Judge budget workers) =
     (1 ≤ budget) × (budget ≤ budget_limit) × (1 ≤ workers) × (workers ≤ workers_limit)
+IsWithinLimits (Generate seed processes calls get insert remove scan lo hi) = ⊤
+IsWithinLimits Replay = ⊤
 
 -- the words are a name, `check` and texts of which each spells a number
 abbrev pub IsCheck : List Text → List Text → Type 0

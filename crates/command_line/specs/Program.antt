@@ -1,9 +1,9 @@
 -- The program's command line: the table of its subcommands.
-use Rattle.std.specs.Prelude.{List, [], ◌∷◌, Some, codes, true, false}
-use Rattle.clap.specs.Words.{App}
+use Rattle.std.specs.Prelude.{ℕ, List, [], ◌∷◌, Some, None, codes, true, false}
+use Rattle.clap.specs.Words.{App, Text}
 use Rattle.command_line.specs.Commands.{table_app}
-use Rattle.command_line.specs.Limits.{budget_default, budget_limit, workers_default, workers_limit}
-use Rattle.command_line.specs.Tables.{Usage}
+use Rattle.command_line.specs.Limits.{budget_default, budget_limit, u32_limit, u64_limit, workers_default, workers_limit}
+use Rattle.command_line.specs.Tables.{Flag, Usage}
 
 -- `check [CALL]..`
 abbrev pub check_usage : Usage
@@ -29,9 +29,34 @@ judge_usage = record {
   takes_calls = false;
 }
 
+-- `--NAME N`, which may not be left out, with any number up to the greatest
+abbrev pub required_flag : Text → ℕ → Flag
+required_flag name greatest = record {
+  name = name;
+  least = 0;
+  greatest = greatest;
+  default = None;
+}
+
+-- `generate --seed N --processes N --calls N --get N --insert N --remove N --scan N --lo N --hi N`
+abbrev pub generate_usage : Usage
+generate_usage = record {
+  name = codes "generate";
+  flags = required_flag (codes "seed") u64_limit ∷ required_flag (codes "processes") u32_limit
+      ∷ required_flag (codes "calls") u32_limit ∷ required_flag (codes "get") u32_limit
+      ∷ required_flag (codes "insert") u32_limit ∷ required_flag (codes "remove") u32_limit
+      ∷ required_flag (codes "scan") u32_limit ∷ required_flag (codes "lo") u32_limit
+      ∷ required_flag (codes "hi") u32_limit ∷ [];
+  takes_calls = false;
+}
+
+-- `replay`
+abbrev pub replay_usage : Usage
+replay_usage = record { name = codes "replay"; flags = []; takes_calls = false }
+
 -- the subcommands of the program
 abbrev pub bench_table : List Usage
-bench_table = check_usage ∷ judge_usage ∷ []
+bench_table = check_usage ∷ judge_usage ∷ generate_usage ∷ replay_usage ∷ []
 
 -- the program, as `clap` reads it
 unfoldable pub bench_app : App

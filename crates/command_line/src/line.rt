@@ -14,9 +14,30 @@ pub const MAX_WORKERS: u32 = 64;
 #[derive(Debug, Drop)]
 pub enum Line {
     /// Whether these calls, by number, are an order of the history on standard input.
-    Check { order: Vec<u32> },
+    Check {
+        order: Vec<u32>,
+    },
     /// Whether the history on standard input is linearizable, where `workers` workers search the
     /// segments side by side, at most `budget` configurations of each. The budget is from 1 to
     /// `MAX_BUDGET`, and the workers from 1 to `MAX_WORKERS`.
-    Judge { budget: u32, workers: u32 },
+    Judge {
+        budget: u32,
+        workers: u32,
+    },
+    /// The text of the plan that is drawn from this seed: so many processes, with so many calls each.
+    /// Of a hundred calls `get`, `insert`, `remove` and `scan` are of these kinds, and their keys are
+    /// from `lo` to `hi`.
+    Generate {
+        seed: u64,
+        processes: u32,
+        calls: u32,
+        get: u32,
+        insert: u32,
+        remove: u32,
+        scan: u32,
+        lo: u32,
+        hi: u32,
+    },
+    /// The history that the run of the replay on standard input records.
+    Replay,
 }

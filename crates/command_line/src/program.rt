@@ -20,8 +20,24 @@ macro_rules! number_option {
     };
 }
 
+// An option that may not be left out, with any number that a `u32` holds.
+macro_rules! required_option {
+    ($name:literal, $help:literal) => {
+        required_option!($name, $help, u32::MAX as u64)
+    };
+    ($name:literal, $help:literal, $greatest:expr) => {
+        NumberOption {
+            name: $name,
+            help: $help,
+            least: 0,
+            greatest: $greatest,
+            default: None,
+        }
+    };
+}
+
 /// The subcommands of the program.
-pub(crate) static SUBCOMMANDS: [Subcommand<'static>; 2] = [
+pub(crate) static SUBCOMMANDS: [Subcommand<'static>; 4] = [
     Subcommand {
         name: "check",
         about: "Tells whether calls, in this order, are an order of the history on standard input",
@@ -45,6 +61,28 @@ pub(crate) static SUBCOMMANDS: [Subcommand<'static>; 2] = [
                 default 1
             ),
         ],
+        takes_calls: false,
+    },
+    Subcommand {
+        name: "generate",
+        about: "Draws a plan: a script of calls for each process",
+        options: &[
+            required_option!("seed", "From what the calls are drawn", u64::MAX),
+            required_option!("processes", "How many processes there are"),
+            required_option!("calls", "How many calls each process has"),
+            required_option!("get", "How many of a hundred calls are gets"),
+            required_option!("insert", "How many of a hundred calls are inserts"),
+            required_option!("remove", "How many of a hundred calls are removes"),
+            required_option!("scan", "How many of a hundred calls are scans"),
+            required_option!("lo", "The least key"),
+            required_option!("hi", "The greatest key"),
+        ],
+        takes_calls: false,
+    },
+    Subcommand {
+        name: "replay",
+        about: "Runs the replay on standard input, and writes the history that it records",
+        options: &[],
         takes_calls: false,
     },
 ];

@@ -66,6 +66,18 @@ fn line_of(request: Request<'_>) -> Line
             budget: request.number(0),
             workers: request.number(1),
         },
+        "generate" => Line::Generate {
+            seed: request.wide_number(0),
+            processes: request.number(1),
+            calls: request.number(2),
+            get: request.number(3),
+            insert: request.number(4),
+            remove: request.number(5),
+            scan: request.number(6),
+            lo: request.number(7),
+            hi: request.number(8),
+        },
+        "replay" => Line::Replay,
         _ => unreachable!(),
     }
 }

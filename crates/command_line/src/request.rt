@@ -37,6 +37,14 @@ impl Request<'_> {
     {
         self.numbers[place] as u32
     }
+
+    /// The number of the option at this place, which may be past what a `u32` holds.
+    pub(crate) fn wide_number(&self, place: usize) -> u64
+        requires { place < length self.now.numbers.items }
+        ensures { result ≡ slice_index self.now.numbers.items place }
+    {
+        self.numbers[place]
+    }
 }
 
 /// What `words` ask for by a table of subcommands, the program's name first.

@@ -2,7 +2,7 @@ use crate::{Line, LineFault, read_line};
 use std::test::Fail;
 
 // Words that are no line, and how the text that the user is shown begins.
-static FAULTS: [(&[&str], &str); 11] = [
+static FAULTS: [(&[&str], &str); 14] = [
     (
         &["bench"],
         "error: 'bench' requires a subcommand but one was not provided",
@@ -44,6 +44,42 @@ static FAULTS: [(&[&str], &str); 11] = [
         "Judges recorded histories of a concurrent ordered map",
     ),
     (&["bench", "check", "--help"], "Tells whether calls"),
+    (
+        &["bench", "generate", "--seed", "1"],
+        "error: the following required arguments were not provided",
+    ),
+    (
+        &["bench", "generate", "--seed", "18446744073709551616"],
+        "error: invalid value '18446744073709551616' for '--seed <N>'",
+    ),
+    (
+        &["bench", "generate", "--hi", "4294967296"],
+        "error: invalid value '4294967296' for '--hi <N>'",
+    ),
+];
+
+// Every option of `generate`, with a number of its own and the greatest seed.
+static GENERATE: [&str; 20] = [
+    "bench",
+    "generate",
+    "--hi",
+    "4294967295",
+    "--lo",
+    "7",
+    "--scan",
+    "6",
+    "--remove",
+    "5",
+    "--insert",
+    "4",
+    "--get",
+    "3",
+    "--calls",
+    "2",
+    "--processes",
+    "1",
+    "--seed",
+    "18446744073709551615",
 ];
 
 // What the user is shown who asks for help on `judge`.
@@ -72,6 +108,30 @@ fn asks_for_a_judgement(rt: HostRuntime) -> Result<(), Fail> {
         Line::Judge { budget, workers } => {
             assert_eq!(rt; budget, 100000);
             assert_eq!(rt; workers, 2);
+        }
+        other => assert!(rt; false, "{other:?}"),
+    }
+    Ok(())
+}
+
+#[test]
+fn asks_for_a_plan(rt: HostRuntime) -> Result<(), Fail> {
+    match read_line(rt.alloc(), &GENERATE)? {
+        Line::Generate {
+            seed,
+            processes,
+            calls,
+            get,
+            insert,
+            remove,
+            scan,
+            lo,
+            hi,
+        } => {
+            assert_eq!(rt; seed, 18446744073709551615);
+            let numbers = [processes, calls, get, insert, remove, scan, lo, hi];
+            let expected = [1, 2, 3, 4, 5, 6, 7, 4294967295];
+            assert_eq!(rt; numbers.as_slice(), expected.as_slice());
         }
         other => assert!(rt; false, "{other:?}"),
     }
