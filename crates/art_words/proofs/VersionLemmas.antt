@@ -1,0 +1,40 @@
+-- Versions as they are written.
+use Rattle.std.proofs.Common.{◌≡◌, ℕ, ◌+◌, ◌-◌, ◌/◌, ◌%◌, ◌^◌, ap, true, false, arith}
+use Rattle.std.specs.Prelude.{◌==◌}
+use Rattle.art_rows.specs.Words.{is_locked, is_obsolete, locked_word, released_word, obsolete_word}
+
+is_one : (n : ℕ) → n ≡ 1 → (n == 1) ≡ true
+is_one n e = ap (λ k. k == 1) e
+
+not_locked : (v : ℕ) → is_locked v ≡ false → (v / 2) % 2 ≡ 0
+not_locked v h = grind (arith, h)
+
+pub locked_locked : (v : ℕ) → is_locked v ≡ false → is_locked (locked_word v) ≡ true
+locked_locked v h = is_one (((v + 2) % 2 ^ 64 / 2) % 2) (omega (arith, not_locked v h))
+
+pub obsolete_locked : (v : ℕ) → is_obsolete (locked_word v) ≡ is_obsolete v
+obsolete_locked v = ap (λ k. k == 1) same
+  where
+    same : ((v + 2) % 2 ^ 64) % 2 ≡ v % 2
+    same = omega arith
+
+pub locked_released : (v : ℕ) → is_locked (released_word v) ≡ is_locked v
+locked_released v = ap (λ k. k == 1) same
+  where
+    same : ((v + 4) % 2 ^ 64 / 2) % 2 ≡ (v / 2) % 2
+    same = omega arith
+
+pub obsolete_released : (v : ℕ) → is_obsolete (released_word v) ≡ is_obsolete v
+obsolete_released v = ap (λ k. k == 1) same
+  where
+    same : ((v + 4) % 2 ^ 64) % 2 ≡ v % 2
+    same = omega arith
+
+pub locked_obsolete : (v : ℕ) → is_locked (obsolete_word v) ≡ is_locked v
+locked_obsolete v = ap (λ k. k == 1) same
+  where
+    same : (((v - v % 2) + 5) % 2 ^ 64 / 2) % 2 ≡ (v / 2) % 2
+    same = omega arith
+
+pub obsolete_obsolete : (v : ℕ) → is_obsolete (obsolete_word v) ≡ true
+obsolete_obsolete v = is_one ((((v - v % 2) + 5) % 2 ^ 64) % 2) (omega arith)
