@@ -1,0 +1,5 @@
+pub mod Children
+pub mod Keys
+pub mod Puts
+pub mod Stores
+pub mod Trees
