@@ -1,0 +1,22 @@
+-- A call that runs alone: no other process makes an access before it is answered.
+use Rattle.std.specs.Prelude.{◌≡◌, ℕ, List, [], ◌∷◌, Option}
+use Rattle.events.specs.declared.event.Reply.{Reply}
+use Rattle.art_steps.specs.declared.access.Access.{Access}
+use Rattle.art_steps.specs.declared.access.Point.{Point}
+use Rattle.art_steps.specs.Steps.{Rest, Part, Asks, Answers}
+use Rattle.art_core.specs.Accesses.{got_by, words_after}
+
+-- What is left of a call, run alone on these words, comes to the last words and is answered so.
+pub data RunsAlone : Rest → List ℕ → List ℕ → Reply → Type 0 where
+  ends : {rest : Rest} {words : List ℕ} {reply : Reply} → rest [] ≡ Answers reply → RunsAlone rest words words reply
+  goes : {rest : Rest} {words last : List ℕ} {reply : Reply} → (a : Access) → (p : Option Point) → rest [] ≡ Asks a p
+      → RunsAlone (λ got. rest (got_by a words ∷ got)) (words_after a words) last reply → RunsAlone rest words last reply
+
+-- A part, run alone on these words, gives a value and leaves these words behind it, whatever comes after it.
+pub record Comes {A : Type 0} (m : Part A) (words : List ℕ) (a : A) (later : List ℕ) : Type 0 where
+  pub runs : (again : Rest) (after : A → Rest) (last : List ℕ) (reply : Reply) → RunsAlone (after a) later last reply
+      → RunsAlone (m again after) words last reply
+
+-- A part, run alone on these words, answers the call and leaves these words behind it.
+pub record Ends {A : Type 0} (m : Part A) (words : List ℕ) (reply : Reply) (later : List ℕ) : Type 0 where
+  pub runs : (again : Rest) (after : A → Rest) → RunsAlone (m again after) words later reply
