@@ -1,0 +1,16 @@
+pub mod StoreLemmas
+pub mod MoveLemmas
+pub mod ListedLemmas
+pub mod PutListedLemmas
+pub mod IndexLemmas
+pub mod PutIndexedLemmas
+pub mod PutLemmas
+pub mod PairLemmas
+pub mod CopyLemmas
+pub mod GrowFourLemmas
+pub mod GrowSixteenLemmas
+pub mod GrowIndexedLemmas
+pub mod SpreadLemmas
+pub mod GrowLemmas
+pub mod SameLemmas
+pub mod GrowWholeLemmas
