@@ -1,0 +1,13 @@
+pub mod FlatLemmas
+pub mod OrderLemmas
+pub mod NumberLemmas
+pub mod KeyLemmas
+pub mod BelowLemmas
+pub mod RangeLemmas
+pub mod EnterLemmas
+pub mod VisitLemmas
+pub mod ByteWalkLemmas
+pub mod GroupLemmas
+pub mod RowWalkLemmas
+pub mod TreeWalkLemmas
+pub mod ScanLemmas
