@@ -1,0 +1,195 @@
+-- The ends of an insert's way, at a row that is held, whichever way it went there.
+use Rattle.std.proofs.Common.{◌≡◌, ◌≢◌, ◌⊎◌, inl, inr, ℕ, zero, suc, ◌+◌, ◌/◌, ◌%◌}
+use Rattle.std.proofs.Common.{◌<◌, ◌==◌, List, [], ◌∷◌, slice_index, slice_set, Bool, true, false, Option, Some}
+use Rattle.std.proofs.Common.{None, if◌then◌else◌, refl, sym, ap, ◌∙◌, subst, arith, eqb-true, option_map}
+use Rattle.std.specs.Prelude.{unwrap_or}
+use Rattle.std.proofs.lemmas.Bool.{eqb-false}
+use Rattle.std.proofs.lemmas.Option.{none-some, same_Some}
+use Rattle.events.specs.declared.event.Call.TheVariants.{Insert}
+use Rattle.events.specs.declared.event.Reply.{Reply}
+use Rattle.events.specs.declared.event.Reply.TheVariants as reply
+use Rattle.map_object.specs.MapObject.{Contents, value_at}
+use Rattle.art_rows.specs.declared.table.Shape.{Shape}
+use Rattle.art_rows.specs.declared.table.Kind.{Kind}
+use Rattle.art_rows.specs.declared.table.Child.{Child}
+use Rattle.art_rows.specs.declared.table.Child.TheVariants.{Empty, Row as ChildRow, Leaf}
+use Rattle.art_rows.specs.Table.{info_at}
+use Rattle.art_rows.specs.Words.{key_bytes, first_difference, leaf_word, child_of, kind_code, low_bytes, Info, info_of}
+use Rattle.art_steps.specs.declared.variant.Variant.{Variant}
+use Rattle.art_steps.specs.Rows.{Setting, Row, unlock}
+use Rattle.art_steps.specs.Steps.{Part, ◌>>=◌, ◌>>◌, give, store}
+use Rattle.art_steps.specs.Updates.{keys_differ_at, insert_in, pair_in}
+use Rattle.art_core.specs.Meaning.{Means, slot_of, child_in, child_on}
+use Rattle.art_core.specs.Invariant.{path_in}
+use Rattle.art_trees.specs.Trees.{IsAtRest, LeadsTo, Parts, SameTreesAreOne, WaysLeadToValues}
+use Rattle.art_trees.specs.Trees.{LeavesArePut, PairsAreHung, GrownRowsAreHung, LeavesAreSmall, KeysPart}
+use Rattle.art_words.specs.Laws.{WordsAreReadBack, VersionsSay}
+use Rattle.art_words.specs.Stored.{IsStored}
+use Rattle.art_writes.specs.Laws as writes
+use Rattle.art_alone.specs.Alone.{Comes, Ends}
+use Rattle.art_alone.proofs.AloneLemmas.{give-comes, bind-comes, bind-ends, then-comes, store-comes, ends-bind, ends-then}
+use Rattle.art_alone.proofs.RowRunLemmas.{with_unlocked, unlock-comes}
+use Rattle.art_alone.proofs.LikeLemmas.{Nothing}
+use Rattle.art_alone.proofs.WayLemmas.{key_byte-small}
+use Rattle.art_inserts.proofs.NearLemmas.{Near, Among, IsHeld}
+use Rattle.art_inserts.proofs.OutcomeLemmas.{Outcome}
+use Rattle.art_inserts.proofs.PairOutcomeLemmas.{Hangs, hangs-pair}
+use Rattle.art_inserts.proofs.PutOutcomeLemmas.{leaf-outcome}
+
+-- ---- bytes
+
+-- where lists differ first, they differ
+pub first-differs : (xs ys : List ℕ) (d : ℕ) → first_difference xs ys ≡ Some d → slice_index xs d ≢ slice_index ys d
+first-differs [] ys d e = absurd (none-some d e)
+first-differs (x ∷ xs) [] d e = absurd (none-some d e)
+first-differs (x ∷ xs) (y ∷ ys) d e = go (x == y) refl (λ i f. first-differs xs ys i f) e
+  where
+    later : (o : Option ℕ) → ((i : ℕ) → first_difference xs ys ≡ Some i → slice_index xs i ≢ slice_index ys i)
+        → first_difference xs ys ≡ o → option_map (λ i. i + 1) o ≡ Some d → slice_index (x ∷ xs) d ≢ slice_index (y ∷ ys) d
+    later None rest f g = absurd (none-some d g)
+    later (Some i) rest f g =
+        subst (λ j. slice_index (x ∷ xs) j ≢ slice_index (y ∷ ys) j) (same_Some (suc i) d (ap Some (plus i) ∙ g)) (rest i f)
+      where
+        plus : (j : ℕ) → suc j ≡ j + 1
+        plus j = omega arith
+
+    go : (b : Bool) → (x == y) ≡ b → ((i : ℕ) → first_difference xs ys ≡ Some i → slice_index xs i ≢ slice_index ys i)
+        → (if b then option_map (λ i. i + 1) (first_difference xs ys) else Some 0) ≡ Some d
+        → slice_index (x ∷ xs) d ≢ slice_index (y ∷ ys) d
+    go true same rest f = later (first_difference xs ys) rest refl f
+    go false other rest f = subst (λ j. slice_index (x ∷ xs) j ≢ slice_index (y ∷ ys) j) (same_Some 0 d f) (eqb-false x y other)
+
+low-byte : (k w i : ℕ) → slice_index (low_bytes k w) i < 256
+low-byte zero w i = omega arith
+low-byte (suc k) w zero = omega arith
+low-byte (suc k) w (suc i) = low-byte k (w / 256) i
+
+pub path_byte-small : (words : List ℕ) (base : ℕ) (kind : Kind) (i : ℕ) → slice_index (path_in words base kind) i < 256
+path_byte-small words base kind i = go kind (slice_index words (info_at base))
+  where
+    info_by : Bool → ℕ → List ℕ → Info
+    info_by b level path = if b then record { level = level; path = path } else record { level = 0; path = [] }
+
+    by_test : (w : ℕ) (b : Bool) → slice_index (info_by b ((w / 4) % 4) (low_bytes ((w / 4) % 4) (w / 256))).path i < 256
+    by_test w true = low-byte ((w / 4) % 4) (w / 256) i
+    by_test w false = omega arith
+
+    go : (k : Kind) (w : ℕ) → slice_index (info_of k w).path i < 256
+    go k w = by_test w (w % 4 == kind_code k)
+
+-- what the ends of an insert stand on
+pub record Given : Type 0 where
+  pub trees : SameTreesAreOne
+  pub ways : WaysLeadToValues
+  pub puts : LeavesArePut
+  pub pairs : PairsAreHung
+  pub grown : GrownRowsAreHung
+  pub leaves : LeavesAreSmall
+  pub part : KeysPart
+  pub put_written : writes.PutsWriteLeaves
+  pub pair_written : writes.PairsAreWritten
+  pub row_written : writes.RowsAreFilled
+  pub read : WordsAreReadBack
+  pub versions : VersionsSay
+
+module _ (g : Given) (s : Shape) (variant : Variant) (n : ℕ) (words : List ℕ) (rest : IsAtRest s n words) (few : n < 4611686018427387904) (m : Contents)
+    (means : Means s words m) (key value : ℕ) (key_small : key < 4294967296) (value_small : value < 1073741824) where
+  abbrev c : Setting
+  c = record { shape = s; variant = variant; call = Insert key value }
+
+  -- A part ends an insert's way: it runs alone to a reply, or the call is answered so, and it comes to an outcome.
+  pub record Inserts (part : Part Reply) (now : List ℕ) : Type 0 where
+    pub reply : Reply
+    pub later : List ℕ
+    pub comes : Comes part now reply later ⊎ Ends part now reply later
+    pub outcome : Outcome s n words rest m means key value reply later
+
+  -- a part before it
+  pub after-part : {A : Type 0} {p : Part A} {f : A → Part Reply} {now between : List ℕ} {a : A} → Comes p now a between → Inserts (f a) between
+      → Inserts (p >>= f) now
+  after-part {A} {p} {f} {now} {between} {a} h i = record { reply = i.reply; later = i.later; comes = go i.comes; outcome = i.outcome }
+    where
+      go : Comes (f a) between i.reply i.later ⊎ Ends (f a) between i.reply i.later → Comes (p >>= f) now i.reply i.later ⊎ Ends (p >>= f) now i.reply i.later
+      go (inl k) = inl (bind-comes {f = f} h k)
+      go (inr k) = inr (bind-ends {f = f} h k)
+
+  module _ (r : Row) (now : List ℕ) (held : IsHeld s n words rest r) (near : Near s n words rest Nothing (Among s n words rest (r ∷ [])) Nothing now)
+      (x : ℕ) (leads : LeadsTo s words key r.base r.kind x) (byte : x < 256) (slot : ℕ) (at : slot_of words r.base r.kind x ≡ Some slot) where
+    hanging : (child : Child) → child_of s (slice_index words slot) ≡ child → child_on s words r.base r.kind x ≡ child
+    hanging child e = ap (λ o. child_in s words o) at ∙ e
+
+    -- a pair in the slot of the held row, and the row is unlocked
+    pub pair-in : (d a : ℕ) (child : Child) → child_on s words r.base r.kind x ≡ child → Parts words key d a child → IsStored s child → a < 256
+        → a ≢ slice_index (key_bytes key) d → value_at m key ≡ None
+        → Inserts ((pair_in c (r ∷ []) slot d (record { byte = a; child = child }) >> give reply.None) >>= λ q. unlock r >> give q) now
+    pair-in d a child on parts stored small apart absent = go h.comes
+      where
+        h : Hangs g.trees g.pairs g.pair_written g.read s variant n words rest few m means key value value_small
+            (pair_in c (r ∷ []) slot d (record { byte = a; child = child })) (r ∷ []) now
+        h = hangs-pair g.trees g.pairs g.pair_written g.read s variant n words rest few m means key value value_small (r ∷ []) now
+            (held, tt) near r.base r.kind x
+            slot d a child leads byte at on parts stored small apart absent
+
+        go : (Comes (pair_in c (r ∷ []) slot d (record { byte = a; child = child })) now tt h.after
+            × Outcome s n words rest m means key value reply.None (with_unlocked (r ∷ []) h.after))
+            ⊎ (Ends (pair_in c (r ∷ []) slot d (record { byte = a; child = child })) now reply.Refused h.after
+            × Outcome s n words rest m means key value reply.Refused h.after)
+            → Inserts ((pair_in c (r ∷ []) slot d (record { byte = a; child = child }) >> give reply.None) >>= λ q. unlock r >> give q) now
+        go (inl (k, o)) = record {
+          reply = reply.None;
+          later = with_unlocked (r ∷ []) h.after;
+          comes = inl (bind-comes {f = λ q. unlock r >> give q} (then-comes {n = give reply.None} k (give-comes reply.None h.after))
+              (then-comes {n = give reply.None} (unlock-comes r h.after) (give-comes reply.None (with_unlocked (r ∷ []) h.after))));
+          outcome = o;
+        }
+        go (inr (k, o)) = record {
+          reply = reply.Refused;
+          later = h.after;
+          comes = inr (ends-bind {f = λ q. unlock r >> give q} (ends-then {n = give reply.None} k));
+          outcome = o;
+        }
+
+    -- the leaf in the slot of the held row, and the row is unlocked
+    leaf-in : (o : Option ℕ) (q : Reply) → value_at m key ≡ o
+        → Outcome s n words rest m means key value q (with_unlocked (r ∷ []) (slice_set now slot (leaf_word key value)))
+        → Inserts ((store slot (leaf_word key value) >> give q) >>= λ q. unlock r >> give q) now
+    leaf-in o q has out = record {
+      reply = q;
+      later = with_unlocked (r ∷ []) (slice_set now slot (leaf_word key value));
+      comes = inl (bind-comes {f = λ q. unlock r >> give q} (then-comes {n = give q} (store-comes slot (leaf_word key value) now) (give-comes q _))
+          (then-comes {n = give q} (unlock-comes r (slice_set now slot (leaf_word key value))) (give-comes q _)));
+      outcome = out;
+    }
+
+    -- An insert in a slot of the held row that has no row in it.
+    pub ends-in : (child : Child) → child_on s words r.base r.kind x ≡ child → ((b : ℕ) (k : Kind) → child ≡ ChildRow b k → ⊥)
+        → Inserts (insert_in c (r ∷ []) slot child >>= λ q. unlock r >> give q) now
+    unfolding insert_in
+    ends-in Empty on no_row =
+        leaf-in None reply.None absent
+        (leaf-outcome g.puts g.put_written g.read s variant n words rest m means key value value_small r now held near x leads byte slot at
+        (inl on) None absent)
+      where
+        absent : value_at m key ≡ None
+        absent = (g.ways s words m key r.base r.kind x rest.tree means leads).0 on
+    ends-in (ChildRow b k) on no_row = absurd (no_row b k refl)
+    ends-in (Leaf k old) on no_row = go (k == key) refl
+      where
+        go : (b : Bool) → (k == key) ≡ b → Inserts ((if b then (store slot (leaf_word key value) >> give (reply.Some old))
+            else (pair_in c (r ∷ []) slot (keys_differ_at k key) (record { byte = slice_index (key_bytes k) (keys_differ_at k key); child = Leaf k old })
+            >> give reply.None)) >>= λ q. unlock r >> give q) now
+        go true e =
+            let own : k ≡ key = eqb-true k key e in
+            let has : value_at m key ≡ Some old = ((g.ways s words m key r.base r.kind x rest.tree means leads).1 k old on).0 own in
+            leaf-in (Some old) (reply.Some old) has
+            (leaf-outcome g.puts g.put_written g.read s variant n words rest m means key value value_small r now held near
+            x leads byte slot at (inr (old, on ∙ ap (λ i. Leaf i old) own)) (Some old) has)
+        go false e =
+            let other = eqb-false k key e in
+            let (k_small, old_small) = g.leaves s words r.base r.kind x k old rest.small on in
+            let (i, is) = g.part k key k_small key_small other in
+            let at_i : keys_differ_at k key ≡ i = ap (λ o. unwrap_or o 0) is in
+            let differ = is ∙ ap Some (sym at_i) in
+            pair-in (keys_differ_at k key) (slice_index (key_bytes k) (keys_differ_at k key)) (Leaf k old) on (differ, refl) old_small
+            (key_byte-small k (keys_differ_at k key)) (first-differs (key_bytes k) (key_bytes key) (keys_differ_at k key) differ)
+            (((g.ways s words m key r.base r.kind x rest.tree means leads).1 k old on).1 other)

@@ -1,0 +1,12 @@
+pub mod SettledLemmas
+pub mod NearLemmas
+pub mod OutcomeLemmas
+pub mod HungLemmas
+pub mod PairOutcomeLemmas
+pub mod PutOutcomeLemmas
+pub mod GrowOutcomeLemmas
+pub mod InsertEndLemmas
+pub mod LevelLemmas
+pub mod OptimisticInsertLemmas
+pub mod CoupledInsertLemmas
+pub mod InsertLawLemmas
