@@ -1,0 +1,7 @@
+mod SerialHistoryLemmas
+mod AloneRunLemmas
+mod OrderlyLemmas
+mod SerialScheduleLemmas
+mod SoleProcessLemmas
+pub mod KeptLemmas
+pub mod StartKeptLemmas

@@ -1,0 +1,3 @@
+pub mod Serial
+pub mod Composition
+pub mod Laws
