@@ -1,5 +1,5 @@
 //! Tests of the layers that stand beside the judge's, through their public calls: the sorted map, histories
-//! with a start, tickets and streams.
+//! with a start, tickets, the recorder and streams.
 //!
 //! A proof covers what the contracts say. What these tests add is that each call answers where memory is ample, and
 //! that the definitions say what was meant: expected answers were worked out by hand.
@@ -11,5 +11,7 @@ mod draws;
 mod ends;
 #[cfg(test)]
 mod maps;
+#[cfg(test)]
+mod recorded;
 #[cfg(test)]
 mod starting_pairs;

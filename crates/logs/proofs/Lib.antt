@@ -1,2 +1,3 @@
-mod SortLemmas
+pub mod SortLemmas
 pub mod GrowthLemmas
+pub mod MergeLemmas

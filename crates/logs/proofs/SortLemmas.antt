@@ -10,7 +10,7 @@ use Rattle.std.proofs.lemmas.List.Sorted.{IsNonDecreasingBy-from_sort}
 use Rattle.logs.specs.Logs.{Stamped, placed, by_stamp}
 
 -- no stamp is lower than the one before it, nor is the first lower than this
-abbrev rises : ℕ → List Stamped → Type 0
+abbrev pub rises : ℕ → List Stamped → Type 0
 rises low [] = Unit {0}
 rises low (e ∷ es) = (low ≤ e.0) × rises e.0 es
 
@@ -57,7 +57,7 @@ placed_rises low e (f ∷ fs) h up = go (nat_le e.0 f.0) refl (placed_rises f.0 
     go true is later = (h, (leb-true e.0 f.0 is, up.1))
     go false is later = let less : f.0 < e.0 = leb-false e.0 f.0 is in (up.0, later (omega arith) up.1)
 
-by_stamp_rises : (es : List Stamped) → rises 0 (by_stamp es)
+pub by_stamp_rises : (es : List Stamped) → rises 0 (by_stamp es)
 by_stamp_rises [] = tt
 by_stamp_rises (e ∷ es) = placed_rises 0 e (by_stamp es) (omega arith) (by_stamp_rises es)
 

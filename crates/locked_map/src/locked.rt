@@ -1,0 +1,59 @@
+// The sorted map, for one thread at a time.
+ghost use Rattle.std.specs.Prelude.{◌≡◌, ◌<◌, ◌≤◌};
+ghost use Rattle.events.specs.declared.event.Reply.TheVariants.{Refused};
+ghost use Rattle.events.specs.Histories.{pair_count};
+ghost use Rattle.locked_map.specs.Answers.{IsDoneOrRefused};
+
+use events::{Call, MAX_PAIRS, Reply};
+use map_object::SortedMap;
+use recorder::{Subject, pair_count};
+use std::alloc::Global;
+use std::sync::{Mutex, Wait};
+
+/// A sorted map under a lock. It starts empty. A call is refused, and changes nothing, where memory was wanted or where
+/// a scan would list more than `MAX_PAIRS` pairs.
+#[derive(Drop)]
+pub struct LockedMap<'a, R: Wait> {
+    rt: &'a R,
+    alloc: Global,
+    map: Mutex<SortedMap>,
+}
+
+impl<'a, R: Wait> LockedMap<'a, R> {
+    /// The empty map.
+    pub fn new(rt: &'a R, alloc: Global) -> LockedMap<'a, R> {
+        let map = Mutex::new(SortedMap::new(alloc));
+        LockedMap { rt, alloc, map }
+    }
+}
+
+impl<'a, R: Wait> Subject for LockedMap<'a, R> {
+    /// Waits for the lock, then does the call. It costs what the sorted map's call costs.
+    fn call(&self, call: &Call) -> Reply {
+        let mut map = self.map.lock(self.rt);
+        answer(self.alloc, &mut map, call)
+    }
+}
+
+/// Does the call, or refuses it.
+fn answer(alloc: Global, map: &mut SortedMap, call: &Call) -> Reply
+    ensures short { pair_count result ≤ MAX_PAIRS }
+    ensures done { IsDoneOrRefused map.old call.now result map.new }
+{
+    match map.step(alloc, call) {
+        Err(_) => Reply::Refused,
+        Ok(reply) => within_limit(reply),
+    }
+}
+
+/// The reply, or that the call is refused where it lists too many pairs: only a scan's does, which changes nothing.
+fn within_limit(reply: Reply) -> Reply
+    ensures short { pair_count result ≤ MAX_PAIRS }
+    ensures same { pair_count reply ≤ MAX_PAIRS → result ≡ reply }
+    ensures refused { MAX_PAIRS < pair_count reply → result ≡ Refused }
+{
+    if pair_count(&reply) > MAX_PAIRS {
+        return Reply::Refused;
+    }
+    reply
+}

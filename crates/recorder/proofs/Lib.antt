@@ -1,0 +1,5 @@
+mod RecordLemmas
+mod MergeLemmas
+mod PassLemmas
+mod CloseLemmas
+mod OpenLemmas

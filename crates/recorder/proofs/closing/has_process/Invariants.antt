@@ -1,0 +1,7 @@
+use Rattle.std.proofs.Common.{◌≢◌, take}
+use Rattle.std.specs.Prelude.{All}
+use Rattle.recorder.specs.Passes.{process_number}
+use Rattle.recorder.proofs.closing.has_process.Given as goal
+
+abbrev pub invariant-loop-pass : goal.invariant-loop-pass
+invariant-loop-pass l = All (λ p. process_number p ≢ l.process) (take l.pass-index l.passes)

@@ -1,0 +1,16 @@
+use Rattle.std.proofs.Common.{◌≡◌, ◌+◌, ◌*◌, ◌<◌, [], map, All}
+use Rattle.std.specs.List.{range_with_len}
+use Rattle.tickets.specs.Hands.{drawn_by, left_of, counter, counter_of}
+use Rattle.recorder.specs.Passes.{process_number, calls_of, log_of, source_of}
+use Rattle.recorder.proofs.recorders.Recorder.open.Given as goal
+
+abbrev pub invariant-loop-process : goal.invariant-loop-process
+invariant-loop-process l = record {
+  rest_own : counter_of l.rest ≡ counter l.tickets;
+  rest_left : left_of l.rest + l.process * (2 * l.calls_each) ≡ l.processes * (2 * l.calls_each);
+  numbers : map process_number l.passes.items ≡ range_with_len 0 l.process;
+  own : All (λ p. source_of p ≡ counter l.tickets) l.passes.items;
+  calls : All (λ p. calls_of p ≡ l.calls_each) l.passes.items;
+  below : All (λ p. process_number p < l.processes) l.passes.items;
+  nothing : All (λ p. log_of p ≡ []) l.passes.items;
+}

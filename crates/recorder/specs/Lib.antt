@@ -1,0 +1,4 @@
+pub mod Records
+pub mod Passes
+pub mod Recorders
+pub mod Closing

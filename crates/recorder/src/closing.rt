@@ -1,0 +1,123 @@
+// All passes come together, and their logs become a history.
+ghost use Rattle.std.specs.Prelude.{◌≡◌, ℕ, ◌<◌, ◌↔◌, length, map, flat_map, sum_by, All, Contains, IsTrue, OnOk, IfOk, IfErr};
+ghost use Rattle.events.specs.HistoryView.{with_no_start};
+ghost use Rattle.events.specs.Histories.{AreHistoryEvents};
+ghost use Rattle.tickets.specs.Numbers.{EachOnce};
+ghost use Rattle.recorder.specs.Passes.{process_number, log_of};
+ghost use Rattle.recorder.specs.Recorders.{IsPassOf, HasProcesses, AreAll, all_stamps, history_of, HasOwnEvents};
+ghost use Rattle.recorder.specs.Closing.{IsHandedBack};
+
+use crate::fault::CloseFault;
+use crate::pass::Pass;
+use crate::recorders::Recorder;
+use events::{Event, History, Memory};
+use logs::{append_log, history_by_stamp};
+use std::alloc::Global;
+
+impl Recorder {
+    /// The history of all that was recorded: the events of all passes, in whatever order these are handed in, by rising
+    /// stamp. Open calls are pending. Else everything comes back. For n events it takes time n log n.
+    pub fn close(self, alloc: Global, passes: Vec<Pass>) -> Result<History, CloseFault>
+        requires own { All (IsPassOf self) passes.items }
+        ensures history { IfOk result (λ h. h ≡ with_no_start (history_of passes.items)) }
+        ensures well_formed { OnOk result (AreHistoryEvents (history_of passes.items)) }
+        ensures own_events { OnOk result (HasOwnEvents passes.items) }
+        ensures stamps { OnOk result (EachOnce (length (all_stamps passes.items)) (all_stamps passes.items)) }
+        ensures all { OnOk result (AreAll self passes.items) }
+        ensures refused { IfErr result (IsHandedBack self passes.items) }
+    {
+        if !self.has_all(&passes) {
+            return Err(CloseFault::StillOut(self, passes));
+        }
+        match self.history(alloc, &passes) {
+            Err(_) => Err(CloseFault::Memory(self, passes)),
+            Ok(history) => {
+                self.join(passes);
+                Ok(history)
+            }
+        }
+    }
+
+    /// Whether each process has a pass among these, and all draws are with them.
+    fn has_all(&self, passes: &[Pass]) -> bool
+        requires own { All (IsPassOf self.now) passes.now }
+        ensures { IsTrue result ↔ AreAll self.now passes.now }
+    {
+        // Each pass has the draws of its own calls, and equally many.
+        if self.calls_each > 0 && passes.len() != usize::from(self.processes) {
+            return false;
+        }
+        has_processes(passes, self.processes)
+    }
+
+    /// The history of the passes, which keep their logs.
+    fn history(&self, alloc: Global, passes: &[Pass]) -> Result<History, Memory>
+        requires own { All (IsPassOf self.now) passes.now }
+        requires all { AreAll self.now passes.now }
+        ensures history { IfOk result (λ h. h ≡ with_no_start (history_of passes.now)) }
+        ensures well_formed { AreHistoryEvents (history_of passes.now) }
+        ensures own_events { HasOwnEvents passes.now }
+    {
+        let stamped = all_events(alloc, passes)?;
+        history_by_stamp(alloc, Vec::new(alloc), stamped)
+    }
+
+    /// Joins all hands again, which shows that the stamps are the numbers below their count.
+    fn join(self, passes: Vec<Pass>)
+        requires own { All (IsPassOf self) passes.items }
+        requires all { AreAll self passes.items }
+        ensures { EachOnce (length (all_stamps passes.items)) (all_stamps passes.items) }
+    {
+        let Recorder {
+            tickets,
+            processes: _,
+            calls_each: _,
+        } = self;
+        let mut passes = passes.into_iter();
+        let mut hand = match passes.next() {
+            Some(first) => first.hand,
+            None => unreachable!(),
+        };
+        for pass in passes {
+            tickets.join(&mut hand, pass.hand);
+        }
+        if let Err(_) = tickets.close(hand) {
+            unreachable!()
+        }
+    }
+}
+
+/// The events of all passes with their stamps, pass after pass.
+fn all_events(alloc: Global, passes: &[Pass]) -> Result<Vec<(u64, Event)>, Memory>
+    ensures { IfOk result (λ all. all.items ≡ flat_map log_of passes.now) }
+{
+    let mut all = Vec::new(alloc);
+    for pass in passes {
+        append_log(alloc, &mut all, &pass.log)?;
+    }
+    Ok(all)
+}
+
+/// Whether each process below a number has a pass among these.
+fn has_processes(passes: &[Pass], processes: u8) -> bool
+    ensures { IsTrue result ↔ HasProcesses processes passes.now }
+{
+    for process in 0..processes {
+        if !has_process(passes, process) {
+            return false;
+        }
+    }
+    true
+}
+
+/// Whether a process has a pass among these.
+fn has_process(passes: &[Pass], process: u8) -> bool
+    ensures { IsTrue result ↔ Contains (map process_number passes.now) process }
+{
+    for pass in passes {
+        if pass.process == process {
+            return true;
+        }
+    }
+    false
+}

@@ -1,0 +1,23 @@
+// Why an event was not recorded, and why a recorder was not closed.
+use crate::pass::Pass;
+use crate::recorders::Recorder;
+
+/// Why an event was not recorded: the first cause of these, in this order.
+#[derive(Clone, Copy, Debug, PartialEq, Eq)]
+pub enum RecorderFault {
+    /// An invocation while the process has an open call, or a response while it has none.
+    OutOfTurn,
+    /// An invocation after all calls of the process, or a reply of more than `MAX_PAIRS` pairs.
+    TooMany,
+    /// Want of memory for one event more.
+    Memory,
+}
+
+/// Why a recorder was not closed. The recorder and the passes come back as they were handed in.
+#[derive(Drop)]
+pub enum CloseFault {
+    /// A process, or a part of the draws, is not in the passes that were handed in.
+    StillOut(Recorder, Vec<Pass>),
+    /// Want of memory for the history.
+    Memory(Recorder, Vec<Pass>),
+}

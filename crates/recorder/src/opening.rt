@@ -1,0 +1,65 @@
+// A recorder and its passes.
+ghost use Rattle.std.specs.Prelude.{◌≡◌, ◌*◌, ◌<◌, ◌≤◌, [], map, All, IfOk};
+ghost use Rattle.std.specs.List.{range_with_len};
+ghost use Rattle.tickets.specs.Hands.{drawn_by, left_of};
+ghost use Rattle.recorder.specs.Passes.{process_number, calls_of, log_of};
+ghost use Rattle.recorder.specs.Recorders.{processes_of, calls_for_each, IsPassOf};
+
+use crate::pass::Pass;
+use crate::recorders::Recorder;
+use events::{MAX_CALLS, Memory, PROCESSES};
+use std::alloc::Global;
+use tickets::{Hand, Tickets};
+
+impl Recorder {
+    /// A recorder for so many processes, each with so many calls, and a pass for each process, by rising number. `Err`
+    /// is want of memory.
+    pub fn open(
+        alloc: Global,
+        processes: u8,
+        calls_each: u32,
+    ) -> Result<(Recorder, Vec<Pass>), Memory>
+        requires processes { (1 ≤ processes) × (processes ≤ PROCESSES) }
+        requires calls { processes * calls_each ≤ MAX_CALLS }
+        ensures recorder { IfOk result (λ r. (processes_of r.0 ≡ processes) × (calls_for_each r.0 ≡ calls_each)) }
+        ensures passes { IfOk result (λ r. map process_number r.1.items ≡ range_with_len 0 processes) }
+        ensures own { IfOk result (λ r. All (IsPassOf r.0) r.1.items) }
+        ensures nothing { IfOk result (λ r. All (λ p. log_of p ≡ []) r.1.items) }
+    {
+        // Nothing is left of the first hand once each pass has its part, so it may be let go.
+        let share = 2 * u64::from(calls_each);
+        let (tickets, mut rest) = Tickets::open(alloc, u64::from(processes) * share)?;
+        let mut passes = Vec::with_capacity(alloc, usize::from(processes))?;
+        for process in 0..processes {
+            let hand = tickets.split(&mut rest, share);
+            passes.push(first_pass(alloc, process, calls_each, hand))?;
+        }
+        let recorder = Recorder {
+            tickets,
+            processes,
+            calls_each,
+        };
+        Ok((recorder, passes))
+    }
+}
+
+/// A pass with no event yet.
+fn first_pass(alloc: Global, process: u8, calls: u32, hand: Hand) -> Pass
+    requires process { process < PROCESSES }
+    requires calls { calls ≤ MAX_CALLS }
+    requires drawn { drawn_by hand ≡ [] }
+    requires left { left_of hand ≡ 2 * calls }
+    ensures process { process_number result ≡ process }
+    ensures calls { calls_of result ≡ calls }
+    ensures log { log_of result ≡ [] }
+    ensures hand { result.hand ≡ hand }
+{
+    Pass {
+        process,
+        calls,
+        begun: 0,
+        has_open: false,
+        log: Vec::new(alloc),
+        hand,
+    }
+}

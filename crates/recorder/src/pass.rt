@@ -1,0 +1,23 @@
+//! What one process records with.
+ghost use Rattle.std.specs.Prelude.{◌≡◌, ◌+◌, ◌*◌, map, length};
+ghost use Rattle.tickets.specs.Hands.{drawn_by, left_of};
+ghost use Rattle.recorder.specs.Records.{IsRecord};
+
+use events::Event;
+use std::alloc::Global;
+use tickets::Hand;
+
+/// The part of one process in a [`Recorder`](crate::Recorder): its number, the draws of its calls, and its events with
+/// their stamps. Where a pass is dropped, its recorder can't be closed.
+#[derive(Drop)]
+pub struct Pass {
+    pub(crate) process: u8,
+    pub(crate) calls: u32,
+    pub(crate) begun: u32,
+    pub(crate) has_open: bool,
+    pub(crate) log: Vec<(u64, Event)>,
+    pub(crate) hand: Hand,
+    ghost recorded: { IsRecord process calls begun has_open log.items },
+    ghost stamps: { drawn_by hand ≡ map (λ e. e.0) log.items },
+    ghost draws: { length log.items + left_of hand ≡ 2 * calls },
+}
