@@ -1,0 +1,3 @@
+mod LengthLemmas
+mod ClockLemmas
+pub mod SerialMapLemmas

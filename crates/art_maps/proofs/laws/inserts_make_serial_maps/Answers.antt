@@ -1,0 +1,5 @@
+use Rattle.art_maps.proofs.SerialMapLemmas.{serial-is-map}
+use Rattle.art_maps.proofs.laws.inserts_make_serial_maps.Goals as goal
+
+pub returns : goal.returns
+returns c = serial-is-map c.tables_open_at_rest.ensures c.same_trees_are_one.ensures c.seeks_are_the_maps.ensures c.scans_are_the_maps.ensures
