@@ -75,7 +75,7 @@ module _ (same : SameTreesAreOne) (s : Shape) where
     each variant n words m (Scan low high) tree few h =
         done variant n words m (Scan low high) h (scans s variant (n + 1) words m low high (omega (arith, h.few, few)) h.rest h.means)
     each variant n words m (Insert key value) tree few h =
-        let i = inserts s variant (n + 1) words m key value tree (omega (arith, few)) within h.rest h.means in
+        let i = inserts s variant (n + 1) words m key value tree within (omega (arith, few)) h.rest h.means in
         record {
           last = i.later;
           reply = i.reply;

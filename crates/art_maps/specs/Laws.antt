@@ -25,4 +25,4 @@ pub record Keeps (s : Shape) (variant : Variant) (n : ℕ) (words : List ℕ) (m
 -- Each insert does so on a table within the limits.
 abbrev pub InsertsKeep : Type 0
 InsertsKeep = (s : Shape) (variant : Variant) (n : ℕ) (words : List ℕ) (m : Contents) (key value : ℕ) → is_tree_call (Insert key value) ≡ true
-    → n < 2 ^ 62 → IsWithinLimits s → IsAtRest s n words → Means s words m → Keeps s variant n words m (Insert key value)
+    → IsWithinLimits s → n < 2 ^ 62 → IsAtRest s n words → Means s words m → Keeps s variant n words m (Insert key value)
