@@ -11,7 +11,7 @@ use Rattle.art_rows.specs.declared.table.Kind.{Kind}
 use Rattle.art_rows.specs.declared.table.Kind.TheVariants.{Full}
 use Rattle.art_rows.specs.declared.table.Child.{Child}
 use Rattle.art_rows.specs.declared.table.Child.TheVariants.{Empty, Row as ChildRow, Leaf}
-use Rattle.art_rows.specs.Table.{root_base, info_at, capacity}
+use Rattle.art_rows.specs.Table.{root_base, info_at, capacity, table_words}
 use Rattle.art_rows.specs.Words.{is_locked, is_obsolete, locked_word, released_word, key_bytes, child_of, info_of, first_difference}
 use Rattle.art_steps.specs.declared.variant.Variant.{Variant}
 use Rattle.art_steps.specs.Steps.{Part, ◌>>=◌, ◌>>◌, give, load}
@@ -28,16 +28,17 @@ use Rattle.art_alone.proofs.AloneLemmas.{give-comes, bind-comes, ends-bind, then
 use Rattle.art_alone.proofs.RowRunLemmas.{unlock-comes, unlock_all-comes, lock-comes, with_lock, with_unlocked}
 use Rattle.art_alone.proofs.FindingLemmas.{find-comes}
 use Rattle.art_alone.proofs.LikeLemmas.{Nothing, row_words-some, sits, like-start, like-free, like-live}
-use Rattle.art_alone.proofs.VersionLemmas.{locked-live, released-live, released-free}
+use Rattle.art_alone.proofs.VersionLemmas.{locked-live, released-live, released-free, released-small, locked-small}
 use Rattle.art_alone.proofs.SlotLemmas.{found-same}
 use Rattle.art_alone.proofs.WayLemmas.{level-most, key_byte-small, leads-root, leads-below, below-other}
-use Rattle.art_alone.proofs.PlaceLemmas.{sits-kind_at}
+use Rattle.art_alone.proofs.PlaceLemmas.{sits-kind_at, sits-inside}
 use Rattle.art_inserts.proofs.NearLemmas.{Near, Version, near-like, near-version, near-live, near-row, Among, IsHeld}
 use Rattle.art_inserts.proofs.OutcomeLemmas.{Outcome}
 use Rattle.art_inserts.proofs.PutOutcomeLemmas.{put-outcome}
 use Rattle.art_inserts.proofs.GrowOutcomeLemmas.{Grows, grows}
 use Rattle.art_inserts.proofs.PairOutcomeLemmas.{Hangs, hangs-pair}
-use Rattle.art_inserts.proofs.InsertEndLemmas.{Given, Inserts, after-part, ends-in, first-differs, path_byte-small}
+use Rattle.art_inserts.proofs.SmallLemmas.{path_byte-small}
+use Rattle.art_inserts.proofs.InsertEndLemmas.{Given, Inserts, after-part, ends-in, first-differs}
 use Rattle.art_inserts.proofs.LevelLemmas.{count-most}
 
 not-le : (a b : ℕ) → b < a → nat_le a b ≡ false
@@ -46,13 +47,14 @@ not-le a b h = grind (arith, h)
 less : (a b : ℕ) → a ≤ b → a ≢ b → a < b
 less a b h e = grind (arith, h, e)
 
-module _ (g : Given) (s : Shape) (variant : Variant) (n : ℕ) (words : List ℕ) (rest : IsAtRest s n words) (few : n < 4611686018427387904) (m : Contents)
+module _ (g : Given) (s : Shape) (variant : Variant) (n : ℕ) (words : List ℕ) (rest : IsAtRest s n words) (few : n < 4611686018427387904)
+    (bounded : table_words s < 2305843009213693952) (m : Contents)
     (means : Means s words m) (key value : ℕ) (key_small : key < 4294967296) (value_small : value < 1073741824) where
   abbrev c : Setting
   c = record { shape = s; variant = variant; call = Insert key value }
 
   abbrev Does : Part Reply → List ℕ → Type 0
-  Does part now = Inserts g s variant n words rest few m means key value key_small value_small part now
+  Does part now = Inserts g s variant n words rest few bounded m means key value key_small value_small part now
 
   -- the words are those at rest but for versions, and these rows are held
   abbrev Holding : List Row → List ℕ → Type 0
@@ -102,6 +104,7 @@ module _ (g : Given) (s : Shape) (variant : Variant) (n : ℕ) (words : List ℕ
   above-near [] r slot h now near = near
   above-near (a ∷ []) r slot h now near =
       near-version s n words rest {held2 = Among s n words rest (r ∷ [])} {dead2 = Nothing} (released_word a.kept) near h.at-above.leads.reached
+          (released-small a.kept)
       (λ d. released-live a.kept h.at-above.held.live) (λ d. released-free a.kept h.at-above.held.free) keep (λ w d ne. d)
     where
       keep : (w : ℕ) → (w ≡ r.base) ⊎ ((w ≡ a.base) ⊎ ⊥) → (w ≡ a.base → ⊥) → (w ≡ r.base) ⊎ ⊥
@@ -117,9 +120,11 @@ module _ (g : Given) (s : Shape) (variant : Variant) (n : ℕ) (words : List ℕ
       → ((b : ℕ) (k : Kind) → child ≡ ChildRow b k → ⊥)
       → Does (unlock_all rows >> (insert_in c (r ∷ []) slot child >>= λ q. unlock r >> give q)) now
   leaf rows r above h a now near slot child at on no_row =
-      after-part g s variant n words rest few m means key value key_small value_small {f = λ _. insert_in c (r ∷ []) slot child >>= λ q. unlock r >> give q}
+      after-part g s variant n words rest few bounded m means key value key_small value_small
+          {f = λ _. insert_in c (r ∷ []) slot child >>= λ q. unlock r >> give q}
       (unlock_all-comes rows now)
-      (ends-in g s variant n words rest few m means key value key_small value_small r (with_unlocked rows now) a.held (above-near rows r above h now near)
+      (ends-in g s variant n words rest few bounded m means key value key_small value_small r (with_unlocked rows now) a.held
+      (above-near rows r above h now near)
       (byte_at c r.level) a.leads (byte r) slot at child on no_row)
 
   -- ---- a row that lacks the byte
@@ -132,10 +137,10 @@ module _ (g : Given) (s : Shape) (variant : Variant) (n : ℕ) (words : List ℕ
       → Does (unlock_all rows >> (put c r (keys-of r) (count-of r) >> (unlock r >> give reply.None))) now
   unfolding put
   put-row rows r above h a now near none room =
-      let (last, comes, outcome) = put-outcome g.puts g.put_written g.read s variant n words rest m means key value value_small r
+      let (last, comes, outcome) = put-outcome g.puts g.put_written g.read s variant n words rest m means key value key_small value_small r
       (with_unlocked rows now) a.held
       (above-near rows r above h now near) (byte_at c r.level) a.leads (byte r) none room (absent-at r a none) in
-      after-part g s variant n words rest few m means key value key_small value_small {f = λ _. put c r (keys-of r) (count-of r) >>
+      after-part g s variant n words rest few bounded m means key value key_small value_small {f = λ _. put c r (keys-of r) (count-of r) >>
       (unlock r >> give reply.None)}
       (unlock_all-comes rows now) (record {
         reply = reply.None;
@@ -149,9 +154,9 @@ module _ (g : Given) (s : Shape) (variant : Variant) (n : ℕ) (words : List ℕ
       → Does (grow c (p ∷ []) slot r (keys-of r) (count-of r) >> give reply.None) now
   grow-row p r slot a h now near none all = go done.comes
     where
-      done : Grows g.trees g.grown g.row_written g.read g.versions s variant n words rest few m means key value value_small
+      done : Grows g.trees g.grown g.row_written g.read g.versions g.sized s variant n words rest few bounded m means key value key_small value_small
           (grow c (p ∷ []) slot r (keys-of r) (count-of r)) now
-      done = grows g.trees g.grown g.row_written g.read g.versions s variant n words rest few m means key value value_small r p now
+      done = grows g.trees g.grown g.row_written g.read g.versions g.sized s variant n words rest few bounded m means key value key_small value_small r p now
           a.held h.at-above.held near (byte_at c p.level) slot h.at-above.leads (byte p)
           h.slot-above h.hangs a.leads (byte r) a.level a.path none all (absent-at r a none)
 
@@ -171,6 +176,10 @@ module _ (g : Given) (s : Shape) (variant : Variant) (n : ℕ) (words : List ℕ
 
   -- ---- the row below
 
+  -- a row is within 2^61 words
+  row-bound : (b : ℕ) (k : Kind) → Reached s words b k → b < 2305843009213693952
+  row-bound b k q = omega (arith, bounded, (sits-inside s b 0 k (sits s n words rest q) (omega (arith, row_words-some k))).1)
+
   beside : (r q : Row) (a : IsAt r) → IsHeld s n words rest q → (now : List ℕ) → Holding (q ∷ r ∷ []) now → (slot b : ℕ) (k : Kind) (d : ℕ)
       → slot_of words r.base r.kind (byte_at c r.level) ≡ Some slot → child_on s words r.base r.kind (byte_at c r.level) ≡ ChildRow b k
       → q.path ≡ path_in words b k → q.base ≡ b → q.kind ≡ k → first_difference (path_in words b k) (key_bytes key) ≡ Some d
@@ -178,11 +187,13 @@ module _ (g : Given) (s : Shape) (variant : Variant) (n : ℕ) (words : List ℕ
       >>= λ x. unlock q >> (unlock r >> give x)) now
   beside r q a q_held now near slot b k d at on path base kind differ = go h.comes
     where
-      h : Hangs g.trees g.pairs g.pair_written g.read s variant n words rest few m means key value value_small
+      h : Hangs g.trees g.pairs g.pair_written g.read g.sized s variant n words rest few bounded m means key value key_small value_small
           (pair_in c (q ∷ r ∷ []) slot d (record { byte = slice_index (path_in words b k) d; child = ChildRow b k })) (q ∷ r ∷ []) now
-      h = hangs-pair g.trees g.pairs g.pair_written g.read s variant n words rest few m means key value value_small (q ∷ r ∷ []) now (q_held, (a.held, tt)) near
+      h = hangs-pair g.trees g.pairs g.pair_written g.read g.sized s variant n words rest few bounded m means key value key_small value_small (q ∷ r ∷ [])
+          now (q_held, (a.held, tt)) near
           r.base r.kind (byte_at c r.level) slot d (slice_index (path_in words b k) d) (ChildRow b k) a.leads (byte r) at on (differ, refl)
-          (sits-kind_at s b k (sits s n words rest (below a.leads.reached (byte_at c r.level) (byte r) on))) (path_byte-small words b k d)
+          (sits-kind_at s b k (sits s n words rest (below a.leads.reached (byte_at c r.level) (byte r) on)))
+          (row-bound b k (below a.leads.reached (byte_at c r.level) (byte r) on)) (path_byte-small words b k d)
           (first-differs (path_in words b k) (key_bytes key) d differ)
           ((g.ways s words m key r.base r.kind (byte_at c r.level) rest.tree means a.leads).2 b d k on differ)
 
@@ -219,11 +230,11 @@ module _ (g : Given) (s : Shape) (variant : Variant) (n : ℕ) (words : List ℕ
       (path_differs_at c (row_of b k info v)))) now
   unfolding insert_beside
   row fuel more rows r above h a now near enough slot b k at on =
-      after-part g s variant n words rest few m means key value key_small value_small {f = λ _. lock s b >>= λ v. load (info_at b) >>= λ info.
+      after-part g s variant n words rest few bounded m means key value key_small value_small {f = λ _. lock s b >>= λ v. load (info_at b) >>= λ info.
       insert_below c (insert_from c) r slot (row_of b k info v) (path_differs_at c (row_of b k info v))} (unlock_all-comes rows now)
-      (after-part g s variant n words rest few m means key value key_small value_small {f = λ v. load (info_at b) >>= λ info.
+      (after-part g s variant n words rest few bounded m means key value key_small value_small {f = λ v. load (info_at b) >>= λ info.
       insert_below c (insert_from c) r slot (row_of b k info v) (path_differs_at c (row_of b k info v))} (lock-comes s b (with_unlocked rows now) b_free)
-      (after-part g s variant n words rest few m means key value key_small value_small {f = λ info.
+      (after-part g s variant n words rest few bounded m means key value key_small value_small {f = λ info.
       insert_below c (insert_from c) r slot (row_of b k info (slice_index (with_unlocked rows now) b))
       (path_differs_at c (row_of b k info (slice_index (with_unlocked rows now) b)))} info-comes (go (path_differs_at c found) refl)))
     where
@@ -254,7 +265,7 @@ module _ (g : Given) (s : Shape) (variant : Variant) (n : ℕ) (words : List ℕ
 
       two : Holding (found ∷ r ∷ []) (with_lock (with_unlocked rows now) b)
       two = near-version s n words rest {held2 = Among s n words rest (found ∷ r ∷ [])} {dead2 = Nothing}
-          (locked_word (slice_index (with_unlocked rows now) b)) one reached
+          (locked_word (slice_index (with_unlocked rows now) b)) one reached (locked-small (slice_index (with_unlocked rows now) b))
           (λ d. locked-live (slice_index (with_unlocked rows now) b) b_live) (λ no_one. absurd (no_one (inl refl))) (λ w d ne. inr d) (λ w d ne. d)
 
       found_held : IsHeld s n words rest found
@@ -333,7 +344,7 @@ module _ (g : Given) (s : Shape) (variant : Variant) (n : ℕ) (words : List ℕ
       after : (o : Option ℕ) → slot_of words p.row.base p.row.kind (byte_at c p.row.level) ≡ o
           → Does (insert_at c (insert_from c) p (found_of s words (keys-of p.row) (count-of p.row) o)) now → Does (insert_from c p) now
       after o e i =
-          let all = after-part g s variant n words rest few m means key value key_small value_small {f = insert_at c (insert_from c) p} finds
+          let all = after-part g s variant n words rest few bounded m means key value key_small value_small {f = insert_at c (insert_from c) p} finds
           (subst (λ o. Does (insert_at c (insert_from c) p (found_of s words (keys-of p.row) (count-of p.row) o)) now) (sym e) i) in
           record { reply = all.reply; later = all.later; comes = both all.comes; outcome = all.outcome }
         where
@@ -353,10 +364,10 @@ module _ (g : Given) (s : Shape) (variant : Variant) (n : ℕ) (words : List ℕ
   does-from (suc fuel) p now a above near enough = step fuel (does-from fuel) p now a above near enough
 
   -- The whole call does what it does on the map, or is refused.
-  pub inserts-coupled : Inserts g s variant n words rest few m means key value key_small value_small (insert c) words
+  pub inserts-coupled : Inserts g s variant n words rest few bounded m means key value key_small value_small (insert c) words
   unfolding insert
   inserts-coupled =
-      after-part g s variant n words rest few m means key value key_small value_small
+      after-part g s variant n words rest few bounded m means key value key_small value_small
       {f = λ v. insert_from c (record { row = root_row c v; above = []; slot = root_base s })} (lock-comes s (root_base s) words free)
       (does-from 4 (record { row = root_row c v; above = []; slot = root_base s }) (with_lock words (root_base s))
       (record {
@@ -366,7 +377,7 @@ module _ (g : Given) (s : Shape) (variant : Variant) (n : ℕ) (words : List ℕ
         held = record { kind = Full; reached = root; free = free; live = live };
       }) refl
       (near-version s n words rest {held2 = Among s n words rest (root_row c v ∷ [])} {dead2 = Nothing} {kind = Full} (locked_word v)
-      (near-like s n words rest (like-start s n words rest Nothing)) root (λ d. locked-live v live) (λ no_one. absurd (no_one (inl refl)))
+      (near-like s n words rest (like-start s n words rest Nothing)) root (locked-small v) (λ d. locked-live v live) (λ no_one. absurd (no_one (inl refl)))
       (λ w d ne. absurd d) (λ w d ne. d)) (omega arith))
     where
       v : ℕ

@@ -1,8 +1,9 @@
 -- GROW, of an insert that runs alone on words like those at rest: a row of the next kind is hung in the row's place, or the call is refused.
 use Rattle.std.proofs.Common.{◌≡◌, ◌≢◌, ◌⊎◌, inl, inr, ℕ, ◌+◌, ◌-◌, ◌%◌, ◌<◌, ◌≤◌}
-use Rattle.std.proofs.Common.{◌==◌, List, [], ◌∷◌, length, slice_index, slice_set, Bool, true, false, Some, None}
+use Rattle.std.proofs.Common.{◌==◌, List, [], ◌∷◌, length, slice_index, slice_set, All, Bool, true, false, Some, None}
 use Rattle.std.proofs.Common.{refl, sym, ap, ◌∙◌, subst, arith, eqb-true, nat_lt}
 use Rattle.std.proofs.lemmas.Bool.{eqb-false}
+use Rattle.std.proofs.lemmas.List.Elements.{All-set}
 use Rattle.std.proofs.lemmas.List.{length-set, get_or-set_same, get_or-set_other}
 use Rattle.events.specs.declared.event.Call.TheVariants.{Insert}
 use Rattle.events.specs.declared.event.Reply.TheVariants as reply
@@ -19,7 +20,7 @@ use Rattle.art_steps.specs.Updates.{grow, fill, next_kind}
 use Rattle.art_core.specs.Meaning.{Reached, Means, slot_of, child_in, child_on}
 use Rattle.art_core.specs.Invariant.{IsTree, level_in, path_in}
 use Rattle.art_trees.specs.Trees.{IsAtRest, LeadsTo, IsGrown, ChangesAt, HasRowInPlace, SameRow, SameTreesAreOne, GrownRowsAreHung}
-use Rattle.art_words.specs.Laws.{WordsAreReadBack, VersionsSay}
+use Rattle.art_words.specs.Laws.{WordsAreReadBack, VersionsSay, WordsAreSmall}
 use Rattle.art_writes.specs.Writes.{HasGrown, IsApart}
 use Rattle.art_writes.specs.Laws.{RowsAreFilled}
 use Rattle.art_alone.specs.Alone.{Comes, Ends}
@@ -29,16 +30,20 @@ use Rattle.art_alone.proofs.RowRunLemmas.{with_unlocked, with_claim, claim-ends,
 use Rattle.art_alone.proofs.PlaceLemmas.{Sits, sits-part, sits-inside, sits-kind_at, claims-low}
 use Rattle.art_alone.proofs.SlotLemmas.{IsSlot, slot-is, form-same, row-keys, slot-same, keys-same, count-same}
 use Rattle.art_alone.proofs.LikeLemmas.{Nothing, row_words-some, sits}
-use Rattle.art_alone.proofs.WayLemmas.{below-other}
+use Rattle.art_alone.proofs.WayLemmas.{below-other, level-most}
 use Rattle.art_inserts.specs.Settled.{IsInside, IsNew, IsNewRow}
 use Rattle.art_inserts.proofs.NearLemmas.{Near, near-out, near-plain, near-live, near-behind, near-version, near-unlocked, Among, IsHeld, unlocked-other}
 use Rattle.art_inserts.proofs.NearLemmas.{behind-plain}
 use Rattle.art_inserts.proofs.OutcomeLemmas.{split, child-same, no-row, Claimed, settle-claimed, Outcome, refused}
 use Rattle.art_inserts.proofs.HungLemmas.{word-changes}
+use Rattle.art_inserts.proofs.SmallLemmas.{bytes-small, path_byte-small}
 use Rattle.art_inserts.proofs.SettledLemmas.{settled-words-rest}
 
 less : (a b : ℕ) → nat_lt a b ≡ true → a < b
 less a b e = grind (arith, e)
+
+obsolete-small : (v : ℕ) → obsolete_word v < 18446744073709551616
+obsolete-small v = omega arith
 
 some-more : (i : ℕ) → (i ≡ 0 → ⊥) → 1 ≤ i
 some-more i h = grind (arith, h)
@@ -46,9 +51,11 @@ some-more i h = grind (arith, h)
 first-some : (k : Kind) → 1 ≤ first_child k
 first-some k = grind arith
 
-module _ (trees : SameTreesAreOne) (hangs : GrownRowsAreHung) (written : RowsAreFilled) (read : WordsAreReadBack) (versions : VersionsSay) (s : Shape)
-    (variant : Variant) (n : ℕ) (words : List ℕ) (rest : IsAtRest s n words) (few : n < 4611686018427387904) (m : Contents) (means : Means s words m)
-    (key value : ℕ) (value_small : value < 1073741824) where
+module _ (trees : SameTreesAreOne) (hangs : GrownRowsAreHung) (written : RowsAreFilled) (read : WordsAreReadBack) (versions : VersionsSay)
+    (sized : WordsAreSmall) (s : Shape)
+    (variant : Variant) (n : ℕ) (words : List ℕ) (rest : IsAtRest s n words) (few : n < 4611686018427387904) (bounded : table_words s < 2305843009213693952)
+    (m : Contents) (means : Means s words m)
+    (key value : ℕ) (key_small : key < 4294967296) (value_small : value < 1073741824) where
   abbrev c : Setting
   c = record { shape = s; variant = variant; call = Insert key value }
 
@@ -155,12 +162,23 @@ module _ (trees : SameTreesAreOne) (hangs : GrownRowsAreHung) (written : RowsAre
       info-out : Out (info_at row)
       info-out = inr (inr (1, omega arith, row_words-some larger, refl))
 
+      info-small : info < 18446744073709551616
+      info-small =
+          let long = (rest.tree.info r.base r.kind leads.reached).0 in
+          sized.info larger r.level r.path (omega (arith, level, level-most words r.base r.kind)) (ap (λ p. length p) path ∙ (long ∙ sym level))
+          (subst (λ p. All (λ x. x < 256) p) (sym path) (bytes-small (path_in words r.base r.kind) (λ i. path_byte-small words r.base r.kind i)))
+
+      row-small : row < 2305843009213693952
+      row-small = omega (arith, bounded, (sits-inside s row 0 larger row-sits (omega (arith, row_words-some larger))).1)
+
       near1 : Near s n words rest Out (Among s n words rest (r ∷ a ∷ [])) Nothing claimed
       near1 = near-out s n words rest near (length-set now (claims_of larger) ((number + 1) % 18446744073709551616))
+          (All-set (λ w. w < 18446744073709551616) now (claims_of larger) ((number + 1) % 18446744073709551616) (omega arith) near.small)
           (λ w. set-changed now (claims_of larger) ((number + 1) % 18446744073709551616) (inl refl) w (w == claims_of larger) refl) (λ w o. absurd o)
 
       near2 : Near s n words rest Out (Among s n words rest (r ∷ a ∷ [])) Nothing begun
       near2 = near-out s n words rest near1 (length-set claimed (info_at row) info)
+          (All-set (λ w. w < 18446744073709551616) claimed (info_at row) info info-small near1.small)
           (λ w. set-changed claimed (info_at row) info info-out w (w == info_at row) refl) (λ w o. o)
 
       same : SameRow words begun r.base r.kind
@@ -228,7 +246,7 @@ module _ (trees : SameTreesAreOne) (hangs : GrownRowsAreHung) (written : RowsAre
       later = with_unlocked (a ∷ []) freed
 
       near3 : Near s n words rest Out (Among s n words rest (r ∷ a ∷ [])) Nothing filled
-      near3 = near-out s n words rest near2 has.long (λ w. go w (split w row (row_words larger))) (λ w o. o)
+      near3 = near-out s n words rest near2 has.long (has.small near2.small (key_small, value_small)) (λ w. go w (split w row (row_words larger))) (λ w o. o)
         where
           go : (w : ℕ) → (w < row) ⊎ ((row + row_words larger ≤ w) ⊎ ((j : ℕ) × (j < row_words larger) × (w ≡ row + j)))
               → (slice_index filled w ≡ slice_index begun w) ⊎ Out w
@@ -242,10 +260,12 @@ module _ (trees : SameTreesAreOne) (hangs : GrownRowsAreHung) (written : RowsAre
 
       near4 : Near s n words rest Out (Among s n words rest (r ∷ a ∷ [])) Nothing hung
       near4 = near-out s n words rest near3 (length-set filled slot (row_word row))
+          (All-set (λ w. w < 18446744073709551616) filled slot (row_word row) (omega (arith, row-small)) near3.small)
           (λ w. set-changed filled slot (row_word row) (inr (inl refl)) w (w == slot) refl) (λ w o. o)
 
       near5 : Near s n words rest Out (Among s n words rest (a ∷ [])) (λ w. w ≡ r.base) freed
       near5 = near-version s n words rest {held2 = Among s n words rest (a ∷ [])} {dead2 = λ w. w ≡ r.base} (obsolete_word r.kept) near4 leads.reached
+          (obsolete-small r.kept)
           (λ h. absurd (h refl)) (λ h. (versions.obsolete r.kept).0 ∙ r_held.free) keep (λ w o. absurd o)
         where
           keep : (w : ℕ) → (w ≡ r.base) ⊎ Among s n words rest (a ∷ []) w → (w ≡ r.base → ⊥) → Among s n words rest (a ∷ []) w
@@ -352,8 +372,7 @@ module _ (trees : SameTreesAreOne) (hangs : GrownRowsAreHung) (written : RowsAre
       outcome : Outcome s n words rest m means key value reply.None later
       outcome = record {
         legal = inr (ap value_reply (sym absent));
-        long = near6.long;
-        rests = λ small. settled-words-rest s n words later rest (settle-claimed s n words rest larger later near6 more within small) tree.0
+        rests = settled-words-rest s n words later rest (settle-claimed s n words rest larger later near6 more within) tree.0
             (λ b k q. old-or-new b k ((tree.1 b k).0 q));
         meant = tree.2;
       }

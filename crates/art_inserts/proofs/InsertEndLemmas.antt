@@ -1,5 +1,5 @@
 -- The ends of an insert's way, at a row that is held, whichever way it went there.
-use Rattle.std.proofs.Common.{◌≡◌, ◌≢◌, ◌⊎◌, inl, inr, ℕ, zero, suc, ◌+◌, ◌/◌, ◌%◌}
+use Rattle.std.proofs.Common.{◌≡◌, ◌≢◌, ◌⊎◌, inl, inr, ℕ, suc, ◌+◌}
 use Rattle.std.proofs.Common.{◌<◌, ◌==◌, List, [], ◌∷◌, slice_index, slice_set, Bool, true, false, Option, Some}
 use Rattle.std.proofs.Common.{None, if◌then◌else◌, refl, sym, ap, ◌∙◌, subst, arith, eqb-true, option_map}
 use Rattle.std.specs.Prelude.{unwrap_or}
@@ -13,18 +13,17 @@ use Rattle.art_rows.specs.declared.table.Shape.{Shape}
 use Rattle.art_rows.specs.declared.table.Kind.{Kind}
 use Rattle.art_rows.specs.declared.table.Child.{Child}
 use Rattle.art_rows.specs.declared.table.Child.TheVariants.{Empty, Row as ChildRow, Leaf}
-use Rattle.art_rows.specs.Table.{info_at}
-use Rattle.art_rows.specs.Words.{key_bytes, first_difference, leaf_word, child_of, kind_code, low_bytes, Info, info_of}
+use Rattle.art_rows.specs.Table.{table_words}
+use Rattle.art_rows.specs.Words.{key_bytes, first_difference, leaf_word, child_of}
 use Rattle.art_steps.specs.declared.variant.Variant.{Variant}
 use Rattle.art_steps.specs.Rows.{Setting, Row, unlock}
 use Rattle.art_steps.specs.Steps.{Part, ◌>>=◌, ◌>>◌, give, store}
 use Rattle.art_steps.specs.Updates.{keys_differ_at, insert_in, pair_in}
 use Rattle.art_core.specs.Meaning.{Means, slot_of, child_in, child_on}
-use Rattle.art_core.specs.Invariant.{path_in}
 use Rattle.art_trees.specs.Trees.{IsAtRest, LeadsTo, Parts, SameTreesAreOne, WaysLeadToValues}
 use Rattle.art_trees.specs.Trees.{LeavesArePut, PairsAreHung, GrownRowsAreHung, LeavesAreSmall, KeysPart}
-use Rattle.art_words.specs.Laws.{WordsAreReadBack, VersionsSay}
-use Rattle.art_words.specs.Stored.{IsStored}
+use Rattle.art_words.specs.Laws.{WordsAreReadBack, VersionsSay, WordsAreSmall}
+use Rattle.art_words.specs.Stored.{IsStored, IsShort}
 use Rattle.art_writes.specs.Laws as writes
 use Rattle.art_alone.specs.Alone.{Comes, Ends}
 use Rattle.art_alone.proofs.AloneLemmas.{give-comes, bind-comes, bind-ends, then-comes, store-comes, ends-bind, ends-then}
@@ -59,24 +58,6 @@ first-differs (x ∷ xs) (y ∷ ys) d e = go (x == y) refl (λ i f. first-differ
     go true same rest f = later (first_difference xs ys) rest refl f
     go false other rest f = subst (λ j. slice_index (x ∷ xs) j ≢ slice_index (y ∷ ys) j) (same_Some 0 d f) (eqb-false x y other)
 
-low-byte : (k w i : ℕ) → slice_index (low_bytes k w) i < 256
-low-byte zero w i = omega arith
-low-byte (suc k) w zero = omega arith
-low-byte (suc k) w (suc i) = low-byte k (w / 256) i
-
-pub path_byte-small : (words : List ℕ) (base : ℕ) (kind : Kind) (i : ℕ) → slice_index (path_in words base kind) i < 256
-path_byte-small words base kind i = go kind (slice_index words (info_at base))
-  where
-    info_by : Bool → ℕ → List ℕ → Info
-    info_by b level path = if b then record { level = level; path = path } else record { level = 0; path = [] }
-
-    by_test : (w : ℕ) (b : Bool) → slice_index (info_by b ((w / 4) % 4) (low_bytes ((w / 4) % 4) (w / 256))).path i < 256
-    by_test w true = low-byte ((w / 4) % 4) (w / 256) i
-    by_test w false = omega arith
-
-    go : (k : Kind) (w : ℕ) → slice_index (info_of k w).path i < 256
-    go k w = by_test w (w % 4 == kind_code k)
-
 -- what the ends of an insert stand on
 pub record Given : Type 0 where
   pub trees : SameTreesAreOne
@@ -91,8 +72,10 @@ pub record Given : Type 0 where
   pub row_written : writes.RowsAreFilled
   pub read : WordsAreReadBack
   pub versions : VersionsSay
+  pub sized : WordsAreSmall
 
-module _ (g : Given) (s : Shape) (variant : Variant) (n : ℕ) (words : List ℕ) (rest : IsAtRest s n words) (few : n < 4611686018427387904) (m : Contents)
+module _ (g : Given) (s : Shape) (variant : Variant) (n : ℕ) (words : List ℕ) (rest : IsAtRest s n words) (few : n < 4611686018427387904)
+    (bounded : table_words s < 2305843009213693952) (m : Contents)
     (means : Means s words m) (key value : ℕ) (key_small : key < 4294967296) (value_small : value < 1073741824) where
   abbrev c : Setting
   c = record { shape = s; variant = variant; call = Insert key value }
@@ -119,16 +102,16 @@ module _ (g : Given) (s : Shape) (variant : Variant) (n : ℕ) (words : List ℕ
     hanging child e = ap (λ o. child_in s words o) at ∙ e
 
     -- a pair in the slot of the held row, and the row is unlocked
-    pub pair-in : (d a : ℕ) (child : Child) → child_on s words r.base r.kind x ≡ child → Parts words key d a child → IsStored s child → a < 256
+    pub pair-in : (d a : ℕ) (child : Child) → child_on s words r.base r.kind x ≡ child → Parts words key d a child → IsStored s child → IsShort child → a < 256
         → a ≢ slice_index (key_bytes key) d → value_at m key ≡ None
         → Inserts ((pair_in c (r ∷ []) slot d (record { byte = a; child = child }) >> give reply.None) >>= λ q. unlock r >> give q) now
-    pair-in d a child on parts stored small apart absent = go h.comes
+    pair-in d a child on parts stored short small apart absent = go h.comes
       where
-        h : Hangs g.trees g.pairs g.pair_written g.read s variant n words rest few m means key value value_small
+        h : Hangs g.trees g.pairs g.pair_written g.read g.sized s variant n words rest few bounded m means key value key_small value_small
             (pair_in c (r ∷ []) slot d (record { byte = a; child = child })) (r ∷ []) now
-        h = hangs-pair g.trees g.pairs g.pair_written g.read s variant n words rest few m means key value value_small (r ∷ []) now
+        h = hangs-pair g.trees g.pairs g.pair_written g.read g.sized s variant n words rest few bounded m means key value key_small value_small (r ∷ []) now
             (held, tt) near r.base r.kind x
-            slot d a child leads byte at on parts stored small apart absent
+            slot d a child leads byte at on parts stored short small apart absent
 
         go : (Comes (pair_in c (r ∷ []) slot d (record { byte = a; child = child })) now tt h.after
             × Outcome s n words rest m means key value reply.None (with_unlocked (r ∷ []) h.after))
@@ -167,7 +150,7 @@ module _ (g : Given) (s : Shape) (variant : Variant) (n : ℕ) (words : List ℕ
     unfolding insert_in
     ends-in Empty on no_row =
         leaf-in None reply.None absent
-        (leaf-outcome g.puts g.put_written g.read s variant n words rest m means key value value_small r now held near x leads byte slot at
+        (leaf-outcome g.puts g.put_written g.read s variant n words rest m means key value key_small value_small r now held near x leads byte slot at
         (inl on) None absent)
       where
         absent : value_at m key ≡ None
@@ -182,7 +165,7 @@ module _ (g : Given) (s : Shape) (variant : Variant) (n : ℕ) (words : List ℕ
             let own : k ≡ key = eqb-true k key e in
             let has : value_at m key ≡ Some old = ((g.ways s words m key r.base r.kind x rest.tree means leads).1 k old on).0 own in
             leaf-in (Some old) (reply.Some old) has
-            (leaf-outcome g.puts g.put_written g.read s variant n words rest m means key value value_small r now held near
+            (leaf-outcome g.puts g.put_written g.read s variant n words rest m means key value key_small value_small r now held near
             x leads byte slot at (inr (old, on ∙ ap (λ i. Leaf i old) own)) (Some old) has)
         go false e =
             let other = eqb-false k key e in
@@ -190,6 +173,6 @@ module _ (g : Given) (s : Shape) (variant : Variant) (n : ℕ) (words : List ℕ
             let (i, is) = g.part k key k_small key_small other in
             let at_i : keys_differ_at k key ≡ i = ap (λ o. unwrap_or o 0) is in
             let differ = is ∙ ap Some (sym at_i) in
-            pair-in (keys_differ_at k key) (slice_index (key_bytes k) (keys_differ_at k key)) (Leaf k old) on (differ, refl) old_small
+            pair-in (keys_differ_at k key) (slice_index (key_bytes k) (keys_differ_at k key)) (Leaf k old) on (differ, refl) old_small (k_small, old_small)
             (key_byte-small k (keys_differ_at k key)) (first-differs (key_bytes k) (key_bytes key) (keys_differ_at k key) differ)
             (((g.ways s words m key r.base r.kind x rest.tree means leads).1 k old on).1 other)

@@ -4,6 +4,7 @@ use Rattle.events.specs.declared.event.Call.TheVariants.{Insert}
 use Rattle.events.specs.declared.event.Reply.{Reply}
 use Rattle.map_object.specs.MapObject.{Contents}
 use Rattle.art_rows.specs.declared.table.Shape.{Shape}
+use Rattle.art_rows.specs.Table.{table_words, IsWithinLimits}
 use Rattle.art_steps.specs.declared.variant.Variant.{Variant}
 use Rattle.art_steps.specs.Rows.{Setting, locks}
 use Rattle.art_steps.specs.Coupled as coupled
@@ -25,16 +26,18 @@ key-bound key value e = grind (arith, e)
 value-bound : (key value : ℕ) → is_tree_call (Insert key value) ≡ true → value < 1073741824
 value-bound key value e = grind (arith, e)
 
-module _ (g : Given) (s : Shape) (variant : Variant) (n : ℕ) (words : List ℕ) (rest : IsAtRest s n words) (few : n < 4611686018427387904) (m : Contents)
+module _ (g : Given) (s : Shape) (variant : Variant) (n : ℕ) (words : List ℕ) (rest : IsAtRest s n words) (few : n < 4611686018427387904)
+    (bounded : table_words s < 2305843009213693952) (m : Contents)
     (means : Means s words m) (key value : ℕ) (key_small : key < 4294967296) (value_small : value < 1073741824) where
   abbrev c : Setting
   c = record { shape = s; variant = variant; call = Insert key value }
 
   -- under the variant's way to go down
   by_variant : (b : Bool) → locks variant ≡ b
-      → Inserts g s variant n words rest few m means key value key_small value_small (if locks variant then coupled.insert c else optimistic.insert c) words
+      → Inserts g s variant n words rest few bounded m means key value key_small value_small
+      (if locks variant then coupled.insert c else optimistic.insert c) words
   by_variant true e =
-      let i = inserts-coupled g s variant n words rest few m means key value key_small value_small in
+      let i = inserts-coupled g s variant n words rest few bounded m means key value key_small value_small in
       record { reply = i.reply; later = i.later; comes = go i.comes; outcome = i.outcome }
     where
       go : {r : Reply} {l : List ℕ} → Comes (coupled.insert c) words r l ⊎ Ends (coupled.insert c) words r l
@@ -43,7 +46,7 @@ module _ (g : Given) (s : Shape) (variant : Variant) (n : ℕ) (words : List ℕ
       go (inl k) = inl (if_true-comes (optimistic.insert c) e k)
       go (inr k) = inr (if_true-ends (optimistic.insert c) e k)
   by_variant false e =
-      let i = inserts-optimistic g s variant n words rest few m means key value key_small value_small in
+      let i = inserts-optimistic g s variant n words rest few bounded m means key value key_small value_small in
       record { reply = i.reply; later = i.later; comes = go i.comes; outcome = i.outcome }
     where
       go : {r : Reply} {l : List ℕ} → Comes (optimistic.insert c) words r l ⊎ Ends (optimistic.insert c) words r l
@@ -52,7 +55,7 @@ module _ (g : Given) (s : Shape) (variant : Variant) (n : ℕ) (words : List ℕ
       go (inl k) = inl (if_false-comes (coupled.insert c) e k)
       go (inr k) = inr (if_false-ends (coupled.insert c) e k)
 
-  whole : Inserts g s variant n words rest few m means key value key_small value_small (procedure c (Insert key value)) words
+  whole : Inserts g s variant n words rest few bounded m means key value key_small value_small (procedure c (Insert key value)) words
   unfolding procedure
   whole = by_variant (locks variant) refl
 
@@ -62,7 +65,6 @@ module _ (g : Given) (s : Shape) (variant : Variant) (n : ℕ) (words : List ℕ
     later = whole.later;
     runs = go whole.comes;
     legal = whole.outcome.legal;
-    long = whole.outcome.long;
     rests = whole.outcome.rests;
     means = whole.outcome.meant;
   }
@@ -72,6 +74,9 @@ module _ (g : Given) (s : Shape) (variant : Variant) (n : ℕ) (words : List ℕ
       go (inl k) = act-comes s variant (Insert key value) k
       go (inr k) = act-ends s variant (Insert key value) k
 
+table-bound : (s : Shape) → IsWithinLimits s → table_words s < 2305843009213693952
+table-bound s limits = omega (arith, limits.rows4, limits.rows16, limits.rows48, limits.rows256)
+
 pub inserts-are-the-maps : Given → InsertsAreTheMaps
-inserts-are-the-maps g s variant n words m key value tree few rest means =
-    does g s variant n words rest few m means key value (key-bound key value tree) (value-bound key value tree)
+inserts-are-the-maps g s variant n words m key value tree limits few rest means =
+    does g s variant n words rest few (table-bound s limits) m means key value (key-bound key value tree) (value-bound key value tree)

@@ -2,6 +2,7 @@ pub mod SettledLemmas
 pub mod NearLemmas
 pub mod OutcomeLemmas
 pub mod HungLemmas
+pub mod SmallLemmas
 pub mod PairOutcomeLemmas
 pub mod PutOutcomeLemmas
 pub mod GrowOutcomeLemmas

@@ -1,8 +1,9 @@
 -- Words that differ from those at rest by versions of rows that are reached, and by words that a call has written.
-use Rattle.std.proofs.Common.{◌≡◌, ◌⊎◌, inl, inr, ℕ, ◌+◌, ◌<◌, ◌≤◌, ◌==◌, List, []}
+use Rattle.std.proofs.Common.{◌≡◌, ◌⊎◌, inl, inr, ℕ, ◌+◌, ◌<◌, ◌≤◌, ◌==◌, List, [], All}
 use Rattle.std.proofs.Common.{◌∷◌, length, slice_index, slice_set, Bool, true, false, refl, sym, ap, ◌∙◌, subst}
 use Rattle.std.proofs.Common.{arith, eqb-true}
 use Rattle.std.proofs.lemmas.Bool.{eqb-false}
+use Rattle.std.proofs.lemmas.List.Elements.{All-set}
 use Rattle.std.proofs.lemmas.List.{length-set, get_or-set_same, get_or-set_other}
 use Rattle.art_rows.specs.declared.table.Shape.{Shape}
 use Rattle.art_rows.specs.declared.table.Kind.{Kind}
@@ -14,7 +15,7 @@ use Rattle.art_trees.specs.Trees.{IsAtRest, SameRow}
 use Rattle.art_alone.proofs.PlaceLemmas.{Sits, sits-part, sits-inside}
 use Rattle.art_alone.proofs.LikeLemmas.{Like, IsVersion, Nothing, row_words-some, sits}
 use Rattle.art_alone.proofs.RowRunLemmas.{with_unlocked}
-use Rattle.art_alone.proofs.VersionLemmas.{released-live, released-free}
+use Rattle.art_alone.proofs.VersionLemmas.{released-live, released-free, released-small}
 
 module _ (s : Shape) (n : ℕ) (words : List ℕ) (rest : IsAtRest s n words) where
   -- the word is the version of a row that is reached: of a live one, unless it is dead, and unlocked, unless it is held
@@ -27,10 +28,11 @@ module _ (s : Shape) (n : ℕ) (words : List ℕ) (rest : IsAtRest s n words) wh
   -- each word is as it was at rest, or a version, or one of which nothing is said
   pub record Near (out held dead : ℕ → Type 0) (now : List ℕ) : Type 0 where
     pub long : length now ≡ table_words s
+    pub small : All (λ w. w < 18446744073709551616) now
     pub word : (w : ℕ) → (slice_index now w ≡ slice_index words w) ⊎ (Version now held dead w ⊎ out w)
 
   pub near-like : {now : List ℕ} {held : ℕ → Type 0} → Like s words words now held → Near Nothing held Nothing now
-  near-like {now} {held} like = record { long = like.long; word = λ w. go w (like.word w) }
+  near-like {now} {held} like = record { long = like.long; small = like.small; word = λ w. go w (like.word w) }
     where
       go : (w : ℕ) → (slice_index now w ≡ slice_index words w) ⊎ IsVersion s words now held w
           → (slice_index now w ≡ slice_index words w) ⊎ (Version now held Nothing w ⊎ Nothing w)
@@ -39,8 +41,13 @@ module _ (s : Shape) (n : ℕ) (words : List ℕ) (rest : IsAtRest s n words) wh
 
   -- other words were written
   pub near-out : {out out2 held dead : ℕ → Type 0} {now later : List ℕ} → Near out held dead now → length later ≡ length now
-      → ((w : ℕ) → (slice_index later w ≡ slice_index now w) ⊎ out2 w) → ((w : ℕ) → out w → out2 w) → Near out2 held dead later
-  near-out {out} {out2} {held} {dead} {now} {later} near long same more = record { long = long ∙ near.long; word = λ w. go w (same w) (near.word w) }
+      → All (λ w. w < 18446744073709551616) later → ((w : ℕ) → (slice_index later w ≡ slice_index now w) ⊎ out2 w) → ((w : ℕ) → out w → out2 w)
+      → Near out2 held dead later
+  near-out {out} {out2} {held} {dead} {now} {later} near long small same more = record {
+    long = long ∙ near.long;
+    small = small;
+    word = λ w. go w (same w) (near.word w);
+  }
     where
       go : (w : ℕ) → (slice_index later w ≡ slice_index now w) ⊎ out2 w → (slice_index now w ≡ slice_index words w) ⊎ (Version now held dead w ⊎ out w)
           → (slice_index later w ≡ slice_index words w) ⊎ (Version later held dead w ⊎ out2 w)
@@ -56,10 +63,11 @@ module _ (s : Shape) (n : ℕ) (words : List ℕ) (rest : IsAtRest s n words) wh
 
   -- a row's version is set
   pub near-version : {out held held2 dead dead2 : ℕ → Type 0} {now : List ℕ} {base : ℕ} {kind : Kind} (new : ℕ) → Near out held dead now
-      → Reached s words base kind → ((dead2 base → ⊥) → is_obsolete new ≡ false) → ((held2 base → ⊥) → is_locked new ≡ false)
+      → Reached s words base kind → new < 18446744073709551616 → ((dead2 base → ⊥) → is_obsolete new ≡ false) → ((held2 base → ⊥) → is_locked new ≡ false)
       → ((w : ℕ) → held w → (w ≡ base → ⊥) → held2 w) → ((w : ℕ) → dead w → (w ≡ base → ⊥) → dead2 w) → Near out held2 dead2 (slice_set now base new)
-  near-version {out} {held} {held2} {dead} {dead2} {now} {base} {kind} new near reached live free keep keep_dead = record {
+  near-version {out} {held} {held2} {dead} {dead2} {now} {base} {kind} new near reached little live free keep keep_dead = record {
     long = length-set now base new ∙ near.long;
+    small = All-set (λ w. w < 18446744073709551616) now base new little near.small;
     word = λ w. go w (w == base) refl;
   }
     where
@@ -152,7 +160,7 @@ module _ (s : Shape) (n : ℕ) (words : List ℕ) (rest : IsAtRest s n words) wh
       → Near out Nothing dead (with_unlocked rows now)
   near-unlocked [] held near = near
   near-unlocked {out} {dead} (r ∷ rows) {now} (h, held) near =
-      near-unlocked rows held (near-version {held2 = Among rows} {dead2 = dead} (released_word r.kept) near h.reached
+      near-unlocked rows held (near-version {held2 = Among rows} {dead2 = dead} (released_word r.kept) near h.reached (released-small r.kept)
       (λ no_one. released-live r.kept h.live) (λ no_one. released-free r.kept h.free) go (λ w d ne. d))
     where
       go : (w : ℕ) → (w ≡ r.base) ⊎ Among rows w → (w ≡ r.base → ⊥) → Among rows w

@@ -13,7 +13,7 @@ use Rattle.art_rows.specs.declared.table.Kind.{Kind}
 use Rattle.art_rows.specs.declared.table.Kind.TheVariants.{Full}
 use Rattle.art_rows.specs.declared.table.Child.{Child}
 use Rattle.art_rows.specs.declared.table.Child.TheVariants.{Empty, Row as ChildRow, Leaf}
-use Rattle.art_rows.specs.Table.{root_base, info_at, capacity}
+use Rattle.art_rows.specs.Table.{root_base, info_at, capacity, table_words}
 use Rattle.art_rows.specs.Words.{is_locked, is_obsolete, locked_word, key_bytes, child_of, info_of, first_difference}
 use Rattle.art_steps.specs.declared.variant.Variant.{Variant}
 use Rattle.art_steps.specs.Steps.{Part, ◌>>=◌, ◌>>◌, give, start_again, load}
@@ -30,15 +30,16 @@ use Rattle.art_alone.proofs.AloneLemmas.{give-comes, bind-comes, then-comes, end
 use Rattle.art_alone.proofs.AloneLemmas.{same-ends, load-comes, if_false-comes, if_false-ends, over-comes, over_none-comes}
 use Rattle.art_alone.proofs.RowRunLemmas.{unlock-comes, wait-comes, check_of-comes, take_row-comes, with_unlocked}
 use Rattle.art_alone.proofs.FindingLemmas.{find-comes}
-use Rattle.art_alone.proofs.LikeLemmas.{Like, Nothing, sits, like-start, like-free, like-live}
-use Rattle.art_alone.proofs.VersionLemmas.{locked-live}
+use Rattle.art_alone.proofs.LikeLemmas.{Like, Nothing, sits, like-start, like-free, like-live, row_words-some}
+use Rattle.art_alone.proofs.VersionLemmas.{locked-live, locked-small}
 use Rattle.art_alone.proofs.WayLemmas.{level-most, key_byte-small, leads-root, leads-below, below-other}
-use Rattle.art_alone.proofs.PlaceLemmas.{sits-kind_at}
+use Rattle.art_alone.proofs.PlaceLemmas.{sits-kind_at, sits-inside}
 use Rattle.art_inserts.proofs.NearLemmas.{Near, near-like, near-version, Among, IsHeld}
 use Rattle.art_inserts.proofs.OutcomeLemmas.{Outcome}
 use Rattle.art_inserts.proofs.PutOutcomeLemmas.{put-outcome}
 use Rattle.art_inserts.proofs.GrowOutcomeLemmas.{Grows, grows}
-use Rattle.art_inserts.proofs.InsertEndLemmas.{Given, Inserts, after-part, pair-in, ends-in, first-differs, path_byte-small}
+use Rattle.art_inserts.proofs.SmallLemmas.{path_byte-small}
+use Rattle.art_inserts.proofs.InsertEndLemmas.{Given, Inserts, after-part, pair-in, ends-in, first-differs}
 use Rattle.art_inserts.proofs.LevelLemmas.{differ-behind, take-more, count-most}
 
 not-le : (a b : ℕ) → b < a → nat_le a b ≡ false
@@ -47,13 +48,14 @@ not-le a b h = grind (arith, h)
 less : (a b : ℕ) → a ≤ b → a ≢ b → a < b
 less a b h e = grind (arith, h, e)
 
-module _ (g : Given) (s : Shape) (variant : Variant) (n : ℕ) (words : List ℕ) (rest : IsAtRest s n words) (few : n < 4611686018427387904) (m : Contents)
+module _ (g : Given) (s : Shape) (variant : Variant) (n : ℕ) (words : List ℕ) (rest : IsAtRest s n words) (few : n < 4611686018427387904)
+    (bounded : table_words s < 2305843009213693952) (m : Contents)
     (means : Means s words m) (key value : ℕ) (key_small : key < 4294967296) (value_small : value < 1073741824) where
   abbrev c : Setting
   c = record { shape = s; variant = variant; call = Insert key value }
 
   abbrev Does : Part Reply → List ℕ → Type 0
-  Does part now = Inserts g s variant n words rest few m means key value key_small value_small part now
+  Does part now = Inserts g s variant n words rest few bounded m means key value key_small value_small part now
 
   nothing : Like s words words words Nothing
   nothing = like-start s n words rest Nothing
@@ -99,7 +101,7 @@ module _ (g : Given) (s : Shape) (variant : Variant) (n : ℕ) (words : List ℕ
   take-near : (rows : List Row) (r : Row) (a : IsAt r) (now : List ℕ) → Near s n words rest Nothing (Among s n words rest rows) Nothing now
       → Near s n words rest Nothing (Among s n words rest (r ∷ rows)) Nothing (taken r now)
   take-near rows r a now near =
-      near-version s n words rest {held2 = Among s n words rest (r ∷ rows)} {dead2 = Nothing} (locked_word r.kept) near a.leads.reached
+      near-version s n words rest {held2 = Among s n words rest (r ∷ rows)} {dead2 = Nothing} (locked_word r.kept) near a.leads.reached (locked-small r.kept)
       (λ h. locked-live r.kept (is-held r a).live) (λ no_one. absurd (no_one (inl refl))) (λ w h ne. inr h) (λ w d ne. d)
 
   none-near : Near s n words rest Nothing (Among s n words rest []) Nothing words
@@ -126,10 +128,11 @@ module _ (g : Given) (s : Shape) (variant : Variant) (n : ℕ) (words : List ℕ
       → child_on s words r.base r.kind (byte_at c r.level) ≡ child → ((b : ℕ) (k : Kind) → child ≡ ChildRow b k → ⊥) → Does (insert_leaf c r slot child) words
   unfolding insert_leaf
   leaf r a slot child at on no_row =
-      after-part g s variant n words rest few m means key value key_small value_small {f = λ held. insert_in c
+      after-part g s variant n words rest few bounded m means key value key_small value_small {f = λ held. insert_in c
       (held ∷ []) slot child >>= λ q. unlock held >> give q}
       (take-comes [] r a)
-      (ends-in g s variant n words rest few m means key value key_small value_small r (taken r words) (is-held r a) (one-near r a) (byte_at c r.level) a.leads
+      (ends-in g s variant n words rest few bounded m means key value key_small value_small r (taken r words) (is-held r a) (one-near r a)
+      (byte_at c r.level) a.leads
       (byte r) slot at child on no_row)
 
   -- ---- a row that lacks the byte
@@ -140,10 +143,11 @@ module _ (g : Given) (s : Shape) (variant : Variant) (n : ℕ) (words : List ℕ
       (count_in (Insert key value) words r.base r.kind (byte_at c r.level)) >> (unlock held >> give reply.None)) words
   unfolding put
   put-row r a none room =
-      let (last, comes, outcome) = put-outcome g.puts g.put_written g.read s variant n words rest m means key value value_small r (taken r words) (is-held r a)
+      let (last, comes, outcome) = put-outcome g.puts g.put_written g.read s variant n words rest m means key value key_small value_small r (taken r words)
+          (is-held r a)
       (one-near r a) (byte_at c r.level) a.leads (byte r) none room
       ((g.ways s words m key r.base r.kind (byte_at c r.level) rest.tree means a.leads).0 (ap (λ o. child_in s words o) none)) in
-      after-part g s variant n words rest few m means key value key_small value_small (take-comes [] r a) (record {
+      after-part g s variant n words rest few bounded m means key value key_small value_small (take-comes [] r a) (record {
         reply = reply.None;
         later = with_unlocked (r ∷ []) last;
         comes = inl (then-comes {n = unlock r >> give reply.None} comes (then-comes {n = give reply.None} (unlock-comes r last) (give-comes reply.None _)));
@@ -157,9 +161,9 @@ module _ (g : Given) (s : Shape) (variant : Variant) (n : ℕ) (words : List ℕ
       → count_in (Insert key value) words r.base r.kind (byte_at c r.level) ≡ capacity r.kind
       → Does (grow-part p r slot (keys-of r) (count-of r)) words
   grow-row p r slot a h none all =
-      after-part g s variant n words rest few m means key value key_small value_small {f = λ above. take_row c above r >>= λ held.
+      after-part g s variant n words rest few bounded m means key value key_small value_small {f = λ above. take_row c above r >>= λ held.
       grow c above slot held (keys-of r) (count-of r) >> give reply.None} above-comes
-      (after-part g s variant n words rest few m means key value key_small value_small {f = λ held. grow c (p ∷ []) slot held (keys-of r)
+      (after-part g s variant n words rest few bounded m means key value key_small value_small {f = λ held. grow c (p ∷ []) slot held (keys-of r)
       (count-of r) >> give reply.None}
       (take_row-comes c (p ∷ []) r (taken p words) (get_or-set_other words p.base r.base (locked_word p.kept) 0 other ∙ a.kept) (is-held r a).free)
       (go done.comes))
@@ -172,9 +176,10 @@ module _ (g : Given) (s : Shape) (variant : Variant) (n : ℕ) (words : List ℕ
           (bind-comes {f = λ k. give (k ∷ [])} (take-comes [] p h.at-above) (give-comes (p ∷ []) (taken p words)))
           (over_none-comes (λ q held. take_row c held q >>= λ k. give (k ∷ held)) (p ∷ []) (taken p words))
 
-      done : Grows g.trees g.grown g.row_written g.read g.versions s variant n words rest few m means key value value_small
+      done : Grows g.trees g.grown g.row_written g.read g.versions g.sized s variant n words rest few bounded m means key value key_small value_small
           (grow c (p ∷ []) slot r (keys-of r) (count-of r)) (taken r (taken p words))
-      done = grows g.trees g.grown g.row_written g.read g.versions s variant n words rest few m means key value value_small r p (taken r (taken p words))
+      done = grows g.trees g.grown g.row_written g.read g.versions g.sized s variant n words rest few bounded m means key value key_small value_small r p
+          (taken r (taken p words))
           (is-held r a) (is-held p h.at-above) (take-near (p ∷ []) r a (taken p words) (one-near p h.at-above))
           (byte_at c p.level) slot h.at-above.leads (byte p)
           h.slot-above h.hangs a.leads (byte r) a.level a.path none all
@@ -227,6 +232,10 @@ module _ (g : Given) (s : Shape) (variant : Variant) (n : ℕ) (words : List ℕ
       (bind-comes {f = λ info. give (row_of q k info (slice_index words q))} (load-comes (info_at q) words)
       (give-comes (row_of q k (slice_index words (info_at q)) (slice_index words q)) words)))
 
+  -- a row is within 2^61 words
+  row-bound : (b : ℕ) (k : Kind) → Reached s words b k → b < 2305843009213693952
+  row-bound b k q = omega (arith, bounded, (sits-inside s b 0 k (sits s n words rest q) (omega (arith, row_words-some k))).1)
+
   beside : (r : Row) (a : IsAt r) (slot b : ℕ) (k : Kind) (info v d : ℕ) → slot_of words r.base r.kind (byte_at c r.level) ≡ Some slot
       → child_on s words r.base r.kind (byte_at c r.level) ≡ ChildRow b k → info ≡ slice_index words (info_at b)
       → first_difference (path_in words b k) (key_bytes key) ≡ Some d
@@ -234,11 +243,13 @@ module _ (g : Given) (s : Shape) (variant : Variant) (n : ℕ) (words : List ℕ
       (info_at b)) v) d >>= λ q. unlock held >> give q) words
   unfolding insert_beside
   beside r a slot b k info v d at on is differ =
-      after-part g s variant n words rest few m means key value key_small value_small {f = λ held.
+      after-part g s variant n words rest few bounded m means key value key_small value_small {f = λ held.
       insert_beside c (held ∷ []) slot (row_of b k (slice_index words (info_at b)) v) d >>= λ q. unlock held >> give q} (take-comes [] r a)
-      (pair-in g s variant n words rest few m means key value key_small value_small r (taken r words) (is-held r a) (one-near r a) (byte_at c r.level) a.leads
+      (pair-in g s variant n words rest few bounded m means key value key_small value_small r (taken r words) (is-held r a) (one-near r a)
+      (byte_at c r.level) a.leads
       (byte r) slot at d (slice_index (path_in words b k) d) (ChildRow b k) on (differ, refl)
-      (sits-kind_at s b k (sits s n words rest (below a.leads.reached (byte_at c r.level) (byte r) on))) (path_byte-small words b k d)
+      (sits-kind_at s b k (sits s n words rest (below a.leads.reached (byte_at c r.level) (byte r) on)))
+      (row-bound b k (below a.leads.reached (byte_at c r.level) (byte r) on)) (path_byte-small words b k d)
       (first-differs (path_in words b k) (key_bytes key) d differ)
       ((g.ways s words m key r.base r.kind (byte_at c r.level) rest.tree means a.leads).2 b d k on differ))
 
@@ -250,7 +261,8 @@ module _ (g : Given) (s : Shape) (variant : Variant) (n : ℕ) (words : List ℕ
       → child_on s words r.base r.kind (byte_at c r.level) ≡ ChildRow b k
       → Does (step_down c r b k >>= λ q. insert_below c (insert_from c) r slot q (path_differs_at c q)) words
   row fuel more r a enough slot b k at on =
-      after-part g s variant n words rest few m means key value key_small value_small {f = λ q. insert_below c (insert_from c) r slot q (path_differs_at c q)}
+      after-part g s variant n words rest few bounded m means key value key_small value_small
+          {f = λ q. insert_below c (insert_from c) r slot q (path_differs_at c q)}
       (down-comes r b k a.kept reached) (go (path_differs_at c found) refl)
     where
       reached : Reached s words b k
@@ -338,9 +350,9 @@ module _ (g : Given) (s : Shape) (variant : Variant) (n : ℕ) (words : List ℕ
       after : (o : Option ℕ) → slot_of words p.row.base p.row.kind (byte_at c p.row.level) ≡ o
           → Does (insert_at c (insert_from c) p (found_of s words (keys-of p.row) (count-of p.row) o)) words → Does (insert_from c p) words
       after o e i =
-          let all = after-part g s variant n words rest few m means key value key_small value_small
+          let all = after-part g s variant n words rest few bounded m means key value key_small value_small
           {f = λ found. check_of c p.row >> insert_at c (insert_from c) p found} (find-comes c p.row words)
-          (after-part g s variant n words rest few m means key value key_small value_small {f = λ _.
+          (after-part g s variant n words rest few bounded m means key value key_small value_small {f = λ _.
           insert_at c (insert_from c) p (found_of s words (keys-of p.row) (count-of p.row) (slot_of words p.row.base p.row.kind (byte_at c p.row.level)))}
           (check_of-comes c p.row words a.kept)
           (subst (λ o. Does (insert_at c (insert_from c) p (found_of s words (keys-of p.row) (count-of p.row) o)) words) (sym e) i)) in
@@ -363,10 +375,10 @@ module _ (g : Given) (s : Shape) (variant : Variant) (n : ℕ) (words : List ℕ
   does-from (suc fuel) p a above enough = step fuel (does-from fuel) p a above enough
 
   -- The whole call does what it does on the map, or is refused.
-  pub inserts-optimistic : Inserts g s variant n words rest few m means key value key_small value_small (insert c) words
+  pub inserts-optimistic : Inserts g s variant n words rest few bounded m means key value key_small value_small (insert c) words
   unfolding insert
   inserts-optimistic =
-      after-part g s variant n words rest few m means key value key_small value_small
+      after-part g s variant n words rest few bounded m means key value key_small value_small
       {f = λ v. insert_from c (record { row = root_row c v; above = []; slot = root_base s })}
       (wait-comes (root_base s) words (free-at {kind = Full} root) (live-at {kind = Full} root))
       (does-from 4 (record { row = root_row c (slice_index words (root_base s)); above = []; slot = root_base s })

@@ -1,7 +1,8 @@
 -- How words after an insert come to be settled, and what an insert comes to.
-use Rattle.std.proofs.Common.{◌≡◌, ◌⊎◌, inl, inr, ℕ, ◌+◌, ◌-◌, ◌%◌, ◌<◌, ◌≤◌, ◌==◌, List, length, slice_index, All, Bool, true, false, Option, Some, None}
+use Rattle.std.proofs.Common.{◌≡◌, ◌⊎◌, inl, inr, ℕ, ◌+◌, ◌-◌, ◌%◌, ◌<◌, ◌≤◌, ◌==◌, List, length, slice_index, Bool, true, false, Option, Some, None}
 use Rattle.std.proofs.Common.{refl, sym, ap, ◌∙◌, arith, eqb-true}
 use Rattle.std.proofs.lemmas.Bool.{eqb-false, cases_order}
+use Rattle.std.proofs.lemmas.List.Elements.{All-set}
 use Rattle.std.proofs.lemmas.List.{length-set, get_or-set_same, get_or-set_other}
 use Rattle.events.specs.declared.event.Call.TheVariants.{Insert}
 use Rattle.events.specs.declared.event.Reply.{Reply}
@@ -9,7 +10,7 @@ use Rattle.events.specs.declared.event.Reply.TheVariants as reply
 use Rattle.map_object.specs.MapObject.{Contents, IsLegalReply, after_reply}
 use Rattle.art_rows.specs.declared.table.Shape.{Shape}
 use Rattle.art_rows.specs.declared.table.Kind.{Kind}
-use Rattle.art_rows.specs.Table.{row_words, table_words, claims_of, first_child}
+use Rattle.art_rows.specs.Table.{row_words, claims_of, first_child}
 use Rattle.art_rows.specs.Words.{child_of}
 use Rattle.art_steps.specs.Rows.{Row}
 use Rattle.art_core.specs.Meaning.{Reached, Means, slot_of, child_in, child_on}
@@ -75,10 +76,10 @@ module _ (s : Shape) (n : ℕ) (words : List ℕ) (rest : IsAtRest s n words) wh
 
   -- words inside of rows were written
   pub settle-plain : {extra dead : ℕ → Type 0} (later : List ℕ) → Near s n words rest extra Nothing dead later
-      → ((w : ℕ) → extra w → IsInside s words w) → All (λ w. w < 18446744073709551616) later → IsSettled s words later
-  settle-plain {extra} {dead} later near within small = record {
+      → ((w : ℕ) → extra w → IsInside s words w) → IsSettled s words later
+  settle-plain {extra} {dead} later near within = record {
     long = near.long;
-    small = small;
+    small = near.small;
     low = λ k. omega (arith, same k);
     high = λ k. omega (arith, same k);
     word = λ w high. go w (near.word w);
@@ -97,10 +98,10 @@ module _ (s : Shape) (n : ℕ) (words : List ℕ) (rest : IsAtRest s n words) wh
   -- one more claim was made, and words inside of rows and of a row that was claimed were written
   pub settle-claimed : {extra dead : ℕ → Type 0} (kind : Kind) (later : List ℕ) → Near s n words rest (Claimed kind extra) Nothing dead later
       → slice_index later (claims_of kind) ≡ slice_index words (claims_of kind) + 1
-      → ((w : ℕ) → extra w → IsInside s words w ⊎ IsNew s words later w) → All (λ w. w < 18446744073709551616) later → IsSettled s words later
-  settle-claimed {extra} {dead} kind later near more within small = record {
+      → ((w : ℕ) → extra w → IsInside s words w ⊎ IsNew s words later w) → IsSettled s words later
+  settle-claimed {extra} {dead} kind later near more within = record {
     long = near.long;
-    small = small;
+    small = near.small;
     low = λ k. (bounds k (claims_of k == claims_of kind) refl).0;
     high = λ k. (bounds k (claims_of k == claims_of kind) refl).1;
     word = λ w high. go w high (near.word w);
@@ -135,11 +136,10 @@ module _ (s : Shape) (n : ℕ) (words : List ℕ) (rest : IsAtRest s n words) wh
       go w high (inr (inr (inr e))) = inr (inr (within w e))
 
   module _ (m : Contents) (means : Means s words m) (key value : ℕ) where
-    -- An insert comes to this reply and these words: the reply is legal, and the words are at rest, if they have 64 bits, and mean the map after it.
+    -- An insert comes to this reply and these words: the reply is legal, and the words are at rest and mean the map after it.
     pub record Outcome (r : Reply) (later : List ℕ) : Type 0 where
       pub legal : IsLegalReply m (Insert key value) r
-      pub long : length later ≡ table_words s
-      pub rests : All (λ w. w < 18446744073709551616) later → IsAtRest s (n + 1) later
+      pub rests : IsAtRest s (n + 1) later
       pub meant : Means s later (after_reply m (Insert key value) r)
 
     -- A claim found no row: the rows that were held are unlocked.
@@ -147,8 +147,7 @@ module _ (s : Shape) (n : ℕ) (words : List ℕ) (rest : IsAtRest s n words) wh
         → Near s n words rest Nothing (Among s n words rest rows) Nothing now → Outcome reply.Refused (with_unlocked rows (with_claim now kind))
     refused trees few kind rows now held near = record {
       legal = inl refl;
-      long = near3.long;
-      rests = λ small. settled-words-rest s n words later rest (settle-claimed kind later near3 count (λ w e. absurd e) small) hung.tree
+      rests = settled-words-rest s n words later rest (settle-claimed kind later near3 count (λ w e. absurd e)) hung.tree
           (λ b k r. inl ((hung.rows b k).0 r, near-live s n words rest near3 ((hung.rows b k).0 r) (λ h. h) (λ o. out-base b k ((hung.rows b k).0 r) o)));
       meant = hung.means;
     }
@@ -164,7 +163,9 @@ module _ (s : Shape) (n : ℕ) (words : List ℕ) (rest : IsAtRest s n words) wh
         set w false e = inl (get_or-set_other now (claims_of kind) w new 0 (eqb-false w (claims_of kind) e))
 
         near2 : Near s n words rest (Claimed kind Nothing) (Among s n words rest rows) Nothing (with_claim now kind)
-        near2 = near-out s n words rest near (length-set now (claims_of kind) new) (λ w. set w (w == claims_of kind) refl) (λ w o. absurd o)
+        near2 = near-out s n words rest near (length-set now (claims_of kind) new)
+            (All-set (λ w. w < 18446744073709551616) now (claims_of kind) new (omega arith) near.small) (λ w. set w (w == claims_of kind) refl)
+            (λ w o. absurd o)
 
         near3 : Near s n words rest (Claimed kind Nothing) Nothing Nothing later
         near3 = near-unlocked s n words rest rows held near2

@@ -19,8 +19,8 @@ use Rattle.art_steps.specs.Updates.{Under, pair, pair_in}
 use Rattle.art_core.specs.Meaning.{Reached, Means, slot_of, child_on}
 use Rattle.art_core.specs.Invariant.{IsTree}
 use Rattle.art_trees.specs.Trees.{IsAtRest, LeadsTo, Parts, IsPair, HasRowMore, SameRow, SameTreesAreOne, PairsAreHung}
-use Rattle.art_words.specs.Laws.{WordsAreReadBack}
-use Rattle.art_words.specs.Stored.{IsStored}
+use Rattle.art_words.specs.Laws.{WordsAreReadBack, WordsAreSmall}
+use Rattle.art_words.specs.Stored.{IsStored, IsShort}
 use Rattle.art_writes.specs.Writes.{HasPair, IsOutside}
 use Rattle.art_writes.specs.Laws as writes
 use Rattle.art_alone.specs.Alone.{Comes, Ends}
@@ -35,14 +35,17 @@ use Rattle.art_inserts.proofs.NearLemmas.{Near, near-out, near-plain, near-live,
 use Rattle.art_inserts.proofs.NearLemmas.{near-unlocked, Among, AreHeld, unlocked-other, unlocked-row, behind-plain}
 use Rattle.art_inserts.proofs.OutcomeLemmas.{split, child-same, no-row, Claimed, settle-claimed, Outcome, refused}
 use Rattle.art_inserts.proofs.HungLemmas.{word-changes}
+use Rattle.art_inserts.proofs.SmallLemmas.{parts-level, taken-long, taken-bytes, bytes-small}
 use Rattle.art_inserts.proofs.SettledLemmas.{settled-words-rest}
 
 less : (a b : ℕ) → nat_lt a b ≡ true → a < b
 less a b e = grind (arith, e)
 
-module _ (trees : SameTreesAreOne) (hangs : PairsAreHung) (written : writes.PairsAreWritten) (read : WordsAreReadBack) (s : Shape) (variant : Variant)
-    (n : ℕ) (words : List ℕ) (rest : IsAtRest s n words) (few : n < 4611686018427387904) (m : Contents) (means : Means s words m) (key value : ℕ)
-    (value_small : value < 1073741824) where
+module _ (trees : SameTreesAreOne) (hangs : PairsAreHung) (written : writes.PairsAreWritten) (read : WordsAreReadBack) (sized : WordsAreSmall) (s : Shape)
+    (variant : Variant)
+    (n : ℕ) (words : List ℕ) (rest : IsAtRest s n words) (few : n < 4611686018427387904) (bounded : table_words s < 2305843009213693952) (m : Contents)
+    (means : Means s words m) (key value : ℕ)
+    (key_small : key < 4294967296) (value_small : value < 1073741824) where
   abbrev c : Setting
   c = record { shape = s; variant = variant; call = Insert key value }
 
@@ -56,7 +59,7 @@ module _ (trees : SameTreesAreOne) (hangs : PairsAreHung) (written : writes.Pair
       (near : Near s n words rest Nothing (Among s n words rest rows) Nothing now)
       (base : ℕ) (kind : Kind) (x slot d a : ℕ) (child : Child) (leads : LeadsTo s words key base kind x) (byte : x < 256)
       (at : slot_of words base kind x ≡ Some slot) (hanging : child_on s words base kind x ≡ child) (parts : Parts words key d a child)
-      (stored : IsStored s child) (a_byte : a < 256) (apart : a ≢ slice_index (key_bytes key) d) (absent : value_at m key ≡ None) where
+      (stored : IsStored s child) (short : IsShort child) (a_byte : a < 256) (apart : a ≢ slice_index (key_bytes key) d) (absent : value_at m key ≡ None) where
     abbrev old : Under
     old = record { byte = a; child = child }
 
@@ -161,7 +164,10 @@ module _ (trees : SameTreesAreOne) (hangs : PairsAreHung) (written : writes.Pair
           claim false e = slots (eqb-false w (claims_of Four) e) (w == slot) refl
 
       near2 : Near s n words rest (Claimed s n words rest Four Extra) (Among s n words rest rows) Nothing after
-      near2 = near-out s n words rest near has.long changed (λ w o. absurd o)
+      near2 = near-out s n words rest near has.long
+          (has.small near.small short (key_small, value_small) (omega (arith, bounded, (sits-inside s row 0 Four row-sits (omega arith)).1))
+          (sized.info Four d (take d (key_bytes key)) (parts-level words key d a child parts) (taken-long d key (parts-level words key d a child parts))
+          (taken-bytes d (key_bytes key) (bytes-small (key_bytes key) (λ i. key_byte-small key i))))) changed (λ w o. absurd o)
 
       near3 : Near s n words rest (Claimed s n words rest Four Extra) Nothing Nothing later
       near3 = near-unlocked s n words rest rows held near2
@@ -234,8 +240,7 @@ module _ (trees : SameTreesAreOne) (hangs : PairsAreHung) (written : writes.Pair
           run.1,
           record {
             legal = inr (ap value_reply (sym absent));
-            long = near3.long;
-            rests = λ small. settled-words-rest s n words later rest (settle-claimed s n words rest Four later near3 count within small) tree.0
+            rests = settled-words-rest s n words later rest (settle-claimed s n words rest Four later near3 count within) tree.0
                 (λ b k r. old-or-new b k ((tree.1 b k).0 r));
             meant = tree.2;
           },

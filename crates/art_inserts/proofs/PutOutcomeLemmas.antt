@@ -1,8 +1,9 @@
 -- A leaf that an insert writes in a held row, in the slot of its byte or beside the other children, and what comes of it.
 use Rattle.std.proofs.Common.{◌≡◌, ◌⊎◌, inl, inr, ℕ, ◌+◌, ◌-◌, ◌<◌, ◌≤◌, ◌==◌, List}
-use Rattle.std.proofs.Common.{[], ◌∷◌, length, slice_index, slice_set, All, Bool, true, false, Option, Some, None}
+use Rattle.std.proofs.Common.{[], ◌∷◌, length, slice_index, slice_set, Bool, true, false, Option, Some, None}
 use Rattle.std.proofs.Common.{refl, sym, ap, ◌∙◌, subst, arith, eqb-true}
 use Rattle.std.proofs.lemmas.Bool.{eqb-false, cases_order}
+use Rattle.std.proofs.lemmas.List.Elements.{All-set}
 use Rattle.std.proofs.lemmas.List.{length-set, get_or-set_same, get_or-set_other}
 use Rattle.events.specs.declared.event.Call.TheVariants.{Insert}
 use Rattle.events.specs.declared.event.Reply.TheVariants as reply
@@ -37,7 +38,8 @@ first-some : (k : Kind) → 1 ≤ first_child k
 first-some k = grind arith
 
 module _ (puts : LeavesArePut) (written : writes.PutsWriteLeaves) (read : WordsAreReadBack) (s : Shape) (variant : Variant)
-    (n : ℕ) (words : List ℕ) (rest : IsAtRest s n words) (m : Contents) (means : Means s words m) (key value : ℕ) (value_small : value < 1073741824) where
+    (n : ℕ) (words : List ℕ) (rest : IsAtRest s n words) (m : Contents) (means : Means s words m) (key value : ℕ) (key_small : key < 4294967296)
+    (value_small : value < 1073741824) where
   abbrev c : Setting
   c = record { shape = s; variant = variant; call = Insert key value }
 
@@ -53,13 +55,13 @@ module _ (puts : LeavesArePut) (written : writes.PutsWriteLeaves) (read : WordsA
           (omega (arith, is)) in
           omega (arith, places, low)
 
-      rests : All (λ w. w < 18446744073709551616) later → IsAtRest s (n + 1) later
-      rests small = settled-words-rest s n words later rest (settle-plain s n words rest later near within small) hung.tree
+      rests : IsAtRest s (n + 1) later
+      rests = settled-words-rest s n words later rest (settle-plain s n words rest later near within) hung.tree
           (λ b k r. inl ((hung.rows b k).0 r, near-live s n words rest near ((hung.rows b k).0 r) (λ h. h) (plain b k ((hung.rows b k).0 r))))
 
       go : (o : Option ℕ) → value_at m key ≡ o → Outcome s n words rest m means key value (value_reply o) later
-      go None e = record { legal = inr (ap value_reply (sym e)); long = near.long; rests = rests; meant = hung.means }
-      go (Some v) e = record { legal = inr (ap value_reply (sym e)); long = near.long; rests = rests; meant = hung.means }
+      go None e = record { legal = inr (ap value_reply (sym e)); rests = rests; meant = hung.means }
+      go (Some v) e = record { legal = inr (ap value_reply (sym e)); rests = rests; meant = hung.means }
 
   module _ (r : Row) (now : List ℕ) (held : IsHeld s n words rest r) (near : Near s n words rest Nothing (Among s n words rest (r ∷ [])) Nothing now)
       (x : ℕ) (leads : LeadsTo s words key r.base r.kind x) (byte : x < 256) where
@@ -83,7 +85,9 @@ module _ (puts : LeavesArePut) (written : writes.PutsWriteLeaves) (read : WordsA
 
       leaf-near : Near s n words rest (λ w. w ≡ slot) Nothing Nothing leaf_later
       leaf-near = near-unlocked s n words rest (r ∷ []) (held, tt) (near-out s n words rest {out2 = λ w. w ≡ slot} near
-          (length-set now slot (leaf_word key value)) (λ w. set w (w == slot) refl) (λ w o. absurd o))
+          (length-set now slot (leaf_word key value))
+          (All-set (λ w. w < 18446744073709551616) now slot (leaf_word key value) (omega (arith, key_small, value_small)) near.small)
+          (λ w. set w (w == slot) refl) (λ w o. absurd o))
 
       slot-plain : (k : Kind) → Sits s slot k → ⊥
       slot-plain k y = behind-plain s n words rest r.base is-slot.place r.kind (sits s n words rest leads.reached) early is-slot.high k
@@ -158,7 +162,8 @@ module _ (puts : LeavesArePut) (written : writes.PutsWriteLeaves) (read : WordsA
           go (inr (inr (j, lj, e))) = place j lj e (cases_order j 1)
 
       put-near : Near s n words rest Extra Nothing Nothing put_later
-      put-near = near-unlocked s n words rest (r ∷ []) (held, tt) (near-out s n words rest near has-put.long changed (λ w o. absurd o))
+      put-near = near-unlocked s n words rest (r ∷ []) (held, tt) (near-out s n words rest near has-put.long
+          (has-put.small near.small (key_small, value_small)) changed (λ w o. absurd o))
 
       same-after : SameRow after put_later r.base r.kind
       same-after = unlocked-row s n words rest (r ∷ []) after (held, tt) r.base r.kind (sits s n words rest leads.reached)

@@ -1,11 +1,11 @@
 -- Laws of inserts that run alone.
-use Rattle.std.specs.Prelude.{◌≡◌, ℕ, ◌+◌, ◌<◌, ◌^◌, true, List, length, All}
+use Rattle.std.specs.Prelude.{◌≡◌, ℕ, ◌+◌, ◌<◌, ◌^◌, true, List}
 use Rattle.events.specs.declared.event.Call.{Call}
 use Rattle.events.specs.declared.event.Call.TheVariants.{Insert}
 use Rattle.events.specs.declared.event.Reply.{Reply}
 use Rattle.map_object.specs.MapObject.{Contents, IsLegalReply, after_reply}
 use Rattle.art_rows.specs.declared.table.Shape.{Shape}
-use Rattle.art_rows.specs.Table.{table_words}
+use Rattle.art_rows.specs.Table.{IsWithinLimits}
 use Rattle.art_steps.specs.declared.variant.Variant.{Variant}
 use Rattle.art_steps.specs.TreeCalls.{is_tree_call}
 use Rattle.art_steps.specs.Act.{act}
@@ -20,17 +20,16 @@ abbrev pub SettledWordsRest : Type 0
 SettledWordsRest = (s : Shape) (n : ℕ) (words later : List ℕ) → IsAtRest s n words → IsSettled s words later → IsTree s later
     → HasOldOrNewRows s words later → IsAtRest s (n + 1) later
 
--- The call runs alone to a legal reply, and leaves words that mean the map after it, and are at rest if each has 64 bits.
+-- The call runs alone to a legal reply, and leaves a table at rest that means the map after it, with at most one claim more of each kind.
 pub record DoesOrRefuses (s : Shape) (variant : Variant) (n : ℕ) (words : List ℕ) (m : Contents) (call : Call) : Type 0 where
   pub reply : Reply
   pub later : List ℕ
   pub runs : RunsAlone (act s variant call) words later reply
   pub legal : IsLegalReply m call reply
-  pub long : length later ≡ table_words s
-  pub rests : All (λ w. w < 2 ^ 64) later → IsAtRest s (n + 1) later
+  pub rests : IsAtRest s (n + 1) later
   pub means : Means s later (after_reply m call reply)
 
 -- In every variant an insert, alone on a table at rest, does what it does on the map, or is refused and changes nothing of the map.
 abbrev pub InsertsAreTheMaps : Type 0
 InsertsAreTheMaps = (s : Shape) (variant : Variant) (n : ℕ) (words : List ℕ) (m : Contents) (key value : ℕ) → is_tree_call (Insert key value) ≡ true
-    → n < 2 ^ 62 → IsAtRest s n words → Means s words m → DoesOrRefuses s variant n words m (Insert key value)
+    → IsWithinLimits s → n < 2 ^ 62 → IsAtRest s n words → Means s words m → DoesOrRefuses s variant n words m (Insert key value)

@@ -18,4 +18,5 @@ returns c = inserts-are-the-maps (record {
   row_written = row_filled;
   read = c.words_are_read_back.ensures;
   versions = c.versions_say.ensures;
+  sized = c.words_are_small.ensures;
 })
