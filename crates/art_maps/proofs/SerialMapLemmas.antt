@@ -15,9 +15,9 @@ use Rattle.art_core.specs.Claims.{SerialIsMap}
 use Rattle.art_trees.specs.Trees.{IsAtRest, TablesOpenAtRest, SameTreesAreOne}
 use Rattle.art_alone.specs.Laws.{DoesAlone, SeeksAreTheMaps}
 use Rattle.art_walks.specs.Walks.{ScansAreTheMaps}
+use Rattle.art_inserts.specs.Laws.{InsertsAreTheMaps}
 use Rattle.art_serial.proofs.KeptLemmas.{MayRunAlone, IsKept}
 use Rattle.art_serial.proofs.StartKeptLemmas.{serial-run-keeps}
-use Rattle.art_maps.specs.Laws.{InsertsKeep}
 use Rattle.art_maps.proofs.LengthLemmas.{after_reply-few}
 use Rattle.art_maps.proofs.ClockLemmas.{rest-more, set-rows, set-rests}
 
@@ -63,7 +63,7 @@ module _ (same : SameTreesAreOne) (s : Shape) where
     };
   }
 
-  module _ (within : IsWithinLimits s) (seeks : SeeksAreTheMaps) (scans : ScansAreTheMaps) (inserts : InsertsKeep) where
+  module _ (within : IsWithinLimits s) (seeks : SeeksAreTheMaps) (scans : ScansAreTheMaps) (inserts : InsertsAreTheMaps) where
     each : (variant : Variant) (n : ℕ) (words : List ℕ) (m : Contents) (call : Call) → IsTrue (is_tree_call call) → n < MAX_CALLS → IsMap s n words m
         → MayRunAlone s variant (IsMap s) n words m call
     each variant n words m (Get key) tree few h =
@@ -91,7 +91,7 @@ module _ (same : SameTreesAreOne) (s : Shape) where
       calls = each variant;
     }
 
-pub serial-is-map : TablesOpenAtRest → SameTreesAreOne → SeeksAreTheMaps → ScansAreTheMaps → InsertsKeep → SerialIsMap
+pub serial-is-map : TablesOpenAtRest → SameTreesAreOne → SeeksAreTheMaps → ScansAreTheMaps → InsertsAreTheMaps → SerialIsMap
 serial-is-map opens same seeks scans inserts plan start words schedule s run full serial =
     let within = run.within.shape in
     let opened = opens plan.shape within.root in

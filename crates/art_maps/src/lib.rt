@@ -3,4 +3,4 @@
 
 mod laws;
 
-pub use laws::inserts_make_serial_maps;
+pub use laws::serial_is_map;
