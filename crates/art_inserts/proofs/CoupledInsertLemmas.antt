@@ -104,7 +104,7 @@ module _ (g : Given) (s : Shape) (variant : Variant) (n : ℕ) (words : List ℕ
   above-near [] r slot h now near = near
   above-near (a ∷ []) r slot h now near =
       near-version s n words rest {held2 = Among s n words rest (r ∷ [])} {dead2 = Nothing} (released_word a.kept) near h.at-above.leads.reached
-          (released-small a.kept)
+      (released-small a.kept)
       (λ d. released-live a.kept h.at-above.held.live) (λ d. released-free a.kept h.at-above.held.free) keep (λ w d ne. d)
     where
       keep : (w : ℕ) → (w ≡ r.base) ⊎ ((w ≡ a.base) ⊎ ⊥) → (w ≡ a.base → ⊥) → (w ≡ r.base) ⊎ ⊥
@@ -121,7 +121,7 @@ module _ (g : Given) (s : Shape) (variant : Variant) (n : ℕ) (words : List ℕ
       → Does (unlock_all rows >> (insert_in c (r ∷ []) slot child >>= λ q. unlock r >> give q)) now
   leaf rows r above h a now near slot child at on no_row =
       after-part g s variant n words rest few bounded m means key value key_small value_small
-          {f = λ _. insert_in c (r ∷ []) slot child >>= λ q. unlock r >> give q}
+      {f = λ _. insert_in c (r ∷ []) slot child >>= λ q. unlock r >> give q}
       (unlock_all-comes rows now)
       (ends-in g s variant n words rest few bounded m means key value key_small value_small r (with_unlocked rows now) a.held
       (above-near rows r above h now near)

@@ -144,7 +144,7 @@ module _ (g : Given) (s : Shape) (variant : Variant) (n : ℕ) (words : List ℕ
   unfolding put
   put-row r a none room =
       let (last, comes, outcome) = put-outcome g.puts g.put_written g.read s variant n words rest m means key value key_small value_small r (taken r words)
-          (is-held r a)
+      (is-held r a)
       (one-near r a) (byte_at c r.level) a.leads (byte r) none room
       ((g.ways s words m key r.base r.kind (byte_at c r.level) rest.tree means a.leads).0 (ap (λ o. child_in s words o) none)) in
       after-part g s variant n words rest few bounded m means key value key_small value_small (take-comes [] r a) (record {
@@ -262,7 +262,7 @@ module _ (g : Given) (s : Shape) (variant : Variant) (n : ℕ) (words : List ℕ
       → Does (step_down c r b k >>= λ q. insert_below c (insert_from c) r slot q (path_differs_at c q)) words
   row fuel more r a enough slot b k at on =
       after-part g s variant n words rest few bounded m means key value key_small value_small
-          {f = λ q. insert_below c (insert_from c) r slot q (path_differs_at c q)}
+      {f = λ q. insert_below c (insert_from c) r slot q (path_differs_at c q)}
       (down-comes r b k a.kept reached) (go (path_differs_at c found) refl)
     where
       reached : Reached s words b k
