@@ -1,22 +1,29 @@
 -- The history of a machine is that of each state that it shows.
-use Rattle.std.proofs.Common.{◌≡◌, ℕ, suc, ◌+◌, List, [], ◌∷◌, ◌++◌, length, map, arith, refl, ap, subst, ◌∙◌}
+use Rattle.std.proofs.Common.{◌≡◌, ℕ, suc, ◌+◌, List, [], ◌∷◌, ◌++◌, length, map, arith, refl, ap, sym, subst, ◌∙◌, ◌⊎◌}
 use Rattle.std.specs.Prelude.{Some, slice_get, flat_map}
 use Rattle.std.proofs.Math.Logic.{∥∥₁_elim, ∥∥₁_map}
 use Rattle.std.proofs.Props.{props}
+use Rattle.events.specs.declared.event.Event.{Event}
 use Rattle.events.specs.Histories.{AreHistoryEvents}
+use Rattle.events.specs.HistoryView.{HistoryView}
+use Rattle.events.specs.Operations.{operations}
 use Rattle.events.specs.Starts.{IsStart}
 use Rattle.logs.specs.Logs.{events_by_stamp}
 use Rattle.map_object.specs.MapObject.{Contents}
+use Rattle.orders.specs.Orders.{IsLegal, after_calls}
 use Rattle.art_rows.specs.declared.table.Shape.{Shape}
 use Rattle.art_steps.specs.declared.variant.Variant.{Variant}
+use Rattle.art_steps.specs.declared.variant.Variant.TheVariants.{Coupled, Optimistic}
 use Rattle.art_core.specs.declared.process.Process.{Process}
 use Rattle.art_core.specs.Core.{Plan, State, history_of}
-use Rattle.art_core.specs.Claims.{IsRun}
+use Rattle.art_core.specs.Claims.{IsRun, IsSerial, SerialIsMap}
+use Rattle.art_core.specs.Meaning.{Means}
 use Rattle.art_core.proofs.HistoryLemmas.{logs-are-history}
 use Rattle.machine.specs.declared.runner.Runner.{Runner}
 use Rattle.machine.specs.declared.machines.Machine.{Machine}
 use Rattle.machine.specs.Fitting.{FitsProcess}
-use Rattle.machine.specs.Machines.{IsReached, Shows}
+use Rattle.machine.specs.Machines.{IsReached, Shows, start_of}
+use Rattle.machine.specs.Serial.{DoesTheMap}
 use Rattle.machine.specs.UnderWay.{IsUnderWay}
 
 is-run : (shape : Shape) (variant : Variant) (start : Contents) (left : ℕ) (words : List ℕ) (runners : List Runner)
@@ -61,3 +68,26 @@ pub recorded-start : (m : Machine) → IsStart m.start.items
 recorded-start m = ∥∥₁_elim m.under_way (Prim.hlevel props) (λ (u : IsUnderWay m.shape m.variant m.start.items m.left m.words.items m.runners.items).
     let few = u.start_within.few in
     record { rising = u.start_within.rising; few = omega (arith, few) })
+
+-- a serial history of a full tree is that of the map
+pub does-the-map : SerialIsMap → (m : Machine) (h : HistoryView)
+    → ((plan : Plan) (s : State) → Shows plan m s → h ≡ record { start = start_of m; events = history_of s }) → ∥ DoesTheMap m h ∥₁
+does-the-map serial m h is = ∥∥₁_map (reached m) go
+  where
+    Legal : Contents → List Event → Type 0
+    Legal start events = IsLegal start (operations events)
+
+    after : HistoryView → Contents
+    after h = after_calls h.start (operations h.events)
+
+    go : IsReached m → DoesTheMap m h
+    go r full serial_h =
+        let same : h ≡ record { start = start_of m; events = history_of r.state } = is r.plan r.state r.shows in
+        let (legal, means) = serial r.plan (start_of m) r.first r.schedule r.state r.run (subst (λ v. (v ≡ Coupled) ⊎ (v ≡ Optimistic))
+            (sym r.shows.variant) full)
+        (subst IsSerial (ap (λ h. h.events) same) serial_h) in (
+          subst (λ (h : HistoryView). Legal h.start h.events) (sym same) legal,
+          subst (λ s. Means s m.words.items (after h)) r.shows.shape
+              (subst (λ ws. Means r.plan.shape ws (after h)) r.shows.words
+              (subst (λ (h : HistoryView). Means r.plan.shape r.state.words (after h)) (sym same) means)),
+        )

@@ -6,3 +6,4 @@ pub mod Refusals
 pub mod Running
 pub mod Opening
 pub mod Starting
+pub mod Serial

@@ -1,10 +1,11 @@
 use Rattle.std.proofs.Common.{◌≡◌, IfOk, flat_map, ap, sym, subst, ◌∙◌}
+use Rattle.std.proofs.lemmas.Result.{IfOk-weaker}
 use Rattle.events.specs.Histories.{AreHistoryEvents}
 use Rattle.events.specs.HistoryView.{HistoryView}
 use Rattle.events.specs.Starts.{IsStart}
 use Rattle.logs.specs.Logs.{events_by_stamp}
 use Rattle.machine.specs.Machines.{start_of}
-use Rattle.machine.proofs.RecordLemmas.{reached, shown-history, recorded-history, recorded-start}
+use Rattle.machine.proofs.RecordLemmas.{reached, shown-history, recorded-history, recorded-start, does-the-map}
 use Rattle.machine.proofs.machines.Machine.history.Goals as goal
 
 pub returns-in_err-stamped-clause-reached : goal.returns-in_err-stamped-clause-reached
@@ -31,3 +32,12 @@ returns-clause-history c = λ plan s shows.
 
 pub returns-clause-reached : goal.returns-clause-reached
 returns-clause-reached c = reached c.args.self.now
+
+pub returns-clause-serial : goal.returns-clause-serial
+returns-clause-serial c =
+    IfOk-weaker c.history_by_stamp.result _ _ (λ (found : HistoryView) is. does-the-map c.serial_is_map.ensures c.args.self.now found
+    (λ plan s shows. is
+    ∙ ap (λ start. record { start = start; events = events_by_stamp c.in_ok-stamped.stamped.items }) (c.in_ok-start.ensures.items ∙ c.deref-2.ensures.value)
+    ∙ ap (λ events. record { start = start_of c.args.self.now; events = events })
+    (ap events_by_stamp (c.in_ok-stamped.ensures ∙ ap (flat_map (λ r. r.log.items)) c.deref.ensures.value)
+    ∙ sym (shown-history plan c.args.self.now s shows)))) c.history_by_stamp.ensures
