@@ -84,7 +84,7 @@ does-the-map serial m h is = ∥∥₁_map (reached m) go
     go r full serial_h =
         let same : h ≡ record { start = start_of m; events = history_of r.state } = is r.plan r.state r.shows in
         let (legal, means) = serial r.plan (start_of m) r.first r.schedule r.state r.run (subst (λ v. (v ≡ Coupled) ⊎ (v ≡ Optimistic))
-            (sym r.shows.variant) full)
+        (sym r.shows.variant) full)
         (subst IsSerial (ap (λ h. h.events) same) serial_h) in (
           subst (λ (h : HistoryView). Legal h.start h.events) (sym same) legal,
           subst (λ s. Means s m.words.items (after h)) r.shows.shape
