@@ -1,0 +1,237 @@
+/* Records what the threads of a program do at an ordered map, and writes it as a history for `bench judge`.
+ *
+ * Copy this header: C11 and the C library are all that it needs. While it records it takes no lock and no memory. An event
+ * is one atomic fetch_add, which draws its stamp, and one entry in the log of its process, which no other thread touches.
+ *
+ *     struct recording r;
+ *     recording_open(&r, 4, 1000, 0);               // 4 processes, up to 1,000 calls each, no room for scans
+ *     ...
+ *     recording_invoke_insert(&r, p, key, value);   // before the call does anything
+ *     found = map_insert(map, key, value, &old);
+ *     recording_answer(&r, p, found, old);          // after all that it does
+ *     ...
+ *     recording_write(&r, stdout);                  // once all threads are joined
+ *     recording_close(&r);
+ *
+ * Each process is one thread, or what one thread at a time does, and makes one call at a time. Its calls go through its own
+ * number p, from 0. A call answers 0, or -1 where it refused: then nothing is recorded and no stamp is drawn. A process
+ * whose answer was refused has to stop: its call stays without an answer, which is always true to say of it.
+ * docs/RECORDING.md says what has to hold of a recording for its verdict to mean something.
+ */
+#ifndef RECORDING_H
+#define RECORDING_H
+
+#include <inttypes.h>
+#include <stdatomic.h>
+#include <stdbool.h>
+#include <stddef.h>
+#include <stdint.h>
+#include <stdio.h>
+#include <stdlib.h>
+#include <string.h>
+
+enum { RECORDING_PROCESSES = 64, RECORDING_CALLS = 4096, RECORDING_PAIRS = 4096 };
+
+struct recording_pair { uint64_t key, value; };
+
+enum recording_kind { /* calls, then answers */
+    RECORDING_GET, RECORDING_INSERT, RECORDING_REMOVE, RECORDING_SCAN, RECORDING_REPLACE,
+    RECORDING_NONE, RECORDING_VALUE, RECORDING_LIST, RECORDING_REFUSED
+};
+
+/* An event: its words are those of the call, the value, or where a list of pairs begins and how many they are. */
+struct recording_event { uint64_t stamp, words[3]; enum recording_kind kind; unsigned process; };
+
+/* What one process has recorded. The logs of two processes share no line of a cache. */
+struct recording_log {
+    struct recording_event *events;
+    struct recording_pair *pairs;
+    size_t length, pairs_held;
+    char apart[128];
+};
+
+struct recording {
+    _Atomic uint64_t stamps;
+    char apart[128];
+    unsigned processes, calls_each;
+    size_t pairs_each, pairs_at_start;
+    const struct recording_pair *start;
+    struct recording_log logs[RECORDING_PROCESSES];
+};
+
+/* Gives all memory back. */
+static inline void recording_close(struct recording *r)
+{
+    for (unsigned p = 0; p < r->processes; p++) {
+        free(r->logs[p].events);
+        free(r->logs[p].pairs);
+    }
+    memset(r, 0, sizeof *r);
+}
+
+/* Opens a recording of so many processes (1 to 64), with at most so many calls each (4,096 for all together), and room for
+ * so many pairs in the answers of each process's scans. */
+static inline int recording_open(struct recording *r, unsigned processes, unsigned calls_each, size_t pairs_each)
+{
+    memset(r, 0, sizeof *r);
+    if (processes < 1 || processes > RECORDING_PROCESSES || calls_each > RECORDING_CALLS / processes
+        || pairs_each > SIZE_MAX / sizeof(struct recording_pair) - 1)
+        return -1;
+    r->processes = processes;
+    r->calls_each = calls_each;
+    r->pairs_each = pairs_each;
+    for (unsigned p = 0; p < processes; p++) {
+        r->logs[p].events = malloc((2 * (size_t)calls_each + 1) * sizeof(struct recording_event));
+        r->logs[p].pairs = malloc((pairs_each + 1) * sizeof(struct recording_pair));
+        if (!r->logs[p].events || !r->logs[p].pairs) {
+            recording_close(r);
+            return -1;
+        }
+    }
+    return 0;
+}
+
+/* Says what the map holds before the first call: pairs by rising key, which have to stay where they are until the history
+ * is written. */
+static inline int recording_start(struct recording *r, const struct recording_pair *pairs, size_t count)
+{
+    if (count > RECORDING_PAIRS)
+        return -1;
+    for (size_t i = 1; i < count; i++)
+        if (pairs[i - 1].key >= pairs[i].key)
+            return -1;
+    r->start = pairs;
+    r->pairs_at_start = count;
+    return 0;
+}
+
+/* Invocations and answers take turns, so an even length says that no call is open. */
+static inline bool recording_may(const struct recording *r, unsigned p, bool answer)
+{
+    return p < r->processes && r->logs[p].length < 2 * (size_t)r->calls_each && r->logs[p].length % 2 == answer;
+}
+
+static inline int recording_add(struct recording *r, unsigned p, enum recording_kind kind, uint64_t a, uint64_t b, uint64_t c)
+{
+    if (!recording_may(r, p, kind >= RECORDING_NONE))
+        return -1;
+    uint64_t stamp = atomic_fetch_add(&r->stamps, 1);
+    r->logs[p].events[r->logs[p].length++] = (struct recording_event){stamp, {a, b, c}, kind, p};
+    return 0;
+}
+
+/* Process p begins a call: to be noted before the call does anything. */
+static inline int recording_invoke_get(struct recording *r, unsigned p, uint64_t key)
+{
+    return recording_add(r, p, RECORDING_GET, key, 0, 0);
+}
+
+static inline int recording_invoke_insert(struct recording *r, unsigned p, uint64_t key, uint64_t value)
+{
+    return recording_add(r, p, RECORDING_INSERT, key, value, 0);
+}
+
+static inline int recording_invoke_remove(struct recording *r, unsigned p, uint64_t key)
+{
+    return recording_add(r, p, RECORDING_REMOVE, key, 0, 0);
+}
+
+/* All pairs from one key to another, both included, at one moment. */
+static inline int recording_invoke_scan(struct recording *r, unsigned p, uint64_t low, uint64_t high)
+{
+    return low > high ? -1 : recording_add(r, p, RECORDING_SCAN, low, high, 0);
+}
+
+/* The key holds `new_value` where it held `old`; else nothing changes. */
+static inline int recording_invoke_replace(struct recording *r, unsigned p, uint64_t key, uint64_t old, uint64_t new_value)
+{
+    return recording_add(r, p, RECORDING_REPLACE, key, old, new_value);
+}
+
+/* The open call of process p was answered by the value that had been at its key, or found none there: to be noted after all
+ * that the call does. */
+static inline int recording_answer(struct recording *r, unsigned p, bool found, uint64_t value)
+{
+    return recording_add(r, p, found ? RECORDING_VALUE : RECORDING_NONE, value, 0, 0);
+}
+
+/* The open scan was answered by these pairs, which are copied as they are. */
+static inline int recording_answer_pairs(struct recording *r, unsigned p, const struct recording_pair *pairs, size_t count)
+{
+    if (!recording_may(r, p, true) || count > RECORDING_PAIRS || count > r->pairs_each - r->logs[p].pairs_held)
+        return -1;
+    struct recording_log *log = &r->logs[p];
+    size_t first = log->pairs_held;
+    if (count > 0)
+        memcpy(log->pairs + first, pairs, count * sizeof *pairs);
+    log->pairs_held += count;
+    return recording_add(r, p, RECORDING_LIST, first, count, 0);
+}
+
+/* The open call was refused and changed nothing. */
+static inline int recording_answer_refused(struct recording *r, unsigned p)
+{
+    return recording_add(r, p, RECORDING_REFUSED, 0, 0, 0);
+}
+
+static inline void recording_write_pairs(FILE *out, const struct recording_pair *pairs, size_t count)
+{
+    fputc('[', out);
+    for (size_t i = 0; i < count; i++)
+        fprintf(out, "%s[%" PRIu64 ",%" PRIu64 "]", i ? "," : "", pairs[i].key, pairs[i].value);
+    fputc(']', out);
+}
+
+static inline void recording_write_event(const struct recording *r, FILE *out, const struct recording_event *e)
+{
+    static const char *const names[] = {"get", "insert", "remove", "scan", "replace"};
+    static const int words[] = {1, 2, 1, 2, 3};
+    if (e->kind < RECORDING_NONE) {
+        fprintf(out, "{\"invoke\":[\"%s\"", names[e->kind]);
+        for (int i = 0; i < words[e->kind]; i++)
+            fprintf(out, ",%" PRIu64, e->words[i]);
+        fputc(']', out);
+    } else {
+        fputs("{\"answer\":", out);
+        if (e->kind == RECORDING_VALUE)
+            fprintf(out, "%" PRIu64, e->words[0]);
+        else if (e->kind == RECORDING_LIST)
+            recording_write_pairs(out, r->logs[e->process].pairs + e->words[0], e->words[1]);
+        else
+            fputs(e->kind == RECORDING_NONE ? "null" : "\"refused\"", out);
+    }
+    fprintf(out, ",\"process\":%u}", e->process);
+}
+
+/* Writes the history: all events by rising stamp. To be called once no thread records any more. Answers -1 where memory
+ * is wanted or a write fails. */
+static inline int recording_write(const struct recording *r, FILE *out)
+{
+    size_t count = (size_t)r->stamps;
+    const struct recording_event **by_stamp = malloc((count + 1) * sizeof *by_stamp);
+    if (!by_stamp)
+        return -1;
+    bool is_plain = r->pairs_at_start == 0;
+    for (unsigned p = 0; p < r->processes; p++)
+        for (size_t i = 0; i < r->logs[p].length; i++) {
+            const struct recording_event *e = &r->logs[p].events[i];
+            by_stamp[e->stamp] = e;
+            is_plain = is_plain && e->kind != RECORDING_REPLACE;
+        }
+    fputs("{\"events\":[", out);
+    for (size_t i = 0; i < count; i++) {
+        if (i)
+            fputc(',', out);
+        recording_write_event(r, out, by_stamp[i]);
+    }
+    free((void *)by_stamp);
+    fputc(']', out);
+    if (!is_plain) {
+        fputs(",\"start\":", out);
+        recording_write_pairs(out, r->start, r->pairs_at_start);
+    }
+    fprintf(out, ",\"version\":%d}\n", is_plain ? 1 : 2);
+    return fflush(out) == 0 && !ferror(out) ? 0 : -1;
+}
+
+#endif
