@@ -1,5 +1,5 @@
 #!/usr/bin/env python3
-"""Runs the program on words and standard streams that no example has, and in little stack.
+"""Runs the program on words and standard streams that no example has, and in little stack and little memory.
 
     tests/words_and_streams.py
 
@@ -23,6 +23,7 @@ FULL = "/dev/full"
 LONGEST_TEXT = 16_777_216
 MOST_CALLS = 4096
 LITTLE_STACK = 256 * 1024
+LITTLE_MEMORY = 64 * 1024 * 1024
 
 # What a stream gets, as regular expressions over all its bytes.
 NOTHING = rb""
@@ -57,6 +58,19 @@ def with_little_stack():
     resource.setrlimit(resource.RLIMIT_STACK, (LITTLE_STACK, LITTLE_STACK))
 
 
+def with_little_memory():
+    resource.setrlimit(resource.RLIMIT_AS, (LITTLE_MEMORY, LITTLE_MEMORY))
+
+
+def wide_text(path):
+    """Writes a history of inserts that all overlap, so that any set of them may come first."""
+    insert = '{"invoke":["insert",%d,0],"process":%d}'
+    inserts = [insert % (process % 10, process) for process in range(30)]
+    scan = '{"invoke":["scan",0,9],"process":30},{"answer":[[0,1]],"process":30}'
+    with open(path, "w", encoding="utf-8") as text:
+        text.write('{"events":[' + ",".join([*inserts, scan]) + '],"version":1}')
+
+
 def deep_text(path):
     """Writes a history whose calls are all in one segment, and each of them comes after all before it."""
     call = '{"invoke":["get",5],"process":0},{"answer":null,"process":0}'
@@ -83,6 +97,16 @@ def runs(folder):
     report = re.escape(f'{{"order":[{order}],"verdict":"yes"}}\n'.encode())
     with open(deep, "rb") as source:
         yield "a deep search in little stack", run(["judge"], source, before=with_little_stack), (0, report, NOTHING)
+
+    with open(deep, "rb") as source:
+        # Where there is no room for the stacks of so many workers, fewer of them do the work.
+        words = ["judge", "--workers", "64"]
+        yield "many workers in little memory", run(words, source, before=with_little_memory), (0, report, NOTHING)
+    wide = os.path.join(folder, "wide")
+    wide_text(wide)
+    with open(wide, "rb") as source:
+        words = ["judge", "--budget", "1000000"]
+        yield "a wide search in little memory", run(words, source, before=with_little_memory), (4, NOTHING, rb"memory\n")
 
     unreadable = os.open(EXAMPLES, os.O_RDONLY)
     yield "input that is a folder", run(["check"], unreadable), (6, NOTHING, rb"io\n")
