@@ -1,2 +1,0 @@
-mod ReadText
-mod WholeText

@@ -1,18 +1,15 @@
 // What the words of the command line ask for, done.
 ghost use Rattle.std.specs.Prelude.{◌≡◌, ◌<◌, IfOk, map, string_bytes};
 ghost use Rattle.clap.specs.Walk.{texts};
-ghost use Rattle.bench.specs.Ends.{change};
+ghost use Rattle.outcomes.specs.Ends.{change};
+ghost use Rattle.outcomes.specs.Runs.{IsRun};
+ghost use Rattle.outcomes.specs.Statuses.{words_status};
 ghost use Rattle.bench.specs.Outcomes.{IsWordsOutcome};
-ghost use Rattle.bench.specs.Runs.{IsRun};
-ghost use Rattle.bench.specs.Statuses.{words_status};
 
-use crate::check::run_check;
-use crate::ends::write_outcome;
-use crate::generate::run_generate;
-use crate::outcome::Outcome;
-use crate::replay::run_replay;
-use crate::verdict::run_judge;
 use command_line::{Line, read_line};
+use history_engines::{run_check, run_judge};
+use outcomes::{Outcome, write_outcome};
+use plan_engines::{run_generate, run_replay};
 use pool::Gate;
 use std::alloc::{AllocError, Global};
 use std::thread::Threads;

@@ -5,20 +5,12 @@
 //! file gives it the words and the standard streams.
 #![tactic(auto)]
 
-mod check;
 mod command;
-mod ends;
-mod generate;
-mod lines;
-mod outcome;
-mod replay;
 #[cfg(test)]
 mod tests;
-mod verdict;
 
 use command::{run, texts_of};
-use ends::write_outcome;
-use outcome::Outcome;
+use outcomes::{Outcome, write_outcome};
 use pool::OpenGate;
 use std::env;
 use std::io::ErrorKind;

@@ -1,10 +1,8 @@
 // Runs of the program over ends in memory, with lines worked out by hand.
 
-use crate::check::run_check;
 use crate::command::run;
-use crate::lines::history_fault_line;
 use command_line::{LineFault, read_line};
-use events::HistoryFault;
+use history_engines::worked_texts::*;
 use pool::{Gate, OpenGate};
 use std::alloc::{AllocError, Global};
 use std::process::Abort;
@@ -13,76 +11,6 @@ use std::test::Fail;
 use std::thread;
 use std::thread::Threads;
 use streams::memory_ends::{MemorySink, MemorySource};
-
-// `+0 insert 5 7, -0 none, +0 get 5, -0 7`
-const INSERT_THEN_GET: &str = r#"{"events":[
-    {"invoke":["insert",5,7],"process":0},{"answer":null,"process":0},
-    {"invoke":["get",5],"process":0},{"answer":7,"process":0}],"version":1}"#;
-
-// `+0 insert 5 7, -0 none, +1 get 5, -1 none`
-const MISSED_INSERT: &str = r#"{"events":[
-    {"invoke":["insert",5,7],"process":0},{"answer":null,"process":0},
-    {"invoke":["get",5],"process":1},{"answer":null,"process":1}],"version":1}"#;
-
-// `+0 insert 5 7, +1 get 5, -1 none, -0 none`
-const OVERLAPPING_INSERT: &str = r#"{"events":[
-    {"invoke":["insert",5,7],"process":0},{"invoke":["get",5],"process":1},
-    {"answer":null,"process":1},{"answer":null,"process":0}],"version":1}"#;
-
-// `+0 insert 5 7, +1 get 5, -1 7`
-const SEEN_PENDING_INSERT: &str = r#"{"events":[
-    {"invoke":["insert",5,7],"process":0},
-    {"invoke":["get",5],"process":1},{"answer":7,"process":1}],"version":1}"#;
-
-// the same, then `+1 get 5, -1 none`
-const LOST_PENDING_INSERT: &str = r#"{"events":[
-    {"invoke":["insert",5,7],"process":0},
-    {"invoke":["get",5],"process":1},{"answer":7,"process":1},
-    {"invoke":["get",5],"process":1},{"answer":null,"process":1}],"version":1}"#;
-
-// `+0 insert 1 10, +1 get 1, +2 insert 9 90, -2 none, -1 none, -0 none, +1 scan 0 100`
-const PENDING_SCAN: &str = r#"{"events":[
-    {"invoke":["insert",1,10],"process":0},{"invoke":["get",1],"process":1},
-    {"invoke":["insert",9,90],"process":2},{"answer":null,"process":2},
-    {"answer":null,"process":1},{"answer":null,"process":0},
-    {"invoke":["scan",0,100],"process":1}],"version":1}"#;
-
-// `+0 insert 5 7, -0 refused, +0 get 5, -0 none`
-const REFUSED_INSERT: &str = r#"{"events":[
-    {"invoke":["insert",5,7],"process":0},{"answer":"refused","process":0},
-    {"invoke":["get",5],"process":0},{"answer":null,"process":0}],"version":1}"#;
-
-// inserts at both ends of the keys, and a scan of them all
-const WHOLE_SCAN: &str = r#"{"events":[
-    {"invoke":["insert",0,1],"process":0},{"answer":null,"process":0},
-    {"invoke":["insert",18446744073709551615,2],"process":0},{"answer":null,"process":0},
-    {"invoke":["scan",0,18446744073709551615],"process":0},
-    {"answer":[[0,1],[18446744073709551615,2]],"process":0}],"version":1}"#;
-
-// the same, where the scan's pairs come the other way round
-const UNSORTED_SCAN: &str = r#"{"events":[
-    {"invoke":["insert",0,1],"process":0},{"answer":null,"process":0},
-    {"invoke":["insert",18446744073709551615,2],"process":0},{"answer":null,"process":0},
-    {"invoke":["scan",0,18446744073709551615],"process":0},
-    {"answer":[[18446744073709551615,2],[0,1]],"process":0}],"version":1}"#;
-
-// `+0 insert 5 7, +1 get 5, -1 none, -0 none, +2 get 9, -2 1`
-const SPENT_AND_REFUTED: &str = r#"{"events":[
-    {"invoke":["insert",5,7],"process":0},{"invoke":["get",5],"process":1},
-    {"answer":null,"process":1},{"answer":null,"process":0},
-    {"invoke":["get",9],"process":2},{"answer":1,"process":2}],"version":1}"#;
-
-// `+2 scan 1 2, +0 insert 1 10, -0 none, +0 insert 2 20, -0 none, -2 (2 20)`
-const TORN_SCAN: &str = r#"{"events":[
-    {"invoke":["scan",1,2],"process":2},
-    {"invoke":["insert",1,10],"process":0},{"answer":null,"process":0},
-    {"invoke":["insert",2,20],"process":0},{"answer":null,"process":0},
-    {"answer":[[2,20]],"process":2}],"version":1}"#;
-
-// `+0 insert 1 10, -0 none, +0 insert 9 90, -0 none`
-const TWO_KEYS: &str = r#"{"events":[
-    {"invoke":["insert",1,10],"process":0},{"answer":null,"process":0},
-    {"invoke":["insert",9,90],"process":0},{"answer":null,"process":0}],"version":1}"#;
 
 // Two gets at key 5, by one process.
 static TWO_GETS: [&str; 20] = [
@@ -131,8 +59,6 @@ static NO_PROCESS: [&str; 20] = [
     "--hi",
     "5",
 ];
-
-const EMPTY: &str = r#"{"events":[],"version":1}"#;
 
 // ---- whole runs
 
@@ -350,144 +276,6 @@ fn budgets_and_workers(rt: HostRuntime) -> Result<(), Fail> {
     Ok(())
 }
 
-// Each text is refused with this line by both subcommands.
-fn refuses<R: Threads + Sync + Abort>(
-    rt: &R,
-    alloc: Global,
-    text: &[u8],
-    fault: &str,
-) -> Result<(), AllocError> {
-    leaves(rt, alloc, "bench check 0 1", text, 3, "", fault)?;
-    leaves(rt, alloc, "bench judge", text, 3, "", fault)?;
-    Ok(())
-}
-
-// The text of a fault for people is its line without the word before it.
-#[test]
-fn fault_lines_are_the_texts_of_faults(rt: HostRuntime) -> Result<(), Fail> {
-    let faults = [
-        HistoryFault::TooLong,
-        HistoryFault::NotJson,
-        HistoryFault::Version,
-        HistoryFault::Shape { event: 7 },
-        HistoryFault::TooMany,
-        HistoryFault::NotWellFormed { event: 4095 },
-        HistoryFault::Start { pair: 4095 },
-    ];
-    for fault in &faults {
-        let line = history_fault_line(rt.alloc(), fault)?;
-        let text = format!(in rt.alloc(); "history: {fault}\n")?;
-        assert_eq!(rt; line.as_str(), text.as_str());
-    }
-    Ok(())
-}
-
-#[test]
-fn refused_texts(rt: HostRuntime) -> Result<(), Fail> {
-    let alloc = rt.alloc();
-    let texts = [
-        ("", "history: 2 NotJson\n"),
-        (r#"{"events":[],"version":3}"#, "history: 3 Version\n"),
-        (r#"{"events":[]}"#, "history: 3 Version\n"),
-        (
-            r#"{"events":[],"more":0,"version":1}"#,
-            "history: 3 Version\n",
-        ),
-        (r#"{"events":{},"version":1}"#, "history: 3 Version\n"),
-        ("[]", "history: 3 Version\n"),
-    ];
-    for (text, fault) in texts {
-        refuses(&rt, alloc, text.as_bytes(), fault)?;
-    }
-    let events = [
-        (
-            r#"{"answer":null,"process":1}"#,
-            "history: 6 NotWellFormed at event 0\n",
-        ),
-        (
-            r#"{"invoke":["scan",2,1],"process":0}"#,
-            "history: 4 Shape at event 0\n",
-        ),
-        (
-            r#"{"invoke":["get",5],"process":64}"#,
-            "history: 5 TooMany\n",
-        ),
-        (
-            r#"{"invoke":["scan",2,1],"process":64}"#,
-            "history: 4 Shape at event 0\n",
-        ),
-        (r#"{"answer":null,"process":64}"#, "history: 5 TooMany\n"),
-        (
-            r#"{"invoke":["get",-1],"process":0}"#,
-            "history: 4 Shape at event 0\n",
-        ),
-        (
-            r#"{"invoke":["get","5"],"process":0}"#,
-            "history: 4 Shape at event 0\n",
-        ),
-        (
-            r#"{"invoke":["get",5],"process":0,"time":1}"#,
-            "history: 4 Shape at event 0\n",
-        ),
-        (
-            r#"{"invoke":["get",5],"process":0},{"invoke":["get",5],"process":0}"#,
-            "history: 6 NotWellFormed at event 1\n",
-        ),
-    ];
-    for (events, fault) in events {
-        let text = format!(in alloc; "{{\"events\":[{events}],\"version\":1}}")?;
-        refuses(&rt, alloc, text.as_bytes(), fault)?;
-    }
-    let text = INSERT_THEN_GET.as_bytes();
-    for end in 0..text.len() {
-        refuses(&rt, alloc, &text[..end], "history: 2 NotJson\n")?;
-    }
-    Ok(())
-}
-
-// A text of some bytes, then so many of another.
-fn padded(alloc: Global, front: &[u8], byte: u8, count: usize) -> Result<Vec<u8>, AllocError> {
-    let mut text = Vec::from_slice(alloc, front)?;
-    for _ in 0..count {
-        text.push(byte)?;
-    }
-    Ok(text)
-}
-
-#[test]
-fn long_and_deep_texts(rt: HostRuntime) -> Result<(), Fail> {
-    let alloc = rt.alloc();
-    let most = padded(alloc, EMPTY.as_bytes(), b' ', 16_777_191)?;
-    leaves(&rt, alloc, "bench check", &most, 0, "ok\n", "")?;
-    let longer = padded(alloc, EMPTY.as_bytes(), b' ', 16_777_192)?;
-    refuses(&rt, alloc, &longer, "history: 1 TooLong\n")?;
-    let no_json = padded(alloc, b"", 255, 16_777_217)?;
-    refuses(&rt, alloc, &no_json, "history: 1 TooLong\n")?;
-    let mut nested = padded(alloc, b"", b'[', 100)?;
-    for _ in 0..100 {
-        nested.push(b']')?;
-    }
-    refuses(&rt, alloc, &nested, "history: 3 Version\n")?;
-    let deep = padded(alloc, b"", b'[', 100_000)?;
-    refuses(&rt, alloc, &deep, "history: 2 NotJson\n")?;
-    let not_text = padded(alloc, EMPTY.as_bytes(), 255, 1)?;
-    refuses(&rt, alloc, &not_text, "history: 2 NotJson\n")?;
-    Ok(())
-}
-
-// `+0 get 0, -0 none`, so many times.
-fn many_gets(alloc: Global, count: usize) -> Result<String, AllocError> {
-    let mut text = String::from_str(alloc, "{\"events\":[")?;
-    for i in 0..count {
-        if i > 0 {
-            text.push_str(",")?;
-        }
-        text.push_str(r#"{"invoke":["get",0],"process":0},{"answer":null,"process":0}"#)?;
-    }
-    text.push_str("],\"version\":1}")?;
-    Ok(text)
-}
-
 #[test]
 fn an_order_of_a_hundred_words(rt: HostRuntime) -> Result<(), Fail> {
     let alloc = rt.alloc();
@@ -500,25 +288,6 @@ fn an_order_of_a_hundred_words(rt: HostRuntime) -> Result<(), Fail> {
     leaves(&rt, alloc, &line, text.as_bytes(), 1, missing, "")?;
     line.push_str(" 99")?;
     leaves(&rt, alloc, &line, text.as_bytes(), 0, "ok\n", "")?;
-    Ok(())
-}
-
-#[test]
-fn as_many_calls_as_a_history_has(rt: HostRuntime) -> Result<(), Fail> {
-    let alloc = rt.alloc();
-    let mut order = Vec::new(alloc);
-    for number in 0..4096u32 {
-        order.push(number)?;
-    }
-    let most = many_gets(alloc, 4096)?;
-    let mut source = MemorySource::new(Vec::from_slice(alloc, most.as_bytes())?, 1000, None);
-    let mut out = MemorySink::new(Vec::new(alloc), 7, None);
-    let mut err = MemorySink::new(Vec::new(alloc), 7, None);
-    let status = run_check(alloc, &mut source, &mut out, &mut err, &order);
-    assert_eq!(rt; status, 0);
-    assert!(rt; out.bytes() == "ok\n".as_bytes() && err.bytes().is_empty());
-    let more = many_gets(alloc, 4097)?;
-    refuses(&rt, alloc, more.as_bytes(), "history: 5 TooMany\n")?;
     Ok(())
 }
 

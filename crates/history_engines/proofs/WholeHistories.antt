@@ -1,0 +1,70 @@
+-- The text of a history that was read up to one byte more than a text may have tells all that is to be told of the whole.
+use Rattle.std.proofs.Common.{ℕ, ◌+◌, ◌<◌, ◌≤◌, List, length, take, subst, arith, length-take}
+use Rattle.events.specs.HistoryView.{HistoryView}
+use Rattle.events.specs.declared.fault.HistoryFault.{HistoryFault}
+use Rattle.events.specs.declared.fault.HistoryFault.TheVariants as faults
+use Rattle.history_text.specs.Limits.{text_limit}
+use Rattle.history_text.specs.TextFaults.{IsTextFault}
+use Rattle.judge.specs.declared.verdict.Verdict.{Verdict}
+use Rattle.judge.specs.Judged.{IsJudged}
+use Rattle.outcomes.specs.declared.outcome.Answer.{Answer}
+use Rattle.outcomes.specs.declared.outcome.Answer.TheVariants.{Yes, No, Undecided}
+use Rattle.outcomes.proofs.WholeText.{same_text}
+use Rattle.history_engines.specs.Answers.{IsTextOf, IsHistoryRefusal, IsCheckAnswer, IsJudgeAnswer}
+
+-- a history that the text read spells is the one of the whole
+IsTextOf-whole : (text : List ℕ) (history : HistoryView) → IsTextOf (take (text_limit + 1) text) history → IsTextOf text history
+IsTextOf-whole text history h = subst (λ (t : List ℕ). IsTextOf t history) (same_text text_limit text h.spelled.json.fits) h
+
+-- a judgement of the text read is one of the whole
+IsJudged-whole : (text : List ℕ) (budget : ℕ) (verdict : Verdict) (report : List ℕ) → IsJudged budget (take (text_limit + 1) text) verdict report
+    → IsJudged budget text verdict report
+IsJudged-whole text budget verdict report h = subst (λ (t : List ℕ). IsJudged budget t verdict report) (same_text text_limit text h.spelled.json.fits) h
+
+whole : (text : List ℕ) (fault : HistoryFault) → length (take (text_limit + 1) text) ≤ text_limit → IsTextFault (take (text_limit + 1) text) fault
+    → IsTextFault text fault
+whole text fault fits h = subst (λ (t : List ℕ). IsTextFault t fault) (same_text text_limit text fits) h
+
+-- a fault of the text read is one of the whole
+IsTextFault-whole : (text : List ℕ) (fault : HistoryFault) → IsTextFault (take (text_limit + 1) text) fault → IsTextFault text fault
+IsTextFault-whole text faults.TooLong h = let size = length-take (text_limit + 1) text in let long : text_limit < length (take (text_limit + 1) text) =
+    h in omega (arith, size)
+IsTextFault-whole text faults.NotJson h = whole text faults.NotJson h.0 h
+IsTextFault-whole text faults.Version h = whole text faults.Version h.1.fits h
+IsTextFault-whole text (faults.Shape place) h = whole text (faults.Shape place) h.1.fits h
+IsTextFault-whole text faults.TooMany h = whole text faults.TooMany h.1.fits h
+IsTextFault-whole text (faults.NotWellFormed place) h = whole text (faults.NotWellFormed place) h.1.fits h
+IsTextFault-whole text (faults.Start pair) h = whole text (faults.Start pair) h.1.fits h
+IsTextFault-whole text faults.Memory h = tt
+
+-- a refusal of the text read is one of the whole
+pub IsHistoryRefusal-whole : (text bytes : List ℕ) → IsHistoryRefusal (take (text_limit + 1) text) bytes → IsHistoryRefusal text bytes
+IsHistoryRefusal-whole text bytes h =
+    (h.0, record { refused = IsTextFault-whole text h.0 h.1.refused; not_memory = h.1.not_memory }, h.2)
+
+-- an answer of `check` to the text read is one to the whole
+pub IsCheckAnswer-whole : (order text : List ℕ) (answer : Answer) (bytes : List ℕ) → IsCheckAnswer order (take (text_limit + 1) text) answer bytes
+    → IsCheckAnswer order text answer bytes
+IsCheckAnswer-whole order text Yes bytes h = ((h.0.0, IsTextOf-whole text h.0.0 h.0.1, h.0.2), h.1)
+IsCheckAnswer-whole order text No bytes h = (
+  h.0,
+  record {
+    history = h.1.history;
+    is_text = IsTextOf-whole text h.1.history h.1.is_text;
+    refused = h.1.refused;
+    not_memory = h.1.not_memory;
+  },
+  h.2,
+)
+IsCheckAnswer-whole order text Undecided bytes h = h
+
+-- an answer of `judge` to the text read is one to the whole
+pub IsJudgeAnswer-whole : (budget : ℕ) (text : List ℕ) (answer : Answer) (bytes : List ℕ) → IsJudgeAnswer budget (take (text_limit + 1) text) answer bytes
+    → IsJudgeAnswer budget text answer bytes
+IsJudgeAnswer-whole budget text answer bytes h = record {
+  verdict = h.verdict;
+  report = h.report;
+  judged = IsJudged-whole text budget h.verdict h.report h.judged;
+  answer_is = h.answer_is;
+  bytes_are = h.bytes_are;
+}

@@ -1,0 +1,58 @@
+-- What the program answers to the text of a history, with an order of its calls or with a budget.
+use Rattle.std.specs.Prelude.{◌≡◌, ◌≢◌, ℕ, List}
+use Rattle.events.specs.HistoryView.{HistoryView}
+use Rattle.events.specs.declared.fault.HistoryFault.{HistoryFault}
+use Rattle.events.specs.declared.fault.HistoryFault.TheVariants as histories
+use Rattle.events.specs.Histories.{IsHistory}
+use Rattle.events.specs.Operations.{operations}
+use Rattle.orders.specs.Orders.{IsOrderOfHistory}
+use Rattle.history_text.specs.Texts.{Spells}
+use Rattle.history_text.specs.TextFaults.{IsTextFault}
+use Rattle.certificate.specs.declared.fault.OrderFault.{OrderFault}
+use Rattle.certificate.specs.declared.fault.OrderFault.TheVariants as orders
+use Rattle.certificate.specs.Faults.{IsRefusedFor}
+use Rattle.judge.specs.declared.verdict.Verdict.{Verdict}
+use Rattle.judge.specs.Judged.{IsJudged}
+use Rattle.outcomes.specs.declared.outcome.Answer.{Answer}
+use Rattle.outcomes.specs.declared.outcome.Answer.TheVariants.{Yes, No, Undecided}
+use Rattle.outcomes.specs.Lines.{line, ok_line, order_fault_line, history_fault_line}
+use Rattle.outcomes.specs.Statuses.{answer_of}
+
+-- the text spells this, and it is a history
+pub record IsTextOf (text : List ℕ) (history : HistoryView) : Type 0 where
+  pub spelled : Spells text history
+  pub is_history : IsHistory history
+
+-- the text spells a history, and the numbers are an order of its calls
+abbrev pub SpellsOrdered : List ℕ → List ℕ → Type 0
+SpellsOrdered text order = (history : HistoryView) × IsTextOf text history × IsOrderOfHistory history order
+
+-- the text spells a history, and for this fault the numbers are no order of its calls
+pub record SpellsUnordered (text order : List ℕ) (fault : OrderFault) : Type 0 where
+  pub history : HistoryView
+  pub is_text : IsTextOf text history
+  pub refused : IsRefusedFor history.start (operations history.events) order fault
+  pub not_memory : fault ≢ orders.Memory
+
+-- for this fault the text spells no history
+pub record SpellsNone (text : List ℕ) (fault : HistoryFault) : Type 0 where
+  pub refused : IsTextFault text fault
+  pub not_memory : fault ≢ histories.Memory
+
+-- a text that spells no history is refused with this line, that of its first fault
+abbrev pub IsHistoryRefusal : List ℕ → List ℕ → Type 0
+IsHistoryRefusal text bytes = (fault : HistoryFault) × SpellsNone text fault × (bytes ≡ history_fault_line fault)
+
+-- `check` answers the order and the text so: yes with `ok`, or no with the order's first fault
+abbrev pub IsCheckAnswer : List ℕ → List ℕ → Answer → List ℕ → Type 0
+IsCheckAnswer order text Yes bytes = SpellsOrdered text order × (bytes ≡ ok_line)
+IsCheckAnswer order text No bytes = (fault : OrderFault) × SpellsUnordered text order fault × (bytes ≡ order_fault_line fault)
+IsCheckAnswer order text Undecided bytes = ⊥
+
+-- `judge` answers the text at the budget so: with the report of a verdict on the history
+pub record IsJudgeAnswer (budget : ℕ) (text : List ℕ) (answer : Answer) (bytes : List ℕ) : Type 0 where
+  pub verdict : Verdict
+  pub report : List ℕ
+  pub judged : IsJudged budget text verdict report
+  pub answer_is : answer ≡ answer_of verdict
+  pub bytes_are : bytes ≡ line report

@@ -1,0 +1,50 @@
+// `bench check`: whether the words are an order of the history on the input.
+ghost use Rattle.std.specs.Prelude.{◌<◌, Some};
+ghost use Rattle.history_engines.specs.Answers.{IsCheckAnswer, IsHistoryRefusal};
+ghost use Rattle.outcomes.specs.Ends.{change};
+ghost use Rattle.history_engines.specs.Outcomes.{IsCheckOutcome};
+ghost use Rattle.outcomes.specs.Outcomes.{IsTextOutcome};
+ghost use Rattle.outcomes.specs.Runs.{IsRun};
+
+use certificate::check;
+use history_text::{MAX_TEXT, read_history};
+use outcomes::{Answer, Outcome, text_from, write_outcome};
+use std::alloc::Global;
+use streams::{Sink, Source};
+
+/// Reads a history text to the end of the source, or until it is too long, and tests whether the numbers
+/// are an order of its calls. Answers the exit status.
+pub fn run_check<S: Source, O: Sink, F: Sink>(
+    alloc: Global,
+    source: &mut S,
+    output: &mut O,
+    faults: &mut F,
+    order: &[u32],
+) -> u8
+    requires source { S.failures source.old < u64.MAX }
+    requires output { O.failures output.old < u64.MAX }
+    requires faults { F.failures faults.old < u64.MAX }
+    ensures { IsRun
+        (IsCheckOutcome order.now (change S.remaining S.failures source.old source.new))
+        (change O.written O.failures output.old output.new)
+        (change F.written F.failures faults.old faults.new) result }
+{
+    match text_from(alloc, source, MAX_TEXT) {
+        Ok(text) => write_outcome(output, faults, &check_outcome(alloc, &text, order)),
+        Err(outcome) => write_outcome(output, faults, &outcome),
+    }
+}
+
+/// Whether the numbers are an order of the calls of the history that the text spells: yes, or the first fault.
+pub fn check_outcome(alloc: Global, text: &[u8], order: &[u32]) -> Outcome
+    ensures { IsTextOutcome (IsCheckAnswer order.now) IsHistoryRefusal (Some text.now) result }
+{
+    let history = match read_history(alloc, text) {
+        Ok(history) => history,
+        Err(fault) => return Outcome::of_history_fault(alloc, &fault),
+    };
+    match check(alloc, &history, order) {
+        Ok(()) => Outcome::answered(Answer::Yes, String::from_str(alloc, "ok\n")),
+        Err(fault) => Outcome::of_order_fault(alloc, &fault),
+    }
+}

@@ -1,0 +1,164 @@
+// Texts that are refused, and texts as long as they may be, on ends in memory, with lines worked out by hand.
+
+use crate::worked_texts::{EMPTY, INSERT_THEN_GET, many_gets};
+use crate::{run_check, run_judge};
+use pool::OpenGate;
+use std::alloc::{AllocError, Global};
+use std::process::Abort;
+use std::test::Fail;
+use std::thread::Threads;
+use streams::memory_ends::{MemorySink, MemorySource};
+
+// Whether these calls are an order of the text's history: compares the status and what was written.
+fn checks(
+    rt: &impl Abort,
+    alloc: Global,
+    order: &[u32],
+    text: &[u8],
+    status: u8,
+    output: &str,
+    faults: &str,
+) -> Result<(), AllocError> {
+    let mut source = MemorySource::new(Vec::from_slice(alloc, text)?, 1_000_000, None);
+    let mut out = MemorySink::new(Vec::new(alloc), 7, None);
+    let mut err = MemorySink::new(Vec::new(alloc), 7, None);
+    let answer = run_check(alloc, &mut source, &mut out, &mut err, order);
+    assert_eq!(rt; answer, status);
+    assert!(rt; out.bytes() == output.as_bytes());
+    assert!(rt; err.bytes() == faults.as_bytes());
+    Ok(())
+}
+
+// Each text is refused with this line by both engines.
+fn refuses<R: Threads + Sync + Abort>(
+    rt: &R,
+    alloc: Global,
+    text: &[u8],
+    fault: &str,
+) -> Result<(), AllocError> {
+    checks(rt, alloc, &[0, 1], text, 3, "", fault)?;
+    let mut source = MemorySource::new(Vec::from_slice(alloc, text)?, 1_000_000, None);
+    let mut out = MemorySink::new(Vec::new(alloc), 7, None);
+    let mut err = MemorySink::new(Vec::new(alloc), 7, None);
+    let answer = run_judge(
+        rt,
+        alloc,
+        &mut source,
+        &mut out,
+        &mut err,
+        100_000,
+        1,
+        &OpenGate,
+    );
+    assert_eq!(rt; answer, 3, "{fault}");
+    assert!(rt; out.bytes().is_empty(), "{fault}");
+    assert!(rt; err.bytes() == fault.as_bytes(), "{fault}");
+    Ok(())
+}
+
+#[test]
+fn refused_texts(rt: HostRuntime) -> Result<(), Fail> {
+    let alloc = rt.alloc();
+    let texts = [
+        ("", "history: 2 NotJson\n"),
+        (r#"{"events":[],"version":3}"#, "history: 3 Version\n"),
+        (r#"{"events":[]}"#, "history: 3 Version\n"),
+        (
+            r#"{"events":[],"more":0,"version":1}"#,
+            "history: 3 Version\n",
+        ),
+        (r#"{"events":{},"version":1}"#, "history: 3 Version\n"),
+        ("[]", "history: 3 Version\n"),
+    ];
+    for (text, fault) in texts {
+        refuses(&rt, alloc, text.as_bytes(), fault)?;
+    }
+    let events = [
+        (
+            r#"{"answer":null,"process":1}"#,
+            "history: 6 NotWellFormed at event 0\n",
+        ),
+        (
+            r#"{"invoke":["scan",2,1],"process":0}"#,
+            "history: 4 Shape at event 0\n",
+        ),
+        (
+            r#"{"invoke":["get",5],"process":64}"#,
+            "history: 5 TooMany\n",
+        ),
+        (
+            r#"{"invoke":["scan",2,1],"process":64}"#,
+            "history: 4 Shape at event 0\n",
+        ),
+        (r#"{"answer":null,"process":64}"#, "history: 5 TooMany\n"),
+        (
+            r#"{"invoke":["get",-1],"process":0}"#,
+            "history: 4 Shape at event 0\n",
+        ),
+        (
+            r#"{"invoke":["get","5"],"process":0}"#,
+            "history: 4 Shape at event 0\n",
+        ),
+        (
+            r#"{"invoke":["get",5],"process":0,"time":1}"#,
+            "history: 4 Shape at event 0\n",
+        ),
+        (
+            r#"{"invoke":["get",5],"process":0},{"invoke":["get",5],"process":0}"#,
+            "history: 6 NotWellFormed at event 1\n",
+        ),
+    ];
+    for (events, fault) in events {
+        let text = format!(in alloc; "{{\"events\":[{events}],\"version\":1}}")?;
+        refuses(&rt, alloc, text.as_bytes(), fault)?;
+    }
+    let text = INSERT_THEN_GET.as_bytes();
+    for end in 0..text.len() {
+        refuses(&rt, alloc, &text[..end], "history: 2 NotJson\n")?;
+    }
+    Ok(())
+}
+
+// A text of some bytes, then so many of another.
+fn padded(alloc: Global, front: &[u8], byte: u8, count: usize) -> Result<Vec<u8>, AllocError> {
+    let mut text = Vec::from_slice(alloc, front)?;
+    for _ in 0..count {
+        text.push(byte)?;
+    }
+    Ok(text)
+}
+
+#[test]
+fn long_and_deep_texts(rt: HostRuntime) -> Result<(), Fail> {
+    let alloc = rt.alloc();
+    let most = padded(alloc, EMPTY.as_bytes(), b' ', 16_777_191)?;
+    checks(&rt, alloc, &[], &most, 0, "ok\n", "")?;
+    let longer = padded(alloc, EMPTY.as_bytes(), b' ', 16_777_192)?;
+    refuses(&rt, alloc, &longer, "history: 1 TooLong\n")?;
+    let no_json = padded(alloc, b"", 255, 16_777_217)?;
+    refuses(&rt, alloc, &no_json, "history: 1 TooLong\n")?;
+    let mut nested = padded(alloc, b"", b'[', 100)?;
+    for _ in 0..100 {
+        nested.push(b']')?;
+    }
+    refuses(&rt, alloc, &nested, "history: 3 Version\n")?;
+    let deep = padded(alloc, b"", b'[', 100_000)?;
+    refuses(&rt, alloc, &deep, "history: 2 NotJson\n")?;
+    let not_text = padded(alloc, EMPTY.as_bytes(), 255, 1)?;
+    refuses(&rt, alloc, &not_text, "history: 2 NotJson\n")?;
+    Ok(())
+}
+
+#[test]
+fn as_many_calls_as_a_history_has(rt: HostRuntime) -> Result<(), Fail> {
+    let alloc = rt.alloc();
+    let mut order = Vec::new(alloc);
+    for number in 0..4096u32 {
+        order.push(number)?;
+    }
+    let most = many_gets(alloc, 4096)?;
+    checks(&rt, alloc, &order, most.as_bytes(), 0, "ok\n", "")?;
+    let more = many_gets(alloc, 4097)?;
+    refuses(&rt, alloc, more.as_bytes(), "history: 5 TooMany\n")?;
+    Ok(())
+}

@@ -1,0 +1,67 @@
+// `bench judge`: whether the history on the input has an order at all.
+ghost use Rattle.std.specs.Prelude.{◌<◌, ◌≤◌, Some};
+ghost use Rattle.history_engines.specs.Answers.{IsHistoryRefusal, IsJudgeAnswer};
+ghost use Rattle.outcomes.specs.Ends.{change};
+ghost use Rattle.history_engines.specs.Outcomes.{IsJudgeOutcome};
+ghost use Rattle.outcomes.specs.Outcomes.{IsTextOutcome};
+ghost use Rattle.outcomes.specs.Runs.{IsRun};
+
+use history_text::MAX_TEXT;
+use judge::{JudgeFault, MAX_BUDGET, judge_text};
+use outcomes::{Answer, Outcome, line_of, text_from, write_outcome};
+use pool::{Gate, MAX_WORKERS};
+use std::alloc::Global;
+use std::thread::Threads;
+use streams::{Sink, Source};
+
+/// Reads a history text to the end of the source, or until it is too long, and judges it: so many workers
+/// search its segments side by side, at most `budget` configurations of each, and pass the gate before each
+/// segment. Answers the exit status.
+pub fn run_judge<R: Threads + Sync, S: Source, O: Sink, F: Sink, G: Gate + Sync>(
+    rt: &R,
+    alloc: Global,
+    source: &mut S,
+    output: &mut O,
+    faults: &mut F,
+    budget: u32,
+    workers: u32,
+    gate: &G,
+) -> u8
+    requires budget { (1 ≤ budget) × (budget ≤ MAX_BUDGET) }
+    requires workers { (1 ≤ workers) × (workers ≤ MAX_WORKERS) }
+    requires source { S.failures source.old < u64.MAX }
+    requires output { O.failures output.old < u64.MAX }
+    requires faults { F.failures faults.old < u64.MAX }
+    ensures { IsRun
+        (IsJudgeOutcome budget (change S.remaining S.failures source.old source.new))
+        (change O.written O.failures output.old output.new)
+        (change F.written F.failures faults.old faults.new) result }
+{
+    match text_from(alloc, source, MAX_TEXT) {
+        Ok(text) => {
+            let outcome = judge_outcome(rt, alloc, &text, budget, workers, gate);
+            write_outcome(output, faults, &outcome)
+        }
+        Err(outcome) => write_outcome(output, faults, &outcome),
+    }
+}
+
+/// The verdict on the history that the text spells, as its report.
+pub fn judge_outcome<R: Threads + Sync, G: Gate + Sync>(
+    rt: &R,
+    alloc: Global,
+    text: &[u8],
+    budget: u32,
+    workers: u32,
+    gate: &G,
+) -> Outcome
+    requires budget { (1 ≤ budget) × (budget ≤ MAX_BUDGET) }
+    requires workers { (1 ≤ workers) × (workers ≤ MAX_WORKERS) }
+    ensures { IsTextOutcome (IsJudgeAnswer budget) IsHistoryRefusal (Some text.now) result }
+{
+    match judge_text(rt, alloc, text, budget, workers, gate) {
+        Ok((verdict, report)) => Outcome::answered(Answer::of(&verdict), line_of(report)),
+        Err(JudgeFault::History(fault)) => Outcome::of_history_fault(alloc, &fault),
+        Err(JudgeFault::Memory) => Outcome::Memory,
+    }
+}

@@ -1,0 +1,2 @@
+pub mod ReadText
+pub mod WholeText

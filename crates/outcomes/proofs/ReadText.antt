@@ -1,0 +1,32 @@
+-- A text that was read up to one byte more than a limit, and what comes of it.
+use Rattle.std.proofs.Common.{◌≡◌, ℕ, ◌+◌, List, Option, Some, None, IfSome, take, subst, inr, string_bytes}
+use Rattle.outcomes.specs.declared.outcome.Answer.{Answer}
+use Rattle.outcomes.specs.declared.outcome.Outcome.{Outcome}
+use Rattle.outcomes.specs.declared.outcome.Outcome.TheVariants.{Answered, Refused, Memory, Words, Failed}
+use Rattle.outcomes.specs.Ends.{Change, IsSound}
+use Rattle.outcomes.specs.Outcomes.{IsTextOutcome, IsReadOutcome}
+
+-- an outcome of what was read is one of what was to come, where each answer and each refusal is
+IsTextOutcome-told : (IsAnswer : List ℕ → Answer → List ℕ → Type 0) (IsRefusal : List ℕ → List ℕ → Type 0) (limit : ℕ)
+    → ((text : List ℕ) (answer : Answer) (bytes : List ℕ) → IsAnswer (take (limit + 1) text) answer bytes → IsAnswer text answer bytes)
+    → ((text bytes : List ℕ) → IsRefusal (take (limit + 1) text) bytes → IsRefusal text bytes)
+    → (told : Option (List ℕ)) (read : List ℕ) (outcome : Outcome) → IfSome told (λ text. read ≡ take (limit + 1) text)
+    → IsTextOutcome IsAnswer IsRefusal (Some read) outcome → IsTextOutcome IsAnswer IsRefusal told outcome
+IsTextOutcome-told IsAnswer IsRefusal limit answers refuses None read (Answered answer bytes) is h = tt
+IsTextOutcome-told IsAnswer IsRefusal limit answers refuses None read (Refused bytes) is h = tt
+IsTextOutcome-told IsAnswer IsRefusal limit answers refuses (Some text) read (Answered answer bytes) is h =
+    answers text answer (string_bytes bytes) (subst (λ (t : List ℕ). IsAnswer t answer (string_bytes bytes)) is h)
+IsTextOutcome-told IsAnswer IsRefusal limit answers refuses (Some text) read (Refused bytes) is h =
+    refuses text (string_bytes bytes) (subst (λ (t : List ℕ). IsRefusal t (string_bytes bytes)) is h)
+IsTextOutcome-told IsAnswer IsRefusal limit answers refuses told read Memory is h = tt
+IsTextOutcome-told IsAnswer IsRefusal limit answers refuses told read (Words bytes) is h = h
+IsTextOutcome-told IsAnswer IsRefusal limit answers refuses told read Failed is h = h
+
+-- an outcome of what was read is one of the run that read it
+pub IsReadOutcome-read : (IsAnswer : List ℕ → Answer → List ℕ → Type 0) (IsRefusal : List ℕ → List ℕ → Type 0) (limit : ℕ)
+    → ((text : List ℕ) (answer : Answer) (bytes : List ℕ) → IsAnswer (take (limit + 1) text) answer bytes → IsAnswer text answer bytes)
+    → ((text bytes : List ℕ) → IsRefusal (take (limit + 1) text) bytes → IsRefusal text bytes)
+    → (source : Change) (read : List ℕ) (outcome : Outcome) → IfSome source.old.bytes (λ text. read ≡ take (limit + 1) text) → IsSound source
+    → IsTextOutcome IsAnswer IsRefusal (Some read) outcome → IsReadOutcome IsAnswer IsRefusal source outcome
+IsReadOutcome-read IsAnswer IsRefusal limit answers refuses source read outcome is sound h =
+    inr (sound, IsTextOutcome-told IsAnswer IsRefusal limit answers refuses source.old.bytes read outcome is h)

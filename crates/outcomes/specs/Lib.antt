@@ -1,0 +1,6 @@
+pub mod Lines
+pub mod Statuses
+pub mod Ends
+pub mod Outcomes
+pub mod FaultOutcomes
+pub mod Runs

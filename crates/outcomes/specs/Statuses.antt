@@ -1,0 +1,34 @@
+-- The exit statuses.
+use Rattle.std.specs.Prelude.{ℕ}
+use Rattle.judge.specs.declared.verdict.Verdict.{Verdict}
+use Rattle.judge.specs.declared.verdict.Verdict.TheVariants as verdicts
+use Rattle.outcomes.specs.declared.outcome.Answer.{Answer}
+use Rattle.outcomes.specs.declared.outcome.Answer.TheVariants.{Yes, No, Undecided}
+
+-- an answer
+abbrev pub answer_status : Answer → ℕ
+answer_status Yes = 0
+answer_status No = 1
+answer_status Undecided = 2
+
+-- the input was refused
+abbrev pub refused_status : ℕ
+refused_status = 3
+
+-- want of memory
+abbrev pub memory_status : ℕ
+memory_status = 4
+
+-- the words of the command line ask for nothing that can be done, or for help
+abbrev pub words_status : ℕ
+words_status = 5
+
+-- standard input or output failed
+abbrev pub failed_status : ℕ
+failed_status = 6
+
+-- the answer that a verdict is
+abbrev pub answer_of : Verdict → Answer
+answer_of (verdicts.Yes order) = Yes
+answer_of (verdicts.No segment) = No
+answer_of (verdicts.Undecided segment) = Undecided

@@ -1,0 +1,57 @@
+// Where a run reads its text, and where it writes its outcome.
+ghost use Rattle.std.specs.Prelude.{◌≡◌, ◌<◌, ◌+◌, IfErr, IfOk, IfSome, OnOk, take};
+ghost use Rattle.outcomes.specs.Ends.{IsSound, Tries, change};
+ghost use Rattle.outcomes.specs.Outcomes.{IsUnread};
+ghost use Rattle.outcomes.specs.Runs.{Leaves};
+
+use crate::outcome::{FAILED, MEMORY, Outcome, REFUSED, WORDS};
+use std::alloc::Global;
+use streams::{ReadFault, Sink, Source, read_up_to, write_whole};
+
+/// Reads to the end of the source, or until a text is too long: one byte more than `limit`. Where that cannot
+/// be done, the run comes out so.
+pub fn text_from<S: Source>(alloc: Global, source: &mut S, limit: usize) -> Result<Vec<u8>, Outcome>
+    requires source { S.failures source.old < u64.MAX }
+    requires limit { limit < usize.MAX }
+    ensures text { IfOk result (λ bytes. IfSome (S.remaining source.old)
+        (λ text. bytes.items ≡ take (limit + 1) text)) }
+    ensures sound { OnOk result (IsSound (change S.remaining S.failures source.old source.new)) }
+    ensures unread { IfErr result
+        (IsUnread (change S.remaining S.failures source.old source.new)) }
+{
+    match read_up_to(alloc, source, limit + 1) {
+        Ok(text) => Ok(text),
+        Err(ReadFault::Memory) => Err(Outcome::Memory),
+        Err(ReadFault::Failed) => Err(Outcome::Failed),
+    }
+}
+
+/// Writes an outcome to the output or to the faults, and answers the exit status. A failed write to the faults
+/// changes nothing else.
+pub fn write_outcome<O: Sink, F: Sink>(output: &mut O, faults: &mut F, outcome: &Outcome) -> u8
+    requires output { O.failures output.old < u64.MAX }
+    requires faults { F.failures faults.old < u64.MAX }
+    ensures { Leaves outcome.now (change O.written O.failures output.old output.new)
+        (change F.written F.failures faults.old faults.new) result }
+{
+    match outcome {
+        Outcome::Answered { answer, line } => match write_whole(output, line.as_bytes()) {
+            Ok(()) => answer.status(),
+            Err(_) => tell(faults, b"io\n", FAILED),
+        },
+        Outcome::Refused(line) => tell(faults, line.as_bytes(), REFUSED),
+        Outcome::Memory => tell(faults, b"memory\n", MEMORY),
+        Outcome::Words(text) => tell(faults, text.as_bytes(), WORDS),
+        Outcome::Failed => tell(faults, b"io\n", FAILED),
+    }
+}
+
+// Writes bytes to the faults, and answers the status.
+fn tell<F: Sink>(faults: &mut F, bytes: &[u8], status: u8) -> u8
+    requires { F.failures faults.old < u64.MAX }
+    ensures told { Tries (change F.written F.failures faults.old faults.new) bytes.now }
+    ensures status { result ≡ status }
+{
+    let _ = write_whole(faults, bytes);
+    status
+}

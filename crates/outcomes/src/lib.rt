@@ -1,0 +1,13 @@
+//! How a run of the program comes out before anything is written: an answer, or a fault as a line, and the exit status;
+//! from where a run reads its text, and where it writes its outcome.
+#![tactic(auto)]
+
+mod ends;
+mod lines;
+mod outcome;
+#[cfg(test)]
+mod tests;
+
+pub use ends::{text_from, write_outcome};
+pub use lines::line_of;
+pub use outcome::{Answer, FAILED, MEMORY, NO, Outcome, REFUSED, UNDECIDED, WORDS, YES};

@@ -1,0 +1,160 @@
+// How a run comes out, before anything is written.
+ghost use Rattle.std.specs.Prelude.{◌≡◌, MatchResult};
+ghost use Rattle.outcomes.specs.FaultOutcomes.{IsHistoryFaultOutcome, IsOrderFaultOutcome, IsPlanFaultOutcome, IsReplayFaultOutcome};
+ghost use Rattle.outcomes.specs.FaultOutcomes.{fault_outcome};
+ghost use Rattle.outcomes.specs.Statuses.{answer_of, answer_status};
+
+use crate::lines::{history_fault_line, order_fault_line, plan_fault_line, replay_fault_line};
+use certificate::OrderFault;
+use command_line::LineFault;
+use events::HistoryFault;
+use judge::Verdict;
+use plans::PlanFault;
+use replays::ReplayFault;
+use std::alloc::{AllocError, Global};
+
+/// The exit status of an answer that is yes, `ok`, or a text.
+pub const YES: u8 = 0;
+
+/// The exit status of an answer that is no, or the fault of an order.
+pub const NO: u8 = 1;
+
+/// The exit status where the budget was spent without an answer.
+pub const UNDECIDED: u8 = 2;
+
+/// The exit status of an input that is refused.
+pub const REFUSED: u8 = 3;
+
+/// The exit status of want of memory.
+pub const MEMORY: u8 = 4;
+
+/// The exit status of words of the command line that ask for nothing that can be done, or for help.
+pub const WORDS: u8 = 5;
+
+/// The exit status where standard input or output failed.
+pub const FAILED: u8 = 6;
+
+/// What is answered to an input.
+#[derive(Clone, Copy, Debug)]
+pub enum Answer {
+    /// Yes, `ok`, or a text.
+    Yes,
+    /// No, or the fault of an order.
+    No,
+    /// The budget was spent without an answer.
+    Undecided,
+}
+
+impl Answer {
+    /// The exit status.
+    pub fn status(self) -> u8
+        ensures { result ≡ answer_status self }
+    {
+        match self {
+            Answer::Yes => YES,
+            Answer::No => NO,
+            Answer::Undecided => UNDECIDED,
+        }
+    }
+
+    /// The answer that a verdict is.
+    pub fn of(verdict: &Verdict) -> Answer
+        ensures { result ≡ answer_of verdict.now }
+    {
+        match verdict {
+            Verdict::Yes(_) => Answer::Yes,
+            Verdict::No(_) => Answer::No,
+            Verdict::Undecided(_) => Answer::Undecided,
+        }
+    }
+}
+
+/// How a run comes out. Each text ends with a line feed.
+#[derive(Debug, Drop)]
+pub enum Outcome {
+    /// The input is answered, with this line for standard output.
+    Answered { answer: Answer, line: String },
+    /// The input is refused, with this line for standard error.
+    Refused(String),
+    /// Want of memory.
+    Memory,
+    /// The words of the command line ask for nothing that can be done, or for help. The text is what the user is
+    /// shown on standard error.
+    Words(String),
+    /// The input could not be read.
+    Failed,
+}
+
+impl Outcome {
+    /// An answer with this line, if there was memory for the line.
+    pub fn answered(answer: Answer, line: Result<String, AllocError>) -> Outcome
+        ensures { MatchResult line (λ text. result ≡ Outcome.Answered answer text)
+            (λ _. result ≡ Outcome.Memory) }
+    {
+        match line {
+            Ok(line) => Outcome::Answered { answer, line },
+            Err(_) => Outcome::Memory,
+        }
+    }
+
+    /// A refusal with this line, if there was memory for the line.
+    pub fn refused(line: Result<String, AllocError>) -> Outcome
+        ensures { MatchResult line (λ text. result ≡ Outcome.Refused text)
+            (λ _. result ≡ Outcome.Memory) }
+    {
+        match line {
+            Ok(line) => Outcome::Refused(line),
+            Err(_) => Outcome::Memory,
+        }
+    }
+
+    /// The refusal of a text that spells no history, or want of memory.
+    pub fn of_history_fault(alloc: Global, fault: &HistoryFault) -> Outcome
+        ensures { IsHistoryFaultOutcome fault.now result }
+    {
+        match fault {
+            HistoryFault::Memory => Outcome::Memory,
+            _ => Outcome::refused(history_fault_line(alloc, fault)),
+        }
+    }
+
+    /// The refusal where there is no plan, or want of memory.
+    pub fn of_plan_fault(alloc: Global, fault: PlanFault) -> Outcome
+        ensures { IsPlanFaultOutcome fault result }
+    {
+        match fault {
+            PlanFault::Memory => Outcome::Memory,
+            _ => Outcome::refused(plan_fault_line(alloc, fault)),
+        }
+    }
+
+    /// The refusal of a text that gives no history of a replay, or want of memory.
+    pub fn of_replay_fault(alloc: Global, fault: &ReplayFault) -> Outcome
+        ensures { IsReplayFaultOutcome fault.now result }
+    {
+        match fault {
+            ReplayFault::Memory => Outcome::Memory,
+            _ => Outcome::refused(replay_fault_line(alloc, fault)),
+        }
+    }
+
+    /// The answer that numbers are no order, or want of memory.
+    pub fn of_order_fault(alloc: Global, fault: &OrderFault) -> Outcome
+        ensures { IsOrderFaultOutcome fault.now result }
+    {
+        match fault {
+            OrderFault::Memory => Outcome::Memory,
+            _ => Outcome::answered(Answer::No, order_fault_line(alloc, fault)),
+        }
+    }
+
+    /// That the words of the command line ask for nothing that can be done, or want of memory.
+    pub fn of_line_fault(fault: LineFault) -> Outcome
+        ensures { result ≡ fault_outcome fault }
+    {
+        match fault {
+            LineFault::Line(text) => Outcome::Words(text),
+            LineFault::Memory => Outcome::Memory,
+        }
+    }
+}

@@ -1,0 +1,46 @@
+-- What the program answers to what a plan is drawn from, and to the text of a replay.
+use Rattle.std.specs.Prelude.{◌≡◌, ◌≢◌, ℕ, List}
+use Rattle.events.specs.HistoryView.{HistoryView}
+use Rattle.history_text.specs.Texts.{history_data}
+use Rattle.serde_json.specs.Written.{compact_text}
+use Rattle.plans.specs.declared.fault.PlanFault.{PlanFault}
+use Rattle.plans.specs.declared.fault.PlanFault.TheVariants as plans
+use Rattle.plan_text.specs.PlanTexts.{written_data}
+use Rattle.workload.specs.declared.mix.Mix.{Mix}
+use Rattle.workload.specs.Mixes.{IsWholeMix, HasKeys, AreWithin}
+use Rattle.workload.specs.Workloads.{scripts_of, IsDrawFault}
+use Rattle.replays.specs.declared.fault.ReplayFault.{ReplayFault}
+use Rattle.replays.specs.declared.fault.ReplayFault.TheVariants as replays
+use Rattle.replays.specs.Played.{IsPlayed, IsUnplayed}
+use Rattle.outcomes.specs.declared.outcome.Answer.{Answer}
+use Rattle.outcomes.specs.declared.outcome.Answer.TheVariants.{Yes}
+use Rattle.outcomes.specs.Lines.{line, plan_fault_line, replay_fault_line}
+
+-- `generate` answers so: yes, with the compact text of the plan that is drawn
+pub record IsGenerateAnswer (seed : ℕ) (mix : Mix) (processes calls : ℕ) (answer : Answer) (bytes : List ℕ) : Type 0 where
+  pub whole : IsWholeMix mix
+  pub keys : HasKeys mix
+  pub within : AreWithin processes calls
+  pub answer_is : answer ≡ Yes
+  pub bytes_are : bytes ≡ line (compact_text (written_data (scripts_of seed mix processes calls)))
+
+-- what no plan is drawn from is refused with this line, that of its first fault
+pub record IsGenerateRefusal (mix : Mix) (processes calls : ℕ) (bytes : List ℕ) : Type 0 where
+  pub fault : PlanFault
+  pub refused : IsDrawFault mix processes calls fault
+  pub not_memory : fault ≢ plans.Memory
+  pub bytes_are : bytes ≡ plan_fault_line fault
+
+-- `replay` answers the text so: yes, with the text of the history that its run records
+pub record IsReplayAnswer (text : List ℕ) (answer : Answer) (bytes : List ℕ) : Type 0 where
+  pub history : HistoryView
+  pub played : IsPlayed text history
+  pub answer_is : answer ≡ Yes
+  pub bytes_are : bytes ≡ line (compact_text (history_data history))
+
+-- a text that gives no history of a replay is refused with this line
+pub record IsReplayRefusal (text bytes : List ℕ) : Type 0 where
+  pub fault : ReplayFault
+  pub refused : IsUnplayed text fault
+  pub not_memory : fault ≢ replays.Memory
+  pub bytes_are : bytes ≡ replay_fault_line fault

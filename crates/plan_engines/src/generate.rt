@@ -1,0 +1,46 @@
+// `bench generate`: the text of the plan that is drawn from a seed.
+ghost use Rattle.std.specs.Prelude.{◌<◌};
+ghost use Rattle.outcomes.specs.Ends.{change};
+ghost use Rattle.plan_engines.specs.Outcomes.{IsGenerateOutcome};
+ghost use Rattle.outcomes.specs.Runs.{IsRun};
+
+use outcomes::{Answer, Outcome, line_of, write_outcome};
+use plan_text::write_plan;
+use std::alloc::Global;
+use streams::Sink;
+use workload::{Mix, plan};
+
+/// Writes the text of the plan of so many processes, with so many calls each, that is drawn from a seed. It reads nothing.
+/// Answers the exit status.
+pub fn run_generate<O: Sink, F: Sink>(
+    alloc: Global,
+    output: &mut O,
+    faults: &mut F,
+    seed: u64,
+    mix: &Mix,
+    processes: u32,
+    calls: u32,
+) -> u8
+    requires output { O.failures output.old < u64.MAX }
+    requires faults { F.failures faults.old < u64.MAX }
+    ensures { IsRun (IsGenerateOutcome seed mix.now processes calls)
+        (change O.written O.failures output.old output.new)
+        (change F.written F.failures faults.old faults.new) result }
+{
+    let outcome = generate_outcome(alloc, seed, mix, processes, calls);
+    write_outcome(output, faults, &outcome)
+}
+
+/// The text of the plan that is drawn, or why none is.
+pub fn generate_outcome(alloc: Global, seed: u64, mix: &Mix, processes: u32, calls: u32) -> Outcome
+    ensures { IsGenerateOutcome seed mix.now processes calls result }
+{
+    let plan = match plan(alloc, seed, mix, processes, calls) {
+        Ok(plan) => plan,
+        Err(fault) => return Outcome::of_plan_fault(alloc, fault),
+    };
+    match write_plan(alloc, &plan) {
+        Ok(text) => Outcome::answered(Answer::Yes, line_of(text)),
+        Err(_) => Outcome::Memory,
+    }
+}

@@ -1,0 +1,49 @@
+// `bench replay`: the history that the run of a replay records.
+ghost use Rattle.std.specs.Prelude.{◌<◌, Some};
+ghost use Rattle.plan_engines.specs.Answers.{IsReplayAnswer, IsReplayRefusal};
+ghost use Rattle.outcomes.specs.Ends.{change};
+ghost use Rattle.plan_engines.specs.Outcomes.{IsReplayOutcome};
+ghost use Rattle.outcomes.specs.Outcomes.{IsTextOutcome};
+ghost use Rattle.outcomes.specs.Runs.{IsRun};
+
+use history_text::{MAX_TEXT, write_history};
+use outcomes::{Answer, Outcome, line_of, text_from, write_outcome};
+use replays::replay_history;
+use std::alloc::Global;
+use streams::{Sink, Source};
+
+/// Reads a replay text to the end of the source, or until it is too long, runs its whole schedule, and writes the text of
+/// the history. Answers the exit status.
+pub fn run_replay<S: Source, O: Sink, F: Sink>(
+    alloc: Global,
+    source: &mut S,
+    output: &mut O,
+    faults: &mut F,
+) -> u8
+    requires source { S.failures source.old < u64.MAX }
+    requires output { O.failures output.old < u64.MAX }
+    requires faults { F.failures faults.old < u64.MAX }
+    ensures { IsRun
+        (IsReplayOutcome (change S.remaining S.failures source.old source.new))
+        (change O.written O.failures output.old output.new)
+        (change F.written F.failures faults.old faults.new) result }
+{
+    match text_from(alloc, source, MAX_TEXT) {
+        Ok(text) => write_outcome(output, faults, &replay_outcome(alloc, &text)),
+        Err(outcome) => write_outcome(output, faults, &outcome),
+    }
+}
+
+/// The text of the history that the run of the replay records, or why there is none.
+pub fn replay_outcome(alloc: Global, text: &[u8]) -> Outcome
+    ensures { IsTextOutcome IsReplayAnswer IsReplayRefusal (Some text.now) result }
+{
+    let history = match replay_history(alloc, text) {
+        Ok(history) => history,
+        Err(fault) => return Outcome::of_replay_fault(alloc, &fault),
+    };
+    match write_history(alloc, &history) {
+        Ok(text) => Outcome::answered(Answer::Yes, line_of(text)),
+        Err(_) => Outcome::Memory,
+    }
+}
