@@ -5,7 +5,7 @@ ghost use Rattle.events.specs.Histories.{AreHistoryEvents};
 ghost use Rattle.tickets.specs.Numbers.{EachOnce};
 ghost use Rattle.recorder.specs.Passes.{process_number, log_of};
 ghost use Rattle.recorder.specs.Recorders.{IsPassOf, HasProcesses, AreAll, all_stamps, history_of, HasOwnEvents};
-ghost use Rattle.recorder.specs.Closing.{IsHandedBack};
+ghost use Rattle.recorder.specs.Closing.{IsHandedBack, IsOneOfEach, WantsMemory};
 
 use crate::fault::CloseFault;
 use crate::pass::Pass;
@@ -25,6 +25,7 @@ impl Recorder {
         ensures stamps { OnOk result (EachOnce (length (all_stamps passes.items)) (all_stamps passes.items)) }
         ensures all { OnOk result (AreAll self passes.items) }
         ensures refused { IfErr result (IsHandedBack self passes.items) }
+        ensures whole { IsOneOfEach self passes.items → IfErr result WantsMemory }
     {
         if !self.has_all(&passes) {
             return Err(CloseFault::StillOut(self, passes));

@@ -21,3 +21,14 @@ pub struct Pass {
     ghost stamps: { drawn_by hand ≡ map (λ e. e.0) log.items },
     ghost draws: { length log.items + left_of hand ≡ 2 * calls },
 }
+
+impl Pass {
+    ghost use Rattle.recorder.specs.Passes.{process_number};
+
+    /// The number of the process that records with the pass.
+    pub fn process(&self) -> u8
+        ensures { result ≡ process_number self.now }
+    {
+        self.process
+    }
+}

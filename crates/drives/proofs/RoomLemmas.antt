@@ -1,0 +1,31 @@
+-- The length of the longest script.
+use Rattle.std.proofs.Common.{ℕ, ◌*◌, ◌<◌, ◌≤◌, List, [], ◌∷◌, length, map, slice_index_or, arith}
+use Rattle.std.specs.Prelude.{sum}
+use Rattle.std.proofs.Math.Nat.{mul-le-mul}
+use Rattle.std.proofs.lemmas.List.{get_or_default}
+use Rattle.std.proofs.lemmas.List.Sums.{sum_by-cons}
+use Rattle.std.proofs.lemmas.Simd.{map-map}
+use Rattle.list_laws.proofs.NumberLemmas.{greatest_bound}
+use Rattle.events.specs.declared.event.Call.{Call}
+use Rattle.plans.specs.Plans.{AreFew}
+use Rattle.drives.specs.Drives.{longest}
+
+pub longest-within : (scripts : List (List Call)) → longest scripts ≤ sum (map (λ script. length script) scripts)
+longest-within [] = omega arith
+longest-within (script ∷ scripts) =
+    omega (arith, longest-within scripts, sum_by-cons (λ (n : ℕ). n) (length script) (map (λ script. length script) scripts))
+
+-- a plan has at most 64 scripts, each of at most 4,096 calls
+pub room-within : (scripts : List (List Call)) → AreFew scripts → length scripts * longest scripts ≤ 262144
+room-within scripts few =
+    let l = longest-within scripts in
+    let m : longest scripts ≤ 4096 = let k = few.few_calls in omega arith in
+    let product = mul-le-mul few.few_scripts m in
+    omega (arith, product)
+
+-- no script is longer than the longest
+pub longest-bound : {X : Type 0} (script_of : X → List Call) (xs : List X) (k : ℕ) (d : X) → k < length xs
+    → length (script_of (slice_index_or xs k d)) ≤ longest (map script_of xs)
+longest-bound script_of xs k d within =
+    let bound = greatest_bound (λ x. length (script_of x)) xs (slice_index_or xs k d) (k, within, get_or_default xs k (slice_index_or xs k d) d within) in
+    rw (map-map (λ script. length script) script_of xs) bound

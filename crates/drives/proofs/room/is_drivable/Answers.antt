@@ -1,0 +1,15 @@
+use Rattle.std.proofs.Common.{◌≡◌, ◌*◌, length, refl, sym, ap, ◌∙◌, arith}
+use Rattle.std.proofs.lemmas.List.{length-map}
+use Rattle.drives.specs.Drives.{longest}
+use Rattle.drives.proofs.RoomLemmas.{room-within}
+use Rattle.drives.proofs.room.is_drivable.Goals as goal
+
+pub overflow_mul-result : goal.overflow_mul-result
+overflow_mul-result c =
+    let plan = c.args.plan.now in
+    let scripts = c.scripts-scripts.result.now in
+    let same = c.scripts-scripts.ensures.same in
+    let many : length scripts ≡ length plan = sym (length-map scripts (λ script. script.items)) ∙ ap length same in
+    let most : c.longest.result ≡ longest plan = c.longest.ensures ∙ ap longest same in
+    let product : length scripts * c.longest.result ≡ length plan * longest plan = rw (many, most) refl in
+    omega (arith, product, room-within plan c.scripts-scripts.ensures.within.few)

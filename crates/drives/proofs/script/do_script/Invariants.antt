@@ -1,0 +1,16 @@
+use Rattle.std.proofs.Common.{◌≡◌, false, take}
+use Rattle.recorder.specs.Passes.{process_number, calls_of, events_by, is_waiting}
+use Rattle.recorder.specs.Recorders.{IsPassOf}
+use Rattle.drives.specs.Drives.{invoked}
+use Rattle.drives.specs.Passes.{AreOwn}
+use Rattle.drives.proofs.script.do_script.Given as goal
+
+abbrev pub invariant-loop-call : goal.invariant-loop-call
+invariant-loop-call g l = record {
+  own : IsPassOf l.recorder l.pass;
+  process : process_number l.pass ≡ process_number l.initial.pass;
+  calls : calls_of l.pass ≡ calls_of l.initial.pass;
+  events : AreOwn l.pass;
+  done : invoked (events_by l.pass) ≡ take l.call-index l.script;
+  idle : is_waiting l.pass ≡ false;
+}

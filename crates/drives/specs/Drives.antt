@@ -1,0 +1,49 @@
+-- What is recorded while each process does the calls of a script of its own.
+use Rattle.std.specs.Prelude.{◌≡◌, ℕ, ◌*◌, ◌<◌, ◌≤◌, true, false, List, [], ◌∷◌, ◌++◌, length, map, Some, slice_get, All}
+use Rattle.list_laws.specs.Lists.{greatest}
+use Rattle.events.specs.declared.TheConstants.{MAX_CALLS}
+use Rattle.events.specs.declared.event.Call.{Call}
+use Rattle.events.specs.declared.event.Event.{Event}
+use Rattle.events.specs.declared.event.Event.TheVariants.{Invoke, Answer}
+use Rattle.events.specs.Events.{process_of, events_of}
+use Rattle.events.specs.HistoryFaults.{has_open_call}
+use Rattle.events.specs.HistoryView.{HistoryView}
+
+-- the calls that are invoked, in their order
+abbrev pub invoked : List Event → List Call
+invoked [] = []
+invoked (Invoke p call ∷ events) = call ∷ invoked events
+invoked (Answer p reply ∷ events) = invoked events
+
+-- the calls that a process invokes, in their order
+abbrev pub calls_by : ℕ → List Event → List Call
+calls_by p events = invoked (events_of p events)
+
+-- a process did its script: its calls are the whole script, and all of them are completed
+pub record HasFinished (events : List Event) (p : ℕ) (script : List Call) : Type 0 where
+  pub calls : calls_by p events ≡ script
+  pub completed : has_open_call p events ≡ false
+
+-- a process stopped within its script: its calls are a beginning of it, of which the last alone is pending
+pub record HasStopped (events : List Event) (p : ℕ) (script : List Call) : Type 0 where
+  pub rest : List Call
+  pub calls : calls_by p events ++ rest ≡ script
+  pub pending : has_open_call p events ≡ true
+
+-- the processes are those that have a script
+abbrev pub HaveScripts : List (List Call) → List Event → Type 0
+HaveScripts scripts events = All (λ e. process_of e < length scripts) events
+
+-- what is recorded of scripts: the map holds nothing at the start, each process did its script, and there is no other process
+pub record IsDriveOf (scripts : List (List Call)) (history : HistoryView) : Type 0 where
+  pub start : history.start ≡ []
+  pub processes : HaveScripts scripts history.events
+  pub finished : (p : ℕ) (script : List Call) → slice_get scripts p ≡ Some script → HasFinished history.events p script
+
+-- how many calls the longest script has
+abbrev pub longest : List (List Call) → ℕ
+longest scripts = greatest (map (λ script. length script) scripts)
+
+-- there is room for as many calls of each process as the longest script has
+abbrev pub IsDrivable : List (List Call) → Type 0
+IsDrivable scripts = length scripts * longest scripts ≤ MAX_CALLS

@@ -1,0 +1,29 @@
+// Whether there is room for what a drive records.
+ghost use Rattle.std.specs.Prelude.{◌≡◌, ◌↔◌, IsTrue, map};
+ghost use Rattle.drives.specs.Drives.{IsDrivable, longest};
+
+use art_steps::TreeCall;
+use events::MAX_CALLS;
+use plans::Plan;
+
+/// Whether a plan can be driven: all processes may begin equally many calls, so the number of scripts times the length of the
+/// longest one is at most `MAX_CALLS`.
+pub fn is_drivable(plan: &Plan) -> bool
+    ensures { IsTrue result ↔ IsDrivable plan.now }
+{
+    let scripts = plan.scripts();
+    scripts.len() * longest(scripts) <= MAX_CALLS
+}
+
+/// How many calls the longest script has.
+pub(crate) fn longest(scripts: &[Vec<TreeCall>]) -> usize
+    ensures { result ≡ longest (map (λ script. script.items) scripts.now) }
+{
+    let mut most = 0;
+    for script in scripts {
+        if script.len() > most {
+            most = script.len();
+        }
+    }
+    most
+}

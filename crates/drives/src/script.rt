@@ -1,0 +1,71 @@
+// One process does its script.
+ghost use Rattle.std.specs.Prelude.{◌≡◌, ◌<◌, ◌≤◌, ◌++◌, ◌∷◌, [], false, IsTrue, IfOk, OnOk, length, All};
+ghost use Rattle.events.specs.Histories.{has_range, call_count};
+ghost use Rattle.art_steps.specs.TreeCalls.{is_tree_call};
+ghost use Rattle.recorder.specs.Passes.{process_number, calls_of, log_of, events_by, is_waiting};
+ghost use Rattle.recorder.specs.Recorders.{IsPassOf};
+ghost use Rattle.recorder.specs.declared.fault.RecorderFault.TheVariants as faults;
+ghost use Rattle.drives.specs.Drives.{invoked};
+ghost use Rattle.drives.specs.Passes.{AreOwn, HasRecordedScript};
+
+use art_steps::TreeCall;
+use events::{Call, Memory};
+use recorder::{Pass, Recorder, RecorderFault, Subject};
+
+/// Does the calls of a script, one after another, and gives back the pass that recorded them. `Err` is want of memory.
+pub(crate) fn do_script<S: Subject>(
+    recorder: &Recorder,
+    subject: &S,
+    mut pass: Pass,
+    script: &[TreeCall],
+) -> Result<Pass, Memory>
+    requires own { IsPassOf recorder.now pass }
+    requires fresh { log_of pass ≡ [] }
+    requires room { length script.now ≤ calls_of pass }
+    requires calls { All (λ call. IsTrue (is_tree_call call)) script.now }
+    ensures own { IfOk result (IsPassOf recorder.now) }
+    ensures process { IfOk result (λ p. process_number p ≡ process_number pass) }
+    ensures recorded { IfOk result (HasRecordedScript script.now) }
+{
+    for call in script {
+        do_call(recorder, subject, &mut pass, call.call())?;
+    }
+    Ok(pass)
+}
+
+/// Has the subject do a call, with its invocation noted before and its answer after. `Err` is want of memory.
+fn do_call<S: Subject>(
+    recorder: &Recorder,
+    subject: &S,
+    pass: &mut Pass,
+    call: Call,
+) -> Result<(), Memory>
+    requires own { IsPassOf recorder.now pass.old }
+    requires range { IsTrue (has_range call) }
+    requires idle { is_waiting pass.old ≡ false }
+    requires room { call_count (events_by pass.old) < calls_of pass.old }
+    ensures own { IsPassOf recorder.now pass.new }
+    ensures same { (process_number pass.new ≡ process_number pass.old) × (calls_of pass.new ≡ calls_of pass.old) }
+    ensures calls { OnOk result (invoked (events_by pass.new) ≡ invoked (events_by pass.old) ++ call ∷ []) }
+    ensures idle { OnOk result (is_waiting pass.new ≡ false) }
+    ensures events { AreOwn pass.old → OnOk result (AreOwn pass.new) }
+{
+    if let Err(fault) = recorder.invoke(pass, call) {
+        return Err(want_of_memory(fault));
+    }
+    let reply = subject.call(&call);
+    if let Err(fault) = recorder.answer(pass, reply) {
+        return Err(want_of_memory(fault));
+    }
+    Ok(())
+}
+
+/// Nothing is wrong with an event, so that it was refused only for want of memory.
+fn want_of_memory(fault: RecorderFault) -> Memory
+    requires { fault ≡ faults.Memory }
+{
+    match fault {
+        RecorderFault::Memory => Memory,
+        RecorderFault::OutOfTurn | RecorderFault::TooMany => unreachable!(),
+    }
+}
