@@ -22,9 +22,9 @@ use Rattle.art_core.proofs.HistoryLemmas.{nowhere, is-moved, changed-at, all-idl
 
 module _ (plan : Plan) where
   -- of the calls that a process has begun, all but the open one are finished, and they are no more than its script has
-  record IsCounted (p : ℕ) (q : Process) : Type 0 where
-    counts : length (begun q) ≡ length (finished q) + cond (is_some q.call) 1 0
-    within : (script : List Call) → slice_get plan.scripts p ≡ Some script → length (begun q) ≤ length script
+  pub record IsCounted (p : ℕ) (q : Process) : Type 0 where
+    pub counts : length (begun q) ≡ length (finished q) + cond (is_some q.call) 1 0
+    pub within : (script : List Call) → slice_get plan.scripts p ≡ Some script → length (begun q) ≤ length script
 
   begun-with : (q : Process) (e : Stamped)
       → length (filter_map (λ x. invoked x.1) (q.log ++ e ∷ [])) ≡ length (begun q) + length (filter_map (λ x. invoked x.1) (e ∷ []))
@@ -67,10 +67,10 @@ module _ (plan : Plan) where
         go None is k = call-of is (next_call plan p q) refl k
         go (Some call) is k = ends call m is (act plan.shape plan.variant call q.got) (same_Some (move_of (act plan.shape plan.variant call q.got)) m k)
 
-  abbrev are_counted : State → Type 0
+  abbrev pub are_counted : State → Type 0
   are_counted s = (i : ℕ) (q : Process) → slice_get s.processes i ≡ Some q → IsCounted i q
 
-  counted-step : (s : State) (p : ℕ) (next : State) → step plan s p ≡ Some next → are_counted s → are_counted next
+  pub counted-step : (s : State) (p : ℕ) (next : State) → step plan s p ≡ Some next → are_counted s → are_counted next
   counted-step s p next e h i q at =
       let m = is-moved plan s p next e in
       let n = slice_index s.words (word_of_move m.move) in
@@ -108,7 +108,7 @@ module _ (plan : Plan) where
           let counts = h.counts ∙ ap (λ o. length (finished q) + cond (is_some o) 1 0) is in
           omega (arith, all, counts)
 
-opened-counted : (plan : Plan) → are_counted plan (opened plan)
+pub opened-counted : (plan : Plan) → are_counted plan (opened plan)
 opened-counted plan i q at =
     subst (λ q. IsCounted plan i q) (sym (all-idle (length plan.scripts) i q at)) (record { counts = refl; within = λ script at. omega arith })
 

@@ -131,7 +131,7 @@ record IsDrawn (plan : Plan) (p : ℕ) (q q' : Process) (n : ℕ) (e : Event) : 
   steps : q'.steps ≡ q.steps + 1
 
 module _ (plan : Plan) (s : State) (p : ℕ) (q q' : Process) (h : IsLogged plan s) (here : slice_get s.processes p ≡ Some q)
-    (few : sum (map (λ q. q.steps) s.processes) + 1 < 2 ^ 61) where
+    (few : slice_index s.words 0 + 1 < 2 ^ 64) where
   abbrev n : ℕ
   n = slice_index s.words 0
 
@@ -149,8 +149,7 @@ module _ (plan : Plan) (s : State) (p : ℕ) (q q' : Process) (h : IsLogged plan
   ticks : slice_index clocked 0 ≡ n + 1
   ticks =
       let some : 0 < length s.words = omega (arith, h.table) in
-      let small : n + 1 < 2 ^ 64 = omega (arith, h.clock) in
-      get_or-set_same s.words 0 ((n + 1) % 2 ^ 64) 0 some ∙ mod-small (n + 1) (2 ^ 64) small
+      get_or-set_same s.words 0 ((n + 1) % 2 ^ 64) 0 some ∙ mod-small (n + 1) (2 ^ 64) few
 
   module _ (e : Event) (d : IsDrawn plan p q q' n e) (sound : fault_after (logged s.processes) e ≡ None) where
     logs-are : map (λ q. q.log) (slice_set s.processes p q') ≡ slice_set (map (λ q. q.log) s.processes) p (q.log ++ (n, e) ∷ [])
@@ -234,7 +233,7 @@ has-range (Scan low high) h = and-left (nat_le low high) _ h
         no x = cc
 
 module _ (plan : Plan) (within : IsPlan plan) (s : State) (p : ℕ) (q : Process) (h : IsLogged plan s) (here : slice_get s.processes p ≡ Some q)
-    (few : sum (map (λ q. q.steps) s.processes) + 1 < 2 ^ 61) where
+    (few : slice_index s.words 0 + 1 < 2 ^ 64) where
   abbrev now : ℕ
   now = slice_index s.words 0
 
@@ -323,17 +322,23 @@ module _ (plan : Plan) (within : IsPlan plan) (s : State) (p : ℕ) (q : Process
       let stays = act-stays plan.shape plan.variant call within.shape.root q.got a point asks in
       accesses plan s p q (after_move p (Makes a) (slice_index s.words (word_of a)) q) h here few (word_of a) _ stays.0 refl refl refl
 
-  pub one-move : (o : Option Call) (m : Move) → q.call ≡ o → move_from plan p q o ≡ Some m → IsLogged plan (moved s p q m)
-  one-move None m e k = begins (next_call plan p q) refl k
+  pub one-drawn : (o : Option Call) (m : Move) → q.call ≡ o → move_from plan p q o ≡ Some m → IsLogged plan (moved s p q m)
+  one-drawn None m e k = begins (next_call plan p q) refl k
     where
       begins : (o : Option Call) → next_call plan p q ≡ o → invocation o ≡ Some m → IsLogged plan (moved s p q m)
       begins None f l = absurd (none-some m l)
       begins (Some call) f l = subst (λ m. IsLogged plan (moved s p q m)) (same_Some (Invokes call) m l) (invokes call e f)
-  one-move (Some call) m e k = goes (act plan.shape plan.variant call q.got) refl k
+  one-drawn (Some call) m e k = goes (act plan.shape plan.variant call q.got) refl k
     where
       goes : (t : Turn) → act plan.shape plan.variant call q.got ≡ t → ◌≡◌ {A = Option Move} (Some (move_of t)) (Some m) → IsLogged plan (moved s p q m)
       goes (Asks a point) f l = subst (λ m. IsLogged plan (moved s p q m)) (same_Some (Makes a) m l) (makes call a point f)
       goes (Answers reply) f l = subst (λ m. IsLogged plan (moved s p q m)) (same_Some (Responds reply) m l) (responds call reply e f)
+
+-- a move after few steps
+pub one-move : (plan : Plan) (within : IsPlan plan) (s : State) (p : ℕ) (q : Process) (h : IsLogged plan s) (here : slice_get s.processes p ≡ Some q)
+    → sum (map (λ q. q.steps) s.processes) + 1 < 2 ^ 61
+    → (o : Option Call) (m : Move) → q.call ≡ o → move_from plan p q o ≡ Some m → IsLogged plan (moved s p q m)
+one-move plan within s p q h here few = let small : slice_index s.words 0 + 1 < 2 ^ 64 = omega (arith, h.clock) in one-drawn plan within s p q h here small
 
 -- A step is a move of a process.
 

@@ -1,15 +1,20 @@
 -- Laws of schedules.
-use Rattle.std.specs.Prelude.{◌≡◌, ℕ, ◌+◌, List, [], ◌∷◌, ◌++◌, length, map, slice_get, Option, Some, None}
+use Rattle.std.specs.Prelude.{◌≡◌, ℕ, ◌+◌, ◌*◌, ◌<◌, ◌≤◌, List, [], ◌∷◌, ◌++◌, length, map, slice_get, slice_index, All, Option, Some, None}
 use Rattle.std.specs.List.{AllZip}
 use Rattle.events.specs.declared.event.Call.{Call}
+use Rattle.events.specs.declared.TheConstants.{MAX_CALLS}
+use Rattle.events.specs.Histories.{AreHistoryEvents}
 use Rattle.map_object.specs.MapObject.{Contents}
+use Rattle.logs.specs.Logs.{Stamped}
 use Rattle.art_rows.specs.declared.table.Shape.{Shape}
+use Rattle.art_rows.specs.Table.{clock, table_words}
 use Rattle.art_steps.specs.declared.variant.Variant.{Variant}
 use Rattle.art_steps.specs.Act.{act}
 use Rattle.art_core.specs.declared.process.Process.{Process}
-use Rattle.art_core.specs.Core.{Plan, State, Move, Invokes, begun, finished, moved, move_of, opened}
+use Rattle.art_core.specs.Core.{Plan, State, Move, Invokes, begun, finished, moved, move_of, history_of, opened, opened_on}
 use Rattle.art_core.specs.Runs.{Gives, run_on, run_from}
 use Rattle.art_core.specs.Starts.{StartsOn, IsStartRefused}
+use Rattle.art_core.specs.Claims.{IsPlan}
 use Rattle.art_core.specs.declared.item.Item.{Item}
 use Rattle.art_core.specs.NamedTurns.{AreMadeWhole}
 use Rattle.art_core.specs.Schedules.{Run, begun_run, items_made}
@@ -44,6 +49,17 @@ MovesAreReached = (shape : Shape) (variant : Variant) (s : State) (schedule : Li
     → slice_get s.processes p ≡ Some q → MayMove shape variant q q.call m
     → Gives (begun_plan shape variant (moved s p q m).processes) (opened (begun_plan shape variant (moved s p q m).processes)) (schedule ++ p ∷ [])
     (moved s p q m)
+
+-- The clock is above all stamps, and counts few of them; what was logged is a history.
+pub record IsClocked (s : State) : Type 0 where
+  pub stamps : All (λ q. All (λ (e : Stamped). e.0 < slice_index s.words clock) q.log) s.processes
+  pub few : slice_index s.words clock ≤ 2 * MAX_CALLS
+  pub history : AreHistoryEvents (history_of s)
+
+-- So it is in each state that a schedule of a plan within the limits gives, however many steps were made.
+abbrev pub ClocksAreAhead : Type 0
+ClocksAreAhead = (plan : Plan) (words schedule : List ℕ) (s : State) → IsPlan plan → length words ≡ table_words plan.shape → slice_index words clock ≡ 0
+    → Gives plan (opened_on plan words) schedule s → IsClocked s
 
 -- The turns that items name are as many, and lead to one state.
 abbrev pub NamedTurnsAreOne : Type 0

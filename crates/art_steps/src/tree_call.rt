@@ -26,7 +26,7 @@ impl Model for TreeCall {
 }
 
 impl TreeCall {
-    ghost use Rattle.std.specs.Prelude.{if◌then◌else◌};
+    ghost use Rattle.std.specs.Prelude.{if◌then◌else◌, IsTrue};
     ghost use Rattle.art_steps.specs.TreeCalls.{is_tree_call};
     ghost use Rattle.art_rows.specs.Words.{is_small_child};
     ghost use Rattle.art_steps.specs.Rows.{key_of};
@@ -54,6 +54,13 @@ impl TreeCall {
         ensures { result ≡ self.now }
     {
         self.call
+    }
+
+    /// A law for proofs: the call is one that a tree can hold. It does nothing.
+    pub fn fits(&self)
+        ensures { IsTrue (is_tree_call self.now) }
+    {
+        let _ = &self.call;
     }
 
     /// The key of a call on one key; of a scan its first.

@@ -13,11 +13,11 @@ pub AreBelow-append : (k : ℕ) (es fs : List Stamped) → AreBelow k es → Are
 AreBelow-append k [] fs h g = g
 AreBelow-append k (e ∷ es) fs h g = (h.0, AreBelow-append k es fs h.1 g)
 
-AreBelow-front : (k : ℕ) (es fs : List Stamped) → AreBelow k (es ++ fs) → AreBelow k es
+pub AreBelow-front : (k : ℕ) (es fs : List Stamped) → AreBelow k (es ++ fs) → AreBelow k es
 AreBelow-front k [] fs h = tt
 AreBelow-front k (e ∷ es) fs h = (h.0, AreBelow-front k es fs h.1)
 
-AreBelow-back : (k : ℕ) (es fs : List Stamped) → AreBelow k (es ++ fs) → AreBelow k fs
+pub AreBelow-back : (k : ℕ) (es fs : List Stamped) → AreBelow k (es ++ fs) → AreBelow k fs
 AreBelow-back k [] fs h = h
 AreBelow-back k (e ∷ es) fs h = AreBelow-back k es fs h.1
 
