@@ -1,0 +1,148 @@
+-- The beginning, and the end.
+use Rattle.std.proofs.Common.{◌≡◌, ℕ, zero, suc, ◌+◌, ◌-◌, ◌<◌, ◌≤◌, ◌≢◌, ◌⊎◌, inl, inr, ⊎_elim, List, [], ◌∷◌, length, map, sym, refl, ap, subst, ◌∙◌, arith, replicate}
+use mathlib.Core.Option.{some, some-ne-none}
+use lib.ListN.{get_elem?}
+use Rattle.std.specs.Prelude.{Option, Some, None, All, slice_get}
+use Rattle.std.specs.List.{range_with_len}
+use Rattle.std.proofs.lemmas.Bool.{cases_lt}
+use Rattle.std.proofs.lemmas.List.{length-replicate}
+use Rattle.std.proofs.lemmas.List.Elements.{All-nil}
+use Rattle.std.proofs.lemmas.Option.{slice_get_within, same_Some, none-some}
+use Rattle.list_laws.proofs.Lists.{AllPairs-nil}
+use Rattle.atomic_table.specs.Table.{State as Table, opening as table_opening, Seen}
+use Rattle.atomic_table.proofs.Lists.{at_snoc}
+use Rattle.events.specs.declared.event.Call.{Call}
+use Rattle.events.specs.Histories.{AreHistoryEvents}
+use Rattle.art_rows.specs.Table.{opening}
+use Rattle.art_core.specs.declared.process.Process.{Process}
+use Rattle.art_core.specs.Core.{idle, opened, history_of}
+use Rattle.art_core.specs.Runs.{Gives}
+use Rattle.art_core.specs.Laws.{begun_plan}
+use Rattle.art_core.specs.Claims.{IsPlan}
+use Rattle.art_core.proofs.HistoryLemmas.{opening-length}
+use Rattle.art_core.proofs.StartLemmas.{no-start}
+use Rattle.art_shared.specs.declared.view.Setup.{Setup}
+use Rattle.art_shared.specs.declared.view.Noted.{Noted}
+use Rattle.art_shared.specs.Setups.{IsSetup}
+use Rattle.art_shared.specs.Views.{Numbered, all_idle}
+use Rattle.art_shared.specs.Rule.{Has, times, times_in, Above, Rises, Kept, first_view}
+use Rattle.art_shared.specs.Ends.{plan_of, state_of, Ended}
+use Rattle.art_shared.proofs.NumberedLemmas.{hit, miss}
+use Rattle.art_shared.proofs.GivenLemmas.{given-first, given-plan, given-clocked}
+
+-- All processes, before the first step.
+
+abbrev idle_from : ℕ → ℕ → List Numbered
+idle_from a n = map (λ p. (p, idle)) (range_with_len a n)
+
+idle-has : (a n p : ℕ) (q : Process) → Has (p, q) (idle_from a n) → (a ≤ p) × (p < a + n) × (q ≡ idle)
+idle-has a zero p q h = absurd h
+idle-has a (suc n) p q h = ⊎_elim
+    (λ e. let is : p ≡ a = ap (λ (x : Numbered). x.0) e in (omega arith, omega arith, ap (λ (x : Numbered). x.1) e))
+    (λ t. let r = idle-has (a + 1) n p q t in let low = r.0 in let high = r.1 in (omega arith, omega arith, r.2)) h
+
+idle-absent : (p a n : ℕ) → p < a → times p (idle_from a n) ≡ 0
+idle-absent p a zero lt = refl
+idle-absent p a (suc n) lt = let x = miss p a (λ e. omega arith) in let y = idle-absent p (a + 1) n (omega arith) in omega arith
+
+idle-once : (p a n : ℕ) → a ≤ p → p < a + n → times p (idle_from a n) ≡ 1
+idle-once p a zero low high = absurd (omega arith)
+idle-once p a (suc n) low high = ⊎_elim
+    (λ e. let x = hit p a e in let y = idle-absent p (a + 1) n (omega arith) in omega arith)
+    (λ lt. let x = miss p a (λ e. omega arith) in let y = idle-once p (a + 1) n (omega arith) (omega arith) in omega arith) (first (cases_lt a p))
+  where
+    first : (a < p) ⊎ (p ≤ a) → (p ≡ a) ⊎ (a < p)
+    first (inl lt) = inr lt
+    first (inr le) = inl (omega arith)
+
+idle-above : (b a n : ℕ) → b < a → Above b (idle_from a n)
+idle-above b a zero lt = tt
+idle-above b a (suc n) lt = (lt, idle-above b (a + 1) n (omega arith))
+
+idle-rises : (a n : ℕ) → Rises (idle_from a n)
+idle-rises a zero = tt
+idle-rises a (suc n) = (idle-above a (a + 1) n (omega arith), idle-rises (a + 1) n)
+
+get-replicate : (n i : ℕ) → i < n → slice_get (replicate n idle) i ≡ Some idle
+get-replicate zero i lt = absurd (omega arith)
+get-replicate (suc n) zero lt = refl
+get-replicate (suc n) (suc i) lt = get-replicate n i (omega arith)
+
+pub opens : (setup : Setup) → Kept setup (table_opening (opening setup.shape) [] (first_view setup))
+opens setup = (
+  opening-length setup.shape,
+  record {
+    processes = replicate setup.processes idle;
+    given = given-first setup;
+    shows = λ j u e p q h. ⊎_elim (λ t. absurd (some-ne-none u (sym t)))
+        (λ t. let r = idle-has 0 setup.processes p q (subst (λ z. Has (p, q) z.view.processes) (sym t) h) in let high = r.1 in
+        (ap (λ z. z.view.setup) (sym t), get-replicate setup.processes p (omega arith) ∙ ap Some (sym r.2)))
+        (at_snoc [] (first_view setup) u j e);
+    once = λ p lt. let one = idle-once p 0 setup.processes (omega arith) (omega arith) in omega arith;
+    rising = λ j u e. ⊎_elim (λ t. absurd (some-ne-none u (sym t))) (λ t. subst (λ z. Rises z.view.processes) t (idle-rises 0 setup.processes))
+        (at_snoc [] (first_view setup) u j e);
+  },
+)
+
+-- A place that has all processes has them in their order.
+
+above-has : (b : ℕ) (l : List Numbered) (p : ℕ) (q : Process) → Above b l → Has (p, q) l → b < p
+above-has b [] p q h t = absurd t
+above-has b (x ∷ xs) p q h t = ⊎_elim (λ e. let is : p ≡ x.0 = ap (λ (y : Numbered). y.0) e in let lt = h.0 in omega arith) (λ u. above-has b xs p q h.1 u) t
+
+-- numbers that rise from low on and stay below high are no more than there are between
+room : (l : List Numbered) (low high : ℕ) → low ≤ high → Rises l → ((p : ℕ) (q : Process) → Has (p, q) l → (low ≤ p) × (p < high)) → length l + low ≤ high
+room [] low high le h within = omega arith
+room (x ∷ xs) low high le h within =
+    let here = within x.0 x.1 (inl refl) in
+    let bottom = here.0 in
+    let top = here.1 in
+    let rest = room xs (x.0 + 1) high (omega arith) h.1 (λ p q t. let lt = above-has x.0 xs p q h.0 t in (omega arith, (within p q (inr t)).1)) in
+    omega arith
+
+collected : (i : ℕ) (l : List Numbered) (processes : List Process) → Rises l → length l ≡ length processes
+    → ((p : ℕ) (q : Process) → Has (p, q) l → (i ≤ p) × (slice_get processes (p - i) ≡ Some q)) → map (λ (x : Numbered). x.1) l ≡ processes
+collected i [] [] h long at = refl
+collected i [] (r ∷ ps) h long at = absurd (omega arith)
+collected i (x ∷ xs) [] h long at = absurd (omega arith)
+collected i (x ∷ xs) (r ∷ ps) h long at =
+    let here = at x.0 x.1 (inl refl) in
+    let low = here.0 in
+    let within = slice_get_within (r ∷ ps) (x.0 - i) x.1 here.1 in
+    let after : (p : ℕ) (q : Process) → Has (p, q) xs → (x.0 + 1 ≤ p) × (p < i + length (r ∷ ps)) =
+    λ p q t. let lt = above-has x.0 xs p q h.0 t in let inside = slice_get_within (r ∷ ps) (p - i) q (at p q (inr t)).1 in (omega arith, omega arith) in
+    let few = room xs (x.0 + 1) (i + length (r ∷ ps)) (omega arith) h.1 after in
+    let is : x.0 ≡ i = omega arith in
+    let none : x.0 - i ≡ 0 = omega arith in
+    let first : x.1 ≡ r = sym (same_Some r x.1 (ap (λ n. slice_get (r ∷ ps) n) (sym none) ∙ here.1)) in
+    let rest = collected (i + 1) xs ps h.1 (omega arith)
+    (λ p q t. let lt = (after p q t).0 in let one : p - i ≡ suc (p - (i + 1)) = omega arith in
+    (omega arith, ap (λ n. slice_get (r ∷ ps) n) (sym one) ∙ (at p q (inr t)).1)) in
+    ap (λ z. z ∷ map (λ (x : Numbered). x.1) xs) first ∙ ap (λ zs. r ∷ zs) rest
+
+module _ (setup : Setup) (limits : IsSetup setup) where
+  -- what a schedule gives, where the processes are those of the view
+  pub ended : (id : ℕ) (v : Noted) (s : Table Call Noted) → length v.view.processes ≡ setup.processes → Seen (Kept setup) id v s → Ended setup v.view
+  ended id v s all seen =
+      let r = seen.0.1 in
+      let many = r.given.many in
+      let same : map (λ (x : Numbered). x.1) v.view.processes ≡ r.processes =
+      collected 0 v.view.processes r.processes (r.rising id v seen.1) (omega arith) (λ p q t. let same : p ≡ p - 0 = omega arith in (omega arith, ap (λ n. slice_get r.processes n) (sym same) ∙ (r.shows id v seen.1 p q t).1)) in
+      let plan = subst (λ l. IsPlan (begun_plan setup.shape setup.variant l)) (sym same) (given-plan setup limits s.words r.processes r.given) in
+      let gives = subst (λ l. Gives (begun_plan setup.shape setup.variant l) (opened (begun_plan setup.shape setup.variant l)) r.given.schedule
+      (record { words = s.words; processes = l })) (sym same) r.given.gives in
+      record {
+        words = s.words;
+        schedule = r.given.schedule;
+        within = plan;
+        gives = gives;
+        history = subst (λ l. AreHistoryEvents (history_of (record { words = s.words; processes = l }))) (sym same)
+            (given-clocked setup limits s.words r.processes r.given).history;
+        run = λ few. record {
+          within = plan;
+          start_within = record { rising = AllPairs-nil (λ (a b : ℕ × ℕ). a.0 < b.0); calls = All-nil _; few = omega (arith, plan.few_calls) };
+          starts = no-start setup.shape setup.variant;
+          gives = gives;
+          few_steps = few;
+        };
+      }

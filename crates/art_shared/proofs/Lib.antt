@@ -1,0 +1,6 @@
+pub mod NumberedLemmas
+pub mod CountLemmas
+pub mod GivenLemmas
+pub mod ReachedLemmas
+pub mod StepLemmas
+pub mod EndLemmas

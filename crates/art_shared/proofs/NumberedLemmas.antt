@@ -1,0 +1,125 @@
+-- Lists of numbered processes: who stands in them, how often, and in which order.
+use Rattle.std.proofs.Common.{◌≡◌, ℕ, zero, suc, ◌+◌, ◌<◌, ◌≤◌, ◌≢◌, ◌⊎◌, inl, inr, ⊎_elim, Bool, true, false, eqb, List, [], ◌∷◌, ◌++◌, length, sym, refl, ap, subst, ◌∙◌, arith, eq-eqb, ne_eqb}
+use Rattle.std.specs.Prelude.{nat_lt, if◌then◌else◌, take, drop}
+use Rattle.std.proofs.lemmas.Bool.{ltb-true, ltb-false}
+use Rattle.std.proofs.lemmas.List.{take-append-drop}
+use Rattle.art_core.specs.declared.process.Process.{Process}
+use Rattle.art_shared.specs.Views.{Numbered, placed, merge}
+use Rattle.art_shared.specs.Rule.{Has, weight, times, Above, Rises}
+
+pub hit : (x y : ℕ) → x ≡ y → weight (eqb x y) ≡ 1
+hit x y e = ap weight (eq-eqb x y e)
+
+pub miss : (x y : ℕ) → x ≢ y → weight (eqb x y) ≡ 0
+miss x y e = ap weight (ne_eqb x y e)
+
+pub has-times : (p : ℕ) (q : Process) (l : List Numbered) → Has (p, q) l → 1 ≤ times p l
+has-times p q [] h = absurd h
+has-times p q (y ∷ ys) h =
+    ⊎_elim (λ e. let one = hit p y.0 (ap (λ (x : Numbered). x.0) e) in omega arith) (λ t. let r = has-times p q ys t in omega arith) h
+
+-- Two lists, one behind the other.
+
+has-left : (x : Numbered) (l m : List Numbered) → Has x l → Has x (l ++ m)
+has-left x [] m h = absurd h
+has-left x (y ∷ l) m h = ⊎_elim (λ e. inl e) (λ t. inr (has-left x l m t)) h
+
+has-right : (x : Numbered) (l m : List Numbered) → Has x m → Has x (l ++ m)
+has-right x [] m h = h
+has-right x (y ∷ l) m h = inr (has-right x l m h)
+
+times-append : (p : ℕ) (l m : List Numbered) → times p (l ++ m) ≡ times p l + times p m
+times-append p [] m = omega arith
+times-append p (x ∷ l) m = let r = times-append p l m in omega arith
+
+above-left : (p : ℕ) (l m : List Numbered) → Above p (l ++ m) → Above p l
+above-left p [] m h = tt
+above-left p (x ∷ l) m h = (h.0, above-left p l m h.1)
+
+rises-left : (l m : List Numbered) → Rises (l ++ m) → Rises l
+rises-left [] m h = tt
+rises-left (x ∷ l) m h = (above-left x.0 l m h.0, rises-left l m h.1)
+
+rises-right : (l m : List Numbered) → Rises (l ++ m) → Rises m
+rises-right [] m h = h
+rises-right (x ∷ l) m h = rises-right l m h.1
+
+-- A list cut in two.
+
+module _ (i : ℕ) (l : List Numbered) where
+  pub has-take : (x : Numbered) → Has x (take i l) → Has x l
+  has-take x h = subst (Has x) (take-append-drop i l) (has-left x (take i l) (drop i l) h)
+
+  pub has-drop : (x : Numbered) → Has x (drop i l) → Has x l
+  has-drop x h = subst (Has x) (take-append-drop i l) (has-right x (take i l) (drop i l) h)
+
+  pub times-cut : (p : ℕ) → times p (take i l) + times p (drop i l) ≡ times p l
+  times-cut p = sym (times-append p (take i l) (drop i l)) ∙ ap (times p) (take-append-drop i l)
+
+  pub rises-take : Rises l → Rises (take i l)
+  rises-take h = rises-left (take i l) (drop i l) (subst Rises (sym (take-append-drop i l)) h)
+
+  pub rises-drop : Rises l → Rises (drop i l)
+  rises-drop h = rises-right (take i l) (drop i l) (subst Rises (sym (take-append-drop i l)) h)
+
+-- Two lists made one.
+
+branch : (b : Bool) (f : List Numbered → ℕ) (l m : List Numbered) (n : ℕ) → f l ≡ n → f m ≡ n → f (if b then l else m) ≡ n
+branch true f l m n a b = a
+branch false f l m n a b = b
+
+times-placed : (p : ℕ) (x : Numbered) (l : List Numbered) → times p (placed x l) ≡ weight (eqb p x.0) + times p l
+times-placed p x [] = refl
+times-placed p x (y ∷ ys) = let r = times-placed p x ys in branch (nat_lt x.0 y.0) (times p) (x ∷ y ∷ ys) (y ∷ placed x ys) _ refl (omega arith)
+
+pub times-merge : (p : ℕ) (l m : List Numbered) → times p (merge l m) ≡ times p l + times p m
+times-merge p l [] = omega arith
+times-merge p l (x ∷ xs) = let r = times-merge p l xs in let i = times-placed p x (merge l xs) in omega arith
+
+has-branch : (b : Bool) (x : Numbered) (l m : List Numbered) (P : Type 0) → (Has x l → P) → (Has x m → P) → Has x (if b then l else m) → P
+has-branch true x l m P f g h = f h
+has-branch false x l m P f g h = g h
+
+has-placed : (x y : Numbered) (l : List Numbered) → Has x (placed y l) → (x ≡ y) ⊎ Has x l
+has-placed x y [] h = h
+has-placed x y (z ∷ zs) h =
+    has-branch (nat_lt y.0 z.0) x (y ∷ z ∷ zs) (z ∷ placed y zs) ((x ≡ y) ⊎ Has x (z ∷ zs)) (λ t. t)
+    (λ t. ⊎_elim (λ e. inr (inl e)) (λ u. ⊎_elim (λ e. inl e) (λ w. inr (inr w)) (has-placed x y zs u)) t) h
+
+pub has-merge : (x : Numbered) (l m : List Numbered) → Has x (merge l m) → Has x l ⊎ Has x m
+has-merge x l [] h = inl h
+has-merge x l (y ∷ ys) h =
+    ⊎_elim (λ e. inr (inl e)) (λ t. ⊎_elim (λ a. inl a) (λ b. inr (inr b)) (has-merge x l ys t)) (has-placed x y (merge l ys) h)
+
+above-all : (p : ℕ) (l : List Numbered) (n : ℕ) → n ≤ p → Above p l → Above n l
+above-all p [] n le h = tt
+above-all p (y ∷ ys) n le h = let a = h.0 in (omega arith, above-all p ys n le h.1)
+
+above-placed : (p : ℕ) (x : Numbered) (l : List Numbered) → p < x.0 → Above p l → Above p (placed x l)
+above-placed p x [] lt h = (lt, tt)
+above-placed p x (y ∷ ys) lt h = elim (nat_lt x.0 y.0) as (λ b. Above p (if b then x ∷ y ∷ ys else y ∷ placed x ys)) [
+  | true ↦ (lt, h)
+  | false ↦ (h.0, above-placed p x ys lt h.1)
+]
+
+rises-placed : (x : Numbered) (l : List Numbered) → times x.0 l ≡ 0 → Rises l → Rises (placed x l)
+rises-placed x [] new h = (tt, tt)
+rises-placed x (y ∷ ys) new h = go (nat_lt x.0 y.0) refl (λ none. rises-placed x ys none h.1)
+  where
+    apart : x.0 ≡ y.0 → ⊥
+    apart e = let one = hit x.0 y.0 e in omega arith
+
+    go : (b : Bool) → nat_lt x.0 y.0 ≡ b → (times x.0 ys ≡ 0 → Rises (placed x ys)) → Rises (if b then x ∷ y ∷ ys else y ∷ placed x ys)
+    go true e later = let lt = ltb-true x.0 y.0 e in ((lt, above-all y.0 ys x.0 (omega arith) h.0), h)
+    go false e later =
+        let le = ltb-false x.0 y.0 e in
+        let lt : y.0 < x.0 = omega (arith, apart) in
+        (above-placed y.0 x ys lt h.0, later (omega arith))
+
+pub rises-merge : (l m : List Numbered) → Rises l → ((p : ℕ) (q : Process) → Has (p, q) m → times p l + times p m ≤ 1) → Rises (merge l m)
+rises-merge l [] h once = h
+rises-merge l (x ∷ xs) h once =
+    let one = once x.0 x.1 (inl refl) in
+    let self = hit x.0 x.0 refl in
+    let both = times-merge x.0 l xs in
+    rises-placed x (merge l xs) (omega arith) (rises-merge l xs h (λ p q t. let a = once p q (inr t) in omega arith))

@@ -1,0 +1,28 @@
+-- What is known of processes that have come to their end together.
+use Rattle.std.specs.Prelude.{ℕ, List, [], map}
+use Rattle.events.specs.Histories.{AreHistoryEvents}
+use Rattle.art_rows.specs.Table.{opening}
+use Rattle.art_core.specs.Core.{Plan, State, history_of, opened}
+use Rattle.art_core.specs.Runs.{Gives, HasFewSteps}
+use Rattle.art_core.specs.Laws.{begun_plan}
+use Rattle.art_core.specs.Claims.{IsPlan, IsRun}
+use Rattle.art_shared.specs.declared.view.Setup.{Setup}
+use Rattle.art_shared.specs.declared.view.View.{View}
+
+-- the calls that the processes began, as scripts
+abbrev pub plan_of : Setup → View → Plan
+plan_of setup v = begun_plan setup.shape setup.variant (map (λ x. x.1) v.processes)
+
+-- the processes of a view, on these words
+abbrev pub state_of : List ℕ → View → State
+state_of words v = record { words = words; processes = map (λ x. x.1) v.processes }
+
+-- Some schedule gives the processes of the view, on some words, with the calls that they began as scripts. What they logged is a history; where they made few
+-- steps, all holds that is proved of such runs.
+pub record Ended (setup : Setup) (v : View) : Type 0 where
+  pub words : List ℕ
+  pub schedule : List ℕ
+  pub within : IsPlan (plan_of setup v)
+  pub gives : Gives (plan_of setup v) (opened (plan_of setup v)) schedule (state_of words v)
+  pub history : AreHistoryEvents (history_of (state_of words v))
+  pub run : HasFewSteps (state_of words v) → IsRun (plan_of setup v) [] (opening setup.shape) schedule (state_of words v)

@@ -1,0 +1,118 @@
+-- The rule of the words: some schedule of the core, with the calls begun so far as scripts, gives the words and what the views show of each process.
+use Rattle.std.specs.Prelude.{◌≡◌, ℕ, ◌+◌, ◌<◌, ◌≤◌, ◌⊎◌, ◌==◌, Bool, true, false, IsTrue, List, [], ◌∷◌, length, slice_get, All, Option, Some, None}
+use mathlib.Core.Option.{some}
+use lib.ListN.{get_elem?}
+use Rattle.atomic_table.specs.Table.{State as Table, Me, Step}
+use Rattle.events.specs.declared.event.Call.{Call}
+use Rattle.art_rows.specs.Table.{table_words}
+use Rattle.art_steps.specs.TreeCalls.{is_tree_call}
+use Rattle.art_steps.specs.declared.variant.Variant.TheVariants.{Coupled}
+use Rattle.art_core.specs.declared.process.Process.{Process}
+use Rattle.art_core.specs.Core.{begun, opened}
+use Rattle.art_core.specs.Runs.{Gives}
+use Rattle.art_core.specs.Laws.{begun_plan}
+use Rattle.art_shared.specs.declared.view.Setup.{Setup}
+use Rattle.art_shared.specs.declared.view.View.{View}
+use Rattle.art_shared.specs.declared.view.Noted.{Noted}
+use Rattle.art_shared.specs.Views.{Numbered, view, all_idle, advanced, invoking, AllStamps, without_last, last_alone, merged}
+
+abbrev pub noted : View → Option Call → Noted
+noted v asked = record { view = v; asked = asked }
+
+abbrev pub Has : Numbered → List Numbered → Type 0
+Has x [] = ⊥
+Has x (y ∷ ys) = (x ≡ y) ⊎ Has x ys
+
+abbrev pub weight : Bool → ℕ
+weight true = 1
+weight false = 0
+
+-- how often process p stands among them
+abbrev pub times : ℕ → List Numbered → ℕ
+times p [] = 0
+times p (y ∷ ys) = weight (p == y.0) + times p ys
+
+abbrev pub times_in : ℕ → Noted → ℕ
+times_in p v = times p v.view.processes
+
+abbrev pub total : (Noted → ℕ) → List Noted → ℕ
+total f [] = 0
+total f (v ∷ vs) = f v + total f vs
+
+-- a view shows its processes as they are; one that has none is excepted
+abbrev pub Shows : Setup → List Process → Noted → Type 0
+Shows setup processes v = (p : ℕ) (q : Process) → Has (p, q) v.view.processes → (v.view.setup ≡ setup) × (slice_get processes p ≡ Some q)
+
+-- by rising number
+abbrev pub Above : ℕ → List Numbered → Type 0
+Above p [] = Unit {0}
+Above p (y ∷ ys) = (p < y.0) × Above p ys
+
+abbrev pub Rises : List Numbered → Type 0
+Rises [] = Unit {0}
+Rises (x ∷ xs) = Above x.0 xs × Rises xs
+
+-- some schedule gives the words and the processes
+pub record IsGiven (setup : Setup) (words : List ℕ) (processes : List Process) : Type 0 where
+  pub schedule : List ℕ
+  pub gives : Gives (begun_plan setup.shape setup.variant processes) (opened (begun_plan setup.shape setup.variant processes)) schedule (record { words = words; processes = processes })
+  pub many : length processes ≡ setup.processes
+  -- so the clock, which stamps alone change, stays small, and stamps rise
+  pub few : All (λ q. length (begun q) ≤ setup.calls_each) processes
+  pub calls : All (λ q. All (λ call. IsTrue (is_tree_call call)) (begun q)) processes
+
+-- each process is in one view, which shows it as it is
+pub record IsReached (setup : Setup) (words : List ℕ) (views : List Noted) : Type 0 where
+  pub processes : List Process
+  pub given : IsGiven setup words processes
+  pub shows : (j : ℕ) (v : Noted) → get_elem? views j ≡ some v → Shows setup processes v
+  pub once : (p : ℕ) → p < setup.processes → total (times_in p) views ≡ 1
+  pub rising : (j : ℕ) (v : Noted) → get_elem? views j ≡ some v → Rises v.view.processes
+
+abbrev pub Kept : Setup → Table Call Noted → Type 0
+Kept setup s = (length s.words ≡ table_words setup.shape) × IsReached setup s.words s.views
+
+abbrev pub first_view : Setup → Noted
+first_view setup = noted (all_idle setup) None
+
+-- a place in the table: its view, and no slots
+abbrev pub Seated : Type 0
+Seated = Me Call Noted
+
+-- the call is noted that the next stamp invokes
+abbrev pub Notes : Step Call → Seated → ℕ → Seated → Type 0
+Notes step me n new = (new.1 ≡ me.1) × ((call : Call) → step.said ≡ some call → new.0 ≡ noted me.0.view (Some call))
+
+-- the first process made its open call's next move
+abbrev pub Advances : Step Call → Seated → ℕ → Seated → Type 0
+Advances step me n new = (new.1 ≡ me.1) × (new.0.view ≡ advanced me.0.view n)
+
+-- so it did, by a stamp greater than all that the view showed
+abbrev pub Draws : Step Call → Seated → ℕ → Seated → Type 0
+Draws step me n new = Advances step me n new × AllStamps (λ stamp. stamp < n) me.0.view
+
+abbrev pub with_asked : Option Call → View → ℕ → View
+with_asked None v n = v
+with_asked (Some call) v n = invoking call v n
+
+-- the first process invoked the call that was noted, by a stamp greater than all that the view showed
+abbrev pub InvokesAsked : Step Call → Seated → ℕ → Seated → Type 0
+InvokesAsked step me n new = (new.1 ≡ me.1) × (new.0.view ≡ with_asked me.0.asked me.0.view n) × AllStamps (λ stamp. stamp < n) me.0.view
+
+-- the parts of a split and of a join
+abbrev pub kept_part : Noted → Noted
+kept_part v = noted (without_last v.view) None
+
+abbrev pub given_part : Noted → Noted
+given_part v = noted (last_alone v.view) None
+
+abbrev pub both_parts : Noted → Noted → Noted
+both_parts v w = noted (merged v.view w.view) None
+
+-- a setup of nothing, for a view of nothing
+abbrev pub nowhere : Setup
+nowhere = record { shape = record { rows4 = 0; rows16 = 0; rows48 = 0; rows256 = 0 }; variant = Coupled; processes = 0; calls_each = 0 }
+
+-- what is left of a place that was joined to another
+abbrev pub no_part : Noted
+no_part = noted (view nowhere []) None

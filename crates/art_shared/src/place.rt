@@ -1,0 +1,14 @@
+// What a thread steps with.
+ghost use Rattle.std.specs.Prelude.{◌≡◌, []};
+
+use crate::view::Noted;
+use art_steps::TreeCall;
+use atomic_table::Seat;
+
+/// Some processes of a [`SharedCore`](crate::SharedCore), for one thread at a time. It takes no bytes. It is used only with the
+/// core that it came from. Where it is dropped its processes are lost, and the core can't be closed.
+#[derive(Drop)]
+pub struct Place {
+    pub(crate) seat: Seat<TreeCall, Noted>,
+    ghost no_slots: { seat.me.1 ≡ [] },
+}
