@@ -8,7 +8,7 @@ use Rattle.logs.specs.Logs.{Stamped}
 use Rattle.art.specs.Tasks.{rest_of}
 use Rattle.art_core.specs.declared.process.Process.{Process}
 use Rattle.art_core.specs.Core.{Plan, Invokes, Makes, Responds, begun, finished, invoked, answered, move_of, move_from, invocation, next_in}
-use Rattle.machine.specs.declared.doing.Open.{Open}
+use Rattle.art.specs.declared.task.Task.{Task}
 use Rattle.machine.specs.declared.doing.Doing.TheVariants.{Idle, Going, Answered}
 use Rattle.machine.specs.declared.runner.Runner.{Runner}
 use Rattle.events.specs.declared.event.Call.{Call}
@@ -22,6 +22,7 @@ use Rattle.art_steps.specs.Act.{act}
 use Rattle.art_steps.specs.Fits.{Fits}
 use Rattle.art_core.specs.Accesses.{got_by, words_after}
 use Rattle.machine.specs.declared.doing.Doing.{Doing}
+use Rattle.machine.specs.Doings.{after_access}
 use Rattle.machine.specs.Fitting.{Advances, FitsDoing, FitsProcess, Moves}
 
 asks_of : (t : Turn) (a : Access) → access_of t ≡ Some a → (p : Option Point) × (t ≡ Asks a p)
@@ -53,20 +54,26 @@ unanswered (Some r) h = absurd (true_false h)
 
 module _ (shape : Shape) (variant : Variant) (call : Call) (got old new : List ℕ) (rest : Rest) (a : Access) (w : ℕ)
     (fits : Fits shape variant call got rest) (asks : access_of (rest []) ≡ Some a) (gave : w ≡ got_by a old) where
-  pub asked : (p : Option Point) × (act shape variant call got ≡ Asks a p)
+  asked : (p : Option Point) × (act shape variant call got ≡ Asks a p)
   asked = let found = asks_of (rest []) a asks in (found.0, ap (act shape variant call) (sym (append-nil got)) ∙ (sym (fits []) ∙ found.1))
 
-  pub later : (rest' : Rest) → ((more : List ℕ) → rest' more ≡ rest (w ∷ more)) → Fits shape variant call (got ++ got_by a old ∷ []) rest'
+  later : (rest' : Rest) → ((more : List ℕ) → rest' more ≡ rest (w ∷ more)) → Fits shape variant call (got ++ got_by a old ∷ []) rest'
   later rest' goes = λ more. goes more
       ∙ (fits (w ∷ more)
       ∙ (ap (λ x. act shape variant call (got ++ x ∷ more)) gave ∙ ap (act shape variant call) (sym (append_assoc got (got_by a old ∷ []) more))))
 
-  pub answers : (r : Reply) → reply_of (rest (w ∷ [])) ≡ Some r → act shape variant call (got ++ got_by a old ∷ []) ≡ Answers r
+  answers : (r : Reply) → reply_of (rest (w ∷ [])) ≡ Some r → act shape variant call (got ++ got_by a old ∷ []) ≡ Answers r
   answers r e = ap (λ x. act shape variant call (got ++ x ∷ [])) (sym gave) ∙ (sym (fits (w ∷ [])) ∙ answers_of (rest (w ∷ [])) r e)
 
-  pub makes : (doing : Doing) → new ≡ words_after a old → FitsDoing shape variant doing (Some call) (got ++ got_by a old ∷ [])
+  makes : (doing : Doing) → new ≡ words_after a old → FitsDoing shape variant doing (Some call) (got ++ got_by a old ∷ [])
       → Advances shape variant call got old new doing
   makes doing wrote f = record { access = a; point = asked.0; asks = asked.1; words = wrote; fits = f }
+
+  -- the task took what the access got: it goes on, or its call is answered
+  pub taken : (task : Task) (o : Option Reply) → new ≡ words_after a old → reply_of (rest (w ∷ [])) ≡ o
+      → (o ≡ None → (more : List ℕ) → rest_of task more ≡ rest (w ∷ more)) → Advances shape variant call got old new (after_access task o)
+  taken task None wrote reply goes = makes (Going task) wrote (call, refl, later (rest_of task) (goes refl))
+  taken task (Some r) wrote reply goes = makes (Answered r) wrote (call, refl, answers r reply)
 
 -- A turn of a runner is the next move of the process that it fits.
 
@@ -78,13 +85,13 @@ finished-append : (log : List Stamped) (e : Stamped)
     → filter_map (λ e. answered e.1) (log ++ e ∷ []) ≡ filter_map (λ e. answered e.1) log ++ filter_map (λ e. answered e.1) (e ∷ [])
 finished-append log e = filter_map-append (λ e. answered e.1) log (e ∷ [])
 
-pub goes-on : (plan : Plan) (p : ℕ) (q : Process) (r : Runner) (call : Open) (old new : List ℕ) (r2 : Runner)
-    → FitsProcess plan p (record r { doing = Going call }) q
-    → ((asked : Call) (got : List ℕ) → Fits plan.shape plan.variant asked got (rest_of call.task)
+pub goes-on : (plan : Plan) (p : ℕ) (q : Process) (r : Runner) (task : Task) (old new : List ℕ) (r2 : Runner)
+    → FitsProcess plan p r q → r.doing ≡ Going task
+    → ((asked : Call) (got : List ℕ) → Fits plan.shape plan.variant asked got (rest_of task)
     → Advances plan.shape plan.variant asked got old new r2.doing)
     → r2.log.items ≡ r.log.items → r2.script ≡ r.script → r2.begun ≡ r.begun → r2.finished ≡ r.finished → Moves plan p q old new r2
-goes-on plan p q r call old new r2 fits made logged script begun_is finished_is =
-    let d = fits.doing in
+goes-on plan p q r task old new r2 fits going made logged script begun_is finished_is =
+    let d = subst (λ doing. FitsDoing plan.shape plan.variant doing q.call q.got) going fits.doing in
     let a = made d.0 q.got d.2 in
     record {
       move = Makes a.access;
@@ -100,11 +107,11 @@ goes-on plan p q r call old new r2 fits made logged script begun_is finished_is 
     }
 
 pub responds : (plan : Plan) (p : ℕ) (q : Process) (r : Runner) (reply : Reply) (old new : List ℕ) (r2 : Runner)
-    → FitsProcess plan p (record r { doing = Answered reply }) q
+    → FitsProcess plan p r q → r.doing ≡ Answered reply
     → new ≡ slice_set old 0 ((slice_index old 0 + 1) % 2 ^ 64) → r2.log.items ≡ r.log.items ++ (slice_index old 0, Answer p reply) ∷ []
     → r2.script ≡ r.script → r2.begun ≡ r.begun → r2.finished ≡ r.finished + 1 → r2.doing ≡ Idle → Moves plan p q old new r2
-responds plan p q r reply old new r2 fits wrote logged script begun_is finished_is idle =
-    let d = fits.doing in
+responds plan p q r reply old new r2 fits answered_is wrote logged script begun_is finished_is idle =
+    let d = subst (λ doing. FitsDoing plan.shape plan.variant doing q.call q.got) answered_is fits.doing in
     record {
       move = Responds reply;
       is_next = ap (move_from plan p q) d.1 ∙ ap (λ t. Some (move_of t)) d.2;
@@ -119,12 +126,12 @@ responds plan p q r reply old new r2 fits wrote logged script begun_is finished_
       };
     }
 
-pub invokes : (plan : Plan) (p : ℕ) (q : Process) (r : Runner) (call : Call) (open_call : Open) (old new : List ℕ) (r2 : Runner) → FitsProcess plan p r q
+pub invokes : (plan : Plan) (p : ℕ) (q : Process) (r : Runner) (call : Call) (task : Task) (old new : List ℕ) (r2 : Runner) → FitsProcess plan p r q
     → r.doing ≡ Idle
-    → slice_get r.script.items r.begun ≡ Some call → ((rest : List ℕ) → rest_of open_call.task rest ≡ act plan.shape plan.variant call rest)
+    → slice_get r.script.items r.begun ≡ Some call → ((rest : List ℕ) → rest_of task rest ≡ act plan.shape plan.variant call rest)
     → new ≡ slice_set old 0 ((slice_index old 0 + 1) % 2 ^ 64) → r2.log.items ≡ r.log.items ++ (slice_index old 0, Invoke p call) ∷ []
-    → r2.script ≡ r.script → r2.begun ≡ r.begun + 1 → r2.finished ≡ r.finished → r2.doing ≡ Going open_call → Moves plan p q old new r2
-invokes plan p q r call open_call old new r2 fits idle next rest wrote logged script begun_is finished_is going =
+    → r2.script ≡ r.script → r2.begun ≡ r.begun + 1 → r2.finished ≡ r.finished → r2.doing ≡ Going task → Moves plan p q old new r2
+invokes plan p q r call task old new r2 fits idle next rest wrote logged script begun_is finished_is going =
     let none : q.call ≡ None = subst (λ doing. FitsDoing plan.shape plan.variant doing q.call q.got) idle fits.doing in
     record {
       move = Invokes call;

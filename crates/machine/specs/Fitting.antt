@@ -9,17 +9,13 @@ use Rattle.art_steps.specs.Fits.{Fits}
 use Rattle.art_steps.specs.declared.access.Access.{Access}
 use Rattle.art_steps.specs.declared.access.Point.{Point}
 use Rattle.art_core.specs.Accesses.{got_by, words_after}
-use Rattle.art.specs.Tasks.{rest_of, shape_of}
+use Rattle.art.specs.Tasks.{rest_of}
 use Rattle.art_core.specs.declared.process.Process.{Process}
 use Rattle.art_core.specs.Core.{Plan, State, Move, begun, finished, next_move, word_of_move, new_word, after_move}
 use Rattle.machine.specs.declared.runner.Runner.{Runner}
 use Rattle.machine.specs.declared.doing.Doing.{Doing}
 use Rattle.machine.specs.declared.doing.Doing.TheVariants.{Idle, Going, Answered}
-
--- a task is for the table
-abbrev pub IsFor : Shape → Doing → Type 0
-IsFor shape (Going o) = shape_of o.task ≡ shape
-IsFor shape doing = Unit {0}
+use Rattle.machine.specs.Doings.{IsFor}
 
 -- each runner's task is for the table
 abbrev pub AreFor : Shape → List Runner → Type 0
@@ -28,7 +24,7 @@ AreFor shape runners = (i : ℕ) (r : Runner) → slice_get runners i ≡ Some r
 -- what a process is doing fits its open call and the words that the call got
 abbrev pub FitsDoing : Shape → Variant → Doing → Option Call → List ℕ → Type 0
 FitsDoing shape variant Idle call got = call ≡ None
-FitsDoing shape variant (Going o) call got = (c : Call) × (call ≡ Some c) × Fits shape variant c got (rest_of o.task)
+FitsDoing shape variant (Going task) call got = (c : Call) × (call ≡ Some c) × Fits shape variant c got (rest_of task)
 FitsDoing shape variant (Answered r) call got = (c : Call) × (call ≡ Some c) × (act shape variant c got ≡ Answers r)
 
 -- a runner fits a process of the core

@@ -1,3 +1,4 @@
+pub mod Doings
 pub mod Fitting
 pub mod UnderWay
 pub mod Working

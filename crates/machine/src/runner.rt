@@ -1,4 +1,5 @@
-ghost use Rattle.std.specs.Prelude.{◌≤◌, vec_len};
+ghost use Rattle.std.specs.Prelude.{◌≡◌, ◌≤◌, false, vec_len};
+ghost use Rattle.machine.specs.Doings.{is_late};
 
 use crate::doing::Doing;
 use art::TreeCall;
@@ -14,4 +15,5 @@ pub struct Runner {
     pub doing: Doing,
     pub log: Vec<(u64, Event)>,
     ghost few: { finished ≤ vec_len log },
+    ghost unanswered: { is_late doing ≡ false },
 }

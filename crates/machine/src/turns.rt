@@ -1,5 +1,7 @@
 // The steps of one process.
-ghost use Rattle.std.specs.Prelude.{◌≡◌, ◌≢◌, ◌<◌, ◌≤◌, ℕ, List, length, slice_get, Some, None, OnOk, OnErr, IsOk, vec_len, vec_capacity};
+ghost use Rattle.std.specs.Prelude.{◌≡◌, ◌≢◌, ◌<◌, ◌≤◌, ℕ, List, [], ◌∷◌, ◌++◌, length, slice_get, Some, None, is_some, OnOk, OnErr, vec_len, vec_capacity};
+ghost use Rattle.events.specs.declared.event.Event.TheVariants.{Answer};
+ghost use Rattle.art_steps.specs.Steps.{reply_of};
 ghost use Rattle.events.specs.declared.event.Call.{Call};
 ghost use Rattle.art_core.specs.Core.{Plan};
 ghost use Rattle.art_core.specs.declared.process.Process.{Process};
@@ -8,9 +10,10 @@ ghost use Rattle.art_rows.specs.Table.{table_words};
 ghost use Rattle.art_steps.specs.declared.variant.Variant.{Variant};
 ghost use Rattle.art_steps.specs.Fits.{Fits};
 ghost use Rattle.art.specs.Tasks.{rest_of, shape_of, IsReady};
-ghost use Rattle.machine.specs.Fitting.{Advances, IsFor};
+ghost use Rattle.machine.specs.Doings.{IsFor, IsAnswered, after_access};
+ghost use Rattle.machine.specs.Fitting.{Advances};
 
-use crate::doing::{Doing, Open};
+use crate::doing::Doing;
 use crate::runner::Runner;
 use crate::table::{access, stamp};
 use art::{Point, Shape, Task, Variant};
@@ -18,21 +21,30 @@ use events::{Event, Memory, Reply};
 use std::alloc::Global;
 use std::mem;
 
-/// Makes the next access of an open call.
-pub fn advanced(words: &mut [u64], call: Open) -> Doing
-    requires table { length words.old ≡ table_words (shape_of call.task) }
-    requires ready { IsReady call.task }
-    ensures table { IsFor (shape_of call.task) result }
+/// Makes the next access of an open call: its reply, once it is known.
+pub fn advance(words: &mut [u64], task: &mut Task) -> Option<Reply>
+    requires table { length words.old ≡ table_words (shape_of task.old) }
+    requires asks { reply_of (rest_of task.old []) ≡ None }
+    requires ready { IsReady task.old }
+    ensures shape { shape_of task.new ≡ shape_of task.old }
     ensures long { length words.new ≡ length words.old }
-    ensures made { (shape : Shape) (variant : Variant) (asked : Call) (got : List ℕ) → Fits shape variant asked got (rest_of call.task)
-        → Advances shape variant asked got words.old words.new result }
+    ensures over { is_some (reply_of (rest_of task.new [])) ≡ is_some result }
+    ensures made { (shape : Shape) (variant : Variant) (asked : Call) (got : List ℕ) → Fits shape variant asked got (rest_of task.old)
+        → Advances shape variant asked got words.old words.new (after_access task.new result) }
 {
-    let mut task = call.task;
     let next = task.next();
     let got = access(words, next);
-    match task.take(got) {
-        Some(reply) => Doing::Answered(reply),
-        None => Doing::Going(Open { task }),
+    task.take(got)
+}
+
+/// Adds the event of a response to a log that has room for it.
+fn log_response(log: &mut Vec<(u64, Event)>, stamp: u64, process: u8, reply: Reply)
+    requires { vec_len log.old < vec_capacity log.old }
+    ensures { log.new.items ≡ log.old.items ++ (stamp, Answer process reply) ∷ [] }
+{
+    match log.push((stamp, Event::Answer { process, reply })) {
+        Ok(()) => (),
+        Err(_) => unreachable!(),
     }
 }
 
@@ -42,7 +54,7 @@ impl Runner {
     ghost use Rattle.machine.specs.Working.{HasNothingToDo};
     ghost use Rattle.machine.specs.Fitting.{FitsProcess, Moves};
     ghost use Rattle.art_rows.specs.Table.{IsWithinLimits};
-    ghost use Rattle.machine.specs.declared.doing.Doing.TheVariants.{Idle, Going, Answered};
+    ghost use Rattle.machine.specs.declared.doing.Doing.TheVariants.{Idle};
 
     /// Draws the stamp of the next call's invocation.
     fn invoke(
@@ -74,50 +86,31 @@ impl Runner {
         self.log.push((words[0], event))?;
         stamp(words);
         self.begun += 1;
-        self.doing = Doing::Going(Open {
-            task: Task::begin(shape, variant, call),
-        });
+        self.doing = Doing::Going(Task::begin(shape, variant, call));
         Ok(())
-    }
-
-    /// Makes the call's next access.
-    fn go_on(&mut self, alloc: Global, words: &mut [u64], call: Open) -> Result<(), Memory>
-        requires table { length words.old ≡ table_words (shape_of call.task) }
-        ensures table { IsFor (shape_of call.task) self.new.doing }
-        ensures long { length words.new ≡ length words.old }
-        ensures moved { (plan : Plan) (p : ℕ) (q : Process) → FitsProcess plan p (record self.old { doing = Going call }) q
-            → OnOk result (Moves plan p q words.old words.new self.new) }
-        ensures kept { (plan : Plan) (p : ℕ) (q : Process) → FitsProcess plan p (record self.old { doing = Going call }) q
-            → OnErr result ((words.new ≡ words.old) × FitsProcess plan p self.new q) }
-    {
-        let mut task = call.task;
-        match task.ready(alloc) {
-            Err(memory) => {
-                self.doing = Doing::Going(Open { task });
-                Err(memory)
-            }
-            Ok(()) => {
-                self.doing = advanced(words, Open { task });
-                Ok(())
-            }
-        }
     }
 
     /// Draws the stamp of the response.
-    fn respond(&mut self, process: u8, words: &mut [u64], reply: Reply) -> Result<(), Memory>
+    fn respond(&mut self, process: u8, words: &mut [u64]) -> Result<(), Memory>
         requires table { 0 < length words.old }
-        requires room { vec_len self.old.log < vec_capacity self.old.log }
-        ensures ok { IsOk result }
-        ensures idle { self.new.doing ≡ Idle }
+        requires answered { IsAnswered self.old.doing }
+        ensures table { (shape : Shape) → IsFor shape self.new.doing }
         ensures long { length words.new ≡ length words.old }
-        ensures moved { (plan : Plan) (q : Process) → FitsProcess plan process (record self.old { doing = Answered reply }) q
-            → Moves plan process q words.old words.new self.new }
+        ensures moved { (plan : Plan) (q : Process) → FitsProcess plan process self.old q
+            → OnOk result (Moves plan process q words.old words.new self.new) }
+        ensures kept { (plan : Plan) (q : Process) → FitsProcess plan process self.old q
+            → OnErr result ((words.new ≡ words.old) × FitsProcess plan process self.new q) }
     {
-        self.log.push((words[0], Event::Answer { process, reply }))?;
-        stamp(words);
-        self.finished += 1;
-        self.doing = Doing::Idle;
-        Ok(())
+        self.log.reserve(1)?;
+        match mem::replace(&mut self.doing, Doing::Idle) {
+            Doing::Answered(reply) => {
+                log_response(&mut self.log, words[0], process, reply);
+                stamp(words);
+                self.finished += 1;
+                Ok(())
+            }
+            _ => unreachable!(),
+        }
     }
 
     /// One step: the stamp of an invocation, an access, or the stamp of a response. Where memory is wanting nothing has changed.
@@ -141,16 +134,16 @@ impl Runner {
         ensures kept { (plan : Plan) (q : Process) → FitsProcess plan process self.old q
             → OnErr result ((words.new ≡ words.old) × FitsProcess plan process self.new q) }
     {
-        match mem::replace(&mut self.doing, Doing::Idle) {
+        match &mut self.doing {
             Doing::Idle => self.invoke(process, shape, variant, words),
-            Doing::Going(call) => self.go_on(alloc, words, call),
-            Doing::Answered(reply) => match self.log.reserve(1) {
-                Err(_) => {
+            Doing::Going(task) => {
+                task.ready(alloc)?;
+                if let Some(reply) = advance(words, task) {
                     self.doing = Doing::Answered(reply);
-                    Err(Memory)
                 }
-                Ok(()) => self.respond(process, words, reply),
-            },
+                Ok(())
+            }
+            Doing::Answered(_) => self.respond(process, words),
         }
     }
 
@@ -160,7 +153,7 @@ impl Runner {
     {
         match &self.doing {
             Doing::Idle => None,
-            Doing::Going(call) => call.task.point(),
+            Doing::Going(task) => task.point(),
             Doing::Answered(_) => Some(Point::Answer),
         }
     }
