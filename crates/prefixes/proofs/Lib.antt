@@ -1,0 +1,4 @@
+mod EventLemmas
+mod ExtensionLemmas
+mod CutLemmas
+mod PrefixLemmas

@@ -1,0 +1,48 @@
+// Laws of prefixes, each the contract of a function that does nothing.
+ghost use Rattle.prefixes.specs.Laws.{
+  PrefixesAreHistories,
+  PrefixesHaveOrders,
+  InvocationsKeepOrders,
+  AnswersHaveCalls,
+  OrdersAreLostAtAnswers,
+  OneEventGoesWrong,
+  HistoriesHaveFewEvents,
+};
+
+/// The first events of a history, however many, are a history from the same starting pairs.
+pub fn prefixes_are_histories()
+    ensures { PrefixesAreHistories }
+{}
+
+/// The first events of a history that has an order have one: the order of the whole up to its first call that is invoked
+/// later, without the calls that are refused later. No call that the first events answer stands behind one that is
+/// invoked later.
+pub fn prefixes_have_orders()
+    ensures { PrefixesHaveOrders }
+{}
+
+/// A history that has an order has one where a call more begins at its end: the same.
+pub fn invocations_keep_orders()
+    ensures { InvocationsKeepOrders }
+{}
+
+/// Each response of a history is the answer of a call.
+pub fn answers_have_calls()
+    ensures { AnswersHaveCalls }
+{}
+
+/// Where the first events of a history have an order and those with the next one have none, that event is the answer of
+/// a call.
+pub fn orders_are_lost_at_answers()
+    ensures { OrdersAreLostAtAnswers }
+{}
+
+/// A history goes wrong at one event at most, and one that does has no order.
+pub fn one_event_goes_wrong()
+    ensures { OneEventGoesWrong }
+{}
+
+/// A history has at most two events for each call that one may have.
+pub fn histories_have_few_events()
+    ensures { HistoriesHaveFewEvents }
+{}
