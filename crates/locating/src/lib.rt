@@ -1,13 +1,15 @@
-// A library with one function.
+//! Where a history goes wrong: the one event at which it loses its orders, found by judging some of its prefixes.
+//!
+//! What it is to go wrong at an event stands in the definitions of `prefixes`, and what a location says in `specs/`.
 #![tactic(auto)]
 
-ghost use Rattle.std.specs.Prelude.{◌≡◌};
-ghost use Rattle.locating.specs.Echo.{echo_of};
+mod answering;
+mod bracket;
+mod first_events;
+mod halving;
+mod lines;
+mod location;
 
-// The `ensures` clause is the contract: what `echo` returns is `echo_of` of its argument, a definition
-// in `specs/Echo.antt`, which a caller's clause can cite too.
-pub fn echo(x: usize) -> usize
-    ensures { result ≡ echo_of x }
-{
-    x
-}
+pub use halving::{MAX_JUDGEMENTS, locate};
+pub use lines::location_line;
+pub use location::Location;

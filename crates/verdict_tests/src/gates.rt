@@ -23,6 +23,16 @@ pub(crate) fn no_visits(alloc: Global, segments: usize) -> Result<Visits, Fail> 
     Ok(Visits { each, others })
 }
 
+impl Visits {
+    /// How often one of the segments was visited.
+    pub(crate) fn visits(&self, segment: usize) -> u64 {
+        self.each
+            .get(segment)
+            .unwrap_or(&self.others)
+            .load(Ordering::SeqCst)
+    }
+}
+
 /// Each of the segments was visited once, and nothing else was.
 pub(crate) fn assert_one_visit_each(rt: &impl Abort, gate: &Visits) {
     for visits in &gate.each {

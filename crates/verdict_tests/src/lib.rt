@@ -1,4 +1,4 @@
-//! Tests of the verdict and of the workers that find it, through their public calls, on the worked histories of the
+//! Tests of the verdict, of locations and of the workers that find them, through their public calls, on the worked histories of the
 //! layers' tests and on long ones: expected answers were worked out by hand.
 #![tactic(auto)]
 
@@ -8,6 +8,8 @@ mod counts;
 mod gate_first;
 #[cfg(test)]
 mod gates;
+#[cfg(test)]
+mod locations;
 #[cfg(test)]
 mod long_verdicts;
 #[cfg(test)]
