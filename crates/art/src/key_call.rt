@@ -39,14 +39,14 @@ impl KeyCall {
         requires asks { reply_of (turn_at (setting_of setting.now) self.now.stage) ≡ None }
         ensures { access_of (turn_at (setting_of setting.now) self.now.stage) ≡ Some result }
     {
-        access_at(setting, self.stage)
+        access_at(setting, &self.stage)
     }
 
     /// The point of the next access; `Answer` where the reply is known.
     pub fn point(&self, setting: &Setting) -> Option<Point>
         ensures { result ≡ point_of (turn_at (setting_of setting.now) self.now.stage) }
     {
-        point_at(setting, self.stage)
+        point_at(setting, &self.stage)
     }
 
     /// The access got this; the reply, once it is known.
@@ -55,7 +55,7 @@ impl KeyCall {
         ensures next { self.new.stage ≡ stage_behind (setting_of setting.now) self.old.stage got }
         ensures reply { reply_of (turn_at (setting_of setting.now) self.new.stage) ≡ result }
     {
-        self.stage = stage_after(setting, self.stage, got);
+        self.stage = stage_after(setting, &self.stage, got);
         match self.stage {
             Stage::Over { outcome } => Some(reply_with(outcome)),
             _ => None,

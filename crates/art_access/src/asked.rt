@@ -209,54 +209,54 @@ fn grow_count_access(setting: &Setting, growing: Growing) -> Access
 }
 
 /// The access that a call makes at a stage; it makes one at each but the last.
-pub fn access_at(setting: &Setting, stage: Stage) -> Access
-    requires sound { is_sound stage ≡ true }
-    requires asks { reply_of (turn_at (setting_of setting.now) stage) ≡ None }
-    ensures { access_of (turn_at (setting_of setting.now) stage) ≡ Some result }
+pub fn access_at(setting: &Setting, stage: &Stage) -> Access
+    requires sound { is_sound stage.now ≡ true }
+    requires asks { reply_of (turn_at (setting_of setting.now) stage.now) ≡ None }
+    ensures { access_of (turn_at (setting_of setting.now) stage.now) ≡ Some result }
 {
     match stage {
         Stage::Lock { target, .. } | Stage::Wait { target } => load(setting.target_base(target)),
-        Stage::Exchange { target, version } => exchange(setting.target_base(target), version),
+        Stage::Exchange { target, version } => exchange(setting.target_base(target), *version),
         Stage::Leave { down } => unlock(down.above),
-        Stage::Between { down, .. } => between(setting, down),
+        Stage::Between { down, .. } => between(setting, *down),
         Stage::Info { down, .. } => load(down.base as usize + 1),
         Stage::Find { place } => find_access(setting, place.row),
         Stage::FindKeys { place, .. } => load(place.row.base as usize + 2),
         Stage::FindMore { place, .. } => load(place.row.base as usize + 3),
         Stage::FindCount { place, .. } => load(place.row.base as usize + 34),
-        Stage::Slot { slot, .. } => load(slot),
+        Stage::Slot { slot, .. } => load(*slot),
         Stage::Check { place, .. } => check(place.row),
-        Stage::CheckLast { row } => check(row),
-        Stage::LetGo { above, .. } => unlock(above),
+        Stage::CheckLast { row } => check(*row),
+        Stage::LetGo { above, .. } => unlock(*above),
         Stage::Take { taking } => exchange(taking.row.base as usize, taking.row.kept),
-        Stage::Write { slot, word, .. } => store(slot, word),
+        Stage::Write { slot, word, .. } => store(*slot, *word),
         Stage::ClaimPair { .. } => Access::Add { word: 1 },
         Stage::StorePair {
             pair,
             base,
             word,
             ..
-        } => pair_access(setting, pair, base, word),
-        Stage::PutLoad { hold, keys, left } => load(moved_slot(setting, hold, keys, left)),
+        } => pair_access(setting, *pair, *base, *word),
+        Stage::PutLoad { hold, keys, left } => load(moved_slot(setting, *hold, *keys, *left)),
         Stage::PutStore {
             hold,
             keys,
             left,
             word,
-        } => store(next_slot(setting, hold, keys, left), word),
+        } => store(next_slot(setting, *hold, *keys, *left), *word),
         Stage::PutLeaf { hold, keys } => store(
             child_slot(
                 hold.row.kind,
                 hold.row.base,
-                leaf_place(setting, hold, keys),
+                leaf_place(setting, *hold, *keys),
             ),
             leaf_word(setting),
         ),
-        Stage::PutKeys { hold, keys } => put_keys_access(setting, hold, keys),
-        Stage::PutMore { hold, keys } => put_more_access(setting, hold, keys),
+        Stage::PutKeys { hold, keys } => put_keys_access(setting, *hold, *keys),
+        Stage::PutMore { hold, keys } => put_more_access(setting, *hold, *keys),
         Stage::PutCount { hold, keys } => store(
             count_slot(hold.row.kind, hold.row.base),
-            u64::from(count(hold.row.kind, keys)) + 1,
+            u64::from(count(hold.row.kind, *keys)) + 1,
         ),
         Stage::ClaimGrow { hold, .. } => Access::Add {
             word: claims(next_kind(hold.row.kind)),
@@ -269,19 +269,19 @@ pub fn access_at(setting: &Setting, stage: Stage) -> Access
         Stage::GrowLoad { growing, place, .. } => load(child_slot(
             growing.hold.row.kind,
             growing.hold.row.base,
-            place,
+            *place,
         )),
         Stage::GrowStore {
             growing,
             place,
             left,
             word,
-        } => store(copy_slot(setting, growing, place, left), word),
+        } => store(copy_slot(setting, *growing, *place, *left), *word),
         Stage::SpreadIndex { growing, place, .. } => {
-            load(growing.hold.row.base as usize + 2 + place as usize)
+            load(growing.hold.row.base as usize + 2 + *place as usize)
         }
         Stage::SpreadLoad { spread, entry, .. } => {
-            let place = entry_at(spread.word, entry).saturating_sub(1);
+            let place = entry_at(spread.word, *entry).saturating_sub(1);
             load(child_slot(Kind::FortyEight, spread.growing.hold.row.base, place))
         }
         Stage::SpreadStore {
@@ -292,17 +292,17 @@ pub fn access_at(setting: &Setting, stage: Stage) -> Access
         } => {
             let base = spread.growing.base as usize;
             store(
-                base + 2 + (8 * spread.place as usize + entry as usize),
-                word,
+                base + 2 + (8 * spread.place as usize + *entry as usize),
+                *word,
             )
         }
-        Stage::GrowLeaf { growing } => grow_leaf_access(setting, growing),
+        Stage::GrowLeaf { growing } => grow_leaf_access(setting, *growing),
         Stage::GrowKeys {
             growing,
             place,
             left,
-        } => key_word_access(setting, growing, place, left),
-        Stage::GrowCount { growing } => grow_count_access(setting, growing),
+        } => key_word_access(setting, *growing, *place, *left),
+        Stage::GrowCount { growing } => grow_count_access(setting, *growing),
         Stage::Hang { growing } => store(growing.slot, row_word(growing.base)),
         Stage::Obsolete { hold } => {
             store(hold.row.base as usize, version_obsolete(hold.row.kept))

@@ -7,7 +7,7 @@ ghost use Rattle.art_setting.specs.Settings.{setting_of};
 
 use art_rows::Kind;
 use art_setting::Setting;
-use art_stages::{Growing, Held, Hold, Keys, Pair, PairWord, Stage, Target};
+use art_stages::{Growing, Held, Hold, Keys, Pair, PairWord, Stage};
 use art_steps::Point;
 
 fn lock_point(setting: &Setting, base: usize) -> Point
@@ -21,17 +21,15 @@ fn lock_point(setting: &Setting, base: usize) -> Point
 }
 
 /// The point at which a call is at a stage; `Answer` at the last.
-pub fn point_at(setting: &Setting, stage: Stage) -> Option<Point>
-    ensures { result ≡ point_of (turn_at (setting_of setting.now) stage) }
+pub fn point_at(setting: &Setting, stage: &Stage) -> Option<Point>
+    ensures { result ≡ point_of (turn_at (setting_of setting.now) stage.now) }
 {
     match stage {
         Stage::Lock {
             target,
             first: true,
         } => Some(lock_point(setting, setting.target_base(target))),
-        Stage::Take { taking } => {
-            Some(lock_point(setting, setting.target_base(Target::Taken { taking })))
-        }
+        Stage::Take { taking } => { Some(lock_point(setting, taking.row.base as usize)) }
         Stage::Between { .. } => Some(if setting.locks() {
             Point::Unlock
         } else {
@@ -48,11 +46,11 @@ pub fn point_at(setting: &Setting, stage: Stage) -> Option<Point>
             base,
             word,
             ..
-        } => pair_point(setting, pair, base, word),
-        Stage::PutKeys { hold, keys } => put_keys_point(setting, hold, keys),
-        Stage::GrowKeys { growing, place, .. } => grow_keys_point(setting, growing, place),
-        Stage::GrowLeaf { growing } => grow_leaf_point(setting, growing),
-        Stage::GrowCount { growing } => grow_count_point(setting, growing),
+        } => pair_point(setting, *pair, *base, *word),
+        Stage::PutKeys { hold, keys } => put_keys_point(setting, *hold, *keys),
+        Stage::GrowKeys { growing, place, .. } => grow_keys_point(setting, *growing, *place),
+        Stage::GrowLeaf { growing } => grow_leaf_point(setting, *growing),
+        Stage::GrowCount { growing } => grow_count_point(setting, *growing),
         _ => None,
     }
 }

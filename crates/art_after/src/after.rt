@@ -20,45 +20,48 @@ use art_stages::{
 };
 
 /// LOCK after a load of the version.
-fn locked(setting: &Setting, target: Target, version: u64) -> Stage
-    requires { is_sound_target target ≡ true }
-    ensures stage { result ≡ stage_after (setting_of setting.now) (Lock target true) version }
+fn locked(setting: &Setting, target: &Target, version: u64) -> Stage
+    requires { is_sound_target target.now ≡ true }
+    ensures stage { result ≡ stage_after (setting_of setting.now) (Lock target.now true) version }
     ensures sound { is_sound result ≡ true }
 {
     if version_is_locked(version) {
         Stage::Lock {
-            target,
+            target: *target,
             first: false,
         }
     } else {
-        Stage::Exchange { target, version }
+        Stage::Exchange {
+            target: *target,
+            version,
+        }
     }
 }
 
 /// LOCK after an exchange of it.
-fn exchanged(setting: &Setting, target: Target, version: u64, got: u64) -> Stage
-    requires { is_sound_target target ≡ true }
-    ensures stage { result ≡ stage_after (setting_of setting.now) (Exchange target version) got }
+fn exchanged(setting: &Setting, target: &Target, version: u64, got: u64) -> Stage
+    requires { is_sound_target target.now ≡ true }
+    ensures stage { result ≡ stage_after (setting_of setting.now) (Exchange target.now version) got }
     ensures sound { is_sound result ≡ true }
 {
     if got == version {
         entered(setting, target, version)
     } else {
         Stage::Lock {
-            target,
+            target: *target,
             first: false,
         }
     }
 }
 
 /// WAIT after a load of the version.
-fn waited(setting: &Setting, target: Target, version: u64) -> Stage
-    requires { is_sound_target target ≡ true }
-    ensures stage { result ≡ stage_after (setting_of setting.now) (Wait target) version }
+fn waited(setting: &Setting, target: &Target, version: u64) -> Stage
+    requires { is_sound_target target.now ≡ true }
+    ensures stage { result ≡ stage_after (setting_of setting.now) (Wait target.now) version }
     ensures sound { is_sound result ≡ true }
 {
     if version_is_locked(version) {
-        Stage::Wait { target }
+        Stage::Wait { target: *target }
     } else if version_is_obsolete(version) {
         setting.start()
     } else {
@@ -66,12 +69,12 @@ fn waited(setting: &Setting, target: Target, version: u64) -> Stage
     }
 }
 
-fn between_passed(setting: &Setting, down: Down, kept: u64, got: u64) -> Stage
-    ensures stage { result ≡ stage_after (setting_of setting.now) (Between down kept) got }
+fn between_passed(setting: &Setting, down: &Down, kept: u64, got: u64) -> Stage
+    ensures stage { result ≡ stage_after (setting_of setting.now) (Between down.now kept) got }
     ensures sound { is_sound result ≡ true }
 {
     if setting.locks() || got == down.above.kept {
-        Stage::Info { down, kept }
+        Stage::Info { down: *down, kept }
     } else {
         setting.start()
     }
@@ -85,15 +88,15 @@ fn moved(setting: &Setting, word: u64) -> u64
 }
 
 /// PAIR after its claim.
-fn pair_claimed(setting: &Setting, hold: Hold, pair: Pair, number: u64) -> Stage
-    requires { is_small_child pair.child ≡ true }
-    ensures stage { result ≡ stage_after (setting_of setting.now) (Claiming hold pair) number }
+fn pair_claimed(setting: &Setting, hold: &Hold, pair: &Pair, number: u64) -> Stage
+    requires { is_small_child pair.now.child ≡ true }
+    ensures stage { result ≡ stage_after (setting_of setting.now) (Claiming hold.now pair.now) number }
     ensures sound { is_sound result ≡ true }
 {
     if number < setting.shape.rows(Kind::Four) {
         Stage::StorePair {
-            hold,
-            pair,
+            hold: *hold,
+            pair: *pair,
             base: setting.shape.base(Kind::Four, number),
             word: PairWord::Info,
         }
@@ -103,17 +106,17 @@ fn pair_claimed(setting: &Setting, hold: Hold, pair: Pair, number: u64) -> Stage
 }
 
 /// GROW after its claim.
-fn grow_claimed(setting: &Setting, hold: Hold, slot: usize, keys: Keys, number: u64) -> Stage
-    ensures stage { result ≡ stage_after (setting_of setting.now) (ClaimingNext hold slot keys) number }
+fn grow_claimed(setting: &Setting, hold: &Hold, slot: usize, keys: &Keys, number: u64) -> Stage
+    ensures stage { result ≡ stage_after (setting_of setting.now) (ClaimingNext hold.now slot keys.now) number }
     ensures sound { is_sound result ≡ true }
 {
     let kind = next_kind(hold.row.kind);
     if number < setting.shape.rows(kind) {
         Stage::GrowInfo {
             growing: Growing {
-                hold,
+                hold: *hold,
                 slot,
-                keys,
+                keys: *keys,
                 base: setting.shape.base(kind, number),
             },
         }
@@ -122,21 +125,27 @@ fn grow_claimed(setting: &Setting, hold: Hold, slot: usize, keys: Keys, number: 
     }
 }
 
-fn put_keys_stored(setting: &Setting, hold: Hold, keys: Keys) -> Stage
-    ensures stage { result ≡ put_keys_after (locks setting.now.variant) hold.row.kind hold keys }
+fn put_keys_stored(setting: &Setting, hold: &Hold, keys: &Keys) -> Stage
+    ensures stage { result ≡ put_keys_after (locks setting.now.variant) hold.now.row.kind hold.now keys.now }
     ensures sound { is_sound result ≡ true }
 {
     match hold.row.kind {
         Kind::Four => put_done(hold),
-        Kind::Sixteen => Stage::PutMore { hold, keys },
-        Kind::FortyEight => Stage::PutCount { hold, keys },
-        Kind::Full => release(setting, hold.above, Some(Outcome::Value { value: None })),
+        Kind::Sixteen => Stage::PutMore {
+            hold: *hold,
+            keys: *keys,
+        },
+        Kind::FortyEight => Stage::PutCount {
+            hold: *hold,
+            keys: *keys,
+        },
+        Kind::Full => release(setting, &hold.above, Some(Outcome::Value { value: None })),
     }
 }
 
-fn row_checked(setting: &Setting, place: Position, finding: Finding, got: u64) -> Stage
-    requires { is_sound_finding finding ≡ true }
-    ensures stage { result ≡ stage_after (setting_of setting.now) (Check place finding) got }
+fn row_checked(setting: &Setting, place: &Position, finding: &Finding, got: u64) -> Stage
+    requires { is_sound_finding finding.now ≡ true }
+    ensures stage { result ≡ stage_after (setting_of setting.now) (Check place.now finding.now) got }
     ensures sound { is_sound result ≡ true }
 {
     if got == place.row.kept {
@@ -147,26 +156,26 @@ fn row_checked(setting: &Setting, place: Position, finding: Finding, got: u64) -
 }
 
 /// The stage after an access that got this word.
-pub fn stage_after(setting: &Setting, stage: Stage, got: u64) -> Stage
-    requires sound { is_sound stage ≡ true }
-    requires asks { reply_of (turn_at (setting_of setting.now) stage) ≡ None }
-    ensures stage { result ≡ stage_after (setting_of setting.now) stage got }
+pub fn stage_after(setting: &Setting, stage: &Stage, got: u64) -> Stage
+    requires sound { is_sound stage.now ≡ true }
+    requires asks { reply_of (turn_at (setting_of setting.now) stage.now) ≡ None }
+    ensures stage { result ≡ stage_after (setting_of setting.now) stage.now got }
     ensures sound { is_sound result ≡ true }
 {
     match stage {
         Stage::Lock { target, .. } => locked(setting, target, got),
-        Stage::Exchange { target, version } => exchanged(setting, target, version, got),
+        Stage::Exchange { target, version } => exchanged(setting, target, *version, got),
         Stage::Wait { target } => waited(setting, target, got),
         Stage::Leave { down } => Stage::Lock {
-            target: Target::Below { down },
+            target: Target::Below { down: *down },
             first: true,
         },
-        Stage::Between { down, kept } => between_passed(setting, down, kept, got),
-        Stage::Info { down, kept } => below(setting, down, kept, got),
+        Stage::Between { down, kept } => between_passed(setting, down, *kept, got),
+        Stage::Info { down, kept } => below(setting, down, *kept, got),
         Stage::Find { place } => find(setting, place, got),
         Stage::FindKeys { place, count } => Stage::FindMore {
-            place,
-            count,
+            place: *place,
+            count: *count,
             first: got,
         },
         Stage::FindMore {
@@ -177,14 +186,14 @@ pub fn stage_after(setting: &Setting, stage: Stage, got: u64) -> Stage
             setting,
             place,
             Keys {
-                first,
+                first: *first,
                 second: got,
-                count,
+                count: *count,
             },
         ),
         Stage::FindCount { place, index } => {
             let keys = Keys {
-                first: index,
+                first: *index,
                 second: 0,
                 count: got,
             };
@@ -192,7 +201,7 @@ pub fn stage_after(setting: &Setting, stage: Stage, got: u64) -> Stage
         }
         Stage::Slot { place, slot } => {
             let child = setting.shape.child(got);
-            checked(setting, place, Finding::Has { slot, child })
+            checked(setting, place, Finding::Has { slot: *slot, child })
         }
         Stage::Check { place, finding } => row_checked(setting, place, finding, got),
         Stage::CheckLast { row } => {
@@ -205,14 +214,14 @@ pub fn stage_after(setting: &Setting, stage: Stage, got: u64) -> Stage
         Stage::LetGo { place, finding, .. } => found(setting, place, finding),
         Stage::Take { taking } => {
             if got == taking.row.kept {
-                taken(setting, taking.held, taking.below, taking.work, taking.row)
+                taken(setting, taking, taking.row.kept)
             } else {
-                release(setting, taking.held, None)
+                release(setting, &taking.held, None)
             }
         }
         Stage::Write { hold, reply, .. } => Stage::Unlock {
-            hold,
-            outcome: Some(Outcome::Value { value: reply }),
+            hold: *hold,
+            outcome: Some(Outcome::Value { value: *reply }),
         },
         Stage::ClaimPair { hold, pair } => pair_claimed(setting, hold, pair, got),
         Stage::StorePair {
@@ -220,11 +229,11 @@ pub fn stage_after(setting: &Setting, stage: Stage, got: u64) -> Stage
             pair,
             base,
             word,
-        } => pair_stored(hold, pair, base, word),
+        } => pair_stored(hold, pair, *base, *word),
         Stage::PutLoad { hold, keys, left } => Stage::PutStore {
-            hold,
-            keys,
-            left,
+            hold: *hold,
+            keys: *keys,
+            left: *left,
             word: moved(setting, got),
         },
         Stage::PutStore {
@@ -232,21 +241,27 @@ pub fn stage_after(setting: &Setting, stage: Stage, got: u64) -> Stage
             keys,
             left,
             ..
-        } => moves(hold, keys, left),
-        Stage::PutLeaf { hold, keys } => Stage::PutKeys { hold, keys },
+        } => moves(hold, keys, *left),
+        Stage::PutLeaf { hold, keys } => Stage::PutKeys {
+            hold: *hold,
+            keys: *keys,
+        },
         Stage::PutKeys { hold, keys } => put_keys_stored(setting, hold, keys),
-        Stage::PutMore { hold, keys } => Stage::PutCount { hold, keys },
+        Stage::PutMore { hold, keys } => Stage::PutCount {
+            hold: *hold,
+            keys: *keys,
+        },
         Stage::PutCount { hold, .. } => put_done(hold),
-        Stage::ClaimGrow { hold, slot, keys } => grow_claimed(setting, hold, slot, keys, got),
+        Stage::ClaimGrow { hold, slot, keys } => grow_claimed(setting, hold, *slot, keys, got),
         Stage::GrowInfo { growing } => fill(growing),
         Stage::GrowLoad {
             growing,
             place,
             left,
         } => Stage::GrowStore {
-            growing,
-            place,
-            left,
+            growing: *growing,
+            place: *place,
+            left: *left,
             word: moved(setting, got),
         },
         Stage::GrowStore {
@@ -254,16 +269,16 @@ pub fn stage_after(setting: &Setting, stage: Stage, got: u64) -> Stage
             place,
             left,
             ..
-        } => copied(growing, place, left),
+        } => copied(growing, *place, *left),
         Stage::SpreadIndex {
             growing,
             place,
             left,
         } => entries(
-            Spread {
-                growing,
-                place,
-                left,
+            &Spread {
+                growing: *growing,
+                place: *place,
+                left: *left,
                 word: got,
             },
             0,
@@ -274,9 +289,9 @@ pub fn stage_after(setting: &Setting, stage: Stage, got: u64) -> Stage
             entry,
             after,
         } => Stage::SpreadStore {
-            spread,
-            entry,
-            after,
+            spread: *spread,
+            entry: *entry,
+            after: *after,
             word: moved(setting, got),
         },
         Stage::SpreadStore {
@@ -284,27 +299,27 @@ pub fn stage_after(setting: &Setting, stage: Stage, got: u64) -> Stage
             entry,
             after,
             ..
-        } => spread_on(spread, entry, after),
+        } => spread_on(spread, *entry, *after),
         Stage::GrowLeaf { growing } => leaf_stored(growing),
         Stage::GrowKeys {
             growing,
             place,
             left,
-        } => keys_stored(growing, place, left),
-        Stage::GrowCount { growing } => Stage::Hang { growing },
+        } => keys_stored(growing, *place, *left),
+        Stage::GrowCount { growing } => Stage::Hang { growing: *growing },
         Stage::Hang { growing } => Stage::Obsolete { hold: growing.hold },
         Stage::Obsolete { hold } => {
-            release(setting, hold.above, Some(Outcome::Value { value: None }))
+            release(setting, &hold.above, Some(Outcome::Value { value: None }))
         }
-        Stage::Unlock { hold, outcome } => release(setting, hold.above, outcome),
+        Stage::Unlock { hold, outcome } => release(setting, &hold.above, *outcome),
         Stage::Over { .. } => unreachable!(),
     }
 }
 
 /// PAIR after one of its words.
-fn pair_stored(hold: Hold, pair: Pair, base: u32, word: PairWord) -> Stage
-    requires { is_small_child pair.child ≡ true }
-    ensures stage { result ≡ pair_after hold pair base word }
+fn pair_stored(hold: &Hold, pair: &Pair, base: u32, word: PairWord) -> Stage
+    requires { is_small_child pair.now.child ≡ true }
+    ensures stage { result ≡ pair_after hold.now pair.now base word }
     ensures sound { is_sound result ≡ true }
 {
     let word = match word {
@@ -313,7 +328,7 @@ fn pair_stored(hold: Hold, pair: Pair, base: u32, word: PairWord) -> Stage
         PairWord::Lesser => PairWord::Greater,
         PairWord::Greater => {
             return Stage::Write {
-                hold,
+                hold: *hold,
                 slot: pair.slot,
                 word: row_word(base),
                 reply: None,
@@ -321,31 +336,31 @@ fn pair_stored(hold: Hold, pair: Pair, base: u32, word: PairWord) -> Stage
         }
     };
     Stage::StorePair {
-        hold,
-        pair,
+        hold: *hold,
+        pair: *pair,
         base,
         word,
     }
 }
 
 /// What is held is unlocked, and the call is refused.
-fn refused(hold: Hold) -> Stage
-    ensures stage { result ≡ UnlockAll hold (Some Refused) }
+fn refused(hold: &Hold) -> Stage
+    ensures stage { result ≡ UnlockAll hold.now (Some Refused) }
     ensures sound { is_sound result ≡ true }
 {
     Stage::Unlock {
-        hold,
+        hold: *hold,
         outcome: Some(Outcome::Refused),
     }
 }
 
 /// The row is unlocked, and the reply is none.
-fn put_done(hold: Hold) -> Stage
-    ensures stage { result ≡ UnlockAll hold (Some (Value None)) }
+fn put_done(hold: &Hold) -> Stage
+    ensures stage { result ≡ UnlockAll hold.now (Some (Value None)) }
     ensures sound { is_sound result ≡ true }
 {
     Stage::Unlock {
-        hold,
+        hold: *hold,
         outcome: Some(Outcome::Value { value: None }),
     }
 }

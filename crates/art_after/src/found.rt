@@ -254,59 +254,65 @@ fn insert_at_leaf(setting: &Setting, row: Held, slot: usize, key: u32, value: u3
     }
 }
 
-pub(crate) fn found(setting: &Setting, place: Position, finding: Finding) -> Stage
-    requires { is_sound_finding finding ≡ true }
-    ensures stage { result ≡ after_found (setting_of setting.now) place finding }
+pub(crate) fn found(setting: &Setting, place: &Position, finding: &Finding) -> Stage
+    requires { is_sound_finding finding.now ≡ true }
+    ensures stage { result ≡ after_found (setting_of setting.now) place.now finding.now }
     ensures sound { is_sound result ≡ true }
 {
     match (setting.locks(), setting.is_insert()) {
-        (true, false) => seek_locked(setting, place.row, finding),
-        (true, true) => place_locked(setting, place, finding),
-        (false, false) => seek_free(setting, place.row, finding),
-        (false, true) => insert_free(setting, place, finding),
+        (true, false) => seek_locked(setting, place.row, *finding),
+        (true, true) => place_locked(setting, *place, *finding),
+        (false, false) => seek_free(setting, place.row, *finding),
+        (false, true) => insert_free(setting, *place, *finding),
     }
 }
 
-pub(crate) fn checked(setting: &Setting, place: Position, finding: Finding) -> Stage
+pub(crate) fn checked(setting: &Setting, place: &Position, finding: Finding) -> Stage
     requires { is_sound_finding finding ≡ true }
-    ensures stage { result ≡ after_finding (setting_of setting.now) place finding }
+    ensures stage { result ≡ after_finding (setting_of setting.now) place.now finding }
     ensures sound { is_sound result ≡ true }
 {
     if setting.locks() || setting.leaves_out_check() {
-        found(setting, place, finding)
+        found(setting, place, &finding)
     } else {
-        Stage::Check { place, finding }
+        Stage::Check {
+            place: *place,
+            finding,
+        }
     }
 }
 
 /// Where the call is once the key words of a row are loaded.
-pub(crate) fn among(setting: &Setting, place: Position, keys: Keys) -> Stage
-    ensures stage { result ≡ after_words (setting_of setting.now) place keys }
+pub(crate) fn among(setting: &Setting, place: &Position, keys: Keys) -> Stage
+    ensures stage { result ≡ after_words (setting_of setting.now) place.now keys }
     ensures sound { is_sound result ≡ true }
 {
     match key_among(place.row.kind, keys, setting.byte(place.row)) {
         None => checked(setting, place, Finding::Lacks { keys }),
         Some(i) => Stage::Slot {
-            place,
+            place: *place,
             slot: child_slot(place.row.kind, place.row.base, i),
         },
     }
 }
 
 /// Where it is once the index word of the byte is loaded.
-fn indexed(setting: &Setting, place: Position, index: u64) -> Stage
-    requires { place.row.kind ≡ Kind.FortyEight }
-    ensures stage { result ≡ after_index (setting_of setting.now) place index }
+fn indexed(setting: &Setting, place: &Position, index: u64) -> Stage
+    requires { place.now.row.kind ≡ Kind.FortyEight }
+    ensures stage { result ≡ after_index (setting_of setting.now) place.now index }
     ensures sound { is_sound result ≡ true }
 {
     let entry = index_entry(index, setting.byte(place.row));
     if entry != 0 {
         Stage::Slot {
-            place,
+            place: *place,
             slot: place.row.base as usize + 35 + (entry - 1) as usize,
         }
     } else if setting.is_insert() {
-        Stage::FindCount { place, index }
+        Stage::FindCount {
+            place: *place,
+            index,
+        }
     } else {
         checked(
             setting,
@@ -319,13 +325,16 @@ fn indexed(setting: &Setting, place: Position, index: u64) -> Stage
 }
 
 /// Where the call is once FIND's first word is loaded.
-pub(crate) fn find(setting: &Setting, place: Position, got: u64) -> Stage
-    ensures stage { result ≡ after_first (setting_of setting.now) place got }
+pub(crate) fn find(setting: &Setting, place: &Position, got: u64) -> Stage
+    ensures stage { result ≡ after_first (setting_of setting.now) place.now got }
     ensures sound { is_sound result ≡ true }
 {
     match place.row.kind {
         Kind::Four => among(setting, place, keys_one(got)),
-        Kind::Sixteen => Stage::FindKeys { place, count: got },
+        Kind::Sixteen => Stage::FindKeys {
+            place: *place,
+            count: got,
+        },
         Kind::FortyEight => indexed(setting, place, got),
         Kind::Full => {
             let slot = place.row.base as usize + 2 + setting.byte(place.row) as usize;
@@ -336,8 +345,8 @@ pub(crate) fn find(setting: &Setting, place: Position, got: u64) -> Stage
 }
 
 /// Where it is once the row below is locked or waited for.
-fn arrived(setting: &Setting, down: Down, kept: u64) -> Stage
-    ensures stage { result ≡ after_arrival (setting_of setting.now) down kept }
+fn arrived(setting: &Setting, down: &Down, kept: u64) -> Stage
+    ensures stage { result ≡ after_arrival (setting_of setting.now) down.now kept }
     ensures sound { is_sound result ≡ true }
 {
     let straight = if setting.locks() {
@@ -346,15 +355,15 @@ fn arrived(setting: &Setting, down: Down, kept: u64) -> Stage
         setting.leaves_out_check()
     };
     if straight {
-        Stage::Info { down, kept }
+        Stage::Info { down: *down, kept }
     } else {
-        Stage::Between { down, kept }
+        Stage::Between { down: *down, kept }
     }
 }
 
-pub(crate) fn entered(setting: &Setting, target: Target, kept: u64) -> Stage
-    requires { is_sound_target target ≡ true }
-    ensures stage { result ≡ after_entry (setting_of setting.now) target kept }
+pub(crate) fn entered(setting: &Setting, target: &Target, kept: u64) -> Stage
+    requires { is_sound_target target.now ≡ true }
+    ensures stage { result ≡ after_entry (setting_of setting.now) target.now kept }
     ensures sound { is_sound result ≡ true }
 {
     match target {
@@ -371,21 +380,13 @@ pub(crate) fn entered(setting: &Setting, target: Target, kept: u64) -> Stage
             },
         },
         Target::Below { down } => arrived(setting, down, kept),
-        Target::Taken { taking } => {
-            let row = Held {
-                base: taking.row.base,
-                kind: taking.row.kind,
-                info: taking.row.info,
-                kept,
-            };
-            taken(setting, taking.held, taking.below, taking.work, row)
-        }
+        Target::Taken { taking } => taken(setting, taking, kept),
     }
 }
 
 /// Where it is once the info of the row below is loaded.
-pub(crate) fn below(setting: &Setting, down: Down, kept: u64, info: u64) -> Stage
-    ensures stage { result ≡ after_info (setting_of setting.now) down (held down.base down.kind info kept) }
+pub(crate) fn below(setting: &Setting, down: &Down, kept: u64, info: u64) -> Stage
+    ensures stage { result ≡ after_info (setting_of setting.now) down.now (held down.now.base down.now.kind info kept) }
     ensures sound { is_sound result ≡ true }
 {
     let row = Held {
@@ -402,7 +403,7 @@ pub(crate) fn below(setting: &Setting, down: Down, kept: u64, info: u64) -> Stag
                 slot: down.slot,
             },
         },
-        Some(level) => beside(setting, down, row, level),
+        Some(level) => beside(setting, *down, row, level),
     }
 }
 

@@ -8,33 +8,33 @@ use art_setting::count;
 use art_stages::{Growing, Spread, Stage};
 
 /// Where GROW is behind its row's info.
-pub(crate) fn fill(growing: Growing) -> Stage
-    ensures stage { result ≡ fill_at growing.hold.row.kind growing }
+pub(crate) fn fill(growing: &Growing) -> Stage
+    ensures stage { result ≡ fill_at growing.now.hold.row.kind growing.now }
     ensures sound { is_sound result ≡ true }
 {
     match growing.hold.row.kind {
         Kind::Four | Kind::Sixteen => copies(growing, count(growing.hold.row.kind, growing.keys)),
         Kind::FortyEight => Stage::SpreadIndex {
-            growing,
+            growing: *growing,
             place: 0,
             left: 31,
         },
-        Kind::Full => Stage::Hang { growing },
+        Kind::Full => Stage::Hang { growing: *growing },
     }
 }
 
 /// With so many children to be copied.
 #[tactic(auto, using(crate::proofs::LoopLemmas::copies_none, crate::proofs::LoopLemmas::copies_some))]
-fn copies(growing: Growing, left: u32) -> Stage
+fn copies(growing: &Growing, left: u32) -> Stage
     requires { left ≤ 48 }
-    ensures stage { result ≡ copies_at growing 0 left }
+    ensures stage { result ≡ copies_at growing.now 0 left }
     ensures sound { is_sound result ≡ true }
 {
     if left == 0 {
-        Stage::GrowLeaf { growing }
+        Stage::GrowLeaf { growing: *growing }
     } else {
         Stage::GrowLoad {
-            growing,
+            growing: *growing,
             place: 0,
             left: left - 1,
         }
@@ -43,16 +43,16 @@ fn copies(growing: Growing, left: u32) -> Stage
 
 /// With so many children to be copied behind this one.
 #[tactic(auto, using(crate::proofs::LoopLemmas::copies_none, crate::proofs::LoopLemmas::copies_some))]
-pub(crate) fn copied(growing: Growing, place: u32, left: u32) -> Stage
+pub(crate) fn copied(growing: &Growing, place: u32, left: u32) -> Stage
     requires { nat_le (place + left) 48 ≡ true }
-    ensures stage { result ≡ copies_at growing (place + 1) left }
+    ensures stage { result ≡ copies_at growing.now (place + 1) left }
     ensures sound { is_sound result ≡ true }
 {
     if left == 0 {
-        Stage::GrowLeaf { growing }
+        Stage::GrowLeaf { growing: *growing }
     } else {
         Stage::GrowLoad {
-            growing,
+            growing: *growing,
             place: place + 1,
             left: left - 1,
         }
@@ -61,16 +61,16 @@ pub(crate) fn copied(growing: Growing, place: u32, left: u32) -> Stage
 
 /// With so many index words to be spread behind this one.
 #[tactic(auto, using(crate::proofs::LoopLemmas::spreads_none, crate::proofs::LoopLemmas::spreads_some))]
-fn spreads(growing: Growing, place: u32, left: u32) -> Stage
+fn spreads(growing: &Growing, place: u32, left: u32) -> Stage
     requires { nat_le (place + left) 31 ≡ true }
-    ensures stage { result ≡ spreads_at growing (place + 1) left }
+    ensures stage { result ≡ spreads_at growing.now (place + 1) left }
     ensures sound { is_sound result ≡ true }
 {
     if left == 0 {
-        Stage::GrowLeaf { growing }
+        Stage::GrowLeaf { growing: *growing }
     } else {
         Stage::SpreadIndex {
-            growing,
+            growing: *growing,
             place: place + 1,
             left: left - 1,
         }
@@ -79,19 +79,19 @@ fn spreads(growing: Growing, place: u32, left: u32) -> Stage
 
 /// With so many entries of an index word from this one on.
 #[tactic(auto, using(crate::proofs::LoopLemmas::entries_none, crate::proofs::LoopLemmas::entries_skip, crate::proofs::LoopLemmas::entries_some))]
-pub(crate) fn entries(spread: Spread, entry: u32, left: u32) -> Stage
-    requires words { nat_le (spread.place + spread.left) 31 ≡ true }
+pub(crate) fn entries(spread: &Spread, entry: u32, left: u32) -> Stage
+    requires words { nat_le (spread.now.place + spread.now.left) 31 ≡ true }
     requires few { entry + left ≤ 8 }
-    ensures stage { result ≡ entries_at spread entry left }
+    ensures stage { result ≡ entries_at spread.now entry left }
     ensures sound { is_sound result ≡ true }
 {
     if left == 0 {
-        spreads(spread.growing, spread.place, spread.left)
+        spreads(&spread.growing, spread.place, spread.left)
     } else if entry_at(spread.word, entry) == 0 {
         entries(spread, entry + 1, left - 1)
     } else {
         Stage::SpreadLoad {
-            spread,
+            spread: *spread,
             entry,
             after: left - 1,
         }
@@ -99,48 +99,48 @@ pub(crate) fn entries(spread: Spread, entry: u32, left: u32) -> Stage
 }
 
 /// With so many entries behind this one.
-pub(crate) fn spread_on(spread: Spread, entry: u32, after: u32) -> Stage
-    requires words { nat_le (spread.place + spread.left) 31 ≡ true }
+pub(crate) fn spread_on(spread: &Spread, entry: u32, after: u32) -> Stage
+    requires words { nat_le (spread.now.place + spread.now.left) 31 ≡ true }
     requires few { nat_le (entry + after) 7 ≡ true }
-    ensures stage { result ≡ entries_at spread (entry + 1) after }
+    ensures stage { result ≡ entries_at spread.now (entry + 1) after }
     ensures sound { is_sound result ≡ true }
 {
     entries(spread, entry + 1, after)
 }
 
 /// Behind its leaf.
-pub(crate) fn leaf_stored(growing: Growing) -> Stage
-    ensures stage { result ≡ leaf_after growing.hold.row.kind growing }
+pub(crate) fn leaf_stored(growing: &Growing) -> Stage
+    ensures stage { result ≡ leaf_after growing.now.hold.row.kind growing.now }
     ensures sound { is_sound result ≡ true }
 {
     match growing.hold.row.kind {
         Kind::Four => Stage::GrowKeys {
-            growing,
+            growing: *growing,
             place: 0,
             left: 1,
         },
         Kind::Sixteen => Stage::GrowKeys {
-            growing,
+            growing: *growing,
             place: 0,
             left: 31,
         },
-        Kind::FortyEight | Kind::Full => Stage::Hang { growing },
+        Kind::FortyEight | Kind::Full => Stage::Hang { growing: *growing },
     }
 }
 
 /// With so many key words or index words behind this one.
 #[tactic(auto, using(crate::proofs::LoopLemmas::keys_none, crate::proofs::LoopLemmas::keys_some))]
-pub(crate) fn keys_stored(growing: Growing, place: u32, left: u32) -> Stage
-    requires kind { has_keys growing.hold.row.kind ≡ true }
+pub(crate) fn keys_stored(growing: &Growing, place: u32, left: u32) -> Stage
+    requires kind { has_keys growing.now.hold.row.kind ≡ true }
     requires few { nat_le (place + left) 31 ≡ true }
-    ensures stage { result ≡ keys_at_after growing place left }
+    ensures stage { result ≡ keys_at_after growing.now place left }
     ensures sound { is_sound result ≡ true }
 {
     if left == 0 {
-        Stage::GrowCount { growing }
+        Stage::GrowCount { growing: *growing }
     } else {
         Stage::GrowKeys {
-            growing,
+            growing: *growing,
             place: place + 1,
             left: left - 1,
         }

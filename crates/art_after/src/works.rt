@@ -61,29 +61,36 @@ pub(crate) fn take_above(setting: &Setting, above: Held, row: Held, work: Work) 
     )
 }
 
-/// Where the call is once a row is taken.
-pub(crate) fn taken(
-    setting: &Setting,
-    held: Option<Held>,
-    below: Option<Held>,
-    work: Work,
-    row: Held,
-) -> Stage
-    requires { is_sound_work work ≡ true }
-    ensures stage { result ≡ taken_at (setting_of setting.now) held below work row }
+/// Where the call is once a row is taken, with this version.
+pub(crate) fn taken(setting: &Setting, taking: &Taking, kept: u64) -> Stage
+    requires { is_sound_work taking.now.work ≡ true }
+    ensures stage { result ≡ taken_at (setting_of setting.now) taking.now.held taking.now.below taking.now.work (record taking.now.row { kept = kept }) }
     ensures sound { is_sound result ≡ true }
 {
-    match below {
+    let row = Held {
+        base: taking.row.base,
+        kind: taking.row.kind,
+        info: taking.row.info,
+        kept,
+    };
+    match taking.below {
         Some(below) => take_row(
             setting,
             Taking {
                 row: below,
                 held: Some(row),
                 below: None,
-                work,
+                work: taking.work,
             },
         ),
-        None => begin_work(setting, Hold { row, above: held }, work),
+        None => begin_work(
+            setting,
+            Hold {
+                row,
+                above: taking.held,
+            },
+            taking.work,
+        ),
     }
 }
 
@@ -113,8 +120,8 @@ fn put(setting: &Setting, hold: Hold, keys: Keys) -> Stage
 {
     match hold.row.kind {
         Kind::Four | Kind::Sixteen => moves(
-            hold,
-            keys,
+            &hold,
+            &keys,
             count(hold.row.kind, keys).saturating_sub(setting.place(hold, keys)),
         ),
         Kind::FortyEight => Stage::PutLeaf { hold, keys },
@@ -126,13 +133,16 @@ fn put(setting: &Setting, hold: Hold, keys: Keys) -> Stage
 }
 
 /// Where it is once a row's rows above it are still to be unlocked.
-pub(crate) fn release(setting: &Setting, above: Option<Held>, outcome: Option<Outcome>) -> Stage
-    ensures stage { result ≡ release_at (locks setting.now.variant) above outcome }
+pub(crate) fn release(setting: &Setting, above: &Option<Held>, outcome: Option<Outcome>) -> Stage
+    ensures stage { result ≡ release_at (locks setting.now.variant) above.now outcome }
     ensures sound { is_sound result ≡ true }
 {
     match above {
         Some(row) => Stage::Unlock {
-            hold: Hold { row, above: None },
+            hold: Hold {
+                row: *row,
+                above: None,
+            },
             outcome,
         },
         None => match outcome {
@@ -144,17 +154,20 @@ pub(crate) fn release(setting: &Setting, above: Option<Held>, outcome: Option<Ou
 
 /// Where PUT is with so many children still to be moved.
 #[tactic(auto, using(crate::proofs::LoopLemmas::moves_none, crate::proofs::LoopLemmas::moves_some))]
-pub(crate) fn moves(hold: Hold, keys: Keys, left: u32) -> Stage
-    requires { has_keys hold.row.kind ≡ true }
-    ensures stage { result ≡ moves_at hold keys left }
+pub(crate) fn moves(hold: &Hold, keys: &Keys, left: u32) -> Stage
+    requires { has_keys hold.now.row.kind ≡ true }
+    ensures stage { result ≡ moves_at hold.now keys.now left }
     ensures sound { is_sound result ≡ true }
 {
     if left == 0 {
-        Stage::PutLeaf { hold, keys }
+        Stage::PutLeaf {
+            hold: *hold,
+            keys: *keys,
+        }
     } else {
         Stage::PutLoad {
-            hold,
-            keys,
+            hold: *hold,
+            keys: *keys,
             left: left - 1,
         }
     }

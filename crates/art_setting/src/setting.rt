@@ -84,8 +84,8 @@ impl Setting {
     }
 
     /// The base of a row that is locked or waited for.
-    pub fn target_base(&self, target: Target) -> usize
-        ensures { result ≡ target_base (setting_of self.now) target }
+    pub fn target_base(&self, target: &Target) -> usize
+        ensures { result ≡ target_base (setting_of self.now) target.now }
     {
         match target {
             Target::Root => self.shape.root(),

@@ -6,7 +6,7 @@ use Rattle.art_steps.specs.Steps.{reply_of}
 use Rattle.art.specs.declared.task.Task.{Task}
 use Rattle.art.specs.Tasks.{rest_of, shape_of}
 use Rattle.machine.specs.declared.doing.Doing.{Doing}
-use Rattle.machine.specs.declared.doing.Doing.TheVariants.{Idle, Going, Answered}
+use Rattle.machine.specs.declared.doing.Doing.TheVariants.{Going, Answered}
 
 -- whether it still makes accesses for a call whose reply is known
 abbrev pub is_late : Doing → Bool

@@ -1,7 +1,6 @@
-use Rattle.std.proofs.Common.{refl, ap, subst, sym, ◌∙◌}
+use Rattle.std.proofs.Common.{refl, subst, ◌∙◌}
 use Rattle.machine.specs.Doings.{after_access}
 use Rattle.machine.specs.Fitting.{Advances}
-use Rattle.machine.specs.declared.doing.Doing.TheVariants.{Going}
 use Rattle.machine.proofs.TurnLemmas.{goes-on}
 use Rattle.machine.proofs.runner.Runner.turn.Goals as goal
 
