@@ -1,3 +1,4 @@
 mod LengthLemmas
 mod ClockLemmas
 pub mod SerialMapLemmas
+mod StartEndLemmas

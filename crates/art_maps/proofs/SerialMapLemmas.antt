@@ -84,7 +84,7 @@ module _ (same : SameTreesAreOne) (s : Shape) where
           keeps = record { rest = i.rests; means = i.means; few = omega (arith, after_reply-few m (Insert key value) i.reply, h.few) };
         }
 
-    is-kept : (variant : Variant) → IsKept s variant (IsMap s)
+    pub is-kept : (variant : Variant) → IsKept s variant (IsMap s)
     is-kept variant = record {
       stamps = λ n words m h. clock-set n words m ((slice_index words clock + 1) % 18446744073709551616) (mod-lt (slice_index words clock + 1) (omega arith)) h;
       resets = λ n words m h. clock-set n words m 0 (omega arith) h;

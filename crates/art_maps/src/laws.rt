@@ -1,5 +1,6 @@
-// The law of serial schedules of a tree: the function only carries its clause.
+// The laws of serial schedules of a tree: each function only carries its clause.
 ghost use Rattle.art_core.specs.Claims.{SerialIsMap};
+ghost use Rattle.art_maps.specs.Ends.{StartsEnd};
 
 use art_alone::seeks_are_the_maps;
 use art_inserts::inserts_are_the_maps;
@@ -10,6 +11,17 @@ use art_walks::scans_are_the_maps;
 /// starts with. It stands on the laws of trees and of calls that run alone.
 pub fn serial_is_map()
     ensures { SerialIsMap }
+{
+    tables_open_at_rest();
+    same_trees_are_one();
+    seeks_are_the_maps();
+    scans_are_the_maps();
+    inserts_are_the_maps();
+}
+
+/// The inserts of the pairs with which a tree starts come to an end, in every variant. It stands on the same laws.
+pub fn starts_end()
+    ensures { StartsEnd }
 {
     tables_open_at_rest();
     same_trees_are_one();

@@ -3,4 +3,4 @@
 
 mod laws;
 
-pub use laws::serial_is_map;
+pub use laws::{serial_is_map, starts_end};

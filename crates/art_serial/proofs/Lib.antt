@@ -5,3 +5,4 @@ mod SerialScheduleLemmas
 mod SoleProcessLemmas
 pub mod KeptLemmas
 pub mod StartKeptLemmas
+pub mod ScriptEndLemmas

@@ -1,0 +1,47 @@
+-- The inserts of starting pairs come to their end, since each insert that runs alone does.
+use Rattle.std.proofs.Common.{◌≡◌, ℕ, ◌≤◌, IsTrue, List, [], length, arith, refl, ap, subst}
+use Rattle.std.specs.Prelude.{All, None}
+use Rattle.std.proofs.lemmas.List.Elements.{All-head}
+use Rattle.map_object.specs.MapObject.{Contents}
+use Rattle.art_rows.specs.declared.table.Shape.{Shape}
+use Rattle.art_rows.specs.Table.{opening}
+use Rattle.art_steps.specs.declared.variant.Variant.{Variant}
+use Rattle.art_steps.specs.TreeCalls.{is_tree_call}
+use Rattle.art_core.specs.Core.{Plan, State, idle, moved_by, opened, step}
+use Rattle.art_core.specs.Runs.{Gives}
+use Rattle.art_core.specs.Starts.{inserts, start_plan}
+use Rattle.art_core.specs.Claims.{IsPlan}
+use Rattle.art_trees.specs.Trees.{TablesOpenAtRest, SameTreesAreOne}
+use Rattle.art_alone.specs.Laws.{SeeksAreTheMaps}
+use Rattle.art_walks.specs.Walks.{ScansAreTheMaps}
+use Rattle.art_inserts.specs.Laws.{InsertsAreTheMaps}
+use Rattle.art_serial.proofs.ScriptEndLemmas.{ComesToEnd, sole, ends-script, no-longer}
+use Rattle.art_maps.specs.Ends.{StartsEnd}
+use Rattle.art_maps.proofs.SerialMapLemmas.{IsMap, is-kept}
+
+module _ (opens : TablesOpenAtRest) (same : SameTreesAreOne) (seeks : SeeksAreTheMaps) (scans : ScansAreTheMaps) (puts : InsertsAreTheMaps)
+    (shape : Shape) (variant : Variant) (start : Contents) (within : IsPlan (start_plan shape variant start)) where
+  abbrev plan : Plan
+  plan = start_plan shape variant start
+
+  end : ComesToEnd shape variant (inserts start) (opening shape) idle
+  end =
+      let (rests, means) = opens shape within.shape.root in
+      ends-script shape variant (inserts start) (IsMap shape) (is-kept same shape within.shape seeks scans puts variant) (inserts start) (opening shape) []
+      idle refl refl (All-head (λ script. All (λ call. IsTrue (is_tree_call call)) script) (inserts start) [] within.calls)
+      (let few = within.few_calls in omega (arith, few)) (record { rest = rests; means = means; few = omega arith })
+
+  abbrev last : State
+  last = sole shape variant (inserts start) end.last end.to
+
+  over : step plan last 0 ≡ None
+  unfolding step
+  over = ap (moved_by last 0 end.to) end.over
+
+  few : (schedule : List ℕ) (s : State) → Gives plan (opened plan) schedule s → length schedule ≤ end.steps
+  few schedule s gives = subst (λ n. length schedule ≤ n) end.leads.long
+      (no-longer plan end.leads.schedule schedule (opened plan) last s refl end.leads.gives gives over)
+
+pub starts-end : TablesOpenAtRest → SameTreesAreOne → SeeksAreTheMaps → ScansAreTheMaps → InsertsAreTheMaps → StartsEnd
+starts-end opens same seeks scans puts shape variant start within =
+    ((end opens same seeks scans puts shape variant start within).steps, few opens same seeks scans puts shape variant start within)

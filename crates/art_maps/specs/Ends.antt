@@ -1,0 +1,15 @@
+-- That the inserts of starting pairs come to an end.
+use Rattle.std.specs.Prelude.{ℕ, ◌≤◌, List, length}
+use Rattle.map_object.specs.MapObject.{Contents}
+use Rattle.art_rows.specs.declared.table.Shape.{Shape}
+use Rattle.art_steps.specs.declared.variant.Variant.{Variant}
+use Rattle.art_core.specs.Core.{State, opened}
+use Rattle.art_core.specs.Runs.{Gives}
+use Rattle.art_core.specs.Starts.{start_plan}
+use Rattle.art_core.specs.Claims.{IsPlan}
+
+-- In every variant there is a number of steps that no schedule of the inserts passes: the last of them is answered.
+abbrev pub StartsEnd : Type 0
+StartsEnd = (shape : Shape) (variant : Variant) (start : Contents) → IsPlan (start_plan shape variant start)
+    → (steps : ℕ) × ((schedule : List ℕ) (s : State) → Gives (start_plan shape variant start) (opened (start_plan shape variant start)) schedule s
+    → length schedule ≤ steps)
