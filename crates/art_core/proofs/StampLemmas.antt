@@ -1,7 +1,9 @@
 -- The clock counts the events of the logs, and a plan has few of them.
-use Rattle.std.proofs.Common.{◌≡◌, ◌≢◌, ℕ, zero, suc, ◌+◌, ◌*◌, ◌%◌, ◌^◌, ◌<◌, ◌≤◌, Bool, true, false, cond, arith, refl, sym, subst, ap, ◌∙◌}
+use Rattle.std.proofs.Common.{◌≡◌, ◌≢◌, ℕ, zero, suc, ◌+◌, ◌*◌, ◌%◌, ◌^◌, ◌<◌, ◌≤◌, Bool, true, false, cond, arith, refl}
+use Rattle.std.proofs.Common.{sym, subst, ap, ◌∙◌}
 use Rattle.std.proofs.Common.{List, [], ◌∷◌, ◌++◌, length, map, sum, inl, inr, get_or-set_same, get_or-set_other}
-use Rattle.std.specs.Prelude.{Option, Some, None, is_some, All, slice_get, slice_index, slice_set, slice_index_or, filter_map, flat_map, sum_by}
+use Rattle.std.specs.Prelude.{Option, Some, None, is_some, All, slice_get, slice_index, slice_set, slice_index_or}
+use Rattle.std.specs.Prelude.{filter_map, flat_map, sum_by}
 use Rattle.std.proofs.lemmas.List.{length-append, length-replicate}
 use Rattle.std.proofs.lemmas.List.Sums.{sum-map, sum_by-set, sum_by-cons}
 use Rattle.std.proofs.lemmas.List.Elements.{All-nil, All-cons}
@@ -18,7 +20,8 @@ use Rattle.art_steps.specs.Steps.{Turn, Asks, Answers}
 use Rattle.art_steps.specs.Act.{act}
 use Rattle.art_steps.proofs.AccessLemmas.{act-stays}
 use Rattle.art_core.specs.declared.process.Process.{Process}
-use Rattle.art_core.specs.Core.{Plan, State, Move, Invokes, Makes, Responds, begun, finished, invoked, answered, moved, word_of_move, after_move, move_of}
+use Rattle.art_core.specs.Core.{Plan, State, Move, Invokes, Makes, Responds, begun, finished, invoked, answered, moved}
+use Rattle.art_core.specs.Core.{word_of_move, after_move, move_of}
 use Rattle.art_core.specs.Core.{move_from, next_move, next_call, invocation, step, opened_on, idle, history_of}
 use Rattle.art_core.specs.Accesses.{changed}
 use Rattle.art_core.specs.Runs.{run_on}
@@ -88,7 +91,7 @@ module _ (plan : Plan) (within : IsPlan plan) where
   few-events : (s : State) → IsTicked s → slice_index s.words 0 ≤ 8192
   few-events s t =
       let half = sums-within (λ q. length q.log) (λ q. length (begun q)) s.processes
-          (λ i q at. let parts = log-parts q.log in let c = (t.counted i q at).counts in let less = cond-small (is_some q.call) in omega arith) in
+      (λ i q at. let parts = log-parts q.log in let c = (t.counted i q at).counts in let less = cond-small (is_some q.call) in omega arith) in
       let calls = calls-within s.processes plan.scripts t.logged.scripts in
       let sums = sum-map (λ q. length (begun q)) s.processes in
       let few = within.few_calls in
@@ -118,7 +121,8 @@ module _ (plan : Plan) (within : IsPlan plan) where
           let new = changed a (slice_index s.words (word_of a)) in
           let at : slice_index (slice_set s.words (word_of a) new) 0 ≡ slice_index s.words 0 = get_or-set_other s.words (word_of a) 0 new 0 other in
           let q' = after_move p (Makes a) (slice_index s.words (word_of a)) q in
-          let same : events (slice_set s.processes p q') + length q.log ≡ events s.processes + length q.log = sum-changed (λ q. length q.log) s.processes p q q' here in
+          let same : events (slice_set s.processes p q') + length q.log ≡ events s.processes + length q.log =
+          sum-changed (λ q. length q.log) s.processes p q q' here in
           omega arith
 
   ticked-step : (s : State) (p : ℕ) (next : State) → step plan s p ≡ Some next → IsTicked s → IsTicked next
@@ -147,14 +151,16 @@ module _ (plan : Plan) (within : IsPlan plan) where
   ticked-first words long zeroed = record {
     logged = opened-logged plan words long zeroed;
     ticks = omega arith;
-    counted = λ i q at. subst (λ q. IsCounted plan i q) (sym (all-idle (length plan.scripts) i q at)) (record { counts = refl; within = λ script at. omega arith });
+    counted = λ i q at. subst (λ q. IsCounted plan i q) (sym (all-idle (length plan.scripts) i q at))
+        (record { counts = refl; within = λ script at. omega arith });
   }
 
 -- each log is among all of them
 logs-below : (n : ℕ) (ps : List Process) → AreBelow n (flat_map (λ log. log) (map (λ q. q.log) ps)) → All (λ q. All (λ (e : Stamped). e.0 < n) q.log) ps
 logs-below n [] below = All-nil _
 logs-below n (q ∷ ps) below =
-    All-cons (λ q. All (λ (e : Stamped). e.0 < n) q.log) q ps (all-below q.log (AreBelow-front n q.log _ below)) (logs-below n ps (AreBelow-back n q.log _ below))
+    All-cons (λ q. All (λ (e : Stamped). e.0 < n) q.log) q ps (all-below q.log (AreBelow-front n q.log _ below))
+    (logs-below n ps (AreBelow-back n q.log _ below))
   where
     all-below : (log : List Stamped) → AreBelow n log → All (λ (e : Stamped). e.0 < n) log
     all-below [] h = All-nil _

@@ -1,13 +1,12 @@
 -- The beginning, and the end.
-use Rattle.std.proofs.Common.{◌≡◌, ℕ, zero, suc, ◌+◌, ◌-◌, ◌<◌, ◌≤◌, ◌≢◌, ◌⊎◌, inl, inr, ⊎_elim, List, [], ◌∷◌, length, map, sym, refl, ap, subst, ◌∙◌, arith, replicate}
-use mathlib.Core.Option.{some, some-ne-none}
-use lib.ListN.{get_elem?}
-use Rattle.std.specs.Prelude.{Option, Some, None, All, slice_get}
+use Rattle.std.proofs.Common.{◌≡◌, ℕ, zero, suc, ◌+◌, ◌-◌, ◌<◌, ◌≤◌, ◌⊎◌, inl, inr, ⊎_elim, List, [], ◌∷◌, length, map, sym}
+use Rattle.std.proofs.Common.{refl, ap, subst, ◌∙◌, arith, replicate}
+use mathlib.Core.Option.{some-ne-none}
+use Rattle.std.specs.Prelude.{Some, slice_get}
 use Rattle.std.specs.List.{range_with_len}
 use Rattle.std.proofs.lemmas.Bool.{cases_lt}
-use Rattle.std.proofs.lemmas.List.{length-replicate}
 use Rattle.std.proofs.lemmas.List.Elements.{All-nil}
-use Rattle.std.proofs.lemmas.Option.{slice_get_within, same_Some, none-some}
+use Rattle.std.proofs.lemmas.Option.{slice_get_within, same_Some}
 use Rattle.list_laws.proofs.Lists.{AllPairs-nil}
 use Rattle.atomic_table.specs.Table.{State as Table, opening as table_opening, Seen}
 use Rattle.atomic_table.proofs.Lists.{at_snoc}
@@ -24,9 +23,9 @@ use Rattle.art_core.proofs.StartLemmas.{no-start}
 use Rattle.art_shared.specs.declared.view.Setup.{Setup}
 use Rattle.art_shared.specs.declared.view.Noted.{Noted}
 use Rattle.art_shared.specs.Setups.{IsSetup}
-use Rattle.art_shared.specs.Views.{Numbered, all_idle}
-use Rattle.art_shared.specs.Rule.{Has, times, times_in, Above, Rises, Kept, first_view}
-use Rattle.art_shared.specs.Ends.{plan_of, state_of, Ended}
+use Rattle.art_shared.specs.Views.{Numbered}
+use Rattle.art_shared.specs.Rule.{Has, times, Above, Rises, Kept, first_view}
+use Rattle.art_shared.specs.Ends.{Ended}
 use Rattle.art_shared.proofs.NumberedLemmas.{hit, miss}
 use Rattle.art_shared.proofs.GivenLemmas.{given-first, given-plan, given-clocked}
 
@@ -127,7 +126,9 @@ module _ (setup : Setup) (limits : IsSetup setup) where
       let r = seen.0.1 in
       let many = r.given.many in
       let same : map (λ (x : Numbered). x.1) v.view.processes ≡ r.processes =
-      collected 0 v.view.processes r.processes (r.rising id v seen.1) (omega arith) (λ p q t. let same : p ≡ p - 0 = omega arith in (omega arith, ap (λ n. slice_get r.processes n) (sym same) ∙ (r.shows id v seen.1 p q t).1)) in
+      collected 0 v.view.processes r.processes (r.rising id v seen.1) (omega arith)
+      (λ p q t. let same : p ≡ p - 0 = omega arith in
+      (omega arith, ap (λ n. slice_get r.processes n) (sym same) ∙ (r.shows id v seen.1 p q t).1)) in
       let plan = subst (λ l. IsPlan (begun_plan setup.shape setup.variant l)) (sym same) (given-plan setup limits s.words r.processes r.given) in
       let gives = subst (λ l. Gives (begun_plan setup.shape setup.variant l) (opened (begun_plan setup.shape setup.variant l)) r.given.schedule
       (record { words = s.words; processes = l })) (sym same) r.given.gives in

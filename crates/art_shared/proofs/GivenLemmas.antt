@@ -1,17 +1,17 @@
 -- The core's side of a step: a move more is given by a schedule that is one process longer, and the clock is above all stamps.
-use Rattle.std.proofs.Common.{◌≡◌, ℕ, zero, suc, ◌+◌, ◌*◌, ◌-◌, ◌<◌, ◌≤◌, List, [], ◌∷◌, ◌++◌, length, map, sum, sym, refl, ap, subst, ◌∙◌, arith, IsTrue, replicate}
-use Rattle.std.specs.Prelude.{Option, Some, None, All, slice_get, slice_index, slice_set, sum_by}
+use Rattle.std.proofs.Common.{◌≡◌, ℕ, zero, suc, ◌*◌, ◌<◌, ◌≤◌, List, [], ◌∷◌, ◌++◌, length, map, sum, sym, refl, ap, subst}
+use Rattle.std.proofs.Common.{◌∙◌, arith, IsTrue, replicate}
+use Rattle.std.specs.Prelude.{Some, All, slice_get, slice_index, slice_set, sum_by}
 use Rattle.std.proofs.lemmas.List.{length-set, length-map, length-append, append-nil, length-replicate}
 use Rattle.std.proofs.lemmas.List.Sums.{sum-map, sum_by-cons}
 use Rattle.std.proofs.lemmas.List.Elements.{All-set, All-map, All-append, All-cons, All-nil}
 use Rattle.list_laws.proofs.Lists.{All-at}
 use Rattle.events.specs.declared.event.Call.{Call}
 use Rattle.events.specs.declared.event.Event.TheVariants.{Invoke, Answer}
-use Rattle.art_rows.specs.Table.{opening, clock}
+use Rattle.art_rows.specs.Table.{opening}
 use Rattle.art_steps.specs.TreeCalls.{is_tree_call}
 use Rattle.art_core.specs.declared.process.Process.{Process}
-use Rattle.art_core.specs.Core.{Plan, State, Move, Invokes, Makes, Responds, begun, moved, word_of_move, new_word, after_move, idle, opened}
-use Rattle.art_core.specs.Runs.{Gives}
+use Rattle.art_core.specs.Core.{State, Move, Invokes, Makes, Responds, begun, word_of_move, new_word, after_move, idle}
 use Rattle.art_core.specs.Laws.{begun_plan, MayMove, IsClocked}
 use Rattle.art_core.specs.Claims.{IsPlan}
 use Rattle.art_core.proofs.RunLemmas.{move-reached, begun-more}

@@ -1,18 +1,19 @@
 -- The views' side of a step: each process stays in one view, which shows it as it is.
-use Rattle.std.proofs.Common.{◌≡◌, ℕ, zero, suc, ◌+◌, ◌-◌, ◌<◌, ◌≤◌, ◌≢◌, ◌⊎◌, inl, inr, ⊎_elim, List, [], ◌∷◌, ◌++◌, length, set, sym, refl, ap, subst, ◌∙◌, arith}
-use mathlib.Core.Option.{some, some-ne-none}
+use Rattle.std.proofs.Common.{◌≡◌, ℕ, zero, suc, ◌+◌, ◌-◌, ◌<◌, ◌≤◌, ◌≢◌, inl, inr, ⊎_elim, List, [], ◌∷◌, ◌++◌, length, set}
+use Rattle.std.proofs.Common.{sym, refl, ap, subst, ◌∙◌, arith}
+use mathlib.Core.Option.{some}
 use lib.ListN.{get_elem?}
-use Rattle.std.specs.Prelude.{Option, Some, None, slice_get, slice_set}
-use Rattle.std.proofs.lemmas.Option.{slice_get_within, same_Some, none-some}
+use Rattle.std.specs.Prelude.{Option, Some, slice_get, slice_set}
+use Rattle.std.proofs.lemmas.Option.{slice_get_within, none-some}
 use Rattle.atomic_table.proofs.Lists.{at_set, at_snoc}
 use Rattle.events.specs.declared.event.Call.{Call}
 use Rattle.art_core.specs.declared.process.Process.{Process}
 use Rattle.art_shared.specs.declared.view.Setup.{Setup}
-use Rattle.art_shared.specs.declared.view.View.{View}
 use Rattle.art_shared.specs.declared.view.Noted.{Noted}
-use Rattle.art_shared.specs.Views.{Numbered, view, without_last, last_alone, merge, merged}
-use Rattle.art_shared.specs.Rule.{noted, Has, times, times_in, total, Shows, Rises, IsGiven, IsReached, kept_part, given_part, both_parts, no_part}
-use Rattle.art_shared.proofs.NumberedLemmas.{hit, has-times, has-take, has-drop, times-cut, rises-take, rises-drop, times-merge, has-merge, rises-merge}
+use Rattle.art_shared.specs.Views.{Numbered, view}
+use Rattle.art_shared.specs.Rule.{noted, Has, times, times_in, total, Rises, IsGiven, IsReached, kept_part, given_part, both_parts, no_part}
+use Rattle.art_shared.proofs.NumberedLemmas.{hit, has-times, has-take, has-drop, times-cut, rises-take, rises-drop}
+use Rattle.art_shared.proofs.NumberedLemmas.{times-merge, has-merge, rises-merge}
 use Rattle.art_shared.proofs.CountLemmas.{total-set, total-push, total-one, total-two}
 
 get-set : {A : Type 0} (xs : List A) (p : ℕ) (x y : A) → slice_get xs p ≡ Some y → slice_get (slice_set xs p x) p ≡ Some x
@@ -72,7 +73,8 @@ module _ (setup : Setup) (words : List ℕ) (views : List Noted) (r : IsReached 
             let one = r.once p lt in
             omega arith;
         rising = λ j u e. ⊎_elim
-            (λ a. ⊎_elim (λ t. subst (λ z. Rises z.view.processes) t.1 (rises-take i l (r.rising id v at))) (λ t. r.rising j u t.1) (at_set views id j kept u a))
+            (λ a. ⊎_elim (λ t. subst (λ z. Rises z.view.processes) t.1 (rises-take i l (r.rising id v at)))
+            (λ t. r.rising j u t.1) (at_set views id j kept u a))
             (λ a. subst (λ z. Rises z.view.processes) a (rises-drop i l (r.rising id v at)))
             (at_snoc (set views id kept) given u j e);
       }
@@ -94,7 +96,7 @@ module _ (setup : Setup) (words : List ℕ) (views : List Noted) (r : IsReached 
             (λ t'. (
               ap (λ z. z.view.setup) (sym t'.1) ∙ same,
               ⊎_elim (λ a. (r.shows id v at p q a).1) (λ b. (r.shows other u theirs p q b).1)
-              (has-merge (p, q) l m (subst (λ z. Has (p, q) z.view.processes) (sym t'.1) h)),
+                  (has-merge (p, q) l m (subst (λ z. Has (p, q) z.view.processes) (sym t'.1) h)),
             ))
             (λ t'. r.shows j y t'.1 p q h) (at_set views id j both y t.1))
             (at_set (set views id both) other j no_part y e);
@@ -112,7 +114,8 @@ module _ (setup : Setup) (words : List ℕ) (views : List Noted) (r : IsReached 
             (at_set (set views id both) other j no_part y e);
       }
     where
-      once-in-both : get_elem? views other ≡ some u → (p : ℕ) (q : Process) → Has (p, q) u.view.processes → times p v.view.processes + times p u.view.processes ≤ 1
+      once-in-both : get_elem? views other ≡ some u → (p : ℕ) (q : Process) → Has (p, q) u.view.processes
+          → times p v.view.processes + times p u.view.processes ≤ 1
       once-in-both theirs p q h =
           let s = (r.shows other u theirs p q h).1 in
           let below = slice_get_within r.processes p q s in
@@ -154,7 +157,8 @@ module _ (setup : Setup) (words new_words : List ℕ) (views : List Noted) (r : 
 
   shows-new : (i : ℕ) (x : Process) → Has (i, x) ((p, q') ∷ rest) → slice_get (slice_set r.processes p q') i ≡ Some x
   shows-new i x h = ⊎_elim
-      (λ y. ap (λ z. slice_get (slice_set r.processes p q') z) (ap (λ (z : Numbered). z.0) y) ∙ (get-set r.processes p q' q first-there ∙ ap Some (sym (ap (λ (z : Numbered). z.1) y))))
+      (λ y. ap (λ z. slice_get (slice_set r.processes p q') z) (ap (λ (z : Numbered). z.0) y)
+      ∙ (get-set r.processes p q' q first-there ∙ ap Some (sym (ap (λ (z : Numbered). z.1) y))))
       (λ t. get-set-other r.processes p i q' (twice i x t) ∙ (r.shows id old at i x (inr t)).1)
       h
 

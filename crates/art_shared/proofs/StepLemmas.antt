@@ -1,9 +1,10 @@
 -- What the table asks of each step: that it keeps the rule.
-use Rattle.std.proofs.Common.{◌≡◌, ℕ, zero, suc, ◌+◌, ◌-◌, ◌%◌, ◌^◌, ◌<◌, ◌≤◌, inl, inr, Bool, true, false, eqb, List, [], ◌∷◌, ◌++◌, length, get_or, set, refl, sym, ap, subst, ◌∙◌, arith, IsTrue}
-use mathlib.Core.Option.{some, none, some-injective}
+use Rattle.std.proofs.Common.{◌≡◌, ℕ, ◌+◌, ◌%◌, ◌^◌, ◌<◌, ◌≤◌, inl, inr, Bool, true, false, eqb, List, [], ◌∷◌, length}
+use Rattle.std.proofs.Common.{get_or, set, refl, sym, ap, subst, ◌∙◌, arith, IsTrue}
+use mathlib.Core.Option.{some, some-injective}
 use lib.ListN.{get_elem?}
 use prog.Atomic.{either}
-use Rattle.std.specs.Prelude.{Option, Some, None, All, not, is_some, if◌then◌else◌, slice_get, slice_index, slice_set}
+use Rattle.std.specs.Prelude.{Option, Some, None, All, not, is_some, if◌then◌else◌, slice_index, slice_set}
 use Rattle.std.proofs.lemmas.List.{length-set, set-get_or}
 use Rattle.std.proofs.lemmas.List.Elements.{All-cons, All-nil}
 use Rattle.std.proofs.lemmas.Option.{same_Some, none-some}
@@ -22,14 +23,16 @@ use Rattle.art_steps.specs.Act.{act}
 use Rattle.art_steps.specs.TreeCalls.{is_tree_call}
 use Rattle.art_steps.proofs.AccessLemmas.{act-stays}
 use Rattle.art_core.specs.declared.process.Process.{Process}
-use Rattle.art_core.specs.Core.{Move, Invokes, Makes, Responds, begun, word_of_move, new_word, after_move, move_of}
+use Rattle.art_core.specs.Core.{Move, Invokes, Makes, Responds, word_of_move, new_word, after_move, move_of}
 use Rattle.art_core.specs.Laws.{MayMove}
 use Rattle.art_shared.specs.declared.view.Setup.{Setup}
 use Rattle.art_shared.specs.declared.view.View.{View}
 use Rattle.art_shared.specs.declared.view.Noted.{Noted}
 use Rattle.art_shared.specs.Setups.{IsSetup}
-use Rattle.art_shared.specs.Views.{Numbered, view, open_move, next_in, next_of, moved_first, moved_if, advanced, is_idle, calls_left, AllStamps}
-use Rattle.art_shared.specs.Rule.{noted, Has, IsGiven, IsReached, Kept, Seated, Notes, Advances, Draws, with_asked, InvokesAsked, kept_part, given_part, both_parts, no_part}
+use Rattle.art_shared.specs.Views.{Numbered, view, open_move, next_in, next_of, moved_first, moved_if, advanced, is_idle}
+use Rattle.art_shared.specs.Views.{calls_left, AllStamps}
+use Rattle.art_shared.specs.Rule.{noted, Has, IsGiven, IsReached, Kept, Seated, Notes, Advances, Draws, with_asked}
+use Rattle.art_shared.specs.Rule.{InvokesAsked, kept_part, given_part, both_parts, no_part}
 use Rattle.art_shared.proofs.GivenLemmas.{MayBegin, given-move, given-clocked}
 use Rattle.art_shared.proofs.ReachedLemmas.{reached-noted, reached-split, reached-join, reached-step, first-there}
 
@@ -61,7 +64,8 @@ module _ (setup : Setup) (m : Move) where
     where
       go : (o : Option Call) → q.call ≡ o → open_move setup q.got o ≡ Some m → MayMove setup.shape setup.variant q q.call m
       go None e k = absurd (none-some m k)
-      go (Some call) e k = subst (λ o. MayMove setup.shape setup.variant q o m) (sym e) (sym (same_Some (move_of (act setup.shape setup.variant call q.got)) m k))
+      go (Some call) e k = subst (λ o. MayMove setup.shape setup.variant q o m) (sym e)
+          (sym (same_Some (move_of (act setup.shape setup.variant call q.got)) m k))
 
       begins : (m : Move) → ((call : Call) → m ≡ Invokes call → ⊥) → MayBegin setup q m
       begins (Invokes call) open-call = absurd (open-call call refl)
@@ -122,7 +126,8 @@ pub either-if : (b : Bool) (x y : ℕ) → either b x y ≡ (if b then x else y)
 either-if true x y = refl
 either-if false x y = refl
 
-pub advanced-by : (v : View) (m : Move) (first : HasFirst v m) → next_of v ≡ Some m → (n : ℕ) → advanced v n ≡ view v.setup ((first.p, after_move first.p m n first.q) ∷ first.others)
+pub advanced-by : (v : View) (m : Move) (first : HasFirst v m) → next_of v ≡ Some m → (n : ℕ)
+    → advanced v n ≡ view v.setup ((first.p, after_move first.p m n first.q) ∷ first.others)
 advanced-by v m first next n =
     ap (λ o. view v.setup (moved_if o n v.processes)) next ∙ ap (λ l. view v.setup (moved_if (Some m) n l)) first.is
 
@@ -161,7 +166,8 @@ module _ (setup : Setup) (limits : IsSetup setup) (slots id : ℕ) (me : Seated)
         let fits = subst (λ z. MayBegin z first.q m) same first.fits in
         let there = first-there setup s.words (set s.words i (f n)) s.views r.1 id me.0.asked later first.p first.q q' first.others here in
         let given : IsGiven setup (set s.words i (f n)) (slice_set procs first.p q') =
-        subst (λ x. IsGiven setup (set s.words i x) (slice_set procs first.p q')) (sym (alike n)) (given-move setup s.words procs first.p first.q m r.1.given there may fits) in (
+        subst (λ x. IsGiven setup (set s.words i x) (slice_set procs first.p q')) (sym (alike n))
+        (given-move setup s.words procs first.p first.q m r.1.given there may fits) in (
           new n,
           keeps,
           tt,
@@ -178,7 +184,11 @@ module _ (setup : Setup) (limits : IsSetup setup) (slots id : ℕ) (me : Seated)
   access-allowed a next f alike st =
       let first = makes-first me.0.view a next in
       steps (Makes a) first me.0.asked f alike (Advances st me)
-      (λ n stamps. (refl, ap (λ z. view z ((first.p, after_move first.p (Makes a) n first.q) ∷ first.others)) (sym same) ∙ sym (advanced-by me.0.view (Makes a) first next n)))
+      (λ n stamps. (
+        refl,
+        ap (λ z. view z ((first.p, after_move first.p (Makes a) n first.q) ∷ first.others)) (sym same)
+            ∙ sym (advanced-by me.0.view (Makes a) first next n),
+      ))
 
   -- a store, which finds nothing out
   pub store-allowed : (word value : ℕ) (next : next_of me.0.view ≡ Some (Makes (Store word value))) (st : Step Call)
@@ -189,7 +199,7 @@ module _ (setup : Setup) (limits : IsSetup setup) (slots id : ℕ) (me : Seated)
       (λ n stamps. (
         refl,
         ap (λ z. view z ((first.p, after_move first.p (Makes (Store word value)) n first.q) ∷ first.others)) (sym same)
-        ∙ sym (advanced-by me.0.view (Makes (Store word value)) first next value),
+            ∙ sym (advanced-by me.0.view (Makes (Store word value)) first next value),
       ))
 
   -- the stamp of a response
@@ -202,7 +212,7 @@ module _ (setup : Setup) (limits : IsSetup setup) (slots id : ℕ) (me : Seated)
         (
           refl,
           ap (λ z. view z ((first.p, after_move first.p (Responds reply) n first.q) ∷ first.others)) (sym same)
-          ∙ sym (advanced-by me.0.view (Responds reply) first next n),
+              ∙ sym (advanced-by me.0.view (Responds reply) first next n),
         ),
         stamps refl,
       ))
@@ -216,7 +226,7 @@ module _ (setup : Setup) (limits : IsSetup setup) (slots id : ℕ) (me : Seated)
       (λ n stamps. (
         refl,
         ap (λ z. view z ((first.p, after_move first.p (Invokes call) n first.q) ∷ first.others)) (sym same)
-        ∙ (ap (λ l. view me.0.view.setup (moved_first (Invokes call) n l)) (sym first.is) ∙ ap (λ o. with_asked o me.0.view n) (sym asked)),
+            ∙ (ap (λ l. view me.0.view.setup (moved_first (Invokes call) n l)) (sym first.is) ∙ ap (λ o. with_asked o me.0.view n) (sym asked)),
         stamps refl,
       ))
 

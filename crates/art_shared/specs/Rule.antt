@@ -1,5 +1,7 @@
--- The rule of the words: some schedule of the core, with the calls begun so far as scripts, gives the words and what the views show of each process.
-use Rattle.std.specs.Prelude.{◌≡◌, ℕ, ◌+◌, ◌<◌, ◌≤◌, ◌⊎◌, ◌==◌, Bool, true, false, IsTrue, List, [], ◌∷◌, length, slice_get, All, Option, Some, None}
+-- The rule of the words: some schedule of the core, with the calls begun so far as scripts,
+-- gives the words and what the views show of each process.
+use Rattle.std.specs.Prelude.{◌≡◌, ℕ, ◌+◌, ◌<◌, ◌≤◌, ◌⊎◌, ◌==◌, Bool, true, false, IsTrue, List, [], ◌∷◌, length, slice_get}
+use Rattle.std.specs.Prelude.{All, Option, Some, None}
 use mathlib.Core.Option.{some}
 use lib.ListN.{get_elem?}
 use Rattle.atomic_table.specs.Table.{State as Table, Me, Step}
@@ -55,7 +57,8 @@ Rises (x ∷ xs) = Above x.0 xs × Rises xs
 -- some schedule gives the words and the processes
 pub record IsGiven (setup : Setup) (words : List ℕ) (processes : List Process) : Type 0 where
   pub schedule : List ℕ
-  pub gives : Gives (begun_plan setup.shape setup.variant processes) (opened (begun_plan setup.shape setup.variant processes)) schedule (record { words = words; processes = processes })
+  pub gives : Gives (begun_plan setup.shape setup.variant processes) (opened (begun_plan setup.shape setup.variant processes)) schedule
+      (record { words = words; processes = processes })
   pub many : length processes ≡ setup.processes
   -- so the clock, which stamps alone change, stays small, and stamps rise
   pub few : All (λ q. length (begun q) ≤ setup.calls_each) processes

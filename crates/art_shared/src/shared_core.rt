@@ -75,7 +75,9 @@ impl SharedCore {
                 words.store::<Go>(seat, word, value);
                 0
             }
-            Access::Exchange { word, from, to } => words.compare_exchange::<Go>(seat, word, from, to),
+            Access::Exchange { word, from, to } => words.compare_exchange::<Go>(
+                seat, word, from, to,
+            ),
             Access::Add { word } => words.fetch_add::<Go>(seat, word, 1),
         }
     }
@@ -89,7 +91,9 @@ impl SharedCore {
         ensures made { shown place.new ≡ advanced (shown place.old) result }
         ensures later { AllStamps (λ stamp. stamp < result) (shown place.old) }
     {
-        self.table.shared.fetch_add::<Respond>(&mut place.seat, 0, 1)
+        self.table
+            .shared
+            .fetch_add::<Respond>(&mut place.seat, 0, 1)
     }
 
     /// Gives the place's greatest process to a place of its own. It is one load, and no step of the core.

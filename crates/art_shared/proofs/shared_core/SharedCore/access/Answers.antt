@@ -1,9 +1,8 @@
-use Rattle.std.proofs.Common.{◌≡◌, ℕ, eqb, rules, arith, refl, ap, ◌∙◌}
+use Rattle.std.proofs.Common.{◌≡◌, eqb, rules, refl, ap, ◌∙◌}
 use mathlib.Core.Option.{none}
 use Rattle.std.specs.Prelude.{Some}
 use Rattle.atomic_table.specs.Table.{step}
 use Rattle.art_core.specs.Core.{Makes}
-use Rattle.art_steps.specs.declared.access.Access.{Access}
 use Rattle.art_steps.specs.declared.access.Access.TheVariants.{Load, Store, Exchange, Add}
 use Rattle.art_shared.specs.Views.{next_of}
 use Rattle.art_shared.proofs.StepLemmas.{access-inside, access-allowed, store-allowed, store-blind, either-if}
@@ -38,7 +37,7 @@ compare_exchange-requires c =
       search rules,
       access-inside core.table.shared.key core.limits _ c.requires.own.setup _ next core.words,
       access-allowed _ core.limits _ _ me c.requires.own.setup _ next _ (λ n. either-if (eqb n x.from) x.to n)
-      (step core.table.shared.table_id.slots x.word x.from x.to none),
+          (step core.table.shared.table_id.slots x.word x.from x.to none),
     )
 
 pub fetch_add-requires : goal.fetch_add-requires

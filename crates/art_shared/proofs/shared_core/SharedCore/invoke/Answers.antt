@@ -2,7 +2,6 @@ use Rattle.std.proofs.Common.{◌≡◌, ◌<◌, IsTrue, rules, arith, refl, ap
 use mathlib.Core.Option.{none}
 use Rattle.atomic_table.specs.Table.{step}
 use Rattle.std.specs.Prelude.{Some}
-use Rattle.art_shared.specs.declared.view.Noted.{Noted}
 use Rattle.art_shared.specs.Views.{is_idle, calls_left, AllStamps}
 use Rattle.art_shared.specs.Rule.{noted, with_asked}
 use Rattle.art_shared.proofs.StepLemmas.{note-allowed, invocation-allowed}
@@ -21,8 +20,8 @@ fetch_add-requires c =
       search rules,
       omega (arith, core.words),
       invocation-allowed _ core.limits _ _ me (ap (λ z. z.view.setup) is ∙ c.requires.own.setup) c.args.call.now (ap (λ z. z.asked) is) c.fits.ensures
-      (subst (λ z. IsTrue (is_idle z.view)) (sym is) c.requires.idle) (subst (λ z. 0 < calls_left z.view) (sym is) c.requires.left)
-      (step core.table.shared.table_id.slots 0 1 0 none),
+          (subst (λ z. IsTrue (is_idle z.view)) (sym is) c.requires.idle) (subst (λ z. 0 < calls_left z.view) (sym is) c.requires.left)
+          (step core.table.shared.table_id.slots 0 1 0 none),
     )
 
 pub returns-clause-own : goal.returns-clause-own

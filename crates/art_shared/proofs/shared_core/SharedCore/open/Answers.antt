@@ -5,4 +5,6 @@ use Rattle.art_shared.proofs.EndLemmas.{opens}
 use Rattle.art_shared.proofs.shared_core.SharedCore.open.Goals as goal
 
 pub of_words-requires : goal.of_words-requires
-of_words-requires c = subst (λ words. Kept c.args.setup (opening words [] (first_view c.args.setup))) (sym (c.as_slice.ensures.value ∙ c.in_ok-words.ensures)) (opens c.args.setup)
+of_words-requires c =
+    subst (λ words. Kept c.args.setup (opening words [] (first_view c.args.setup)))
+    (sym (c.as_slice.ensures.value ∙ c.in_ok-words.ensures)) (opens c.args.setup)
