@@ -33,7 +33,7 @@ has_float-call (Scan low high) = refl
 has_float-call (Replace key old new) = refl
 
 -- a reply has no float
-has_float-reply : (reply : Reply) → has_float (reply_data reply) ≡ false
+pub has_float-reply : (reply : Reply) → has_float (reply_data reply) ≡ false
 has_float-reply replies.None = refl
 has_float-reply (replies.Some value) = refl
 has_float-reply (replies.Pairs pairs) = items_have_float-map pair_data (λ pair. refl) pairs

@@ -111,7 +111,8 @@ fn reply_value(alloc: Global, reply: &Reply) -> Result<Value, AllocError>
     }
 }
 
-fn pairs_value(alloc: Global, pairs: &[(u64, u64)]) -> Result<Value, AllocError>
+/// The JSON value of pairs: an array of arrays of a key and a value.
+pub fn pairs_value(alloc: Global, pairs: &[(u64, u64)]) -> Result<Value, AllocError>
     ensures { IfOk result (λ value. view value ≡ list_data (map pair_data pairs.now)) }
 {
     let mut items = Vec::new(alloc);

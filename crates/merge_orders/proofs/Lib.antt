@@ -1,8 +1,8 @@
 mod OnceLemmas
-mod PlacedLemmas
+pub mod PlacedLemmas
 mod SortedLemmas
 mod DisjointLemmas
 mod MergeLemmas
-mod PointLemmas
+pub mod PointLemmas
 mod SortedMergeLemmas
 mod UniqueMergeLemmas

@@ -78,7 +78,7 @@ point_in-is calls order n a is here =
     record { number = k; call = c; up_to_it = k_is; here = k_here; point = same }
 
 -- a call does not precede the one at whose invocation its point is
-not_before_point : (calls : List Operation) (order : List ℕ) (n : ℕ) (a : Operation) → All (λ a. precedes a a ≡ false) calls
+pub not_before_point : (calls : List Operation) (order : List ℕ) (n : ℕ) (a : Operation) → All (λ a. precedes a a ≡ false) calls
     → KeepsPrecedence (calls_at calls order) → Contains order n
     → slice_get calls n ≡ Some a → (p : IsPointOf calls order n) → precedes a p.call ≡ false
 not_before_point calls order n a none keeps is here p =

@@ -1,0 +1,5 @@
+mod EventLemmas
+mod LaneLemmas
+mod ColumnLemmas
+mod BarLemmas
+mod MarkLemmas

@@ -1,0 +1,33 @@
+use Rattle.std.proofs.Common.{refl, not, ap}
+use Rattle.pictures.proofs.BarLemmas.{invoked-by, lane-in, inv-within, res-within}
+use Rattle.pictures.proofs.bars.bar_of.Goals as goal
+
+pub process_at-process-requires : goal.process_at-process-requires
+process_at-process-requires c = rw c.events-events.ensures.events (inv-within _ _ _ c.requires.call)
+
+pub lane_of-requires : goal.lane_of-requires
+lane_of-requires c =
+    let by = rw c.events-events.ensures.events at c.process_at-process.ensures in
+    rw c.requires.lanes (lane-in _ _ _ _ c.requires.history.events c.requires.call by)
+
+pub event_column-requires : goal.event_column-requires
+event_column-requires c = rw c.events-events.ensures.events (inv-within _ _ _ c.requires.call)
+
+pub column_of-requires : goal.column_of-requires
+column_of-requires c = rw c.events-events.ensures.events (res-within _ _ _ c.requires.call)
+
+pub returns : goal.returns
+returns c =
+    let by = rw c.events-events.ensures.events at c.process_at-process.ensures in
+    record {
+      number = refl;
+      inv = refl;
+      res = c.place_of.ensures;
+      invoked = invoked-by _ _ _ _ c.requires.call by;
+      lane = rw (← c.requires.lanes) c.lane_of.ensures;
+      span = record { from = c.event_column.ensures; to = c.column_of.ensures };
+      call = c.in_ok-words.ensures;
+      reply = c.in_ok-reply.ensures;
+      pale = ap not c.speaks_of.ensures;
+      goes_wrong = c.is_response.ensures;
+    }

@@ -1,0 +1,10 @@
+use Rattle.std.proofs.Common.{◌≡◌, map, take}
+use Rattle.merge_orders.specs.Merge.{point_in}
+use Rattle.merge_orders.proofs.PlacedLemmas.{latest}
+use Rattle.pictures.proofs.columns.points_of.Given as goal
+
+abbrev pub invariant-loop-number : goal.invariant-loop-number
+invariant-loop-number l = record {
+  point : l.point ≡ latest l.calls l.order l.number-index;
+  points : l.points.items ≡ map (point_in l.calls l.order) (take l.number-index l.order);
+}

@@ -1,0 +1,49 @@
+use Rattle.std.proofs.Common.{◌≡◌, Some, length, get_or, refl, sym, ap, ◌∙◌, subst, arith}
+use Rattle.std.specs.Prelude.{slice_get}
+use Rattle.std.proofs.lemmas.Option.{slice_get_read, slice_get-get_or}
+use Rattle.list_laws.proofs.NumberLemmas.{slice_get-below}
+use Rattle.events.specs.Operations.{operations}
+use Rattle.pictures.specs.declared.bars.Bar.{Bar}
+use Rattle.pictures.proofs.MarkLemmas.{AreMarksBelow, point-at, point-within, mark-in-bar, mark-more, marks-rise}
+use Rattle.pictures.proofs.marks.marks_of.Goals as goal
+
+pub mark_column-requires-clause-point : goal.mark_column-requires-clause-point
+mark_column-requires-clause-point c =
+    let events = c.args.scene.now.history.now.events in
+    let order = c.args.order.now in
+    let place = c.loop-place.place in
+    let n = get_or order place 0 in
+    let order_here = slice_get-get_or order place 0 c.loop-place-test.true in
+    let (a, here) = slice_get-below (operations events) n (c.requires.order.known place 0 c.loop-place-test.true) in
+    rw (c.events-events.ensures.events, c.requires.points) (point-within events order place n a order_here here)
+
+pub loop-place-preserved : goal.loop-place-preserved
+loop-place-preserved c =
+    let events = c.args.scene.now.history.now.events in
+    let calls = operations events in
+    let order = c.args.order.now in
+    let bars = c.args.bars.now in
+    let place = c.loop-place.place in
+    let n = get_or order place 0 in
+    let order_here = slice_get-get_or order place 0 c.loop-place-test.true in
+    let known = c.requires.order.known place 0 c.loop-place-test.true in
+    let (a, here) = slice_get-below calls n known in
+    let bar = c.index-bars-number.result in
+    let bar_here : slice_get bars n ≡ Some bar = slice_get_read bars (length bars) n bar refl (omega (arith, known, c.requires.bars.one_each)) c.index-bars-number.is in
+    let point = ap (λ points. get_or points place 0) c.requires.points ∙ point-at calls order place n order_here in
+    let spans = rw c.requires.points at c.requires.bars in
+    let column = rw c.requires.points at c.mark_column.ensures in
+    rw c.in_ok-push.ensures.items (mark-more calls order bars place c.loop-place.marks.items _ c.loop-place.invariant (record {
+      number = order_here;
+      at_place = refl;
+      point = point;
+      column = column;
+      inside = mark-in-bar events order bars place n a bar _ c.requires.order spans order_here here bar_here (ap (λ (b : Bar). b.lane) (sym c.index-bars-number.is)) column;
+    }))
+
+pub returns : goal.returns
+returns c =
+    let calls = operations c.args.scene.now.history.now.events in
+    let end : c.loop-place.place ≡ length c.args.order.now = omega arith in
+    marks-rise calls c.args.order.now c.args.bars.now c.loop-place.marks.items c.requires.order.distinct
+    (subst (λ size. AreMarksBelow calls c.args.order.now c.args.bars.now size c.loop-place.marks.items) end c.loop-place.invariant)

@@ -1,0 +1,6 @@
+pub mod Words
+pub mod Columns
+pub mod Lanes
+pub mod Bars
+pub mod Marks
+pub mod Pictures

@@ -1,0 +1,34 @@
+-- The picture of a verdict on a history.
+use Rattle.std.specs.Prelude.{◌≡◌, ℕ, ◌+◌, List, Option, length}
+use Rattle.events.specs.HistoryView.{HistoryView}
+use Rattle.events.specs.Operations.{operations}
+use Rattle.judge.specs.declared.verdict.Verdict.{Verdict}
+use Rattle.judge.specs.declared.verdict.Verdict.TheVariants as verdicts
+use Rattle.pictures.specs.declared.pictures_of.Heading.{Heading}
+use Rattle.pictures.specs.declared.pictures_of.Heading.TheVariants.{Order, NoOrder, Undecided}
+use Rattle.pictures.specs.declared.pictures_of.Picture.{Picture}
+use Rattle.pictures.specs.Bars.{AreBarsOf}
+use Rattle.pictures.specs.Columns.{order_points}
+use Rattle.pictures.specs.Lanes.{lanes}
+use Rattle.pictures.specs.Marks.{AreMarksOf}
+
+-- the calls that are marked: those of the order of a yes, else those of a front
+abbrev pub marked : Verdict → List ℕ → List ℕ
+marked (verdicts.Yes order) front = order.items
+marked (verdicts.No segment) front = front
+marked (verdicts.Undecided segment) front = front
+
+-- what a picture says at its top: the verdict, with the keys of the segment that it names
+abbrev pub heading_of : Verdict → Heading
+heading_of (verdicts.Yes order) = Order
+heading_of (verdicts.No segment) = NoOrder segment.lo segment.hi
+heading_of (verdicts.Undecided segment) = Undecided segment.lo segment.hi
+
+-- the picture of a verdict on a history, of the event at which it goes wrong where that is known, and of a front
+pub record IsPictureOf (history : HistoryView) (verdict : Verdict) (wrong : Option ℕ) (front : List ℕ) (picture : Picture) : Type 0 where
+  pub heading : picture.heading ≡ heading_of verdict
+  pub start : picture.start.items ≡ history.start
+  pub lanes : picture.lanes.items ≡ lanes history.events
+  pub bars : AreBarsOf history.events (order_points (operations history.events) (marked verdict front)) verdict wrong picture.bars.items
+  pub marks : AreMarksOf (operations history.events) (marked verdict front) picture.bars.items picture.marks.items
+  pub columns : picture.columns ≡ length history.events + length (marked verdict front)

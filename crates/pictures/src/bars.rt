@@ -1,0 +1,165 @@
+// The bars of a picture.
+ghost use Rattle.std.specs.Prelude.{◌≡◌, ◌<◌, length, IfOk, IfSome, Some, slice_get, option_map, string_bytes};
+ghost use Rattle.events.specs.Events.{process_of};
+ghost use Rattle.events.specs.Operations.{operations};
+ghost use Rattle.events.specs.Histories.{IsHistory};
+ghost use Rattle.pictures.specs.Bars.{speaks_of, is_response, IsBarOf, AreBarsOf};
+ghost use Rattle.pictures.specs.Lanes.{lanes};
+ghost use Rattle.pictures.specs.Columns.{event_column};
+ghost use Rattle.list_laws.specs.Lists.{has_number};
+ghost use Rattle.pictures.specs.Words.{reply_words};
+
+use crate::columns::event_column;
+use crate::lanes::{lane_of, process_of};
+use crate::words::{call_words, reply_words};
+use events::{Event, History, Memory, Operation, Response};
+use judge::Verdict;
+use std::alloc::Global;
+
+/// The bar of a call, from its invocation to its response; a pending one is open, to the end of the picture.
+#[derive(Debug, Drop)]
+pub struct Bar {
+    /// The number of the call in the history.
+    pub number: usize,
+    /// The process that calls.
+    pub process: u8,
+    /// The place of its lane among the lanes.
+    pub lane: usize,
+    /// The place of the invocation among the events.
+    pub inv: usize,
+    /// The place of the response among the events.
+    pub res: Option<usize>,
+    /// The column of the invocation.
+    pub from: usize,
+    /// The column of the response.
+    pub to: Option<usize>,
+    /// The call in words.
+    pub call: String,
+    /// Its reply in words.
+    pub reply: Option<String>,
+    /// Whether the verdict does not speak of the call.
+    pub is_pale: bool,
+    /// Whether its response is the event at which the history goes wrong.
+    pub is_wrong: bool,
+}
+
+/// What the bars of a picture are drawn from, besides the calls.
+#[derive(Clone, Copy)]
+pub struct Scene<'a> {
+    pub history: &'a History,
+    pub verdict: &'a Verdict,
+    pub wrong: Option<usize>,
+    pub lanes: &'a [u8],
+    pub points: &'a [usize],
+}
+
+/// One bar for each call, by number. For n calls it takes time in proportion to n times the calls of the order, and
+/// to the length of all replies.
+pub fn bars_of(alloc: Global, scene: &Scene<'_>) -> Result<Vec<Bar>, Memory>
+    requires lanes { scene.now.lanes.now ≡ lanes scene.now.history.now.events }
+    requires history { IsHistory scene.now.history.now }
+    ensures { IfOk result (λ v. AreBarsOf scene.now.history.now.events scene.now.points.now
+        scene.now.verdict.now scene.now.wrong v.items) }
+{
+    let calls = scene.history.calls();
+    let mut bars = Vec::with_capacity(alloc, calls.len())?;
+    for (number, call) in calls.iter().enumerate() {
+        bars.push(bar_of(alloc, scene, number, call)?)?;
+    }
+    Ok(bars)
+}
+
+/// The bar of a call.
+fn bar_of(alloc: Global, scene: &Scene<'_>, number: usize, call: &Operation) -> Result<Bar, Memory>
+    requires lanes { scene.now.lanes.now ≡ lanes scene.now.history.now.events }
+    requires history { IsHistory scene.now.history.now }
+    requires call { slice_get (operations scene.now.history.now.events) number ≡ Some call.now }
+    ensures { IfOk result (IsBarOf scene.now.history.now.events scene.now.points.now
+        scene.now.verdict.now scene.now.wrong number call.now) }
+{
+    let events = scene.history.events();
+    let process = process_at(events, call.inv);
+    let words = call_words(alloc, &call.call)?;
+    let reply = words_of_response(alloc, &call.response)?;
+    Ok(Bar {
+        number,
+        process,
+        lane: lane_of(scene.lanes, process),
+        inv: call.inv,
+        res: place_of(&call.response),
+        from: event_column(events, scene.points, call.inv),
+        to: column_of(events, scene.points, &call.response),
+        call: words,
+        reply,
+        is_pale: !speaks_of(scene.verdict, number),
+        is_wrong: is_response(scene.wrong, &call.response),
+    })
+}
+
+/// The process of the event at a place.
+fn process_at(events: &[Event], place: usize) -> u8
+    requires { place < length events.now }
+    ensures { IfSome (slice_get events.now place) (λ event. result ≡ process_of event) }
+{
+    process_of(&events[place])
+}
+
+/// The reply of a response in words.
+fn words_of_response(alloc: Global, response: &Option<Response>) -> Result<Option<String>, Memory>
+    ensures { IfOk result (λ words. option_map string_bytes words ≡ option_map (λ r. reply_words r.reply) response.now) }
+{
+    match response {
+        Some(response) => Ok(Some(reply_words(alloc, &response.reply)?)),
+        None => Ok(None),
+    }
+}
+
+/// The place of a response among the events.
+fn place_of(response: &Option<Response>) -> Option<usize>
+    ensures { result ≡ option_map (λ r. r.res) response.now }
+{
+    match response {
+        Some(response) => Some(response.res),
+        None => None,
+    }
+}
+
+/// The column of a response.
+fn column_of(events: &[Event], points: &[usize], response: &Option<Response>) -> Option<usize>
+    requires { IfSome response.now (λ r. r.res < length events.now) }
+    ensures { result ≡ option_map (λ r. event_column points.now r.res) response.now }
+{
+    match response {
+        Some(response) => Some(event_column(events, points, response.res)),
+        None => None,
+    }
+}
+
+/// Whether a verdict speaks of a call: a yes of all, a no and an undecided of those of the segment that they name.
+fn speaks_of(verdict: &Verdict, number: usize) -> bool
+    ensures { result ≡ speaks_of verdict.now number }
+{
+    match verdict {
+        Verdict::Yes(_) => true,
+        Verdict::No(segment) | Verdict::Undecided(segment) => has_number(segment.numbers(), number),
+    }
+}
+
+fn has_number(numbers: &[u32], number: usize) -> bool
+    ensures { result ≡ has_number numbers.now number }
+{
+    numbers.iter().any(|other| *other as usize == number)
+}
+
+/// Whether an event is given, and is this response.
+fn is_response(event: Option<usize>, response: &Option<Response>) -> bool
+    ensures { result ≡ is_response event response.now }
+{
+    let Some(event) = event else {
+        return false;
+    };
+    match response {
+        Some(response) => response.res == event,
+        None => false,
+    }
+}

@@ -1,0 +1,106 @@
+// The picture of a verdict.
+ghost use Rattle.std.specs.Prelude.{◌≡◌, IfOk};
+ghost use Rattle.events.specs.Operations.{operations};
+ghost use Rattle.pictures.specs.Marks.{IsMarkable};
+ghost use Rattle.pictures.specs.Pictures.{marked, heading_of, IsPictureOf};
+
+use crate::bars::{Bar, Scene, bars_of};
+use crate::columns::points_of;
+use crate::lanes::lanes_of;
+use crate::marks::{Mark, marks_of};
+use events::{History, Memory};
+use judge::Verdict;
+use std::alloc::Global;
+
+/// What a picture says at its top.
+#[derive(Clone, Copy, Debug, PartialEq, Eq)]
+pub enum Heading {
+    /// The history is linearizable, and an order is marked.
+    Order,
+    /// The calls on the keys from the one to the other have no order.
+    NoOrder { lo: u64, hi: u64 },
+    /// The search of the calls on the keys from the one to the other met more configurations than its budget.
+    Undecided { lo: u64, hi: u64 },
+}
+
+/// A picture of a verdict on a history, from left to right by columns, from 0.
+#[derive(Debug, Drop)]
+pub struct Picture {
+    /// What it says at its top.
+    pub heading: Heading,
+    /// The pairs that the map holds at the start.
+    pub start: Vec<(u64, u64)>,
+    /// The processes that have a call, by rising number: a lane for each.
+    pub lanes: Vec<u8>,
+    /// A bar for each call, by number.
+    pub bars: Vec<Bar>,
+    /// A mark for each call of the order, or of the front, as they stand there.
+    pub marks: Vec<Mark>,
+    /// How many columns there are.
+    pub columns: usize,
+}
+
+/// The picture of a verdict on a history: with the event at which it goes wrong, where that is known, and in a no
+/// or an undecided with a front, whose calls are marked as an order would be. Where none is known the front is
+/// empty. `Err` is want of memory. For n calls it takes time in proportion to n times the calls marked, and to the
+/// length of all replies.
+pub fn picture_of(
+    alloc: Global,
+    history: &History,
+    verdict: &Verdict,
+    wrong: Option<usize>,
+    front: &[u32],
+) -> Result<Picture, Memory>
+    requires { IsMarkable (operations history.now.events) (marked verdict.now front.now) }
+    ensures { IfOk result (IsPictureOf history.now verdict.now wrong front.now) }
+{
+    let order = marked(verdict, front);
+    let points = points_of(alloc, history.calls(), order)?;
+    let lanes = lanes_of(alloc, history.events())?;
+    let scene = Scene {
+        history,
+        verdict,
+        wrong,
+        lanes: &lanes,
+        points: &points,
+    };
+    let bars = bars_of(alloc, &scene)?;
+    let marks = marks_of(alloc, &scene, order, &bars)?;
+    let start = Vec::from_slice(alloc, history.start())?;
+    let columns = history.events().len() + order.len();
+    Ok(Picture {
+        heading: heading_of(verdict),
+        start,
+        lanes,
+        bars,
+        marks,
+        columns,
+    })
+}
+
+/// The calls that are marked: those of the order of a yes, else those of the front.
+fn marked<'a>(verdict: &'a Verdict, front: &'a [u32]) -> &'a [u32]
+    ensures { result.now ≡ marked verdict.now front.now }
+{
+    match verdict {
+        Verdict::Yes(order) => order,
+        Verdict::No(_) | Verdict::Undecided(_) => front,
+    }
+}
+
+/// What a picture of the verdict says at its top.
+fn heading_of(verdict: &Verdict) -> Heading
+    ensures { result ≡ heading_of verdict.now }
+{
+    match verdict {
+        Verdict::Yes(_) => Heading::Order,
+        Verdict::No(segment) => Heading::NoOrder {
+            lo: segment.lo(),
+            hi: segment.hi(),
+        },
+        Verdict::Undecided(segment) => Heading::Undecided {
+            lo: segment.lo(),
+            hi: segment.hi(),
+        },
+    }
+}

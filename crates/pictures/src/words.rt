@@ -1,0 +1,40 @@
+// Calls and replies in words.
+ghost use Rattle.std.specs.Prelude.{◌≡◌, IfOk, string_bytes};
+ghost use Rattle.pictures.specs.Words.{call_words, reply_words, pairs_words};
+
+use events::{Call, Reply};
+use history_text::pairs_value;
+use std::alloc::{AllocError, Global};
+
+/// A call in words: its name and its numbers, as `insert 5 7`.
+pub fn call_words(alloc: Global, call: &Call) -> Result<String, AllocError>
+    ensures { IfOk result (λ text. string_bytes text ≡ call_words call.now) }
+{
+    match call {
+        Call::Get(key) => format!(in alloc; "get {key}"),
+        Call::Insert(key, value) => format!(in alloc; "insert {key} {value}"),
+        Call::Remove(key) => format!(in alloc; "remove {key}"),
+        Call::Scan(low, high) => format!(in alloc; "scan {low} {high}"),
+        Call::Replace(key, old, new) => format!(in alloc; "replace {key} {old} {new}"),
+    }
+}
+
+/// A reply in words: `none`, a value, the pairs of a scan as in a history's text, or `refused`.
+pub fn reply_words(alloc: Global, reply: &Reply) -> Result<String, AllocError>
+    ensures { IfOk result (λ text. string_bytes text ≡ reply_words reply.now) }
+{
+    match reply {
+        Reply::None => String::from_str(alloc, "none"),
+        Reply::Some(value) => format!(in alloc; "{value}"),
+        Reply::Pairs(pairs) => pairs_words(alloc, pairs.as_slice()),
+        Reply::Refused => String::from_str(alloc, "refused"),
+    }
+}
+
+/// Pairs as in a history's text, as `[[1,10],[2,20]]`.
+pub fn pairs_words(alloc: Global, pairs: &[(u64, u64)]) -> Result<String, AllocError>
+    ensures { IfOk result (λ text. string_bytes text ≡ pairs_words pairs.now) }
+{
+    let value = pairs_value(alloc, pairs)?;
+    Ok(value.to_string(alloc)?)
+}
