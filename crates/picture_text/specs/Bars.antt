@@ -1,0 +1,74 @@
+-- The bars of a text. Each definition gives the text so far with one part more behind it.
+use Rattle.std.specs.Prelude.{ℕ, ◌+◌, ◌-◌, if◌then◌else◌, List, [], ◌∷◌, ◌++◌, Option, Some, None, option_map, codes, decimal, string_bytes}
+use Rattle.pictures.specs.declared.bars.Bar.{Bar}
+use Rattle.picture_text.specs.Content.{escaped, shown}
+use Rattle.picture_text.specs.Layout.{x_of, y_of, room_of}
+
+-- how a bar is drawn
+abbrev pub class_of : Bar → List ℕ
+class_of bar = if bar.is_wrong then codes "wrong" else if bar.is_pale then codes "pale" else codes "call"
+
+-- the event at which a call is answered
+abbrev pub answered_text : Option ℕ → List ℕ
+answered_text None = codes " on, pending"
+answered_text (Some res) = codes " to event " ++ decimal res
+
+-- a reply, where there is one
+abbrev pub with_reply : List ℕ → Option (List ℕ) → List ℕ
+with_reply text None = text
+with_reply text (Some words) = text ++ codes ": " ++ escaped words
+
+-- a call with its process and the event at which it is invoked
+abbrev pub called_text : Bar → List ℕ
+called_text bar = codes "<title>call " ++ (decimal bar.number ++ (codes " of process " ++ (decimal bar.process ++ (codes ", event " ++ decimal bar.inv))))
+
+-- the title of a bar: its call with its process and events, and all its words
+abbrev pub with_title : List ℕ → Bar → List ℕ
+with_title text bar =
+    with_reply (text ++ called_text bar ++ answered_text bar.res ++ codes ": " ++ escaped (string_bytes bar.call)) (option_map string_bytes bar.reply)
+    ++ codes "</title>"
+
+-- a rectangle, and one that is open at the right
+abbrev pub rectangle_text : ℕ → ℕ → ℕ → List ℕ
+rectangle_text x y span =
+    codes "<rect class='bar' x='" ++ (decimal x ++ (codes "' y='" ++ (decimal y ++ (codes "' width='" ++ (decimal span ++ codes "' height='18' rx='3'/>")))))
+
+abbrev pub with_open : List ℕ → ℕ → ℕ → ℕ → List ℕ
+with_open text x y end =
+    text ++ (codes "<path class='bar' d='M" ++ (decimal end ++ (codes " " ++ decimal y))) ++ (codes "H" ++ (decimal x ++ (codes "v18H" ++ (decimal end ++ codes "'/>"))))
+
+-- the shape of a bar: a rectangle from its invocation to its response, or one that is open, to the end
+abbrev pub with_shape_from : List ℕ → ℕ → ℕ → ℕ → ℕ → Option ℕ → List ℕ
+with_shape_from text width columns from y (Some to) = text ++ rectangle_text (x_of width from) y (x_of width to - x_of width from)
+with_shape_from text width columns from y None = with_open text (x_of width from) y (x_of width columns)
+
+abbrev pub with_shape : List ℕ → ℕ → ℕ → Bar → List ℕ
+with_shape text width columns bar = with_shape_from text width columns bar.from (y_of bar.lane + 19) bar.to
+
+-- the number of a bar's call
+abbrev pub number_text : ℕ → Bar → List ℕ
+number_text width bar =
+    codes "<text class='number' x='" ++ (decimal (x_of width bar.from + 4) ++ (codes "' y='" ++ (decimal (y_of bar.lane + 32) ++ (codes "'>"
+    ++ (decimal bar.number ++ codes "</text>")))))
+
+-- words at a place, cut to their room
+abbrev pub with_label : List ℕ → ℕ → ℕ → List ℕ → ℕ → List ℕ
+with_label text x y words room = text ++ (codes "<text x='" ++ (decimal x ++ (codes "' y='" ++ (decimal y ++ codes "'>")))) ++ shown room words ++ codes "</text>"
+
+-- the words of a reply, or that it is pending
+abbrev pub reply_label : Option (List ℕ) → List ℕ
+reply_label None = codes "pending"
+reply_label (Some words) = words
+
+-- the words of a bar: the call above it, its reply below
+abbrev pub with_words : List ℕ → ℕ → ℕ → Bar → List ℕ
+with_words text width columns bar =
+    let room = room_of width columns bar in
+    let x = x_of width bar.from + 1 in
+    with_label (with_label text x (y_of bar.lane + 14) (string_bytes bar.call) room) x (y_of bar.lane + 49) (reply_label (option_map string_bytes bar.reply)) room
+
+-- a bar
+unfoldable pub with_bar : List ℕ → ℕ → ℕ → Bar → List ℕ
+with_bar text width columns bar =
+    with_words (with_shape (with_title (text ++ (codes "<g class='" ++ (class_of bar ++ codes "'>"))) bar) width columns bar ++ number_text width bar)
+    width columns bar ++ (codes "</g>" ++ 10 ∷ [])

@@ -1,0 +1,48 @@
+-- What stands around the bars of a text.
+use Rattle.std.specs.Prelude.{ℕ, ◌+◌, List, [], ◌∷◌, ◌++◌, codes, decimal}
+use Rattle.pictures.specs.declared.pictures_of.Heading.{Heading}
+use Rattle.pictures.specs.declared.pictures_of.Heading.TheVariants.{Order, NoOrder, Undecided}
+use Rattle.pictures.specs.Words.{pairs_words}
+use Rattle.picture_text.specs.Content.{shown}
+use Rattle.picture_text.specs.Layout.{y_of}
+
+-- the head of a text of this size
+abbrev pub head_text : ℕ → ℕ → List ℕ
+head_text width height =
+    codes "<svg xmlns='http://www.w3.org/2000/svg' width='" ++ (decimal width ++ (codes "' height='" ++ (decimal height ++ (codes "'>" ++ 10 ∷ []))))
+
+-- a range of keys
+abbrev pub keys_text : ℕ → ℕ → List ℕ
+keys_text lo hi = decimal lo ++ (codes " to " ++ decimal hi)
+
+-- the verdict in words
+abbrev pub verdict_text : Heading → List ℕ
+verdict_text Order = codes "Linearizable"
+verdict_text (NoOrder lo hi) = codes "Not linearizable: keys " ++ keys_text lo hi
+verdict_text (Undecided lo hi) = codes "Undecided: keys " ++ keys_text lo hi
+
+-- what a picture says at its top
+abbrev pub with_heading : List ℕ → Heading → List ℕ
+with_heading text heading = text ++ codes "<text class='title' x='16' y='28'>" ++ verdict_text heading ++ (codes "</text>" ++ 10 ∷ [])
+
+-- the pairs at the start
+abbrev pub with_start : List ℕ → List (ℕ × ℕ) → ℕ → List ℕ
+with_start text start room = text ++ codes "<text x='16' y='50'>starts with " ++ shown room (pairs_words start) ++ (codes "</text>" ++ 10 ∷ [])
+
+-- the ground of a lane
+abbrev pub ground_text : ℕ → ℕ → List ℕ
+ground_text end y = codes "<g class='lane'><rect x='8' y='" ++ (decimal y ++ (codes "' width='" ++ (decimal end ++ codes "' height='56'/>")))
+
+-- the name of a lane
+abbrev pub name_text : ℕ → ℕ → List ℕ
+name_text y process = codes "<text x='16' y='" ++ (decimal y ++ (codes "'>process " ++ (decimal process ++ (codes "</text></g>" ++ 10 ∷ []))))
+
+-- the lane of a process
+unfoldable pub with_lane : List ℕ → ℕ → ℕ → ℕ → List ℕ
+with_lane text end lane process = text ++ ground_text end (y_of lane + 1) ++ name_text (y_of lane + 32) process
+
+-- what the shapes mean, below the lanes
+abbrev pub with_legend : List ℕ → ℕ → List ℕ
+with_legend text y =
+    text ++ (codes "<text class='note' x='16' y='" ++ (decimal y ++ codes "'>A bar is a call, from its invocation to its answer; "))
+    ++ (codes "in a circle stands its place in the order.</text>" ++ 10 ∷ [])

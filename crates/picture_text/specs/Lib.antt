@@ -1,0 +1,6 @@
+pub mod Content
+pub mod Layout
+pub mod Bars
+pub mod Marks
+pub mod Frame
+pub mod Svg

@@ -1,0 +1,43 @@
+-- The text of a picture: Scalable Vector Graphics 1.1.
+use Rattle.std.specs.Prelude.{◌≡◌, ℕ, ◌+◌, ◌-◌, ◌/◌, ◌≤◌, List, [], ◌∷◌, ◌++◌, length, codes}
+use Rattle.pictures.specs.declared.bars.Bar.{Bar}
+use Rattle.pictures.specs.declared.marks.Mark.{Mark}
+use Rattle.pictures.specs.declared.pictures_of.Picture.{Picture}
+use Rattle.picture_text.specs.Bars.{with_bar}
+use Rattle.picture_text.specs.Marks.{with_mark}
+use Rattle.picture_text.specs.Frame.{head_text, with_heading, with_start, with_lane, with_legend}
+use Rattle.picture_text.specs.Layout.{y_of, width_of, height_of}
+
+-- the lanes, from one on
+abbrev pub with_lanes : List ℕ → ℕ → ℕ → List ℕ → List ℕ
+with_lanes text end lane [] = text
+with_lanes text end lane (process ∷ processes) = with_lanes (with_lane text end lane process) end (lane + 1) processes
+
+-- the bars, and the marks
+abbrev pub with_bars : List ℕ → ℕ → ℕ → List Bar → List ℕ
+with_bars text width columns [] = text
+with_bars text width columns (bar ∷ bars) = with_bars (with_bar text width columns bar) width columns bars
+
+abbrev pub with_marks : List ℕ → ℕ → List Mark → List ℕ
+with_marks text width [] = text
+with_marks text width (mark ∷ marks) = with_marks (with_mark text width mark) width marks
+
+-- what stands above the lanes
+unfoldable pub top_text : List ℕ → ℕ → Picture → List ℕ
+top_text style all picture =
+    with_start (with_heading (head_text all (height_of (length picture.lanes.items)) ++ style) picture.heading) picture.start.items ((all - 104) / 6)
+
+-- the text of a picture, with these lines on how its parts look, at a width of a column
+abbrev pub svg_text : List ℕ → ℕ → Picture → List ℕ
+svg_text style width picture =
+    let all = width_of width picture.columns in
+    let lanes = with_lanes (top_text style all picture) (all - 16) 0 picture.lanes.items in
+    let bars = with_bars lanes width picture.columns picture.bars.items in
+    with_legend (with_marks bars width picture.marks.items) (y_of (length picture.lanes.items) + 20) ++ codes "</svg>"
+
+-- a text of a picture: at some width of a column from 28 to 72
+pub record IsSvgOf (style : List ℕ) (picture : Picture) (text : List ℕ) : Type 0 where
+  pub width : ℕ
+  pub wide : 28 ≤ width
+  pub narrow : width ≤ 72
+  pub text_is : text ≡ svg_text style width picture

@@ -1,0 +1,152 @@
+// The bars of a text.
+ghost use Rattle.std.specs.Prelude.{◌≡◌, ◌++◌, OnOk, option_map, string_bytes};
+ghost use Rattle.picture_text.specs.Bars.{class_of, answered_text, with_reply, with_title, with_shape, rectangle_text, with_open, number_text, with_label, reply_label, with_words, with_bar};
+
+use crate::content::{push_content, push_shown};
+use crate::layout::{end_of, room_of, x_of, y_of};
+use events::Memory;
+use pictures::Bar;
+
+/// Adds a bar: its shape, the number of its call, and the call and its reply in words, cut to the room that they
+/// have; whole they stand in its title.
+#[tactic(auto, unfolding(crate::specs::Bars::with_bar))]
+pub fn push_bar(out: &mut String, width: u8, columns: usize, bar: &Bar) -> Result<(), Memory>
+    ensures { OnOk result (string_bytes out.new ≡ with_bar (string_bytes out.old) width columns bar.now) }
+{
+    let class = class_of(bar);
+    write!(out, "<g class='{class}'>")?;
+    push_title(out, bar)?;
+    push_shape(out, width, columns, bar)?;
+    push_number(out, width, bar)?;
+    push_words(out, width, columns, bar)?;
+    out.push_str("</g>\n")?;
+    Ok(())
+}
+
+/// How a bar is drawn: as the one at which the history goes wrong, as one of which the verdict speaks, or pale.
+fn class_of(bar: &Bar) -> &'static str
+    ensures { result.now ≡ class_of bar.now }
+{
+    if bar.is_wrong {
+        "wrong"
+    } else if bar.is_pale {
+        "pale"
+    } else {
+        "call"
+    }
+}
+
+/// Adds the title of a bar: its call with its process and events, and all its words.
+fn push_title(out: &mut String, bar: &Bar) -> Result<(), Memory>
+    ensures { OnOk result (string_bytes out.new ≡ with_title (string_bytes out.old) bar.now) }
+{
+    let (number, process, inv) = (bar.number, bar.process, bar.inv);
+    write!(
+        out,
+        "<title>call {number} of process {process}, event {inv}"
+    )?;
+    push_answered(out, bar)?;
+    out.push_str(": ")?;
+    push_content(out, bar.call.as_bytes())?;
+    push_replied(out, bar)?;
+    out.push_str("</title>")?;
+    Ok(())
+}
+
+/// Adds the event at which a call is answered.
+fn push_answered(out: &mut String, bar: &Bar) -> Result<(), Memory>
+    ensures { OnOk result (string_bytes out.new ≡ string_bytes out.old ++ answered_text bar.now.res) }
+{
+    match bar.res {
+        Some(res) => write!(out, " to event {res}")?,
+        None => out.push_str(" on, pending")?,
+    }
+    Ok(())
+}
+
+/// Adds the reply of a call.
+fn push_replied(out: &mut String, bar: &Bar) -> Result<(), Memory>
+    ensures { OnOk result (string_bytes out.new ≡ with_reply (string_bytes out.old) (option_map string_bytes bar.now.reply)) }
+{
+    if let Some(reply) = &bar.reply {
+        out.push_str(": ")?;
+        push_content(out, reply.as_bytes())?;
+    }
+    Ok(())
+}
+
+/// Adds the shape of a bar: a rectangle from the invocation to the response, or one that is open at the right.
+fn push_shape(out: &mut String, width: u8, columns: usize, bar: &Bar) -> Result<(), Memory>
+    ensures { OnOk result (string_bytes out.new ≡ with_shape (string_bytes out.old) width columns bar.now) }
+{
+    let x = x_of(width, bar.from);
+    let y = y_of(bar.lane) + 19;
+    match bar.to {
+        Some(to) => push_rectangle(out, x, y, x_of(width, to).saturating_sub(x)),
+        None => push_open(out, x, y, x_of(width, columns)),
+    }
+}
+
+/// Adds a rectangle.
+fn push_rectangle(out: &mut String, x: u128, y: u128, span: u128) -> Result<(), Memory>
+    ensures { OnOk result (string_bytes out.new ≡ string_bytes out.old ++ rectangle_text x y span) }
+{
+    write!(
+        out,
+        "<rect class='bar' x='{x}' y='{y}' width='{span}' height='18' rx='3'/>"
+    )?;
+    Ok(())
+}
+
+/// Adds a rectangle that is open at the right.
+fn push_open(out: &mut String, x: u128, y: u128, end: u128) -> Result<(), Memory>
+    ensures { OnOk result (string_bytes out.new ≡ with_open (string_bytes out.old) x y end) }
+{
+    write!(out, "<path class='bar' d='M{end} {y}")?;
+    write!(out, "H{x}v18H{end}'/>")?;
+    Ok(())
+}
+
+/// Adds the number of a bar's call.
+fn push_number(out: &mut String, width: u8, bar: &Bar) -> Result<(), Memory>
+    ensures { OnOk result (string_bytes out.new ≡ string_bytes out.old ++ number_text width bar.now) }
+{
+    let x = x_of(width, bar.from) + 4;
+    let y = y_of(bar.lane) + 32;
+    let number = bar.number;
+    write!(out, "<text class='number' x='{x}' y='{y}'>{number}</text>")?;
+    Ok(())
+}
+
+/// Adds the words of a bar: the call above it, the reply below.
+fn push_words(out: &mut String, width: u8, columns: usize, bar: &Bar) -> Result<(), Memory>
+    ensures { OnOk result (string_bytes out.new ≡ with_words (string_bytes out.old) width columns bar.now) }
+{
+    let room = room_of(width, columns, bar);
+    let x = x_of(width, bar.from) + 1;
+    let above = y_of(bar.lane) + 14;
+    let below = y_of(bar.lane) + 49;
+    push_label(out, x, above, bar.call.as_bytes(), room)?;
+    push_label(out, x, below, reply_label(bar), room)?;
+    Ok(())
+}
+
+/// The words of a bar's reply, or that it is pending.
+fn reply_label(bar: &Bar) -> &[u8]
+    ensures { result.now ≡ reply_label (option_map string_bytes bar.now.reply) }
+{
+    match &bar.reply {
+        Some(reply) => reply.as_bytes(),
+        None => b"pending",
+    }
+}
+
+/// Adds words at a place.
+fn push_label(out: &mut String, x: u128, y: u128, words: &[u8], room: u128) -> Result<(), Memory>
+    ensures { OnOk result (string_bytes out.new ≡ with_label (string_bytes out.old) x y words.now room) }
+{
+    write!(out, "<text x='{x}' y='{y}'>")?;
+    push_shown(out, words, room)?;
+    out.push_str("</text>")?;
+    Ok(())
+}

@@ -1,0 +1,93 @@
+// What stands around the bars of a text: its head, the words at its top, and its lanes.
+ghost use Rattle.std.specs.Prelude.{◌≡◌, ◌++◌, OnOk, string_bytes};
+ghost use Rattle.picture_text.specs.Frame.{head_text, with_heading, with_start, ground_text, name_text, with_lane, with_legend};
+
+use crate::content::push_shown;
+use crate::layout::y_of;
+use events::Memory;
+use pictures::{Heading, pairs_words};
+use std::alloc::Global;
+
+/// Adds the head of a text of this size.
+pub fn push_head(out: &mut String, width: u128, height: u128) -> Result<(), Memory>
+    ensures { OnOk result (string_bytes out.new ≡ string_bytes out.old ++ head_text width height) }
+{
+    write!(
+        out,
+        "<svg xmlns='http://www.w3.org/2000/svg' width='{width}' height='{height}'>\n"
+    )?;
+    Ok(())
+}
+
+/// Adds what a picture says at its top.
+pub fn push_heading(out: &mut String, heading: &Heading) -> Result<(), Memory>
+    ensures { OnOk result (string_bytes out.new ≡ with_heading (string_bytes out.old) heading.now) }
+{
+    out.push_str("<text class='title' x='16' y='28'>")?;
+    match heading {
+        Heading::Order => out.push_str("Linearizable")?,
+        Heading::NoOrder { lo, hi } => write!(out, "Not linearizable: keys {lo} to {hi}")?,
+        Heading::Undecided { lo, hi } => write!(out, "Undecided: keys {lo} to {hi}")?,
+    }
+    out.push_str("</text>\n")?;
+    Ok(())
+}
+
+/// Adds the pairs that the map holds at the start, cut to the room that they have.
+pub fn push_start(
+    out: &mut String,
+    alloc: Global,
+    start: &[(u64, u64)],
+    room: u128,
+) -> Result<(), Memory>
+    ensures { OnOk result (string_bytes out.new ≡ with_start (string_bytes out.old) start.now room) }
+{
+    let words = pairs_words(alloc, start)?;
+    out.push_str("<text x='16' y='50'>starts with ")?;
+    push_shown(out, words.as_bytes(), room)?;
+    out.push_str("</text>\n")?;
+    Ok(())
+}
+
+/// Adds the lane of a process.
+#[tactic(auto, unfolding(crate::specs::Frame::with_lane))]
+pub fn push_lane(out: &mut String, end: u128, lane: usize, process: u8) -> Result<(), Memory>
+    ensures { OnOk result (string_bytes out.new ≡ with_lane (string_bytes out.old) end lane process) }
+{
+    let y = y_of(lane) + 1;
+    let middle = y_of(lane) + 32;
+    push_ground(out, end, y)?;
+    push_name(out, middle, process)?;
+    Ok(())
+}
+
+/// Adds the ground of a lane.
+fn push_ground(out: &mut String, end: u128, y: u128) -> Result<(), Memory>
+    ensures { OnOk result (string_bytes out.new ≡ string_bytes out.old ++ ground_text end y) }
+{
+    write!(
+        out,
+        "<g class='lane'><rect x='8' y='{y}' width='{end}' height='56'/>"
+    )?;
+    Ok(())
+}
+
+/// Adds the name of a lane.
+fn push_name(out: &mut String, y: u128, process: u8) -> Result<(), Memory>
+    ensures { OnOk result (string_bytes out.new ≡ string_bytes out.old ++ name_text y process) }
+{
+    write!(out, "<text x='16' y='{y}'>process {process}</text></g>\n")?;
+    Ok(())
+}
+
+/// Adds what the shapes of a text mean.
+pub fn push_legend(out: &mut String, y: u128) -> Result<(), Memory>
+    ensures { OnOk result (string_bytes out.new ≡ with_legend (string_bytes out.old) y) }
+{
+    write!(
+        out,
+        "<text class='note' x='16' y='{y}'>A bar is a call, from its invocation to its answer; "
+    )?;
+    out.push_str("in a circle stands its place in the order.</text>\n")?;
+    Ok(())
+}

@@ -1,0 +1,78 @@
+// Where things stand, in the units of the text.
+ghost use Rattle.std.specs.Prelude.{◌≡◌, ◌≤◌, ◌<◌, ◌^◌};
+ghost use Rattle.picture_text.specs.Layout.{x_of, y_of, end_of, room_of, height_of, width_of};
+
+use pictures::{Bar, Picture};
+
+/// Where a column stands from the left, at this width of a column.
+pub fn x_of(width: u8, column: usize) -> u128
+    ensures value { result ≡ x_of width column }
+    ensures small { result < 2 ^ 80 }
+{
+    96 + width as u128 * column as u128
+}
+
+/// Where a lane stands from above.
+pub fn y_of(lane: usize) -> u128
+    ensures value { result ≡ y_of lane }
+    ensures small { result < 2 ^ 80 }
+{
+    70 + 58 * lane as u128
+}
+
+/// The column in which a bar ends: that of its response, or that behind all columns.
+pub fn end_of(columns: usize, bar: &Bar) -> usize
+    ensures { result ≡ end_of columns bar.now }
+{
+    match bar.to {
+        Some(to) => to,
+        None => columns,
+    }
+}
+
+/// How many letters have room above a bar: up to where the next one in its lane may begin.
+pub fn room_of(width: u8, columns: usize, bar: &Bar) -> u128
+    ensures { result ≡ room_of width columns bar.now }
+{
+    let span = end_of(columns, bar).saturating_sub(bar.from) as u128;
+    (width as u128 * (span + 1)).saturating_sub(6) / 6
+}
+
+/// How wide a picture is.
+pub fn width_of(width: u8, columns: usize) -> u128
+    ensures { result ≡ width_of width columns }
+{
+    x_of(width, columns) + 32
+}
+
+/// How high it is.
+pub fn height_of(lanes: usize) -> u128
+    ensures { result ≡ height_of lanes }
+{
+    y_of(lanes) + 34
+}
+
+/// The width of a column at which the words of all bars have room, where it is from 28 to 72.
+pub fn column_width(picture: &Picture) -> u8
+    ensures { (28 ≤ result) × (result ≤ 72) }
+{
+    let mut width: u8 = 28;
+    for bar in &picture.bars {
+        let span = end_of(picture.columns, bar).saturating_sub(bar.from) as u128 + 1;
+        let need = (longest(bar) as u128 * 6 + 6) / span + 1;
+        width = if need >= 72 {
+            72
+        } else {
+            width.max(need as u8)
+        };
+    }
+    width
+}
+
+/// The length of the longer one of a bar's words.
+fn longest(bar: &Bar) -> usize {
+    match &bar.reply {
+        Some(reply) => bar.call.len().max(reply.len()),
+        None => bar.call.len(),
+    }
+}

@@ -1,0 +1,14 @@
+//! The text of a picture: one SVG that names nothing outside of itself, without a script.
+//!
+//! What stands in it is a function of the picture and of the width of a column.
+#![tactic(auto)]
+
+mod bar_text;
+mod content;
+mod frame;
+mod layout;
+mod mark_text;
+mod svg_of;
+
+pub use content::push_content;
+pub use svg_of::svg;
