@@ -1,0 +1,11 @@
+pub mod WordFacts
+pub mod AfterLemmas
+pub mod KeyLemmas
+pub mod ScanLemmas
+pub mod KnownLemmas
+pub mod ChangeLemmas
+pub mod MoveLemmas
+pub mod AccessLemmas
+pub mod LowLemmas
+pub mod StepLemmas
+pub mod RunLemmas

@@ -1,0 +1,194 @@
+-- Claims and stamps keep rows and versions sound: they change no word of a row.
+use Rattle.std.proofs.Common.{◌≡◌, ◌≢◌, ℕ, ◌+◌, ◌*◌, ◌^◌, ◌<◌, ◌≤◌, List, [], ◌∷◌, length, refl, ap, sym, subst, ◌∙◌, inl, inr, arith}
+use Rattle.std.specs.Prelude.{◌⊎◌, slice_get, slice_index, slice_set, Some}
+use Rattle.std.proofs.lemmas.Bool.{cases_eq}
+use Rattle.std.proofs.lemmas.Option.{same_Some}
+use Rattle.events.specs.declared.event.Call.{Call}
+use Rattle.art_rows.specs.declared.table.Shape.{Shape}
+use Rattle.art_rows.specs.declared.table.Kind.{Kind}
+use Rattle.art_rows.specs.declared.table.Kind.TheVariants.{Four, Sixteen, FortyEight, Full}
+use Rattle.art_rows.specs.Table.{rows_of, claims_of, base_of, root_base, kind_at}
+use Rattle.art_words.proofs.TableLemmas.{row_begins, base_of-once}
+use Rattle.art_stages.specs.declared.stage.Held.{Held}
+use Rattle.art_core.specs.declared.process.Process.{Process}
+use Rattle.art_core.specs.Core.{State}
+use Rattle.art_versions.specs.Holding.{OfRows, Named, IsKept, optimistic, Knows, holds, fills}
+use Rattle.art_versions.specs.Effects.{IsGoodAt, IsAmong, Has}
+use Rattle.art_versions.specs.Versions.{IsOpen, stage_of, IsClaimed, IsSettled, AreDistinct, IsSound}
+use Rattle.art_versions.specs.Steady.{IsSteady}
+use Rattle.art_versions.proofs.KeyLemmas.{slot-behind}
+use Rattle.art_versions.proofs.KnownLemmas.{knows-more, held-is-kept}
+use Rattle.art_versions.proofs.ChangeLemmas.{index-same, index-other, Claims, settled-more, sound-now}
+use Rattle.art_versions.proofs.MoveLemmas as m
+use Rattle.art_versions.proofs.MoveLemmas.{settled-row, claims-low, no-items, differ, differ-from}
+
+first-item : {x y : Named} → ◌≡◌ {A = List Named} (x ∷ []) (y ∷ []) → x ≡ y
+first-item e = cc
+
+same-item : {b d : ℕ} {k l : Kind} → ◌≡◌ {A = List Named} ((b, k) ∷ []) ((d, l) ∷ []) → (b ≡ d) × (k ≡ l)
+same-item e = let same = first-item e in (ap (λ x. x.0) same, ap (λ x. x.1) same)
+
+same-claims : (a b : Kind) → claims_of a ≡ claims_of b → a ≡ b
+same-claims Four Four e = refl
+same-claims Four Sixteen e = absurd (omega (arith, e))
+same-claims Four FortyEight e = absurd (omega (arith, e))
+same-claims Four Full e = absurd (omega (arith, e))
+same-claims Sixteen Four e = absurd (omega (arith, e))
+same-claims Sixteen Sixteen e = refl
+same-claims Sixteen FortyEight e = absurd (omega (arith, e))
+same-claims Sixteen Full e = absurd (omega (arith, e))
+same-claims FortyEight Four e = absurd (omega (arith, e))
+same-claims FortyEight Sixteen e = absurd (omega (arith, e))
+same-claims FortyEight FortyEight e = refl
+same-claims FortyEight Full e = absurd (omega (arith, e))
+same-claims Full Four e = absurd (omega (arith, e))
+same-claims Full Sixteen e = absurd (omega (arith, e))
+same-claims Full FortyEight e = absurd (omega (arith, e))
+same-claims Full Full e = refl
+
+module _ (shape : Shape) (n : ℕ) (s : State) (h : IsSound shape n s) (few : n < 2 ^ 62) (p : ℕ) (q : Process) (here : slice_get s.processes p ≡ Some q) where
+  held-row : (r : ℕ) (other : Call) (w : Process) → IsOpen s r other w → (x : Held) → IsAmong x (holds (stage_of shape other w))
+      → IsKept (IsSettled shape s) x
+  held-row r other w o x a = held-is-kept (IsSettled shape s) (optimistic shape other) (stage_of shape other w) (h.knows r other w o) x a
+
+  module _ (word value : ℕ) (low : word < 5) (q' : Process) where
+    abbrev later : State
+    later = record { words = slice_set s.words word value; processes = slice_set s.processes p q' }
+
+    abbrev now : ℕ → ℕ
+    now x = slice_index (slice_set s.words word value) x
+
+    within : word < length s.words
+    within = omega (arith, low, h.long)
+
+    above : (x : ℕ) → 5 ≤ x → now x ≡ slice_index s.words x
+    above x l = index-other s.words word value x (differ-from x word (omega (arith, low, l)))
+
+    row-above : (base : ℕ) (kind : Kind) → kind_at shape base ≡ Some kind → now base ≡ slice_index s.words base
+    row-above base kind e = above base (row_begins shape base kind e)
+
+    versions : (base : ℕ) (kind : Kind) → kind_at shape base ≡ Some kind → now base ≤ 3 * (n + 1)
+    versions base kind e = omega (arith, row-above base kind e, h.versions base kind e)
+
+    no-slot : (Q : OfRows) → IsGoodAt Q shape word value
+    no-slot Q base kind e slot = absurd (omega (arith, low, (slot-behind base kind word slot).0, row_begins shape base kind e))
+
+    steady : ((base : ℕ) (kind : Kind) → IsSettled shape s base kind → IsSettled shape later base kind) → IsSteady shape s later
+    steady more = record {
+      settled = more;
+      rises = λ base kind x. omega (arith, row-above base kind (settled-row shape s base kind x));
+      stands = λ base kind x e free w l less. above w (omega (arith, l, row_begins shape base kind (settled-row shape s base kind x)));
+    }
+
+    abbrev ClaimsNow : Type 0
+    ClaimsNow = Claims shape n s h p q here word value q'
+
+    -- it holds nothing then, and fills nothing
+    pub keeps-idle : ((kind : Kind) → now (claims_of kind) ≡ slice_index s.words (claims_of kind))
+        → ((call : Call) → q'.call ≡ Some call → (holds (stage_of shape call q') ≡ []) × (fills (stage_of shape call q') ≡ []))
+        → ((Q : OfRows) → Q (root_base shape) Full → (call : Call) → q'.call ≡ Some call → Knows Q (optimistic shape call) (stage_of shape call q'))
+        → IsSound shape (n + 1) later × IsSteady shape s later
+    keeps-idle claims none knows = (
+      sound-now shape n s h p q here word value q' cl (record {
+        within = within;
+        versions = versions;
+        good = no-slot (IsSettled shape later);
+        others = λ r other w away o x a. row-above x.base x.kind
+            (settled-row shape s x.base x.kind (held-row r other w o x a).1);
+        knows = λ call e. knows (IsSettled shape later) (more (root_base shape) Full h.root) call e;
+        locked = λ call e x a. absurd (subst (IsAmong x) (none call e).0 a);
+        distinct = λ call e. subst AreDistinct (sym (none call e).0) tt;
+        apart = λ call e r other w away o x y a b. absurd (subst (IsAmong x) (none call e).0 a);
+      }),
+      steady more,
+    )
+      where
+        cl : ClaimsNow
+        cl = record {
+          rise = λ kind. omega (arith, claims kind);
+          few = λ kind. omega (arith, claims kind, h.claims kind);
+          filled = λ call e b k f. absurd (no-items (sym (none call e).1 ∙ f));
+          fresh = λ call e b k f. absurd (no-items (sym (none call e).1 ∙ f));
+          apart = λ call e r other w away o b d k l f g. absurd (no-items (sym (none call e).1 ∙ f));
+        }
+
+        more : (b : ℕ) (k : Kind) → IsSettled shape s b k → IsSettled shape later b k
+        more b k x = settled-more shape n s h p q here word value q' cl b k x
+
+  -- a claim by an open call
+  module _ (call : Call) (is-open : q.call ≡ Some call) (kind : Kind) (value : ℕ) (one : value ≡ slice_index s.words (claims_of kind) + 1) (q' : Process)
+      (its : q'.call ≡ Some call) where
+    abbrev claimed : ℕ
+    claimed = slice_index s.words (claims_of kind)
+
+    abbrev after : State
+    after = record { words = slice_set s.words (claims_of kind) value; processes = slice_set s.processes p q' }
+
+    abbrev then-at : ℕ → ℕ
+    then-at x = slice_index (slice_set s.words (claims_of kind) value) x
+
+    claim-rises : (other : Kind) → ((claims_of other ≡ claims_of kind) × (then-at (claims_of other) ≡ claimed + 1)) ⊎
+        (then-at (claims_of other) ≡ slice_index s.words (claims_of other))
+    claim-rises other = elim (cases_eq (claims_of other) (claims_of kind)) [
+      | inl e ↦ inl (e, ap then-at e ∙ (index-same s.words (claims_of kind) value (omega (arith, claims-low kind, h.long)) ∙ one))
+      | inr e ↦ inr (index-other s.words (claims_of kind) value (claims_of other) e)
+    ]
+
+    own : (Q : Call → Type 0) → Q call → (other : Call) → q'.call ≡ Some other → Q other
+    own Q x other e = subst Q (same_Some call other (sym its ∙ e)) x
+
+    -- the number was not claimed before
+    unclaimed : claimed < rows_of shape kind → (b : ℕ) (l : Kind) → b ≡ base_of shape kind claimed → IsClaimed shape s.words b l → ⊥
+    unclaimed less b l e x =
+        let same = base_of-once shape l kind x.number claimed x.within less (sym x.is ∙ e) in
+        omega (arith, x.claimed, same.1, ap (λ k. slice_index s.words (claims_of k)) same.0)
+
+    pub keeps-claim : (filled : List Named) → (filled ≡ []) ⊎ ((claimed < rows_of shape kind) × (filled ≡ (base_of shape kind claimed, kind) ∷ []))
+        → Has (IsSettled shape s) (optimistic shape call) (stage_of shape call q') (holds (stage_of shape call q)) filled
+        → IsSound shape (n + 1) after × IsSteady shape s after
+    keeps-claim filled as-said has = (
+      m.rows-stay shape n s h few p q here call is-open (claims_of kind) value q' its cl filled
+          (knows-more (IsSettled shape s) (IsSettled shape after) (optimistic shape call) more (stage_of shape call q') has.0, has.1, has.2)
+          (within (claims_of kind) value (claims-low kind) q') (versions (claims_of kind) value (claims-low kind) q')
+          (no-slot (claims_of kind) value (claims-low kind) q' (IsSettled shape after))
+          (λ x k r other w o a. row-above (claims_of kind) value (claims-low kind) q' x.base x.kind (settled-row shape s x.base x.kind k.1)),
+      steady (claims_of kind) value (claims-low kind) q' more,
+    )
+      where
+        its-row : (b : ℕ) (k : Kind) → fills (stage_of shape call q') ≡ (b, k) ∷ []
+            → (claimed < rows_of shape kind) × (b ≡ base_of shape kind claimed) × (k ≡ kind)
+        its-row b k f = elim as-said [
+          | inl e ↦ absurd (no-items (sym e ∙ (sym has.2 ∙ f)))
+          | inr e ↦ let same = same-item (sym f ∙ (has.2 ∙ e.1)) in (e.0, same.0, same.1)
+        ]
+
+        is-claimed : (b : ℕ) (k : Kind) → (claimed < rows_of shape kind) × (b ≡ base_of shape kind claimed) × (k ≡ kind)
+            → IsClaimed shape (slice_set s.words (claims_of kind) value) b k
+        is-claimed b k x = subst (λ l. IsClaimed shape (slice_set s.words (claims_of kind) value) b l) (sym x.2) (record {
+          number = claimed;
+          claimed = omega (arith, index-same s.words (claims_of kind) value (within (claims_of kind) value (claims-low kind) q'), one);
+          within = x.0;
+          is = x.1;
+        })
+
+        cl : Claims shape n s h p q here (claims_of kind) value q'
+        cl = record {
+          rise = λ other. elim (claim-rises other) [
+            | inl e ↦ omega (arith, e.1, ap (slice_index s.words) e.0)
+            | inr e ↦ omega (arith, e)
+          ];
+          few = λ other. elim (claim-rises other) [
+            | inl e ↦ omega (arith, e.1, h.claims kind)
+            | inr e ↦ omega (arith, e, h.claims other)
+          ];
+          filled = λ other e. own (λ x. (b : ℕ) (k : Kind) → fills (stage_of shape x q') ≡ (b, k) ∷ []
+              → IsClaimed shape (slice_set s.words (claims_of kind) value) b k) (λ b k f. is-claimed b k (its-row b k f)) other e;
+          fresh = λ other e. own (λ x. (b : ℕ) (k : Kind) → fills (stage_of shape x q') ≡ (b, k) ∷ [] → (l : Kind) → IsSettled shape s b l → ⊥)
+              (λ b k f l y. let r = its-row b k f in unclaimed r.0 b l r.1 y.claimed) other e;
+          apart = λ other e. own (λ x. (r : ℕ) (o : Call) (w : Process) → r ≢ p → IsOpen s r o w → (b d : ℕ) (k l : Kind)
+              → fills (stage_of shape x q') ≡ (b, k) ∷ [] → fills (stage_of shape o w) ≡ (d, l) ∷ [] → b ≢ d)
+              (λ r o w away ow b d k l f g same. let x = its-row b k f in unclaimed x.0 d l (sym same ∙ x.1) (h.filled r o w ow d l g)) other e;
+        }
+
+        more : (b : ℕ) (k : Kind) → IsSettled shape s b k → IsSettled shape after b k
+        more b k x = settled-more shape n s h p q here (claims_of kind) value q' cl b k x

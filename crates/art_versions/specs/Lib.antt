@@ -1,0 +1,5 @@
+pub mod Holding
+pub mod Effects
+pub mod Versions
+pub mod Steady
+pub mod Laws

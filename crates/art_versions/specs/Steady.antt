@@ -1,0 +1,20 @@
+-- A row whose version stays is a row that stands still.
+use Rattle.std.specs.Prelude.{◌≡◌, ℕ, ◌+◌, ◌<◌, ◌≤◌, false, List, slice_index}
+use Rattle.art_rows.specs.declared.table.Shape.{Shape}
+use Rattle.art_rows.specs.declared.table.Kind.{Kind}
+use Rattle.art_rows.specs.Table.{row_words}
+use Rattle.art_rows.specs.Words.{is_locked}
+use Rattle.art_core.specs.Core.{State}
+use Rattle.art_versions.specs.Versions.{IsSettled}
+
+-- the row's words are the same
+abbrev pub SameRow : List ℕ → List ℕ → ℕ → Kind → Type 0
+SameRow words later base kind = (word : ℕ) → base ≤ word → word < base + row_words kind → slice_index later word ≡ slice_index words word
+
+-- From the one state to a later one each row that was settled stays so, its version does not fall, and where it is the same and unlocked, so are all words
+-- of the row.
+pub record IsSteady (shape : Shape) (s later : State) : Type 0 where
+  pub settled : (base : ℕ) (kind : Kind) → IsSettled shape s base kind → IsSettled shape later base kind
+  pub rises : (base : ℕ) (kind : Kind) → IsSettled shape s base kind → slice_index s.words base ≤ slice_index later.words base
+  pub stands : (base : ℕ) (kind : Kind) → IsSettled shape s base kind → slice_index later.words base ≡ slice_index s.words base
+      → is_locked (slice_index s.words base) ≡ false → SameRow s.words later.words base kind

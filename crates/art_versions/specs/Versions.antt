@@ -1,0 +1,62 @@
+-- The invariant of rows and versions: in every state that a schedule of the optimistic tree gives, after few steps.
+use Rattle.std.specs.Prelude.{◌≡◌, ◌≢◌, ℕ, ◌+◌, ◌*◌, ◌<◌, ◌≤◌, List, [], ◌∷◌, length, slice_get, slice_index, Some}
+use Rattle.events.specs.declared.event.Call.{Call}
+use Rattle.art_rows.specs.declared.table.Shape.{Shape}
+use Rattle.art_rows.specs.declared.table.Kind.{Kind}
+use Rattle.art_rows.specs.declared.table.Kind.TheVariants.{Full}
+use Rattle.art_rows.specs.Table.{table_words, rows_of, claims_of, base_of, root_base, kind_at}
+use Rattle.art_stages.specs.declared.stage.Held.{Held}
+use Rattle.art_stages.specs.Calls.{CallAt, call_behind}
+use Rattle.art_core.specs.declared.process.Process.{Process}
+use Rattle.art_core.specs.Core.{State}
+use Rattle.art_versions.specs.Holding.{optimistic, Knows, holds, fills}
+use Rattle.art_versions.specs.Effects.{IsGoodAt, IsAmong}
+
+-- process p is in this call
+pub record IsOpen (s : State) (p : ℕ) (call : Call) (q : Process) : Type 0 where
+  pub own : slice_get s.processes p ≡ Some q
+  pub is_open : q.call ≡ Some call
+
+-- the stage at which it is
+abbrev pub stage_of : Shape → Call → Process → CallAt
+stage_of shape call q = call_behind (optimistic shape call) q.got
+
+-- a claim has reached the row's number
+pub record IsClaimed (shape : Shape) (words : List ℕ) (base : ℕ) (kind : Kind) : Type 0 where
+  pub number : ℕ
+  pub claimed : number < slice_index words (claims_of kind)
+  pub within : number < rows_of shape kind
+  pub is : base ≡ base_of shape kind number
+
+-- The row was claimed, and no process is filling it: only such rows are ever named by a child word or known to a call.
+pub record IsSettled (shape : Shape) (s : State) (base : ℕ) (kind : Kind) : Type 0 where
+  pub claimed : IsClaimed shape s.words base kind
+  pub unfilled : (p : ℕ) (call : Call) (q : Process) → IsOpen s p call q → (b : ℕ) (k : Kind) → fills (stage_of shape call q) ≡ (b, k) ∷ [] → base ≢ b
+
+-- no row is among them twice
+abbrev pub AreDistinct : List Held → Type 0
+AreDistinct [] = Unit {0}
+AreDistinct (h ∷ hs) = ((x : Held) → IsAmong x hs → h.base ≢ x.base) × AreDistinct hs
+
+-- Where n steps were made at most.
+pub record IsSound (shape : Shape) (n : ℕ) (s : State) : Type 0 where
+  pub long : length s.words ≡ table_words shape
+  -- versions and claims rise by little in each step
+  pub versions : (base : ℕ) (kind : Kind) → kind_at shape base ≡ Some kind → slice_index s.words base ≤ 3 * n
+  pub claims : (kind : Kind) → slice_index s.words (claims_of kind) ≤ n + 1
+  -- the rows that child words name are settled, and so is the root
+  pub root : IsSettled shape s (root_base shape) Full
+  pub children : (word : ℕ) → IsGoodAt (IsSettled shape s) shape word (slice_index s.words word)
+  -- each open call knows settled rows alone, with versions that were neither locked nor obsolete
+  pub knows : (p : ℕ) (call : Call) (q : Process) → IsOpen s p call q → Knows (IsSettled shape s) (optimistic shape call) (stage_of shape call q)
+  -- a row that a process holds is locked from the version that was kept, and no two processes hold one row
+  pub locked : (p : ℕ) (call : Call) (q : Process) → IsOpen s p call q → (h : Held) → IsAmong h (holds (stage_of shape call q))
+      → slice_index s.words h.base ≡ h.kept + 2
+  pub distinct : (p : ℕ) (call : Call) (q : Process) → IsOpen s p call q → AreDistinct (holds (stage_of shape call q))
+  pub apart : (p r : ℕ) (call other : Call) (q w : Process) → IsOpen s p call q → IsOpen s r other w → (h x : Held)
+      → IsAmong h (holds (stage_of shape call q)) → IsAmong x (holds (stage_of shape other w)) → h.base ≡ x.base → p ≡ r
+  -- a row that a process fills was claimed, and no two processes fill one row
+  pub filled : (p : ℕ) (call : Call) (q : Process) → IsOpen s p call q → (b : ℕ) (k : Kind) → fills (stage_of shape call q) ≡ (b, k) ∷ []
+      → IsClaimed shape s.words b k
+  pub fills_apart : (p r : ℕ) (call other : Call) (q w : Process) → IsOpen s p call q → IsOpen s r other w → (b d : ℕ) (k l : Kind)
+      → fills (stage_of shape call q) ≡ (b, k) ∷ [] → fills (stage_of shape other w) ≡ (d, l) ∷ [] → b ≡ d → p ≡ r

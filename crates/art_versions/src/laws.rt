@@ -1,0 +1,14 @@
+// Laws of versions: each function only carries its clause.
+ghost use Rattle.art_versions.specs.Laws.{RowsAreSound, RowsStandStill};
+
+/// In every state of the optimistic tree, whatever calls run: each row that a process holds is locked from the version that
+/// the process has kept, no two processes hold one row, versions that calls have kept were neither locked nor obsolete, and
+/// no word names a row that is still being filled.
+pub fn rows_are_sound()
+    ensures { RowsAreSound }
+{}
+
+/// Versions never fall, and a row whose version is the same and unlocked has had the same words all the while.
+pub fn rows_stand_still()
+    ensures { RowsStandStill }
+{}

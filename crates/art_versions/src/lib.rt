@@ -1,0 +1,6 @@
+//! Versions of rows under optimistic lock coupling: who holds a row, who fills one, and that a row stands still while its version does.
+#![tactic(auto)]
+
+mod laws;
+
+pub use laws::{rows_are_sound, rows_stand_still};
