@@ -1,0 +1,6 @@
+//! The one moment of a validated scan: where all that it read stands still.
+#![tactic(auto)]
+
+mod laws;
+
+pub use laws::{answered_scans_are_validated, words_were_got};
