@@ -9,3 +9,5 @@ pub mod AccessLemmas
 pub mod LowLemmas
 pub mod StepLemmas
 pub mod RunLemmas
+pub mod ByteLemmas
+pub mod SettledLemmas

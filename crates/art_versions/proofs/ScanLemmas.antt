@@ -28,6 +28,7 @@ use Rattle.art_stages.specs.Scans.{visit_list, visit_at, entry_at, child_after, 
 use Rattle.art_stages.specs.Calls.{OnScan}
 use Rattle.art_versions.specs.Holding.{optimistic, OfRows, Each, IsSlot, child_rows, IsNamed, FitsFrame, KnowsScan}
 use Rattle.art_versions.specs.Effects.{Does, Reads, Answered}
+use Rattle.art_versions.proofs.ByteLemmas.{index-small}
 use Rattle.art_versions.proofs.WordFacts.{place-fits, entry-fits}
 
 module _ (s : Shape) (call : Call) (P : OfRows) (is_row : (b : ℕ) (k : Kind) → P b k → kind_at s b ≡ Some k) (root : P (root_base s) Full) (lo hi : ℕ) where
@@ -60,11 +61,12 @@ module _ (s : Shape) (call : Call) (P : OfRows) (is_row : (b : ℕ) (k : Kind) �
   words-good : (n : Held) (w : Walk) (j m : ℕ) (other : ScanAt) → n.kind ≡ FortyEight → P n.base n.kind → Each (FitsFrame P) w.way → Good other
       → Good (words_at lo hi n w j m other)
   words-good n w j zero other is p way rest = rest
-  words-good n w j (suc m) other is p way rest = go (filter (in_word j) (bytes_of lo hi (row_at n))) (words-good n w (j + 1) m other is p way rest)
+  words-good n w j (suc m) other is p way rest = go (filter (in_word j) (bytes_of lo hi (row_at n))) refl (words-good n w (j + 1) m other is p way rest)
     where
-      go : (xs : List ℕ) → Good (words_at lo hi n w (j + 1) m other) → Good (index_at_list n w j m xs (words_at lo hi n w (j + 1) m other))
-      go [] later = later
-      go (x ∷ xs) later = record { known = (p, tt); fits = is; way = way }
+      go : (xs : List ℕ) → filter (in_word j) (bytes_of lo hi (row_at n)) ≡ xs → Good (words_at lo hi n w (j + 1) m other)
+          → Good (index_at_list n w j m xs (words_at lo hi n w (j + 1) m other))
+      go [] e later = later
+      go (x ∷ xs) e later = record { known = (p, tt); fits = (is, index-small lo hi (row_at n) j x xs e); way = way }
 
   place-good : (kind : Kind) (base : ℕ) (keys : KeyWords) (y slot : ℕ) → place_slot kind base (place_of y (keys_among kind keys)) ≡ Some slot
       → IsSlot base kind slot

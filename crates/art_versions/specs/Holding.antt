@@ -316,7 +316,7 @@ FitsFrame P f = P f.row.base f.row.kind × (f.byte + f.left ≤ 256)
 abbrev pub FitsScan : OfRows → ScanStep → Type 0
 FitsScan P (scan.Lock entry first) = ⊥
 FitsScan P (scan.Exchange entry version) = ⊥
-FitsScan P (scan.Index n index words) = n.kind ≡ FortyEight
+FitsScan P (scan.Index n index words) = (n.kind ≡ FortyEight) × (index < 32)
 FitsScan P (scan.Child f slot) = FitsFrame P f × IsSlot f.row.base f.row.kind slot
 FitsScan P step = Unit {0}
 
