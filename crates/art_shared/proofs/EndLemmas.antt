@@ -1,18 +1,19 @@
 -- The beginning, and the end.
-use Rattle.std.proofs.Common.{◌≡◌, ℕ, zero, suc, ◌+◌, ◌-◌, ◌<◌, ◌≤◌, ◌⊎◌, inl, inr, ⊎_elim, List, [], ◌∷◌, length, map, sym}
-use Rattle.std.proofs.Common.{refl, ap, subst, ◌∙◌, arith, replicate}
-use mathlib.Core.Option.{some-ne-none}
-use Rattle.std.specs.Prelude.{Some, slice_get}
+use Rattle.std.proofs.Common.{◌≡◌, ℕ, zero, suc, ◌+◌, ◌-◌, ◌<◌, ◌≤◌, ◌≢◌, ◌⊎◌, inl, inr, ⊎_elim, List, [], ◌∷◌, length, map, get_or, set, sym, refl, ap, subst, ◌∙◌, arith, replicate}
+use mathlib.Core.Option.{some, some-ne-none}
+use lib.ListN.{get_elem?}
+use Rattle.std.specs.Prelude.{Option, Some, None, All, slice_get}
 use Rattle.std.specs.List.{range_with_len}
 use Rattle.std.proofs.lemmas.Bool.{cases_lt}
+use Rattle.std.proofs.lemmas.List.{length-replicate, set-get_or}
 use Rattle.std.proofs.lemmas.List.Elements.{All-nil}
 use Rattle.std.proofs.lemmas.Option.{slice_get_within, same_Some}
 use Rattle.list_laws.proofs.Lists.{AllPairs-nil}
-use Rattle.atomic_table.specs.Table.{State as Table, opening as table_opening, Seen}
+use Rattle.atomic_table.specs.Table.{State as Table, opening as table_opening, Seen, Step, keeps, Allows}
 use Rattle.atomic_table.proofs.Lists.{at_snoc}
 use Rattle.events.specs.declared.event.Call.{Call}
 use Rattle.events.specs.Histories.{AreHistoryEvents}
-use Rattle.art_rows.specs.Table.{opening}
+use Rattle.art_rows.specs.Table.{opening, table_words}
 use Rattle.art_core.specs.declared.process.Process.{Process}
 use Rattle.art_core.specs.Core.{idle, opened, history_of}
 use Rattle.art_core.specs.Runs.{Gives}
@@ -23,10 +24,11 @@ use Rattle.art_core.proofs.StartLemmas.{no-start}
 use Rattle.art_shared.specs.declared.view.Setup.{Setup}
 use Rattle.art_shared.specs.declared.view.Noted.{Noted}
 use Rattle.art_shared.specs.Setups.{IsSetup}
-use Rattle.art_shared.specs.Views.{Numbered}
-use Rattle.art_shared.specs.Rule.{Has, times, Above, Rises, Kept, first_view}
-use Rattle.art_shared.specs.Ends.{Ended}
+use Rattle.art_shared.specs.Views.{Numbered, all_idle}
+use Rattle.art_shared.specs.Rule.{Has, times, times_in, Above, Rises, IsReached, Kept, Seated, first_view}
+use Rattle.art_shared.specs.Ends.{plan_of, state_of, Ended, Looks}
 use Rattle.art_shared.proofs.NumberedLemmas.{hit, miss}
+use Rattle.art_shared.proofs.ReachedLemmas.{reached-noted, shown-below}
 use Rattle.art_shared.proofs.GivenLemmas.{given-first, given-plan, given-clocked}
 
 -- All processes, before the first step.
@@ -147,3 +149,24 @@ module _ (setup : Setup) (limits : IsSetup setup) where
           few_steps = few;
         };
       }
+
+  -- a look changes nothing, and shows what is so
+  pub look-allowed : (slots id : ℕ) (me : Seated) → me.0.view.setup ≡ setup → (st : Step Call) → Allows (Kept setup) slots id me 0 (λ n. n) (Looks st me)
+  look-allowed slots id me same st s r _ at _ =
+      let still : set s.words 0 (get_or s.words 0 0) ≡ s.words = set-get_or s.words 0 0 in
+      let here : length me.0.view.processes + 0 ≤ setup.processes =
+      room me.0.view.processes 0 setup.processes (omega arith) (r.1.rising id me.0 at)
+      (λ p q t. let below = shown-below setup s.words s.views r.1 id me.0 at p q t in (omega arith, below)) in
+      let few : length me.0.view.processes ≤ setup.processes = omega arith in (
+        me.0,
+        keeps,
+        tt,
+        subst (λ l. (length l ≡ table_words setup.shape) × IsReached setup l (set s.views id me.0)) (sym still)
+            (r.0, reached-noted setup s.words s.views r.1 id me.0 at me.0.asked),
+        (
+          refl,
+          refl,
+          subst (λ z. length me.0.view.processes ≤ z.processes) (sym same) few,
+          subst (λ z. length me.0.view.processes ≡ z.processes → Ended z me.0.view) (sym same) (λ all. ended id me.0 s all (r, at)),
+        ),
+      )

@@ -1,5 +1,7 @@
 -- What is known of processes that have come to their end together.
-use Rattle.std.specs.Prelude.{ℕ, List, [], map}
+use Rattle.std.specs.Prelude.{◌≡◌, ℕ, ◌≤◌, List, [], map, length}
+use Rattle.atomic_table.specs.Table.{Step}
+use Rattle.events.specs.declared.event.Call.{Call}
 use Rattle.events.specs.Histories.{AreHistoryEvents}
 use Rattle.art_rows.specs.Table.{opening}
 use Rattle.art_core.specs.Core.{Plan, State, history_of, opened}
@@ -8,6 +10,7 @@ use Rattle.art_core.specs.Laws.{begun_plan}
 use Rattle.art_core.specs.Claims.{IsPlan, IsRun}
 use Rattle.art_shared.specs.declared.view.Setup.{Setup}
 use Rattle.art_shared.specs.declared.view.View.{View}
+use Rattle.art_shared.specs.Rule.{Seated}
 
 -- the calls that the processes began, as scripts
 abbrev pub plan_of : Setup → View → Plan
@@ -26,3 +29,8 @@ pub record Ended (setup : Setup) (v : View) : Type 0 where
   pub gives : Gives (plan_of setup v) (opened (plan_of setup v)) schedule (state_of words v)
   pub history : AreHistoryEvents (history_of (state_of words v))
   pub run : HasFewSteps (state_of words v) → IsRun (plan_of setup v) [] (opening setup.shape) schedule (state_of words v)
+
+-- What a look shows: nothing has changed, there are no more processes than there may be, and what is known where they are all.
+abbrev pub Looks : Step Call → Seated → ℕ → Seated → Type 0
+Looks step me n new = (new.1 ≡ me.1) × (new.0.view ≡ me.0.view) × (length me.0.view.processes ≤ me.0.view.setup.processes)
+    × (length me.0.view.processes ≡ me.0.view.setup.processes → Ended me.0.view.setup me.0.view)

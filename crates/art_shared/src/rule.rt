@@ -68,3 +68,12 @@ impl Join<Noted> for Part {
 
     ghost spent = { no_part };
 }
+
+/// A look at the words, which shows what is so at all times.
+pub struct Look;
+
+impl Play<TreeCall, Noted> for Look {
+    ghost use Rattle.art_shared.specs.Ends.{Looks};
+
+    ghost then = { Looks };
+}

@@ -1,10 +1,10 @@
 //! The words, and what places do on them.
-ghost use Rattle.std.specs.Prelude.{◌≡◌, ◌<◌, length, IfOk, IsTrue, Some};
+ghost use Rattle.std.specs.Prelude.{◌≡◌, ◌<◌, ◌≤◌, length, IfOk, IsTrue, Some};
 ghost use Rattle.art_rows.specs.Table.{table_words};
 ghost use Rattle.art_shared.specs.Setups.{IsSetup};
 
 use crate::place::Place;
-use crate::rule::{Go, Invoke, Note, Part, Respond, Scheduled};
+use crate::rule::{Go, Invoke, Look, Note, Part, Respond, Scheduled};
 use crate::view::{Noted, Setup};
 use art_steps::{Access, TreeCall};
 use atomic_table::Table;
@@ -23,6 +23,7 @@ pub struct SharedCore {
 
 impl SharedCore {
     ghost use Rattle.art_core.specs.Core.{Makes};
+    ghost use Rattle.art_core.specs.Accesses.{told};
     ghost use Rattle.art_shared.specs.Views.{is_idle, calls_left, next_of, IsAnswered, advanced, invoking, AllStamps, all_idle};
     ghost use Rattle.art_shared.specs.Views.{without_last, last_alone, merged};
     ghost use Rattle.art_shared.specs.Places.{IsPlaceOf, shown, setup_of};
@@ -66,6 +67,7 @@ impl SharedCore {
         requires next { next_of (shown place.old) ≡ Some (Makes access) }
         ensures own { IsPlaceOf self.now place.new }
         ensures made { shown place.new ≡ advanced (shown place.old) result }
+        ensures told { told access result ≡ result }
     {
         let words = &self.table.shared;
         let seat = &mut place.seat;
@@ -116,6 +118,18 @@ impl SharedCore {
     {
         let Place { seat } = other;
         self.table.shared.join_seat::<Part>(&mut place.seat, seat);
+    }
+
+    /// A look at the words: a place has no more processes than there are, and where it has all, some schedule gives what they
+    /// are now. It is one load, and no step of the core.
+    pub fn look(&self, place: &mut Place)
+        requires own { IsPlaceOf self.now place.old }
+        ensures own { IsPlaceOf self.now place.new }
+        ensures same { shown place.new ≡ shown place.old }
+        ensures few { length (shown place.old).processes ≤ (setup_of self.now).processes }
+        ensures all { length (shown place.old).processes ≡ (setup_of self.now).processes → Ended (setup_of self.now) (shown place.old) }
+    {
+        self.table.shared.load::<Look>(&mut place.seat, 0);
     }
 
     /// Ends the core, for a place that has all processes: as many as there are. Some schedule gives what they are then.

@@ -1,0 +1,4 @@
+pub mod FitLemmas
+pub mod StepLemmas
+pub mod GatherLemmas
+pub mod CloseLemmas

@@ -1,0 +1,210 @@
+-- A step of a process as a thread runs it is a step of the process that it fits.
+use Rattle.std.proofs.Common.{◌≡◌, ℕ, zero, suc, ◌+◌, ◌-◌, ◌<◌, ◌≤◌, true, false, IsTrue, List, [], ◌∷◌, ◌++◌, length, refl, sym, ap, subst, ◌∙◌, arith, append_assoc}
+use Rattle.std.specs.Prelude.{Option, Some, None, MatchOption, is_some, filter_map}
+use Rattle.std.proofs.lemmas.List.{append-nil, length-append}
+use Rattle.std.proofs.lemmas.List.Elements.{filter_map-append}
+use Rattle.std.proofs.lemmas.Option.{same_Some, none-some}
+use Rattle.events.specs.declared.event.Call.{Call}
+use Rattle.events.specs.declared.event.Reply.{Reply}
+use Rattle.events.specs.declared.event.Event.TheVariants.{Invoke, Answer}
+use Rattle.logs.specs.Logs.{Stamped}
+use Rattle.art.specs.Tasks.{rest_of}
+use Rattle.art_steps.specs.declared.access.Access.{Access}
+use Rattle.art_steps.specs.declared.access.Point.{Point}
+use Rattle.art_steps.specs.Steps.{Turn, Asks, Answers, access_of, reply_of}
+use Rattle.art_steps.specs.Act.{act}
+use Rattle.art_steps.specs.Fits.{Fits}
+use Rattle.art_core.specs.declared.process.Process.{Process}
+use Rattle.art_core.specs.Accesses.{told}
+use Rattle.art_core.specs.Core.{Move, Invokes, Makes, Responds, begun, invoked, move_of, after_move}
+use Rattle.art_shared.specs.declared.view.Setup.{Setup}
+use Rattle.art_shared.specs.declared.view.View.{View}
+use Rattle.art_shared.specs.Views.{Numbered, view, open_move, next_in, next_of, moved_first, moved_if, advanced, invoking, is_idle, calls_left, IsAnswered}
+use Rattle.running.specs.declared.runner.Runner.{Runner}
+use Rattle.running.specs.declared.runner.Open.{Open}
+use Rattle.running.specs.declared.runner.Doing.{Doing}
+use Rattle.running.specs.declared.runner.Doing.TheVariants.{Idle, Going, Answered}
+use Rattle.running.specs.Fitting.{FitsDoing, FitsProcess, others_of, IsFirst, IsBeside}
+use Rattle.running.specs.Steps.{is_open, Ran, HasReplied}
+use Rattle.running.proofs.FitLemmas.{left-is, open-is}
+
+-- What a call does next.
+
+asks-of : (t : Turn) (a : Access) → access_of t ≡ Some a → (p : Option Point) × (t ≡ Asks a p)
+asks-of (Asks b p) a e = (p, ap (λ x. Asks x p) (same_Some b a e))
+asks-of (Answers r) a e = absurd (none-some a e)
+
+answers-of : (t : Turn) (r : Reply) → reply_of t ≡ Some r → t ≡ Answers r
+answers-of (Asks b p) r e = absurd (none-some r e)
+answers-of (Answers q) r e = ap Answers (same_Some q r e)
+
+next-move : (v : View) (n : ℕ) (q : Process) (others : List Numbered) (c : Call) (t : Turn) → v.processes ≡ (n, q) ∷ others → q.call ≡ Some c
+    → act v.setup.shape v.setup.variant c q.got ≡ t → next_of v ≡ Some (move_of t)
+next-move v n q others c t is called does =
+    ap (next_in v.setup) is ∙ (ap (open_move v.setup q.got) called ∙ ap (λ z. Some (move_of z)) does)
+
+advanced-is : (v : View) (m : Move) (n : ℕ) (q : Process) (others : List Numbered) → v.processes ≡ (n, q) ∷ others → next_of v ≡ Some m → (found : ℕ)
+    → advanced v found ≡ view v.setup ((n, after_move n m found q) ∷ others)
+advanced-is v m n q others is next found =
+    ap (λ o. view v.setup (moved_if o found v.processes)) next ∙ ap (λ xs. view v.setup (moved_first m found xs)) is
+
+-- the first process is now this one, and nothing else differs
+module _ (v w : View) (number : ℕ) (old new : Runner) (first : IsFirst v number old) (q : Process)
+    (is : w ≡ view v.setup ((number, q) ∷ others_of v)) where
+  pub first-now : FitsProcess v.setup (number, q) (number, new) → IsFirst w number new
+  first-now fits = subst (λ z. IsFirst z number new) (sym is) (record { process = q; is = refl; fits = fits })
+
+  pub beside-now : IsBeside v w
+  beside-now = record { setup = ap (λ z. z.setup) is; others = ap others_of is }
+
+-- An access.
+module _ (v : View) (number : ℕ) (r : Runner) (call : Open) (first : IsFirst v number (record r { doing = Going call })) (a : Access)
+    (asks : access_of (rest_of call.task []) ≡ Some a) where
+  abbrev q : Process
+  q = first.process
+
+  abbrev c : Call
+  c = first.fits.doing.0
+
+  fits : Fits v.setup.shape v.setup.variant c q.got (rest_of call.task)
+  fits = first.fits.doing.2
+
+  pub next-access : next_of v ≡ Some (Makes a)
+  next-access =
+      let found = asks-of (rest_of call.task []) a asks in
+      next-move v number q (others_of v) c (Asks a found.0) first.is first.fits.doing.1
+      (ap (act v.setup.shape v.setup.variant c) (sym (append-nil q.got)) ∙ (sym (fits []) ∙ found.1))
+
+  module _ (w : View) (n : ℕ) (made : w ≡ advanced v n) (tells : told a n ≡ n) (new : Runner) (left : new.left ≡ r.left) (log : new.log.items ≡ r.log.items) where
+    moved-view : w ≡ view v.setup ((number, after_move number (Makes a) n q) ∷ others_of v)
+    moved-view = made ∙ advanced-is v (Makes a) number q (others_of v) first.is next-access n
+
+    pub access-beside : IsBeside v w
+    access-beside = beside-now v w number _ new first (after_move number (Makes a) n q) moved-view
+
+    pub access-open : IsTrue (is_open w)
+    access-open =
+        open-is w number (after_move number (Makes a) n q) (others_of v) (ap (λ z. z.processes) moved-view) ∙ ap is_some first.fits.doing.1
+
+    access-first : FitsDoing v.setup new.doing q.call (q.got ++ told a n ∷ []) → IsFirst w number new
+    access-first doing = first-now v w number _ new first (after_move number (Makes a) n q) moved-view (record {
+      number = refl;
+      doing = doing;
+      left = ap (λ k. length (begun q) + k) left ∙ first.fits.left;
+      log = first.fits.log ∙ sym log;
+    })
+
+    -- it goes on
+    pub goes-on : (later : Open) → new.doing ≡ Going later → ((rest : List ℕ) → rest_of later.task rest ≡ rest_of call.task (n ∷ rest)) → IsFirst w number new
+    goes-on later is goes =
+        access-first (subst (λ d. FitsDoing v.setup d q.call (q.got ++ told a n ∷ [])) (sym is) (
+          c,
+          first.fits.doing.1,
+          λ more. goes more
+              ∙ (fits (n ∷ more)
+              ∙ (ap (λ x. act v.setup.shape v.setup.variant c (q.got ++ x ∷ more)) (sym tells)
+              ∙ ap (act v.setup.shape v.setup.variant c) (sym (append_assoc q.got (told a n ∷ []) more)))),
+        ))
+
+    -- its reply is known
+    pub gets-reply : (reply : Reply) → new.doing ≡ Answered reply → reply_of (rest_of call.task (n ∷ [])) ≡ Some reply → IsFirst w number new
+    gets-reply reply is known =
+        access-first (subst (λ d. FitsDoing v.setup d q.call (q.got ++ told a n ∷ [])) (sym is) (
+          c,
+          first.fits.doing.1,
+          ap (λ x. act v.setup.shape v.setup.variant c (q.got ++ x ∷ [])) tells ∙ (sym (fits (n ∷ [])) ∙ answers-of (rest_of call.task (n ∷ [])) reply known),
+        ))
+
+-- The response.
+module _ (v : View) (number : ℕ) (r : Runner) (reply : Reply) (first : IsFirst v number (record r { doing = Answered reply })) where
+  abbrev p : Process
+  p = first.process
+
+  pub next-response : next_of v ≡ Some (Responds reply)
+  next-response = next-move v number p (others_of v) first.fits.doing.0 (Answers reply) first.is first.fits.doing.1 first.fits.doing.2
+
+  pub is-answered : IsAnswered v
+  is-answered = (reply, next-response)
+
+  module _ (w : View) (n : ℕ) (made : w ≡ advanced v n) where
+    answered-view : w ≡ view v.setup ((number, after_move number (Responds reply) n p) ∷ others_of v)
+    answered-view = made ∙ advanced-is v (Responds reply) number p (others_of v) first.is next-response n
+
+    pub response-replied : HasReplied reply w
+    response-replied = record {
+      number = number;
+      process = after_move number (Responds reply) n p;
+      others = others_of v;
+      is = ap (λ z. z.processes) answered-view;
+      idle = refl;
+      earlier = p.log;
+      stamp = n;
+      log = refl;
+    }
+
+    module _ (new : Runner) (left : new.left ≡ r.left) (log : new.log.items ≡ r.log.items ++ (n, Answer number reply) ∷ []) (idle : new.doing ≡ Idle) where
+      pub response-beside : IsBeside v w
+      response-beside = beside-now v w number _ new first (after_move number (Responds reply) n p) answered-view
+
+      pub response-first : IsFirst w number new
+      response-first = first-now v w number _ new first (after_move number (Responds reply) n p) answered-view (record {
+        number = refl;
+        doing = subst (λ d. FitsDoing v.setup d None []) (sym idle) refl;
+        left =
+            let same = ap (λ l. length l) (filter_map-append (λ (e : Stamped). invoked e.1) p.log ((n, Answer number reply) ∷ []) ∙ append-nil (begun p)) in
+            same' same;
+        log = ap (λ l. l ++ (n, Answer number reply) ∷ []) first.fits.log ∙ sym log;
+      })
+        where
+          same' : length (begun (after_move number (Responds reply) n p)) ≡ length (begun p)
+              → length (begun (after_move number (Responds reply) n p)) + new.left ≡ v.setup.calls_each
+          same' e = ap (λ k. k + new.left) e ∙ (ap (λ k. length (begun p) + k) left ∙ first.fits.left)
+
+-- The invocation.
+module _ (v : View) (number : ℕ) (r : Runner) (first : IsFirst v number r) (call : Call) (w : View) (n : ℕ) (made : w ≡ invoking call v n) where
+  abbrev o : Process
+  o = first.process
+
+  invoked-view : w ≡ view v.setup ((number, after_move number (Invokes call) n o) ∷ others_of v)
+  invoked-view = made ∙ ap (λ xs. view v.setup (moved_first (Invokes call) n xs)) first.is
+
+  pub invoke-beside : IsBeside v w
+  invoke-beside = beside-now v w number r r first (after_move number (Invokes call) n o) invoked-view
+
+  pub invoke-first : (new : Runner) (later : Open) → new.left + 1 ≡ r.left → new.log.items ≡ r.log.items ++ (n, Invoke number call) ∷ []
+      → new.doing ≡ Going later → ((rest : List ℕ) → rest_of later.task rest ≡ act v.setup.shape v.setup.variant call rest) → IsFirst w number new
+  invoke-first new later left log is goes = first-now v w number r new first (after_move number (Invokes call) n o) invoked-view (record {
+    number = refl;
+    doing = subst (λ d. FitsDoing v.setup d (Some call) []) (sym is) (call, refl, goes);
+    left =
+        let more = ap (λ l. length l) (filter_map-append (λ (e : Stamped). invoked e.1) o.log ((n, Invoke number call) ∷ [])) in
+        let long = length-append (begun o) (call ∷ []) in
+        let old = first.fits.left in
+        omega arith;
+    log = ap (λ l. l ++ (n, Invoke number call) ∷ []) first.fits.log ∙ sym log;
+  })
+
+-- Steps one after another.
+
+pub ran-more : (n found : ℕ) (v w : View) → Ran n v w → IsTrue (is_open w) → Ran (suc n) v (advanced w found)
+ran-more zero found v w r at = (subst (λ z. IsTrue (is_open z)) r at, (found, ap (λ z. advanced z found) r))
+ran-more (suc n) found v w r at = (r.0, (r.1.0, ran-more n found (advanced v r.1.0) w r.1.1 at))
+
+pub ran-step : (n m found : ℕ) (v w u : View) → m ≡ suc n → u ≡ advanced w found → Ran n v w → IsTrue (is_open w) → Ran m v u
+ran-step n m found v w u e is r at = subst (λ (z : ℕ × View). Ran z.0 v z.1) (λ i. (sym e i, sym is i)) (ran-more n found v w r at)
+
+pub beside-same : (v w : View) → w ≡ v → IsBeside v w
+beside-same v w e = record { setup = ap (λ z. z.setup) e; others = ap others_of e }
+
+pub beside-after : (u v w : View) → IsBeside u v → IsBeside v w → IsBeside u w
+beside-after u v w a b = record { setup = b.setup ∙ a.setup; others = b.others ∙ a.others }
+
+pub first-same : (v w : View) (number : ℕ) (r : Runner) → w ≡ v → IsFirst v number r → IsFirst w number r
+first-same v w number r e f = subst (λ z. IsFirst z number r) (sym e) f
+
+-- what a step told
+pub told-some : (w : View) (o : Option Reply) (reply : Reply) → o ≡ Some reply → MatchOption o (IsTrue (is_open w)) (λ r. HasReplied r w) → HasReplied reply w
+told-some w o reply is told = subst (λ z. MatchOption z (IsTrue (is_open w)) (λ r. HasReplied r w)) is told
+
+pub told-none : (w : View) (o : Option Reply) → o ≡ None → MatchOption o (IsTrue (is_open w)) (λ r. HasReplied r w) → IsTrue (is_open w)
+told-none w o is told = subst (λ z. MatchOption z (IsTrue (is_open w)) (λ r. HasReplied r w)) is told

@@ -1,0 +1,30 @@
+use Rattle.std.proofs.Common.{◌≡◌, [], ap, sym, subst, ◌∙◌}
+use Rattle.std.specs.Prelude.{flat_map}
+use Rattle.std.proofs.lemmas.Result.{IfOk-weaker}
+use Rattle.events.specs.Histories.{AreHistoryEvents}
+use Rattle.events.specs.HistoryView.{HistoryView, with_no_start}
+use Rattle.logs.specs.Logs.{events_by_stamp}
+use Rattle.running.specs.Fitting.{Run}
+use Rattle.running.specs.Passes.{shows}
+use Rattle.running.proofs.CloseLemmas.{logged-history}
+use Rattle.running.proofs.arena.Arena.history.Goals as goal
+
+pub history_by_stamp-requires-clause-events : goal.history_by_stamp-requires-clause-events
+history_by_stamp-requires-clause-events c =
+    let e = c.look.ensures.all c.requires.all in
+    let same = ap events_by_stamp (c.in_ok-stamped.ensures ∙ ap (flat_map (λ (r : Run). r.1.log.items)) c.deref.ensures.value)
+    ∙ sym (logged-history c.args.pass.now.setup e.words (shows c.args.pass.now) c.args.pass.now.runners.items c.requires.own.pass.fit) in
+    subst AreHistoryEvents (sym same) e.history
+
+pub returns-clause-history : goal.returns-clause-history
+returns-clause-history c =
+    let e = c.look.ensures.all c.requires.all in
+    let same = ap events_by_stamp (c.in_ok-stamped.ensures ∙ ap (flat_map (λ (r : Run). r.1.log.items)) c.deref.ensures.value)
+    ∙ sym (logged-history c.args.pass.now.setup e.words (shows c.args.pass.now) c.args.pass.now.runners.items c.requires.own.pass.fit) in
+    IfOk-weaker c.history_by_stamp.result _ _ (λ (found : HistoryView) is. record {
+      words = e.words;
+      schedule = e.schedule;
+      within = e.within;
+      gives = e.gives;
+      is = is ∙ (ap (λ start. record { start = start; events = events_by_stamp c.in_ok-stamped.stamped.items }) c.new.ensures.items ∙ ap with_no_start same);
+    }) c.history_by_stamp.ensures

@@ -1,0 +1,38 @@
+-- What an arena that ends gives: the history of a state of the core, or all back.
+use Rattle.std.specs.Prelude.{◌≡◌, ◌≢◌, ℕ, List, map, length, All}
+use Rattle.events.specs.HistoryView.{HistoryView, with_no_start}
+use Rattle.events.specs.Events.{events_of}
+use Rattle.art_core.specs.Core.{Plan, State, history_of, opened}
+use Rattle.art_core.specs.Runs.{Gives}
+use Rattle.art_core.specs.Claims.{IsPlan}
+use Rattle.art_shared.specs.declared.view.Setup.{Setup}
+use Rattle.art_shared.specs.declared.view.View.{View}
+use Rattle.art_shared.specs.Ends.{plan_of, state_of}
+use Rattle.running.specs.declared.arena.Arena.{Arena}
+use Rattle.running.specs.declared.pass.Pass.{Pass}
+use Rattle.running.specs.declared.fault.ArenaClose.{ArenaClose}
+use Rattle.running.specs.declared.fault.ArenaClose.TheVariants.{StillOut, Memory}
+use Rattle.running.specs.Passes.{shows, opened_for, IsPassOf}
+
+-- the view has as many processes as there are, and so all of them, since each is in one pass
+abbrev pub HoldsAll : Setup → View → Type 0
+HoldsAll setup v = length v.processes ≡ setup.processes
+
+-- The history of these processes, in a state of the core that some schedule gives for the shape and the variant, with the calls begun as scripts.
+pub record IsHistoryOf (setup : Setup) (v : View) (h : HistoryView) : Type 0 where
+  pub words : List ℕ
+  pub schedule : List ℕ
+  pub within : IsPlan (plan_of setup v)
+  pub gives : Gives (plan_of setup v) (opened (plan_of setup v)) schedule (state_of words v)
+  pub is : h ≡ with_no_start (history_of (state_of words v))
+
+-- the arena came back, and the pass shows what it showed
+pub record ComesBack (a : Arena) (p : Pass) (back : Arena) (given : Pass) : Type 0 where
+  pub arena : back ≡ a
+  pub own : IsPassOf back given
+  pub shown : shows given ≡ shows p
+
+-- all comes back: the pass does not hold all processes, or else memory was wanting
+abbrev pub IsHandedBack : Arena → Pass → ArenaClose → Type 0
+IsHandedBack a p (StillOut back given) = ComesBack a p back given × (length (shows p).processes ≢ (opened_for a).processes)
+IsHandedBack a p (Memory back given) = ComesBack a p back given × HoldsAll (opened_for a) (shows p)

@@ -1,0 +1,5 @@
+pub mod Fitting
+pub mod Passes
+pub mod Steps
+pub mod Progressed
+pub mod Closing

@@ -1,0 +1,60 @@
+//! An arena ends, and what its processes did becomes a history.
+ghost use Rattle.std.specs.Prelude.{◌≡◌, flat_map, IfOk, IfErr, OnOk};
+ghost use Rattle.events.specs.HistoryView.{with_no_start};
+ghost use Rattle.running.specs.Passes.{shows, opened_for, IsPassOf};
+ghost use Rattle.running.specs.Closing.{HoldsAll, IsHistoryOf, IsHandedBack};
+
+use crate::arena::Arena;
+use crate::fault::ArenaClose;
+use crate::pass::Pass;
+use crate::runner::Runner;
+use events::{Event, History, Memory};
+use logs::{append_log, history_by_stamp};
+use std::alloc::Global;
+
+impl Arena {
+    /// The history of all that the processes did: their events by rising stamp. Open calls are pending, and there are no
+    /// starting pairs. Else everything comes back. For n events it takes time n log n.
+    pub fn close(self, alloc: Global, pass: Pass) -> Result<History, ArenaClose>
+        requires own { IsPassOf self pass }
+        ensures history { IfOk result (IsHistoryOf (opened_for self) (shows pass)) }
+        ensures all { OnOk result (HoldsAll (opened_for self) (shows pass)) }
+        ensures refused { IfErr result (IsHandedBack self pass) }
+    {
+        if pass.runners.len() != usize::from(pass.setup.processes) {
+            return Err(ArenaClose::StillOut(self, pass));
+        }
+        let mut pass = pass;
+        match self.history(alloc, &mut pass) {
+            Err(_) => Err(ArenaClose::Memory(self, pass)),
+            Ok(history) => {
+                self.core.close(pass.place);
+                Ok(history)
+            }
+        }
+    }
+
+    /// The history of a pass that has all processes. It looks at the words once.
+    fn history(&self, alloc: Global, pass: &mut Pass) -> Result<History, Memory>
+        requires own { IsPassOf self.now pass.old }
+        requires all { HoldsAll (opened_for self.now) (shows pass.old) }
+        ensures history { IfOk result (IsHistoryOf (opened_for self.now) (shows pass.old)) }
+        ensures own { IsPassOf self.now pass.new }
+        ensures unchanged { shows pass.new ≡ shows pass.old }
+    {
+        self.core.look(&mut pass.place);
+        let stamped = all_events(alloc, &pass.runners)?;
+        history_by_stamp(alloc, Vec::new(alloc), stamped)
+    }
+}
+
+/// The events of all processes with their stamps, process after process.
+fn all_events(alloc: Global, runners: &[(u8, Runner)]) -> Result<Vec<(u64, Event)>, Memory>
+    ensures { IfOk result (λ all. all.items ≡ flat_map (λ r. r.1.log.items) runners.now) }
+{
+    let mut all = Vec::new(alloc);
+    for runner in runners {
+        append_log(alloc, &mut all, &runner.1.log)?;
+    }
+    Ok(all)
+}

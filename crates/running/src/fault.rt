@@ -1,0 +1,12 @@
+//! Why an arena was not closed.
+use crate::arena::Arena;
+use crate::pass::Pass;
+
+/// Why an arena was not closed. The arena and the pass come back as they were handed in.
+#[derive(Drop)]
+pub enum ArenaClose {
+    /// The pass does not hold all processes.
+    StillOut(Arena, Pass),
+    /// Want of memory for the history.
+    Memory(Arena, Pass),
+}

@@ -1,0 +1,26 @@
+//! The trees on shared words: threads run the calls of their processes, and what they log is a history of the core.
+//!
+//! An [`Arena`] has the words of one tree. A [`Pass`] holds some of its processes, and runs the least of them:
+//! [`Arena::begin`] begins a call and [`Arena::advance`] makes steps of it. Passes go to threads of their own:
+//! [`Arena::split`] gives the greatest process of a pass to a pass of its own, and [`Arena::join`] takes a pass in again. Each
+//! step is one atomic step on one word, and none waits for another thread. Whoever has all processes can close the arena, open
+//! calls or not, and gets the history of what they did.
+#![tactic(auto)]
+
+mod arena;
+mod calling;
+mod closing;
+mod fault;
+mod gathering;
+mod opening;
+mod parting;
+mod pass;
+mod progress;
+mod runner;
+mod runs;
+mod steps;
+
+pub use arena::Arena;
+pub use fault::ArenaClose;
+pub use pass::Pass;
+pub use progress::Progress;

@@ -1,0 +1,27 @@
+//! What a pass tells of its least process.
+ghost use Rattle.std.specs.Prelude.{◌≡◌, not};
+ghost use Rattle.art_shared.specs.Views.{is_idle, calls_left};
+ghost use Rattle.running.specs.Steps.{is_open};
+ghost use Rattle.running.specs.Passes.{shows, IsPass};
+
+use crate::pass::Pass;
+use crate::runner::Doing;
+
+impl Pass {
+    /// Whether the least process has no open call.
+    pub fn idle(&self) -> bool
+        requires pass { IsPass self.now }
+        ensures idle { result ≡ is_idle (shows self.now) }
+        ensures open { not result ≡ is_open (shows self.now) }
+    {
+        matches!(self.runners[0].1.doing, Doing::Idle)
+    }
+
+    /// How many calls the least process may still begin.
+    pub fn left(&self) -> u32
+        requires pass { IsPass self.now }
+        ensures { result ≡ calls_left (shows self.now) }
+    {
+        self.runners[0].1.left
+    }
+}
