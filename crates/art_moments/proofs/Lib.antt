@@ -4,3 +4,4 @@ pub mod WalkLemmas
 pub mod StandsLemmas
 pub mod ScanLemmas
 pub mod ValidLemmas
+pub mod MomentLemmas

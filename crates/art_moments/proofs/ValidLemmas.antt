@@ -27,10 +27,10 @@ use Rattle.art_moments.proofs.AttemptLemmas.{stage, Loads, Entered, no-check}
 use Rattle.art_moments.proofs.StandsLemmas.{Releasing}
 use Rattle.art_moments.proofs.ScanLemmas.{all-fold, all-append, attempted, answered}
 
-free-unlocked : (v : ℕ) → v % 4 ≡ 0 → is_locked v ≡ false
+pub free-unlocked : (v : ℕ) → v % 4 ≡ 0 → is_locked v ≡ false
 free-unlocked v e = ne_eqb ((v / 2) % 2) 1 (λ f. omega (arith, e, f))
 
-some-words : (kind : Kind) → 0 < row_words kind
+pub some-words : (kind : Kind) → 0 < row_words kind
 some-words Four = omega arith
 some-words Sixteen = omega arith
 some-words FortyEight = omega arith

@@ -1,17 +1,15 @@
 -- The stages of an attempt of a scan, and what it has read there.
-use Rattle.std.proofs.Common.{◌≡◌, ℕ, zero, suc, ◌+◌, ◌-◌, ◌/◌, ◌%◌, ◌<◌, ◌≤◌, List, [], ◌∷◌, refl, ap, sym, subst, ◌∙◌, Bool, true, false}
+use Rattle.std.proofs.Common.{◌≡◌, ℕ, zero, suc, ◌+◌, ◌-◌, ◌%◌, ◌<◌, ◌≤◌, List, [], ◌∷◌, refl, sym, subst, Bool, true, false}
 use Rattle.std.proofs.Common.{arith}
 use Rattle.std.specs.Prelude.{◌==◌, if◌then◌else◌, slice_index, filter, Option, Some, None}
 use Rattle.std.proofs.lemmas.Option.{none-some, same_Some}
-use Rattle.art_words.proofs.KeyLemmas.{number_is}
 use Rattle.art_rows.specs.declared.table.Kind.{Kind}
 use Rattle.art_rows.specs.declared.table.Kind.TheVariants.{Four, Sixteen, FortyEight, Full}
 use Rattle.art_rows.specs.declared.table.Shape.{Shape}
 use Rattle.art_rows.specs.Table.{child_at}
 use Rattle.art_rows.specs.Words.{entries_of, place_of}
-use Rattle.art_steps.specs.Steps.{numbers}
-use Rattle.art_steps.specs.Rows.{Setting, Row}
-use Rattle.art_steps.specs.Scan.{can_lie, bytes_of}
+use Rattle.art_steps.specs.Rows.{Setting}
+use Rattle.art_steps.specs.Scan.{bytes_of}
 use Rattle.art_stages.specs.declared.stage.Held.{Held}
 use Rattle.art_stages.specs.declared.stage.Keys.{Keys as KeyWords}
 use Rattle.art_stages.specs.declared.stage.Frame.{Frame}

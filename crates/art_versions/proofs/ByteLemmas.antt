@@ -1,6 +1,6 @@
 -- Index words that a scan loads.
 use Rattle.std.proofs.Common.{◌≡◌, ℕ, zero, suc, ◌+◌, ◌/◌, ◌<◌, ◌≤◌, List, [], ◌∷◌, refl, ap, sym, subst, ◌∙◌, Bool, true, false, arith}
-use Rattle.std.specs.Prelude.{◌==◌, if◌then◌else◌, filter}
+use Rattle.std.specs.Prelude.{if◌then◌else◌, filter}
 use Rattle.art_words.proofs.KeyLemmas.{number_is}
 use Rattle.art_steps.specs.Steps.{numbers}
 use Rattle.art_steps.specs.Rows.{Row}
