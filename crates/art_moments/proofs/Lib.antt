@@ -4,4 +4,6 @@ pub mod WalkLemmas
 pub mod StandsLemmas
 pub mod ScanLemmas
 pub mod ValidLemmas
+pub mod AloneLemmas
+pub mod RowLemmas
 pub mod MomentLemmas

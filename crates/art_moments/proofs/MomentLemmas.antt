@@ -1,5 +1,5 @@
 -- Where an answered scan was validated, its words are those of one moment.
-use Rattle.std.proofs.Common.{◌≡◌, ℕ, zero, suc, ◌+◌, ◌-◌, ◌^◌, ◌<◌, ◌≤◌, List, [], ◌∷◌, ◌++◌, length, take, refl, ap, sym, subst, ◌∙◌, inl, inr, arith}
+use Rattle.std.proofs.Common.{◌≡◌, ℕ, zero, suc, ◌+◌, ◌-◌, ◌^◌, ◌<◌, ◌≤◌, List, [], ◌∷◌, ◌++◌, length, take, refl, ap, sym, subst, ◌∙◌, inl, inr, arith, false}
 use Rattle.std.specs.Prelude.{slice_get, slice_index, Option, Some}
 use Rattle.std.proofs.lemmas.Bool.{cases_lt}
 use Rattle.std.proofs.lemmas.List.{length-append, length-take}
@@ -9,6 +9,7 @@ use Rattle.events.specs.declared.event.Call.TheVariants.{Scan}
 use Rattle.events.specs.declared.event.Reply.{Reply}
 use Rattle.map_object.specs.MapObject.{Contents}
 use Rattle.art_rows.specs.declared.table.Kind.{Kind}
+use Rattle.art_rows.specs.Table.{row_words}
 use Rattle.art_rows.specs.Words.{is_locked}
 use Rattle.art_words.proofs.TableLemmas.{rows_apart}
 use Rattle.art_steps.specs.declared.variant.Variant.TheVariants.{Optimistic}
@@ -22,23 +23,25 @@ use Rattle.art_stages.specs.Calls.{call_turn}
 use Rattle.art_core.specs.declared.process.Process.{Process}
 use Rattle.art_core.specs.Core.{Plan, State, opened_on, begun, known_reply}
 use Rattle.art_core.specs.Runs.{run_on, At}
-use Rattle.art_core.specs.Claims.{IsRun}
-use Rattle.art_core.specs.Moments.{HasGot, Reads, Enters}
+use Rattle.art_core.specs.Claims.{IsRun, ScanHasMoment}
+use Rattle.art_core.specs.Meaning.{row_in}
+use Rattle.art_core.specs.Moments.{HasGot, Reads, Enters, Checks, StandsFrom, HasMoment}
 use Rattle.art_core.proofs.StartLemmas.{run-steps}
 use Rattle.art_versions.specs.Holding.{Knows, optimistic}
 use Rattle.art_versions.specs.Versions.{IsSettled, IsSound}
-use Rattle.art_versions.specs.Steady.{IsSteady}
+use Rattle.art_versions.specs.Steady.{SameRow, IsSteady}
 use Rattle.art_versions.proofs.MoveLemmas.{settled-row}
 use Rattle.art_versions.proofs.StepLemmas.{one-step, next-turn}
 use Rattle.art_versions.proofs.RunLemmas.{StartsSound, start-sound, steady-refl, steady-trans}
 use Rattle.art_versions.proofs.SettledLemmas.{loads-known}
 use Rattle.art_moments.specs.Times.{GotAt}
 use Rattle.art_moments.specs.Attempts.{IsValidated}
-use Rattle.art_moments.specs.OneMoment.{IsOfOneMoment, ScansReadOneMoment}
 use Rattle.art_moments.proofs.TimeLemmas.{at-before, was-got, ordered, take-whole}
 use Rattle.art_moments.proofs.AttemptLemmas.{stage}
-use Rattle.art_moments.proofs.ScanLemmas.{all-fold}
+use Rattle.art_moments.proofs.ScanLemmas.{all-fold, AllStand}
 use Rattle.art_moments.proofs.ValidLemmas.{validated, free-unlocked, some-words}
+use Rattle.art_moments.proofs.AloneLemmas.{answers-alone}
+use Rattle.art_moments.proofs.RowLemmas.{part-same, taken-within}
 
 take-behind : (xs ys : List ℕ) (i : ℕ) → take (length xs + i) (xs ++ ys) ≡ xs ++ take i ys
 take-behind [] ys i = ap (λ k. take k ys) (omega arith)
@@ -102,7 +105,9 @@ module _ (plan : Plan) (start : Contents) (words schedule : List ℕ) (s : State
       rest : (t u : ℕ) → t ≤ u → u ≡ t + (u - t)
       rest t u le = omega (arith, le)
 
-  module _ (p lo hi : ℕ) (q : Process) (own : slice_get s.processes p ≡ Some q) (is-open : q.call ≡ Some (Scan lo hi)) (x : IsValidated plan (Scan lo hi) q.got) where
+  module _ (p lo hi : ℕ) (q : Process) (own : slice_get s.processes p ≡ Some q) (is-open : q.call ≡ Some (Scan lo hi)) (x : IsValidated plan (Scan lo hi) q.got)
+      (stands : AllStand plan.shape run.within.shape.root lo hi x.attempt) (reply : Reply)
+      (answers : act plan.shape plan.variant (Scan lo hi) q.got ≡ Answers reply) where
     abbrev call : Call
     call = Scan lo hi
 
@@ -200,8 +205,72 @@ module _ (plan : Plan) (start : Contents) (words schedule : List ℕ) (s : State
               row.below ∙ value-of i word r
         ]
 
+    -- the row that has the word at which an attempt enters one is that row
+    entered-row : (i base : ℕ) (kind : Kind) (e : Enters plan call x.attempt i base kind) → ((x.reads i base e.reads).base ≡ base) × ((x.reads i base e.reads).kind ≡ kind)
+    entered-row i base kind e =
+        let row = x.reads i base e.reads in
+        rows_apart plan.shape row.base base row.kind kind base row.enters.row e.row row.from row.below (omega arith) (omega (arith, some-words kind))
+
+    has-check : (i base : ℕ) (kind : Kind) → Enters plan call x.attempt i base kind → (j : ℕ) × Checks plan call x.attempt j base
+    has-check i base kind e =
+        let row = x.reads i base e.reads in
+        (row.check, subst (λ b. Checks plan call x.attempt row.check b) (entered-row i base kind e).0 row.checks)
+
+    unlocked : (i base : ℕ) (kind : Kind) → Enters plan call x.attempt i base kind → is_locked (slice_index x.attempt i) ≡ false
+    unlocked i base kind e = elim e.reads.settled [
+      | inl none ↦ absurd (none-some kind (sym none ∙ e.row))
+      | inr free ↦ free
+    ]
+
+    before-checks : (i base : ℕ) (kind : Kind) → Enters plan call x.attempt i base kind → i < x.m
+    before-checks i base kind e = elim (x.parts i base e.reads) [
+      | inl h ↦ h.0
+      | inr h ↦ absurd (e.no_check h.1)
+    ]
+
+    behind-walk : (j base : ℕ) → Checks plan call x.attempt j base → x.m ≤ j
+    behind-walk j base k = elim (x.parts j base k.reads) [
+      | inl h ↦ absurd (h.1 k.check)
+      | inr h ↦ h.0
+    ]
+
+    -- From the row's entry to a check that found the same version it has the words of the entry, and stays unlocked.
+    module _ (i j base : ℕ) (kind : Kind) (e : Enters plan call x.attempt i base kind) (k : Checks plan call x.attempt j base)
+        (same : slice_index x.attempt i ≡ slice_index x.attempt j) where
+      abbrev entry : GotAt plan first schedule (length schedule) p q call (le + i)
+      entry = got-at i e.reads.made
+
+      record Stays (now : State) : Type 0 where
+        same_row : SameRow entry.state.words now.words base kind
+        free : is_locked (slice_index now.words base) ≡ false
+        long : length entry.state.words ≡ length now.words
+
+      stays : (t n : ℕ) (now : State) → t ≤ length schedule → At plan first schedule t now → HasGot (length (begun q)) (le + n) now p → i < n → n ≤ j → Stays now
+      stays t n now l at within more most =
+          let g = got-at j k.reads.made in
+          let order : (n m u w : ℕ) (a b : State) → u ≤ length schedule → w ≤ length schedule → At plan first schedule u a → At plan first schedule w b
+          → HasGot (length (begun q)) n a p → HasGot (length (begun q)) m b p → m < n → w < u = λ n m u w a b. ordered plan first schedule p (length (begun q)) n m u w a b in
+          let e-t = order (le + n) (le + i) t entry.u now entry.state l (omega (arith, entry.before)) at entry.at within (has-got i e.reads.made) (omega (arith, more)) in
+          let t-g = order (suc (le + j)) (le + n) (suc g.u) t g.after now (omega (arith, g.before)) l g.at_after at g.got_it within (omega (arith, most)) in
+          let to-t = steady-at entry.u t (omega (arith, e-t)) l entry.state now entry.at at in
+          let to-g = steady-at t g.u (omega (arith, t-g)) (omega (arith, g.before)) now g.state at g.at in
+          let settled = entry-settled i base kind e in
+          let at-entry = value-of i base e.reads in
+          let at-check = value-of j base k.reads in
+          let version : slice_index now.words base ≡ slice_index x.attempt i =
+          omega (arith, to-t.rises base kind settled, to-g.rises base kind (to-t.settled base kind settled), at-entry, at-check, same) in
+          record {
+            same_row = to-t.stands base kind settled (version ∙ sym at-entry) (ap is_locked at-entry ∙ unlocked i base kind e);
+            free = ap is_locked version ∙ unlocked i base kind e;
+            long = (sound-time entry.u (omega (arith, entry.before)) entry.state entry.at).long ∙ sym (sound-time t l now at).long;
+          }
+
+      row-stays : (a b : State) → Stays a → Stays b → row_in b.words base kind ≡ row_in a.words base kind
+      row-stays a b ha hb = part-same base (row_words kind) b.words a.words (sym hb.long ∙ ha.long)
+          (λ word low high. hb.same_row word low high ∙ sym (ha.same_row word low high))
+
     -- behind the walk, before the checks
-    one-moment : IsOfOneMoment plan first schedule p (length (begun q)) call q.got
+    one-moment : HasMoment plan first schedule p (length (begun q)) call q.got reply
     one-moment = elim (cases_lt x.m (length x.attempt)) [
       | inl less ↦
           let g = got-at x.m less in
@@ -211,7 +280,7 @@ module _ (plan : Plan) (start : Contents) (words schedule : List ℕ) (s : State
     ]
       where
         moment : (t : ℕ) (now : State) → t ≤ length schedule → At plan first schedule t now → HasGot (length (begun q)) (le + x.m) now p
-            → IsOfOneMoment plan first schedule p (length (begun q)) call q.got
+            → HasMoment plan first schedule p (length (begun q)) call q.got reply
         moment t now l at within = record {
           earlier = x.earlier;
           attempt = x.attempt;
@@ -222,10 +291,33 @@ module _ (plan : Plan) (start : Contents) (words schedule : List ℕ) (s : State
           at = at;
           n = x.m;
           within = within;
-          holds = present t now l at within;
+          holds = holds;
+          still = still;
+          answers = answers-alone plan lo hi v run.within.shape.root x.attempt now.words stands holds reply
+              (sym (x.begins x.attempt) ∙ (ap (act plan.shape plan.variant call) (sym x.all) ∙ answers));
         }
+          where
+            holds : (i word : ℕ) → Reads plan call x.attempt i word → slice_index now.words word ≡ slice_index x.attempt i
+            holds = present t now l at within
 
-pub scans-read-one-moment : ScansReadOneMoment
-scans-read-one-moment plan start words schedule s p low high q reply run v own is known =
+            still : (i j base : ℕ) (kind : Kind) → Enters plan call x.attempt i base kind → Checks plan call x.attempt j base
+                → (i < x.m) × (x.m ≤ j) × StandsFrom plan first schedule p (length (begun q)) le i j base kind (row_in now.words base kind)
+            still i j base kind e k =
+                let same : slice_index x.attempt i ≡ slice_index x.attempt j = sym (holds i base e.reads) ∙ holds j base k.reads in
+                let early = before-checks i base kind e in
+                let late = behind-walk j base k in
+                let at-now = stays i j base kind e k same t x.m now l at within early late in (
+                  early,
+                  late,
+                  λ u n a at-u here more most.
+                      let bound = taken-within u schedule in
+                      let at-bound : At plan first schedule bound.length' a = ap (run_on plan (Some first)) (sym bound.same) ∙ at-u in
+                      let later = stays i j base kind e k same bound.length' n a bound.most at-bound here more most in
+                      (row-stays i j base kind e k same now a at-now later, later.free),
+                )
+
+pub scan-has-moment : ScanHasMoment
+scan-has-moment plan start words schedule s p low high q reply run v own is known unrefused =
     let answers = answers-of (act plan.shape plan.variant (Scan low high) q.got) reply (sym (ap (known_reply plan q.got) is) ∙ known) in
-    one-moment plan start words schedule s run v p low high q own is (validated plan low high v run.within.shape.root q.got reply answers)
+    let valid = validated plan low high v run.within.shape.root q.got reply answers in
+    one-moment plan start words schedule s run v p low high q own is valid.is valid.stands reply answers

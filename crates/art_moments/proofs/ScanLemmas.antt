@@ -1,8 +1,9 @@
 -- The attempt of a scan that answers: all rows that it read were checked at its end.
-use Rattle.std.proofs.Common.{◌≡◌, ℕ, ◌+◌, ◌*◌, ◌/◌, ◌%◌, ◌<◌, ◌≤◌, List, [], ◌∷◌, ◌++◌, refl, ap, sym, subst, ◌∙◌, Bool, true, false}
+use Rattle.std.proofs.Common.{◌≡◌, ℕ, zero, suc, ◌+◌, ◌*◌, ◌/◌, ◌%◌, ◌<◌, ◌≤◌, List, [], ◌∷◌, ◌++◌, length, take, refl, ap, sym, subst, ◌∙◌, Bool, true, false}
 use Rattle.std.proofs.Common.{inl, inr, arith, append_assoc}
 use Rattle.std.specs.Prelude.{◌⊎◌, ◌==◌, if◌then◌else◌, Option, Some, None}
 use Rattle.std.proofs.lemmas.List.{length-append, append-nil}
+use Rattle.std.proofs.lemmas.Bool.{cases_lt}
 use Rattle.art_words.proofs.KeyLemmas.{number_is}
 use Rattle.events.specs.declared.event.Reply.{Reply}
 use Rattle.art_rows.specs.declared.table.Kind.{Kind}
@@ -31,7 +32,7 @@ use Rattle.art_stages.specs.Scans.{child_after, scan_start, scan_after, step_aft
 use Rattle.art_stages.specs.Calls.{CallAt, OnScan, after_all, call_begun, call_behind}
 use Rattle.art_versions.specs.Holding.{OfRows, Each, FitsFrame}
 use Rattle.art_versions.proofs.KeyLemmas.{slot-behind}
-use Rattle.art_moments.proofs.TimeLemmas.{index-more}
+use Rattle.art_moments.proofs.TimeLemmas.{take-more, take-whole, index-more}
 use Rattle.art_moments.proofs.AttemptLemmas.{stage, fold, fold-more, Loads, IsSettledWord, loads-more, loads-cases, entered-more, covers-more, Walking, InRows}
 use Rattle.art_moments.proofs.StandsLemmas.{Releasing, Stands, StandsAt, Next, waits-root, waits-below, visits, checks, reads-on, resumes, released}
 
@@ -168,32 +169,54 @@ module _ (s : Shape) (some : 1 ≤ s.rows256) (lo hi : ℕ) where
   all-append x [] vs = refl
   all-append x (w ∷ ws) vs = all-append (Rattle.art_stages.specs.Calls.call_after c x w) ws vs
 
+  -- so it is behind each of its words
+  abbrev pub AllStand : List ℕ → Type 0
+  AllStand attempt = (i : ℕ) → i ≤ length attempt → StandsAt s some lo hi (take i attempt) (stage s lo hi (take i attempt))
+
+  pub at-end : (attempt : List ℕ) → AllStand attempt → StandsAt s some lo hi attempt (stage s lo hi attempt)
+  at-end attempt h = subst (λ l. StandsAt s some lo hi l (stage s lo hi l)) (take-whole attempt) (h (length attempt) (omega arith))
+
+  one-more : (attempt : List ℕ) (w : ℕ) → AllStand attempt → StandsAt s some lo hi (attempt ++ w ∷ []) (stage s lo hi (attempt ++ w ∷ []))
+      → AllStand (attempt ++ w ∷ [])
+  one-more attempt w h now i most = elim (cases_lt (length attempt) i) [
+    | inl last ↦
+        let all : i ≡ length (attempt ++ w ∷ []) = omega (arith, last, most, length-append attempt (w ∷ [])) in
+        subst (λ l. StandsAt s some lo hi l (stage s lo hi l)) (sym (ap (λ k. take k (attempt ++ w ∷ [])) all ∙ take-whole (attempt ++ w ∷ []))) now
+    | inr old ↦ subst (λ l. StandsAt s some lo hi l (stage s lo hi l)) (sym (take-more i attempt w old)) (h i old)
+  ]
+
+  none-yet : AllStand []
+  none-yet i most =
+      subst (λ l. StandsAt s some lo hi l (stage s lo hi l)) (sym (take-nothing i))
+      (record { entered = λ n a. absurd a; covers = λ i word mark l settled. absurd (omega (arith, l.made)) }, refl, refl)
+    where
+      take-nothing : (n : ℕ) → ◌≡◌ {A = List ℕ} (take n []) []
+      take-nothing zero = refl
+      take-nothing (suc n) = refl
+
   pub record Attempted (got : List ℕ) : Type 0 where
     pub earlier : List ℕ
     pub attempt : List ℕ
     pub all : got ≡ earlier ++ attempt
     pub begins : call_behind c earlier ≡ OnScan lo hi (scan_start c)
-    pub stands : StandsAt s some lo hi attempt (stage s lo hi attempt)
+    pub stands : AllStand attempt
 
-  attempts : (earlier attempt rest : List ℕ) → call_behind c earlier ≡ OnScan lo hi (scan_start c) → StandsAt s some lo hi attempt (stage s lo hi attempt)
+  attempts : (earlier attempt rest : List ℕ) → call_behind c earlier ≡ OnScan lo hi (scan_start c) → AllStand attempt
       → Attempted (earlier ++ (attempt ++ rest))
   attempts earlier attempt [] begins stands =
       record { earlier = earlier; attempt = attempt; all = ap (λ l. earlier ++ l) (append-nil attempt); begins = begins; stands = stands }
-  attempts earlier attempt (w ∷ rest) begins stands = elim (goes attempt (stage s lo hi attempt).step (stage s lo hi attempt).walk w refl stands) [
+  attempts earlier attempt (w ∷ rest) begins stands = elim (goes attempt (stage s lo hi attempt).step (stage s lo hi attempt).walk w refl (at-end attempt stands)) [
     | inl on ↦ subst Attempted (ap (λ l. earlier ++ l) (append_assoc attempt (w ∷ []) rest))
-        (attempts earlier (attempt ++ w ∷ []) rest begins (subst (StandsAt s some lo hi (attempt ++ w ∷ [])) (sym (fold-more s lo hi (scan_start c) attempt w)) on))
+        (attempts earlier (attempt ++ w ∷ []) rest begins
+        (one-more attempt w stands (subst (StandsAt s some lo hi (attempt ++ w ∷ [])) (sym (fold-more s lo hi (scan_start c) attempt w)) on)))
     | inr again ↦ subst Attempted (append_assoc earlier (attempt ++ w ∷ []) rest ∙ ap (λ l. earlier ++ l) (append_assoc attempt (w ∷ []) rest))
         (attempts (earlier ++ (attempt ++ w ∷ [])) [] rest
         (all-append (call_begun c) earlier (attempt ++ w ∷ []) ∙ (ap (λ x. after_all c x (attempt ++ w ∷ [])) begins
-        ∙ (all-fold (scan_start c) (attempt ++ w ∷ []) ∙ ap (OnScan lo hi) (fold-more s lo hi (scan_start c) attempt w ∙ again)))) at-first)
+        ∙ (all-fold (scan_start c) (attempt ++ w ∷ []) ∙ ap (OnScan lo hi) (fold-more s lo hi (scan_start c) attempt w ∙ again)))) none-yet)
   ]
-    where
-      at-first : StandsAt s some lo hi [] (scan_start c)
-      at-first = (record { entered = λ n a. absurd a; covers = λ i word mark l settled. absurd (omega (arith, l.made)) }, refl, refl)
 
   pub attempted : (got : List ℕ) → Attempted got
-  attempted got = attempts [] [] got refl
-      (record { entered = λ n a. absurd a; covers = λ i word mark l settled. absurd (omega (arith, l.made)) }, refl, refl)
+  attempted got = attempts [] [] got refl none-yet
 
   -- one that answers has checked all its rows
   asks-no-reply : {a : Access} {m : Option Point} {r : Reply} → Asks a m ≡ Answers r → ⊥

@@ -55,6 +55,11 @@ pub take-whole : (xs : List ℕ) → take (length xs) xs ≡ xs
 take-whole [] = refl
 take-whole (x ∷ xs) = ap (λ zs. x ∷ zs) (take-whole xs)
 
+pub take-one-more : (i : ℕ) (xs : List ℕ) → i < length xs → take (suc i) xs ≡ take i xs ++ slice_index xs i ∷ []
+take-one-more i [] h = absurd (omega (arith, h))
+take-one-more zero (x ∷ xs) h = refl
+take-one-more (suc i) (x ∷ xs) h = ap (λ zs. x ∷ zs) (take-one-more i xs (omega (arith, h)))
+
 pub index-more : (i : ℕ) (xs : List ℕ) (w : ℕ) → i < length xs → slice_index (xs ++ w ∷ []) i ≡ slice_index xs i
 index-more i [] w h = absurd (omega (arith, h))
 index-more zero (x ∷ xs) w h = refl

@@ -25,7 +25,7 @@ use Rattle.art_core.specs.Moments.{BeginsAttempt, Reads, Enters}
 use Rattle.art_moments.specs.Attempts.{IsOfCheckedRow, IsValidated, AnsweredScansAreValidated}
 use Rattle.art_moments.proofs.AttemptLemmas.{stage, Loads, Entered, no-check}
 use Rattle.art_moments.proofs.StandsLemmas.{Releasing}
-use Rattle.art_moments.proofs.ScanLemmas.{all-fold, all-append, attempted, answered}
+use Rattle.art_moments.proofs.ScanLemmas.{all-fold, all-append, AllStand, at-end, attempted, answered}
 
 pub free-unlocked : (v : ℕ) → v % 4 ≡ 0 → is_locked v ≡ false
 free-unlocked v e = ne_eqb ((v / 2) % 2) 1 (λ f. omega (arith, e, f))
@@ -47,7 +47,7 @@ module _ (plan : Plan) (lo hi : ℕ) (v : plan.variant ≡ Optimistic) (some : 1
   turn-behind got = ap (λ x. act plan.shape x call got) v
       ∙ (ap (act plan.shape Optimistic call) (sym (append-nil got)) ∙ (sym (behind c got []) ∙ call_next c (call_behind c got)))
 
-  turn-is : (attempt : List ℕ) → act plan.shape plan.variant call attempt ≡ scan_turn c (stage plan.shape lo hi attempt)
+  pub turn-is : (attempt : List ℕ) → act plan.shape plan.variant call attempt ≡ scan_turn c (stage plan.shape lo hi attempt)
   turn-is attempt = turn-behind attempt ∙ ap (call_turn c) (all-fold plan.shape some lo hi (scan_start c) attempt)
 
   -- what follows the words of earlier attempts is what follows none
@@ -63,7 +63,7 @@ module _ (plan : Plan) (lo hi : ℕ) (v : plan.variant ≡ Optimistic) (some : 1
     to-load : (i word : ℕ) (r : Reads plan call attempt i word) → L i word r.mark
     to-load i word r = record { made = r.made; turn = sym (turn-is (take i attempt)) ∙ r.load }
 
-    abbrev from-load : (i word : ℕ) (mark : Option Point) → L i word mark
+    abbrev pub from-load : (i word : ℕ) (mark : Option Point) → L i word mark
         → (kind_at plan.shape word ≡ None) ⊎ (is_locked (slice_index attempt i) ≡ false) → Reads plan call attempt i word
     from-load i word mark l settled = record { made = l.made; mark = mark; load = turn-is (take i attempt) ∙ l.turn; settled = settled }
 
@@ -115,23 +115,31 @@ module _ (plan : Plan) (lo hi : ℕ) (v : plan.variant ≡ Optimistic) (some : 1
         | inr x ↦ inr (x.0, x.1)
       ]
 
-  pub validated : (got : List ℕ) (reply : Reply) → act plan.shape plan.variant call got ≡ Answers reply → IsValidated plan call got
+  -- with what is so of the attempt behind each of its words
+  pub record Validation (got : List ℕ) : Type 0 where
+    pub is : IsValidated plan call got
+    pub stands : AllStand plan.shape some lo hi is.attempt
+
+  pub validated : (got : List ℕ) (reply : Reply) → act plan.shape plan.variant call got ≡ Answers reply → Validation got
   validated got reply answers =
       let x = attempted plan.shape some lo hi got in
       let turn : scan_turn c (stage plan.shape lo hi x.attempt) ≡ Answers reply =
       sym (turn-is x.attempt) ∙ (sym (begins-anew x.earlier x.begins x.attempt)
       ∙ (ap (act plan.shape plan.variant call) (sym x.all) ∙ answers)) in
-      let h = answered plan.shape some lo hi x.attempt reply turn x.stands in
+      let h = answered plan.shape some lo hi x.attempt reply turn (at-end plan.shape some lo hi x.attempt x.stands) in
       record {
-        earlier = x.earlier;
-        attempt = x.attempt;
-        all = x.all;
-        begins = begins-anew x.earlier x.begins;
-        m = h.m;
-        most = h.most;
-        reads = its-row x.attempt h;
-        parts = its-part x.attempt h;
+        is = record {
+          earlier = x.earlier;
+          attempt = x.attempt;
+          all = x.all;
+          begins = begins-anew x.earlier x.begins;
+          m = h.m;
+          most = h.most;
+          reads = its-row x.attempt h;
+          parts = its-part x.attempt h;
+        };
+        stands = x.stands;
       }
 
 pub answered-validated : AnsweredScansAreValidated
-answered-validated plan low high got reply v some answers = validated plan low high v some got reply answers
+answered-validated plan low high got reply v some answers = (validated plan low high v some got reply answers).is

@@ -1,6 +1,6 @@
 // Laws of moments: each function only carries its clause.
+ghost use Rattle.art_core.specs.Claims.{ScanHasMoment};
 ghost use Rattle.art_moments.specs.Attempts.{AnsweredScansAreValidated};
-ghost use Rattle.art_moments.specs.OneMoment.{ScansReadOneMoment};
 ghost use Rattle.art_moments.specs.Times.{WordsWereGot};
 
 /// Each word that an open call has got is what its access found at some moment of the schedule.
@@ -14,7 +14,9 @@ pub fn answered_scans_are_validated()
     ensures { AnsweredScansAreValidated }
 {}
 
-/// At some moment of the call each word that the answering attempt of a scan read is the present one.
-pub fn scans_read_one_moment()
-    ensures { ScansReadOneMoment }
+/// An answered scan has a moment within the call at which each row that its answering attempt read stands still, from the end
+/// of the wait for it to its check, and has the words that were read; its reply is that of the scan run alone on the words of
+/// that moment.
+pub fn scans_have_one_moment()
+    ensures { ScanHasMoment }
 {}
