@@ -61,6 +61,16 @@ pub record Checks (plan : Plan) (call : Call) (attempt : List ℕ) (j base : ℕ
   pub reads : Reads plan call attempt j base
   pub check : reads.mark ≡ Some point.Check
 
+-- The word that the i-th access read is of a row that the attempt had entered by then.
+pub record IsOfEnteredRow (plan : Plan) (call : Call) (attempt : List ℕ) (i word : ℕ) : Type 0 where
+  pub base : ℕ
+  pub kind : Kind
+  pub entry : ℕ
+  pub enters : Enters plan call attempt entry base kind
+  pub by_then : entry ≤ i
+  pub from : base ≤ word
+  pub below : word < base + row_words kind
+
 -- The row is unlocked and has these words at each moment from the one where the call had got more than i words of its
 -- attempt to the one where it has got j.
 abbrev pub StandsFrom : Plan → State → List ℕ → ℕ → ℕ → ℕ → ℕ → ℕ → ℕ → Kind → List ℕ → Type 0
@@ -70,6 +80,7 @@ StandsFrom plan first schedule p calls earlier i j base kind row =
 
 -- A scan: a moment within the call at which each row that the answering attempt read stands still, from the load that
 -- ended its WAIT to its CHECK at the end, and has the words that were read; the reply is that of the call run alone then.
+-- Each word read is of a row that was entered, and each row entered has its CHECK.
 pub record HasMoment (plan : Plan) (first : State) (schedule : List ℕ) (p calls : ℕ) (call : Call) (got : List ℕ) (r : Reply) : Type 0 where
   pub earlier : List ℕ
   pub attempt : List ℕ
@@ -81,6 +92,8 @@ pub record HasMoment (plan : Plan) (first : State) (schedule : List ℕ) (p call
   pub n : ℕ
   pub within : HasGot calls (length earlier + n) now p
   pub holds : (i word : ℕ) → Reads plan call attempt i word → slice_index now.words word ≡ slice_index attempt i
+  pub entered : (i word : ℕ) → Reads plan call attempt i word → IsOfEnteredRow plan call attempt i word
+  pub checked : (i base : ℕ) (kind : Kind) → Enters plan call attempt i base kind → (j : ℕ) × Checks plan call attempt j base
   pub still : (i j base : ℕ) (kind : Kind) → Enters plan call attempt i base kind → Checks plan call attempt j base
       → (i < n) × (n ≤ j) × StandsFrom plan first schedule p calls (length earlier) i j base kind (row_in now.words base kind)
   pub answers : AnswersAlone plan call now.words r

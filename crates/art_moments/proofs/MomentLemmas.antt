@@ -25,7 +25,7 @@ use Rattle.art_core.specs.Core.{Plan, State, opened_on, begun, known_reply}
 use Rattle.art_core.specs.Runs.{run_on, At}
 use Rattle.art_core.specs.Claims.{IsRun, ScanHasMoment}
 use Rattle.art_core.specs.Meaning.{row_in}
-use Rattle.art_core.specs.Moments.{HasGot, Reads, Enters, Checks, StandsFrom, HasMoment}
+use Rattle.art_core.specs.Moments.{HasGot, Reads, Enters, Checks, IsOfEnteredRow, StandsFrom, HasMoment}
 use Rattle.art_core.proofs.StartLemmas.{run-steps}
 use Rattle.art_versions.specs.Holding.{Knows, optimistic}
 use Rattle.art_versions.specs.Versions.{IsSettled, IsSound}
@@ -216,6 +216,11 @@ module _ (plan : Plan) (start : Contents) (words schedule : List ℕ) (s : State
         let row = x.reads i base e.reads in
         (row.check, subst (λ b. Checks plan call x.attempt row.check b) (entered-row i base kind e).0 row.checks)
 
+    has-entry : (i word : ℕ) → Reads plan call x.attempt i word → IsOfEnteredRow plan call x.attempt i word
+    has-entry i word r =
+        let row = x.reads i word r in
+        record { base = row.base; kind = row.kind; entry = row.entry; enters = row.enters; by_then = row.by_then; from = row.from; below = row.below }
+
     unlocked : (i base : ℕ) (kind : Kind) → Enters plan call x.attempt i base kind → is_locked (slice_index x.attempt i) ≡ false
     unlocked i base kind e = elim e.reads.settled [
       | inl none ↦ absurd (none-some kind (sym none ∙ e.row))
@@ -292,6 +297,8 @@ module _ (plan : Plan) (start : Contents) (words schedule : List ℕ) (s : State
           n = x.m;
           within = within;
           holds = holds;
+          entered = has-entry;
+          checked = has-check;
           still = still;
           answers = answers-alone plan lo hi v run.within.shape.root x.attempt now.words stands holds reply
               (sym (x.begins x.attempt) ∙ (ap (act plan.shape plan.variant call) (sym x.all) ∙ answers));
