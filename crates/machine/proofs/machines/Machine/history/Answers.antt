@@ -6,6 +6,7 @@ use Rattle.events.specs.Starts.{IsStart}
 use Rattle.logs.specs.Logs.{events_by_stamp}
 use Rattle.machine.specs.Machines.{start_of}
 use Rattle.machine.proofs.RecordLemmas.{reached, shown-history, recorded-history, recorded-start, does-the-map}
+use Rattle.machine.proofs.ScanMomentLemmas.{scans-have-moments}
 use Rattle.machine.proofs.machines.Machine.history.Goals as goal
 
 pub returns-in_err-stamped-clause-reached : goal.returns-in_err-stamped-clause-reached
@@ -41,3 +42,12 @@ returns-clause-serial c =
     ∙ ap (λ events. record { start = start_of c.args.self.now; events = events })
     (ap events_by_stamp (c.in_ok-stamped.ensures ∙ ap (flat_map (λ r. r.log.items)) c.deref.ensures.value)
     ∙ sym (shown-history plan c.args.self.now s shows)))) c.history_by_stamp.ensures
+
+pub returns-clause-moments : goal.returns-clause-moments
+returns-clause-moments c = scans-have-moments c.scans_have_one_moment.ensures c.args.self.now
+
+pub returns-in_err-stamped-clause-moments : goal.returns-in_err-stamped-clause-moments
+returns-in_err-stamped-clause-moments c = scans-have-moments c.scans_have_one_moment.ensures c.args.self.now
+
+pub returns-in_err-start-clause-moments : goal.returns-in_err-start-clause-moments
+returns-in_err-start-clause-moments c = scans-have-moments c.scans_have_one_moment.ensures c.args.self.now
