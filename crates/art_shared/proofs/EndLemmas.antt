@@ -1,11 +1,10 @@
 -- The beginning, and the end.
-use Rattle.std.proofs.Common.{◌≡◌, ℕ, zero, suc, ◌+◌, ◌-◌, ◌<◌, ◌≤◌, ◌≢◌, ◌⊎◌, inl, inr, ⊎_elim, List, [], ◌∷◌, length, map, get_or, set, sym, refl, ap, subst, ◌∙◌, arith, replicate}
-use mathlib.Core.Option.{some, some-ne-none}
-use lib.ListN.{get_elem?}
-use Rattle.std.specs.Prelude.{Option, Some, None, All, slice_get}
+use Rattle.std.proofs.Common.{◌≡◌, ℕ, zero, suc, ◌+◌, ◌-◌, ◌<◌, ◌≤◌, ◌⊎◌, inl, inr, ⊎_elim, List, [], ◌∷◌, length, map, get_or, set, sym, refl, ap, subst, ◌∙◌, arith, replicate}
+use mathlib.Core.Option.{some-ne-none}
+use Rattle.std.specs.Prelude.{Some, slice_get}
 use Rattle.std.specs.List.{range_with_len}
 use Rattle.std.proofs.lemmas.Bool.{cases_lt}
-use Rattle.std.proofs.lemmas.List.{length-replicate, set-get_or}
+use Rattle.std.proofs.lemmas.List.{set-get_or}
 use Rattle.std.proofs.lemmas.List.Elements.{All-nil}
 use Rattle.std.proofs.lemmas.Option.{slice_get_within, same_Some}
 use Rattle.list_laws.proofs.Lists.{AllPairs-nil}
@@ -24,12 +23,13 @@ use Rattle.art_core.proofs.StartLemmas.{no-start}
 use Rattle.art_shared.specs.declared.view.Setup.{Setup}
 use Rattle.art_shared.specs.declared.view.Noted.{Noted}
 use Rattle.art_shared.specs.Setups.{IsSetup}
-use Rattle.art_shared.specs.Views.{Numbered, all_idle}
-use Rattle.art_shared.specs.Rule.{Has, times, times_in, Above, Rises, IsReached, Kept, Seated, first_view}
-use Rattle.art_shared.specs.Ends.{plan_of, state_of, Ended, Looks}
+use Rattle.art_shared.specs.Views.{Numbered, numbers_of}
+use Rattle.art_shared.specs.Rule.{Has, times, Above, Rises, IsReached, Kept, Seated, first_view}
+use Rattle.art_shared.specs.Ends.{Ended, Looks}
 use Rattle.art_shared.proofs.NumberedLemmas.{hit, miss}
 use Rattle.art_shared.proofs.ReachedLemmas.{reached-noted, shown-below}
 use Rattle.art_shared.proofs.GivenLemmas.{given-first, given-plan, given-clocked}
+use Rattle.art_shared.proofs.OwnLemmas.{owned, own-events}
 
 -- All processes, before the first step.
 
@@ -121,6 +121,22 @@ collected i (x ∷ xs) (r ∷ ps) h long at =
     (omega arith, ap (λ n. slice_get (r ∷ ps) n) (sym one) ∙ (at p q (inr t)).1)) in
     ap (λ z. z ∷ map (λ (x : Numbered). x.1) xs) first ∙ ap (λ zs. r ∷ zs) rest
 
+numbered : (i n : ℕ) (l : List Numbered) → Rises l → length l ≡ n → ((p : ℕ) (q : Process) → Has (p, q) l → (i ≤ p) × (p < i + n))
+    → numbers_of l ≡ range_with_len i n
+numbered i zero [] h long within = refl
+numbered i zero (x ∷ xs) h long within = absurd (omega arith)
+numbered i (suc n) [] h long within = absurd (omega arith)
+numbered i (suc n) (x ∷ xs) h long within =
+    let here = within x.0 x.1 (inl refl) in
+    let low = here.0 in
+    let high = here.1 in
+    let after : (p : ℕ) (q : Process) → Has (p, q) xs → (x.0 + 1 ≤ p) × (p < i + suc n) =
+    λ p q t. let lt = above-has x.0 xs p q h.0 t in (omega arith, (within p q (inr t)).1) in
+    let few = room xs (x.0 + 1) (i + suc n) (omega arith) h.1 after in
+    let is : x.0 ≡ i = omega arith in
+    let rest = numbered (i + 1) n xs h.1 (omega arith) (λ p q t. let a = after p q t in let from = a.0 in let to = a.1 in (omega arith, omega arith)) in
+    ap (λ z. z ∷ numbers_of xs) is ∙ ap (λ zs. i ∷ zs) rest
+
 module _ (setup : Setup) (limits : IsSetup setup) where
   -- what a schedule gives, where the processes are those of the view
   pub ended : (id : ℕ) (v : Noted) (s : Table Call Noted) → length v.view.processes ≡ setup.processes → Seen (Kept setup) id v s → Ended setup v.view
@@ -131,6 +147,10 @@ module _ (setup : Setup) (limits : IsSetup setup) where
       collected 0 v.view.processes r.processes (r.rising id v seen.1) (omega arith)
       (λ p q t. let same : p ≡ p - 0 = omega arith in
       (omega arith, ap (λ n. slice_get r.processes n) (sym same) ∙ (r.shows id v seen.1 p q t).1)) in
+      let numbers = numbered 0 setup.processes v.view.processes (r.rising id v seen.1) all
+      (λ p q t. let below = shown-below setup s.words s.views r id v seen.1 p q t in (omega arith, omega arith)) in
+      let its = owned (begun_plan setup.shape setup.variant r.processes) (given-plan setup limits s.words r.processes r.given) r.given.schedule
+      (record { words = s.words; processes = r.processes }) r.given.gives in
       let plan = subst (λ l. IsPlan (begun_plan setup.shape setup.variant l)) (sym same) (given-plan setup limits s.words r.processes r.given) in
       let gives = subst (λ l. Gives (begun_plan setup.shape setup.variant l) (opened (begun_plan setup.shape setup.variant l)) r.given.schedule
       (record { words = s.words; processes = l })) (sym same) r.given.gives in
@@ -141,6 +161,7 @@ module _ (setup : Setup) (limits : IsSetup setup) where
         gives = gives;
         history = subst (λ l. AreHistoryEvents (history_of (record { words = s.words; processes = l }))) (sym same)
             (given-clocked setup limits s.words r.processes r.given).history;
+        own = own-events setup s.words v.view r.processes same many numbers (λ p q t. (r.shows id v seen.1 p q t).1) its;
         run = λ few. record {
           within = plan;
           start_within = record { rising = AllPairs-nil (λ (a b : ℕ × ℕ). a.0 < b.0); calls = All-nil _; few = omega (arith, plan.few_calls) };

@@ -3,4 +3,5 @@ pub mod CountLemmas
 pub mod GivenLemmas
 pub mod ReachedLemmas
 pub mod StepLemmas
+pub mod OwnLemmas
 pub mod EndLemmas

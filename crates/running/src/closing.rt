@@ -1,6 +1,7 @@
 //! An arena ends, and what its processes did becomes a history.
 ghost use Rattle.std.specs.Prelude.{◌≡◌, flat_map, IfOk, IfErr, OnOk};
 ghost use Rattle.events.specs.HistoryView.{with_no_start};
+ghost use Rattle.art_shared.specs.Ends.{HasOwnEvents};
 ghost use Rattle.running.specs.Passes.{shows, opened_for, IsPassOf};
 ghost use Rattle.running.specs.Closing.{HoldsAll, IsHistoryOf, IsHandedBack};
 
@@ -18,6 +19,7 @@ impl Arena {
     pub fn close(self, alloc: Global, pass: Pass) -> Result<History, ArenaClose>
         requires own { IsPassOf self pass }
         ensures history { IfOk result (IsHistoryOf (opened_for self) (shows pass)) }
+        ensures own_events { IfOk result (λ h. HasOwnEvents (opened_for self) (shows pass) h.events) }
         ensures all { OnOk result (HoldsAll (opened_for self) (shows pass)) }
         ensures refused { IfErr result (IsHandedBack self pass) }
     {
@@ -39,6 +41,7 @@ impl Arena {
         requires own { IsPassOf self.now pass.old }
         requires all { HoldsAll (opened_for self.now) (shows pass.old) }
         ensures history { IfOk result (IsHistoryOf (opened_for self.now) (shows pass.old)) }
+        ensures own_events { IfOk result (λ h. HasOwnEvents (opened_for self.now) (shows pass.old) h.events) }
         ensures own { IsPassOf self.now pass.new }
         ensures unchanged { shows pass.new ≡ shows pass.old }
     {

@@ -4,8 +4,9 @@ use Rattle.std.proofs.lemmas.Result.{IfOk-weaker}
 use Rattle.events.specs.Histories.{AreHistoryEvents}
 use Rattle.events.specs.HistoryView.{HistoryView, with_no_start}
 use Rattle.logs.specs.Logs.{events_by_stamp}
+use Rattle.art_shared.specs.Ends.{HasOwnEvents}
 use Rattle.running.specs.Fitting.{Run}
-use Rattle.running.specs.Passes.{shows}
+use Rattle.running.specs.Passes.{shows, opened_for}
 use Rattle.running.proofs.CloseLemmas.{logged-history}
 use Rattle.running.proofs.arena.Arena.history.Goals as goal
 
@@ -28,3 +29,12 @@ returns-clause-history c =
       gives = e.gives;
       is = is ∙ (ap (λ start. record { start = start; events = events_by_stamp c.in_ok-stamped.stamped.items }) c.new.ensures.items ∙ ap with_no_start same);
     }) c.history_by_stamp.ensures
+
+pub returns-clause-own_events : goal.returns-clause-own_events
+returns-clause-own_events c =
+    let e = c.look.ensures.all c.requires.all in
+    let same = ap events_by_stamp (c.in_ok-stamped.ensures ∙ ap (flat_map (λ (r : Run). r.1.log.items)) c.deref.ensures.value)
+    ∙ sym (logged-history c.args.pass.now.setup e.words (shows c.args.pass.now) c.args.pass.now.runners.items c.requires.own.pass.fit) in
+    IfOk-weaker c.history_by_stamp.result _ _ (λ (found : HistoryView) is.
+    subst (HasOwnEvents (opened_for c.args.self.now) (shows c.args.pass.now)) (sym (ap (λ (h : HistoryView). h.events) is ∙ same)) e.own)
+    c.history_by_stamp.ensures
