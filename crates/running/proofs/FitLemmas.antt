@@ -14,7 +14,7 @@ use Rattle.running.specs.declared.runner.Runner.{Runner}
 use Rattle.running.specs.declared.runner.Doing.{Doing}
 use Rattle.running.specs.declared.runner.Doing.TheVariants.{Idle, Going, Answered}
 use Rattle.running.specs.Fitting.{Run, FitsDoing, FitsProcess, Fit, others_in, others_of, IsFirst, IsBeside}
-use Rattle.running.specs.Steps.{is_open}
+use Rattle.running.specs.Steps.{first_number, least_process, is_open}
 
 -- The first process.
 
@@ -71,6 +71,9 @@ answered-call setup (Answered r) call got fits other = ap is_some fits.1
 pub left-is : (v : View) (n : ℕ) (r : Runner) → IsFirst v n r → calls_left v ≡ r.left
 left-is v n r first =
     ap (left_of_first v.setup.calls_each) first.is ∙ (let left = first.fits.left in omega arith)
+
+pub least-is : (v : View) (n : ℕ) (r : Runner) → IsFirst v n r → least_process v ≡ n
+least-is v n r first = ap first_number first.is
 
 -- Lists of processes.
 

@@ -8,6 +8,14 @@ use Rattle.art_core.specs.declared.process.Process.{Process}
 use Rattle.art_shared.specs.declared.view.View.{View}
 use Rattle.art_shared.specs.Views.{Numbered, next_of, advanced, invoking, AllStamps}
 
+abbrev pub first_number : List Numbered → ℕ
+first_number [] = 0
+first_number (x ∷ xs) = x.0
+
+-- the number of the first process, which is the least
+abbrev pub least_process : View → ℕ
+least_process v = first_number v.processes
+
 -- the first process has an open call
 abbrev pub is_open : View → Bool
 is_open v = is_some (next_of v)

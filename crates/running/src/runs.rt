@@ -1,13 +1,21 @@
 //! What a pass tells of its least process.
 ghost use Rattle.std.specs.Prelude.{◌≡◌, not};
 ghost use Rattle.art_shared.specs.Views.{is_idle, calls_left};
-ghost use Rattle.running.specs.Steps.{is_open};
+ghost use Rattle.running.specs.Steps.{is_open, least_process};
 ghost use Rattle.running.specs.Passes.{shows, IsPass};
 
 use crate::pass::Pass;
 use crate::runner::Doing;
 
 impl Pass {
+    /// The number of the least process, which begins calls and makes their steps.
+    pub fn process(&self) -> u8
+        requires pass { IsPass self.now }
+        ensures { result ≡ least_process (shows self.now) }
+    {
+        self.runners[0].0
+    }
+
     /// Whether the least process has no open call.
     pub fn idle(&self) -> bool
         requires pass { IsPass self.now }
