@@ -22,7 +22,7 @@ use Rattle.art_alone.proofs.AloneLemmas.{load-comes, load_at-comes, store_at-com
 abbrev pub with_lock : List ℕ → ℕ → List ℕ
 with_lock words base = slice_set words base (locked_word (slice_index words base))
 
-pub lock_again-comes : (base : ℕ) (words : List ℕ) → is_locked (slice_index words base) ≡ false
+unfoldable pub lock_again-comes : (base : ℕ) (words : List ℕ) → is_locked (slice_index words base) ≡ false
     → Comes (lock_again base) words (slice_index words base) (with_lock words base)
 unfolding lock_turn
 lock_again-comes base words e =
@@ -32,10 +32,15 @@ lock_again-comes base words e =
     (if_false-comes (lock_again base) e (bind-comes {f = λ was. if was == v then give v else lock_again base} (exchange-comes base v (locked_word v) words refl)
     (if_true-comes (lock_again base) (eq-eqb v v refl) (give-comes v (with_lock words base))))))
 
-pub lock-comes : (s : Shape) (base : ℕ) (words : List ℕ) → is_locked (slice_index words base) ≡ false
+unfoldable pub lock-comes : (s : Shape) (base : ℕ) (words : List ℕ) → is_locked (slice_index words base) ≡ false
     → Comes (lock s base) words (slice_index words base) (with_lock words base)
 unfolding lock
 lock-comes s base words e = first_at-comes (lock_point s base) (lock_again-comes base words e)
+
+-- a load and an exchange
+pub lock-steps : (s : Shape) (base : ℕ) (words : List ℕ) (e : is_locked (slice_index words base) ≡ false) → (lock-comes s base words e).steps ≡ 2
+unfolding lock-comes lock_again-comes first_at-comes same-comes bind-comes if_true-comes if_false-comes load-comes exchange-comes give-comes
+lock-steps s base words e = refl
 
 pub unlock-comes : (n : Row) (words : List ℕ) → Comes (unlock n) words tt (slice_set words n.base (released_word n.kept))
 unfolding unlock
@@ -58,13 +63,19 @@ unlock_all-comes (n ∷ rows) words =
 
 -- ---- versions
 
-pub wait-comes : (base : ℕ) (words : List ℕ) → is_locked (slice_index words base) ≡ false → is_obsolete (slice_index words base) ≡ false
+unfoldable pub wait-comes : (base : ℕ) (words : List ℕ) → is_locked (slice_index words base) ≡ false → is_obsolete (slice_index words base) ≡ false
     → Comes (wait base) words (slice_index words base) words
 unfolding wait_turn
 wait-comes base words e f =
     same-comes (wait-body base) (bind-comes {f = λ v. if is_locked v then wait base else (if is_obsolete v then start_again else give v)}
     (load-comes base words)
     (if_false-comes (wait base) e (if_false-comes start_again f (give-comes (slice_index words base) words))))
+
+-- a load
+pub wait-steps : (base : ℕ) (words : List ℕ) (e : is_locked (slice_index words base) ≡ false) (f : is_obsolete (slice_index words base) ≡ false)
+    → (wait-comes base words e f).steps ≡ 1
+unfolding wait-comes same-comes bind-comes if_false-comes load-comes give-comes
+wait-steps base words e f = refl
 
 pub check-comes : (n : Row) (words : List ℕ) → slice_index words n.base ≡ n.kept → Comes (check n) words tt words
 unfolding check

@@ -1,5 +1,5 @@
 -- A call that runs alone: no other process makes an access before it is answered.
-use Rattle.std.specs.Prelude.{◌≡◌, ℕ, List, [], ◌∷◌, Option}
+use Rattle.std.specs.Prelude.{◌≡◌, ℕ, ◌+◌, List, [], ◌∷◌, Option}
 use Rattle.events.specs.declared.event.Reply.{Reply}
 use Rattle.art_steps.specs.declared.access.Access.{Access}
 use Rattle.art_steps.specs.declared.access.Point.{Point}
@@ -12,11 +12,21 @@ pub data RunsAlone : Rest → List ℕ → List ℕ → Reply → Type 0 where
   goes : {rest : Rest} {words last : List ℕ} {reply : Reply} → (a : Access) → (p : Option Point) → rest [] ≡ Asks a p
       → RunsAlone (λ got. rest (got_by a words ∷ got)) (words_after a words) last reply → RunsAlone rest words last reply
 
--- A part, run alone on these words, gives a value and leaves these words behind it, whatever comes after it.
+-- how many accesses it makes until it is answered
+abbrev pub accesses : {rest : Rest} {words last : List ℕ} {reply : Reply} → RunsAlone rest words last reply → ℕ
+accesses (ends h) = 0
+accesses (goes a p h k) = 1 + accesses k
+
+-- A part, run alone on these words, gives a value and leaves these words behind it, by so many accesses, whatever comes after it.
 pub record Comes {A : Type 0} (m : Part A) (words : List ℕ) (a : A) (later : List ℕ) : Type 0 where
+  pub steps : ℕ
   pub runs : (again : Rest) (after : A → Rest) (last : List ℕ) (reply : Reply) → RunsAlone (after a) later last reply
       → RunsAlone (m again after) words last reply
+  pub long : (again : Rest) (after : A → Rest) (last : List ℕ) (reply : Reply) (r : RunsAlone (after a) later last reply)
+      → accesses (runs again after last reply r) ≡ steps + accesses r
 
--- A part, run alone on these words, answers the call and leaves these words behind it.
+-- A part, run alone on these words, answers the call and leaves these words behind it, by so many accesses.
 pub record Ends {A : Type 0} (m : Part A) (words : List ℕ) (reply : Reply) (later : List ℕ) : Type 0 where
+  pub steps : ℕ
   pub runs : (again : Rest) (after : A → Rest) → RunsAlone (m again after) words later reply
+  pub long : (again : Rest) (after : A → Rest) → accesses (runs again after) ≡ steps
