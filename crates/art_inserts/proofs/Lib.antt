@@ -6,6 +6,7 @@ pub mod SmallLemmas
 pub mod PairOutcomeLemmas
 pub mod PutOutcomeLemmas
 pub mod GrowOutcomeLemmas
+pub mod ShortLemmas
 pub mod InsertEndLemmas
 pub mod LevelLemmas
 pub mod OptimisticInsertLemmas
