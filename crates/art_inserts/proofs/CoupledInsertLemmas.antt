@@ -1,5 +1,5 @@
 -- An insert under lock coupling, run alone on a table at rest, goes its key's way and does what it does on the map, or is refused.
-use Rattle.std.proofs.Common.{◌≡◌, ◌≢◌, ◌⊎◌, inl, inr, ℕ, zero, suc, ◌+◌, ◌<◌, ◌≤◌, ◌==◌, List, [], ◌∷◌, slice_index, Option, Some, None}
+use Rattle.std.proofs.Common.{◌≡◌, ◌≢◌, ◌⊎◌, inl, inr, ℕ, zero, suc, ◌+◌, ◌*◌, ◌<◌, ◌≤◌, ◌==◌, List, [], ◌∷◌, length, slice_index, Option, Some, None}
 use Rattle.std.proofs.Common.{Bool, true, false, if◌then◌else◌, refl, sym, ap, ◌∙◌, subst, arith, eqb-true, nat_le}
 use Rattle.std.proofs.lemmas.Bool.{eqb-false}
 use Rattle.events.specs.declared.event.Call.TheVariants.{Insert}
@@ -38,7 +38,9 @@ use Rattle.art_inserts.proofs.PutOutcomeLemmas.{put-outcome}
 use Rattle.art_inserts.proofs.GrowOutcomeLemmas.{Grows, grows}
 use Rattle.art_inserts.proofs.PairOutcomeLemmas.{Hangs, hangs-pair}
 use Rattle.art_inserts.proofs.SmallLemmas.{path_byte-small}
-use Rattle.art_inserts.proofs.InsertEndLemmas.{Given, Inserts, after-part, ends-in, first-differs}
+use Rattle.art_inserts.proofs.ShortLemmas.{Short, short-comes, short-more, give-short, bind-short, then-short, load-short, unlock-short, unlock_all-short}
+use Rattle.art_inserts.proofs.ShortLemmas.{find-short, pair_in-short, put-short, grow-short, lock-few}
+use Rattle.art_inserts.proofs.InsertEndLemmas.{Given, Inserts, ended, within, after-part, same-part, ends-in, first-differs}
 use Rattle.art_inserts.proofs.LevelLemmas.{count-most}
 
 not-le : (a b : ℕ) → b < a → nat_le a b ≡ false
@@ -53,8 +55,8 @@ module _ (g : Given) (s : Shape) (variant : Variant) (n : ℕ) (words : List ℕ
   abbrev c : Setting
   c = record { shape = s; variant = variant; call = Insert key value }
 
-  abbrev Does : Part Reply → List ℕ → Type 0
-  Does part now = Inserts g s variant n words rest few bounded m means key value key_small value_small part now
+  abbrev Does : ℕ → Part Reply → List ℕ → Type 0
+  Does k part now = Inserts g s variant n words rest few bounded m means key value key_small value_small k part now
 
   -- the words are those at rest but for versions, and these rows are held
   abbrev Holding : List Row → List ℕ → Type 0
@@ -115,14 +117,26 @@ module _ (g : Given) (s : Shape) (variant : Variant) (n : ℕ) (words : List ℕ
 
   -- ---- a slot with no row in it
 
+  -- there is one row above at most
+  above-one : (rows : List Row) (r : Row) (slot : ℕ) → IsAbove rows r slot → length rows ≤ 1
+  above-one [] r slot h = omega arith
+  above-one (a ∷ []) r slot h = omega arith
+  above-one (a ∷ (b ∷ rows)) r slot h = absurd h
+
+  unlock-few : (rows : List Row) (r : Row) (slot : ℕ) → IsAbove rows r slot → (now : List ℕ) → (unlock_all-comes rows now).steps ≤ 1
+  unlock-few rows r slot h now =
+      let le = short-comes (unlock_all-short rows) (unlock_all-comes rows now) in
+      let one = above-one rows r slot h in
+      omega (arith, le, one)
+
   leaf : (rows : List Row) (r : Row) (above : ℕ) → IsAbove rows r above → (a : IsAt r) (now : List ℕ) → Holding (r ∷ rows) now → (slot : ℕ) (child : Child)
       → slot_of words r.base r.kind (byte_at c r.level) ≡ Some slot → child_on s words r.base r.kind (byte_at c r.level) ≡ child
       → ((b : ℕ) (k : Kind) → child ≡ ChildRow b k → ⊥)
-      → Does (unlock_all rows >> (insert_in c (r ∷ []) slot child >>= λ q. unlock r >> give q)) now
+      → Does 9 (unlock_all rows >> (insert_in c (r ∷ []) slot child >>= λ q. unlock r >> give q)) now
   leaf rows r above h a now near slot child at on no_row =
       after-part g s variant n words rest few bounded m means key value key_small value_small
       {f = λ _. insert_in c (r ∷ []) slot child >>= λ q. unlock r >> give q}
-      (unlock_all-comes rows now)
+      (unlock_all-comes rows now) (unlock-few rows r above h now)
       (ends-in g s variant n words rest few bounded m means key value key_small value_small r (with_unlocked rows now) a.held
       (above-near rows r above h now near)
       (byte_at c r.level) a.leads (byte r) slot at child on no_row)
@@ -134,7 +148,7 @@ module _ (g : Given) (s : Shape) (variant : Variant) (n : ℕ) (words : List ℕ
 
   put-row : (rows : List Row) (r : Row) (above : ℕ) → IsAbove rows r above → (a : IsAt r) (now : List ℕ) → Holding (r ∷ rows) now
       → slot_of words r.base r.kind (byte_at c r.level) ≡ None → count-of r < capacity r.kind
-      → Does (unlock_all rows >> (put c r (keys-of r) (count-of r) >> (unlock r >> give reply.None))) now
+      → Does 42 (unlock_all rows >> (put c r (keys-of r) (count-of r) >> (unlock r >> give reply.None))) now
   unfolding put
   put-row rows r above h a now near none room =
       let (last, comes, outcome) = put-outcome g.puts g.put_written g.read s variant n words rest m means key value key_small value_small r
@@ -142,16 +156,14 @@ module _ (g : Given) (s : Shape) (variant : Variant) (n : ℕ) (words : List ℕ
       (above-near rows r above h now near) (byte_at c r.level) a.leads (byte r) none room (absent-at r a none) in
       after-part g s variant n words rest few bounded m means key value key_small value_small {f = λ _. put c r (keys-of r) (count-of r) >>
       (unlock r >> give reply.None)}
-      (unlock_all-comes rows now) (record {
-        reply = reply.None;
-        later = with_unlocked (r ∷ []) last;
-        comes = inl (then-comes {n = unlock r >> give reply.None} comes (then-comes {n = give reply.None} (unlock-comes r last) (give-comes reply.None _)));
-        outcome = outcome;
-      })
+      (unlock_all-comes rows now) (unlock-few rows r above h now) (ended g s variant n words rest few bounded m means key value key_small value_small 41
+      (then-short (put-short c r (keys-of r) (count-of r) (omega (arith, room))) (then-short (unlock-short r) (give-short reply.None)))
+      reply.None (with_unlocked (r ∷ []) last)
+      (inl (then-comes {n = unlock r >> give reply.None} comes (then-comes {n = give reply.None} (unlock-comes r last) (give-comes reply.None _)))) outcome)
 
   grow-row : (p r : Row) (slot : ℕ) (a : IsAt r) → Has-below p r slot → (now : List ℕ) → Holding (r ∷ p ∷ []) now
       → slot_of words r.base r.kind (byte_at c r.level) ≡ None → count-of r ≡ capacity r.kind
-      → Does (grow c (p ∷ []) slot r (keys-of r) (count-of r) >> give reply.None) now
+      → Does 600 (grow c (p ∷ []) slot r (keys-of r) (count-of r) >> give reply.None) now
   grow-row p r slot a h now near none all = go done.comes
     where
       done : Grows g.trees g.grown g.row_written g.read g.versions g.sized s variant n words rest few bounded m means key value key_small value_small
@@ -160,19 +172,20 @@ module _ (g : Given) (s : Shape) (variant : Variant) (n : ℕ) (words : List ℕ
           a.held h.at-above.held near (byte_at c p.level) slot h.at-above.leads (byte p)
           h.slot-above h.hangs a.leads (byte r) a.level a.path none all (absent-at r a none)
 
+      short_part : Short 600 (grow c (p ∷ []) slot r (keys-of r) (count-of r) >> give reply.None)
+      short_part = then-short (grow-short c p slot r (keys-of r) (count-of r) (omega (arith, all))) (give-short reply.None)
+
       go : (Comes (grow c (p ∷ []) slot r (keys-of r) (count-of r)) now tt done.after
           × Outcome s n words rest m means key value reply.None done.after)
           ⊎ (Ends (grow c (p ∷ []) slot r (keys-of r) (count-of r)) now reply.Refused done.after
           × Outcome s n words rest m means key value reply.Refused done.after)
-          → Does (grow c (p ∷ []) slot r (keys-of r) (count-of r) >> give reply.None) now
-      go (inl (k, o)) = record {
-        reply = reply.None;
-        later = done.after;
-        comes = inl (then-comes {n = give reply.None} k
-            (give-comes reply.None _));
-        outcome = o;
-      }
-      go (inr (k, o)) = record { reply = reply.Refused; later = done.after; comes = inr (ends-then {n = give reply.None} k); outcome = o }
+          → Does 600 (grow c (p ∷ []) slot r (keys-of r) (count-of r) >> give reply.None) now
+      go (inl (k, o)) =
+          ended g s variant n words rest few bounded m means key value key_small value_small 600 short_part reply.None done.after
+          (inl (then-comes {n = give reply.None} k (give-comes reply.None _))) o
+      go (inr (k, o)) =
+          ended g s variant n words rest few bounded m means key value key_small value_small 600 short_part reply.Refused done.after
+          (inr (ends-then {n = give reply.None} k)) o
 
   -- ---- the row below
 
@@ -183,7 +196,7 @@ module _ (g : Given) (s : Shape) (variant : Variant) (n : ℕ) (words : List ℕ
   beside : (r q : Row) (a : IsAt r) → IsHeld s n words rest q → (now : List ℕ) → Holding (q ∷ r ∷ []) now → (slot b : ℕ) (k : Kind) (d : ℕ)
       → slot_of words r.base r.kind (byte_at c r.level) ≡ Some slot → child_on s words r.base r.kind (byte_at c r.level) ≡ ChildRow b k
       → q.path ≡ path_in words b k → q.base ≡ b → q.kind ≡ k → first_difference (path_in words b k) (key_bytes key) ≡ Some d
-      → Does ((pair_in c (q ∷ r ∷ []) slot d (record { byte = slice_index (path_in words b k) d; child = ChildRow b k }) >> give reply.None)
+      → Does 10 ((pair_in c (q ∷ r ∷ []) slot d (record { byte = slice_index (path_in words b k) d; child = ChildRow b k }) >> give reply.None)
       >>= λ x. unlock q >> (unlock r >> give x)) now
   beside r q a q_held now near slot b k d at on path base kind differ = go h.comes
     where
@@ -197,46 +210,50 @@ module _ (g : Given) (s : Shape) (variant : Variant) (n : ℕ) (words : List ℕ
           (first-differs (path_in words b k) (key_bytes key) d differ)
           ((g.ways s words m key r.base r.kind (byte_at c r.level) rest.tree means a.leads).2 b d k on differ)
 
+      short_part : Short 10 ((pair_in c (q ∷ r ∷ []) slot d (record { byte = slice_index (path_in words b k) d; child = ChildRow b k }) >> give reply.None)
+          >>= λ x. unlock q >> (unlock r >> give x))
+      short_part =
+          short-more 10 (bind-short (then-short (pair_in-short c (q ∷ r ∷ []) slot d (record { byte = slice_index (path_in words b k) d; child = ChildRow b k }))
+          (give-short reply.None)) (λ x. then-short (unlock-short q) (then-short (unlock-short r) (give-short x)))) (omega arith)
+
       go : (Comes (pair_in c (q ∷ r ∷ []) slot d (record { byte = slice_index (path_in words b k) d; child = ChildRow b k })) now tt h.after
           × Outcome s n words rest m means key value reply.None (with_unlocked (q ∷ r ∷ []) h.after))
           ⊎ (Ends (pair_in c (q ∷ r ∷ []) slot d (record { byte = slice_index (path_in words b k) d; child = ChildRow b k })) now reply.Refused h.after
           × Outcome s n words rest m means key value reply.Refused h.after)
-          → Does ((pair_in c (q ∷ r ∷ []) slot d (record { byte = slice_index (path_in words b k) d; child = ChildRow b k }) >> give reply.None)
+          → Does 10 ((pair_in c (q ∷ r ∷ []) slot d (record { byte = slice_index (path_in words b k) d; child = ChildRow b k }) >> give reply.None)
           >>= λ x. unlock q >> (unlock r >> give x)) now
-      go (inl (e, o)) = record {
-        reply = reply.None;
-        later = with_unlocked (q ∷ r ∷ []) h.after;
-        comes = inl (bind-comes {f = λ x. unlock q >> (unlock r >> give x)} (then-comes {n = give reply.None} e (give-comes reply.None h.after))
-            (then-comes {n = unlock r >> give reply.None} (unlock-comes q h.after) (then-comes {n = give reply.None} (unlock-comes r _)
-            (give-comes reply.None _))));
-        outcome = o;
-      }
-      go (inr (e, o)) = record {
-        reply = reply.Refused;
-        later = h.after;
-        comes = inr (ends-bind {f = λ x. unlock q >> (unlock r >> give x)} (ends-then {n = give reply.None} e));
-        outcome = o;
-      }
+      go (inl (e, o)) =
+          ended g s variant n words rest few bounded m means key value key_small value_small 10 short_part reply.None (with_unlocked (q ∷ r ∷ []) h.after)
+          (inl (bind-comes {f = λ x. unlock q >> (unlock r >> give x)} (then-comes {n = give reply.None} e (give-comes reply.None h.after))
+          (then-comes {n = unlock r >> give reply.None} (unlock-comes q h.after) (then-comes {n = give reply.None} (unlock-comes r _)
+          (give-comes reply.None _))))) o
+      go (inr (e, o)) =
+          ended g s variant n words rest few bounded m means key value key_small value_small 10 short_part reply.Refused h.after
+          (inr (ends-bind {f = λ x. unlock q >> (unlock r >> give x)} (ends-then {n = give reply.None} e))) o
 
   abbrev DoesFrom : ℕ → Type 0
   DoesFrom fuel = (p : Place) (now : List ℕ) → IsAt p.row → IsAbove p.above p.row p.slot → Holding (p.row ∷ p.above) now → 4 ≤ fuel + p.row.level
-      → Does (insert_from c p) now
+      → Does (700 + 10 * fuel) (insert_from c p) now
 
   row : (fuel : ℕ) → DoesFrom fuel → (rows : List Row) (r : Row) (above : ℕ) → IsAbove rows r above → (a : IsAt r) (now : List ℕ) → Holding (r ∷ rows) now
       → 4 ≤ suc fuel + r.level → (slot b : ℕ) (k : Kind)
       → slot_of words r.base r.kind (byte_at c r.level) ≡ Some slot
       → child_on s words r.base r.kind (byte_at c r.level) ≡ ChildRow b k
-      → Does (unlock_all rows >> (lock s b >>= λ v. load (info_at b) >>= λ info. insert_below c (insert_from c) r slot (row_of b k info v)
+      → Does (704 + 10 * fuel) (unlock_all rows >> (lock s b >>= λ v. load (info_at b) >>= λ info. insert_below c (insert_from c) r slot (row_of b k info v)
       (path_differs_at c (row_of b k info v)))) now
   unfolding insert_beside
   row fuel more rows r above h a now near enough slot b k at on =
-      after-part g s variant n words rest few bounded m means key value key_small value_small {f = λ _. lock s b >>= λ v. load (info_at b) >>= λ info.
+      within g s variant n words rest few bounded m means key value key_small value_small (704 + 10 * fuel)
+      (after-part g s variant n words rest few bounded m means key value key_small value_small {f = λ _. lock s b >>= λ v. load (info_at b) >>= λ info.
       insert_below c (insert_from c) r slot (row_of b k info v) (path_differs_at c (row_of b k info v))} (unlock_all-comes rows now)
+      (unlock-few rows r above h now)
       (after-part g s variant n words rest few bounded m means key value key_small value_small {f = λ v. load (info_at b) >>= λ info.
       insert_below c (insert_from c) r slot (row_of b k info v) (path_differs_at c (row_of b k info v))} (lock-comes s b (with_unlocked rows now) b_free)
+      (lock-few s b (with_unlocked rows now) b_free)
       (after-part g s variant n words rest few bounded m means key value key_small value_small {f = λ info.
       insert_below c (insert_from c) r slot (row_of b k info (slice_index (with_unlocked rows now) b))
-      (path_differs_at c (row_of b k info (slice_index (with_unlocked rows now) b)))} info-comes (go (path_differs_at c found) refl)))
+      (path_differs_at c (row_of b k info (slice_index (with_unlocked rows now) b)))} info-comes
+      (short-comes (load-short (info_at b)) info-comes) (go (path_differs_at c found) refl)))) (omega arith)
     where
       reached : Reached s words b k
       reached = below a.leads.reached (byte_at c r.level) (byte r) on
@@ -278,15 +295,16 @@ module _ (g : Given) (s : Shape) (variant : Variant) (n : ℕ) (words : List ℕ
       lower : level_in words r.base r.kind < level_in words b k
       lower = (rest.tree.row r.base b (byte_at c r.level) r.kind k a.leads.reached (byte r) on).0
 
-      by : (o : Option ℕ) → path_differs_at c found ≡ o → Does (insert_below c (insert_from c) r slot found o) (with_lock (with_unlocked rows now) b)
+      by : (o : Option ℕ) → path_differs_at c found ≡ o → Does (700 + 10 * fuel) (insert_below c (insert_from c) r slot found o) (with_lock (with_unlocked rows now) b)
       by None e = more (record { row = found; above = r ∷ []; slot = slot }) (with_lock (with_unlocked rows now) b)
           (record { level = refl; path = refl; leads = leads-below s n words rest a.leads (byte r) on e; held = found_held })
           (record { at-above = a; slot-above = at; hangs = on }) two (omega (arith, enough, lower, a.level))
-      by (Some d) e = beside r found a found_held (with_lock (with_unlocked rows now) b) two slot b k d at on refl refl refl e
+      by (Some d) e = within g s variant n words rest few bounded m means key value key_small value_small (700 + 10 * fuel)
+          (beside r found a found_held (with_lock (with_unlocked rows now) b) two slot b k d at on refl refl refl e) (omega arith)
 
       go : (o : Option ℕ) → path_differs_at c found ≡ o
-          → Does (insert_below c (insert_from c) r slot found (path_differs_at c found)) (with_lock (with_unlocked rows now) b)
-      go o e = subst (λ o. Does (insert_below c (insert_from c) r slot found o) (with_lock (with_unlocked rows now) b)) (sym e) (by o e)
+          → Does (700 + 10 * fuel) (insert_below c (insert_from c) r slot found (path_differs_at c found)) (with_lock (with_unlocked rows now) b)
+      go o e = subst (λ o. Does (700 + 10 * fuel) (insert_below c (insert_from c) r slot found o) (with_lock (with_unlocked rows now) b)) (sym e) (by o e)
 
   -- ---- the whole way
 
@@ -294,26 +312,28 @@ module _ (g : Given) (s : Shape) (variant : Variant) (n : ℕ) (words : List ℕ
       → 4 ≤ suc fuel + p.row.level → (slot : ℕ)
       → slot_of words p.row.base p.row.kind (byte_at c p.row.level) ≡ Some slot → (child : Child)
       → child_on s words p.row.base p.row.kind (byte_at c p.row.level) ≡ child
-      → Does (insert_at c (insert_from c) p (Has slot child)) now
+      → Does (704 + 10 * fuel) (insert_at c (insert_from c) p (Has slot child)) now
   unfolding insert_at
-  child fuel more p now a h near enough slot e Empty at = leaf p.above p.row p.slot h a now near slot Empty e at (λ b k is. empty_row is)
+  child fuel more p now a h near enough slot e Empty at = within g s variant n words rest few bounded m means key value key_small value_small (704 + 10 * fuel)
+      (leaf p.above p.row p.slot h a now near slot Empty e at (λ b k is. empty_row is)) (omega arith)
     where
       empty_row : {b : ℕ} {k : Kind} → Empty ≡ ChildRow b k → ⊥
       empty_row h = cc
   child fuel more p now a h near enough slot e (ChildRow b k) at = row fuel more p.above p.row p.slot h a now near enough slot b k e at
-  child fuel more p now a h near enough slot e (Leaf k old) at = leaf p.above p.row p.slot h a now near slot (Leaf k old) e at (λ b q is. leaf_row is)
+  child fuel more p now a h near enough slot e (Leaf k old) at = within g s variant n words rest few bounded m means key value key_small value_small (704 + 10 * fuel)
+      (leaf p.above p.row p.slot h a now near slot (Leaf k old) e at (λ b q is. leaf_row is)) (omega arith)
     where
       leaf_row : {b : ℕ} {q : Kind} → Leaf k old ≡ ChildRow b q → ⊥
       leaf_row h = cc
 
   lack : (p : Place) (now : List ℕ) (a : IsAt p.row) → IsAbove p.above p.row p.slot → Holding (p.row ∷ p.above) now
       → slot_of words p.row.base p.row.kind (byte_at c p.row.level) ≡ None
-      → Does (insert_at c (insert_from c) p (Lacks (keys-of p.row) (count-of p.row))) now
+      → Does 600 (insert_at c (insert_from c) p (Lacks (keys-of p.row) (count-of p.row))) now
   unfolding insert_at
   lack p now a above near none = go (count-of p.row == capacity p.row.kind) refl
     where
       full : (rows : List Row) → IsAbove rows p.row p.slot → Holding (p.row ∷ rows) now → count-of p.row ≡ capacity p.row.kind
-          → Does (grow c rows p.slot p.row (keys-of p.row) (count-of p.row) >> give reply.None) now
+          → Does 600 (grow c rows p.slot p.row (keys-of p.row) (count-of p.row) >> give reply.None) now
       full [] kind near all = absurd (full_has p.row.kind kind none)
         where
           some_none : {i : ℕ} → ◌≡◌ {A = Option ℕ} (Some i) None → ⊥
@@ -324,13 +344,13 @@ module _ (g : Given) (s : Shape) (variant : Variant) (n : ℕ) (words : List ℕ
       full (q ∷ []) h near all = grow-row q p.row p.slot a h now near none all
       full (q ∷ (q2 ∷ rows)) h near all = absurd h
 
-      go : (t : Bool) → (count-of p.row == capacity p.row.kind) ≡ t → Does (if t
+      go : (t : Bool) → (count-of p.row == capacity p.row.kind) ≡ t → Does 600 (if t
           then (grow c p.above p.slot p.row (keys-of p.row) (count-of p.row) >> give reply.None)
           else (unlock_all p.above >> (put c p.row (keys-of p.row) (count-of p.row) >> (unlock p.row >> give reply.None)))) now
       go true e = full p.above above near (eqb-true (count-of p.row) (capacity p.row.kind) e)
-      go false e = put-row p.above p.row p.slot above a now near none
+      go false e = within g s variant n words rest few bounded m means key value key_small value_small 600 (put-row p.above p.row p.slot above a now near none
           (less (count-of p.row) (capacity p.row.kind) (count-most (Insert key value) words p.row.base p.row.kind (byte_at c p.row.level))
-          (eqb-false (count-of p.row) (capacity p.row.kind) e))
+          (eqb-false (count-of p.row) (capacity p.row.kind) e))) (omega arith)
 
   step : (fuel : ℕ) → DoesFrom fuel → DoesFrom (suc fuel)
   step fuel more p now a above near enough = found (slot_of words p.row.base p.row.kind (byte_at c p.row.level)) refl
@@ -342,20 +362,17 @@ module _ (g : Given) (s : Shape) (variant : Variant) (n : ℕ) (words : List ℕ
           (find-comes c p.row now)
 
       after : (o : Option ℕ) → slot_of words p.row.base p.row.kind (byte_at c p.row.level) ≡ o
-          → Does (insert_at c (insert_from c) p (found_of s words (keys-of p.row) (count-of p.row) o)) now → Does (insert_from c p) now
+          → Does (704 + 10 * fuel) (insert_at c (insert_from c) p (found_of s words (keys-of p.row) (count-of p.row) o)) now
+          → Does (700 + 10 * suc fuel) (insert_from c p) now
       after o e i =
-          let all = after-part g s variant n words rest few bounded m means key value key_small value_small {f = insert_at c (insert_from c) p} finds
-          (subst (λ o. Does (insert_at c (insert_from c) p (found_of s words (keys-of p.row) (count-of p.row) o)) now) (sym e) i) in
-          record { reply = all.reply; later = all.later; comes = both all.comes; outcome = all.outcome }
-        where
-          both : {r : Reply} {l : List ℕ}
-              → Comes (find c p.row >>= insert_at c (insert_from c) p) now r l ⊎ Ends (find c p.row >>= insert_at c (insert_from c) p) now r l
-              → Comes (insert_from c p) now r l ⊎ Ends (insert_from c p) now r l
-          both (inl k) = inl (same-comes (insert_from-body c p) k)
-          both (inr k) = inr (same-ends (insert_from-body c p) k)
+          within g s variant n words rest few bounded m means key value key_small value_small (700 + 10 * suc fuel)
+          (same-part g s variant n words rest few bounded m means key value key_small value_small (insert_from-body c p)
+          (after-part g s variant n words rest few bounded m means key value key_small value_small {f = insert_at c (insert_from c) p} finds (short-comes (find-short c p.row) finds)
+          (subst (λ o. Does (704 + 10 * fuel) (insert_at c (insert_from c) p (found_of s words (keys-of p.row) (count-of p.row) o)) now) (sym e) i)))
+          (omega arith)
 
-      found : (o : Option ℕ) → slot_of words p.row.base p.row.kind (byte_at c p.row.level) ≡ o → Does (insert_from c p) now
-      found None e = after None e (lack p now a above near e)
+      found : (o : Option ℕ) → slot_of words p.row.base p.row.kind (byte_at c p.row.level) ≡ o → Does (700 + 10 * suc fuel) (insert_from c p) now
+      found None e = after None e (within g s variant n words rest few bounded m means key value key_small value_small (704 + 10 * fuel) (lack p now a above near e) (omega arith))
       found (Some slot) e = after (Some slot) e
           (child fuel more p now a above near enough slot e (child_of s (slice_index words slot)) (ap (λ o. child_in s words o) e))
 
@@ -364,11 +381,12 @@ module _ (g : Given) (s : Shape) (variant : Variant) (n : ℕ) (words : List ℕ
   does-from (suc fuel) p now a above near enough = step fuel (does-from fuel) p now a above near enough
 
   -- The whole call does what it does on the map, or is refused.
-  pub inserts-coupled : Inserts g s variant n words rest few bounded m means key value key_small value_small (insert c) words
+  pub inserts-coupled : Inserts g s variant n words rest few bounded m means key value key_small value_small 1000 (insert c) words
   unfolding insert
   inserts-coupled =
-      after-part g s variant n words rest few bounded m means key value key_small value_small
+      within g s variant n words rest few bounded m means key value key_small value_small 1000 (after-part g s variant n words rest few bounded m means key value key_small value_small
       {f = λ v. insert_from c (record { row = root_row c v; above = []; slot = root_base s })} (lock-comes s (root_base s) words free)
+      (lock-few s (root_base s) words free)
       (does-from 4 (record { row = root_row c v; above = []; slot = root_base s }) (with_lock words (root_base s))
       (record {
         level = sym (leads-root s n words rest key).0;
@@ -378,7 +396,7 @@ module _ (g : Given) (s : Shape) (variant : Variant) (n : ℕ) (words : List ℕ
       }) refl
       (near-version s n words rest {held2 = Among s n words rest (root_row c v ∷ [])} {dead2 = Nothing} {kind = Full} (locked_word v)
       (near-like s n words rest (like-start s n words rest Nothing)) root (locked-small v) (λ d. locked-live v live) (λ no_one. absurd (no_one (inl refl)))
-      (λ w d ne. absurd d) (λ w d ne. d)) (omega arith))
+      (λ w d ne. absurd d) (λ w d ne. d)) (omega arith))) (omega arith)
     where
       v : ℕ
       v = slice_index words (root_base s)

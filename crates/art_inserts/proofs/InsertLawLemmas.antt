@@ -1,5 +1,5 @@
 -- An insert that runs alone on a table at rest does what it does on the map, or is refused.
-use Rattle.std.proofs.Common.{◌≡◌, ◌⊎◌, inl, inr, ℕ, ◌<◌, List, Bool, true, false, refl, arith, if◌then◌else◌}
+use Rattle.std.proofs.Common.{◌≡◌, ◌⊎◌, inl, inr, ℕ, ◌<◌, ◌≤◌, List, Bool, true, false, refl, ap, arith, if◌then◌else◌}
 use Rattle.events.specs.declared.event.Call.TheVariants.{Insert}
 use Rattle.events.specs.declared.event.Reply.{Reply}
 use Rattle.map_object.specs.MapObject.{Contents}
@@ -13,10 +13,11 @@ use Rattle.art_steps.specs.Act.{procedure, act}
 use Rattle.art_steps.specs.TreeCalls.{is_tree_call}
 use Rattle.art_core.specs.Meaning.{Means}
 use Rattle.art_trees.specs.Trees.{IsAtRest}
-use Rattle.art_alone.specs.Alone.{RunsAlone, Comes, Ends}
-use Rattle.art_alone.proofs.AloneLemmas.{act-comes, act-ends, if_true-comes, if_false-comes, if_true-ends, if_false-ends}
+use Rattle.art_alone.specs.Alone.{Comes, Ends}
+use Rattle.art_alone.proofs.AloneLemmas.{act-comes, act-ends, act-comes-accesses, act-ends-accesses}
 use Rattle.art_inserts.specs.Laws.{InsertsAreTheMaps, DoesOrRefuses}
-use Rattle.art_inserts.proofs.InsertEndLemmas.{Given, Inserts}
+use Rattle.art_inserts.proofs.InsertEndLemmas.{Given, Inserts, same-part}
+use Rattle.art_inserts.proofs.ShortLemmas.{steps_of}
 use Rattle.art_inserts.proofs.CoupledInsertLemmas.{inserts-coupled}
 use Rattle.art_inserts.proofs.OptimisticInsertLemmas.{inserts-optimistic}
 
@@ -34,45 +35,48 @@ module _ (g : Given) (s : Shape) (variant : Variant) (n : ℕ) (words : List ℕ
 
   -- under the variant's way to go down
   by_variant : (b : Bool) → locks variant ≡ b
-      → Inserts g s variant n words rest few bounded m means key value key_small value_small
+      → Inserts g s variant n words rest few bounded m means key value key_small value_small 1000
       (if locks variant then coupled.insert c else optimistic.insert c) words
   by_variant true e =
-      let i = inserts-coupled g s variant n words rest few bounded m means key value key_small value_small in
-      record { reply = i.reply; later = i.later; comes = go i.comes; outcome = i.outcome }
-    where
-      go : {r : Reply} {l : List ℕ} → Comes (coupled.insert c) words r l ⊎ Ends (coupled.insert c) words r l
-          → Comes (if locks variant then coupled.insert c else optimistic.insert c) words r l
-          ⊎ Ends (if locks variant then coupled.insert c else optimistic.insert c) words r l
-      go (inl k) = inl (if_true-comes (optimistic.insert c) e k)
-      go (inr k) = inr (if_true-ends (optimistic.insert c) e k)
+      same-part g s variant n words rest few bounded m means key value key_small value_small
+      (λ again after got. ap (λ (b : Bool). (if b then coupled.insert c else optimistic.insert c) again after got) e)
+      (inserts-coupled g s variant n words rest few bounded m means key value key_small value_small)
   by_variant false e =
-      let i = inserts-optimistic g s variant n words rest few bounded m means key value key_small value_small in
-      record { reply = i.reply; later = i.later; comes = go i.comes; outcome = i.outcome }
-    where
-      go : {r : Reply} {l : List ℕ} → Comes (optimistic.insert c) words r l ⊎ Ends (optimistic.insert c) words r l
-          → Comes (if locks variant then coupled.insert c else optimistic.insert c) words r l
-          ⊎ Ends (if locks variant then coupled.insert c else optimistic.insert c) words r l
-      go (inl k) = inl (if_false-comes (coupled.insert c) e k)
-      go (inr k) = inr (if_false-ends (coupled.insert c) e k)
+      same-part g s variant n words rest few bounded m means key value key_small value_small
+      (λ again after got. ap (λ (b : Bool). (if b then coupled.insert c else optimistic.insert c) again after got) e)
+      (inserts-optimistic g s variant n words rest few bounded m means key value key_small value_small)
 
-  whole : Inserts g s variant n words rest few bounded m means key value key_small value_small (procedure c (Insert key value)) words
+  whole : Inserts g s variant n words rest few bounded m means key value key_small value_small 1000 (procedure c (Insert key value)) words
   unfolding procedure
   whole = by_variant (locks variant) refl
 
   does : DoesOrRefuses s variant n words m (Insert key value)
-  does = record {
-    reply = whole.reply;
-    later = whole.later;
-    runs = go whole.comes;
-    legal = whole.outcome.legal;
-    rests = whole.outcome.rests;
-    means = whole.outcome.meant;
-  }
+  does = go whole.comes whole.brief
     where
-      go : {r : Reply} {l : List ℕ} → Comes (procedure c (Insert key value)) words r l ⊎ Ends (procedure c (Insert key value)) words r l
-          → RunsAlone (act s variant (Insert key value)) words l r
-      go (inl k) = act-comes s variant (Insert key value) k
-      go (inr k) = act-ends s variant (Insert key value) k
+      go : (o : Comes (procedure c (Insert key value)) words whole.reply whole.later ⊎ Ends (procedure c (Insert key value)) words whole.reply whole.later)
+          → steps_of o ≤ 1000 → DoesOrRefuses s variant n words m (Insert key value)
+      go (inl k) few_steps =
+          let as_many = act-comes-accesses s variant (Insert key value) k in
+          record {
+            reply = whole.reply;
+            later = whole.later;
+            runs = act-comes s variant (Insert key value) k;
+            few = omega (arith, as_many, few_steps);
+            legal = whole.outcome.legal;
+            rests = whole.outcome.rests;
+            means = whole.outcome.meant;
+          }
+      go (inr k) few_steps =
+          let as_many = act-ends-accesses s variant (Insert key value) k in
+          record {
+            reply = whole.reply;
+            later = whole.later;
+            runs = act-ends s variant (Insert key value) k;
+            few = omega (arith, as_many, few_steps);
+            legal = whole.outcome.legal;
+            rests = whole.outcome.rests;
+            means = whole.outcome.meant;
+          }
 
 table-bound : (s : Shape) → IsWithinLimits s → table_words s < 2305843009213693952
 table-bound s limits = omega (arith, limits.rows4, limits.rows16, limits.rows48, limits.rows256)

@@ -1,6 +1,6 @@
 -- Parts that make few accesses, whatever words they get.
 use Rattle.std.proofs.Common.{◌≡◌, ◌⊎◌, inl, inr, ℕ, zero, suc, ◌+◌, ◌-◌, ◌*◌, ◌%◌, ◌≤◌, ◌==◌, nat_lt, List, [], ◌∷◌, ◌++◌, length, slice_index, Bool, true, false}
-use Rattle.std.proofs.Common.{Option, Some, None, if◌then◌else◌, refl, sym, subst, arith}
+use Rattle.std.proofs.Common.{Option, Some, None, if◌then◌else◌, refl, sym, ap, ◌∙◌, subst, arith}
 use Rattle.events.specs.declared.event.Reply.{Reply}
 use Rattle.events.specs.declared.event.Reply.TheVariants as reply
 use Rattle.art_rows.specs.declared.table.Kind.{Kind}
@@ -8,16 +8,19 @@ use Rattle.art_rows.specs.declared.table.Kind.TheVariants.{Four, Sixteen, FortyE
 use Rattle.art_rows.specs.declared.table.Child.{Child}
 use Rattle.art_rows.specs.declared.table.Child.TheVariants.{Empty, Row as ChildRow, Leaf}
 use Rattle.art_rows.specs.Table.{capacity, rows_of}
-use Rattle.art_rows.specs.Words.{entries_of, place_of}
+use Rattle.art_rows.specs.declared.table.Shape.{Shape}
+use Rattle.art_rows.specs.Words.{is_locked, is_obsolete, locked_word, entries_of, place_of}
 use Rattle.art_steps.specs.declared.access.Access.{Access}
 use Rattle.art_steps.specs.declared.access.Point.{Point}
 use Rattle.art_steps.specs.Steps.{Turn, Asks, Answers, Rest, Part, ◌>>=◌, ◌>>◌, give, start_again, answer, access, load, load_at, store, store_at}
 use Rattle.art_steps.specs.Steps.{exchange, add, marked, first_at, each, numbers, numbers_down}
-use Rattle.art_steps.specs.Rows.{Setting, Row, Found, is_insert, leaves_out_check, key_of, load_child, find_child, find_among, find_indexed, find_in, find}
+use Rattle.art_steps.specs.Rows.{Setting, Row, Found, is_insert, leaves_out_check, takes_unchecked, lock_point, lock, take_row, key_of, load_child, find_child, find_among, find_indexed, find_in, find}
 use Rattle.art_steps.specs.Rows.{unlock, unlock_obsolete, unlock_all, check, check_of, claim}
 use Rattle.art_steps.specs.Updates.{Under, pair, pair_in, copy_child, make_room, put_in, put, store_index, spread_entry, spread_index, fill, grow, insert_in}
 use Rattle.art_core.specs.Accesses.{got_by}
 use Rattle.art_alone.specs.Alone.{RunsAlone, ends, goes, accesses, Comes, Ends}
+use Rattle.art_alone.proofs.AloneLemmas.{bind-comes, bind-ends, same-comes, same-ends, give-comes, steps-once}
+use Rattle.art_alone.proofs.RowRunLemmas.{lock-comes, lock-steps, wait-comes, wait-steps, with_lock}
 
 abbrev IsAnswered : Turn → Type 0
 IsAnswered (Asks a p) = ⊥
@@ -199,6 +202,58 @@ unfolding claim
 claim-short c held kind =
     short-more (1 + length held) (bind-short (add-short _) (λ number. if-short (nat_lt number (rows_of c.shape kind)) (give-short _)
     (then-short (unlock_all-short held) (answer-short reply.Refused)))) (omega arith)
+
+-- ---- locks
+
+pub bind-few : {A B : Type 0} {m : Part A} (f : A → Part B) {words between later : List ℕ} {a : A} {b : B} {j k : ℕ} (h : Comes m words a between)
+    (c : Comes (f a) between b later) → h.steps ≤ j → c.steps ≤ k → (bind-comes {f = f} h c).steps ≤ j + k
+unfolding bind-comes
+bind-few f h c le lc = omega (arith, le, lc)
+
+pub bind-ends-few : {A B : Type 0} {m : Part A} (f : A → Part B) {words between later : List ℕ} {a : A} {r : Reply} {j k : ℕ} (h : Comes m words a between)
+    (c : Ends (f a) between r later) → h.steps ≤ j → c.steps ≤ k → (bind-ends {f = f} h c).steps ≤ j + k
+unfolding bind-ends
+bind-ends-few f h c le lc = omega (arith, le, lc)
+
+pub same-steps : {A : Type 0} {m n : Part A} {words later : List ℕ} {a : A} (e : (again : Rest) (after : A → Rest) (got : List ℕ)
+    → m again after got ≡ n again after got) (h : Comes n words a later) → (same-comes {m = m} e h).steps ≡ h.steps
+unfolding same-comes
+same-steps e h = refl
+
+pub same-ends-steps : {A : Type 0} {m n : Part A} {words later : List ℕ} {r : Reply} (e : (again : Rest) (after : A → Rest) (got : List ℕ)
+    → m again after got ≡ n again after got) (h : Ends n words r later) → (same-ends {m = m} e h).steps ≡ h.steps
+unfolding same-ends
+same-ends-steps e h = refl
+
+-- as few as it is shown in another way
+pub as-few : {A : Type 0} {m : Part A} {words later later2 : List ℕ} {a a2 : A} {n : ℕ} (h : Comes m words a later) (k : Comes m words a2 later2)
+    → k.steps ≤ n → h.steps ≤ n
+as-few h k le = let e = steps-once h k in omega (arith, e, le)
+
+pub lock-few : (s : Shape) (base : ℕ) (words : List ℕ) (e : is_locked (slice_index words base) ≡ false) → (lock-comes s base words e).steps ≤ 2
+lock-few s base words e = let two = lock-steps s base words e in omega (arith, two)
+
+pub wait-few : (base : ℕ) (words : List ℕ) (e : is_locked (slice_index words base) ≡ false) (f : is_obsolete (slice_index words base) ≡ false)
+    → (wait-comes base words e f).steps ≤ 1
+wait-few base words e f = let one = wait-steps base words e f in omega (arith, one)
+
+-- a row whose version was kept, and which is not locked
+pub take_row-few : (c : Setting) (held : List Row) (n : Row) (words : List ℕ) → slice_index words n.base ≡ n.kept → is_locked n.kept ≡ false
+    → {v : Row} {later : List ℕ} (h : Comes (take_row c held n) words v later) → h.steps ≤ 2 + length held
+unfolding take_row
+take_row-few c held n words e free h = go (takes_unchecked c.variant) h
+  where
+    go : (b : Bool) → {v : Row} {later : List ℕ} (h : Comes (if b then (lock c.shape n.base >>= λ v. give (record n { kept = v }))
+        else (first_at (lock_point c.shape n.base) (exchange n.base n.kept (locked_word n.kept)) >>=
+        λ was. if was == n.kept then give n else (unlock_all held >> start_again))) words v later) → h.steps ≤ 2 + length held
+    go true h =
+        let unlocked = ap is_locked e ∙ free in
+        let locks = lock-comes c.shape n.base words unlocked in
+        let gives = give-comes (record n { kept = slice_index words n.base }) (with_lock words n.base) in
+        let le = as-few h (bind-comes {f = λ v. give (record n { kept = v })} locks gives)
+        (bind-few (λ v. give (record n { kept = v })) locks gives (lock-few c.shape n.base words unlocked) (short-comes (give-short _) gives)) in
+        omega (arith, le)
+    go false h = let le = short-comes (exchange_row-short (lock_point c.shape n.base) held n (locked_word n.kept)) h in omega (arith, le)
 
 -- ---- finding
 

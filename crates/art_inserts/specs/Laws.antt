@@ -1,5 +1,5 @@
 -- Laws of inserts that run alone.
-use Rattle.std.specs.Prelude.{◌≡◌, ℕ, ◌+◌, ◌<◌, ◌^◌, true, List}
+use Rattle.std.specs.Prelude.{◌≡◌, ℕ, ◌+◌, ◌<◌, ◌≤◌, ◌^◌, true, List}
 use Rattle.events.specs.declared.event.Call.{Call}
 use Rattle.events.specs.declared.event.Call.TheVariants.{Insert}
 use Rattle.events.specs.declared.event.Reply.{Reply}
@@ -11,7 +11,7 @@ use Rattle.art_steps.specs.TreeCalls.{is_tree_call}
 use Rattle.art_steps.specs.Act.{act}
 use Rattle.art_core.specs.Meaning.{Means}
 use Rattle.art_core.specs.Invariant.{IsTree}
-use Rattle.art_alone.specs.Alone.{RunsAlone}
+use Rattle.art_alone.specs.Alone.{RunsAlone, accesses}
 use Rattle.art_trees.specs.Trees.{IsAtRest}
 use Rattle.art_inserts.specs.Settled.{IsSettled, HasOldOrNewRows}
 
@@ -20,11 +20,12 @@ abbrev pub SettledWordsRest : Type 0
 SettledWordsRest = (s : Shape) (n : ℕ) (words later : List ℕ) → IsAtRest s n words → IsSettled s words later → IsTree s later
     → HasOldOrNewRows s words later → IsAtRest s (n + 1) later
 
--- The call runs alone to a legal reply, and leaves a table at rest that means the map after it, with at most one claim more of each kind.
+-- The call runs alone to a legal reply by at most 1,000 accesses, and leaves a table at rest that means the map after it, with at most one claim more of each kind.
 pub record DoesOrRefuses (s : Shape) (variant : Variant) (n : ℕ) (words : List ℕ) (m : Contents) (call : Call) : Type 0 where
   pub reply : Reply
   pub later : List ℕ
   pub runs : RunsAlone (act s variant call) words later reply
+  pub few : accesses runs ≤ 1000
   pub legal : IsLegalReply m call reply
   pub rests : IsAtRest s (n + 1) later
   pub means : Means s later (after_reply m call reply)
