@@ -31,8 +31,11 @@ REFUSED = {
     rb"|8 Start at pair [0-9]+)\n",
     "replay": rb"replay: ([5-7] (TooLong|NotJson|Shape)|8 StartRefused)\n"
     rb"|schedule: item [0-9]+: (1 NoProcess|2 NothingToDo|3 TurnLimit)\n",
+    "drive": rb"plan: (3 TooMany|5 TooLong|6 NotJson|7 Shape)\n",
 }
-ANSWERED = {"judge": (0, 1, 2), "replay": (0,)}
+ANSWERED = {"judge": (0, 1, 2), "replay": (0,), "drive": (0,)}
+# What reads an example, by the ending of its name.
+READERS = {"-replay.json": "replay", "-plan.json": "drive", ".json": "judge"}
 
 
 def cut(text, chance):
@@ -65,11 +68,11 @@ def damaged(text, chance):
 
 
 def originals():
-    """Each example that is a history or a replay, with the subcommand that reads it."""
+    """Each example, with the subcommand that reads it."""
     for name in sorted(os.listdir(EXAMPLES)):
-        if name.endswith(".json") and not name.endswith("-plan.json"):
+        if name.endswith(".json"):
             with open(os.path.join(EXAMPLES, name), "rb") as source:
-                yield "replay" if name.endswith("-replay.json") else "judge", source.read()
+                yield next(READERS[ending] for ending in READERS if name.endswith(ending)), source.read()
 
 
 def fails(subcommand, text):

@@ -25,10 +25,16 @@ MOST_CALLS = 4096
 LITTLE_STACK = 256 * 1024
 LITTLE_MEMORY = 64 * 1024 * 1024
 
+# Words that draw a plan.
+DRAWN = (
+    "generate --seed 7 --processes 4 --calls 1000 --get 40 --insert 40 --remove 20 --scan 0 --lo 0 --hi 99"
+).split()
+
 # What a stream gets, as regular expressions over all its bytes.
 NOTHING = rb""
 LINE = rb"[^\n]+\n"
 LINES = rb"([^\n]*\n)+"
+YES = rb'\{"order":\[[0-9,]+\],"verdict":"yes"\}\n'
 
 
 def refused_words():
@@ -44,6 +50,17 @@ def refused_words():
     yield "a budget past the greatest", ["judge", "--budget", "1000001"], LINES
     yield "no workers", ["judge", "--workers", "0"], LINES
     yield "too many workers", ["judge", "--workers", "65"], LINES
+    yield "an unknown tree", ["drive", "--tree", "other"], LINES
+    yield "no tree", ["drive", "--tree"], LINES
+
+
+def piped(*lines):
+    """The result of the last of some lists of words, of which each reads what the one before it has written."""
+    text = b""
+    for words in lines:
+        ran = subprocess.run([PROGRAM, *words], input=text, capture_output=True, timeout=60, check=False)
+        text = ran.stdout
+    return ran.returncode, ran.stdout, ran.stderr
 
 
 def run(words, source, output=subprocess.PIPE, error=subprocess.PIPE, before=None):
@@ -107,6 +124,7 @@ def runs(folder):
     with open(wide, "rb") as source:
         words = ["judge", "--budget", "1000000"]
         yield "a wide search in little memory", run(words, source, before=with_little_memory), (4, NOTHING, rb"memory\n")
+    yield "a plan that four threads do", piped(DRAWN, ["drive", "--tree", "locked"], ["judge"]), (0, YES, NOTHING)
 
     unreadable = os.open(EXAMPLES, os.O_RDONLY)
     yield "input that is a folder", run(["check"], unreadable), (6, NOTHING, rb"io\n")

@@ -2,7 +2,8 @@
 use Rattle.std.specs.Prelude.{List}
 use Rattle.clap.specs.Words.{Text}
 use Rattle.command_line.specs.declared.line.Line.{Line}
-use Rattle.command_line.specs.declared.line.Line.TheVariants.{Check, Judge, Generate, Replay}
+use Rattle.command_line.specs.declared.line.Line.TheVariants.{Check, Judge, Generate, Replay, Drive}
+use Rattle.command_line.specs.declared.fault.LineFault.{LineFault}
 use Rattle.command_line.specs.declared.fault.LineFault.TheVariants as line_faults
 use Rattle.command_line.specs.Lines.{IsLineOf}
 use Rattle.command_line.specs.LineFaults.{IsAccepted, IsFaultAt}
@@ -10,7 +11,7 @@ use Rattle.outcomes.specs.declared.outcome.Outcome.{Outcome}
 use Rattle.outcomes.specs.declared.outcome.Outcome.TheVariants.{Memory, Words}
 use Rattle.outcomes.specs.Ends.{Change, IsUnused, IsSound}
 use Rattle.history_engines.specs.Outcomes.{IsCheckOutcome, IsJudgeOutcome}
-use Rattle.plan_engines.specs.Outcomes.{IsGenerateOutcome, IsReplayOutcome}
+use Rattle.plan_engines.specs.Outcomes.{IsDriveOutcome, IsGenerateOutcome, IsReplayOutcome}
 
 -- the outcome of what a line asks for
 abbrev pub IsLineOutcome : Line → Change → Outcome → Type 0
@@ -19,6 +20,7 @@ IsLineOutcome (Judge budget workers) source outcome = IsJudgeOutcome budget sour
 IsLineOutcome (Generate seed processes calls get insert remove scan lo hi) source outcome = IsUnused source
     × IsGenerateOutcome seed (record { get = get; insert = insert; remove = remove; scan = scan; lo = lo; hi = hi }) processes calls outcome
 IsLineOutcome Replay source outcome = IsReplayOutcome source outcome
+IsLineOutcome (Drive tree) source outcome = IsDriveOutcome source outcome
 
 -- the words ask for a line, which has this outcome
 pub record IsAskedOutcome (words : List Text) (source : Change) (outcome : Outcome) : Type 0 where
@@ -32,3 +34,8 @@ abbrev pub IsWordsOutcome : List Text → Change → Outcome → Type 0
 IsWordsOutcome words source (Words text) = IsFaultAt words (line_faults.Line text) × IsSound source
 IsWordsOutcome words source Memory = IsSound source
 IsWordsOutcome words source outcome = IsAskedOutcome words source outcome
+
+-- the outcome of words with this fault
+abbrev pub fault_outcome : LineFault → Outcome
+fault_outcome (line_faults.Line text) = Words text
+fault_outcome line_faults.Memory = Memory

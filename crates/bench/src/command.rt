@@ -4,14 +4,16 @@ ghost use Rattle.clap.specs.Walk.{texts};
 ghost use Rattle.outcomes.specs.Ends.{change};
 ghost use Rattle.outcomes.specs.Runs.{IsRun};
 ghost use Rattle.outcomes.specs.Statuses.{words_status};
-ghost use Rattle.bench.specs.Outcomes.{IsWordsOutcome};
+ghost use Rattle.bench.specs.Outcomes.{IsWordsOutcome, fault_outcome};
 
-use command_line::{Line, read_line};
+use command_line::{Line, LineFault, Tree, read_line};
 use history_engines::{run_check, run_judge};
+use locked_map::LockedMap;
 use outcomes::{Outcome, write_outcome};
-use plan_engines::{run_generate, run_replay};
+use plan_engines::{run_drive, run_generate, run_replay};
 use pool::Gate;
 use std::alloc::{AllocError, Global};
+use std::sync::Wait;
 use std::thread::Threads;
 use streams::{Sink, Source};
 use workload::Mix;
@@ -25,7 +27,7 @@ pub fn texts_of(alloc: Global, words: &[String]) -> Result<Vec<&str>, AllocError
 
 /// Does what the words of the command line ask for, the program's name first, and answers the exit status.
 /// Workers pass the gate before each segment that they search.
-pub fn run<R: Threads + Sync, S: Source, O: Sink, F: Sink, G: Gate + Sync>(
+pub fn run<R: Threads + Wait + Sync, S: Source, O: Sink, F: Sink, G: Gate + Sync>(
     rt: &R,
     alloc: Global,
     source: &mut S,
@@ -49,7 +51,7 @@ pub fn run<R: Threads + Sync, S: Source, O: Sink, F: Sink, G: Gate + Sync>(
 {
     let line = match read_line(alloc, words) {
         Ok(line) => line,
-        Err(fault) => return write_outcome(output, faults, &Outcome::of_line_fault(fault)),
+        Err(fault) => return write_outcome(output, faults, &fault_outcome(fault)),
     };
     match line {
         Line::Check { order } => run_check(alloc, source, output, faults, &order),
@@ -78,5 +80,19 @@ pub fn run<R: Threads + Sync, S: Source, O: Sink, F: Sink, G: Gate + Sync>(
             run_generate(alloc, output, faults, seed, &mix, processes, calls)
         }
         Line::Replay => run_replay(alloc, source, output, faults),
+        Line::Drive { tree: Tree::Locked } => {
+            let map = LockedMap::new(rt, alloc);
+            run_drive(rt, alloc, source, output, faults, &map)
+        }
+    }
+}
+
+/// That the words of the command line ask for nothing that can be done, or want of memory.
+fn fault_outcome(fault: LineFault) -> Outcome
+    ensures { result ≡ fault_outcome fault }
+{
+    match fault {
+        LineFault::Line(text) => Outcome::Words(text),
+        LineFault::Memory => Outcome::Memory,
     }
 }

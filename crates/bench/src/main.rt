@@ -7,6 +7,8 @@
 
 mod command;
 #[cfg(test)]
+mod drive_tests;
+#[cfg(test)]
 mod tests;
 
 use command::{run, texts_of};

@@ -6,6 +6,7 @@ use history_engines::worked_texts::*;
 use pool::{Gate, OpenGate};
 use std::alloc::{AllocError, Global};
 use std::process::Abort;
+use std::sync::Wait;
 use std::sync::atomic::{AtomicBool, AtomicU64, Ordering};
 use std::test::Fail;
 use std::thread;
@@ -63,7 +64,7 @@ static NO_PROCESS: [&str; 20] = [
 // ---- whole runs
 
 // Does what the words of a line ask for over a text, and compares the status and what was written.
-fn leaves<R: Threads + Sync + Abort>(
+pub(crate) fn leaves<R: Threads + Wait + Sync + Abort>(
     rt: &R,
     alloc: Global,
     line: &str,
@@ -407,7 +408,7 @@ fn words_with_a_fault_are_told_it(rt: HostRuntime) -> Result<(), Fail> {
         "bench",
         "bench --help",
         "bench check --help",
-        "bench drive",
+        "bench run",
         "bench check x",
         "bench check 0 1 4294967296",
         "bench judge 0",
@@ -416,6 +417,10 @@ fn words_with_a_fault_are_told_it(rt: HostRuntime) -> Result<(), Fail> {
         "bench judge --workers x",
         "bench judge --budget 0",
         "bench judge --budget 1000001",
+        "bench drive 0",
+        "bench drive --tree",
+        "bench drive --tree other",
+        "bench drive --trees locked",
         "bench generate",
         "bench generate --seed 42 --processes 1 --calls 2 --get 100 --insert 0 --remove 0 --scan 0 --lo 5",
         "bench generate --seed 42 --processes 1 --calls 2 --get 100 --insert 0 --remove 0 --scan 0 --lo 5 --hi 4294967296",
@@ -430,7 +435,7 @@ fn words_with_a_fault_are_told_it(rt: HostRuntime) -> Result<(), Fail> {
 // ---- ends that fail
 
 // One byte at a time, where the call after the first `n` fails at the source: the output is left alone.
-fn assert_reads_fail<R: Threads + Sync + Abort>(
+pub(crate) fn assert_reads_fail<R: Threads + Wait + Sync + Abort>(
     rt: &R,
     alloc: Global,
     words: &[&str],
@@ -457,7 +462,7 @@ fn assert_reads_fail<R: Threads + Sync + Abort>(
 }
 
 // One byte at a time, where the call after the first `n` fails at the output: a beginning of the answer is left.
-fn assert_writes_fail<R: Threads + Sync + Abort>(
+pub(crate) fn assert_writes_fail<R: Threads + Wait + Sync + Abort>(
     rt: &R,
     alloc: Global,
     words: &[&str],
@@ -506,12 +511,13 @@ fn failing_reads_and_writes(rt: HostRuntime) -> Result<(), Fail> {
 #[test]
 fn failing_writes_to_the_faults(rt: HostRuntime) -> Result<(), Fail> {
     let alloc = rt.alloc();
-    let told = text_of_fault(&rt, alloc, "bench drive")?;
+    let told = text_of_fault(&rt, alloc, "bench run")?;
     let rows = [
         (["bench", "check"].as_slice(), 3, "history: 3 Version\n"),
         (["bench", "judge"].as_slice(), 3, "history: 3 Version\n"),
         (NO_PROCESS.as_slice(), 3, "plan: 3 TooMany\n"),
-        (["bench", "drive"].as_slice(), 5, told.as_str()),
+        (["bench", "drive"].as_slice(), 3, "plan: 7 Shape\n"),
+        (["bench", "run"].as_slice(), 5, told.as_str()),
     ];
     for (words, status, fault) in rows {
         let fault = fault.as_bytes();

@@ -7,15 +7,17 @@ use Rattle.std.proofs.lemmas.Option.{same_Some}
 use Rattle.std.proofs.lemmas.Slice.Eq.{bytes_eq-Decides}
 use Rattle.clap.specs.Words.{Text}
 use Rattle.command_line.specs.Limits.{budget_default, budget_limit, workers_default, workers_limit}
-use Rattle.command_line.specs.Lines.{ChecksNumbers, IsCheck, IsJudge, asked_by}
+use Rattle.command_line.specs.Lines.{ChecksNumbers, IsCheck, IsDrive, IsJudge, asked_by}
 use Rattle.command_line.specs.Lines.{option_words as words_of}
 use Rattle.command_line.specs.Numbers.{IsNumberWithin, number_of}
-use Rattle.command_line.specs.Program.{bench_table, check_usage, judge_usage}
+use Rattle.command_line.specs.Program.{bench_table, check_usage, drive_usage, judge_usage}
 use Rattle.command_line.specs.Requests.{IsReadFrom}
 use Rattle.command_line.specs.Tables.{Flag}
+use Rattle.command_line.specs.Trees.{without_tree}
 use Rattle.command_line.specs.Words.{AreOptionsOf, Given, Gives, IsUse, option_words, value_given}
 use Rattle.command_line.specs.declared.line.Line.{Line}
-use Rattle.command_line.specs.declared.line.Line.TheVariants.{Check, Judge}
+use Rattle.command_line.specs.declared.line.Line.TheVariants.{Check, Drive, Judge}
+use Rattle.command_line.specs.declared.line.Tree.TheVariants.{Locked}
 use Rattle.command_line.specs.declared.line.TheConstants.{DEFAULT_BUDGET, DEFAULT_WORKERS}
 
 -- a name is no other name
@@ -38,6 +40,28 @@ check_use words calls (name, is, numbers) = record {
 pub checks : (calls : List Text) (line : Line) → Gives check_usage [] calls (asked_by line) → ChecksNumbers calls line
 checks calls (Check order) gives = gives.calls
 checks calls other gives = absurd (other_name _ _ gives.name refl)
+
+-- ---- drive
+
+-- the words without the tree
+bare_drive : (words : List Text) (is : IsDrive words) → without_tree words ≡ is.0 ∷ codes "drive" ∷ []
+bare_drive words (name, inl is) = ap without_tree is
+bare_drive words (name, inr is) = ap without_tree is
+
+pub drive_use : (words : List Text) → IsDrive words → IsUse bench_table (without_tree words) drive_usage [] []
+drive_use words is = record {
+  program = is.0;
+  words_are = bare_drive words is;
+  named = refl;
+  options = tt;
+  required = refl;
+  numbers = λ k d lt. absurd (omega arith);
+  no_calls = λ _. refl;
+}
+
+pub drives : (line : Line) → Gives drive_usage [] [] (asked_by line) → line ≡ Drive Locked
+drives (Drive Locked) gives = refl
+drives other gives = absurd (other_name _ _ gives.name refl)
 
 -- ---- judge
 

@@ -7,3 +7,4 @@ pub mod Words
 pub mod Program
 pub mod Lines
 pub mod LineFaults
+pub mod Trees

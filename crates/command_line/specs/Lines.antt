@@ -8,8 +8,9 @@ use Rattle.command_line.specs.Limits.{budget_limit, workers_limit}
 use Rattle.command_line.specs.Numbers.{IsNumber, IsNumberWithin, number_of}
 use Rattle.command_line.specs.Program.{bench_app, bench_table}
 use Rattle.command_line.specs.Requests.{Asked, Asks}
+use Rattle.command_line.specs.Trees.{without_tree}
 use Rattle.command_line.specs.declared.line.Line.{Line}
-use Rattle.command_line.specs.declared.line.Line.TheVariants.{Check, Judge, Generate, Replay}
+use Rattle.command_line.specs.declared.line.Line.TheVariants.{Check, Judge, Generate, Replay, Drive}
 
 -- the subcommand of a line, the numbers of its options in the order of the table, and its calls
 abbrev pub asked_by : Line → Asked
@@ -22,10 +23,11 @@ asked_by (Generate seed processes calls get insert remove scan lo hi) = record {
   calls = [];
 }
 asked_by Replay = record { name = codes "replay"; numbers = []; calls = [] }
+asked_by (Drive tree) = record { name = codes "drive"; numbers = []; calls = [] }
 
 -- the words ask for this line, the program's name first
 abbrev pub IsLineOf : List Text → Line → Type 0
-IsLineOf words line = Asks bench_table (subcommand_of bench_app words) (asked_by line)
+IsLineOf words line = Asks bench_table (subcommand_of bench_app (without_tree words)) (asked_by line)
 
 -- each number of the line is within its limits; those of `generate` have none but their types
 abbrev pub IsWithinLimits : Line → Type 0
@@ -34,6 +36,7 @@ IsWithinLimits (Judge budget workers) =
     (1 ≤ budget) × (budget ≤ budget_limit) × (1 ≤ workers) × (workers ≤ workers_limit)
 IsWithinLimits (Generate seed processes calls get insert remove scan lo hi) = ⊤
 IsWithinLimits Replay = ⊤
+IsWithinLimits (Drive tree) = ⊤
 
 -- the words are a name, `check` and texts of which each spells a number
 abbrev pub IsCheck : List Text → List Text → Type 0
@@ -60,3 +63,7 @@ pub record IsJudge (words : List Text) (budget workers : Option Text) : Type 0 w
       ≡ option_words (codes "--workers") workers ++ option_words (codes "--budget") budget)
   pub budget_within : IfSome budget (IsNumberWithin budget_limit)
   pub workers_within : IfSome workers (IsNumberWithin workers_limit)
+
+-- the words are a name and `drive`, with the only tree or with none
+abbrev pub IsDrive : List Text → Type 0
+IsDrive words = (name : Text) × ((words ≡ name ∷ codes "drive" ∷ []) ⊎ (words ≡ name ∷ codes "drive" ∷ codes "--tree" ∷ codes "locked" ∷ []))

@@ -54,9 +54,13 @@ generate_usage = record {
 abbrev pub replay_usage : Usage
 replay_usage = record { name = codes "replay"; flags = []; takes_calls = false }
 
+-- `drive`, to which the words add the only tree, or nothing
+abbrev pub drive_usage : Usage
+drive_usage = record { name = codes "drive"; flags = []; takes_calls = false }
+
 -- the subcommands of the program
 abbrev pub bench_table : List Usage
-bench_table = check_usage ∷ judge_usage ∷ generate_usage ∷ replay_usage ∷ []
+bench_table = check_usage ∷ judge_usage ∷ generate_usage ∷ replay_usage ∷ drive_usage ∷ []
 
 -- the program, as `clap` reads it
 unfoldable pub bench_app : App

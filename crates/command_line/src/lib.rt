@@ -14,7 +14,8 @@ mod request;
 mod table;
 #[cfg(test)]
 mod tests;
+mod tree;
 
 pub use fault::LineFault;
-pub use line::{DEFAULT_BUDGET, DEFAULT_WORKERS, Line, MAX_BUDGET, MAX_WORKERS};
+pub use line::{DEFAULT_BUDGET, DEFAULT_WORKERS, Line, MAX_BUDGET, MAX_WORKERS, Tree};
 pub use read::read_line;

@@ -40,4 +40,15 @@ pub enum Line {
     },
     /// The history that the run of the replay on standard input records.
     Replay,
+    /// The history of the plan on standard input, done at this tree.
+    Drive {
+        tree: Tree,
+    },
+}
+
+/// What a drive does its calls at.
+#[derive(Clone, Copy, Debug, PartialEq, Eq)]
+pub enum Tree {
+    /// A sorted map under one lock.
+    Locked,
 }

@@ -37,7 +37,7 @@ macro_rules! required_option {
 }
 
 /// The subcommands of the program.
-pub(crate) static SUBCOMMANDS: [Subcommand<'static>; 4] = [
+pub(crate) static SUBCOMMANDS: [Subcommand<'static>; 5] = [
     Subcommand {
         name: "check",
         about: "Tells whether calls, in this order, are an order of the history on standard input",
@@ -82,6 +82,12 @@ pub(crate) static SUBCOMMANDS: [Subcommand<'static>; 4] = [
     Subcommand {
         name: "replay",
         about: "Runs the replay on standard input, and writes the history that it records",
+        options: &[],
+        takes_calls: false,
+    },
+    Subcommand {
+        name: "drive",
+        about: "Does the plan on standard input at a map under one lock, and writes the history that it records [--tree locked]",
         options: &[],
         takes_calls: false,
     },

@@ -1,8 +1,8 @@
-use crate::{Line, LineFault, read_line};
+use crate::{Line, LineFault, Tree, read_line};
 use std::test::Fail;
 
 // Words that are no line, and how the text that the user is shown begins.
-static FAULTS: [(&[&str], &str); 14] = [
+static FAULTS: [(&[&str], &str); 19] = [
     (
         &["bench"],
         "error: 'bench' requires a subcommand but one was not provided",
@@ -55,6 +55,26 @@ static FAULTS: [(&[&str], &str); 14] = [
     (
         &["bench", "generate", "--hi", "4294967296"],
         "error: invalid value '4294967296' for '--hi <N>'",
+    ),
+    (
+        &["bench", "drive", "--tree", "other"],
+        "error: unexpected argument '--tree' found",
+    ),
+    (
+        &["bench", "drive", "--tree"],
+        "error: unexpected argument '--tree' found",
+    ),
+    (
+        &["bench", "drive", "--tree", "locked", "locked"],
+        "error: unexpected argument '--tree' found",
+    ),
+    (
+        &["bench", "drive", "locked"],
+        "error: unexpected argument 'locked' found",
+    ),
+    (
+        &["bench", "judge", "--tree", "locked"],
+        "error: unexpected argument '--tree' found",
     ),
 ];
 
@@ -134,6 +154,20 @@ fn asks_for_a_plan(rt: HostRuntime) -> Result<(), Fail> {
             assert_eq!(rt; numbers.as_slice(), expected.as_slice());
         }
         other => assert!(rt; false, "{other:?}"),
+    }
+    Ok(())
+}
+
+#[test]
+fn asks_for_a_drive(rt: HostRuntime) -> Result<(), Fail> {
+    for words in [
+        ["bench", "drive"].as_slice(),
+        &["bench", "drive", "--tree", "locked"],
+    ] {
+        match read_line(rt.alloc(), words)? {
+            Line::Drive { tree } => assert_eq!(rt; tree, Tree::Locked),
+            other => assert!(rt; false, "{other:?}"),
+        }
     }
     Ok(())
 }

@@ -12,11 +12,11 @@ use Rattle.certificate.specs.declared.fault.OrderFault.{OrderFault}
 use Rattle.certificate.specs.declared.fault.OrderFault.TheVariants as orders
 use Rattle.certificate.specs.Faults.{IsRefusedFor}
 use Rattle.judge.specs.declared.verdict.Verdict.{Verdict}
+use Rattle.judge.specs.declared.verdict.Verdict.TheVariants as verdicts
 use Rattle.judge.specs.Judged.{IsJudged}
 use Rattle.outcomes.specs.declared.outcome.Answer.{Answer}
 use Rattle.outcomes.specs.declared.outcome.Answer.TheVariants.{Yes, No, Undecided}
 use Rattle.outcomes.specs.Lines.{line, ok_line, order_fault_line, history_fault_line}
-use Rattle.outcomes.specs.Statuses.{answer_of}
 
 -- the text spells this, and it is a history
 pub record IsTextOf (text : List ℕ) (history : HistoryView) : Type 0 where
@@ -48,6 +48,12 @@ abbrev pub IsCheckAnswer : List ℕ → List ℕ → Answer → List ℕ → Typ
 IsCheckAnswer order text Yes bytes = SpellsOrdered text order × (bytes ≡ ok_line)
 IsCheckAnswer order text No bytes = (fault : OrderFault) × SpellsUnordered text order fault × (bytes ≡ order_fault_line fault)
 IsCheckAnswer order text Undecided bytes = ⊥
+
+-- the answer that a verdict is
+abbrev pub answer_of : Verdict → Answer
+answer_of (verdicts.Yes order) = Yes
+answer_of (verdicts.No segment) = No
+answer_of (verdicts.Undecided segment) = Undecided
 
 -- `judge` answers the text at the budget so: with the report of a verdict on the history
 pub record IsJudgeAnswer (budget : ℕ) (text : List ℕ) (answer : Answer) (bytes : List ℕ) : Type 0 where

@@ -1,6 +1,6 @@
 // Texts that are refused, and texts as long as they may be, on ends in memory, with lines worked out by hand.
 
-use crate::worked_texts::{EMPTY, INSERT_THEN_GET, many_gets};
+use crate::worked_texts::{EMPTY, INSERT_THEN_GET, many_gets, padded};
 use crate::{run_check, run_judge};
 use pool::OpenGate;
 use std::alloc::{AllocError, Global};
@@ -117,15 +117,6 @@ fn refused_texts(rt: HostRuntime) -> Result<(), Fail> {
         refuses(&rt, alloc, &text[..end], "history: 2 NotJson\n")?;
     }
     Ok(())
-}
-
-// A text of some bytes, then so many of another.
-fn padded(alloc: Global, front: &[u8], byte: u8, count: usize) -> Result<Vec<u8>, AllocError> {
-    let mut text = Vec::from_slice(alloc, front)?;
-    for _ in 0..count {
-        text.push(byte)?;
-    }
-    Ok(text)
 }
 
 #[test]

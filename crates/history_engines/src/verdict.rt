@@ -1,13 +1,13 @@
 // `bench judge`: whether the history on the input has an order at all.
-ghost use Rattle.std.specs.Prelude.{◌<◌, ◌≤◌, Some};
-ghost use Rattle.history_engines.specs.Answers.{IsHistoryRefusal, IsJudgeAnswer};
+ghost use Rattle.std.specs.Prelude.{◌≡◌, ◌<◌, ◌≤◌, Some};
+ghost use Rattle.history_engines.specs.Answers.{IsHistoryRefusal, IsJudgeAnswer, answer_of};
 ghost use Rattle.outcomes.specs.Ends.{change};
 ghost use Rattle.history_engines.specs.Outcomes.{IsJudgeOutcome};
 ghost use Rattle.outcomes.specs.Outcomes.{IsTextOutcome};
 ghost use Rattle.outcomes.specs.Runs.{IsRun};
 
 use history_text::MAX_TEXT;
-use judge::{JudgeFault, MAX_BUDGET, judge_text};
+use judge::{JudgeFault, MAX_BUDGET, Verdict, judge_text};
 use outcomes::{Answer, Outcome, line_of, text_from, write_outcome};
 use pool::{Gate, MAX_WORKERS};
 use std::alloc::Global;
@@ -60,8 +60,19 @@ pub fn judge_outcome<R: Threads + Sync, G: Gate + Sync>(
     ensures { IsTextOutcome (IsJudgeAnswer budget) IsHistoryRefusal (Some text.now) result }
 {
     match judge_text(rt, alloc, text, budget, workers, gate) {
-        Ok((verdict, report)) => Outcome::answered(Answer::of(&verdict), line_of(report)),
+        Ok((verdict, report)) => Outcome::answered(answer_of(&verdict), line_of(report)),
         Err(JudgeFault::History(fault)) => Outcome::of_history_fault(alloc, &fault),
         Err(JudgeFault::Memory) => Outcome::Memory,
+    }
+}
+
+/// The answer that a verdict is.
+fn answer_of(verdict: &Verdict) -> Answer
+    ensures { result ≡ answer_of verdict.now }
+{
+    match verdict {
+        Verdict::Yes(_) => Answer::Yes,
+        Verdict::No(_) => Answer::No,
+        Verdict::Undecided(_) => Answer::Undecided,
     }
 }

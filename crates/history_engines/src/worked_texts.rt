@@ -87,3 +87,12 @@ pub fn many_gets(alloc: Global, count: usize) -> Result<String, AllocError> {
     text.push_str("],\"version\":1}")?;
     Ok(text)
 }
+
+/// A text of some bytes, then so many of another.
+pub fn padded(alloc: Global, front: &[u8], byte: u8, count: usize) -> Result<Vec<u8>, AllocError> {
+    let mut text = Vec::from_slice(alloc, front)?;
+    for _ in 0..count {
+        text.push(byte)?;
+    }
+    Ok(text)
+}

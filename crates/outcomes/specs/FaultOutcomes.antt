@@ -8,11 +8,9 @@ use Rattle.replays.specs.declared.fault.ReplayFault.{ReplayFault}
 use Rattle.replays.specs.declared.fault.ReplayFault.TheVariants as replays
 use Rattle.certificate.specs.declared.fault.OrderFault.{OrderFault}
 use Rattle.certificate.specs.declared.fault.OrderFault.TheVariants as orders
-use Rattle.command_line.specs.declared.fault.LineFault.{LineFault}
-use Rattle.command_line.specs.declared.fault.LineFault.TheVariants as line_faults
 use Rattle.outcomes.specs.declared.outcome.Answer.TheVariants.{No}
 use Rattle.outcomes.specs.declared.outcome.Outcome.{Outcome}
-use Rattle.outcomes.specs.declared.outcome.Outcome.TheVariants.{Answered, Refused, Memory, Words}
+use Rattle.outcomes.specs.declared.outcome.Outcome.TheVariants.{Answered, Refused, Memory}
 use Rattle.outcomes.specs.Lines.{history_fault_line, order_fault_line, plan_fault_line, replay_fault_line}
 
 -- the outcome of a text with this fault
@@ -38,8 +36,3 @@ abbrev pub IsOrderFaultOutcome : OrderFault → Outcome → Type 0
 IsOrderFaultOutcome fault (Answered answer bytes) = (fault ≢ orders.Memory) × (answer ≡ No) × (string_bytes bytes ≡ order_fault_line fault)
 IsOrderFaultOutcome fault Memory = ⊤
 IsOrderFaultOutcome fault outcome = ⊥
-
--- the outcome of words with this fault
-abbrev pub fault_outcome : LineFault → Outcome
-fault_outcome (line_faults.Line text) = Words text
-fault_outcome line_faults.Memory = Memory

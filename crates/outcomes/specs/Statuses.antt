@@ -1,7 +1,5 @@
 -- The exit statuses.
 use Rattle.std.specs.Prelude.{ℕ}
-use Rattle.judge.specs.declared.verdict.Verdict.{Verdict}
-use Rattle.judge.specs.declared.verdict.Verdict.TheVariants as verdicts
 use Rattle.outcomes.specs.declared.outcome.Answer.{Answer}
 use Rattle.outcomes.specs.declared.outcome.Answer.TheVariants.{Yes, No, Undecided}
 
@@ -26,9 +24,3 @@ words_status = 5
 -- standard input or output failed
 abbrev pub failed_status : ℕ
 failed_status = 6
-
--- the answer that a verdict is
-abbrev pub answer_of : Verdict → Answer
-answer_of (verdicts.Yes order) = Yes
-answer_of (verdicts.No segment) = No
-answer_of (verdicts.Undecided segment) = Undecided

@@ -1,14 +1,11 @@
 // How a run comes out, before anything is written.
 ghost use Rattle.std.specs.Prelude.{◌≡◌, MatchResult};
 ghost use Rattle.outcomes.specs.FaultOutcomes.{IsHistoryFaultOutcome, IsOrderFaultOutcome, IsPlanFaultOutcome, IsReplayFaultOutcome};
-ghost use Rattle.outcomes.specs.FaultOutcomes.{fault_outcome};
-ghost use Rattle.outcomes.specs.Statuses.{answer_of, answer_status};
+ghost use Rattle.outcomes.specs.Statuses.{answer_status};
 
 use crate::lines::{history_fault_line, order_fault_line, plan_fault_line, replay_fault_line};
 use certificate::OrderFault;
-use command_line::LineFault;
 use events::HistoryFault;
-use judge::Verdict;
 use plans::PlanFault;
 use replays::ReplayFault;
 use std::alloc::{AllocError, Global};
@@ -54,17 +51,6 @@ impl Answer {
             Answer::Yes => YES,
             Answer::No => NO,
             Answer::Undecided => UNDECIDED,
-        }
-    }
-
-    /// The answer that a verdict is.
-    pub fn of(verdict: &Verdict) -> Answer
-        ensures { result ≡ answer_of verdict.now }
-    {
-        match verdict {
-            Verdict::Yes(_) => Answer::Yes,
-            Verdict::No(_) => Answer::No,
-            Verdict::Undecided(_) => Answer::Undecided,
         }
     }
 }
@@ -145,16 +131,6 @@ impl Outcome {
         match fault {
             OrderFault::Memory => Outcome::Memory,
             _ => Outcome::answered(Answer::No, order_fault_line(alloc, fault)),
-        }
-    }
-
-    /// That the words of the command line ask for nothing that can be done, or want of memory.
-    pub fn of_line_fault(fault: LineFault) -> Outcome
-        ensures { result ≡ fault_outcome fault }
-    {
-        match fault {
-            LineFault::Line(text) => Outcome::Words(text),
-            LineFault::Memory => Outcome::Memory,
         }
     }
 }

@@ -1,1 +1,2 @@
+mod WholePlans
 mod WholeReplays

@@ -1,9 +1,11 @@
-//! The engines on plans and replays, over any source and sinks: the plan that is drawn from a seed, and the history that a
-//! replay records.
+//! The engines on plans and replays, over any source and sinks: the plan that is drawn from a seed, the history that is
+//! recorded while a plan is done, and the one that a replay records.
 #![tactic(auto)]
 
+mod drive;
 mod generate;
 mod replay;
 
+pub use drive::{drive_outcome, run_drive};
 pub use generate::{generate_outcome, run_generate};
 pub use replay::{replay_outcome, run_replay};

@@ -4,10 +4,9 @@ use Rattle.judge.specs.Judged.{IsJudged}
 use Rattle.outcomes.specs.declared.outcome.Answer.{Answer}
 use Rattle.outcomes.specs.declared.outcome.Outcome.{Outcome}
 use Rattle.outcomes.specs.declared.outcome.Outcome.TheVariants.{Answered, Memory}
-use Rattle.history_engines.specs.Answers.{IsHistoryRefusal, IsJudgeAnswer}
+use Rattle.history_engines.specs.Answers.{IsHistoryRefusal, IsJudgeAnswer, answer_of}
 use Rattle.outcomes.specs.Lines.{line}
 use Rattle.outcomes.specs.Outcomes.{IsTextOutcome}
-use Rattle.outcomes.specs.Statuses.{answer_of}
 use Rattle.history_engines.proofs.verdict.judge_outcome.Goals as goal
 
 -- a verdict that is answered with the line of its report is an outcome of the text
@@ -24,4 +23,4 @@ IsTextOutcome-judged budget text verdict report answer (Err e) outcome judged is
 pub returns-in-Ok : goal.returns-in-Ok
 returns-in-Ok g c =
     IsTextOutcome-judged c.args.budget c.args.text.now c.in-Ok.verdict
-    (string_bytes c.in-Ok.report) c.of.result c.line_of.result c.answered.result c.in-Ok.ensures.judged c.of.ensures c.line_of.ensures c.answered.ensures
+    (string_bytes c.in-Ok.report) c.answer_of.result c.line_of.result c.answered.result c.in-Ok.ensures.judged c.answer_of.ensures c.line_of.ensures c.answered.ensures

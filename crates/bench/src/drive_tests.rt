@@ -1,0 +1,178 @@
+// Plans that are done by the program, with histories and lines worked out by hand.
+
+use crate::command::run;
+use crate::tests::{assert_reads_fail, assert_writes_fail, leaves};
+use events::{Call, Reply};
+use history_engines::worked_texts::padded;
+use plan_engines::run_drive;
+use pool::OpenGate;
+use recorder::Subject;
+use std::alloc::{AllocError, Global};
+use std::process::Abort;
+use std::sync::Wait;
+use std::test::Fail;
+use std::thread::Threads;
+use streams::memory_ends::{MemorySink, MemorySource};
+
+// process 0: `insert 5 7, get 5`
+const INSERT_THEN_GET_PLAN: &str = r#"{"scripts":[[["insert",5,7],["get",5]]],"version":1}"#;
+
+// What is written for it.
+const INSERT_THEN_GET_WRITTEN: &str = "{\"events\":[\
+    {\"invoke\":[\"insert\",5,7],\"process\":0},{\"answer\":null,\"process\":0},\
+    {\"invoke\":[\"get\",5],\"process\":0},{\"answer\":7,\"process\":0}],\"version\":1}\n";
+
+// What is written where there are no calls.
+const EMPTY_WRITTEN: &str = "{\"events\":[],\"version\":1}\n";
+
+// process 0: `insert 5 7, replace 5 7 8, replace 5 7 9, get 5`
+const REPLACES_PLAN: &str = r#"{"scripts":
+    [[["insert",5,7],["replace",5,7,8],["replace",5,7,9],["get",5]]],"version":2}"#;
+
+// What is written for it.
+const REPLACES_WRITTEN: &str = "{\"events\":[\
+    {\"invoke\":[\"insert\",5,7],\"process\":0},{\"answer\":null,\"process\":0},\
+    {\"invoke\":[\"replace\",5,7,8],\"process\":0},{\"answer\":7,\"process\":0},\
+    {\"invoke\":[\"replace\",5,7,9],\"process\":0},{\"answer\":8,\"process\":0},\
+    {\"invoke\":[\"get\",5],\"process\":0},{\"answer\":8,\"process\":0}],\
+    \"start\":[],\"version\":2}\n";
+
+// A plan with a script of so many gets, and one of none.
+fn gets_and_none(alloc: Global, count: usize) -> Result<String, AllocError> {
+    let mut text = String::from_str(alloc, "{\"scripts\":[[")?;
+    for i in 0..count {
+        if i > 0 {
+            text.push_str(",")?;
+        }
+        text.push_str("[\"get\",0]")?;
+    }
+    text.push_str("],[]],\"version\":1}")?;
+    Ok(text)
+}
+
+#[test]
+fn driven_plans(rt: HostRuntime) -> Result<(), Fail> {
+    let alloc = rt.alloc();
+    let driven = [
+        (INSERT_THEN_GET_PLAN, INSERT_THEN_GET_WRITTEN),
+        (r#"{"scripts":[[]],"version":1}"#, EMPTY_WRITTEN),
+        (r#"{"version":2,"scripts":[[],[]]}"#, EMPTY_WRITTEN),
+        (REPLACES_PLAN, REPLACES_WRITTEN),
+    ];
+    for (text, output) in driven {
+        for line in ["bench drive", "bench drive --tree locked"] {
+            leaves(&rt, alloc, line, text.as_bytes(), 0, output, "")?;
+        }
+    }
+    let refused = [
+        ("", "plan: 6 NotJson\n"),
+        (r#"{"scripts":[],"version":1}"#, "plan: 3 TooMany\n"),
+        (r#"{"scripts":[[]],"version":3}"#, "plan: 7 Shape\n"),
+        (r#"{"scripts":[[["get"]]],"version":1}"#, "plan: 7 Shape\n"),
+        (
+            r#"{"scripts":[[["replace",5,7,8]]],"version":1}"#,
+            "plan: 7 Shape\n",
+        ),
+    ];
+    for (text, fault) in refused {
+        leaves(&rt, alloc, "bench drive", text.as_bytes(), 3, "", fault)?;
+    }
+    Ok(())
+}
+
+// Each process may have as many calls as the longest script, so two of them at most 2,048 each.
+#[test]
+fn plans_of_too_many_calls(rt: HostRuntime) -> Result<(), Fail> {
+    let alloc = rt.alloc();
+    let text = gets_and_none(alloc, 2048)?;
+    output_of(&rt, alloc, "bench drive", text.as_bytes(), 0)?;
+    for count in [2049, 4096, 4097] {
+        let text = gets_and_none(alloc, count)?;
+        let fault = "plan: 3 TooMany\n";
+        leaves(&rt, alloc, "bench drive", text.as_bytes(), 3, "", fault)?;
+    }
+    let text = padded(alloc, b"", b' ', 16_777_217)?;
+    leaves(&rt, alloc, "bench drive", &text, 3, "", "plan: 5 TooLong\n")?;
+    Ok(())
+}
+
+// The output of a run on a text, which ends with this status and tells no fault.
+fn output_of<R: Threads + Wait + Sync + Abort>(
+    rt: &R,
+    alloc: Global,
+    line: &str,
+    text: &[u8],
+    status: u8,
+) -> Result<Vec<u8>, AllocError> {
+    let mut source = MemorySource::new(Vec::from_slice(alloc, text)?, 1_000_000, None);
+    let mut out = MemorySink::new(Vec::new(alloc), 1_000_000, None);
+    let mut err = MemorySink::new(Vec::new(alloc), 1_000_000, None);
+    let words: Vec<&str> = line.split_whitespace().collect(alloc)?;
+    let answer = run(
+        rt,
+        alloc,
+        &mut source,
+        &mut out,
+        &mut err,
+        &words,
+        &OpenGate,
+    );
+    assert_eq!(rt; answer, status, "{line}");
+    assert!(rt; err.bytes().is_empty(), "{line}");
+    Vec::from_slice(alloc, out.bytes())
+}
+
+// Four processes with a thousand calls each, on few keys and on many.
+#[test]
+fn a_map_under_a_lock_is_linearizable(rt: HostRuntime) -> Result<(), Fail> {
+    let alloc = rt.alloc();
+    for greatest in [9, 999] {
+        let line = format!(in alloc;
+            "bench generate --seed 7 --processes 4 --calls 1000 \
+            --get 40 --insert 40 --remove 20 --scan 0 --lo 0 --hi {greatest}"
+        )?;
+        let plan = output_of(&rt, alloc, &line, b"", 0)?;
+        let history = output_of(&rt, alloc, "bench drive --tree locked", &plan, 0)?;
+        output_of(&rt, alloc, "bench judge", &history, 0)?;
+    }
+    Ok(())
+}
+
+// Answers each call with 1.
+#[derive(Drop)]
+struct Ones;
+
+impl Subject for Ones {
+    fn call(&self, _call: &Call) -> Reply {
+        Reply::Some(1)
+    }
+}
+
+// A subject of a caller's own that answers a wrong value: what is recorded is judged so.
+#[test]
+fn a_subject_that_answers_wrong_values(rt: HostRuntime) -> Result<(), Fail> {
+    let alloc = rt.alloc();
+    let text = br#"{"scripts":[[["get",5]]],"version":1}"#;
+    let mut source = MemorySource::new(Vec::from_slice(alloc, text)?, 100, None);
+    let mut out = MemorySink::new(Vec::new(alloc), 100, None);
+    let mut err = MemorySink::new(Vec::new(alloc), 100, None);
+    let status = run_drive(&rt, alloc, &mut source, &mut out, &mut err, &Ones);
+    assert_eq!(rt; status, 0);
+    assert!(rt; err.bytes().is_empty());
+    let wanted = "{\"events\":[{\"invoke\":[\"get\",5],\"process\":0},\
+        {\"answer\":1,\"process\":0}],\"version\":1}\n";
+    assert!(rt; out.bytes() == wanted.as_bytes());
+    let report = "{\"calls\":[0],\"hi\":5,\"lo\":5,\"verdict\":\"no\"}\n";
+    leaves(&rt, alloc, "bench judge", out.bytes(), 1, report, "")?;
+    Ok(())
+}
+
+#[test]
+fn failing_reads_and_writes_of_a_drive(rt: HostRuntime) -> Result<(), Fail> {
+    let alloc = rt.alloc();
+    let words = ["bench", "drive"];
+    let text = INSERT_THEN_GET_PLAN.as_bytes();
+    assert_reads_fail(&rt, alloc, &words, text, 0, INSERT_THEN_GET_WRITTEN)?;
+    assert_writes_fail(&rt, alloc, &words, text, 0, INSERT_THEN_GET_WRITTEN)?;
+    Ok(())
+}

@@ -1,0 +1,50 @@
+-- The text of a plan that was read up to one byte more than a text may have tells all that is to be told of the whole.
+use Rattle.std.proofs.Common.{◌≡◌, ℕ, ◌+◌, ◌<◌, ◌≤◌, List, length, take, subst, inl, inr, arith, length-take}
+use Rattle.events.specs.declared.event.Call.{Call}
+use Rattle.events.specs.HistoryView.{HistoryView}
+use Rattle.history_text.specs.Limits.{text_limit}
+use Rattle.plans.specs.declared.fault.PlanFault.{PlanFault}
+use Rattle.plans.specs.declared.fault.PlanFault.TheVariants as plans
+use Rattle.plan_text.specs.PlanTexts.{SpellsPlan}
+use Rattle.plan_text.specs.PlanTextFaults.{IsPlanTextFault}
+use Rattle.outcomes.specs.declared.outcome.Answer.{Answer}
+use Rattle.outcomes.proofs.WholeText.{same_text}
+use Rattle.plan_engines.specs.Drives.{IsDriveAnswer, IsDriven, IsDriveRefusal, IsUndriven}
+
+-- a plan that the text read spells is the one of the whole
+SpellsPlan-whole : (text : List ℕ) (scripts : List (List Call)) → SpellsPlan (take (text_limit + 1) text) scripts → SpellsPlan text scripts
+SpellsPlan-whole text scripts h = subst (λ (t : List ℕ). SpellsPlan t scripts) (same_text text_limit text h.json.fits) h
+
+-- a fault of the text read, as one of a plan, is one of the whole
+IsPlanTextFault-whole : (text : List ℕ) (fault : PlanFault) → IsPlanTextFault (take (text_limit + 1) text) fault → IsPlanTextFault text fault
+IsPlanTextFault-whole text plans.TooLong h = let size = length-take (text_limit + 1) text in let long : text_limit < length (take (text_limit + 1) text) =
+    h in omega (arith, size)
+IsPlanTextFault-whole text plans.NotJson h = subst (λ (t : List ℕ). IsPlanTextFault t plans.NotJson) (same_text text_limit text h.0) h
+IsPlanTextFault-whole text plans.Shape h = subst (λ (t : List ℕ). IsPlanTextFault t plans.Shape) (same_text text_limit text h.1.fits) h
+IsPlanTextFault-whole text plans.TooMany h = (h.0, SpellsPlan-whole text h.0 h.1, h.2)
+IsPlanTextFault-whole text plans.Memory h = tt
+IsPlanTextFault-whole text plans.BadMix h = h
+IsPlanTextFault-whole text plans.BadRange h = h
+
+IsUndriven-whole : (text : List ℕ) (fault : PlanFault) → IsUndriven (take (text_limit + 1) text) fault → IsUndriven text fault
+IsUndriven-whole text fault (inl h) = inl (IsPlanTextFault-whole text fault h)
+IsUndriven-whole text fault (inr h) = inr (h.0, (h.1.0, SpellsPlan-whole text h.1.0 h.1.1, h.1.2, h.1.3))
+
+IsDriven-whole : (text : List ℕ) (history : HistoryView) → IsDriven (take (text_limit + 1) text) history → IsDriven text history
+IsDriven-whole text history h = record {
+  scripts = h.scripts;
+  spelled = SpellsPlan-whole text h.scripts h.spelled;
+  are_scripts = h.are_scripts;
+  drivable = h.drivable;
+  driven = h.driven;
+}
+
+-- an answer of `drive` to the text read is one to the whole
+pub IsDriveAnswer-whole : (text : List ℕ) (answer : Answer) (bytes : List ℕ) → IsDriveAnswer (take (text_limit + 1) text) answer bytes
+    → IsDriveAnswer text answer bytes
+IsDriveAnswer-whole text answer bytes h =
+    record { history = h.history; driven = IsDriven-whole text h.history h.driven; answer_is = h.answer_is; bytes_are = h.bytes_are }
+
+pub IsDriveRefusal-whole : (text bytes : List ℕ) → IsDriveRefusal (take (text_limit + 1) text) bytes → IsDriveRefusal text bytes
+IsDriveRefusal-whole text bytes h =
+    record { fault = h.fault; refused = IsUndriven-whole text h.fault h.refused; not_memory = h.not_memory; bytes_are = h.bytes_are }

@@ -1,0 +1,45 @@
+-- What the program answers to the text of a plan that is to be done.
+use Rattle.std.specs.Prelude.{◌≡◌, ◌≢◌, ◌⊎◌, ℕ, List}
+use Rattle.serde_json.specs.Written.{compact_text}
+use Rattle.events.specs.declared.event.Call.{Call}
+use Rattle.events.specs.HistoryView.{HistoryView}
+use Rattle.history_text.specs.Texts.{history_data}
+use Rattle.plans.specs.declared.fault.PlanFault.{PlanFault}
+use Rattle.plans.specs.declared.fault.PlanFault.TheVariants as plans
+use Rattle.plans.specs.Plans.{AreScripts}
+use Rattle.plan_text.specs.PlanTexts.{SpellsPlan}
+use Rattle.plan_text.specs.PlanTextFaults.{IsPlanTextFault}
+use Rattle.drives.specs.Drives.{IsDrivable, IsDriveOf}
+use Rattle.outcomes.specs.declared.outcome.Answer.{Answer}
+use Rattle.outcomes.specs.declared.outcome.Answer.TheVariants.{Yes}
+use Rattle.outcomes.specs.Lines.{line, plan_fault_line}
+
+-- the text spells a plan for which there is room, and this is recorded while its scripts are done
+pub record IsDriven (text : List ℕ) (history : HistoryView) : Type 0 where
+  pub scripts : List (List Call)
+  pub spelled : SpellsPlan text scripts
+  pub are_scripts : AreScripts scripts
+  pub drivable : IsDrivable scripts
+  pub driven : IsDriveOf scripts history
+
+-- the text spells a plan for which there is no room: its number of scripts times the length of the longest one is too great
+abbrev pub SpellsUndrivable : List ℕ → Type 0
+SpellsUndrivable text = (scripts : List (List Call)) × SpellsPlan text scripts × AreScripts scripts × (IsDrivable scripts → ⊥)
+
+-- why a text gives no history: the text's own first fault, or that its scripts are too many to be done
+abbrev pub IsUndriven : List ℕ → PlanFault → Type 0
+IsUndriven text fault = IsPlanTextFault text fault ⊎ ((fault ≡ plans.TooMany) × SpellsUndrivable text)
+
+-- `drive` answers the text so: yes, with the text of a history of the plan
+pub record IsDriveAnswer (text : List ℕ) (answer : Answer) (bytes : List ℕ) : Type 0 where
+  pub history : HistoryView
+  pub driven : IsDriven text history
+  pub answer_is : answer ≡ Yes
+  pub bytes_are : bytes ≡ line (compact_text (history_data history))
+
+-- a text that gives no history of a plan is refused with this line
+pub record IsDriveRefusal (text bytes : List ℕ) : Type 0 where
+  pub fault : PlanFault
+  pub refused : IsUndriven text fault
+  pub not_memory : fault ≢ plans.Memory
+  pub bytes_are : bytes ≡ plan_fault_line fault

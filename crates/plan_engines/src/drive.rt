@@ -1,0 +1,70 @@
+// `bench drive`: the history of a plan that is done at a subject.
+ghost use Rattle.std.specs.Prelude.{◌<◌, Some};
+ghost use Rattle.outcomes.specs.Ends.{change};
+ghost use Rattle.outcomes.specs.Outcomes.{IsTextOutcome};
+ghost use Rattle.outcomes.specs.Runs.{IsRun};
+ghost use Rattle.plan_engines.specs.Drives.{IsDriveAnswer, IsDriveRefusal};
+ghost use Rattle.plan_engines.specs.Outcomes.{IsDriveOutcome};
+
+use drives::{drive_subject, is_drivable};
+use history_text::{MAX_TEXT, write_history};
+use outcomes::{Answer, Outcome, line_of, text_from, write_outcome};
+use plan_text::read_plan;
+use plans::PlanFault;
+use recorder::Subject;
+use std::alloc::Global;
+use std::thread::Threads;
+use streams::{Sink, Source};
+
+/// Reads a plan text to the end of the source, or until it is too long, does each script of the plan at the subject, in a
+/// thread of its own, and writes the text of the history that is recorded. Answers the exit status.
+pub fn run_drive<R: Threads + Sync, S: Source, O: Sink, F: Sink, J: Subject + Sync>(
+    rt: &R,
+    alloc: Global,
+    source: &mut S,
+    output: &mut O,
+    faults: &mut F,
+    subject: &J,
+) -> u8
+    requires source { S.failures source.old < u64.MAX }
+    requires output { O.failures output.old < u64.MAX }
+    requires faults { F.failures faults.old < u64.MAX }
+    ensures { IsRun
+        (IsDriveOutcome (change S.remaining S.failures source.old source.new))
+        (change O.written O.failures output.old output.new)
+        (change F.written F.failures faults.old faults.new) result }
+{
+    match text_from(alloc, source, MAX_TEXT) {
+        Ok(text) => {
+            let outcome = drive_outcome(rt, alloc, &text, subject);
+            write_outcome(output, faults, &outcome)
+        }
+        Err(outcome) => write_outcome(output, faults, &outcome),
+    }
+}
+
+/// The text of the history that is recorded while the plan that the text spells is done at the subject, or why there is none.
+pub fn drive_outcome<R: Threads + Sync, J: Subject + Sync>(
+    rt: &R,
+    alloc: Global,
+    text: &[u8],
+    subject: &J,
+) -> Outcome
+    ensures { IsTextOutcome IsDriveAnswer IsDriveRefusal (Some text.now) result }
+{
+    let plan = match read_plan(alloc, text) {
+        Ok(plan) => plan,
+        Err(fault) => return Outcome::of_plan_fault(alloc, fault),
+    };
+    if !is_drivable(&plan) {
+        return Outcome::of_plan_fault(alloc, PlanFault::TooMany);
+    }
+    let history = match drive_subject(rt, alloc, &plan, subject) {
+        Ok(history) => history,
+        Err(_) => return Outcome::Memory,
+    };
+    match write_history(alloc, &history) {
+        Ok(text) => Outcome::answered(Answer::Yes, line_of(text)),
+        Err(_) => Outcome::Memory,
+    }
+}
