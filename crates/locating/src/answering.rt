@@ -1,5 +1,5 @@
 // The call that an event answers.
-ghost use Rattle.std.specs.Prelude.{ℕ};
+ghost use Rattle.std.specs.Prelude.{◌≡◌, ◌↔◌, ℕ, IsTrue, IsSomeAnd};
 ghost use Rattle.prefixes.specs.Prefixes.{IsAnswerOf};
 
 use events::{History, Operation};
@@ -16,8 +16,6 @@ pub fn call_answered_at(history: &History, event: u32) -> u32
     }
     unreachable!()
 }
-
-ghost use Rattle.std.specs.Prelude.{◌≡◌, ◌↔◌, IsTrue, IsSomeAnd};
 
 /// Whether the response of a call stands at this place.
 fn is_answered_at(call: &Operation, event: u32) -> bool

@@ -1,6 +1,6 @@
--- Responses have calls, and there are at most as many as invocations.
+-- Each response is that of one call, and there are at most as many as invocations.
 use Rattle.std.proofs.Common.{◌≡◌, ℕ, zero, suc, ◌+◌, ◌*◌, ◌≤◌, Bool, true, false, not, ◌&&◌, ◌||◌, cond, ◌==◌, List, [], ◌∷◌, length, Some, refl, sym}
-use Rattle.std.proofs.Common.{ap, subst, inl, inr, ⊎_elim, arith, eqb-true, eq-eqb, ◌++◌}
+use Rattle.std.proofs.Common.{ap, subst, inl, inr, ⊎_elim, arith, eqb-true, eq-eqb, ◌++◌, ◌∙◌}
 use Rattle.std.specs.Prelude.{◌⊎◌, slice_get, IsSomeAnd, Contains}
 use Rattle.std.proofs.Math.Nat.{zero-add}
 use Rattle.std.proofs.lemmas.Bool.{false≢true, or_cases}
@@ -119,3 +119,101 @@ few_from waits waiting_ones (Answer p reply ∷ events) turns covers =
 pub few_events : (events : List Event) → IsWellFormed events → length events ≤ 2 * call_count events
 few_events events formed =
     let few = few_from (λ q. false) [] events (λ q. formed q) (λ q h. absurd (false≢true h)) in omega (arith, few)
+
+-- ---- one call for each response
+
+-- the response that a process waits for is the one at this place
+abbrev IsResponseAt : ℕ → ℕ → List Event → ℕ → Type 0
+IsResponseAt p i events place = IsSomeAnd (response_from p i events) (λ response. response.res ≡ place)
+
+-- so is that of the call of this number
+abbrev IsResponseOf : ℕ → List Event → ℕ → ℕ → Type 0
+IsResponseOf i events n place = IsSomeAnd (slice_get (operations_from i events) n) (λ a. IsSomeAnd a.response (λ response. response.res ≡ place))
+
+-- neither stands before the list
+response_from-later : (p i : ℕ) (events : List Event) (place : ℕ) → IsResponseAt p i events place → i ≤ place
+response_from-later p i [] place h = absurd h
+response_from-later p i (Invoke q call ∷ events) place h = let later = response_from-later p (suc i) events place h in omega arith
+response_from-later p i (Answer q reply ∷ events) place h = by_case (λ k. response_from-later p (suc i) events place k) (q == p) h
+  where
+    by_case : (IsResponseAt p (suc i) events place → suc i ≤ place) → (c : Bool)
+        → IsSomeAnd (cond c (Some (record { res = i; reply = reply })) (response_from p (suc i) events)) (λ response. response.res ≡ place) → i ≤ place
+    by_case go true k = omega (arith, k)
+    by_case go false k = let later = go k in omega arith
+
+response_of-later : (i : ℕ) (events : List Event) (n place : ℕ) → IsResponseOf i events n place → i ≤ place
+response_of-later i [] n place h = absurd h
+response_of-later i (Answer p reply ∷ events) n place h = let later = response_of-later (suc i) events n place h in omega arith
+response_of-later i (Invoke p call ∷ events) (suc n) place h = let later = response_of-later (suc i) events n place h in omega arith
+response_of-later i (Invoke p call ∷ events) zero place h = let later = response_from-later p (suc i) events place h in omega arith
+
+-- two processes have no response in common
+own_response : (p q i : ℕ) (events : List Event) (place : ℕ) → (q == p) ≡ false → IsResponseAt p i events place → IsResponseAt q i events place → ⊥
+own_response p q i [] place other first second = first
+own_response p q i (Invoke r call ∷ events) place other first second = own_response p q (suc i) events place other first second
+own_response p q i (Answer r reply ∷ events) place other first second =
+    by_cases (λ k l. own_response p q (suc i) events place other k l) (r == p) (r == q) refl refl first second
+  where
+    At : Bool → ℕ → Type 0
+    At c s = IsSomeAnd (cond c (Some (record { res = i; reply = reply })) (response_from s (suc i) events)) (λ response. response.res ≡ place)
+
+    by_cases : (IsResponseAt p (suc i) events place → IsResponseAt q (suc i) events place → ⊥) → (c d : Bool) → (r == p) ≡ c → (r == q) ≡ d → At c p → At d q → ⊥
+    by_cases go true true is also k l = false≢true (sym other ∙ eq-eqb q p (sym (eqb-true r q also) ∙ eqb-true r p is))
+    by_cases go true false is also k l = let later = response_from-later q (suc i) events place l in absurd (omega (arith, k))
+    by_cases go false true is also k l = let later = response_from-later p (suc i) events place k in absurd (omega (arith, l))
+    by_cases go false false is also k l = go k l
+
+-- the response that a process waits for is that of no call to come
+waited_for : (p i : ℕ) (events : List Event) (n place : ℕ) → takes_turns true (events_of p events) ≡ true → IsResponseAt p i events place
+    → IsResponseOf i events n place → ⊥
+waited_for p i [] n place turns first second = first
+waited_for p i (Invoke q call ∷ events) n place turns first second =
+    by_case (λ m k l. waited_for p (suc i) events m place k first l) (q == p) refl turns n second
+  where
+    Goes : Type 0
+    Goes = (m : ℕ) → takes_turns true (events_of p events) ≡ true → IsResponseOf (suc i) events m place → ⊥
+
+    by_number : Goes → (q == p) ≡ false → takes_turns true (events_of p events) ≡ true → (m : ℕ) → IsResponseOf i (Invoke q call ∷ events) m place → ⊥
+    by_number go other k zero l = own_response p q (suc i) events place other first l
+    by_number go other k (suc m) l = go m k l
+
+    by_case : Goes → (c : Bool) → (q == p) ≡ c → takes_turns true (cond c (Invoke q call ∷ events_of p events) (events_of p events)) ≡ true → (m : ℕ)
+        → IsResponseOf i (Invoke q call ∷ events) m place → ⊥
+    by_case go true own k m l = false≢true k
+    by_case go false other k m l = by_number go other k m l
+waited_for p i (Answer q reply ∷ events) n place turns first second =
+    by_case (λ k own. waited_for p (suc i) events n place own k second) (q == p) first turns
+  where
+    by_case : (IsResponseAt p (suc i) events place → takes_turns true (events_of p events) ≡ true → ⊥) → (c : Bool)
+        → IsSomeAnd (cond c (Some (record { res = i; reply = reply })) (response_from p (suc i) events)) (λ response. response.res ≡ place)
+        → takes_turns true (cond c (Answer q reply ∷ events_of p events) (events_of p events)) ≡ true → ⊥
+    by_case go true k own = let later = response_of-later (suc i) events n place second in absurd (omega (arith, k))
+    by_case go false k own = go k own
+
+one_call_from : (waits : ℕ → Bool) (i : ℕ) (events : List Event) (m n place : ℕ) → ((q : ℕ) → takes_turns (waits q) (events_of q events) ≡ true)
+    → IsResponseOf i events m place → IsResponseOf i events n place → m ≡ n
+one_call_from waits i [] m n place turns first second = absurd first
+one_call_from waits i (Answer p reply ∷ events) m n place turns first second =
+    one_call_from (λ q. not (p == q) && waits q) (suc i) events m n place (λ q. after_answer (p == q) (waits q) p reply (events_of q events) (turns q)) first second
+one_call_from waits i (Invoke p call ∷ events) m n place turns first second =
+    by_numbers (λ m n own k l. one_call_from (λ q. (p == q) || waits q) (suc i) events m n place own k l) m n first second
+  where
+    next : (q : ℕ) → takes_turns ((p == q) || waits q) (events_of q events) ≡ true
+    next q = after_invoke (p == q) (waits q) p call (events_of q events) (turns q)
+
+    waiting : takes_turns true (events_of p events) ≡ true
+    waiting = subst (λ (c : Bool). takes_turns (c || waits p) (events_of p events) ≡ true) (eq-eqb p p refl) (next p)
+
+    Goes : Type 0
+    Goes = (m n : ℕ) → ((q : ℕ) → takes_turns ((p == q) || waits q) (events_of q events) ≡ true) → IsResponseOf (suc i) events m place
+        → IsResponseOf (suc i) events n place → m ≡ n
+
+    by_numbers : Goes → (m n : ℕ) → IsResponseOf i (Invoke p call ∷ events) m place → IsResponseOf i (Invoke p call ∷ events) n place → m ≡ n
+    by_numbers go zero zero k l = refl
+    by_numbers go zero (suc n) k l = absurd (waited_for p (suc i) events n place waiting k l)
+    by_numbers go (suc m) zero k l = absurd (waited_for p (suc i) events m place waiting l k)
+    by_numbers go (suc m) (suc n) k l = ap suc (go m n next k l)
+
+-- a response is that of one call
+pub one_call : (events : List Event) (m n place : ℕ) → IsWellFormed events → IsResponseOf 0 events m place → IsResponseOf 0 events n place → m ≡ n
+one_call events m n place formed first second = one_call_from (λ q. false) 0 events m n place (λ q. formed q) first second

@@ -28,6 +28,12 @@ AnswersHaveCalls =
     (history : HistoryView) (place process : ℕ) (reply : Reply) → IsHistory history → slice_get history.events place ≡ Some (Answer process reply) → (number : ℕ)
     × IsAnswerOf history.events number place
 
+-- an event is the answer of one call at most
+abbrev pub AnswersHaveOneCall : Type 0
+AnswersHaveOneCall =
+    (history : HistoryView) (number other place : ℕ) → IsHistory history → IsAnswerOf history.events number place → IsAnswerOf history.events other place
+    → number ≡ other
+
 -- the event at which an order is lost is the answer of a call
 abbrev pub OrdersAreLostAtAnswers : Type 0
 OrdersAreLostAtAnswers =

@@ -4,6 +4,7 @@ ghost use Rattle.prefixes.specs.Laws.{
   PrefixesHaveOrders,
   InvocationsKeepOrders,
   AnswersHaveCalls,
+  AnswersHaveOneCall,
   OrdersAreLostAtAnswers,
   OneEventGoesWrong,
   HistoriesHaveFewEvents,
@@ -29,6 +30,11 @@ pub fn invocations_keep_orders()
 /// Each response of a history is the answer of a call.
 pub fn answers_have_calls()
     ensures { AnswersHaveCalls }
+{}
+
+/// An event of a history is the answer of one call at most.
+pub fn answers_have_one_call()
+    ensures { AnswersHaveOneCall }
 {}
 
 /// Where the first events of a history have an order and those with the next one have none, that event is the answer of

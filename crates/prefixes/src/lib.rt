@@ -5,6 +5,6 @@
 mod laws;
 
 pub use laws::{
-    answers_have_calls, histories_have_few_events, invocations_keep_orders, one_event_goes_wrong,
-    orders_are_lost_at_answers, prefixes_are_histories, prefixes_have_orders,
+    answers_have_calls, answers_have_one_call, histories_have_few_events, invocations_keep_orders,
+    one_event_goes_wrong, orders_are_lost_at_answers, prefixes_are_histories, prefixes_have_orders,
 };
