@@ -1,1 +1,2 @@
 mod WholeHistories
+mod WholeLocations

@@ -1,2 +1,4 @@
 pub mod Answers
 pub mod Outcomes
+pub mod LocateAnswers
+pub mod LocateOutcomes

@@ -1,11 +1,14 @@
-//! The engines on the text of a history, over any source and sinks: whether calls are an order of it, and its verdict.
+//! The engines on the text of a history, over any source and sinks: whether calls are an order of it, its verdict, and where
+//! it goes wrong.
 #![tactic(auto)]
 
 mod check;
+mod location;
 #[cfg(test)]
 mod tests;
 mod verdict;
 pub mod worked_texts;
 
 pub use check::{check_outcome, run_check};
+pub use location::{locate_outcome, run_locate};
 pub use verdict::{judge_outcome, run_judge};

@@ -1,7 +1,7 @@
 // Texts that are refused, and texts as long as they may be, on ends in memory, with lines worked out by hand.
 
 use crate::worked_texts::{EMPTY, INSERT_THEN_GET, many_gets, padded};
-use crate::{run_check, run_judge};
+use crate::{run_check, run_judge, run_locate};
 use pool::OpenGate;
 use std::alloc::{AllocError, Global};
 use std::process::Abort;
@@ -29,7 +29,7 @@ fn checks(
     Ok(())
 }
 
-// Each text is refused with this line by both engines.
+// Each text is refused with this line by all engines.
 fn refuses<R: Threads + Sync + Abort>(
     rt: &R,
     alloc: Global,
@@ -37,22 +37,20 @@ fn refuses<R: Threads + Sync + Abort>(
     fault: &str,
 ) -> Result<(), AllocError> {
     checks(rt, alloc, &[0, 1], text, 3, "", fault)?;
-    let mut source = MemorySource::new(Vec::from_slice(alloc, text)?, 1_000_000, None);
-    let mut out = MemorySink::new(Vec::new(alloc), 7, None);
-    let mut err = MemorySink::new(Vec::new(alloc), 7, None);
-    let answer = run_judge(
-        rt,
-        alloc,
-        &mut source,
-        &mut out,
-        &mut err,
-        100_000,
-        1,
-        &OpenGate,
-    );
-    assert_eq!(rt; answer, 3, "{fault}");
-    assert!(rt; out.bytes().is_empty(), "{fault}");
-    assert!(rt; err.bytes() == fault.as_bytes(), "{fault}");
+    for locates in [false, true] {
+        let mut source = MemorySource::new(Vec::from_slice(alloc, text)?, 1_000_000, None);
+        let mut out = MemorySink::new(Vec::new(alloc), 7, None);
+        let mut err = MemorySink::new(Vec::new(alloc), 7, None);
+        let (text, output, faults) = (&mut source, &mut out, &mut err);
+        let answer = if locates {
+            run_locate(rt, alloc, text, output, faults, 100_000, 1, &OpenGate)
+        } else {
+            run_judge(rt, alloc, text, output, faults, 100_000, 1, &OpenGate)
+        };
+        assert_eq!(rt; answer, 3, "{fault}");
+        assert!(rt; out.bytes().is_empty(), "{fault}");
+        assert!(rt; err.bytes() == fault.as_bytes(), "{fault}");
+    }
     Ok(())
 }
 

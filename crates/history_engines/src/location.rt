@@ -1,0 +1,85 @@
+// `bench locate`: the event at which the history on the input goes wrong.
+ghost use Rattle.std.specs.Prelude.{◌≡◌, ◌<◌, ◌≤◌, Some};
+ghost use Rattle.history_engines.specs.Answers.{IsHistoryRefusal};
+ghost use Rattle.history_engines.specs.LocateAnswers.{answer_of_location, IsLocateAnswer};
+ghost use Rattle.history_engines.specs.LocateOutcomes.{IsLocateOutcome};
+ghost use Rattle.outcomes.specs.Ends.{change};
+ghost use Rattle.outcomes.specs.Outcomes.{IsTextOutcome};
+ghost use Rattle.outcomes.specs.Runs.{IsRun};
+
+use history_text::{MAX_TEXT, read_history};
+use judge::MAX_BUDGET;
+use locating::{Location, locate, location_line};
+use outcomes::{Answer, Outcome, line_of, text_from, write_outcome};
+use pool::{Gate, MAX_WORKERS};
+use std::alloc::Global;
+use std::thread::Threads;
+use streams::{Sink, Source};
+
+/// Reads a history text to the end of the source, or until it is too long, and looks for the event at which the history
+/// goes wrong: prefixes are judged as `run_judge` judges a history. Answers the exit status.
+pub fn run_locate<R: Threads + Sync, S: Source, O: Sink, F: Sink, G: Gate + Sync>(
+    rt: &R,
+    alloc: Global,
+    source: &mut S,
+    output: &mut O,
+    faults: &mut F,
+    budget: u32,
+    workers: u32,
+    gate: &G,
+) -> u8
+    requires budget { (1 ≤ budget) × (budget ≤ MAX_BUDGET) }
+    requires workers { (1 ≤ workers) × (workers ≤ MAX_WORKERS) }
+    requires source { S.failures source.old < u64.MAX }
+    requires output { O.failures output.old < u64.MAX }
+    requires faults { F.failures faults.old < u64.MAX }
+    ensures { IsRun
+        (IsLocateOutcome budget (change S.remaining S.failures source.old source.new))
+        (change O.written O.failures output.old output.new)
+        (change F.written F.failures faults.old faults.new) result }
+{
+    match text_from(alloc, source, MAX_TEXT) {
+        Ok(text) => {
+            let outcome = locate_outcome(rt, alloc, &text, budget, workers, gate);
+            write_outcome(output, faults, &outcome)
+        }
+        Err(outcome) => write_outcome(output, faults, &outcome),
+    }
+}
+
+/// The event at which the history that the text spells goes wrong, as its report.
+pub fn locate_outcome<R: Threads + Sync, G: Gate + Sync>(
+    rt: &R,
+    alloc: Global,
+    text: &[u8],
+    budget: u32,
+    workers: u32,
+    gate: &G,
+) -> Outcome
+    requires budget { (1 ≤ budget) × (budget ≤ MAX_BUDGET) }
+    requires workers { (1 ≤ workers) × (workers ≤ MAX_WORKERS) }
+    ensures { IsTextOutcome (IsLocateAnswer budget) IsHistoryRefusal (Some text.now) result }
+{
+    let history = match read_history(alloc, text) {
+        Ok(history) => history,
+        Err(fault) => return Outcome::of_history_fault(alloc, &fault),
+    };
+    let Ok(location) = locate(rt, alloc, &history, budget, workers, gate) else {
+        return Outcome::Memory;
+    };
+    match location_line(alloc, &location) {
+        Ok(report) => Outcome::answered(answer_of(location), line_of(report)),
+        Err(_) => Outcome::Memory,
+    }
+}
+
+/// The answer that a location is.
+fn answer_of(location: Location) -> Answer
+    ensures { result ≡ answer_of_location location }
+{
+    match location {
+        Location::Yes => Answer::Yes,
+        Location::No { .. } => Answer::No,
+        Location::Undecided { .. } => Answer::Undecided,
+    }
+}
