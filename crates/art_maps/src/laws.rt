@@ -19,7 +19,8 @@ pub fn serial_is_map()
     inserts_are_the_maps();
 }
 
-/// The inserts of the pairs with which a tree starts come to an end, in every variant. It stands on the same laws.
+/// The inserts of the pairs with which a tree starts come to an end within 1,002 steps a pair, in every variant. It stands
+/// on the same laws.
 pub fn starts_end()
     ensures { StartsEnd }
 {

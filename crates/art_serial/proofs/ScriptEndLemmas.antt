@@ -1,5 +1,5 @@
 -- A script of one process, each call of which may run alone, comes to its end.
-use Rattle.std.proofs.Common.{◌≡◌, ℕ, ◌+◌, ◌≤◌, IsTrue, List, [], ◌∷◌, ◌++◌, length, arith, refl, sym, ap, subst, ◌∙◌, append_assoc}
+use Rattle.std.proofs.Common.{◌≡◌, ℕ, ◌+◌, ◌*◌, ◌<◌, ◌≤◌, IsTrue, List, [], ◌∷◌, ◌++◌, length, arith, refl, sym, ap, subst, ◌∙◌, append_assoc}
 use Rattle.std.specs.Prelude.{Option, Some, None, All, slice_get, slice_index, slice_set}
 use Rattle.std.proofs.lemmas.List.{append-nil, length-append}
 use Rattle.std.proofs.lemmas.List.Elements.{All-head, All-tail}
@@ -22,14 +22,14 @@ use Rattle.art_core.specs.Core.{step, invocation}
 use Rattle.art_core.specs.Runs.{run_on}
 use Rattle.art_core.proofs.RunLemmas.{run-on-append, begun-more}
 use Rattle.art_core.proofs.HistoryLemmas.{nowhere, is-moved, step-lengths}
-use Rattle.art_alone.specs.Alone.{RunsAlone, ends, goes}
+use Rattle.art_alone.specs.Alone.{RunsAlone, ends, goes, accesses}
 use Rattle.art_serial.specs.Serial.{ticked, sole_plan}
 use Rattle.art_serial.proofs.KeptLemmas.{Said, IsKept}
 
--- how many accesses a call makes that runs alone
-abbrev pub accesses : {rest : Rest} {words last : List ℕ} {reply : Reply} → RunsAlone rest words last reply → ℕ
-accesses (ends h) = 0
-accesses (goes a p h k) = 1 + accesses k
+-- Where this is said, the call, run alone, makes at most 1,000 accesses.
+abbrev pub IsBrief : Shape → Variant → Said → Call → Type 0
+IsBrief shape variant claim call = (n : ℕ) (words : List ℕ) (m : Contents) → n < MAX_CALLS → claim n words m → (last : List ℕ) (reply : Reply)
+    (r : RunsAlone (act shape variant call) words last reply) → accesses r ≤ 1000
 
 call-at : (before later : List Call) (call : Call) → slice_get (before ++ call ∷ later) (length before) ≡ Some call
 call-at [] later call = refl
@@ -150,9 +150,10 @@ module _ (shape : Shape) (variant : Variant) (script : List Call) where
             ∙ (append-nil (begun run.to) ∙ (ap (λ log. begun (record run.to { log = log })) run.log ∙ begun-more q (slice_index words 0, Invoke 0 call)));
       }
 
-  -- A state in which nothing is left to do.
-  pub record ComesToEnd (words : List ℕ) (q : Process) : Type 0 where
+  -- A state in which nothing is left to do, after so many steps at most.
+  pub record ComesToEnd (most : ℕ) (words : List ℕ) (q : Process) : Type 0 where
     pub steps : ℕ
+    pub few : steps ≤ most
     pub last : List ℕ
     pub to : Process
     pub leads : Leads steps (sole words q) (sole last to)
@@ -160,25 +161,36 @@ module _ (shape : Shape) (variant : Variant) (script : List Call) where
 
   module _ (claim : Said) (kept : IsKept shape variant claim) where
     pub ends-script : (left : List Call) (words : List ℕ) (m : Contents) (q : Process) → q.call ≡ None → script ≡ begun q ++ left
-        → All (λ call. IsTrue (is_tree_call call)) left → length (begun q) + length left ≤ MAX_CALLS → claim (length (begun q)) words m
-        → ComesToEnd words q
-    ends-script [] words m q free all tree few said = record {
+        → All (λ call. IsTrue (is_tree_call call)) left → All (IsBrief shape variant claim) left → length (begun q) + length left ≤ MAX_CALLS
+        → claim (length (begun q)) words m → ComesToEnd (1002 * length left) words q
+    ends-script [] words m q free all tree briefs few said = record {
       steps = 0;
+      few = omega arith;
       last = words;
       to = q;
       leads = record { schedule = []; gives = refl; long = refl };
       over = ap (move_from plan 0 q) free
           ∙ ap invocation (ap (λ calls. slice_get calls (length (begun q))) (all ∙ append-nil (begun q)) ∙ none-behind (begun q));
     }
-    ends-script (call ∷ left) words m q free all tree few said =
+    ends-script (call ∷ left) words m q free all tree briefs few said =
         let at = ap (λ calls. slice_get calls (length (begun q))) all ∙ call-at (begun q) left call in
         let may = kept.calls (length (begun q)) (ticked words) m call (All-head (λ call. IsTrue (is_tree_call call)) call left tree) (omega (arith, few))
         (kept.stamps (length (begun q)) words m said) in
+        let brief = All-head (IsBrief shape variant claim) call left briefs (length (begun q)) (ticked words) m (omega (arith, few))
+        (kept.stamps (length (begun q)) words m said) may.last may.reply may.runs in
         let one = does words q call free at may.runs in
         let more : length (begun one.to) ≡ length (begun q) + 1 = ap (λ calls. length calls) one.begins ∙ length-append (begun q) (call ∷ []) in
         let rest = ends-script left (ticked may.last) (after_reply m call may.reply) one.to one.free
         (all ∙ (sym (append_assoc (begun q) (call ∷ []) left) ∙ ap (λ calls. calls ++ left) (sym one.begins)))
-        (All-tail (λ call. IsTrue (is_tree_call call)) call left tree) (omega (arith, few, more))
+        (All-tail (λ call. IsTrue (is_tree_call call)) call left tree) (All-tail (IsBrief shape variant claim) call left briefs) (omega (arith, few, more))
         (subst (λ n. claim n (ticked may.last) (after_reply m call may.reply)) (sym more)
         (kept.stamps (length (begun q) + 1) may.last (after_reply m call may.reply) may.keeps)) in
-        record { steps = 1 + (accesses may.runs + 1) + rest.steps; last = rest.last; to = rest.to; leads = on one.leads rest.leads; over = rest.over }
+        let later = rest.few in
+        record {
+          steps = 1 + (accesses may.runs + 1) + rest.steps;
+          few = omega (arith, brief, later);
+          last = rest.last;
+          to = rest.to;
+          leads = on one.leads rest.leads;
+          over = rest.over;
+        }

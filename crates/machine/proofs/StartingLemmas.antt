@@ -1,5 +1,5 @@
 -- A machine that inserts pairs until nothing is left to do.
-use Rattle.std.proofs.Common.{[], ◌∷◌, ◌≡◌, ℕ, ◌+◌, ◌<◌, ◌≤◌, List, length, take, refl, sym, ap, subst, ◌∙◌, arith, inl, inr, Some, None}
+use Rattle.std.proofs.Common.{[], ◌∷◌, ◌≡◌, ℕ, ◌+◌, ◌*◌, ◌<◌, ◌≤◌, List, length, take, refl, sym, ap, subst, ◌∙◌, arith, inl, inr, Some, None}
 use Rattle.std.proofs.Common.{get_or, IsTrue}
 use Rattle.std.specs.Prelude.{slice_get, replicate, filter_map, Contains, All}
 use Rattle.std.proofs.lemmas.List.{length-replicate, length-map, get_or-map, take_more}
@@ -20,6 +20,8 @@ use Rattle.art_core.specs.declared.process.Process.{Process}
 use Rattle.art_core.specs.Core.{Plan, State, answered, next_move, opened}
 use Rattle.art_core.specs.NamedTurns.{AreMade}
 use Rattle.art_core.specs.Starts.{AreInsertedIn, inserts, start_plan}
+use Rattle.art_core.specs.Claims.{IsPlan}
+use Rattle.art_maps.specs.Ends.{StartsEnd}
 use Rattle.art_core.proofs.HistoryLemmas.{run-lengths}
 use Rattle.art_core.proofs.StartLemmas.{run-steps}
 use Rattle.machine.specs.declared.machines.Machine.{Machine}
@@ -94,23 +96,20 @@ module _ (shape : Shape) (variant : Variant) (start : Contents) where
           shows = h.shows;
         }
 
-    pub not-opened : (fault : MachineFault) → (fault ≡ faults.NothingToDo → ⊥) → HasStoppedIn plan all_turns (opened plan) left fault next
-        → IsNotOpened shape variant start fault
-    not-opened faults.NoProcess other h =
+    -- the inserts are over before the turns are
+    pub not-opened : StartsEnd → IsPlan plan → 1002 * length start < START_TURNS → (fault : MachineFault) → (fault ≡ faults.NothingToDo → ⊥)
+        → HasStoppedIn plan all_turns (opened plan) left fault next → IsNotOpened shape variant start fault
+    not-opened ends within enough faults.NoProcess other h =
         let one = (run-lengths plan (replicate h.made 0) (opened plan) h.state h.turns.gives).1 in let none = h.refused in absurd (omega (arith, one, none))
-    not-opened faults.NothingToDo other h = absurd (other refl)
-    not-opened faults.TurnLimit other h =
+    not-opened ends within enough faults.NothingToDo other h = absurd (other refl)
+    not-opened ends within enough faults.TurnLimit other h =
         let costs = h.costs in
         let over = h.refused.1 in
-        record {
-          state = h.state;
-          schedule = replicate h.made 0;
-          gives = h.turns.gives;
-          long = length-replicate {A = ℕ} h.made 0 ∙ omega (arith, costs, over, has);
-          unfinished = h.refused.0;
-        }
-    not-opened faults.Memory other h = tt
-    not-opened faults.TooLong other h = absurd h.refused
-    not-opened faults.NotJson other h = absurd h.refused
-    not-opened faults.Shape other h = absurd h.refused
-    not-opened faults.StartRefused other h = absurd h.refused
+        let most = ends shape variant start within (replicate h.made 0) h.state h.turns.gives in
+        let long = length-replicate {A = ℕ} h.made 0 in
+        absurd (omega (arith, costs, over, has, most, long, enough))
+    not-opened ends within enough faults.Memory other h = tt
+    not-opened ends within enough faults.TooLong other h = absurd h.refused
+    not-opened ends within enough faults.NotJson other h = absurd h.refused
+    not-opened ends within enough faults.Shape other h = absurd h.refused
+    not-opened ends within enough faults.StartRefused other h = absurd h.refused

@@ -1,18 +1,16 @@
 -- What a machine that starts with pairs shows at opening, and why it is not opened.
-use Rattle.std.specs.Prelude.{◌≡◌, ℕ, List, length, None}
+use Rattle.std.specs.Prelude.{◌≡◌, ℕ, List, None}
 use Rattle.events.specs.declared.event.Call.{Call}
 use Rattle.map_object.specs.MapObject.{Contents}
 use Rattle.art_rows.specs.declared.table.Shape.{Shape}
 use Rattle.art_steps.specs.declared.variant.Variant.{Variant}
 use Rattle.art_core.specs.declared.process.Process.{Process}
-use Rattle.art_core.specs.Core.{State, next_move, opened, opened_on}
-use Rattle.art_core.specs.Runs.{Gives}
+use Rattle.art_core.specs.Core.{State, next_move, opened_on}
 use Rattle.art_core.specs.Starts.{AreInsertedIn, StartsOn, IsStartRefused, start_plan}
 use Rattle.machine.specs.declared.machines.Machine.{Machine}
 use Rattle.machine.specs.declared.fault.MachineFault.{MachineFault}
 use Rattle.machine.specs.declared.fault.MachineFault.TheVariants as faults
 use Rattle.machine.specs.Machines.{Shows, start_of, turns_left}
-use Rattle.machine.specs.Refusals.{HasMove}
 use Rattle.machine.specs.Running.{plan_of}
 
 -- The machine shows the state of the plan before its first step, on words with which these pairs start, with so many turns left, and it has the pairs.
@@ -23,18 +21,9 @@ pub record IsOpenedWith (shape : Shape) (variant : Variant) (start : Contents) (
   pub left : turns_left m ≡ limit
   pub same_start : start_of m ≡ start
 
--- some schedule of so many steps of the inserts does not come to their end
-pub record IsStartUnfinished (shape : Shape) (variant : Variant) (start : Contents) (steps : ℕ) : Type 0 where
-  pub state : State
-  pub schedule : List ℕ
-  pub gives : Gives (start_plan shape variant start) (opened (start_plan shape variant start)) schedule state
-  pub long : length schedule ≡ steps
-  pub unfinished : HasMove (start_plan shape variant start) state 0
-
--- Why a machine with these pairs is not opened: one of them is refused, or too many steps are made for them, or memory was wanted.
+-- Why a machine with these pairs is not opened: one of them is refused, or memory was wanted.
 abbrev pub IsNotOpened : Shape → Variant → Contents → MachineFault → Type 0
 IsNotOpened shape variant start faults.StartRefused = IsStartRefused shape variant start
-IsNotOpened shape variant start faults.TurnLimit = IsStartUnfinished shape variant start 4000000000
 IsNotOpened shape variant start faults.Memory = Unit {0}
 IsNotOpened shape variant start fault = ⊥
 

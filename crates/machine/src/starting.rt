@@ -16,10 +16,11 @@ use crate::fault::MachineFault;
 use crate::machines::Machine;
 use art::{Shape, TreeCall, Variant};
 use art_core::Item;
+use art_maps::starts_end;
 use events::{Call, Event, Memory, Reply};
 use std::alloc::Global;
 
-/// The most steps that are made to insert the pairs with which a machine starts.
+/// Turns for the inserts of the pairs with which a machine starts: more than they take.
 pub const START_TURNS: u32 = 4_000_000_000;
 
 /// The words that inserts of the pairs leave, with the clock at 0.
@@ -40,7 +41,7 @@ pub fn starting_words(
     Ok(machine.into_words())
 }
 
-/// A machine that has inserted the pairs.
+/// A machine that has inserted the pairs. `starts_end` is the law that the turns are enough for it.
 fn inserted(
     alloc: Global,
     shape: Shape,
@@ -51,6 +52,7 @@ fn inserted(
     ensures inserted { IfOk result (HasInserted shape variant start.now) }
     ensures refused { IfErr result (IsNotOpened shape variant start.now) }
 {
+    starts_end();
     let scripts = match start_scripts(alloc, start) {
         Ok(scripts) => scripts,
         Err(_) => return Err(MachineFault::Memory),

@@ -50,7 +50,7 @@ impl Machine {
 
     /// The same with pairs of a key and a value in the tree, by rising key. They are inserted one after another by steps of
     /// the variant, which are no turns of the machine. `Err` is `StartRefused` where one of them has no place in the tree,
-    /// else want of memory. `TurnLimit` would be that `START_TURNS` steps are not enough to insert them.
+    /// else want of memory: `starts_end` is the law that the steps are enough.
     pub fn open_with(
         alloc: Global,
         shape: Shape,

@@ -1,5 +1,7 @@
-use Rattle.std.proofs.Common.{◌≡◌, true, [], ◌∷◌, IsTrue, refl, All}
+use Rattle.std.proofs.Common.{◌≡◌, true, [], ◌∷◌, IsTrue, refl, All, arith}
+use Rattle.std.proofs.lemmas.List.{length-map}
 use Rattle.list_laws.proofs.Lists.{All-at}
+use Rattle.events.specs.declared.event.Call.TheVariants.{Insert}
 use Rattle.art_steps.specs.TreeCalls.{is_tree_call}
 use Rattle.art_core.specs.Core.{opened}
 use Rattle.art_core.specs.Starts.{inserts, start_plan}
@@ -29,6 +31,9 @@ pub returns-else-is_at_the_end-clause-refused : goal.returns-else-is_at_the_end-
 returns-else-is_at_the_end-clause-refused c =
     let plan = start_plan c.args.shape c.args.variant c.args.start.now in
     let o = opens c.args.shape c.args.variant c.args.start.now _ c.in_ok-machine.machine c.in-Ok.ensures c.in_ok-machine.ensures.opened in
-    not-opened c.args.shape c.args.variant c.args.start.now (turns_left c.in_ok-machine.machine) c.make.new.self o.left c.in-Err-make.fault
+    let few = c.requires.few_calls in
+    let calls = length-map c.args.start.now (λ pair. Insert pair.0 pair.1) in
+    not-opened c.args.shape c.args.variant c.args.start.now (turns_left c.in_ok-machine.machine) c.make.new.self o.left c.starts_end.ensures c.requires
+    (omega (arith, few, calls)) c.in-Err-make.fault
     (λ e. let t : c.is_at_the_end.result ≡ true = c.is_at_the_end.ensures.1 e in let f = c.if-is_at_the_end.false in cc)
     (c.in-Err-make.ensures.stopped plan (opened plan) o.shows)
