@@ -7,7 +7,6 @@ use Rattle.events.specs.declared.event.Call.{Call}
 use Rattle.events.specs.declared.event.Call.TheVariants.{Scan}
 use Rattle.events.specs.declared.event.Reply.{Reply}
 use Rattle.art_words.proofs.KeyLemmas.{number_is}
-use Rattle.art_words.proofs.TableLemmas.{rows_apart}
 use Rattle.art_rows.specs.declared.table.Kind.{Kind}
 use Rattle.art_rows.specs.declared.table.Kind.TheVariants.{Four, Sixteen, FortyEight, Full}
 use Rattle.art_rows.specs.declared.table.Shape.{Shape}
@@ -33,21 +32,12 @@ use Rattle.art_moments.proofs.TimeLemmas.{take-whole, take-one-more}
 use Rattle.art_moments.proofs.AttemptLemmas.{stage, fold-more, IsSettledWord, Walking, InRows}
 use Rattle.art_moments.proofs.StandsLemmas.{Stands, Releasing}
 use Rattle.art_moments.proofs.ScanLemmas.{AllStand}
-use Rattle.art_moments.proofs.ValidLemmas.{free-unlocked, some-words, turn-is, from-load}
+use Rattle.art_moments.proofs.ValidLemmas.{free-unlocked, turn-is, from-load}
+use Rattle.art_moments.proofs.RowLemmas.{row-within}
 
 module _ (s : Shape) (some : 1 ≤ s.rows256) (lo hi : ℕ) where
   abbrev c : Setting
   c = Rattle.art_moments.proofs.AttemptLemmas.c s lo hi
-
-  -- no row begins within another
-  within : (base word : ℕ) (kind : Kind) → kind_at s base ≡ Some kind → base < word → word < base + row_words kind → kind_at s word ≡ None
-  within base word kind row low high = go (kind_at s word) refl
-    where
-      go : (o : Option Kind) → kind_at s word ≡ o → o ≡ None
-      go None e = refl
-      go (Some other) e =
-          let same = rows_apart s base word kind other word row e (omega (arith, low)) high (omega arith) (omega (arith, some-words other)) in
-          absurd (omega (arith, low, same.0))
 
   -- What a word does at a stage: it is the word of a row that the scan loads, no locked version; or the scan stays, or starts again.
   data Does (step : ScanStep) (w : Walk) (v : ℕ) : Type 0 where
@@ -65,11 +55,11 @@ module _ (s : Shape) (some : 1 ≤ s.rows256) (lo hi : ℕ) where
   some-more Full = omega arith
 
   keys-do : (base : ℕ) (kind : Kind) (info kept : ℕ) (w : Walk) (v : ℕ) → kind_at s base ≡ Some kind → Does (Keys (held base kind info kept)) w v
-  keys-do base Four info kept w v row = Loads (keys_at base) None refl (inl (within base (keys_at base) Four row (omega arith) (omega arith)))
+  keys-do base Four info kept w v row = Loads (keys_at base) None refl (inl (row-within s base (keys_at base) Four row (omega arith) (omega arith)))
   keys-do base Sixteen info kept w v row =
-      Loads (count_at Sixteen base) None refl (inl (within base (count_at Sixteen base) Sixteen row (omega arith) (omega arith)))
-  keys-do base FortyEight info kept w v row = Loads (keys_at base) None refl (inl (within base (keys_at base) FortyEight row (omega arith) (omega arith)))
-  keys-do base Full info kept w v row = Loads (keys_at base) None refl (inl (within base (keys_at base) Full row (omega arith) (omega arith)))
+      Loads (count_at Sixteen base) None refl (inl (row-within s base (count_at Sixteen base) Sixteen row (omega arith) (omega arith)))
+  keys-do base FortyEight info kept w v row = Loads (keys_at base) None refl (inl (row-within s base (keys_at base) FortyEight row (omega arith) (omega arith)))
+  keys-do base Full info kept w v row = Loads (keys_at base) None refl (inl (row-within s base (keys_at base) Full row (omega arith) (omega arith)))
 
   wait-does : (step : ScanStep) (w : Walk) (v word : ℕ) (other : ScanAt) → scan_turn c (at step w) ≡ Asks (Load word) None
       → step_after c lo hi step w v ≡ (if is_locked v then at step w else other) → Does step w v
@@ -99,24 +89,24 @@ module _ (s : Shape) (some : 1 ≤ s.rows256) (lo hi : ℕ) where
   does a (Wait entry) w v h = wait-does (Wait entry) w v (entry_base c entry) _ refl refl
   does a (Info base kind kept) w v h =
       let (prev, is, reading, frames, row, free, waited) = h in
-      Loads (info_at base) None refl (inl (within base (info_at base) kind row (omega arith) (omega (arith, some-more kind))))
+      Loads (info_at base) None refl (inl (row-within s base (info_at base) kind row (omega arith) (omega (arith, some-more kind))))
   does a (Keys n) w v h = keys-do n.base n.kind n.info n.kept w v (its-row a w.rows n.base n.kind h.0 h.2)
   does a (FirstKeys n count) w v h =
       Loads (keys_at n.base) None refl
-      (inl (within n.base (keys_at n.base) n.kind (its-row a w.rows n.base n.kind h.0 h.2) (omega arith) (omega (arith, some-more n.kind))))
+      (inl (row-within s n.base (keys_at n.base) n.kind (its-row a w.rows n.base n.kind h.0 h.2) (omega arith) (omega (arith, some-more n.kind))))
   does a (SecondKeys n count first) w v h =
       Loads (more_keys_at n.base) None refl
-      (inl (within n.base (more_keys_at n.base) n.kind (its-row a w.rows n.base n.kind h.0 h.2) (omega arith) (omega (arith, some-more n.kind))))
+      (inl (row-within s n.base (more_keys_at n.base) n.kind (its-row a w.rows n.base n.kind h.0 h.2) (omega arith) (omega (arith, some-more n.kind))))
   does a (Index n j m) w v h =
       Loads (index_at n.base (8 * j)) None refl
-      (inl (within n.base (index_at n.base (8 * j)) n.kind (its-row a w.rows n.base n.kind h.0 h.2) (omega arith) (index-in n.base j n.kind h.3 h.4)))
+      (inl (row-within s n.base (index_at n.base (8 * j)) n.kind (its-row a w.rows n.base n.kind h.0 h.2) (omega arith) (index-in n.base j n.kind h.3 h.4)))
     where
       index-in : (base j : ℕ) (kind : Kind) → kind ≡ FortyEight → j < 32 → index_at base (8 * j) < base + row_words kind
       index-in base j kind e less = Rattle.std.proofs.Common.subst (λ k. index_at base (8 * j) < base + row_words k) (sym e) (omega (arith, less))
   does a (LoadChild f slot) w v h =
       let behind = slot-behind f.row.base f.row.kind slot h.3 in
       Loads slot None refl
-      (inl (within f.row.base slot f.row.kind (its-row a w.rows f.row.base f.row.kind h.0 h.2.0) (omega (arith, behind.0)) behind.1))
+      (inl (row-within s f.row.base slot f.row.kind (its-row a w.rows f.row.base f.row.kind h.0 h.2.0) (omega (arith, behind.0)) behind.1))
   does a (Release n) w v h = check-does a n w v h
   does a Over w v h = Stays refl
 

@@ -7,3 +7,4 @@ pub mod ValidLemmas
 pub mod AloneLemmas
 pub mod RowLemmas
 pub mod MomentLemmas
+pub mod ReadLemmas

@@ -1,7 +1,12 @@
--- Lists that agree from one place to another have the same part there.
+-- The words of rows: lists that agree from one place to another have the same part there, and no row begins within another.
 use Rattle.std.proofs.Common.{◌≡◌, ℕ, zero, suc, ◌+◌, ◌<◌, ◌≤◌, List, [], ◌∷◌, length, take, drop, refl, ap, ◌∙◌, inl, inr, arith}
-use Rattle.std.specs.Prelude.{slice_index}
+use Rattle.std.specs.Prelude.{slice_index, Option, Some, None}
 use Rattle.std.proofs.lemmas.Bool.{cases_lt}
+use Rattle.art_words.proofs.TableLemmas.{rows_apart}
+use Rattle.art_rows.specs.declared.table.Kind.{Kind}
+use Rattle.art_rows.specs.declared.table.Kind.TheVariants.{Four, Sixteen, FortyEight, Full}
+use Rattle.art_rows.specs.declared.table.Shape.{Shape}
+use Rattle.art_rows.specs.Table.{row_words, kind_at}
 
 take-same : (n : ℕ) (xs ys : List ℕ) → length xs ≡ length ys → ((k : ℕ) → k < n → slice_index xs k ≡ slice_index ys k) → take n xs ≡ take n ys
 take-same zero xs ys long same = refl
@@ -41,3 +46,19 @@ taken-within n xs = elim (cases_lt n (length xs)) [
   | inl less ↦ record { length' = n; most = omega (arith, less); same = refl }
   | inr more ↦ record { length' = length xs; most = omega arith; same = take-beyond n xs more ∙ Rattle.std.proofs.Common.sym (take-all xs) }
 ]
+
+-- no row begins within another
+some-words : (kind : Kind) → 0 < row_words kind
+some-words Four = omega arith
+some-words Sixteen = omega arith
+some-words FortyEight = omega arith
+some-words Full = omega arith
+
+pub row-within : (s : Shape) (base word : ℕ) (kind : Kind) → kind_at s base ≡ Some kind → base < word → word < base + row_words kind → kind_at s word ≡ None
+row-within s base word kind row low high = go (kind_at s word) refl
+  where
+    go : (o : Option Kind) → kind_at s word ≡ o → o ≡ None
+    go None e = refl
+    go (Some other) e =
+        let same = rows_apart s base word kind other word row e (omega (arith, low)) high (omega arith) (omega (arith, some-words other)) in
+        absurd (omega (arith, low, same.0))

@@ -93,7 +93,7 @@ module _ (s : Shape) (some : 1 ≤ s.rows256) (lo hi : ℕ) where
   leaf-row : {x y b : ℕ} {k : Kind} → Leaf x y ≡ ChildRow b k → ⊥
   leaf-row e = cc
 
-  child-is-row : (word base : ℕ) (kind : Kind) → child_of s word ≡ ChildRow base kind → kind_at s base ≡ Some kind
+  pub child-is-row : (word base : ℕ) (kind : Kind) → child_of s word ≡ ChildRow base kind → kind_at s base ≡ Some kind
   child-is-row word base kind h = one (word % 4 == 1) h
     where
       two : (b : Bool) → (if b then Leaf (word / 4294967296) (word % 4294967296 / 4) else Empty) ≡ ChildRow base kind → kind_at s base ≡ Some kind

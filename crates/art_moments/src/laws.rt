@@ -1,6 +1,7 @@
 // Laws of moments: each function only carries its clause.
 ghost use Rattle.art_core.specs.Claims.{ScanHasMoment};
 ghost use Rattle.art_moments.specs.Attempts.{AnsweredScansAreValidated};
+ghost use Rattle.art_moments.specs.Reads.{RunsHaveMomentsOfScans};
 ghost use Rattle.art_moments.specs.Times.{WordsWereGot};
 
 /// Each word that an open call has got is what its access found at some moment of the schedule.
@@ -19,4 +20,9 @@ pub fn answered_scans_are_validated()
 /// that moment.
 pub fn scans_have_one_moment()
     ensures { ScanHasMoment }
+{}
+
+/// So has each scan that was answered at any moment of a schedule, whatever came behind it.
+pub fn answered_scans_have_moments()
+    ensures { RunsHaveMomentsOfScans }
 {}

@@ -3,4 +3,7 @@
 
 mod laws;
 
-pub use laws::{answered_scans_are_validated, scans_have_one_moment, words_were_got};
+pub use laws::{
+    answered_scans_are_validated, answered_scans_have_moments, scans_have_one_moment,
+    words_were_got,
+};

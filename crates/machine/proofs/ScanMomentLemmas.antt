@@ -1,34 +1,8 @@
 -- The law of the moment of a scan, for what a machine shows.
-use Rattle.std.proofs.Common.{ℕ, zero, suc, ◌≤◌, List, [], ◌∷◌, length, take, ◌∙◌, arith}
-use Rattle.art_core.specs.Core.{Plan, State, opened_on}
-use Rattle.art_core.specs.Runs.{At}
-use Rattle.art_core.specs.Claims.{IsRun, ScanHasMoment}
-use Rattle.art_core.proofs.StartLemmas.{run-steps}
-use Rattle.map_object.specs.MapObject.{Contents}
+use Rattle.std.proofs.Common.{◌∙◌}
+use Rattle.art_moments.specs.Reads.{RunsHaveMomentsOfScans}
 use Rattle.machine.specs.declared.machines.Machine.{Machine}
 use Rattle.machine.specs.ScanMoments.{ScansHaveMoments}
 
-taken-few : (t : ℕ) (xs : List ℕ) → length (take t xs) ≤ length xs
-taken-few zero xs = omega arith
-taken-few (suc t) [] = omega arith
-taken-few (suc t) (x ∷ xs) = omega (arith, taken-few t xs)
-
--- the first steps of a schedule are a run
-earlier-run : (plan : Plan) (start : Contents) (first schedule : List ℕ) (s : State) → IsRun plan start first schedule s → (t : ℕ) (past : State)
-    → At plan (opened_on plan first) schedule t past → IsRun plan start first (take t schedule) past
-earlier-run plan start first schedule s run t past at =
-    let all = run-steps plan schedule (opened_on plan first) s run.gives in
-    let some = run-steps plan (take t schedule) (opened_on plan first) past at in
-    let few = run.few_steps in
-    record {
-      within = run.within;
-      start_within = run.start_within;
-      starts = run.starts;
-      gives = at;
-      few_steps = omega (arith, all, some, few, taken-few t schedule);
-    }
-
-pub scans-have-moments : ScanHasMoment → (m : Machine) → ScansHaveMoments m
-scans-have-moments law m plan first schedule s run shows is t past at p low high q reply here call known unrefused =
-    law plan m.start.items first (take t schedule) past p low high q reply (earlier-run plan m.start.items first schedule s run t past at) (shows.variant ∙ is) here
-    call known unrefused
+pub scans-have-moments : RunsHaveMomentsOfScans → (m : Machine) → ScansHaveMoments m
+scans-have-moments law m plan first schedule s run shows is = law plan m.start.items first schedule s run (shows.variant ∙ is)

@@ -2,7 +2,7 @@
 use crate::machines::Machine;
 use crate::runner::Runner;
 use art_maps::serial_is_map;
-use art_moments::scans_have_one_moment;
+use art_moments::answered_scans_have_moments;
 use events::{Event, History, Memory};
 use logs::{append_log, history_by_stamp};
 use std::alloc::Global;
@@ -27,7 +27,7 @@ impl Machine {
         ensures moments { ScansHaveMoments self.now }
     {
         serial_is_map();
-        scans_have_one_moment();
+        answered_scans_have_moments();
         let stamped = all_events(alloc, &self.runners)?;
         let start = Vec::from_slice(alloc, &self.start)?;
         history_by_stamp(alloc, start, stamped)

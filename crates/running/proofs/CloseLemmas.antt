@@ -7,7 +7,6 @@ use Rattle.art_shared.specs.declared.view.Setup.{Setup}
 use Rattle.art_shared.specs.declared.view.View.{View}
 use Rattle.art_shared.specs.Views.{Numbered}
 use Rattle.art_shared.specs.Ends.{state_of}
-use Rattle.art_shared.specs.Places.{setup_of}
 use Rattle.running.specs.declared.arena.Arena.{Arena}
 use Rattle.running.specs.declared.pass.Pass.{Pass}
 use Rattle.running.specs.Fitting.{Run, Fit}

@@ -44,10 +44,10 @@ returns-clause-serial c =
     ∙ sym (shown-history plan c.args.self.now s shows)))) c.history_by_stamp.ensures
 
 pub returns-clause-moments : goal.returns-clause-moments
-returns-clause-moments c = scans-have-moments c.scans_have_one_moment.ensures c.args.self.now
+returns-clause-moments c = scans-have-moments c.answered_scans_have_moments.ensures c.args.self.now
 
 pub returns-in_err-stamped-clause-moments : goal.returns-in_err-stamped-clause-moments
-returns-in_err-stamped-clause-moments c = scans-have-moments c.scans_have_one_moment.ensures c.args.self.now
+returns-in_err-stamped-clause-moments c = scans-have-moments c.answered_scans_have_moments.ensures c.args.self.now
 
 pub returns-in_err-start-clause-moments : goal.returns-in_err-start-clause-moments
-returns-in_err-start-clause-moments c = scans-have-moments c.scans_have_one_moment.ensures c.args.self.now
+returns-in_err-start-clause-moments c = scans-have-moments c.answered_scans_have_moments.ensures c.args.self.now

@@ -4,6 +4,7 @@ use Rattle.std.proofs.lemmas.Option.{slice_get-get_or}
 use Rattle.machine.specs.Machines.{turns_left}
 use Rattle.machine.specs.Running.{HasMadeAll}
 use Rattle.machine.proofs.RunningLemmas.{all-more, all-stopped}
+use Rattle.machine.proofs.ScanMomentLemmas.{scans-have-moments}
 use Rattle.machine.proofs.machines.Machine.run.Goals as goal
 
 pub returns-in-Err-clause-stopped : goal.returns-in-Err-clause-stopped
@@ -34,3 +35,9 @@ returns-in-Err-clause-same_start c = c.make.ensures.same_start ∙ c.loop-place.
 
 pub returns-clause-same_start : goal.returns-clause-same_start
 returns-clause-same_start c = c.loop-place.invariant.1
+
+pub returns-in-Err-clause-moments : goal.returns-in-Err-clause-moments
+returns-in-Err-clause-moments c = scans-have-moments c.answered_scans_have_moments.ensures c.make.new.self
+
+pub returns-clause-moments : goal.returns-clause-moments
+returns-clause-moments c = scans-have-moments c.answered_scans_have_moments.ensures c.loop-place.self

@@ -3,6 +3,7 @@ use Rattle.std.proofs.lemmas.List.{with_items_is, length-set}
 use Rattle.std.proofs.lemmas.Option.{slice_get-get_or}
 use Rattle.art_core.specs.Core.{step}
 use Rattle.machine.specs.Fitting.{ShowsState}
+use Rattle.machine.specs.Machines.{start_of}
 use Rattle.machine.specs.UnderWay.{IsUnderWay}
 use Rattle.machine.proofs.MachineLemmas.{is-for, within-limits, are-for, steps, some-and, refits, under-way-steps, under-way-kept, no-move, has-move, positive}
 use Rattle.machine.proofs.machines.Machine.turn.Goals as goal
@@ -110,3 +111,23 @@ returns-in-Err-clause-refused c = λ plan s shows. (
       (c.has_work.ensures.yes c.if-not-has_work.false),
   positive c.args.self.now.left c.if-self-eq0.false,
 )
+
+pub returns-then-p-len-clause-moments : goal.returns-then-p-len-clause-moments
+returns-then-p-len-clause-moments c = λ plan first schedule s run shows is.
+    c.answered_scans_have_moments.ensures plan (start_of c.args.self.now) first schedule s run (shows.variant ∙ is)
+
+pub returns-then-not-has_work-clause-moments : goal.returns-then-not-has_work-clause-moments
+returns-then-not-has_work-clause-moments c = λ plan first schedule s run shows is.
+    c.answered_scans_have_moments.ensures plan (start_of c.args.self.now) first schedule s run (shows.variant ∙ is)
+
+pub returns-then-self-eq0-clause-moments : goal.returns-then-self-eq0-clause-moments
+returns-then-self-eq0-clause-moments c = λ plan first schedule s run shows is.
+    c.answered_scans_have_moments.ensures plan (start_of c.args.self.now) first schedule s run (shows.variant ∙ is)
+
+pub returns-in-Ok-clause-moments : goal.returns-in-Ok-clause-moments
+returns-in-Ok-clause-moments c = λ plan first schedule s run shows is.
+    c.answered_scans_have_moments.ensures plan (start_of c.args.self.now) first schedule s run (shows.variant ∙ is)
+
+pub returns-in-Err-clause-moments : goal.returns-in-Err-clause-moments
+returns-in-Err-clause-moments c = λ plan first schedule s run shows is.
+    c.answered_scans_have_moments.ensures plan (start_of c.args.self.now) first schedule s run (shows.variant ∙ is)

@@ -1,4 +1,4 @@
-use Rattle.std.proofs.Common.{◌≡◌, [], ap, sym, subst, ◌∙◌}
+use Rattle.std.proofs.Common.{ap, sym, subst, ◌∙◌}
 use Rattle.std.specs.Prelude.{flat_map}
 use Rattle.std.proofs.lemmas.Result.{IfOk-weaker}
 use Rattle.events.specs.Histories.{AreHistoryEvents}
@@ -8,6 +8,7 @@ use Rattle.art_shared.specs.Ends.{HasOwnEvents}
 use Rattle.running.specs.Fitting.{Run}
 use Rattle.running.specs.Passes.{shows, opened_for}
 use Rattle.running.proofs.CloseLemmas.{logged-history}
+use Rattle.running.proofs.ReadLemmas.{scans-have-moments}
 use Rattle.running.proofs.arena.Arena.history.Goals as goal
 
 pub history_by_stamp-requires-clause-events : goal.history_by_stamp-requires-clause-events
@@ -38,3 +39,9 @@ returns-clause-own_events c =
     IfOk-weaker c.history_by_stamp.result _ _ (λ (found : HistoryView) is.
     subst (HasOwnEvents (opened_for c.args.self.now) (shows c.args.pass.now)) (sym (ap (λ (h : HistoryView). h.events) is ∙ same)) e.own)
     c.history_by_stamp.ensures
+
+pub returns-clause-moments : goal.returns-clause-moments
+returns-clause-moments c = scans-have-moments c.answered_scans_have_moments.ensures (opened_for c.args.self.now) (shows c.args.pass.now) (c.look.ensures.all c.requires.all)
+
+pub returns-in_err-stamped-clause-moments : goal.returns-in_err-stamped-clause-moments
+returns-in_err-stamped-clause-moments c = scans-have-moments c.answered_scans_have_moments.ensures (opened_for c.args.self.now) (shows c.args.pass.now) (c.look.ensures.all c.requires.all)
