@@ -6,5 +6,7 @@ pub mod ScanLemmas
 pub mod ValidLemmas
 pub mod AloneLemmas
 pub mod RowLemmas
+pub mod SeekLemmas
+pub mod GetLemmas
 pub mod MomentLemmas
 pub mod ReadLemmas

@@ -1,6 +1,8 @@
 // Laws of moments: each function only carries its clause.
 ghost use Rattle.art_core.specs.Claims.{ScanHasMoment};
 ghost use Rattle.art_moments.specs.Attempts.{AnsweredScansAreValidated};
+ghost use Rattle.art_moments.specs.Gets.{AnsweredGetsAreChecked};
+ghost use Rattle.art_moments.specs.LastRows.{GetsHaveOneMoment};
 ghost use Rattle.art_moments.specs.Reads.{RunsHaveMomentsOfScans};
 ghost use Rattle.art_moments.specs.Times.{WordsWereGot};
 
@@ -25,4 +27,16 @@ pub fn scans_have_one_moment()
 /// So has each scan that was answered at any moment of a schedule, whatever came behind it.
 pub fn answered_scans_have_moments()
     ensures { RunsHaveMomentsOfScans }
+{}
+
+/// An answered get of the optimistic tree has checked the row that it entered last, against the version with which it had
+/// entered it, and read nothing behind that check. Its reply is what the words that it read of the row say of its key.
+pub fn answered_gets_are_checked()
+    ensures { AnsweredGetsAreChecked }
+{}
+
+/// An answered get has a moment within the call at which the last row that it read stands still, from the end of the wait for
+/// it to its last check, and has the words that were read of it; its reply is what these words say of its key.
+pub fn gets_have_one_moment()
+    ensures { GetsHaveOneMoment }
 {}
