@@ -5,8 +5,8 @@ use Rattle.art_core.specs.Core.{Plan, State, opened_on}
 use Rattle.art_core.specs.Runs.{At}
 use Rattle.art_core.specs.Claims.{IsRun}
 use Rattle.art_core.proofs.StartLemmas.{run-steps}
-use Rattle.art_moments.specs.Reads.{RunsHaveMomentsOfScans}
-use Rattle.art_moments.proofs.MomentLemmas.{scan-has-moment}
+use Rattle.art_moments.specs.Reads.{RunsHaveMomentsOfScans, RunsHaveMomentsOfGets}
+use Rattle.art_moments.proofs.MomentLemmas.{scan-has-moment, get-has-moment}
 
 taken-few : (t : ℕ) (xs : List ℕ) → length (take t xs) ≤ length xs
 taken-few zero xs = omega arith
@@ -31,3 +31,7 @@ earlier-run plan start first schedule s run t past at =
 pub runs-have-scans : RunsHaveMomentsOfScans
 runs-have-scans plan start words schedule s run v t past at p low high q reply =
     scan-has-moment plan start words (take t schedule) past p low high q reply (earlier-run plan start words schedule s run t past at) v
+
+pub runs-have-gets : RunsHaveMomentsOfGets
+runs-have-gets plan start words schedule s run v t past at p key q reply =
+    get-has-moment plan start words (take t schedule) past p key q reply (earlier-run plan start words schedule s run t past at) v

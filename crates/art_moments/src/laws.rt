@@ -3,7 +3,7 @@ ghost use Rattle.art_core.specs.Claims.{ScanHasMoment};
 ghost use Rattle.art_moments.specs.Attempts.{AnsweredScansAreValidated};
 ghost use Rattle.art_moments.specs.Gets.{AnsweredGetsAreChecked};
 ghost use Rattle.art_moments.specs.LastRows.{GetsHaveOneMoment};
-ghost use Rattle.art_moments.specs.Reads.{RunsHaveMomentsOfScans};
+ghost use Rattle.art_moments.specs.Reads.{RunsHaveMomentsOfGets, RunsHaveMomentsOfScans};
 ghost use Rattle.art_moments.specs.Times.{WordsWereGot};
 
 /// Each word that an open call has got is what its access found at some moment of the schedule.
@@ -24,11 +24,6 @@ pub fn scans_have_one_moment()
     ensures { ScanHasMoment }
 {}
 
-/// So has each scan that was answered at any moment of a schedule, whatever came behind it.
-pub fn answered_scans_have_moments()
-    ensures { RunsHaveMomentsOfScans }
-{}
-
 /// An answered get of the optimistic tree has checked the row that it entered last, against the version with which it had
 /// entered it, and read nothing behind that check. Its reply is what the words that it read of the row say of its key.
 pub fn answered_gets_are_checked()
@@ -39,4 +34,14 @@ pub fn answered_gets_are_checked()
 /// it to its last check, and has the words that were read of it; its reply is what these words say of its key.
 pub fn gets_have_one_moment()
     ensures { GetsHaveOneMoment }
+{}
+
+/// Each scan that was answered at any moment of a schedule has its moment, whatever came behind it.
+pub fn answered_scans_have_moments()
+    ensures { RunsHaveMomentsOfScans }
+{}
+
+/// So has each get that was answered at any moment of a schedule.
+pub fn answered_gets_have_moments()
+    ensures { RunsHaveMomentsOfGets }
 {}

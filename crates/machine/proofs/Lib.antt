@@ -4,4 +4,4 @@ mod OpeningLemmas
 mod RecordLemmas
 mod RunningLemmas
 mod StartingLemmas
-mod ScanMomentLemmas
+mod ReadMomentLemmas

@@ -8,4 +8,4 @@ pub mod Running
 pub mod Opening
 pub mod Starting
 pub mod Serial
-pub mod ScanMoments
+pub mod ReadMoments

@@ -1,7 +1,7 @@
 // A turn of a machine.
 use crate::fault::MachineFault;
 use crate::machines::Machine;
-use art_moments::answered_scans_have_moments;
+use art_moments::{answered_gets_have_moments, answered_scans_have_moments};
 use std::alloc::Global;
 
 impl Machine {
@@ -9,10 +9,11 @@ impl Machine {
     ghost use Rattle.art_core.specs.Core.{Plan, State, step};
     ghost use Rattle.machine.specs.Machines.{Shows, start_of, turns_left};
     ghost use Rattle.machine.specs.Refusals.{IsRefusedIn};
-    ghost use Rattle.machine.specs.ScanMoments.{ScansHaveMoments};
+    ghost use Rattle.machine.specs.ReadMoments.{GetsHaveMoments, ScansHaveMoments};
 
     /// One step of process p. A refused turn moves nothing. In every schedule of the optimistic tree that gives what the machine
-    /// then shows, each scan that was answered has a moment within it at which all that it read stands still.
+    /// then shows, each scan that was answered has a moment within it at which all that it read stands still; so has each get, for
+    /// the last row that it read.
     pub fn turn(&mut self, alloc: Global, p: usize) -> Result<(), MachineFault>
         ensures moved { (plan : Plan) (s : State) → Shows plan self.old s → OnOk result (IsSomeAnd (step plan s p) (λ next. Shows plan self.new next)) }
         ensures left { OnOk result (turns_left self.new + 1 ≡ turns_left self.old) }
@@ -21,8 +22,10 @@ impl Machine {
         ensures same_left { OnErr result (turns_left self.new ≡ turns_left self.old) }
         ensures refused { (plan : Plan) (s : State) → Shows plan self.old s → IfErr result (IsRefusedIn plan s (turns_left self.old) p) }
         ensures moments { ScansHaveMoments self.new }
+        ensures gets { GetsHaveMoments self.new }
     {
         answered_scans_have_moments();
+        answered_gets_have_moments();
         if p >= self.runners.len() {
             return Err(MachineFault::NoProcess);
         }

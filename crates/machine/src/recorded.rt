@@ -2,7 +2,7 @@
 use crate::machines::Machine;
 use crate::runner::Runner;
 use art_maps::serial_is_map;
-use art_moments::answered_scans_have_moments;
+use art_moments::{answered_gets_have_moments, answered_scans_have_moments};
 use events::{Event, History, Memory};
 use logs::{append_log, history_by_stamp};
 use std::alloc::Global;
@@ -12,22 +12,25 @@ impl Machine {
     ghost use Rattle.events.specs.HistoryView.{HistoryView};
     ghost use Rattle.art_core.specs.Core.{Plan, State, history_of};
     ghost use Rattle.machine.specs.Machines.{Shows, start_of, IsReached};
-    ghost use Rattle.machine.specs.ScanMoments.{ScansHaveMoments};
+    ghost use Rattle.machine.specs.ReadMoments.{GetsHaveMoments, ScansHaveMoments};
     ghost use Rattle.machine.specs.Serial.{DoesTheMap};
 
     /// The history so far: the starting pairs, and all events by rising stamp. Open calls are pending, and calls that were
     /// not begun are not in it. Where the tree is full and no call overlaps another, the history is legal from its starting
     /// pairs on, and the words mean the pairs after it. Where the tree is the optimistic one, each scan that was answered has a
-    /// moment within it at which all that it read stands still, and at which it would read the same alone. `Err` is want of memory.
+    /// moment within it at which all that it read stands still, and at which it would read the same alone; so has each get, for the
+    /// last row that it read, which says its reply. `Err` is want of memory.
     pub fn history(&self, alloc: Global) -> Result<History, Memory>
         ensures history { (plan : Plan) (s : State) → Shows plan self.now s → IfOk result (λ h. h
             ≡ record { start = start_of self.now; events = history_of s }) }
         ensures reached { ∥ IsReached self.now ∥₁ }
         ensures serial { IfOk result (λ h. ∥ DoesTheMap self.now h ∥₁) }
         ensures moments { ScansHaveMoments self.now }
+        ensures gets { GetsHaveMoments self.now }
     {
         serial_is_map();
         answered_scans_have_moments();
+        answered_gets_have_moments();
         let stamped = all_events(alloc, &self.runners)?;
         let start = Vec::from_slice(alloc, &self.start)?;
         history_by_stamp(alloc, start, stamped)

@@ -5,7 +5,7 @@ use crate::fault::{MachineFault, RunFault};
 use crate::machines::Machine;
 use art::Point;
 use art_core::Item;
-use art_moments::answered_scans_have_moments;
+use art_moments::{answered_gets_have_moments, answered_scans_have_moments};
 use std::alloc::Global;
 
 impl Machine {
@@ -14,19 +14,21 @@ impl Machine {
     ghost use Rattle.art_core.specs.NamedTurns.{process_of_item, next_point, finished_count, WantsTurn};
     ghost use Rattle.machine.specs.Machines.{Shows, start_of, turns_left};
     ghost use Rattle.machine.specs.Running.{HasMadeAll, HasMadeItem, HasStoppedIn, HasStoppedAt};
-    ghost use Rattle.machine.specs.ScanMoments.{ScansHaveMoments};
+    ghost use Rattle.machine.specs.ReadMoments.{GetsHaveMoments, ScansHaveMoments};
 
     /// Makes the turns that the items name, in order, up to the first that is refused. The turns before it stand, and the
     /// refused one moves nothing. In every schedule of the optimistic tree that gives what the machine then shows, each scan that
-    /// was answered has a moment within it at which all that it read stands still.
+    /// was answered has a moment within it at which all that it read stands still; so has each get, for the last row that it read.
     pub fn run(&mut self, alloc: Global, schedule: &[Item]) -> Result<(), RunFault>
         ensures made { (plan : Plan) (s : State) → Shows plan self.old s → OnOk result (HasMadeAll plan schedule.now s (turns_left self.old) self.new) }
         ensures stopped { (plan : Plan) (s : State) → Shows plan self.old s
             → IfErr result (λ e. HasStoppedAt plan schedule.now s (turns_left self.old) e.item e.fault self.new) }
         ensures same_start { start_of self.new ≡ start_of self.old }
         ensures moments { ScansHaveMoments self.new }
+        ensures gets { GetsHaveMoments self.new }
     {
         answered_scans_have_moments();
+        answered_gets_have_moments();
         for (place, item) in schedule.iter().enumerate() {
             if let Err(fault) = self.make(alloc, *item) {
                 return Err(RunFault { item: place, fault });

@@ -2,4 +2,4 @@ pub mod FitLemmas
 pub mod StepLemmas
 pub mod GatherLemmas
 pub mod CloseLemmas
-pub mod ReadLemmas
+pub mod ReadMomentLemmas

@@ -3,4 +3,4 @@ pub mod Passes
 pub mod Steps
 pub mod Progressed
 pub mod Closing
-pub mod Moments
+pub mod ReadMoments

@@ -6,7 +6,7 @@ use Rattle.events.specs.Starts.{IsStart}
 use Rattle.logs.specs.Logs.{events_by_stamp}
 use Rattle.machine.specs.Machines.{start_of}
 use Rattle.machine.proofs.RecordLemmas.{reached, shown-history, recorded-history, recorded-start, does-the-map}
-use Rattle.machine.proofs.ScanMomentLemmas.{scans-have-moments}
+use Rattle.machine.proofs.ReadMomentLemmas.{scans-have-moments, gets-have-moments}
 use Rattle.machine.proofs.machines.Machine.history.Goals as goal
 
 pub returns-in_err-stamped-clause-reached : goal.returns-in_err-stamped-clause-reached
@@ -51,3 +51,12 @@ returns-in_err-stamped-clause-moments c = scans-have-moments c.answered_scans_ha
 
 pub returns-in_err-start-clause-moments : goal.returns-in_err-start-clause-moments
 returns-in_err-start-clause-moments c = scans-have-moments c.answered_scans_have_moments.ensures c.args.self.now
+
+pub returns-clause-gets : goal.returns-clause-gets
+returns-clause-gets c = gets-have-moments c.answered_gets_have_moments.ensures c.args.self.now
+
+pub returns-in_err-stamped-clause-gets : goal.returns-in_err-stamped-clause-gets
+returns-in_err-stamped-clause-gets c = gets-have-moments c.answered_gets_have_moments.ensures c.args.self.now
+
+pub returns-in_err-start-clause-gets : goal.returns-in_err-start-clause-gets
+returns-in_err-start-clause-gets c = gets-have-moments c.answered_gets_have_moments.ensures c.args.self.now

@@ -4,7 +4,7 @@ use Rattle.std.proofs.lemmas.Option.{slice_get-get_or}
 use Rattle.machine.specs.Machines.{turns_left}
 use Rattle.machine.specs.Running.{HasMadeAll}
 use Rattle.machine.proofs.RunningLemmas.{all-more, all-stopped}
-use Rattle.machine.proofs.ScanMomentLemmas.{scans-have-moments}
+use Rattle.machine.proofs.ReadMomentLemmas.{scans-have-moments, gets-have-moments}
 use Rattle.machine.proofs.machines.Machine.run.Goals as goal
 
 pub returns-in-Err-clause-stopped : goal.returns-in-Err-clause-stopped
@@ -41,3 +41,9 @@ returns-in-Err-clause-moments c = scans-have-moments c.answered_scans_have_momen
 
 pub returns-clause-moments : goal.returns-clause-moments
 returns-clause-moments c = scans-have-moments c.answered_scans_have_moments.ensures c.loop-place.self
+
+pub returns-in-Err-clause-gets : goal.returns-in-Err-clause-gets
+returns-in-Err-clause-gets c = gets-have-moments c.answered_gets_have_moments.ensures c.make.new.self
+
+pub returns-clause-gets : goal.returns-clause-gets
+returns-clause-gets c = gets-have-moments c.answered_gets_have_moments.ensures c.loop-place.self

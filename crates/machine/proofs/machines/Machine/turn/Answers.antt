@@ -131,3 +131,23 @@ returns-in-Ok-clause-moments c = λ plan first schedule s run shows is.
 pub returns-in-Err-clause-moments : goal.returns-in-Err-clause-moments
 returns-in-Err-clause-moments c = λ plan first schedule s run shows is.
     c.answered_scans_have_moments.ensures plan (start_of c.args.self.now) first schedule s run (shows.variant ∙ is)
+
+pub returns-then-p-len-clause-gets : goal.returns-then-p-len-clause-gets
+returns-then-p-len-clause-gets c = λ plan first schedule s run shows is.
+    c.answered_gets_have_moments.ensures plan (start_of c.args.self.now) first schedule s run (shows.variant ∙ is)
+
+pub returns-then-not-has_work-clause-gets : goal.returns-then-not-has_work-clause-gets
+returns-then-not-has_work-clause-gets c = λ plan first schedule s run shows is.
+    c.answered_gets_have_moments.ensures plan (start_of c.args.self.now) first schedule s run (shows.variant ∙ is)
+
+pub returns-then-self-eq0-clause-gets : goal.returns-then-self-eq0-clause-gets
+returns-then-self-eq0-clause-gets c = λ plan first schedule s run shows is.
+    c.answered_gets_have_moments.ensures plan (start_of c.args.self.now) first schedule s run (shows.variant ∙ is)
+
+pub returns-in-Ok-clause-gets : goal.returns-in-Ok-clause-gets
+returns-in-Ok-clause-gets c = λ plan first schedule s run shows is.
+    c.answered_gets_have_moments.ensures plan (start_of c.args.self.now) first schedule s run (shows.variant ∙ is)
+
+pub returns-in-Err-clause-gets : goal.returns-in-Err-clause-gets
+returns-in-Err-clause-gets c = λ plan first schedule s run shows is.
+    c.answered_gets_have_moments.ensures plan (start_of c.args.self.now) first schedule s run (shows.variant ∙ is)

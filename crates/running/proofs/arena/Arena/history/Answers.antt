@@ -8,7 +8,7 @@ use Rattle.art_shared.specs.Ends.{HasOwnEvents}
 use Rattle.running.specs.Fitting.{Run}
 use Rattle.running.specs.Passes.{shows, opened_for}
 use Rattle.running.proofs.CloseLemmas.{logged-history}
-use Rattle.running.proofs.ReadLemmas.{scans-have-moments}
+use Rattle.running.proofs.ReadMomentLemmas.{scans-have-moments, gets-have-moments}
 use Rattle.running.proofs.arena.Arena.history.Goals as goal
 
 pub history_by_stamp-requires-clause-events : goal.history_by_stamp-requires-clause-events
@@ -45,3 +45,9 @@ returns-clause-moments c = scans-have-moments c.answered_scans_have_moments.ensu
 
 pub returns-in_err-stamped-clause-moments : goal.returns-in_err-stamped-clause-moments
 returns-in_err-stamped-clause-moments c = scans-have-moments c.answered_scans_have_moments.ensures (opened_for c.args.self.now) (shows c.args.pass.now) (c.look.ensures.all c.requires.all)
+
+pub returns-clause-gets : goal.returns-clause-gets
+returns-clause-gets c = gets-have-moments c.answered_gets_have_moments.ensures (opened_for c.args.self.now) (shows c.args.pass.now) (c.look.ensures.all c.requires.all)
+
+pub returns-in_err-stamped-clause-gets : goal.returns-in_err-stamped-clause-gets
+returns-in_err-stamped-clause-gets c = gets-have-moments c.answered_gets_have_moments.ensures (opened_for c.args.self.now) (shows c.args.pass.now) (c.look.ensures.all c.requires.all)

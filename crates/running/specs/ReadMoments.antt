@@ -1,10 +1,10 @@
--- What it means that the scans of threads have their moments.
+-- What it means that the reads of threads have their moments.
 use Rattle.std.specs.Prelude.{◌≡◌, ℕ, List}
 use Rattle.art_rows.specs.Table.{opening}
 use Rattle.art_steps.specs.declared.variant.Variant.TheVariants.{Optimistic}
 use Rattle.art_core.specs.Core.{opened}
 use Rattle.art_core.specs.Runs.{Gives, HasFewSteps}
-use Rattle.art_moments.specs.Reads.{AnsweredScansHaveMoments}
+use Rattle.art_moments.specs.Reads.{AnsweredScansHaveMoments, AnsweredGetsHaveMoments}
 use Rattle.art_shared.specs.declared.view.Setup.{Setup}
 use Rattle.art_shared.specs.declared.view.View.{View}
 use Rattle.art_shared.specs.Ends.{plan_of, state_of}
@@ -15,3 +15,9 @@ abbrev pub ScansHaveMoments : Setup → View → Type 0
 ScansHaveMoments setup v = setup.variant ≡ Optimistic → (words schedule : List ℕ)
     → Gives (plan_of setup v) (opened (plan_of setup v)) schedule (state_of words v) → HasFewSteps (state_of words v)
     → AnsweredScansHaveMoments (plan_of setup v) (opening setup.shape) schedule
+
+-- And each get that was answered in it has one at which the last row that it read stands still, and says the reply.
+abbrev pub GetsHaveMoments : Setup → View → Type 0
+GetsHaveMoments setup v = setup.variant ≡ Optimistic → (words schedule : List ℕ)
+    → Gives (plan_of setup v) (opened (plan_of setup v)) schedule (state_of words v) → HasFewSteps (state_of words v)
+    → AnsweredGetsHaveMoments (plan_of setup v) (opening setup.shape) schedule

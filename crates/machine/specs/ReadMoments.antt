@@ -1,9 +1,9 @@
--- What it means that the scans of a machine have their moments.
+-- What it means that the reads of a machine have their moments.
 use Rattle.std.specs.Prelude.{◌≡◌, ℕ, List}
 use Rattle.art_steps.specs.declared.variant.Variant.TheVariants.{Optimistic}
 use Rattle.art_core.specs.Core.{Plan, State}
 use Rattle.art_core.specs.Claims.{IsRun}
-use Rattle.art_moments.specs.Reads.{AnsweredScansHaveMoments}
+use Rattle.art_moments.specs.Reads.{AnsweredScansHaveMoments, AnsweredGetsHaveMoments}
 use Rattle.machine.specs.declared.machines.Machine.{Machine}
 use Rattle.machine.specs.Machines.{Shows, start_of}
 
@@ -12,3 +12,8 @@ use Rattle.machine.specs.Machines.{Shows, start_of}
 abbrev pub ScansHaveMoments : Machine → Type 0
 ScansHaveMoments m = (plan : Plan) (first schedule : List ℕ) (s : State) → IsRun plan (start_of m) first schedule s → Shows plan m s → m.variant ≡ Optimistic
     → AnsweredScansHaveMoments plan first schedule
+
+-- And each get that was answered in it has one at which the last row that it read stands still, and says the reply.
+abbrev pub GetsHaveMoments : Machine → Type 0
+GetsHaveMoments m = (plan : Plan) (first schedule : List ℕ) (s : State) → IsRun plan (start_of m) first schedule s → Shows plan m s → m.variant ≡ Optimistic
+    → AnsweredGetsHaveMoments plan first schedule

@@ -1,0 +1,27 @@
+-- The laws of the moments of reads, for processes that have come to their end.
+use Rattle.std.proofs.Common.{ℕ, List, []}
+use Rattle.art_rows.specs.Table.{opening}
+use Rattle.art_core.specs.Core.{opened}
+use Rattle.art_core.specs.Runs.{Gives, HasFewSteps}
+use Rattle.art_core.specs.Claims.{IsRun}
+use Rattle.art_moments.specs.Reads.{RunsHaveMomentsOfScans, RunsHaveMomentsOfGets}
+use Rattle.art_shared.specs.declared.view.Setup.{Setup}
+use Rattle.art_shared.specs.declared.view.View.{View}
+use Rattle.art_shared.specs.Ends.{plan_of, state_of, Ended}
+use Rattle.running.specs.ReadMoments.{ScansHaveMoments, GetsHaveMoments}
+
+-- any schedule that gives them is a run
+given-run : (setup : Setup) (v : View) → Ended setup v → (words schedule : List ℕ)
+    → Gives (plan_of setup v) (opened (plan_of setup v)) schedule (state_of words v) → HasFewSteps (state_of words v)
+    → IsRun (plan_of setup v) [] (opening setup.shape) schedule (state_of words v)
+given-run setup v e words schedule gives few =
+    let r = e.run few in
+    record { within = r.within; start_within = r.start_within; starts = r.starts; gives = gives; few_steps = few }
+
+pub scans-have-moments : RunsHaveMomentsOfScans → (setup : Setup) (v : View) → Ended setup v → ScansHaveMoments setup v
+scans-have-moments law setup v e is words schedule gives few =
+    law (plan_of setup v) [] (opening setup.shape) schedule (state_of words v) (given-run setup v e words schedule gives few) is
+
+pub gets-have-moments : RunsHaveMomentsOfGets → (setup : Setup) (v : View) → Ended setup v → GetsHaveMoments setup v
+gets-have-moments law setup v e is words schedule gives few =
+    law (plan_of setup v) [] (opening setup.shape) schedule (state_of words v) (given-run setup v e words schedule gives few) is
