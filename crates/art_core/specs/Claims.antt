@@ -1,7 +1,7 @@
 -- What is claimed of every schedule: statements alone.
 use Rattle.std.specs.Prelude.{◌≡◌, ◌≢◌, ◌⊎◌, ℕ, ◌≤◌, Bool, true, false, IsTrue, List, [], ◌∷◌, length, map, sum, slice_get, All, Some}
 use Rattle.events.specs.declared.event.Call.{Call}
-use Rattle.events.specs.declared.event.Call.TheVariants.{Get, Scan}
+use Rattle.events.specs.declared.event.Call.TheVariants.{Scan}
 use Rattle.events.specs.declared.event.Reply.{Reply}
 use Rattle.events.specs.declared.event.Reply.TheVariants as replies
 use Rattle.events.specs.declared.event.Event.{Event}
@@ -19,7 +19,7 @@ use Rattle.art_core.specs.Core.{Plan, State, begun, history_of, known_reply, ope
 use Rattle.art_core.specs.Runs.{Gives, HasFewSteps}
 use Rattle.art_core.specs.Starts.{StartsOn, IsStartOf}
 use Rattle.art_core.specs.Meaning.{Means}
-use Rattle.art_core.specs.Moments.{HasMoment, HasLastMoment}
+use Rattle.art_core.specs.Moments.{HasMoment}
 
 -- a plan within the limits
 pub record IsPlan (plan : Plan) : Type 0 where
@@ -77,18 +77,10 @@ OptimisticIsLinearizable =
     (plan : Plan) (start : Contents) (words schedule : List ℕ) (s : State) → IsRun plan start words schedule s
     → plan.variant ≡ Optimistic → IsLinearizable start (operations (history_of s))
 
--- A validated scan has one moment; a get that is answered has one for the last row that it read.
-
+-- A validated scan has one moment.
 abbrev pub ScanHasMoment : Type 0
 ScanHasMoment =
     (plan : Plan) (start : Contents) (words schedule : List ℕ) (s : State) (p low high : ℕ) (q : Process) (reply : Reply)
     → IsRun plan start words schedule s → plan.variant ≡ Optimistic
     → slice_get s.processes p ≡ Some q → q.call ≡ Some (Scan low high) → known_reply plan q.got q.call ≡ Some reply → reply ≢ replies.Refused
     → HasMoment plan (opened_on plan words) schedule p (length (begun q)) (Scan low high) q.got reply
-
-abbrev pub GetHasMoment : Type 0
-GetHasMoment =
-    (plan : Plan) (start : Contents) (words schedule : List ℕ) (s : State) (p key : ℕ) (q : Process) (reply : Reply)
-    → IsRun plan start words schedule s → plan.variant ≡ Optimistic
-    → slice_get s.processes p ≡ Some q → q.call ≡ Some (Get key) → known_reply plan q.got q.call ≡ Some reply
-    → HasLastMoment plan (opened_on plan words) schedule p (length (begun q)) (Get key) q.got

@@ -97,24 +97,3 @@ pub record HasMoment (plan : Plan) (first : State) (schedule : List ℕ) (p call
   pub still : (i j base : ℕ) (kind : Kind) → Enters plan call attempt i base kind → Checks plan call attempt j base
       → (i < n) × (n ≤ j) × StandsFrom plan first schedule p calls (length earlier) i j base kind (row_in now.words base kind)
   pub answers : AnswersAlone plan call now.words r
-
--- A get: the same of the last row that it read.
-pub record HasLastMoment (plan : Plan) (first : State) (schedule : List ℕ) (p calls : ℕ) (call : Call) (got : List ℕ) : Type 0 where
-  pub earlier : List ℕ
-  pub attempt : List ℕ
-  pub all : got ≡ earlier ++ attempt
-  pub begins : BeginsAttempt plan call earlier
-  pub i : ℕ
-  pub base : ℕ
-  pub kind : Kind
-  pub enters : Enters plan call attempt i base kind
-  pub last : (j base' : ℕ) (kind' : Kind) → Enters plan call attempt j base' kind' → j ≤ i
-  pub t : ℕ
-  pub now : State
-  pub at : At plan first schedule t now
-  pub n : ℕ
-  pub within : HasGot calls (length earlier + n) now p
-  pub holds : (j word : ℕ) → Reads plan call attempt j word → base ≤ word → word < base + row_words kind
-      → slice_index now.words word ≡ slice_index attempt j
-  pub still : (j : ℕ) → Checks plan call attempt j base → (i < n) × (n ≤ j)
-      × StandsFrom plan first schedule p calls (length earlier) i j base kind (row_in now.words base kind)

@@ -5,7 +5,7 @@ ghost use Rattle.art_steps.specs.declared.variant.Variant.{Variant};
 ghost use Rattle.art_core.specs.Core.{Plan, State};
 ghost use Rattle.art_core.specs.Starts.{IsStartRefused};
 ghost use Rattle.art_core.specs.Claims.{SerialIsMap, CoupledIsLinearizable, OptimisticIsLinearizableWithoutScans};
-ghost use Rattle.art_core.specs.Claims.{OptimisticIsLinearizable, ScanHasMoment, GetHasMoment};
+ghost use Rattle.art_core.specs.Claims.{OptimisticIsLinearizable};
 ghost use Rattle.art_core.specs.Invariant.{Ghost, Invariant};
 
 /// Nothing is promised here but that the statements can be read.
@@ -14,8 +14,6 @@ pub fn statements_are_read()
     ensures coupled { CoupledIsLinearizable → CoupledIsLinearizable }
     ensures without_scans { OptimisticIsLinearizableWithoutScans → OptimisticIsLinearizableWithoutScans }
     ensures optimistic { OptimisticIsLinearizable → OptimisticIsLinearizable }
-    ensures scan { ScanHasMoment → ScanHasMoment }
-    ensures get { GetHasMoment → GetHasMoment }
     ensures invariant { (plan : Plan) (s : State) (g : Ghost) → Invariant plan s g → Invariant plan s g }
     ensures refused { (s : Shape) (v : Variant) (m : Contents) → IsStartRefused s v m → IsStartRefused s v m }
 {}
