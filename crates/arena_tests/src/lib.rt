@@ -10,3 +10,5 @@ mod arenas;
 mod interleavings;
 #[cfg(test)]
 mod setups;
+#[cfg(test)]
+mod stopped;
