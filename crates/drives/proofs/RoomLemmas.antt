@@ -1,10 +1,11 @@
 -- The length of the longest script.
-use Rattle.std.proofs.Common.{ℕ, ◌*◌, ◌<◌, ◌≤◌, List, [], ◌∷◌, length, map, slice_index_or, arith}
+use Rattle.std.proofs.Common.{◌≡◌, ℕ, ◌*◌, ◌<◌, ◌≤◌, List, [], ◌∷◌, length, map, take, slice_index_or, sym, ap, ◌∙◌, arith}
 use Rattle.std.specs.Prelude.{sum}
 use Rattle.std.proofs.Math.Nat.{mul-le-mul}
 use Rattle.std.proofs.lemmas.List.{get_or_default}
 use Rattle.std.proofs.lemmas.List.Sums.{sum_by-cons}
 use Rattle.std.proofs.lemmas.Simd.{map-map}
+use Rattle.list_laws.specs.Lists.{greatest}
 use Rattle.list_laws.proofs.NumberLemmas.{greatest_bound}
 use Rattle.events.specs.declared.event.Call.{Call}
 use Rattle.plans.specs.Plans.{AreFew}
@@ -29,3 +30,10 @@ pub longest-bound : {X : Type 0} (script_of : X → List Call) (xs : List X) (k 
 longest-bound script_of xs k d within =
     let bound = greatest_bound (λ x. length (script_of x)) xs (slice_index_or xs k d) (k, within, get_or_default xs k (slice_index_or xs k d) d within) in
     rw (map-map (λ script. length script) script_of xs) bound
+
+-- the greatest length among all scripts is that of the longest
+pub longest-found : {X : Type 0} (script_of : X → List Call) (xs : List X) (i most : ℕ) → take i xs ≡ xs
+    → most ≡ greatest (map (λ x. length (script_of x)) (take i xs)) → most ≡ longest (map script_of xs)
+longest-found script_of xs i most all is =
+    is
+    ∙ (ap (λ ys. greatest (map (λ x. length (script_of x)) ys)) all ∙ ap greatest (sym (map-map (λ script. length script) script_of xs)))

@@ -5,5 +5,5 @@ mod room;
 mod script;
 mod subject;
 
-pub use room::is_drivable;
+pub use room::{is_drivable, longest};
 pub use subject::drive_subject;

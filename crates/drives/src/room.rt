@@ -1,5 +1,5 @@
 // Whether there is room for what a drive records.
-ghost use Rattle.std.specs.Prelude.{◌≡◌, ◌↔◌, IsTrue, map};
+ghost use Rattle.std.specs.Prelude.{◌≡◌, ◌↔◌, ◌≤◌, IsTrue, map, All, vec_len};
 ghost use Rattle.drives.specs.Drives.{IsDrivable, longest};
 
 use art_steps::TreeCall;
@@ -16,8 +16,9 @@ pub fn is_drivable(plan: &Plan) -> bool
 }
 
 /// How many calls the longest script has.
-pub(crate) fn longest(scripts: &[Vec<TreeCall>]) -> usize
-    ensures { result ≡ longest (map (λ script. script.items) scripts.now) }
+pub fn longest(scripts: &[Vec<TreeCall>]) -> usize
+    ensures longest { result ≡ longest (map (λ script. script.items) scripts.now) }
+    ensures bound { All (λ script. vec_len script ≤ result) scripts.now }
 {
     let mut most = 0;
     for script in scripts {

@@ -10,6 +10,6 @@ overflow_mul-result c =
     let scripts = c.scripts-scripts.result.now in
     let same = c.scripts-scripts.ensures.same in
     let many : length scripts ≡ length plan = sym (length-map scripts (λ script. script.items)) ∙ ap length same in
-    let most : c.longest.result ≡ longest plan = c.longest.ensures ∙ ap longest same in
+    let most : c.longest.result ≡ longest plan = c.longest.ensures.longest ∙ ap longest same in
     let product : length scripts * c.longest.result ≡ length plan * longest plan = rw (many, most) refl in
     omega (arith, product, room-within plan c.scripts-scripts.ensures.within.few)

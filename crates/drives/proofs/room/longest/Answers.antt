@@ -1,8 +1,7 @@
-use Rattle.std.proofs.Common.{length, map, sym, ap, ◌∙◌, arith}
-use Rattle.list_laws.specs.Lists.{greatest}
+use Rattle.std.proofs.Common.{length, ap, slice_index_or, arith}
 use Rattle.list_laws.proofs.NumberLemmas.{greatest_more}
 use Rattle.std.proofs.lemmas.List.{take_all}
-use Rattle.std.proofs.lemmas.Simd.{map-map}
+use Rattle.drives.proofs.RoomLemmas.{longest-found, longest-bound}
 use Rattle.drives.proofs.room.longest.Goals as goal
 use Rattle.drives.proofs.room.longest.Goals.{then-len-most, else-len-most}
 
@@ -17,9 +16,16 @@ loop-script-preserved c =
       | else-len-most w ↦ omega (arith, more, here, its, c.loop-script.invariant, c.len.ensures, w.if-len-most.false, w.most-is)
     ]
 
-pub returns : goal.returns
-returns c =
-    let all = take_all c.loop-script.script-index c.args.scripts.now c.loop-script-test.false in
-    c.loop-script.invariant
-    ∙ (ap (λ scripts. greatest (map (λ script. length script.items) scripts)) all
-    ∙ ap greatest (sym (map-map (λ script. length script) (λ script. script.items) c.args.scripts.now)))
+pub returns-clause-longest : goal.returns-clause-longest
+returns-clause-longest c =
+    let scripts = c.args.scripts.now in
+    longest-found (λ script. script.items) scripts c.loop-script.script-index c.loop-script.most
+    (take_all c.loop-script.script-index scripts c.loop-script-test.false) c.loop-script.invariant
+
+pub returns-clause-bound : goal.returns-clause-bound
+returns-clause-bound c = λ k d within.
+    let scripts = c.args.scripts.now in
+    let most = longest-found (λ script. script.items) scripts c.loop-script.script-index c.loop-script.most
+    (take_all c.loop-script.script-index scripts c.loop-script-test.false) c.loop-script.invariant in
+    let its = (slice_index_or scripts k d).ok.0 in
+    omega (arith, most, its, longest-bound (λ script. script.items) scripts k d within)

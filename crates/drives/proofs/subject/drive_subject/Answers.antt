@@ -5,7 +5,6 @@ use Rattle.recorder.specs.declared.pass.Pass.{Pass}
 use Rattle.recorder.specs.Recorders.{history_of}
 use Rattle.drives.specs.Drives.{IsDriveOf}
 use Rattle.drives.specs.Passes.{IsPassAfter}
-use Rattle.drives.proofs.RoomLemmas.{longest-bound}
 use Rattle.drives.proofs.DriveLemmas.{length-values, each-pass, are-own, one-of-each, drive-of}
 use Rattle.drives.proofs.subject.drive_subject.Goals as goal
 use Rattle.drives.proofs.subject.drive_subject.Goals.{In_ok-passes}
@@ -31,10 +30,7 @@ passes-after g c =
 
 pub do_scripts-requires-clause-room : goal.do_scripts-requires-clause-room
 do_scripts-requires-clause-room g c = λ κs fits k d within.
-    let scripts = c.scripts-scripts.result.now in
-    let bound = longest-bound (λ script. script.items) scripts k d within in
-    let its = (slice_index_or scripts k d).ok.0 in
-    omega (arith, bound, its, c.longest.ensures, c.in_ok-recorder.ensures.recorder.1)
+    omega (arith, c.longest.ensures.bound k d within, c.in_ok-recorder.ensures.recorder.1)
 
 pub close-requires : goal.close-requires
 close-requires g c = record {

@@ -1,0 +1,5 @@
+mod RunLemmas
+mod ScriptLemmas
+mod PartLemmas
+mod JoinLemmas
+mod DriveLemmas

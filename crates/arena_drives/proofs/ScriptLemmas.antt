@@ -1,0 +1,146 @@
+-- One process between its calls, and within one.
+use Rattle.std.proofs.Common.{◌≡◌, ℕ, ◌+◌, ◌-◌, ◌*◌, ◌<◌, ◌≤◌, inl, inr, true, false, not, IsTrue, List, [], ◌∷◌, ◌++◌, length, map, take, refl, sym, ap, subst, ◌∙◌, arith}
+use Rattle.std.specs.Prelude.{Option, Some, None, is_some, slice_index_or}
+use Rattle.std.proofs.lemmas.List.{take_more, length-append}
+use Rattle.std.proofs.lemmas.List.Elements.{filter_map-append}
+use Rattle.events.specs.declared.event.Call.{Call}
+use Rattle.events.specs.declared.event.Reply.{Reply}
+use Rattle.events.specs.declared.event.Event.TheVariants.{Invoke, Answer}
+use Rattle.events.specs.HistoryFaults.{ends_waiting}
+use Rattle.logs.specs.Logs.{Stamped}
+use Rattle.art_core.specs.declared.process.Process.{Process}
+use Rattle.art_core.specs.Core.{Invokes, begun, idle, invoked, after_move}
+use Rattle.art_shared.specs.declared.view.Setup.{Setup}
+use Rattle.art_shared.specs.declared.view.View.{View}
+use Rattle.art_shared.specs.Views.{Numbered, open_move, invoking, is_idle, calls_left}
+use Rattle.running.specs.Steps.{is_open, Ran, HasReplied, HasInvoked}
+use Rattle.arena_drives.specs.Passes.{alone, is_pending, HasAnsweredAll, ShowsDone}
+use Rattle.arena_drives.proofs.RunLemmas.{ends-logged, ran, ran-open}
+
+-- one call more is one limit more
+mul-more : (a n : ℕ) → a * (n + 1) ≡ a * n + a
+mul-more a n = omega arith
+
+abbrev process_in : Process → List Numbered → Process
+process_in d [] = d
+process_in d (x ∷ xs) = x.1
+
+-- the calls up to one at a place
+pub take-next : (script : List Call) (i : ℕ) (call : Call) → i < length script → call ≡ slice_index_or script i call
+    → take (i + 1) script ≡ take i script ++ call ∷ []
+take-next script i call within is = take_more script i call within ∙ ap (λ y. take i script ++ y ∷ []) (sym is)
+
+module _ (setup : Setup) (number limit : ℕ) where
+  -- The process is alone, has begun and finished these calls, and made no more steps than it may.
+  pub record IsBetween (calls : List Call) (v : View) : Type 0 where
+    pub process : Process
+    pub shown : v ≡ alone setup number process
+    pub none : process.call ≡ None
+    pub answered : HasAnsweredAll calls process
+    pub steps : process.steps ≤ (limit + 1) * length calls
+
+  -- The process is alone, and has begun one call more, of which it made no access.
+  pub record IsWithin (calls : List Call) (call : Call) (v : View) : Type 0 where
+    pub process : Process
+    pub shown : v ≡ alone setup number process
+    pub called : process.call ≡ Some call
+    pub got : process.got ≡ []
+    pub begins_with : begun process ≡ calls ++ call ∷ []
+    pub pending : is_pending process ≡ true
+    pub steps : process.steps ≤ (limit + 1) * length calls + 1
+
+  pub at-start : (v : View) → v ≡ alone setup number idle → IsBetween [] v
+  at-start v is = record {
+    process = idle;
+    shown = is;
+    none = refl;
+    answered = record { calls = refl; completed = refl };
+    steps = omega arith;
+  }
+
+  module _ (calls : List Call) (v : View) (h : IsBetween calls v) where
+    pub between-idle : IsTrue (is_idle v)
+    between-idle = ap is_idle h.shown ∙ ap (λ c. not (is_some c)) h.none
+
+    pub between-left : calls_left v ≡ setup.calls_each - length calls
+    between-left = ap calls_left h.shown ∙ ap (λ l. setup.calls_each - length l) h.answered.calls
+
+    pub finishes : ShowsDone number limit calls v
+    finishes = record {
+      process = h.process;
+      is = ap (λ z. z.processes) h.shown;
+      done = record {
+        ended = inl h.answered;
+        limited = record {
+          steps = subst (λ l. h.process.steps ≤ (limit + 1) * length l) (sym h.answered.calls) h.steps;
+          pending = λ called. absurd (none-called (sym (ap is_some h.none) ∙ called));
+        };
+      };
+    }
+      where
+        none-called : false ≡ true → ⊥
+        none-called e = cc
+
+    pub begins : (call : Call) (w : View) → HasInvoked call v w → IsWithin calls call w
+    begins call w made = record {
+      process = after_move number (Invokes call) made.stamp h.process;
+      shown = made.is ∙ ap (λ z. invoking call z made.stamp) h.shown;
+      called = refl;
+      got = refl;
+      begins_with =
+          filter_map-append (λ (e : Stamped). invoked e.1) h.process.log ((made.stamp, Invoke number call) ∷ [])
+          ∙ ap (λ l. l ++ call ∷ []) h.answered.calls;
+      pending = ends-logged h.process.log (made.stamp, Invoke number call);
+      steps = let s = h.steps in omega arith;
+    }
+
+  module _ (calls : List Call) (call : Call) (v : View) (h : IsWithin calls call v) where
+    pub within-open : IsTrue (is_open v)
+    within-open = ap is_open h.shown ∙ called-open h.process.call h.called
+      where
+        called-open : (c : Option Call) → c ≡ Some call → IsTrue (is_some (open_move setup h.process.got c))
+        called-open None e = cc
+        called-open (Some c) e = refl
+
+    long : length (calls ++ call ∷ []) ≡ length calls + 1
+    long = length-append calls (call ∷ [])
+
+    more : (limit + 1) * length (calls ++ call ∷ []) ≡ (limit + 1) * length calls + (limit + 1)
+    more = ap (λ n. (limit + 1) * n) long ∙ mul-more (limit + 1) (length calls)
+
+    pub answers : (n : ℕ) (w : View) (reply : Reply) → n ≤ limit → Ran n v w → HasReplied reply w → IsBetween (calls ++ call ∷ []) w
+    answers n w reply few made replied =
+        let after = ran setup number n h.process w (subst (λ z. Ran n z w) h.shown made) in
+        let same : replied.process ≡ after.new = sym (ap (process_in idle) replied.is) ∙ ap (λ z. process_in idle z.processes) after.is in
+        record {
+          process = after.new;
+          shown = after.is;
+          none = sym (ap (λ q. q.call) same) ∙ replied.idle;
+          answered = record {
+            calls = after.run.calls ∙ h.begins_with;
+            completed = sym (ap is_pending same) ∙ (ap (λ l. ends_waiting false (map (λ e. e.1) l)) replied.log
+                ∙ ends-logged replied.earlier (replied.stamp, Answer replied.number reply));
+          };
+          steps = let m = more in let s = h.steps in let r = after.run.steps in omega arith;
+        }
+
+    pub stops : (w : View) (script rest : List Call) → Ran limit v w → IsTrue (is_open w) → (calls ++ call ∷ []) ++ rest ≡ script
+        → ShowsDone number limit script w
+    stops w script rest made still all =
+        let after = ran-open setup number limit h.process w (subst (λ z. Ran limit z w) h.shown made) still in
+        record {
+          process = after.new;
+          is = ap (λ z. z.processes) after.is;
+          done = record {
+            ended = inr (record {
+              rest = rest;
+              calls = ap (λ l. l ++ rest) (after.run.calls ∙ h.begins_with) ∙ all;
+              pending = ap (λ l. ends_waiting false (map (λ e. e.1) l)) after.gone.log ∙ h.pending;
+            });
+            limited = record {
+              steps = subst (λ l. after.new.steps ≤ (limit + 1) * length l) (sym (after.run.calls ∙ h.begins_with))
+                  (let m = more in let s = h.steps in let r = after.run.steps in omega arith);
+              pending = λ called. let g = after.gone.got in let none = ap length h.got in omega arith;
+            };
+          };
+        }

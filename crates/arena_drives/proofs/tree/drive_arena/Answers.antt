@@ -1,0 +1,49 @@
+use Rattle.std.proofs.Common.{◌≡◌, length, map, sym, ap, subst, ◌∙◌, arith}
+use Rattle.std.proofs.lemmas.List.{length-map}
+use Rattle.art_shared.specs.Ends.{HasOwnEvents}
+use Rattle.drives.specs.Drives.{longest}
+use Rattle.running.specs.Passes.{shows, opened_for, setup_with}
+use Rattle.running.specs.Closing.{HoldsAll, IsHistoryOf}
+use Rattle.arena_drives.specs.ArenaDrives.{IsArenaDriveOf}
+use Rattle.arena_drives.proofs.JoinLemmas.{AreDone, joined-done}
+use Rattle.arena_drives.proofs.DriveLemmas.{drive-of, memory-wanted}
+use Rattle.arena_drives.proofs.tree.drive_arena.Goals as goal
+use Rattle.arena_drives.proofs.tree.drive_arena.Goals.{In_ok-pass}
+
+-- what the arena was opened for
+opened : (g : _) (c : In_ok-pass g) → opened_for c.in_ok-arena.arena
+    ≡ setup_with c.args.shape c.args.variant (length (map (λ script. script.items) c.scripts-scripts.result.now)) (longest (map (λ script. script.items) c.scripts-scripts.result.now))
+opened g c =
+    let scripts = c.scripts-scripts.result.now in
+    c.in_ok-arena.ensures.setup
+    ∙ (ap (λ n. setup_with c.args.shape c.args.variant n c.longest.result) (sym (length-map scripts (λ script. script.items)))
+    ∙ ap (setup_with c.args.shape c.args.variant (length (map (λ script. script.items) scripts))) c.longest.ensures.longest)
+
+-- all processes did their scripts
+done : (g : _) (c : In_ok-pass g)
+    → AreDone c.in_ok-arena.arena c.args.limit (map (λ script. script.items) c.scripts-scripts.result.now) (length c.in_ok-done.done.items) (shows c.in_ok-pass.pass).processes
+done g c =
+    joined-done c.in_ok-arena.arena c.args.limit (map (λ script. script.items) c.scripts-scripts.result.now) c.in_ok-done.done.items
+    (shows c.in_ok-pass.pass).processes c.in_ok-done.ensures.done c.in_ok-pass.ensures.joined
+
+pub do_scripts-requires-clause-room : goal.do_scripts-requires-clause-room
+do_scripts-requires-clause-room g c = λ κs fits k d within.
+    omega (arith, c.longest.ensures.bound k d within, ap (λ s. s.calls_each) c.in_ok-arena.ensures.setup)
+
+pub want_of_memory-requires : goal.want_of_memory-requires
+want_of_memory-requires g c =
+    let d = (goal.at.want_of_memory-requires g c).In_ok-pass in
+    let many : HoldsAll (opened_for c.in_ok-arena.arena) (shows c.in_ok-pass.pass) =
+    (done g d).many ∙ (omega (arith, c.in_ok-done.ensures.many, c.in_ok-passes.ensures.many, c.in_ok-done.done.ok.0, ap (λ s. s.processes) c.in_ok-arena.ensures.setup)) in
+    memory-wanted c.in_ok-arena.arena c.in_ok-pass.pass c.in-Err.fault many c.in-Err.ensures.refused
+
+pub returns-in-Ok : goal.returns-in-Ok
+returns-in-Ok g c =
+    let d = (goal.at.returns-in-Ok g c).In_ok-pass in
+    let scripts = map (λ script. script.items) c.scripts-scripts.result.now in
+    let setup = opened g d in
+    let v = shows c.in_ok-pass.pass in
+    let h = c.in-Ok.history in
+    subst (λ plan. IsArenaDriveOf c.args.shape c.args.variant c.args.limit plan h) c.scripts-scripts.ensures.same
+    (drive-of c.args.shape c.args.variant c.args.limit scripts v h (subst (λ s. IsHistoryOf s v h) setup c.in-Ok.ensures.history)
+    (subst (λ s. HasOwnEvents s v h.events) setup c.in-Ok.ensures.own_events) (done g d).done)

@@ -1,0 +1,2 @@
+pub mod ArenaDrives
+pub mod Passes

@@ -1,0 +1,102 @@
+// A plan is driven on one tree.
+ghost use Rattle.std.specs.Prelude.{◌≡◌, ◌≤◌, map, length, vec_len, All, IfOk};
+ghost use Rattle.art_rows.specs.Table.{IsWithinLimits};
+ghost use Rattle.drives.specs.Drives.{IsDrivable};
+ghost use Rattle.running.specs.Passes.{opened_for};
+ghost use Rattle.arena_drives.specs.ArenaDrives.{IsArenaDriveOf};
+ghost use Rattle.arena_drives.specs.Passes.{IsReady, IsPassAfter, WantsMemory};
+
+use crate::parts::{join_all, part_all};
+use crate::script::do_script;
+use art::{Shape, TreeCall, Variant};
+use drives::longest;
+use events::{History, Memory};
+use plans::Plan;
+use pool::Gate;
+use running::{Arena, ArenaClose, Pass};
+use std::alloc::{AllocError, Global};
+use std::thread;
+use std::thread::Threads;
+
+/// What happens when each process of the plan does its script on one tree, which is empty at first, one call after another,
+/// in a thread of its own: it enters the gate once, with its number, and then begins each call and makes at most `limit` steps
+/// of it. A process whose call is still open after them stops there. A process that gets no thread does its script later, in
+/// the thread that was to start it. The call returns once all processes are done or have stopped. It costs a thread for each
+/// process, and an atomic step for each step of a call. `Err` is want of memory.
+pub fn drive_arena<R: Threads + Sync, G: Gate + Sync>(
+    rt: &R,
+    alloc: Global,
+    plan: &Plan,
+    shape: Shape,
+    variant: Variant,
+    limit: u32,
+    gate: &G,
+) -> Result<History, Memory>
+    requires plan { IsDrivable plan.now }
+    requires shape { IsWithinLimits shape }
+    ensures { IfOk result (λ h. IsArenaDriveOf shape variant limit plan.now h) }
+{
+    let scripts = plan.scripts();
+    let processes = scripts.len() as u8;
+    let (arena, pass) = Arena::open(alloc, shape, variant, processes, longest(scripts) as u32)?;
+    let passes = part_all(alloc, &arena, pass, processes)?;
+    let done = do_scripts(rt, alloc, &arena, passes, scripts, limit, gate)?;
+    let pass = join_all(&arena, done)?;
+    match arena.close(alloc, pass) {
+        Ok(history) => Ok(history),
+        Err(fault) => Err(want_of_memory(fault)),
+    }
+}
+
+/// All processes do their scripts, each in a thread of its own where one can be made: what each gives back, in the order of
+/// the passes.
+fn do_scripts<R: Threads + Sync, G: Gate + Sync>(
+    rt: &R,
+    alloc: Global,
+    arena: &Arena,
+    passes: Vec<Pass>,
+    scripts: &[Vec<TreeCall>],
+    limit: u32,
+    gate: &G,
+) -> Result<Vec<Result<Pass, Memory>>, AllocError>
+    requires ready { All (IsReady arena.now) passes.items }
+    requires processes { (opened_for arena.now).processes ≡ length scripts.now }
+    requires room { All (λ script. vec_len script ≤ (opened_for arena.now).calls_each) scripts.now }
+    ensures many { IfOk result (λ done. vec_len done ≡ vec_len passes) }
+    ensures done { IfOk result (λ done. All (λ d. IfOk d (IsPassAfter arena.now limit (map (λ script. script.items) scripts.now))) done.items) }
+{
+    thread::map_vec(
+        rt,
+        passes,
+        &|pass| { do_own_script(alloc, arena, pass, scripts, limit, gate) },
+    )
+}
+
+/// A process enters the gate, and does its own of the scripts.
+fn do_own_script<G: Gate>(
+    alloc: Global,
+    arena: &Arena,
+    pass: Pass,
+    scripts: &[Vec<TreeCall>],
+    limit: u32,
+    gate: &G,
+) -> Result<Pass, Memory>
+    requires ready { IsReady arena.now pass }
+    requires processes { (opened_for arena.now).processes ≡ length scripts.now }
+    requires room { All (λ script. vec_len script ≤ (opened_for arena.now).calls_each) scripts.now }
+    ensures { IfOk result (IsPassAfter arena.now limit (map (λ script. script.items) scripts.now)) }
+{
+    let process = usize::from(pass.process());
+    gate.enter(process);
+    do_script(alloc, arena, pass, &scripts[process], limit)
+}
+
+/// An arena was not closed only for want of memory.
+fn want_of_memory(fault: ArenaClose) -> Memory
+    requires { WantsMemory fault }
+{
+    match fault {
+        ArenaClose::Memory(_, _) => Memory,
+        ArenaClose::StillOut(_, _) => unreachable!(),
+    }
+}
