@@ -9,7 +9,7 @@ use crate::worked::{
 };
 use cutter::cut;
 use history::Segment;
-use search::{MAX_BUDGET, Turn, Walk, search};
+use search::{MAX_BUDGET, Turn, Walk, longest_front, search};
 use std::alloc::Global;
 use std::test::Fail;
 
@@ -133,4 +133,30 @@ fn a_search_goes_on_turn_by_turn(rt: HostRuntime) -> Result<(), Fail> {
         }
     }
     Err(Fail::new("it does not end"))
+}
+
+/// Events, a budget, and the longest front that a search of all calls but pending gets and scans meets.
+static LONGEST_FRONTS: [Case<'static>; 6] = [
+    (GET_SEES_ANSWERED_INSERT, 1000, "[0, 1]"),
+    (GET_MISSES_ANSWERED_INSERT, 1000, "[0]"),
+    (GET_MISSES_ANSWERED_INSERT, 1, "[0]"),
+    (GET_IS_ANSWERED_BY_A_LIST, 1, "[]"),
+    // The first insert, the scan that sees it alone, and the second one: the other scan may come no more.
+    (SCANS_SEE_TWO_INSERTS_IN_DIFFERENT_ORDER, 1000, "[0, 2, 1]"),
+    // Spent before it goes back from both inserts.
+    (SCANS_SEE_TWO_INSERTS_IN_DIFFERENT_ORDER, 2, "[0, 1]"),
+];
+
+#[test]
+fn the_longest_front_is_kept(rt: HostRuntime) -> Result<(), Fail> {
+    let alloc = rt.alloc();
+    for (events, budget, want) in &LONGEST_FRONTS {
+        let Some(whole) = Segment::whole(alloc, &history_of(alloc, events)?)? else {
+            return Err(Fail::new("no call belongs to a segment"));
+        };
+        let front = longest_front(alloc, &whole, (*budget).clamp(1, MAX_BUDGET))?;
+        let front = format!(in alloc; "{front:?}")?;
+        assert!(rt; front.as_str() == *want, "{events} gave {front}");
+    }
+    Ok(())
 }

@@ -12,3 +12,4 @@ pub mod MemoLemmas
 pub mod OpenLemmas
 pub mod ExistsLemmas
 pub mod LeastLemmas
+pub mod LongestLemmas

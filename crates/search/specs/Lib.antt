@@ -4,6 +4,7 @@ pub mod LeastOrder
 pub mod LeastCounts
 pub mod Cursor
 pub mod Exact
+pub mod LongestFront
 pub mod Links
 pub mod Undo
 pub mod Standing

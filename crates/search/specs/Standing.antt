@@ -90,12 +90,12 @@ pub record MayTry (start : Contents) (calls : List Operation) (path : List ℕ) 
   pub preceded : (m : ℕ) → PrecedesAt calls m next → Contains path m
   pub not_order : IsOrder start calls path → ⊥
 
--- a walk has moved: one more configuration, or as many and fewer calls to try
+-- a walk has moved: it visited one configuration more, to which the calls taken now lead, or none and has fewer calls to try
 pub record HasMoved (start : Contents) (calls : List Operation) (old new : Standing) : Type 0 where
   pub stands : Stands start calls new
   pub progress :
-      ((length new.memo ≡ length old.memo) × (untried (length calls) new.levels.items new.next < untried (length calls) old.levels.items old.next)) ⊎
-      ((length new.memo ≡ length old.memo + 1)
+      ((new.memo ≡ old.memo) × (untried (length calls) new.levels.items new.next < untried (length calls) old.levels.items old.next)) ⊎
+      ((c : Configuration) × (new.memo ≡ old.memo ++ c ∷ []) × LeadsTo start calls (places new.levels.items) c
       × (untried (length calls) new.levels.items new.next ≤ untried (length calls) old.levels.items old.next + length calls))
 
 -- all is tried: there is no order, and what was visited is what counts

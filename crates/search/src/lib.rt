@@ -8,12 +8,14 @@
 mod found;
 mod laws;
 mod links;
+mod longest;
 mod standing;
 mod undo;
 mod walk;
 
 pub use found::Found;
 pub use laws::{least_order_and_count, least_order_by_fronts, one_exact_answer};
+pub use longest::longest_front;
 pub use walk::{Turn, Walk, search};
 
 /// The greatest budget of a search.

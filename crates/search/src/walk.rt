@@ -89,7 +89,7 @@ impl Walk {
 }
 
 /// Before any call of a segment, at its starting pairs.
-fn begin(alloc: Global, segment: &Segment) -> Result<Standing, Memory>
+pub(crate) fn begin(alloc: Global, segment: &Segment) -> Result<Standing, Memory>
     ensures stands { IfOk result (Stands segment.now.start segment.now.calls) }
     ensures one { IfOk result (λ s. length s.memo ≡ 1) }
 {
@@ -98,7 +98,7 @@ fn begin(alloc: Global, segment: &Segment) -> Result<Standing, Memory>
 }
 
 /// One turn where a walk of a segment stands, and what is found where the search is over.
-fn make_turn(
+pub(crate) fn make_turn(
     alloc: Global,
     segment: &Segment,
     budget: u32,
@@ -121,7 +121,11 @@ fn make_turn(
 }
 
 /// The numbers of the calls taken.
-fn order_of(alloc: Global, numbers: &[u32], standing: &Standing) -> Result<Vec<u32>, Memory>
+pub(crate) fn order_of(
+    alloc: Global,
+    numbers: &[u32],
+    standing: &Standing,
+) -> Result<Vec<u32>, Memory>
     requires { All (λ place. place < length numbers.now) (places standing.now.levels.items) }
     ensures { IfOk result (λ v. v.items ≡ map (λ place. slice_index numbers.now place) (places standing.now.levels.items)) }
 {

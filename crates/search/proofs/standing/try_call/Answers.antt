@@ -3,12 +3,13 @@ use Rattle.std.specs.Prelude.{slice_get, slice_index, Contains, IsTrue, ◌↔�
 use Rattle.std.proofs.lemmas.Bool.{iff_false, both_ways}
 use Rattle.std.proofs.lemmas.List.{length-append}
 use Rattle.std.proofs.lemmas.Option.{slice_get_read, slice_get_within, same_Some}
-use Rattle.configurations.specs.Configurations.{Configuration}
+use Rattle.configurations.specs.Configurations.{Configuration, LeadsTo}
 use Rattle.search.specs.declared.standing.Level.{Level}
 use Rattle.search.specs.Links.{unlinked}
+use Rattle.search.specs.Standing.{places}
 use Rattle.search.proofs.MemoLemmas.{visited_or_not}
 use Rattle.search.proofs.WalkLemmas.{cursor-illegal, StandsWith-passed, untried-passed, LeadsTo-taken, cursor-seen, StandsWith-push, untried-pushed}
-use Rattle.search.proofs.WalkLemmas.{StandsWith-same}
+use Rattle.search.proofs.WalkLemmas.{places-push, StandsWith-same}
 use Rattle.search.proofs.standing.try_call.Goals as goal
 
 -- a configuration that is not new was visited
@@ -72,7 +73,7 @@ returns-in_ok-undo_call-in-Ok-false g c =
           (slice_index w.calls.after w.next) c.after-standing-in-Ok-false.result w.at w.at w.map c.undo_call.new.map w.memo c.visit.new.self w.calls w.calls
           w.answers w.answers refl c.after-standing-in-Ok-false.ensures.after refl (c.in_ok-undo_call-in-Ok-false.ensures ∙ c.in_ok-undo.ensures.undo)
           visited_is refl refl stands;
-      progress = inl (ap length visited_is, rw c.after-standing-in-Ok-false.ensures.after less);
+      progress = inl (visited_is, rw c.after-standing-in-Ok-false.ensures.after less);
     }
 
 pub returns-in_ok-push-in-Ok-true : goal.returns-in_ok-push-in-Ok-true
@@ -108,5 +109,10 @@ returns-in_ok-push-in-Ok-true g c =
           StandsWith-same g.start calls (w.levels.items ++ level ∷ []) n.levels.items (slice_index (unlinked w.calls w.next).after (length calls)) n.next
           (length w.memo) n.at c.take_call.new.map n.map (w.memo ++ config ∷ []) n.memo (unlinked w.calls w.next) n.calls (unlinked w.answers w.next) n.answers
           p.levels p.next (p.at ∙ omega (arith, ap length visited_is, one_more)) p.map (p.memo ∙ visited_is) p.calls p.answers stands;
-      progress = inr (ap length (p.memo ∙ visited_is) ∙ one_more, rw (p.levels, p.next) more);
+      progress = inr (
+        config,
+        p.memo ∙ visited_is,
+        subst (λ ps. LeadsTo g.start calls ps config) (sym (ap places p.levels ∙ places-push w.levels.items level)) leads,
+        rw (p.levels, p.next) more,
+      );
     }

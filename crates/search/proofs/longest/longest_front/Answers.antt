@@ -1,0 +1,36 @@
+use Rattle.std.proofs.Common.{ap, ◌∙◌, arith}
+use Rattle.std.specs.Prelude.{map, slice_index}
+use Rattle.search.specs.Standing.{places}
+use Rattle.search.proofs.LongestLemmas.{longest-open, longest-kept, longest-longer}
+use Rattle.search.proofs.longest.longest_front.Goals as goal
+
+pub loop-longest-init : goal.loop-longest-init
+loop-longest-init c =
+    let segment = c.args.segment.now in
+    let standing = c.in_ok-standing.standing in
+    let stands = c.in_ok-standing.ensures.stands in
+    let is = c.in_ok-longest.ensures ∙ ap (λ ns. map (λ place. slice_index ns place) (places standing.levels.items)) c.numbers.ensures.numbers in
+    (stands, longest-open segment standing stands c.in_ok-longest.longest.items is c.in_ok-standing.ensures.one)
+
+pub loop-longest-preserved-then-len : goal.loop-longest-preserved-then-len
+loop-longest-preserved-then-len c =
+    let segment = c.args.segment.now in
+    let old = c.loop-longest.standing in
+    let new = c.make_turn.new.standing in
+    let moved = (rw c.in_default.is at c.in_ok-_found.ensures).0 in
+    let is = c.in_ok-longest-2.ensures ∙ ap (λ ns. map (λ place. slice_index ns place) (places new.levels.items)) c.numbers-then-len.ensures.numbers in (
+      moved.stands,
+      longest-longer segment old new c.loop-longest.longest.items moved c.loop-longest.invariant.1 c.in_ok-longest-2.longest.items is
+          (omega (arith, c.if-len.true, c.len.ensures, c.len-in-loop-longest.ensures)),
+    )
+
+pub loop-longest-preserved : goal.loop-longest-preserved
+loop-longest-preserved c =
+    let segment = c.args.segment.now in
+    let old = c.loop-longest.standing in
+    let new = c.make_turn.new.standing in
+    let moved = (rw c.in_default.is at c.in_ok-_found.ensures).0 in (
+      moved.stands,
+      longest-kept segment old new c.loop-longest.longest.items moved c.loop-longest.invariant.1
+          (omega (arith, c.if-len.false, c.len.ensures, c.len-in-loop-longest.ensures)),
+    )

@@ -1,0 +1,29 @@
+// The longest of the fronts that a search meets.
+ghost use Rattle.std.specs.Prelude.{◌≤◌, IfOk, length};
+ghost use Rattle.search.specs.LongestFront.{IsFrontOf, IsMostTaken};
+
+use crate::MAX_BUDGET;
+use crate::walk::{begin, make_turn, order_of};
+use events::Memory;
+use segments::Segment;
+use std::alloc::Global;
+
+/// The longest front of a segment that a search of it meets, by the numbers of its calls: how far an order gets. Where
+/// the segment has no order, and no more configurations count than the budget, no front of it is longer. It costs what the
+/// search costs, and a copy of the calls taken whenever more are taken than ever before.
+pub fn longest_front(alloc: Global, segment: &Segment, budget: u32) -> Result<Vec<u32>, Memory>
+    requires { (1 ≤ budget) × (budget ≤ MAX_BUDGET) }
+    ensures front { IfOk result (λ v. IsFrontOf segment.now v.items) }
+    ensures longest { IfOk result (λ v. IsMostTaken segment.now budget (length v.items)) }
+{
+    let mut standing = begin(alloc, segment)?;
+    let mut longest = order_of(alloc, segment.numbers(), &standing)?;
+    loop {
+        if let Some(_found) = make_turn(alloc, segment, budget, &mut standing)? {
+            return Ok(longest);
+        }
+        if standing.levels.len() > longest.len() {
+            longest = order_of(alloc, segment.numbers(), &standing)?;
+        }
+    }
+}
