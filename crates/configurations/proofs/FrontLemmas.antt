@@ -11,7 +11,7 @@ use Rattle.events.specs.declared.operation.Operation.{Operation}
 use Rattle.events.specs.declared.operation.Response.{Response}
 use Rattle.events.specs.Precedence.{is_completed, is_before, precedes, NonePrecedesItself}
 use Rattle.map_object.specs.MapObject.{Contents}
-use Rattle.orders.specs.Orders.{IsLegalCall, after_calls, IsLegal, calls_at, IsCompletedAt, IsOrder}
+use Rattle.orders.specs.Orders.{IsLegalCall, after_calls, IsLegal, calls_at, IsCompletedAt, IsLegalOrder, IsOrder}
 use Rattle.configurations.specs.Fronts.{PrecedesAt, IsFront}
 use Rattle.list_laws.proofs.Lists.{length-distinct_below, AllPairs-nil, AllPairs-front, AllPairs-across, All-front, All-back, place_of-Contains}
 use Rattle.list_laws.proofs.Lists.{slice_get-append_left, Contains-take, slice_get-middle, place-push, place_before-Contains, AllPairs-at, AllPairs-from_at}
@@ -59,19 +59,15 @@ IsFront-from_order start calls order none h = record {
         both_ways _
         (AllPairs-at (λ a b. precedes b a ≡ false) (calls_at calls order) i j before.1 before.0 h.legal_order.precedence later first second) before.4
 
--- a front that holds each completed call is an order
-pub IsOrder-from_front : (start : Contents) (calls : List Operation) (front : List ℕ) → IsFront start calls front
-    → ((n : ℕ) → IsCompletedAt calls n → Contains front n) → IsOrder start calls front
-IsOrder-from_front start calls front h complete = record {
-  legal_order = record {
-    known = h.known;
-    distinct = h.distinct;
-    precedence =
-        AllPairs-from_at (λ a b. precedes b a ≡ false) (calls_at calls front)
-        (λ i j a b before first second. false_from_ne_true (precedes b a) (too_late i j a b before first second));
-    legal = h.legal;
-  };
-  complete = complete;
+-- a front is a legal order of its calls
+pub IsLegalOrder-from_front : (start : Contents) (calls : List Operation) (front : List ℕ) → IsFront start calls front → IsLegalOrder start calls front
+IsLegalOrder-from_front start calls front h = record {
+  known = h.known;
+  distinct = h.distinct;
+  precedence =
+      AllPairs-from_at (λ a b. precedes b a ≡ false) (calls_at calls front)
+      (λ i j a b before first second. false_from_ne_true (precedes b a) (too_late i j a b before first second));
+  legal = h.legal;
 }
   where
     too_late : (i j : ℕ) (a b : Operation) → i < j → slice_get (calls_at calls front) i ≡ Some a → slice_get (calls_at calls front) j ≡ Some b
@@ -81,6 +77,14 @@ IsOrder-from_front start calls front h complete = record {
         let (m, m_here, m_call) = number_at calls front j b h.known second in
         let (k, earlier, k_here) = place_before-Contains front i m (h.closed i m n n_here (b, a, m_call, n_call, e)) in
         AllPairs-at (λ m n. m ≢ n) front k j m m h.distinct (omega arith) k_here m_here refl
+
+-- a front that holds each completed call is an order
+pub IsOrder-from_front : (start : Contents) (calls : List Operation) (front : List ℕ) → IsFront start calls front
+    → ((n : ℕ) → IsCompletedAt calls n → Contains front n) → IsOrder start calls front
+IsOrder-from_front start calls front h complete = record {
+  legal_order = IsLegalOrder-from_front start calls front h;
+  complete = complete;
+}
 
 -- the beginning of a front is a front
 pub IsFront-front : (start : Contents) (calls : List Operation) (front rest : List ℕ) → IsFront start calls (front ++ rest) → IsFront start calls front

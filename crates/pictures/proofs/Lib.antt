@@ -3,3 +3,4 @@ mod LaneLemmas
 mod ColumnLemmas
 mod BarLemmas
 mod MarkLemmas
+mod FrontLemmas

@@ -4,3 +4,4 @@ pub mod Lanes
 pub mod Bars
 pub mod Marks
 pub mod Pictures
+pub mod Fronts

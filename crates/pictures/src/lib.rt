@@ -7,12 +7,14 @@
 
 mod bars;
 mod columns;
+mod fronts;
 mod lanes;
 mod marks;
 mod pictures_of;
 mod words;
 
 pub use bars::Bar;
+pub use fronts::front_of;
 pub use marks::Mark;
 pub use pictures_of::{Heading, Picture, picture_of};
 pub use words::{call_words, pairs_words, reply_words};

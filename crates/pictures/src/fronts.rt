@@ -1,0 +1,33 @@
+// How far an order gets where there is none, or none was found.
+ghost use Rattle.std.specs.Prelude.{◌≤◌, IfOk};
+ghost use Rattle.events.specs.Operations.{operations};
+ghost use Rattle.judge.specs.Shown.{IsShown};
+ghost use Rattle.pictures.specs.Fronts.{IsFrontShown};
+ghost use Rattle.pictures.specs.Marks.{IsMarkable};
+ghost use Rattle.pictures.specs.Pictures.{marked};
+
+use events::{History, Memory};
+use judge::{MAX_BUDGET, Verdict};
+use search::longest_front;
+use std::alloc::Global;
+
+/// The front that the picture of a verdict marks as it would an order: the longest one of the named segment that a search
+/// meets, and none for a yes. It costs what the search of that segment costs. `Err` is want of memory.
+pub fn front_of(
+    alloc: Global,
+    history: &History,
+    verdict: &Verdict,
+    budget: u32,
+) -> Result<Vec<u32>, Memory>
+    requires budget { (1 ≤ budget) × (budget ≤ MAX_BUDGET) }
+    requires shown { IsShown history.now.start budget (operations history.now.events) verdict.now }
+    ensures front { IfOk result (λ v. IsFrontShown budget verdict.now v.items) }
+    ensures markable { IfOk result (λ v. IsMarkable (operations history.now.events) (marked verdict.now v.items)) }
+{
+    let front = match verdict {
+        Verdict::Yes(_) => Vec::new(alloc),
+        Verdict::No(segment) => longest_front(alloc, segment, budget)?,
+        Verdict::Undecided(segment) => longest_front(alloc, segment, budget)?,
+    };
+    Ok(front)
+}
