@@ -1,0 +1,58 @@
+use Rattle.std.specs.Prelude.{refl}
+use Rattle.clap.specs.Walk.{texts}
+use Rattle.history_engines.specs.Answers.{IsCheckAnswer, IsHistoryRefusal, IsJudgeAnswer}
+use Rattle.plan_engines.specs.Answers.{IsReplayAnswer, IsReplayRefusal}
+use Rattle.plan_engines.specs.Drives.{IsDriveAnswer, IsDriveRefusal}
+use Rattle.outcomes.specs.Ends.{change}
+use Rattle.bench.proofs.OutcomeLemmas.{read-words, drawn-words}
+use Rattle.bench.proofs.command.run.Goals as goal
+
+pub returns-in-Check-clause-run : goal.returns-in-Check-clause-run
+returns-in-Check-clause-run g c = record {
+  outcome = c.run_check.ensures.outcome;
+  comes = read-words (IsCheckAnswer c.in-Check.order.items) IsHistoryRefusal (texts c.args.words.now)
+      (change g.S.Source.remaining g.S.Source.failures c.args.source.now c.run_check.new.source) c.run_check.ensures.outcome
+      (λ comes. record { line = c.in-Ok.line; accepted = c.in-Ok.ensures.accepted; asked = c.in-Ok.ensures.line; comes = rw c.in-Check.is comes })
+      (rw (← c.deref.ensures.value) c.run_check.ensures.comes);
+  leaves = c.run_check.ensures.leaves;
+}
+
+pub returns-in-Judge-clause-run : goal.returns-in-Judge-clause-run
+returns-in-Judge-clause-run g c = record {
+  outcome = c.run_judge.ensures.outcome;
+  comes = read-words (IsJudgeAnswer c.in-Judge.budget) IsHistoryRefusal (texts c.args.words.now)
+      (change g.S.Source.remaining g.S.Source.failures c.args.source.now c.run_judge.new.source) c.run_judge.ensures.outcome
+      (λ comes. record { line = c.in-Ok.line; accepted = c.in-Ok.ensures.accepted; asked = c.in-Ok.ensures.line; comes = rw c.in-Judge.is comes })
+      c.run_judge.ensures.comes;
+  leaves = c.run_judge.ensures.leaves;
+}
+
+pub returns-in-Generate-clause-run : goal.returns-in-Generate-clause-run
+returns-in-Generate-clause-run g c = record {
+  outcome = c.run_generate.ensures.outcome;
+  comes = drawn-words c.in-Generate.seed _ c.in-Generate.processes c.in-Generate.calls (texts c.args.words.now)
+      (change g.S.Source.remaining g.S.Source.failures c.args.source.now c.args.source.now) c.run_generate.ensures.outcome
+      (λ comes. record { line = c.in-Ok.line; accepted = c.in-Ok.ensures.accepted; asked = c.in-Ok.ensures.line; comes = rw c.in-Generate.is (refl, comes) })
+      refl c.run_generate.ensures.comes;
+  leaves = c.run_generate.ensures.leaves;
+}
+
+pub returns-in-Replay-clause-run : goal.returns-in-Replay-clause-run
+returns-in-Replay-clause-run g c = record {
+  outcome = c.run_replay.ensures.outcome;
+  comes = read-words IsReplayAnswer IsReplayRefusal (texts c.args.words.now)
+      (change g.S.Source.remaining g.S.Source.failures c.args.source.now c.run_replay.new.source) c.run_replay.ensures.outcome
+      (λ comes. record { line = c.in-Ok.line; accepted = c.in-Ok.ensures.accepted; asked = c.in-Ok.ensures.line; comes = rw c.in-Replay.is comes })
+      c.run_replay.ensures.comes;
+  leaves = c.run_replay.ensures.leaves;
+}
+
+pub returns-in-Drive-Locked-clause-run : goal.returns-in-Drive-Locked-clause-run
+returns-in-Drive-Locked-clause-run g c = record {
+  outcome = c.run_drive.ensures.outcome;
+  comes = read-words IsDriveAnswer IsDriveRefusal (texts c.args.words.now)
+      (change g.S.Source.remaining g.S.Source.failures c.args.source.now c.run_drive.new.source) c.run_drive.ensures.outcome
+      (λ comes. record { line = c.in-Ok.line; accepted = c.in-Ok.ensures.accepted; asked = c.in-Ok.ensures.line; comes = rw c.in-Drive-Locked.is comes })
+      c.run_drive.ensures.comes;
+  leaves = c.run_drive.ensures.leaves;
+}
