@@ -1,2 +1,2 @@
-mod WholeHistories
+pub mod WholeHistories
 mod WholeLocations

@@ -13,7 +13,7 @@ use Rattle.outcomes.proofs.WholeText.{same_text}
 use Rattle.history_engines.specs.Answers.{IsTextOf, IsHistoryRefusal, IsCheckAnswer, IsJudgeAnswer}
 
 -- a history that the text read spells is the one of the whole
-IsTextOf-whole : (text : List ℕ) (history : HistoryView) → IsTextOf (take (text_limit + 1) text) history → IsTextOf text history
+pub IsTextOf-whole : (text : List ℕ) (history : HistoryView) → IsTextOf (take (text_limit + 1) text) history → IsTextOf text history
 IsTextOf-whole text history h = subst (λ (t : List ℕ). IsTextOf t history) (same_text text_limit text h.spelled.json.fits) h
 
 -- a judgement of the text read is one of the whole

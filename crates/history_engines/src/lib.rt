@@ -11,4 +11,4 @@ pub mod worked_texts;
 
 pub use check::{check_outcome, run_check};
 pub use location::{locate_outcome, run_locate};
-pub use verdict::{judge_outcome, run_judge};
+pub use verdict::{answer_of, judge_outcome, run_judge};

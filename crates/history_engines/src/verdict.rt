@@ -67,7 +67,7 @@ pub fn judge_outcome<R: Threads + Sync, G: Gate + Sync>(
 }
 
 /// The answer that a verdict is.
-fn answer_of(verdict: &Verdict) -> Answer
+pub fn answer_of(verdict: &Verdict) -> Answer
     ensures { result ≡ answer_of verdict.now }
 {
     match verdict {

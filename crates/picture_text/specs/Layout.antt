@@ -1,5 +1,5 @@
 -- Where things stand, in the units of the text, at a width of a column.
-use Rattle.std.specs.Prelude.{ℕ, ◌+◌, ◌-◌, ◌*◌, ◌/◌, Option, Some, None}
+use Rattle.std.specs.Prelude.{ℕ, ◌+◌, ◌-◌, ◌*◌, ◌/◌, max, Option, Some, None}
 use Rattle.pictures.specs.declared.bars.Bar.{Bar}
 
 -- a column from the left, and a lane from above
@@ -22,9 +22,9 @@ end_of columns bar = end_from columns bar.to
 abbrev pub room_of : ℕ → ℕ → Bar → ℕ
 room_of width columns bar = (width * (end_of columns bar - bar.from + 1) - 6) / 6
 
--- how wide and how high a picture is
+-- how wide and how high a picture is: the words above and below its lanes have room
 abbrev pub width_of : ℕ → ℕ → ℕ
-width_of width columns = x_of width columns + 32
+width_of width columns = max (x_of width columns + 32) 640
 
 abbrev pub height_of : ℕ → ℕ
 height_of lanes = y_of lanes + 34

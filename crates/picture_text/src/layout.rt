@@ -38,11 +38,11 @@ pub fn room_of(width: u8, columns: usize, bar: &Bar) -> u128
     (width as u128 * (span + 1)).saturating_sub(6) / 6
 }
 
-/// How wide a picture is.
+/// How wide a picture is: as its columns ask, and so that the words above and below its lanes have room.
 pub fn width_of(width: u8, columns: usize) -> u128
     ensures { result ≡ width_of width columns }
 {
-    x_of(width, columns) + 32
+    (x_of(width, columns) + 32).max(640)
 }
 
 /// How high it is.

@@ -11,4 +11,4 @@ mod mark_text;
 mod svg_of;
 
 pub use content::push_content;
-pub use svg_of::svg;
+pub use svg_of::{STYLE, svg};

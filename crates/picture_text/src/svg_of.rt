@@ -11,7 +11,7 @@ use pictures::{Bar, Mark, Picture};
 use std::alloc::Global;
 
 /// How the parts of a text look.
-const STYLE: &str = "<style>
+pub const STYLE: &str = "<style>
 text{font:10px ui-monospace,'DejaVu Sans Mono',Menlo,Consolas,monospace;fill:#2b3a46}
 .title{font:600 15px system-ui,'DejaVu Sans',Helvetica,Arial,sans-serif;fill:#1d2a33}
 .note,.lane text{font:11px system-ui,'DejaVu Sans',Helvetica,Arial,sans-serif;fill:#5c6b77}

@@ -1,0 +1,50 @@
+-- What the program answers to the text of a history that it is to draw.
+use Rattle.std.specs.Prelude.{◌≡◌, ℕ, List, [], Option, Some, None}
+use Rattle.events.specs.HistoryView.{HistoryView}
+use Rattle.events.specs.Operations.{operations}
+use Rattle.judge.specs.declared.verdict.Verdict.{Verdict}
+use Rattle.judge.specs.declared.verdict.Verdict.TheVariants as verdicts
+use Rattle.judge.specs.Shown.{IsShown}
+use Rattle.judge.specs.Exact.{IsExactVerdict}
+use Rattle.locating.specs.declared.location.Location.{Location}
+use Rattle.locating.specs.declared.location.Location.TheVariants as locations
+use Rattle.locating.specs.Locations.{IsLocated}
+use Rattle.pictures.specs.declared.pictures_of.Picture.{Picture}
+use Rattle.pictures.specs.Pictures.{IsPictureOf}
+use Rattle.picture_text.specs.declared.svg_of.TheConstants.{STYLE}
+use Rattle.picture_text.specs.Svg.{IsSvgOf}
+use Rattle.outcomes.specs.declared.outcome.Answer.{Answer}
+use Rattle.outcomes.specs.Lines.{line}
+use Rattle.history_engines.specs.Answers.{IsTextOf, answer_of}
+
+-- the event at which a location says that the history goes wrong
+abbrev pub event_of : Location → Option ℕ
+event_of locations.Yes = None
+event_of (locations.No number place) = Some place
+event_of (locations.Undecided first last) = None
+
+-- the event that a picture of the verdict marks as wrong: for a no that of a location in the history, and else none
+abbrev pub IsWrongEvent : ℕ → HistoryView → Verdict → Option ℕ → Type 0
+IsWrongEvent budget history (verdicts.Yes order) wrong = wrong ≡ None
+IsWrongEvent budget history (verdicts.No segment) wrong = (location : Location) × IsLocated budget history location × (wrong ≡ event_of location)
+IsWrongEvent budget history (verdicts.Undecided segment) wrong = wrong ≡ None
+
+-- the text is one of a picture of the exact verdict on the history, which is this answer
+pub record IsDrawing (budget : ℕ) (history : HistoryView) (answer : Answer) (text : List ℕ) : Type 0 where
+  pub verdict : Verdict
+  pub wrong : Option ℕ
+  pub picture : Picture
+  pub shown : IsShown history.start budget (operations history.events) verdict
+  pub exact : IsExactVerdict history.start budget (operations history.events) verdict
+  pub goes_wrong : IsWrongEvent budget history verdict wrong
+  pub pictured : IsPictureOf history verdict wrong [] picture
+  pub text_is : IsSvgOf STYLE.now picture text
+  pub answer_is : answer ≡ answer_of verdict
+
+-- `draw` answers the text at the budget so: with a picture of the verdict on the history
+pub record IsDrawAnswer (budget : ℕ) (text : List ℕ) (answer : Answer) (bytes : List ℕ) : Type 0 where
+  pub history : HistoryView
+  pub drawing : List ℕ
+  pub is_text : IsTextOf text history
+  pub is_drawing : IsDrawing budget history answer drawing
+  pub bytes_are : bytes ≡ line drawing

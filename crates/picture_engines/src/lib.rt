@@ -1,0 +1,6 @@
+//! The engine that draws: from the text of a history, over any source and sinks, to the text of a picture of its verdict.
+#![tactic(auto)]
+
+mod drawing;
+
+pub use drawing::{draw_outcome, run_draw};
