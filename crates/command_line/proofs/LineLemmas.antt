@@ -1,4 +1,4 @@
--- `check` and `judge` are uses of the program's table, and ask for their lines.
+-- `check`, `drive`, `judge`, `locate` and `draw` are uses of the program's table, and ask for their lines.
 use Rattle.std.proofs.Common.{◌≡◌, ◌∙◌, ◌++◌, ℕ, refl, sym, ap, ap₂, inl, inr, arith, List, [], ◌∷◌, Option, Some, None, codes, false, true≢false}
 use Rattle.std.specs.Option.{option_map_or}
 use Rattle.std.specs.Prelude.{IfSome}
@@ -7,16 +7,16 @@ use Rattle.std.proofs.lemmas.Option.{same_Some}
 use Rattle.std.proofs.lemmas.Slice.Eq.{bytes_eq-Decides}
 use Rattle.clap.specs.Words.{Text}
 use Rattle.command_line.specs.Limits.{budget_default, budget_limit, workers_default, workers_limit}
-use Rattle.command_line.specs.Lines.{ChecksNumbers, IsCheck, IsDrive, IsJudge, asked_by}
+use Rattle.command_line.specs.Lines.{ChecksNumbers, IsCheck, IsDraw, IsDrive, IsJudge, IsLocate, IsSearch, asked_by}
 use Rattle.command_line.specs.Lines.{option_words as words_of}
 use Rattle.command_line.specs.Numbers.{IsNumberWithin, number_of}
-use Rattle.command_line.specs.Program.{bench_table, check_usage, drive_usage, judge_usage}
+use Rattle.command_line.specs.Program.{bench_table, check_usage, draw_usage, drive_usage, judge_usage, locate_usage, search_usage}
 use Rattle.command_line.specs.Requests.{IsReadFrom}
-use Rattle.command_line.specs.Tables.{Flag}
+use Rattle.command_line.specs.Tables.{Flag, Usage, usage_named}
 use Rattle.command_line.specs.Trees.{without_tree}
 use Rattle.command_line.specs.Words.{AreOptionsOf, Given, Gives, IsUse, option_words, value_given}
 use Rattle.command_line.specs.declared.line.Line.{Line}
-use Rattle.command_line.specs.declared.line.Line.TheVariants.{Check, Drive, Judge}
+use Rattle.command_line.specs.declared.line.Line.TheVariants.{Check, Draw, Drive, Judge, Locate}
 use Rattle.command_line.specs.declared.line.Tree.TheVariants.{Locked}
 use Rattle.command_line.specs.declared.line.TheConstants.{DEFAULT_BUDGET, DEFAULT_WORKERS}
 
@@ -63,7 +63,7 @@ pub drives : (line : Line) → Gives drive_usage [] [] (asked_by line) → line 
 drives (Drive Locked) gives = refl
 drives other gives = absurd (other_name _ _ gives.name refl)
 
--- ---- judge
+-- ---- judge, locate and draw
 
 -- an option that may be given
 abbrev given_as : Text → Option Text → List Given
@@ -113,10 +113,10 @@ workers_options None (Some x) b w = (w, refl, tt)
 workers_options (Some x) None b w = (b, refl, tt)
 workers_options (Some x) (Some y) b w = (w, refl, (b, refl, tt))
 
--- options that give these values
-record Gets (words : List Text) (budget workers : Option Text) : Type 0 where
+-- options of a subcommand that give these values
+record Gets (usage : Usage) (words : List Text) (budget workers : Option Text) : Type 0 where
   given : List Given
-  is_use : IsUse bench_table words judge_usage given []
+  is_use : IsUse bench_table words usage given []
   budget_is : value_given given (codes "budget") ≡ budget
   workers_is : value_given given (codes "workers") ≡ workers
 
@@ -135,14 +135,15 @@ workers_value None (Some w) = (refl, refl)
 workers_value (Some b) None = (refl, refl)
 workers_value (Some b) (Some w) = (refl, refl)
 
-judge_gets : (words : List Text) (budget workers : Option Text) → IsJudge words budget workers → Gets words budget workers
-judge_gets words budget workers is = elim is.in_an_order [
+search_gets : (subcommand : Text) → usage_named subcommand bench_table ≡ Some (search_usage subcommand) → (words : List Text) (budget workers : Option Text)
+    → IsSearch subcommand words budget workers → Gets (search_usage subcommand) words budget workers
+search_gets subcommand is_named words budget workers is = elim is.in_an_order [
   | inl options_are ↦ record {
     given = budget_first budget workers;
     is_use = record {
       program = is.name;
-      words_are = is.words_are ∙ ap (λ (ws : List Text). is.name ∷ codes "judge" ∷ ws) (options_are ∙ budget_words budget workers);
-      named = refl;
+      words_are = is.words_are ∙ ap (λ (ws : List Text). is.name ∷ subcommand ∷ ws) (options_are ∙ budget_words budget workers);
+      named = is_named;
       options = budget_options budget workers is.budget_within is.workers_within;
       required = refl;
       numbers = λ k d lt. absurd (omega arith);
@@ -155,8 +156,8 @@ judge_gets words budget workers is = elim is.in_an_order [
     given = workers_first budget workers;
     is_use = record {
       program = is.name;
-      words_are = is.words_are ∙ ap (λ (ws : List Text). is.name ∷ codes "judge" ∷ ws) (options_are ∙ workers_words budget workers);
-      named = refl;
+      words_are = is.words_are ∙ ap (λ (ws : List Text). is.name ∷ subcommand ∷ ws) (options_are ∙ workers_words budget workers);
+      named = is_named;
       options = workers_options budget workers is.budget_within is.workers_within;
       required = refl;
       numbers = λ k d lt. absurd (omega arith);
@@ -167,28 +168,40 @@ judge_gets words budget workers is = elim is.in_an_order [
   }
 ]
 
--- a use of `judge`, for each of these words
-pub judge_given : (words : List Text) (budget workers : Option Text) → IsJudge words budget workers → List Given
-judge_given words budget workers is = (judge_gets words budget workers is).given
-
-pub judge_use : (words : List Text) (budget workers : Option Text) (is : IsJudge words budget workers)
-    → IsUse bench_table words judge_usage (judge_given words budget workers is) []
-unfolding judge_given
-judge_use words budget workers is = (judge_gets words budget workers is).is_use
-
 -- the number that is read is that of the value, or the default
 read_number : (f : Flag) (value : Option Text) (default n : ℕ) → f.default ≡ Some default → IsReadFrom f value n → n ≡ option_map_or number_of value default
 read_number f None default n is read = same_Some n default (sym read ∙ is)
 read_number f (Some text) default n is read = read.2
+
+-- so are the two of a search
+record AreRead (budget workers : Option Text) (x y : ℕ) : Type 0 where
+  budget_is : x ≡ option_map_or number_of budget DEFAULT_BUDGET
+  workers_is : y ≡ option_map_or number_of workers DEFAULT_WORKERS
+
+numbers_read : (given : List Given) (budget workers : Option Text) (x y : ℕ) → value_given given (codes "budget") ≡ budget
+    → value_given given (codes "workers") ≡ workers → IsReadFrom budget_flag (value_given given (codes "budget")) x
+    → IsReadFrom workers_flag (value_given given (codes "workers")) y → AreRead budget workers x y
+numbers_read given budget workers x y b w read_budget read_workers = record {
+  budget_is = read_number budget_flag _ DEFAULT_BUDGET x refl read_budget ∙ ap (λ (o : Option Text). option_map_or number_of o DEFAULT_BUDGET) b;
+  workers_is = read_number workers_flag _ DEFAULT_WORKERS y refl read_workers ∙ ap (λ (o : Option Text). option_map_or number_of o DEFAULT_WORKERS) w;
+}
+
+-- a use of `judge`, for each of these words
+pub judge_given : (words : List Text) (budget workers : Option Text) → IsJudge words budget workers → List Given
+judge_given words budget workers is = (search_gets (codes "judge") refl words budget workers is).given
+
+pub judge_use : (words : List Text) (budget workers : Option Text) (is : IsJudge words budget workers)
+    → IsUse bench_table words judge_usage (judge_given words budget workers is) []
+unfolding judge_given
+judge_use words budget workers is = (search_gets (codes "judge") refl words budget workers is).is_use
 
 judges_numbers : (given : List Given) (budget workers : Option Text) (line : Line) → value_given given (codes "budget") ≡ budget
     → value_given given (codes "workers") ≡ workers
     → Gives judge_usage given [] (asked_by line)
     → line ≡ Judge (option_map_or number_of budget DEFAULT_BUDGET) (option_map_or number_of workers DEFAULT_WORKERS)
 judges_numbers given budget workers (Judge x y) b w gives =
-    ap₂ Judge
-    (read_number budget_flag _ DEFAULT_BUDGET x refl gives.numbers.0.read ∙ ap (λ (o : Option Text). option_map_or number_of o DEFAULT_BUDGET) b)
-    (read_number workers_flag _ DEFAULT_WORKERS y refl gives.numbers.1.0.read ∙ ap (λ (o : Option Text). option_map_or number_of o DEFAULT_WORKERS) w)
+    let read = numbers_read given budget workers x y b w gives.numbers.0.read gives.numbers.1.0.read in
+    ap₂ Judge read.budget_is read.workers_is
 judges_numbers given budget workers other b w gives = absurd (other_name _ _ gives.name refl)
 
 pub judges : (words : List Text) (budget workers : Option Text) (line : Line) (is : IsJudge words budget workers)
@@ -196,5 +209,57 @@ pub judges : (words : List Text) (budget workers : Option Text) (line : Line) (i
     → line ≡ Judge (option_map_or number_of budget DEFAULT_BUDGET) (option_map_or number_of workers DEFAULT_WORKERS)
 unfolding judge_given
 judges words budget workers line is gives =
-    let gets = judge_gets words budget workers is in
+    let gets = search_gets (codes "judge") refl words budget workers is in
     judges_numbers gets.given budget workers line gets.budget_is gets.workers_is gives
+
+-- a use of `locate`, for each of these words
+pub locate_given : (words : List Text) (budget workers : Option Text) → IsLocate words budget workers → List Given
+locate_given words budget workers is = (search_gets (codes "locate") refl words budget workers is).given
+
+pub locate_use : (words : List Text) (budget workers : Option Text) (is : IsLocate words budget workers)
+    → IsUse bench_table words locate_usage (locate_given words budget workers is) []
+unfolding locate_given
+locate_use words budget workers is = (search_gets (codes "locate") refl words budget workers is).is_use
+
+locates_numbers : (given : List Given) (budget workers : Option Text) (line : Line) → value_given given (codes "budget") ≡ budget
+    → value_given given (codes "workers") ≡ workers
+    → Gives locate_usage given [] (asked_by line)
+    → line ≡ Locate (option_map_or number_of budget DEFAULT_BUDGET) (option_map_or number_of workers DEFAULT_WORKERS)
+locates_numbers given budget workers (Locate x y) b w gives =
+    let read = numbers_read given budget workers x y b w gives.numbers.0.read gives.numbers.1.0.read in
+    ap₂ Locate read.budget_is read.workers_is
+locates_numbers given budget workers other b w gives = absurd (other_name _ _ gives.name refl)
+
+pub locates : (words : List Text) (budget workers : Option Text) (line : Line) (is : IsLocate words budget workers)
+    → Gives locate_usage (locate_given words budget workers is) [] (asked_by line)
+    → line ≡ Locate (option_map_or number_of budget DEFAULT_BUDGET) (option_map_or number_of workers DEFAULT_WORKERS)
+unfolding locate_given
+locates words budget workers line is gives =
+    let gets = search_gets (codes "locate") refl words budget workers is in
+    locates_numbers gets.given budget workers line gets.budget_is gets.workers_is gives
+
+-- a use of `draw`, for each of these words
+pub draw_given : (words : List Text) (budget workers : Option Text) → IsDraw words budget workers → List Given
+draw_given words budget workers is = (search_gets (codes "draw") refl words budget workers is).given
+
+pub draw_use : (words : List Text) (budget workers : Option Text) (is : IsDraw words budget workers)
+    → IsUse bench_table words draw_usage (draw_given words budget workers is) []
+unfolding draw_given
+draw_use words budget workers is = (search_gets (codes "draw") refl words budget workers is).is_use
+
+draws_numbers : (given : List Given) (budget workers : Option Text) (line : Line) → value_given given (codes "budget") ≡ budget
+    → value_given given (codes "workers") ≡ workers
+    → Gives draw_usage given [] (asked_by line)
+    → line ≡ Draw (option_map_or number_of budget DEFAULT_BUDGET) (option_map_or number_of workers DEFAULT_WORKERS)
+draws_numbers given budget workers (Draw x y) b w gives =
+    let read = numbers_read given budget workers x y b w gives.numbers.0.read gives.numbers.1.0.read in
+    ap₂ Draw read.budget_is read.workers_is
+draws_numbers given budget workers other b w gives = absurd (other_name _ _ gives.name refl)
+
+pub draws : (words : List Text) (budget workers : Option Text) (line : Line) (is : IsDraw words budget workers)
+    → Gives draw_usage (draw_given words budget workers is) [] (asked_by line)
+    → line ≡ Draw (option_map_or number_of budget DEFAULT_BUDGET) (option_map_or number_of workers DEFAULT_WORKERS)
+unfolding draw_given
+draws words budget workers line is gives =
+    let gets = search_gets (codes "draw") refl words budget workers is in
+    draws_numbers gets.given budget workers line gets.budget_is gets.workers_is gives

@@ -10,13 +10,17 @@ use Rattle.command_line.specs.Program.{bench_app, bench_table}
 use Rattle.command_line.specs.Requests.{Asked, Asks}
 use Rattle.command_line.specs.Trees.{without_tree}
 use Rattle.command_line.specs.declared.line.Line.{Line}
-use Rattle.command_line.specs.declared.line.Line.TheVariants.{Check, Judge, Generate, Replay, Drive}
+use Rattle.command_line.specs.declared.line.Line.TheVariants.{Check, Judge, Locate, Draw, Generate, Replay, Drive}
 
 -- the subcommand of a line, the numbers of its options in the order of the table, and its calls
 abbrev pub asked_by : Line → Asked
 asked_by (Check order) = record { name = codes "check"; numbers = []; calls = order.items }
 asked_by (Judge budget workers) =
     record { name = codes "judge"; numbers = budget ∷ workers ∷ []; calls = [] }
+asked_by (Locate budget workers) =
+    record { name = codes "locate"; numbers = budget ∷ workers ∷ []; calls = [] }
+asked_by (Draw budget workers) =
+    record { name = codes "draw"; numbers = budget ∷ workers ∷ []; calls = [] }
 asked_by (Generate seed processes calls get insert remove scan lo hi) = record {
   name = codes "generate";
   numbers = seed ∷ processes ∷ calls ∷ get ∷ insert ∷ remove ∷ scan ∷ lo ∷ hi ∷ [];
@@ -33,6 +37,10 @@ IsLineOf words line = Asks bench_table (subcommand_of bench_app (without_tree wo
 abbrev pub IsWithinLimits : Line → Type 0
 IsWithinLimits (Check order) = ⊤
 IsWithinLimits (Judge budget workers) =
+    (1 ≤ budget) × (budget ≤ budget_limit) × (1 ≤ workers) × (workers ≤ workers_limit)
+IsWithinLimits (Locate budget workers) =
+    (1 ≤ budget) × (budget ≤ budget_limit) × (1 ≤ workers) × (workers ≤ workers_limit)
+IsWithinLimits (Draw budget workers) =
     (1 ≤ budget) × (budget ≤ budget_limit) × (1 ≤ workers) × (workers ≤ workers_limit)
 IsWithinLimits (Generate seed processes calls get insert remove scan lo hi) = ⊤
 IsWithinLimits Replay = ⊤
@@ -51,18 +59,28 @@ ChecksNumbers calls other = ⊥
 abbrev pub option_words : Text → Option Text → List Text
 option_words flag value = option_map_or (λ text. flag ∷ text ∷ []) value []
 
--- the words are a name, `judge` and these options, in either order, where the value of each spells
--- a number within its limits
-pub record IsJudge (words : List Text) (budget workers : Option Text) : Type 0 where
+-- the words are a name, this subcommand and these options of a search, in either order, where the
+-- value of each spells a number within its limits
+pub record IsSearch (subcommand : Text) (words : List Text) (budget workers : Option Text) : Type 0 where
   pub name : Text
   pub options : List Text
-  pub words_are : words ≡ name ∷ codes "judge" ∷ options
+  pub words_are : words ≡ name ∷ subcommand ∷ options
   pub in_an_order :
       (options ≡ option_words (codes "--budget") budget ++ option_words (codes "--workers") workers)
       ⊎ (options
       ≡ option_words (codes "--workers") workers ++ option_words (codes "--budget") budget)
   pub budget_within : IfSome budget (IsNumberWithin budget_limit)
   pub workers_within : IfSome workers (IsNumberWithin workers_limit)
+
+-- so are those of `judge`, of `locate` and of `draw`
+abbrev pub IsJudge : List Text → Option Text → Option Text → Type 0
+IsJudge words budget workers = IsSearch (codes "judge") words budget workers
+
+abbrev pub IsLocate : List Text → Option Text → Option Text → Type 0
+IsLocate words budget workers = IsSearch (codes "locate") words budget workers
+
+abbrev pub IsDraw : List Text → Option Text → Option Text → Type 0
+IsDraw words budget workers = IsSearch (codes "draw") words budget workers
 
 -- the words are a name and `drive`, with the only tree or with none
 abbrev pub IsDrive : List Text → Type 0

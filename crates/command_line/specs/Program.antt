@@ -9,10 +9,10 @@ use Rattle.command_line.specs.Tables.{Flag, Usage}
 abbrev pub check_usage : Usage
 check_usage = record { name = codes "check"; flags = []; takes_calls = true }
 
--- `judge [--budget N] [--workers N]`
-abbrev pub judge_usage : Usage
-judge_usage = record {
-  name = codes "judge";
+-- a subcommand of this name, with the options of a search: `NAME [--budget N] [--workers N]`
+abbrev pub search_usage : Text → Usage
+search_usage name = record {
+  name = name;
   flags = record {
     name = codes "budget";
     least = 1;
@@ -28,6 +28,18 @@ judge_usage = record {
       ∷ [];
   takes_calls = false;
 }
+
+-- `judge [--budget N] [--workers N]`
+abbrev pub judge_usage : Usage
+judge_usage = search_usage (codes "judge")
+
+-- `locate [--budget N] [--workers N]`
+abbrev pub locate_usage : Usage
+locate_usage = search_usage (codes "locate")
+
+-- `draw [--budget N] [--workers N]`
+abbrev pub draw_usage : Usage
+draw_usage = search_usage (codes "draw")
 
 -- `--NAME N`, which may not be left out, with any number up to the greatest
 abbrev pub required_flag : Text → ℕ → Flag
@@ -60,7 +72,7 @@ drive_usage = record { name = codes "drive"; flags = []; takes_calls = false }
 
 -- the subcommands of the program
 abbrev pub bench_table : List Usage
-bench_table = check_usage ∷ judge_usage ∷ generate_usage ∷ replay_usage ∷ drive_usage ∷ []
+bench_table = check_usage ∷ judge_usage ∷ locate_usage ∷ draw_usage ∷ generate_usage ∷ replay_usage ∷ drive_usage ∷ []
 
 -- the program, as `clap` reads it
 unfoldable pub bench_app : App

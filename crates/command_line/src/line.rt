@@ -24,6 +24,17 @@ pub enum Line {
         budget: u32,
         workers: u32,
     },
+    /// At which event the history on standard input stops being linearizable, found by verdicts on its
+    /// first events. Each is as `Judge` asks for one, within the same limits.
+    Locate {
+        budget: u32,
+        workers: u32,
+    },
+    /// A picture of the verdict that `Judge` asks for, within the same limits.
+    Draw {
+        budget: u32,
+        workers: u32,
+    },
     /// The text of the plan that is drawn from this seed: so many processes, with so many calls each.
     /// Of a hundred calls `get`, `insert`, `remove` and `scan` are of these kinds, and their keys are
     /// from `lo` to `hi`.

@@ -36,18 +36,10 @@ macro_rules! required_option {
     };
 }
 
-/// The subcommands of the program.
-pub(crate) static SUBCOMMANDS: [Subcommand<'static>; 5] = [
-    Subcommand {
-        name: "check",
-        about: "Tells whether calls, in this order, are an order of the history on standard input",
-        options: &[],
-        takes_calls: true,
-    },
-    Subcommand {
-        name: "judge",
-        about: "Tells whether the history on standard input is linearizable",
-        options: &[
+// The options of a search.
+macro_rules! search_options {
+    () => {
+        &[
             number_option!(
                 "budget",
                 "How many configurations of each segment are searched at most",
@@ -60,7 +52,34 @@ pub(crate) static SUBCOMMANDS: [Subcommand<'static>; 5] = [
                 1 to MAX_WORKERS as u64,
                 default 1
             ),
-        ],
+        ]
+    };
+}
+
+/// The subcommands of the program.
+pub(crate) static SUBCOMMANDS: [Subcommand<'static>; 7] = [
+    Subcommand {
+        name: "check",
+        about: "Tells whether calls, in this order, are an order of the history on standard input",
+        options: &[],
+        takes_calls: true,
+    },
+    Subcommand {
+        name: "judge",
+        about: "Tells whether the history on standard input is linearizable",
+        options: search_options!(),
+        takes_calls: false,
+    },
+    Subcommand {
+        name: "locate",
+        about: "Tells at which event the history on standard input stops being linearizable",
+        options: search_options!(),
+        takes_calls: false,
+    },
+    Subcommand {
+        name: "draw",
+        about: "Draws the verdict on the history on standard input, as one SVG",
+        options: search_options!(),
         takes_calls: false,
     },
     Subcommand {

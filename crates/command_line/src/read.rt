@@ -3,7 +3,7 @@ ghost use Rattle.std.specs.Option.{option_map_or};
 ghost use Rattle.clap.specs.Words.{Text, takes};
 ghost use Rattle.clap.specs.Walk.{texts};
 ghost use Rattle.command_line.specs.LineFaults.{IsAccepted, IsFaultAt};
-ghost use Rattle.command_line.specs.Lines.{asked_by, ChecksNumbers, IsCheck, IsDrive, IsJudge};
+ghost use Rattle.command_line.specs.Lines.{asked_by, ChecksNumbers, IsCheck, IsDrive, IsDraw, IsJudge, IsLocate};
 ghost use Rattle.command_line.specs.Lines.{IsLineOf, IsWithinLimits};
 ghost use Rattle.command_line.specs.Numbers.{number_of};
 ghost use Rattle.command_line.specs.Program.{bench_app, bench_table};
@@ -47,6 +47,20 @@ pub fn read_line<'a>(alloc: Global, words: &'a [&'a str]) -> Result<Line, LineFa
         (λ line. line ≡ Line.Judge (option_map_or number_of budget DEFAULT_BUDGET)
         (option_map_or number_of workers DEFAULT_WORKERS))
         (λ e. e ≡ LineFault.Memory) }
+    // And `locate` is, with the same options.
+    ensures locate { (budget workers : Option (List ℕ))
+        → IsLocate (without_tree (texts words.entry.now)) budget workers
+        → MatchResult result
+        (λ line. line ≡ Line.Locate (option_map_or number_of budget DEFAULT_BUDGET)
+        (option_map_or number_of workers DEFAULT_WORKERS))
+        (λ e. e ≡ LineFault.Memory) }
+    // And `draw` is.
+    ensures draw { (budget workers : Option (List ℕ))
+        → IsDraw (without_tree (texts words.entry.now)) budget workers
+        → MatchResult result
+        (λ line. line ≡ Line.Draw (option_map_or number_of budget DEFAULT_BUDGET)
+        (option_map_or number_of workers DEFAULT_WORKERS))
+        (λ e. e ≡ LineFault.Memory) }
     // And `drive` is, with or without its tree.
     ensures drive { IsDrive (texts words.entry.now)
         → MatchResult result (λ line. line ≡ Line.Drive Tree.Locked) (λ e. e ≡ LineFault.Memory) }
@@ -68,6 +82,14 @@ fn line_of(request: Request<'_>) -> Line
             order: request.calls,
         },
         "judge" => Line::Judge {
+            budget: request.number(0),
+            workers: request.number(1),
+        },
+        "locate" => Line::Locate {
+            budget: request.number(0),
+            workers: request.number(1),
+        },
+        "draw" => Line::Draw {
             budget: request.number(0),
             workers: request.number(1),
         },

@@ -2,7 +2,7 @@ use crate::{Line, LineFault, Tree, read_line};
 use std::test::Fail;
 
 // Words that are no line, and how the text that the user is shown begins.
-static FAULTS: [(&[&str], &str); 19] = [
+static FAULTS: [(&[&str], &str); 22] = [
     (
         &["bench"],
         "error: 'bench' requires a subcommand but one was not provided",
@@ -22,6 +22,18 @@ static FAULTS: [(&[&str], &str); 19] = [
     (
         &["bench", "judge", "--workers=65"],
         "error: invalid value '65' for '--workers <N>'",
+    ),
+    (
+        &["bench", "locate", "--budget", "1000001"],
+        "error: invalid value '1000001' for '--budget <N>'",
+    ),
+    (
+        &["bench", "draw", "--workers", "0"],
+        "error: invalid value '0' for '--workers <N>'",
+    ),
+    (
+        &["bench", "draw", "--seed", "1"],
+        "error: unexpected argument '--seed' found",
     ),
     (
         &["bench", "judge", "--budget"],
@@ -128,6 +140,33 @@ fn asks_for_a_judgement(rt: HostRuntime) -> Result<(), Fail> {
         Line::Judge { budget, workers } => {
             assert_eq!(rt; budget, 100000);
             assert_eq!(rt; workers, 2);
+        }
+        other => assert!(rt; false, "{other:?}"),
+    }
+    Ok(())
+}
+
+#[test]
+fn asks_for_a_location(rt: HostRuntime) -> Result<(), Fail> {
+    match read_line(
+        rt.alloc(),
+        &["bench", "locate", "--workers=64", "--budget", "1000000"],
+    )? {
+        Line::Locate { budget, workers } => {
+            assert_eq!(rt; budget, 1000000);
+            assert_eq!(rt; workers, 64);
+        }
+        other => assert!(rt; false, "{other:?}"),
+    }
+    Ok(())
+}
+
+#[test]
+fn asks_for_a_picture(rt: HostRuntime) -> Result<(), Fail> {
+    match read_line(rt.alloc(), &["bench", "draw", "--budget=1"])? {
+        Line::Draw { budget, workers } => {
+            assert_eq!(rt; budget, 1);
+            assert_eq!(rt; workers, 1);
         }
         other => assert!(rt; false, "{other:?}"),
     }

@@ -2,8 +2,8 @@ use Rattle.std.proofs.Common.{subst, sym, true, List, [], ◌≡◌}
 use Rattle.clap.specs.Walk.{texts}
 use Rattle.clap.specs.Words.{Text, fault_of, subcommand_of, takes}
 use Rattle.command_line.specs.LineFaults.{IsAccepted, IsFaultAt}
-use Rattle.command_line.specs.Lines.{IsDrive, asked_by}
-use Rattle.command_line.specs.Program.{bench_app, bench_table, check_usage, drive_usage, judge_usage}
+use Rattle.command_line.specs.Lines.{asked_by}
+use Rattle.command_line.specs.Program.{bench_app, bench_table, check_usage, draw_usage, drive_usage, judge_usage, locate_usage}
 use Rattle.command_line.specs.Requests.{Asks}
 use Rattle.command_line.specs.Tables.{Usage}
 use Rattle.command_line.specs.Trees.{without_tree}
@@ -11,7 +11,7 @@ use Rattle.command_line.specs.Words.{Given, Gives, IsUse}
 use Rattle.command_line.specs.declared.fault.LineFault.{LineFault}
 use Rattle.command_line.specs.declared.fault.LineFault.TheVariants as faults
 use Rattle.command_line.proofs.AskableLemmas.{askable}
-use Rattle.command_line.proofs.LineLemmas.{check_use, checks, drive_use, drives, judge_given, judge_use, judges}
+use Rattle.command_line.proofs.LineLemmas.{check_use, checks, draw_given, draw_use, draws, drive_use, drives, judge_given, judge_use, judges, locate_given, locate_use, locates}
 use Rattle.command_line.proofs.read.read_line.Goals as goal
 
 -- a fault that is `Memory` where the words are accepted may come at them
@@ -56,6 +56,22 @@ returns-in-Ok-clause-judge c budget workers is =
     judges words budget workers c.line_of.result is (subst (Gives judge_usage given []) (sym c.line_of.ensures.same)
     (c.in-Ok.ensures.given judge_usage given [] (use_read _ (texts c.args.words.now) judge_usage given [] c.without_tree.ensures is_use)))
 
+pub returns-in-Ok-clause-locate : goal.returns-in-Ok-clause-locate
+returns-in-Ok-clause-locate c budget workers is =
+    let words = without_tree (texts c.args.words.now) in
+    let given = locate_given words budget workers is in
+    let is_use = locate_use words budget workers is in
+    locates words budget workers c.line_of.result is (subst (Gives locate_usage given []) (sym c.line_of.ensures.same)
+    (c.in-Ok.ensures.given locate_usage given [] (use_read _ (texts c.args.words.now) locate_usage given [] c.without_tree.ensures is_use)))
+
+pub returns-in-Ok-clause-draw : goal.returns-in-Ok-clause-draw
+returns-in-Ok-clause-draw c budget workers is =
+    let words = without_tree (texts c.args.words.now) in
+    let given = draw_given words budget workers is in
+    let is_use = draw_use words budget workers is in
+    draws words budget workers c.line_of.result is (subst (Gives draw_usage given []) (sym c.line_of.ensures.same)
+    (c.in-Ok.ensures.given draw_usage given [] (use_read _ (texts c.args.words.now) draw_usage given [] c.without_tree.ensures is_use)))
+
 pub returns-in-Ok-clause-drive : goal.returns-in-Ok-clause-drive
 returns-in-Ok-clause-drive c is =
     drives c.line_of.result (subst (Gives drive_usage [] []) (sym c.line_of.ensures.same)
@@ -87,6 +103,20 @@ returns-in-Err-clause-judge c budget workers is =
     let given = judge_given words budget workers is in
     c.in-Err.ensures.given judge_usage given []
     (use_read _ (texts c.args.words.now) judge_usage given [] c.without_tree.ensures (judge_use words budget workers is))
+
+pub returns-in-Err-clause-locate : goal.returns-in-Err-clause-locate
+returns-in-Err-clause-locate c budget workers is =
+    let words = without_tree (texts c.args.words.now) in
+    let given = locate_given words budget workers is in
+    c.in-Err.ensures.given locate_usage given []
+    (use_read _ (texts c.args.words.now) locate_usage given [] c.without_tree.ensures (locate_use words budget workers is))
+
+pub returns-in-Err-clause-draw : goal.returns-in-Err-clause-draw
+returns-in-Err-clause-draw c budget workers is =
+    let words = without_tree (texts c.args.words.now) in
+    let given = draw_given words budget workers is in
+    c.in-Err.ensures.given draw_usage given []
+    (use_read _ (texts c.args.words.now) draw_usage given [] c.without_tree.ensures (draw_use words budget workers is))
 
 pub returns-in-Err-clause-drive : goal.returns-in-Err-clause-drive
 returns-in-Err-clause-drive c is =
