@@ -1,5 +1,5 @@
 -- What the program answers to the text of a history that it is to draw.
-use Rattle.std.specs.Prelude.{◌≡◌, ℕ, List, [], Option, Some, None}
+use Rattle.std.specs.Prelude.{◌≡◌, ℕ, List, Option, Some, None}
 use Rattle.events.specs.HistoryView.{HistoryView}
 use Rattle.events.specs.Operations.{operations}
 use Rattle.judge.specs.declared.verdict.Verdict.{Verdict}
@@ -10,6 +10,7 @@ use Rattle.locating.specs.declared.location.Location.{Location}
 use Rattle.locating.specs.declared.location.Location.TheVariants as locations
 use Rattle.locating.specs.Locations.{IsLocated}
 use Rattle.pictures.specs.declared.pictures_of.Picture.{Picture}
+use Rattle.pictures.specs.Fronts.{IsFrontShown}
 use Rattle.pictures.specs.Pictures.{IsPictureOf}
 use Rattle.picture_text.specs.declared.svg_of.TheConstants.{STYLE}
 use Rattle.picture_text.specs.Svg.{IsSvgOf}
@@ -33,11 +34,13 @@ IsWrongEvent budget history (verdicts.Undecided segment) wrong = wrong ≡ None
 pub record IsDrawing (budget : ℕ) (history : HistoryView) (answer : Answer) (text : List ℕ) : Type 0 where
   pub verdict : Verdict
   pub wrong : Option ℕ
+  pub front : List ℕ
   pub picture : Picture
   pub shown : IsShown history.start budget (operations history.events) verdict
   pub exact : IsExactVerdict history.start budget (operations history.events) verdict
   pub goes_wrong : IsWrongEvent budget history verdict wrong
-  pub pictured : IsPictureOf history verdict wrong [] picture
+  pub fronted : IsFrontShown budget verdict front
+  pub pictured : IsPictureOf history verdict wrong front picture
   pub text_is : IsSvgOf STYLE.now picture text
   pub answer_is : answer ≡ answer_of verdict
 

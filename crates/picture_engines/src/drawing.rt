@@ -14,7 +14,7 @@ use judge::{MAX_BUDGET, Verdict, judge};
 use locating::{Location, locate};
 use outcomes::{Answer, Outcome, line_of, text_from, write_outcome};
 use picture_text::svg;
-use pictures::picture_of;
+use pictures::{front_of, picture_of};
 use pool::{Gate, MAX_WORKERS};
 use std::alloc::Global;
 use std::thread::Threads;
@@ -22,7 +22,8 @@ use streams::{Sink, Source};
 
 /// Reads a history text to the end of the source, or until it is too long, and draws the verdict on it, which is found
 /// as `run_judge` finds it; for a no the event at which the history goes wrong is marked, where the budget suffices to
-/// locate it. Answers the exit status, that of the verdict.
+/// locate it, and for a no or an undecided the longest front that a search of the named segment meets. Answers the exit
+/// status, that of the verdict.
 pub fn run_draw<R: Threads + Sync, S: Source, O: Sink, F: Sink, G: Gate + Sync>(
     rt: &R,
     alloc: Global,
@@ -90,7 +91,8 @@ fn drawing_of<R: Threads + Sync, G: Gate + Sync>(
 {
     let verdict = judge(rt, alloc, history, budget, workers, gate)?;
     let wrong = wrong_event(rt, alloc, history, &verdict, budget, workers, gate)?;
-    let picture = picture_of(alloc, history, &verdict, wrong, &[])?;
+    let front = front_of(alloc, history, &verdict, budget)?;
+    let picture = picture_of(alloc, history, &verdict, wrong, &front)?;
     let drawing = svg(alloc, &picture)?;
     Ok((answer_of(&verdict), drawing))
 }
