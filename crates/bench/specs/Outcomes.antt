@@ -2,7 +2,7 @@
 use Rattle.std.specs.Prelude.{List}
 use Rattle.clap.specs.Words.{Text}
 use Rattle.command_line.specs.declared.line.Line.{Line}
-use Rattle.command_line.specs.declared.line.Line.TheVariants.{Check, Judge, Generate, Replay, Drive}
+use Rattle.command_line.specs.declared.line.Line.TheVariants.{Check, Judge, Locate, Draw, Generate, Replay, Drive}
 use Rattle.command_line.specs.declared.fault.LineFault.{LineFault}
 use Rattle.command_line.specs.declared.fault.LineFault.TheVariants as line_faults
 use Rattle.command_line.specs.Lines.{IsLineOf}
@@ -11,12 +11,16 @@ use Rattle.outcomes.specs.declared.outcome.Outcome.{Outcome}
 use Rattle.outcomes.specs.declared.outcome.Outcome.TheVariants.{Memory, Words}
 use Rattle.outcomes.specs.Ends.{Change, IsUnused, IsSound}
 use Rattle.history_engines.specs.Outcomes.{IsCheckOutcome, IsJudgeOutcome}
+use Rattle.history_engines.specs.LocateOutcomes.{IsLocateOutcome}
+use Rattle.picture_engines.specs.Outcomes.{IsDrawOutcome}
 use Rattle.plan_engines.specs.Outcomes.{IsDriveOutcome, IsGenerateOutcome, IsReplayOutcome}
 
 -- the outcome of what a line asks for
 abbrev pub IsLineOutcome : Line → Change → Outcome → Type 0
 IsLineOutcome (Check order) source outcome = IsCheckOutcome order.items source outcome
 IsLineOutcome (Judge budget workers) source outcome = IsJudgeOutcome budget source outcome
+IsLineOutcome (Locate budget workers) source outcome = IsLocateOutcome budget source outcome
+IsLineOutcome (Draw budget workers) source outcome = IsDrawOutcome budget source outcome
 IsLineOutcome (Generate seed processes calls get insert remove scan lo hi) source outcome = IsUnused source
     × IsGenerateOutcome seed (record { get = get; insert = insert; remove = remove; scan = scan; lo = lo; hi = hi }) processes calls outcome
 IsLineOutcome Replay source outcome = IsReplayOutcome source outcome

@@ -7,9 +7,10 @@ ghost use Rattle.outcomes.specs.Statuses.{words_status};
 ghost use Rattle.bench.specs.Outcomes.{IsWordsOutcome, fault_outcome};
 
 use command_line::{Line, LineFault, Tree, read_line};
-use history_engines::{run_check, run_judge};
+use history_engines::{run_check, run_judge, run_locate};
 use locked_map::LockedMap;
 use outcomes::{Outcome, write_outcome};
+use picture_engines::run_draw;
 use plan_engines::{run_drive, run_generate, run_replay};
 use pool::Gate;
 use std::alloc::{AllocError, Global};
@@ -57,6 +58,12 @@ pub fn run<R: Threads + Wait + Sync, S: Source, O: Sink, F: Sink, G: Gate + Sync
         Line::Check { order } => run_check(alloc, source, output, faults, &order),
         Line::Judge { budget, workers } => {
             run_judge(rt, alloc, source, output, faults, budget, workers, gate)
+        }
+        Line::Locate { budget, workers } => {
+            run_locate(rt, alloc, source, output, faults, budget, workers, gate)
+        }
+        Line::Draw { budget, workers } => {
+            run_draw(rt, alloc, source, output, faults, budget, workers, gate)
         }
         Line::Generate {
             seed,

@@ -203,6 +203,28 @@ fn verdicts(rt: HostRuntime) -> Result<(), Fail> {
     Ok(())
 }
 
+// The event at which a history goes wrong, with the statuses of a verdict.
+#[test]
+fn locations(rt: HostRuntime) -> Result<(), Fail> {
+    let alloc = rt.alloc();
+    let yes = "{\"verdict\":\"yes\"}\n";
+    let missed = "{\"call\":1,\"event\":3,\"verdict\":\"no\"}\n";
+    let lost = "{\"call\":2,\"event\":4,\"verdict\":\"no\"}\n";
+    let undecided = "{\"from\":1,\"to\":5,\"verdict\":\"undecided\"}\n";
+    let rows = [
+        ("bench locate", EMPTY, 0, yes),
+        ("bench locate", INSERT_THEN_GET, 0, yes),
+        ("bench locate --workers 64", OVERLAPPING_INSERT, 0, yes),
+        ("bench locate", MISSED_INSERT, 1, missed),
+        ("bench locate --workers 3", LOST_PENDING_INSERT, 1, lost),
+        ("bench locate --budget 1", INSERT_THEN_GET, 2, undecided),
+    ];
+    for (line, text, status, output) in rows {
+        leaves(&rt, alloc, line, text.as_bytes(), status, output, "")?;
+    }
+    Ok(())
+}
+
 // Four configurations are enough for the overlapping insert, and three are not, whatever the number of workers.
 #[test]
 fn budgets_and_workers(rt: HostRuntime) -> Result<(), Fail> {
@@ -417,6 +439,9 @@ fn words_with_a_fault_are_told_it(rt: HostRuntime) -> Result<(), Fail> {
         "bench judge --workers x",
         "bench judge --budget 0",
         "bench judge --budget 1000001",
+        "bench locate 0",
+        "bench locate --workers 65",
+        "bench locate --budget 0",
         "bench drive 0",
         "bench drive --tree",
         "bench drive --tree other",
@@ -502,6 +527,10 @@ fn failing_reads_and_writes(rt: HostRuntime) -> Result<(), Fail> {
     let report = "{\"calls\":[0,1],\"hi\":5,\"lo\":5,\"verdict\":\"no\"}\n";
     assert_reads_fail(&rt, alloc, &judge, text, 1, report)?;
     assert_writes_fail(&rt, alloc, &judge, text, 1, report)?;
+    let locate = ["bench", "locate", "--workers", "2"];
+    let report = "{\"call\":1,\"event\":3,\"verdict\":\"no\"}\n";
+    assert_reads_fail(&rt, alloc, &locate, text, 1, report)?;
+    assert_writes_fail(&rt, alloc, &locate, text, 1, report)?;
     let plan = "{\"scripts\":[[[\"get\",5],[\"get\",5]]],\"version\":1}\n";
     assert_writes_fail(&rt, alloc, &TWO_GETS, b"", 0, plan)?;
     Ok(())
@@ -515,6 +544,7 @@ fn failing_writes_to_the_faults(rt: HostRuntime) -> Result<(), Fail> {
     let rows = [
         (["bench", "check"].as_slice(), 3, "history: 3 Version\n"),
         (["bench", "judge"].as_slice(), 3, "history: 3 Version\n"),
+        (["bench", "locate"].as_slice(), 3, "history: 3 Version\n"),
         (NO_PROCESS.as_slice(), 3, "plan: 3 TooMany\n"),
         (["bench", "drive"].as_slice(), 3, "plan: 7 Shape\n"),
         (["bench", "run"].as_slice(), 5, told.as_str()),

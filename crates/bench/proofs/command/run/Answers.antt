@@ -1,6 +1,8 @@
 use Rattle.std.specs.Prelude.{refl}
 use Rattle.clap.specs.Walk.{texts}
 use Rattle.history_engines.specs.Answers.{IsCheckAnswer, IsHistoryRefusal, IsJudgeAnswer}
+use Rattle.history_engines.specs.LocateAnswers.{IsLocateAnswer}
+use Rattle.picture_engines.specs.Drawings.{IsDrawAnswer}
 use Rattle.plan_engines.specs.Answers.{IsReplayAnswer, IsReplayRefusal}
 use Rattle.plan_engines.specs.Drives.{IsDriveAnswer, IsDriveRefusal}
 use Rattle.outcomes.specs.Ends.{change}
@@ -25,6 +27,26 @@ returns-in-Judge-clause-run g c = record {
       (λ comes. record { line = c.in-Ok.line; accepted = c.in-Ok.ensures.accepted; asked = c.in-Ok.ensures.line; comes = rw c.in-Judge.is comes })
       c.run_judge.ensures.comes;
   leaves = c.run_judge.ensures.leaves;
+}
+
+pub returns-in-Locate-clause-run : goal.returns-in-Locate-clause-run
+returns-in-Locate-clause-run g c = record {
+  outcome = c.run_locate.ensures.outcome;
+  comes = read-words (IsLocateAnswer c.in-Locate.budget) IsHistoryRefusal (texts c.args.words.now)
+      (change g.S.Source.remaining g.S.Source.failures c.args.source.now c.run_locate.new.source) c.run_locate.ensures.outcome
+      (λ comes. record { line = c.in-Ok.line; accepted = c.in-Ok.ensures.accepted; asked = c.in-Ok.ensures.line; comes = rw c.in-Locate.is comes })
+      c.run_locate.ensures.comes;
+  leaves = c.run_locate.ensures.leaves;
+}
+
+pub returns-in-Draw-clause-run : goal.returns-in-Draw-clause-run
+returns-in-Draw-clause-run g c = record {
+  outcome = c.run_draw.ensures.outcome;
+  comes = read-words (IsDrawAnswer c.in-Draw.budget) IsHistoryRefusal (texts c.args.words.now)
+      (change g.S.Source.remaining g.S.Source.failures c.args.source.now c.run_draw.new.source) c.run_draw.ensures.outcome
+      (λ comes. record { line = c.in-Ok.line; accepted = c.in-Ok.ensures.accepted; asked = c.in-Ok.ensures.line; comes = rw c.in-Draw.is comes })
+      c.run_draw.ensures.comes;
+  leaves = c.run_draw.ensures.leaves;
 }
 
 pub returns-in-Generate-clause-run : goal.returns-in-Generate-clause-run
