@@ -1,15 +1,14 @@
 -- The history of an arena that closes after all processes did their scripts.
-use Rattle.std.proofs.Common.{◌≡◌, ℕ, ◌<◌, ◌⊎◌, inl, inr, ⊎_elim, false, List, [], ◌∷◌, ◌++◌, length, map, Some, Ok, Err, refl, sym, ap, subst, ◌∙◌, arith}
-use Rattle.std.specs.Prelude.{Result, All, IfOk, filter_map, slice_get, slice_index_or}
+use Rattle.std.proofs.Common.{◌≡◌, ℕ, ◌<◌, ◌⊎◌, inl, inr, ⊎_elim, false, List, [], ◌∷◌, ◌++◌, length, map, Some, refl, sym, ap, ◌∙◌, arith}
+use Rattle.std.specs.Prelude.{All, filter_map, slice_get, slice_index_or}
 use Rattle.std.specs.List.{range_with_len}
 use Rattle.std.proofs.lemmas.List.{get_or-map, length-map}
 use Rattle.std.proofs.lemmas.List.FromFn.{get_or-range_with_len, length-range_with_len}
-use Rattle.std.proofs.lemmas.Option.{slice_get-get_or, slice_get_within, same_Some}
+use Rattle.std.proofs.lemmas.Option.{slice_get_within}
 use Rattle.list_laws.proofs.NumberLemmas.{slice_get-below}
 use Rattle.events.specs.declared.event.Call.{Call}
 use Rattle.events.specs.declared.event.Event.{Event}
 use Rattle.events.specs.declared.event.Event.TheVariants.{Invoke, Answer}
-use Rattle.events.specs.declared.memory.Memory.{Memory}
 use Rattle.events.specs.Events.{events_of}
 use Rattle.events.specs.HistoryFaults.{ends_waiting}
 use Rattle.events.specs.HistoryView.{HistoryView}
@@ -25,31 +24,12 @@ use Rattle.drives.specs.Drives.{HasFinished, HasStopped, longest}
 use Rattle.drives.specs.Drives as drives
 use Rattle.running.specs.declared.arena.Arena.{Arena}
 use Rattle.running.specs.declared.pass.Pass.{Pass}
-use Rattle.running.specs.Passes.{shows, opened_for, setup_with, IsPassOf}
+use Rattle.running.specs.Passes.{shows, opened_for, setup_with}
 use Rattle.running.specs.declared.fault.ArenaClose.{ArenaClose}
 use Rattle.running.specs.declared.fault.ArenaClose.TheVariants as faults
 use Rattle.running.specs.Closing.{IsHistoryOf, HoldsAll, IsHandedBack}
 use Rattle.arena_drives.specs.ArenaDrives.{IsArenaDriveOf}
-use Rattle.arena_drives.specs.Passes.{HasAnsweredAll, HasStoppedIn, HasDone, HasDoneOwn, ShowsDone, IsPassAfter, WantsMemory}
-
--- a function of the item at a place
-pub at-mapped : {X Y : Type 0} (f : X → Y) (xs : List X) (i : ℕ) (x : X) → i < length xs → x ≡ slice_index_or xs i x → slice_get (map f xs) i ≡ Some (f x)
-at-mapped f xs i x within is =
-    let inside : i < length (map f xs) = omega (arith, within, length-map xs f) in
-    slice_get-get_or (map f xs) i (f x) inside ∙ ap Some (get_or-map f xs i x (f x) within ∙ ap f (sym is))
-
--- a process did its own of the scripts
-pub after-script : (a : Arena) (limit number : ℕ) (scripts : List (List Call)) (script : List Call) (done : Result Pass Memory)
-    → slice_get scripts number ≡ Some script → IfOk done (IsPassOf a) → IfOk done (λ p. ShowsDone number limit script (shows p))
-    → IfOk done (IsPassAfter a limit scripts)
-after-script a limit number scripts script (Ok p) at own done = record {
-  own = own;
-  process = (number, done.process);
-  is = done.is;
-  known = slice_get_within scripts number script at;
-  done = λ other there. subst (λ s. HasDone limit s done.process) (same_Some script other (sym at ∙ there)) done.done;
-}
-after-script a limit number scripts script (Err e) at own done = tt
+use Rattle.arena_drives.specs.Passes.{HasAnsweredAll, HasStoppedIn, HasDone, HasDoneOwn, WantsMemory}
 
 -- the calls that are invoked in a log are those that its process began
 calls-logged : (log : List Stamped) → drives.invoked (map (λ e. e.1) log) ≡ filter_map (λ e. invoked e.1) log
