@@ -1,12 +1,11 @@
 // Two processes whose steps are interleaved: what leaving out a check makes of a call, which the verdict refutes, and what
 // the full tree answers.
-use crate::setups::{judged, opened, recorded};
+use crate::setups::{assert_judged, opened};
 use art::{Point, Variant};
 use art_core::Item;
 use events::Call;
 use machine::{Machine, MachineFault, RunFault};
 use std::alloc::Global;
-use std::process::Abort;
 use std::test::Fail;
 
 /// Runs the schedule on eight rows of each kind below the root.
@@ -19,30 +18,6 @@ fn run_on_eights(
     let mut machine = opened(alloc, [8, 8, 8, 1], variant, scripts, 1000)?;
     machine.run(alloc, schedule)?;
     Ok(machine)
-}
-
-/// A history's text, of events each with its process.
-fn history(alloc: Global, events: &[(u8, &str)]) -> Result<String, Fail> {
-    let mut text = String::from_str(alloc, "{\"events\":[")?;
-    for (place, (process, event)) in events.iter().enumerate() {
-        let comma = if place == 0 { "" } else { "," };
-        text.push_str(&format!(in alloc; "{comma}{{{event},\"process\":{process}}}")?)?;
-    }
-    text.push_str("],\"version\":1}")?;
-    Ok(text)
-}
-
-/// The machine has recorded these events, and this is the report on them.
-fn assert_judged(
-    rt: &impl Abort,
-    alloc: Global,
-    machine: &Machine,
-    events: &[(u8, &str)],
-    report: &str,
-) -> Result<(), Fail> {
-    assert_eq!(rt; recorded(alloc, machine)?, history(alloc, events)?);
-    assert_eq!(rt; judged(alloc, machine)?.as_str(), report);
-    Ok(())
 }
 
 /// A get has read the key bytes when an insert shifts the children.

@@ -14,3 +14,5 @@ mod serial;
 mod setups;
 #[cfg(test)]
 mod started;
+#[cfg(test)]
+mod stopped;

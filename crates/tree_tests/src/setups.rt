@@ -13,6 +13,7 @@ use history_text::write_history;
 use judge::{judge_alone, report};
 use machine::{Machine, MachineFault};
 use std::alloc::Global;
+use std::process::Abort;
 use std::test::Fail;
 
 /// A shape, by its rows of the kinds 4, 16, 48 and 256.
@@ -149,6 +150,30 @@ pub fn judged(alloc: Global, machine: &Machine) -> Result<String, Fail> {
     let history = machine.history(alloc)?;
     let verdict = judge_alone(alloc, &history, 1000)?;
     Ok(report(alloc, &verdict)?)
+}
+
+/// A history's text, of events each with its process.
+fn history(alloc: Global, events: &[(u8, &str)]) -> Result<String, Fail> {
+    let mut text = String::from_str(alloc, "{\"events\":[")?;
+    for (place, (process, event)) in events.iter().enumerate() {
+        let comma = if place == 0 { "" } else { "," };
+        text.push_str(&format!(in alloc; "{comma}{{{event},\"process\":{process}}}")?)?;
+    }
+    text.push_str("],\"version\":1}")?;
+    Ok(text)
+}
+
+/// The machine has recorded these events, and this is the report on them.
+pub fn assert_judged(
+    rt: &impl Abort,
+    alloc: Global,
+    machine: &Machine,
+    events: &[(u8, &str)],
+    report: &str,
+) -> Result<(), Fail> {
+    assert_eq!(rt; recorded(alloc, machine)?, history(alloc, events)?);
+    assert_eq!(rt; judged(alloc, machine)?.as_str(), report);
+    Ok(())
 }
 
 /// The words at these places.
