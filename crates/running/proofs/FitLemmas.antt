@@ -1,5 +1,5 @@
 -- Processes that fit: the first one, and what is left of a list of them.
-use Rattle.std.proofs.Common.{◌≡◌, ℕ, zero, suc, ◌+◌, ◌-◌, ◌<◌, ◌≤◌, Bool, true, false, List, [], ◌∷◌, ◌++◌, length, map, set, take, drop, refl, sym, ap, subst, ◌∙◌, arith}
+use Rattle.std.proofs.Common.{◌≡◌, ℕ, zero, suc, ◌+◌, Bool, true, false, List, [], ◌∷◌, ◌++◌, length, map, set, take, drop, refl, sym, ap, subst, ◌∙◌, arith}
 use Rattle.std.specs.Prelude.{Option, Some, None, not, is_some, if◌then◌else◌, nat_lt, slice_get}
 use Rattle.std.specs.List.{range_with_len}
 use Rattle.std.proofs.lemmas.List.{map-append}
@@ -13,7 +13,7 @@ use Rattle.art_shared.specs.Views.{Numbered, open_move, next_in, is_first_idle, 
 use Rattle.running.specs.declared.runner.Runner.{Runner}
 use Rattle.running.specs.declared.runner.Doing.{Doing}
 use Rattle.running.specs.declared.runner.Doing.TheVariants.{Idle, Going, Answered}
-use Rattle.running.specs.Fitting.{Run, FitsDoing, FitsProcess, Fit, others_in, others_of, IsFirst, IsBeside}
+use Rattle.running.specs.Fitting.{Run, FitsDoing, FitsProcess, Fit, others_in, IsFirst, IsBeside}
 use Rattle.running.specs.Steps.{first_number, least_process, is_open}
 
 -- The first process.

@@ -1,6 +1,6 @@
 -- A step of a process as a thread runs it is a step of the process that it fits.
-use Rattle.std.proofs.Common.{◌≡◌, ℕ, zero, suc, ◌+◌, ◌-◌, ◌<◌, ◌≤◌, true, false, IsTrue, List, [], ◌∷◌, ◌++◌, length, refl, sym, ap, subst, ◌∙◌, arith, append_assoc}
-use Rattle.std.specs.Prelude.{Option, Some, None, MatchOption, is_some, filter_map}
+use Rattle.std.proofs.Common.{◌≡◌, ℕ, zero, suc, ◌+◌, IsTrue, List, [], ◌∷◌, ◌++◌, length, refl, sym, ap, subst, ◌∙◌, arith, append_assoc}
+use Rattle.std.specs.Prelude.{Option, Some, None, MatchOption, is_some}
 use Rattle.std.proofs.lemmas.List.{append-nil, length-append}
 use Rattle.std.proofs.lemmas.List.Elements.{filter_map-append}
 use Rattle.std.proofs.lemmas.Option.{same_Some, none-some}
@@ -17,16 +17,14 @@ use Rattle.art_steps.specs.Fits.{Fits}
 use Rattle.art_core.specs.declared.process.Process.{Process}
 use Rattle.art_core.specs.Accesses.{told}
 use Rattle.art_core.specs.Core.{Move, Invokes, Makes, Responds, begun, invoked, move_of, after_move}
-use Rattle.art_shared.specs.declared.view.Setup.{Setup}
 use Rattle.art_shared.specs.declared.view.View.{View}
-use Rattle.art_shared.specs.Views.{Numbered, view, open_move, next_in, next_of, moved_first, moved_if, advanced, invoking, is_idle, calls_left, IsAnswered}
+use Rattle.art_shared.specs.Views.{Numbered, view, open_move, next_in, next_of, moved_first, moved_if, advanced, invoking, IsAnswered}
 use Rattle.running.specs.declared.runner.Runner.{Runner}
 use Rattle.running.specs.declared.runner.Open.{Open}
-use Rattle.running.specs.declared.runner.Doing.{Doing}
 use Rattle.running.specs.declared.runner.Doing.TheVariants.{Idle, Going, Answered}
 use Rattle.running.specs.Fitting.{FitsDoing, FitsProcess, others_of, IsFirst, IsBeside}
 use Rattle.running.specs.Steps.{is_open, Ran, HasReplied}
-use Rattle.running.proofs.FitLemmas.{left-is, open-is}
+use Rattle.running.proofs.FitLemmas.{open-is}
 
 -- What a call does next.
 

@@ -1,8 +1,7 @@
 -- What an arena that ends gives: the history of a state of the core, or all back.
-use Rattle.std.specs.Prelude.{◌≡◌, ◌≢◌, ℕ, List, map, length, All}
+use Rattle.std.specs.Prelude.{◌≡◌, ◌≢◌, ℕ, List, length}
 use Rattle.events.specs.HistoryView.{HistoryView, with_no_start}
-use Rattle.events.specs.Events.{events_of}
-use Rattle.art_core.specs.Core.{Plan, State, history_of, opened}
+use Rattle.art_core.specs.Core.{history_of, opened}
 use Rattle.art_core.specs.Runs.{Gives}
 use Rattle.art_core.specs.Claims.{IsPlan}
 use Rattle.art_shared.specs.declared.view.Setup.{Setup}

@@ -1,4 +1,4 @@
-use Rattle.std.proofs.Common.{◌≡◌, ◌+◌, map, refl, sym, subst, arith}
+use Rattle.std.proofs.Common.{◌+◌, map, refl, sym, subst, arith}
 use Rattle.std.specs.List.{range_with_len}
 use Rattle.running.specs.Fitting.{Fit}
 use Rattle.running.proofs.FitLemmas.{first_process, fits-idle, fit-idle-more}

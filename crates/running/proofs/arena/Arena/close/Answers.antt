@@ -1,4 +1,4 @@
-use Rattle.std.proofs.Common.{◌≡◌, length, refl, ap, ◌∙◌, arith}
+use Rattle.std.proofs.Common.{length, refl, ap, ◌∙◌, arith}
 use Rattle.running.proofs.CloseLemmas.{as-many, same-processes}
 use Rattle.running.proofs.arena.Arena.close.Goals as goal
 

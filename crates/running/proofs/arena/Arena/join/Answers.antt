@@ -1,4 +1,4 @@
-use Rattle.std.proofs.Common.{◌≡◌, length, ap, sym, subst, ◌∙◌, arith}
+use Rattle.std.proofs.Common.{length, ap, sym, subst, ◌∙◌, arith}
 use Rattle.art_shared.specs.Views.{merge}
 use Rattle.running.specs.Fitting.{Fit}
 use Rattle.running.specs.Passes.{shows}

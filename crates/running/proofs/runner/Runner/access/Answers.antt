@@ -1,4 +1,4 @@
-use Rattle.std.proofs.Common.{refl, ◌∙◌, sym}
+use Rattle.std.proofs.Common.{refl, ◌∙◌}
 use Rattle.running.proofs.StepLemmas.{next-access, access-beside, access-open, goes-on, gets-reply}
 use Rattle.running.proofs.runner.Runner.access.Goals as goal
 
