@@ -5,7 +5,8 @@
 
 A text is cut, or bytes of it are doubled, swapped or flipped, up to three times; a fixed seed chooses how. Each run has
 to end with a status from 0 to 3 and to write one line: on standard output, or for a refused text on standard error, the
-line of a fault that docs/FORMATS.md names. The last line counts the texts that passed and failed.
+line of a fault that docs/FORMATS.md names. What is drawn is one SVG. The last line counts the texts that passed and
+failed.
 """
 
 import concurrent.futures
@@ -25,17 +26,23 @@ MOST_DAMAGES = 3
 
 NOTHING = rb""
 LINE = rb"[^\n]+\n"
-# Of each subcommand the line of a refused text; what is judged besides is one line, whatever the verdict.
+PICTURE = rb"<svg [^>]*>\n(?:[^\n]+\n)+</svg>\n"
+REFUSED_HISTORY = (
+    rb"history: ([1-3] (TooLong|NotJson|Version)|5 TooMany|[46] (Shape|NotWellFormed) at event [0-9]+"
+    rb"|8 Start at pair [0-9]+)\n"
+)
+# Of each subcommand the line of a refused text, and the statuses of an answer.
 REFUSED = {
-    "judge": rb"history: ([1-3] (TooLong|NotJson|Version)|5 TooMany|[46] (Shape|NotWellFormed) at event [0-9]+"
-    rb"|8 Start at pair [0-9]+)\n",
+    "judge": REFUSED_HISTORY,
+    "locate": REFUSED_HISTORY,
+    "draw": REFUSED_HISTORY,
     "replay": rb"replay: ([5-7] (TooLong|NotJson|Shape)|8 StartRefused)\n"
     rb"|schedule: item [0-9]+: (1 NoProcess|2 NothingToDo|3 TurnLimit)\n",
     "drive": rb"plan: (3 TooMany|5 TooLong|6 NotJson|7 Shape)\n",
 }
-ANSWERED = {"judge": (0, 1, 2), "replay": (0,), "drive": (0,)}
-# What reads an example, by the ending of its name.
-READERS = {"-replay.json": "replay", "-plan.json": "drive", ".json": "judge"}
+ANSWERED = {"judge": (0, 1, 2), "locate": (0, 1, 2), "draw": (0, 1, 2), "replay": (0,), "drive": (0,)}
+# What reads an example, by the ending of its name. Of several subcommands each text is given to one.
+READERS = {"-replay.json": ("replay",), "-plan.json": ("drive",), ".json": ("judge", "locate", "draw")}
 
 
 def cut(text, chance):
@@ -68,7 +75,7 @@ def damaged(text, chance):
 
 
 def originals():
-    """Each example, with the subcommand that reads it."""
+    """Each example, with the subcommands that read it."""
     for name in sorted(os.listdir(EXAMPLES)):
         if name.endswith(".json"):
             with open(os.path.join(EXAMPLES, name), "rb") as source:
@@ -79,7 +86,7 @@ def fails(subcommand, text):
     """What is wrong with the run on a text, or None."""
     ran = subprocess.run([PROGRAM, subcommand], input=text, capture_output=True, timeout=60, check=False)
     if ran.returncode in ANSWERED[subcommand]:
-        wanted = LINE, NOTHING
+        wanted = PICTURE if subcommand == "draw" else LINE, NOTHING
     elif ran.returncode == 3:
         wanted = NOTHING, REFUSED[subcommand]
     else:
@@ -95,7 +102,7 @@ def main():
         subprocess.run([os.path.join(TOP, "bench"), "judge"], stdin=source, stdout=subprocess.DEVNULL, check=True)
     chance = random.Random(SEED)
     examples = list(originals())
-    texts = [(subcommand, damaged(text, chance)) for subcommand, text in chance.choices(examples, k=TEXTS)]
+    texts = [(chance.choice(readers), damaged(text, chance)) for readers, text in chance.choices(examples, k=TEXTS)]
     failed = 0
     with concurrent.futures.ThreadPoolExecutor(os.cpu_count()) as runs:
         for wrong in runs.map(fails, *zip(*texts)):

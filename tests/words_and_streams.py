@@ -50,6 +50,8 @@ def refused_words():
     yield "a budget past the greatest", ["judge", "--budget", "1000001"], LINES
     yield "no workers", ["judge", "--workers", "0"], LINES
     yield "too many workers", ["judge", "--workers", "65"], LINES
+    yield "a budget of 0 to locate an event", ["locate", "--budget", "0"], LINES
+    yield "too many workers for a picture", ["draw", "--workers", "65"], LINES
     yield "an unknown tree", ["drive", "--tree", "other"], LINES
     yield "no tree", ["drive", "--tree"], LINES
 
@@ -130,7 +132,8 @@ def runs(folder):
     yield "input that is a folder", run(["check"], unreadable), (6, NOTHING, rb"io\n")
     os.close(unreadable)
 
-    for shows, words in (("an order", ["check", "0", "1"]), ("a verdict", ["judge"])):
+    answers = {"an order": ["check", "0", "1"], "a verdict": ["judge"], "a location": ["locate"], "a picture": ["draw"]}
+    for shows, words in answers.items():
         with open(ORDERED, "rb") as source, open(FULL, "wb") as full:
             yield f"{shows} to a full standard output", run(words, source, output=full), (6, NOTHING, rb"io\n")
     reader, unread = os.pipe()
