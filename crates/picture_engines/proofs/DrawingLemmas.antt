@@ -1,10 +1,27 @@
--- An answer of `draw` to the text that was read is one to the whole.
-use Rattle.std.proofs.Common.{ℕ, ◌+◌, List, take}
+-- What is drawn is an outcome of the text, and an answer to the text that was read is one to the whole.
+use Rattle.std.proofs.Common.{ℕ, ◌+◌, List, take, ◌≡◌, Some, Result, Ok, Err, IfOk, MatchResult, String, Global, string_bytes, subst, sym}
+use Rattle.events.specs.HistoryView.{HistoryView}
 use Rattle.history_text.specs.Limits.{text_limit}
 use Rattle.outcomes.specs.declared.outcome.Answer.{Answer}
+use Rattle.outcomes.specs.declared.outcome.Outcome.{Outcome}
+use Rattle.outcomes.specs.declared.outcome.Outcome.TheVariants.{Answered, Memory}
+use Rattle.outcomes.specs.Lines.{line}
+use Rattle.outcomes.specs.Outcomes.{IsTextOutcome}
+use Rattle.history_engines.specs.Answers.{IsHistoryRefusal, IsTextOf}
 use Rattle.history_engines.proofs.WholeHistories.{IsTextOf-whole}
-use Rattle.picture_engines.specs.Drawings.{IsDrawAnswer}
+use Rattle.picture_engines.specs.Drawings.{IsDrawAnswer, IsDrawing}
 
+-- a drawing that is answered with a line feed behind it is an outcome of the text
+pub IsTextOutcome-drawn : {E : Type 0} (budget : ℕ) (text : List ℕ) (history : HistoryView) (answer : Answer) (drawing : List ℕ) (full : Result (String Global) E)
+    (outcome : Outcome) → IsTextOf text history → IsDrawing budget history answer drawing → IfOk full (λ f. string_bytes f ≡ line drawing)
+    → MatchResult full (λ f. outcome ≡ Answered answer f) (λ _. outcome ≡ Memory) → IsTextOutcome (IsDrawAnswer budget) IsHistoryRefusal (Some text) outcome
+IsTextOutcome-drawn budget text history answer drawing (Ok f) outcome is_text is full answered =
+    subst (IsTextOutcome (IsDrawAnswer budget) IsHistoryRefusal (Some text)) (sym answered)
+    (record { history = history; drawing = drawing; is_text = is_text; is_drawing = is; bytes_are = full })
+IsTextOutcome-drawn budget text history answer drawing (Err e) outcome is_text is full answered =
+    subst (IsTextOutcome (IsDrawAnswer budget) IsHistoryRefusal (Some text)) (sym answered) tt
+
+-- an answer to the text that was read is one to the whole
 pub IsDrawAnswer-whole : (budget : ℕ) (text : List ℕ) (answer : Answer) (bytes : List ℕ) → IsDrawAnswer budget (take (text_limit + 1) text) answer bytes
     → IsDrawAnswer budget text answer bytes
 IsDrawAnswer-whole budget text answer bytes h = record {

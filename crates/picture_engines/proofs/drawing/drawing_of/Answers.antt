@@ -1,7 +1,7 @@
 use Rattle.picture_engines.proofs.drawing.drawing_of.Goals as goal
 
 pub picture_of-requires : goal.picture_of-requires
-picture_of-requires g c = c.in_ok-front.ensures.markable
+picture_of-requires g c = rw c.deref.ensures.value c.in_ok-front.ensures.markable
 
 pub returns : goal.returns
 returns g c = record {
@@ -13,7 +13,7 @@ returns g c = record {
   exact = c.in_ok-verdict.ensures.exact;
   goes_wrong = c.in_ok-wrong.ensures;
   fronted = c.in_ok-front.ensures.front;
-  pictured = c.in_ok-picture.ensures;
+  pictured = rw c.deref.ensures.value at c.in_ok-picture.ensures;
   text_is = c.in_ok-drawing.ensures;
   answer_is = c.answer_of.ensures;
 }
