@@ -1,14 +1,16 @@
 #!/usr/bin/env python3
 """Times the program on histories that it generates, and prints the time and the peak memory of each run.
 
-    benchmarks/run.py [check|judge|search|segments|workers|generate|replay]..
+    benchmarks/run.py [check|judge|search|segments|workers|generate|replay|record]..
 
 A history for `check` is made by one sorted map that processes call in turn, so that the calls by number are an
 order of it. In one for `judge` and `segments` the calls overlap, and each has its effect at some moment while it is
 open. One for `search` is one segment without order: some pairs are held, some calls overlap, and then one key is seen
 with what nobody put there. One for `workers` has segments that are equal but for their keys, of many configurations and
 without order. `generate` makes plans, and `replay` runs generated plans on both full trees, each call to its end or some turns
-at a time, and one call that waits for a lock as long as a machine may live.
+at a time, and one call that waits for a lock as long as a machine may live. `record` has threads note calls and answers at
+recorders, beside as many threads that add to one shared word as often: `crates/record_rate` does either, and the time of the
+same threads with nothing to do is taken off.
 """
 
 import json
@@ -21,6 +23,7 @@ import time
 
 TOP = os.path.dirname(os.path.dirname(os.path.abspath(__file__)))
 PROGRAM = os.path.join(TOP, "crates", "bench", "out", "bench")
+RECORD_RATE = os.path.join(TOP, "crates", "record_rate", "out", "record_rate")
 MAX_TEXT = 16_777_216
 MAX_BUDGET = 1_000_000
 
@@ -108,13 +111,13 @@ def long_scans(pairs, scans):
         yield ("scan", 0, great)
 
 
-def run(words, text, statuses=(0, 1, 2)):
+def run(words, text, statuses=(0, 1, 2), program=PROGRAM):
     """The seconds and the peak of memory, in MiB, of one run, with what it printed."""
     with tempfile.TemporaryFile() as source:
         source.write(text)
         source.seek(0)
         began = time.monotonic()
-        process = subprocess.Popen([PROGRAM, *words], stdin=source, stdout=subprocess.PIPE, stderr=subprocess.DEVNULL)
+        process = subprocess.Popen([program, *words], stdin=source, stdout=subprocess.PIPE, stderr=subprocess.DEVNULL)
         answer = process.stdout.read()
         _, status, usage = os.wait4(process.pid, 0)
         seconds = time.monotonic() - began
@@ -285,11 +288,23 @@ def replay():
     show("replay, a get that waits, 1000000 turns", ["replay"], replay_text("coupled", scripts, schedule, 1_000_000), b'{"events":')
 
 
+def record(rounds=500):
+    subprocess.run(["rt", "run"], cwd=os.path.dirname(os.path.dirname(RECORD_RATE)), stdout=subprocess.DEVNULL, check=True)
+    for threads in (1, 2, 4):
+        seconds = {}
+        for work in ("neither", "word", "recorder"):
+            words = [work, str(threads), str(rounds)]
+            seconds[work], _, done = min(run(words, b"", (0,), RECORD_RATE) for _ in range(5))
+        events = int(done)
+        noted, added = (seconds[work] - seconds["neither"] for work in ("recorder", "word"))
+        print(f"record, {threads} threads: {events / noted:14,.0f} events/s {events / added:14,.0f} additions/s {noted / added:6.2f} times")
+
+
 def main():
     # Builds the program where that is still to do.
     subprocess.run([os.path.join(TOP, "bench"), "judge"], input=history([]), stdout=subprocess.DEVNULL, check=True)
     parts = {"check": check, "judge": judge, "search": search, "segments": segments, "workers": workers,
-             "generate": generate, "replay": replay}
+             "generate": generate, "replay": replay, "record": record}
     for part in sys.argv[1:] or parts:
         parts[part]()
 

@@ -1,0 +1,38 @@
+//! Notes calls at recorders from some threads, or adds to one shared word as often, so that the time of either can be
+//! taken from outside: `record_rate recorder|word|neither THREADS ROUNDS`. A round starts the threads, and each of them
+//! notes 1,024 calls and their answers, or adds 2,048 times, or does neither. What is printed is how many events were
+//! noted or additions made.
+#![tactic(auto)]
+
+mod rounds;
+
+use rounds::{Work, done_in};
+use std::io::ErrorKind;
+use std::{env, io};
+
+/// The most threads: a recorder has room for so many processes with 1,024 calls each.
+const MAX_THREADS: u8 = 4;
+
+fn main(rt: HostRuntime) -> io::Result<()> {
+    let words: Vec<String> = match env::args(&rt)?.collect(rt.alloc()) {
+        Ok(words) => words,
+        Err(_) => return Err(io::Error::from(ErrorKind::OutOfMemory)),
+    };
+    let [_, work, threads, rounds] = words.as_slice() else {
+        return Err(io::Error::from(ErrorKind::InvalidInput));
+    };
+    let (Some(work), Ok(threads), Ok(rounds)) = (
+        Work::named(work),
+        threads.parse::<u8>(),
+        rounds.parse::<u32>(),
+    ) else {
+        return Err(io::Error::from(ErrorKind::InvalidInput));
+    };
+    if threads < 1 || threads > MAX_THREADS {
+        return Err(io::Error::from(ErrorKind::InvalidInput));
+    }
+    match done_in(&rt, rt.alloc(), work, threads, rounds) {
+        Ok(done) => println!(rt; "{done}"),
+        Err(_) => Err(io::Error::from(ErrorKind::OutOfMemory)),
+    }
+}

@@ -1,0 +1,98 @@
+// Rounds of work by some threads.
+ghost use Rattle.std.specs.Prelude.{◌≤◌};
+ghost use Rattle.recorder.specs.Recorders.{IsPassOf};
+
+use events::{Call, Memory, Reply};
+use recorder::{Pass, Recorder};
+use std::alloc::Global;
+use std::sync::atomic::{AtomicU64, Ordering};
+use std::thread;
+use std::thread::Threads;
+
+/// How many calls a thread notes in a round.
+const CALLS: u32 = 1024;
+
+/// What a thread does in a round.
+#[derive(Clone, Copy)]
+pub(crate) enum Work {
+    /// It notes calls and their answers at a recorder.
+    Recorder,
+    /// It adds to a word that all threads share, once for each invocation and once for each answer.
+    Word,
+    /// It does nothing: what is left is the time of the threads.
+    Neither,
+}
+
+impl Work {
+    /// The work of a name.
+    pub(crate) fn named(name: &str) -> Option<Work> {
+        match name {
+            "recorder" => Some(Work::Recorder),
+            "word" => Some(Work::Word),
+            "neither" => Some(Work::Neither),
+            _ => None,
+        }
+    }
+}
+
+/// How many events are noted, or additions made, in so many rounds of so many threads.
+pub(crate) fn done_in<R: Threads + Sync>(
+    rt: &R,
+    alloc: Global,
+    work: Work,
+    threads: u8,
+    rounds: u32,
+) -> Result<u64, Memory>
+    requires { (1 ≤ threads) × (threads ≤ 4) }
+{
+    let word = AtomicU64::new(0);
+    let mut done: u64 = 0;
+    for _ in 0..rounds {
+        let by_thread = match work {
+            Work::Recorder => recorded(rt, alloc, threads)?,
+            Work::Word => thread::map_indices(
+                rt,
+                alloc,
+                usize::from(threads),
+                &|_| add_all(&word),
+            )?,
+            Work::Neither => thread::map_indices(rt, alloc, usize::from(threads), &|_| 0)?,
+        };
+        for by_one in by_thread {
+            done = done.wrapping_add(by_one);
+        }
+    }
+    Ok(done)
+}
+
+/// How many events each of some threads noted at one recorder.
+fn recorded<R: Threads + Sync>(rt: &R, alloc: Global, threads: u8) -> Result<Vec<u64>, Memory>
+    requires { (1 ≤ threads) × (threads ≤ 4) }
+{
+    let (recorder, passes) = Recorder::open(alloc, threads, CALLS)?;
+    Ok(thread::map_vec(rt, passes, &|pass| note_all(&recorder, pass))?)
+}
+
+/// Notes calls and their answers: how many events were noted.
+fn note_all(recorder: &Recorder, mut pass: Pass) -> u64
+    requires { IsPassOf recorder.now pass }
+{
+    let mut done: u64 = 0;
+    for _ in 0..CALLS {
+        if recorder.invoke(&mut pass, Call::Get(0)).is_ok() {
+            done = done.wrapping_add(1);
+        }
+        if recorder.answer(&mut pass, Reply::None).is_ok() {
+            done = done.wrapping_add(1);
+        }
+    }
+    done
+}
+
+/// Adds to a shared word as often: how many additions were made.
+fn add_all(word: &AtomicU64) -> u64 {
+    for _ in 0..2 * CALLS {
+        word.fetch_add(1, Ordering::SeqCst);
+    }
+    u64::from(2 * CALLS)
+}
