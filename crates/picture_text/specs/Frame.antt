@@ -41,8 +41,14 @@ name_text y process = codes "<text x='16' y='" ++ (decimal y ++ (codes "'>proces
 unfoldable pub with_lane : List ℕ → ℕ → ℕ → ℕ → List ℕ
 with_lane text end lane process = text ++ ground_text end (y_of lane + 1) ++ name_text (y_of lane + 32) process
 
+-- what a circle and a red bar mean
+abbrev pub marks_text : Heading → List ℕ
+marks_text Order = codes "in a circle stands its place in the order."
+marks_text (NoOrder lo hi) = codes "in a circle stands its place in the longest beginning of an order of these keys; at a red one the history goes wrong."
+marks_text (Undecided lo hi) = codes "in a circle stands its place in the longest beginning of an order of these keys that was found."
+
 -- what the shapes mean, below the lanes
-abbrev pub with_legend : List ℕ → ℕ → List ℕ
-with_legend text y =
-    text ++ (codes "<text class='note' x='16' y='" ++ (decimal y ++ codes "'>A bar is a call, from its invocation to its answer; "))
-    ++ (codes "in a circle stands its place in the order.</text>" ++ 10 ∷ [])
+abbrev pub with_legend : List ℕ → ℕ → Heading → List ℕ
+with_legend text y heading =
+    text ++ (codes "<text class='note' x='16' y='" ++ (decimal y ++ codes "'>A bar is a call, from its invocation to its answer; ")) ++ marks_text heading
+    ++ (codes "</text>" ++ 10 ∷ [])

@@ -33,7 +33,7 @@ svg_text style width picture =
     let all = width_of width picture.columns in
     let lanes = with_lanes (top_text style all picture) (all - 16) 0 picture.lanes.items in
     let bars = with_bars lanes width picture.columns picture.bars.items in
-    with_legend (with_marks bars width picture.marks.items) (y_of (length picture.lanes.items) + 20) ++ codes "</svg>"
+    with_legend (with_marks bars width picture.marks.items) (y_of (length picture.lanes.items) + 20) picture.heading ++ codes "</svg>"
 
 -- a text of a picture: at some width of a column from 28 to 72
 pub record IsSvgOf (style : List ℕ) (picture : Picture) (text : List ℕ) : Type 0 where

@@ -1,6 +1,6 @@
 // What stands around the bars of a text: its head, the words at its top, and its lanes.
 ghost use Rattle.std.specs.Prelude.{◌≡◌, ◌++◌, OnOk, string_bytes};
-ghost use Rattle.picture_text.specs.Frame.{head_text, with_heading, with_start, ground_text, name_text, with_lane, with_legend};
+ghost use Rattle.picture_text.specs.Frame.{head_text, with_heading, with_start, ground_text, name_text, with_lane, marks_text, with_legend};
 
 use crate::content::push_shown;
 use crate::layout::y_of;
@@ -81,13 +81,27 @@ fn push_name(out: &mut String, y: u128, process: u8) -> Result<(), Memory>
 }
 
 /// Adds what the shapes of a text mean.
-pub fn push_legend(out: &mut String, y: u128) -> Result<(), Memory>
-    ensures { OnOk result (string_bytes out.new ≡ with_legend (string_bytes out.old) y) }
+pub fn push_legend(out: &mut String, y: u128, heading: &Heading) -> Result<(), Memory>
+    ensures { OnOk result (string_bytes out.new ≡ with_legend (string_bytes out.old) y heading.now) }
 {
     write!(
         out,
         "<text class='note' x='16' y='{y}'>A bar is a call, from its invocation to its answer; "
     )?;
-    out.push_str("in a circle stands its place in the order.</text>\n")?;
+    out.push_str(marks_text(heading))?;
+    out.push_str("</text>\n")?;
     Ok(())
+}
+
+/// What a circle and a red bar mean.
+fn marks_text(heading: &Heading) -> &'static str
+    ensures { result.now ≡ marks_text heading.now }
+{
+    match heading {
+        Heading::Order => "in a circle stands its place in the order.",
+        Heading::NoOrder { .. } =>
+            "in a circle stands its place in the longest beginning of an order of these keys; at a red one the history goes wrong.",
+        Heading::Undecided { .. } =>
+            "in a circle stands its place in the longest beginning of an order of these keys that was found.",
+    }
 }

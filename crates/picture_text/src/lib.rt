@@ -6,9 +6,11 @@
 mod bar_text;
 mod content;
 mod frame;
+mod laws;
 mod layout;
 mod mark_text;
 mod svg_of;
 
 pub use content::push_content;
+pub use laws::contents_have_no_markup;
 pub use svg_of::{STYLE, svg};

@@ -33,7 +33,7 @@ pub fn svg(alloc: Global, picture: &Picture) -> Result<String, Memory>
     push_lanes(&mut text, all.saturating_sub(16), &picture.lanes)?;
     push_bars(&mut text, width, picture.columns, &picture.bars)?;
     push_marks(&mut text, width, &picture.marks)?;
-    push_legend(&mut text, y_of(picture.lanes.len()) + 20)?;
+    push_legend(&mut text, y_of(picture.lanes.len()) + 20, &picture.heading)?;
     text.push_str("</svg>")?;
     Ok(text)
 }
