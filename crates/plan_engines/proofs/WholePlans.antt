@@ -1,5 +1,5 @@
 -- The text of a plan that was read up to one byte more than a text may have tells all that is to be told of the whole.
-use Rattle.std.proofs.Common.{◌≡◌, ℕ, ◌+◌, ◌<◌, ◌≤◌, List, length, take, subst, inl, inr, arith, length-take}
+use Rattle.std.proofs.Common.{ℕ, ◌+◌, ◌<◌, List, length, take, subst, inl, inr, arith, length-take}
 use Rattle.events.specs.declared.event.Call.{Call}
 use Rattle.events.specs.HistoryView.{HistoryView}
 use Rattle.history_text.specs.Limits.{text_limit}
@@ -9,7 +9,7 @@ use Rattle.plan_text.specs.PlanTexts.{SpellsPlan}
 use Rattle.plan_text.specs.PlanTextFaults.{IsPlanTextFault}
 use Rattle.outcomes.specs.declared.outcome.Answer.{Answer}
 use Rattle.outcomes.proofs.WholeText.{same_text}
-use Rattle.plan_engines.specs.Drives.{IsDriveAnswer, IsDriven, IsDriveRefusal, IsUndriven}
+use Rattle.plan_engines.specs.Drives.{IsDrivenAnswer, IsDriven, IsDriveRefusal, IsUndriven}
 
 -- a plan that the text read spells is the one of the whole
 SpellsPlan-whole : (text : List ℕ) (scripts : List (List Call)) → SpellsPlan (take (text_limit + 1) text) scripts → SpellsPlan text scripts
@@ -30,20 +30,23 @@ IsUndriven-whole : (text : List ℕ) (fault : PlanFault) → IsUndriven (take (t
 IsUndriven-whole text fault (inl h) = inl (IsPlanTextFault-whole text fault h)
 IsUndriven-whole text fault (inr h) = inr (h.0, (h.1.0, SpellsPlan-whole text h.1.0 h.1.1, h.1.2, h.1.3))
 
-IsDriven-whole : (text : List ℕ) (history : HistoryView) → IsDriven (take (text_limit + 1) text) history → IsDriven text history
-IsDriven-whole text history h = record {
-  scripts = h.scripts;
-  spelled = SpellsPlan-whole text h.scripts h.spelled;
-  are_scripts = h.are_scripts;
-  drivable = h.drivable;
-  driven = h.driven;
-}
+module _ (IsHistoryOf : List (List Call) → HistoryView → Type 0) where
+  IsDriven-whole : (text : List ℕ) (history : HistoryView) → IsDriven IsHistoryOf (take (text_limit + 1) text) history → IsDriven IsHistoryOf text history
+  IsDriven-whole text history h = record {
+    scripts = h.scripts;
+    plan = record {
+      spelled = SpellsPlan-whole text h.scripts h.plan.spelled;
+      are_scripts = h.plan.are_scripts;
+      drivable = h.plan.drivable;
+    };
+    driven = h.driven;
+  }
 
--- an answer of `drive` to the text read is one to the whole
-pub IsDriveAnswer-whole : (text : List ℕ) (answer : Answer) (bytes : List ℕ) → IsDriveAnswer (take (text_limit + 1) text) answer bytes
-    → IsDriveAnswer text answer bytes
-IsDriveAnswer-whole text answer bytes h =
-    record { history = h.history; driven = IsDriven-whole text h.history h.driven; answer_is = h.answer_is; bytes_are = h.bytes_are }
+  -- an answer of `drive` to the text read is one to the whole
+  pub IsDrivenAnswer-whole : (text : List ℕ) (answer : Answer) (bytes : List ℕ) → IsDrivenAnswer IsHistoryOf (take (text_limit + 1) text) answer bytes
+      → IsDrivenAnswer IsHistoryOf text answer bytes
+  IsDrivenAnswer-whole text answer bytes h =
+      record { history = h.history; driven = IsDriven-whole text h.history h.driven; answer_is = h.answer_is; bytes_are = h.bytes_are }
 
 pub IsDriveRefusal-whole : (text bytes : List ℕ) → IsDriveRefusal (take (text_limit + 1) text) bytes → IsDriveRefusal text bytes
 IsDriveRefusal-whole text bytes h =

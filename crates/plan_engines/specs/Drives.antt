@@ -10,17 +10,24 @@ use Rattle.plans.specs.Plans.{AreScripts}
 use Rattle.plan_text.specs.PlanTexts.{SpellsPlan}
 use Rattle.plan_text.specs.PlanTextFaults.{IsPlanTextFault}
 use Rattle.drives.specs.Drives.{IsDrivable, IsDriveOf}
+use Rattle.art_rows.specs.declared.table.Shape.{Shape}
+use Rattle.art_steps.specs.declared.variant.Variant.{Variant}
+use Rattle.arena_drives.specs.ArenaDrives.{IsArenaDriveOf}
 use Rattle.outcomes.specs.declared.outcome.Answer.{Answer}
 use Rattle.outcomes.specs.declared.outcome.Answer.TheVariants.{Yes}
 use Rattle.outcomes.specs.Lines.{line, plan_fault_line}
 
--- the text spells a plan for which there is room, and this is recorded while its scripts are done
-pub record IsDriven (text : List ℕ) (history : HistoryView) : Type 0 where
-  pub scripts : List (List Call)
+-- the text spells a plan for which there is room
+pub record SpellsDrivable (text : List ℕ) (scripts : List (List Call)) : Type 0 where
   pub spelled : SpellsPlan text scripts
   pub are_scripts : AreScripts scripts
   pub drivable : IsDrivable scripts
-  pub driven : IsDriveOf scripts history
+
+-- it spells such a plan, and the history is one of its scripts, by what they are done on
+pub record IsDriven (IsHistoryOf : List (List Call) → HistoryView → Type 0) (text : List ℕ) (history : HistoryView) : Type 0 where
+  pub scripts : List (List Call)
+  pub plan : SpellsDrivable text scripts
+  pub driven : IsHistoryOf scripts history
 
 -- the text spells a plan for which there is no room: its number of scripts times the length of the longest one is too great
 abbrev pub SpellsUndrivable : List ℕ → Type 0
@@ -31,11 +38,19 @@ abbrev pub IsUndriven : List ℕ → PlanFault → Type 0
 IsUndriven text fault = IsPlanTextFault text fault ⊎ ((fault ≡ plans.TooMany) × SpellsUndrivable text)
 
 -- `drive` answers the text so: yes, with the text of a history of the plan
-pub record IsDriveAnswer (text : List ℕ) (answer : Answer) (bytes : List ℕ) : Type 0 where
+pub record IsDrivenAnswer (IsHistoryOf : List (List Call) → HistoryView → Type 0) (text : List ℕ) (answer : Answer) (bytes : List ℕ) : Type 0 where
   pub history : HistoryView
-  pub driven : IsDriven text history
+  pub driven : IsDriven IsHistoryOf text history
   pub answer_is : answer ≡ Yes
   pub bytes_are : bytes ≡ line (compact_text (history_data history))
+
+-- that history is one at a subject, each process with its whole script,
+abbrev pub IsDriveAnswer : List ℕ → Answer → List ℕ → Type 0
+IsDriveAnswer = IsDrivenAnswer IsDriveOf
+
+-- or one on a tree of this shape and variant, with at most so many steps of each call
+abbrev pub IsTreeDriveAnswer : Shape → Variant → ℕ → List ℕ → Answer → List ℕ → Type 0
+IsTreeDriveAnswer shape variant limit = IsDrivenAnswer (IsArenaDriveOf shape variant limit)
 
 -- a text that gives no history of a plan is refused with this line
 pub record IsDriveRefusal (text bytes : List ℕ) : Type 0 where

@@ -1,12 +1,19 @@
 -- How a run comes out that draws a plan, or that reads a plan or a replay.
-use Rattle.std.specs.Prelude.{⊤, ℕ, string_bytes}
+use Rattle.std.specs.Prelude.{◌≡◌, ⊤, ℕ, List, string_bytes}
+use Rattle.events.specs.HistoryView.{HistoryView}
+use Rattle.history_text.specs.Texts.{history_data}
+use Rattle.serde_json.specs.Written.{compact_text}
+use Rattle.art_rows.specs.declared.table.Shape.{Shape}
+use Rattle.art_steps.specs.declared.variant.Variant.{Variant}
 use Rattle.workload.specs.declared.mix.Mix.{Mix}
 use Rattle.outcomes.specs.declared.outcome.Outcome.{Outcome}
 use Rattle.outcomes.specs.declared.outcome.Outcome.TheVariants.{Answered, Refused, Memory}
+use Rattle.outcomes.specs.declared.outcome.Answer.TheVariants.{Yes}
 use Rattle.outcomes.specs.Ends.{Change}
+use Rattle.outcomes.specs.Lines.{line}
 use Rattle.outcomes.specs.Outcomes.{IsReadOutcome}
 use Rattle.plan_engines.specs.Answers.{IsGenerateAnswer, IsGenerateRefusal, IsReplayAnswer, IsReplayRefusal}
-use Rattle.plan_engines.specs.Drives.{IsDriveAnswer, IsDriveRefusal}
+use Rattle.plan_engines.specs.Drives.{IsDriveAnswer, IsTreeDriveAnswer, IsDriveRefusal}
 
 -- the outcome of `generate` from this seed, mix and numbers of processes and calls
 abbrev pub IsGenerateOutcome : ℕ → Mix → ℕ → ℕ → Outcome → Type 0
@@ -19,6 +26,22 @@ IsGenerateOutcome seed mix processes calls outcome = ⊥
 abbrev pub IsReplayOutcome : Change → Outcome → Type 0
 IsReplayOutcome source outcome = IsReadOutcome IsReplayAnswer IsReplayRefusal source outcome
 
--- the outcome of `drive`
+-- the outcome of `drive`, at a subject
 abbrev pub IsDriveOutcome : Change → Outcome → Type 0
 IsDriveOutcome source outcome = IsReadOutcome IsDriveAnswer IsDriveRefusal source outcome
+
+-- and on a tree
+abbrev pub IsTreeDriveOutcome : Shape → Variant → ℕ → Change → Outcome → Type 0
+IsTreeDriveOutcome shape variant limit source outcome = IsReadOutcome (IsTreeDriveAnswer shape variant limit) IsDriveRefusal source outcome
+
+-- how it comes out where a text spells no plan that can be driven
+abbrev pub IsUndrivenOutcome : List ℕ → Outcome → Type 0
+IsUndrivenOutcome text (Refused bytes) = IsDriveRefusal text (string_bytes bytes)
+IsUndrivenOutcome text Memory = ⊤
+IsUndrivenOutcome text outcome = ⊥
+
+-- how it comes out where there is a history
+abbrev pub IsHistoryOutcome : HistoryView → Outcome → Type 0
+IsHistoryOutcome history (Answered answer bytes) = (answer ≡ Yes) × (string_bytes bytes ≡ line (compact_text (history_data history)))
+IsHistoryOutcome history Memory = ⊤
+IsHistoryOutcome history outcome = ⊥

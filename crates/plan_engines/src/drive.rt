@@ -1,4 +1,4 @@
-// `bench drive`: the history of a plan that is done at a subject.
+// `bench drive` at a subject: the history of a plan that is done there.
 ghost use Rattle.std.specs.Prelude.{◌<◌, Some};
 ghost use Rattle.outcomes.specs.Ends.{change};
 ghost use Rattle.outcomes.specs.Outcomes.{IsTextOutcome};
@@ -6,11 +6,10 @@ ghost use Rattle.outcomes.specs.Runs.{IsRun};
 ghost use Rattle.plan_engines.specs.Drives.{IsDriveAnswer, IsDriveRefusal};
 ghost use Rattle.plan_engines.specs.Outcomes.{IsDriveOutcome};
 
-use drives::{drive_subject, is_drivable};
-use history_text::{MAX_TEXT, write_history};
-use outcomes::{Answer, Outcome, line_of, text_from, write_outcome};
-use plan_text::read_plan;
-use plans::PlanFault;
+use crate::drivable::{drivable_plan, history_outcome};
+use drives::drive_subject;
+use history_text::MAX_TEXT;
+use outcomes::{Outcome, text_from, write_outcome};
 use recorder::Subject;
 use std::alloc::Global;
 use std::thread::Threads;
@@ -52,19 +51,12 @@ pub fn drive_outcome<R: Threads + Sync, J: Subject + Sync>(
 ) -> Outcome
     ensures { IsTextOutcome IsDriveAnswer IsDriveRefusal (Some text.now) result }
 {
-    let plan = match read_plan(alloc, text) {
+    let plan = match drivable_plan(alloc, text) {
         Ok(plan) => plan,
-        Err(fault) => return Outcome::of_plan_fault(alloc, fault),
+        Err(outcome) => return outcome,
     };
-    if !is_drivable(&plan) {
-        return Outcome::of_plan_fault(alloc, PlanFault::TooMany);
-    }
-    let history = match drive_subject(rt, alloc, &plan, subject) {
-        Ok(history) => history,
-        Err(_) => return Outcome::Memory,
-    };
-    match write_history(alloc, &history) {
-        Ok(text) => Outcome::answered(Answer::Yes, line_of(text)),
+    match drive_subject(rt, alloc, &plan, subject) {
+        Ok(history) => history_outcome(alloc, &history),
         Err(_) => Outcome::Memory,
     }
 }

@@ -2,10 +2,13 @@
 //! recorded while a plan is done, and the one that a replay records.
 #![tactic(auto)]
 
+mod drivable;
 mod drive;
 mod generate;
 mod replay;
+mod tree_drive;
 
 pub use drive::{drive_outcome, run_drive};
 pub use generate::{generate_outcome, run_generate};
 pub use replay::{replay_outcome, run_replay};
+pub use tree_drive::{run_tree_drive, tree_drive_outcome};

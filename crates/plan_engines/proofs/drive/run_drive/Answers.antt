@@ -1,8 +1,9 @@
 use Rattle.history_text.specs.Limits.{text_limit}
+use Rattle.drives.specs.Drives.{IsDriveOf}
 use Rattle.outcomes.specs.Ends.{change}
 use Rattle.outcomes.proofs.ReadText.{IsReadOutcome-read}
 use Rattle.plan_engines.specs.Drives.{IsDriveAnswer, IsDriveRefusal}
-use Rattle.plan_engines.proofs.WholePlans.{IsDriveAnswer-whole, IsDriveRefusal-whole}
+use Rattle.plan_engines.proofs.WholePlans.{IsDrivenAnswer-whole, IsDriveRefusal-whole}
 use Rattle.plan_engines.proofs.drive.run_drive.Goals as goal
 
 pub returns-in-Ok : goal.returns-in-Ok
@@ -11,7 +12,7 @@ returns-in-Ok g c =
     record {
       outcome = c.drive_outcome-outcome.result;
       comes = IsReadOutcome-read IsDriveAnswer IsDriveRefusal text_limit
-          IsDriveAnswer-whole IsDriveRefusal-whole source c.deref.result.now c.drive_outcome-outcome.result
+          (IsDrivenAnswer-whole IsDriveOf) IsDriveRefusal-whole source c.deref.result.now c.drive_outcome-outcome.result
           (rw c.deref.ensures.value c.in-Ok.ensures.text) c.in-Ok.ensures.sound c.drive_outcome-outcome.ensures;
       leaves = c.write_outcome.ensures;
     }

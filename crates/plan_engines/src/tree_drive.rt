@@ -1,0 +1,73 @@
+// `bench drive` on a tree: the history of a plan that is done there.
+ghost use Rattle.std.specs.Prelude.{◌<◌, Some};
+ghost use Rattle.art_rows.specs.Table.{IsWithinLimits};
+ghost use Rattle.outcomes.specs.Ends.{change};
+ghost use Rattle.outcomes.specs.Outcomes.{IsTextOutcome};
+ghost use Rattle.outcomes.specs.Runs.{IsRun};
+ghost use Rattle.plan_engines.specs.Drives.{IsTreeDriveAnswer, IsDriveRefusal};
+ghost use Rattle.plan_engines.specs.Outcomes.{IsTreeDriveOutcome};
+
+use crate::drivable::{drivable_plan, history_outcome};
+use arena_drives::drive_arena;
+use art::{Shape, Variant};
+use history_text::MAX_TEXT;
+use outcomes::{Outcome, text_from, write_outcome};
+use pool::Gate;
+use std::alloc::Global;
+use std::thread::Threads;
+use streams::{Sink, Source};
+
+/// Reads a plan text to the end of the source, or until it is too long, does each script of the plan on one tree of the shape
+/// and the variant, in a thread of its own that enters the gate first, with at most `limit` steps of each call, and writes the
+/// text of the history. Answers the exit status.
+pub fn run_tree_drive<R: Threads + Sync, S: Source, O: Sink, F: Sink, G: Gate + Sync>(
+    rt: &R,
+    alloc: Global,
+    source: &mut S,
+    output: &mut O,
+    faults: &mut F,
+    shape: Shape,
+    variant: Variant,
+    limit: u32,
+    gate: &G,
+) -> u8
+    requires source { S.failures source.old < u64.MAX }
+    requires output { O.failures output.old < u64.MAX }
+    requires faults { F.failures faults.old < u64.MAX }
+    requires shape { IsWithinLimits shape }
+    ensures { IsRun
+        (IsTreeDriveOutcome shape variant limit (change S.remaining S.failures source.old source.new))
+        (change O.written O.failures output.old output.new)
+        (change F.written F.failures faults.old faults.new) result }
+{
+    match text_from(alloc, source, MAX_TEXT) {
+        Ok(text) => {
+            let outcome = tree_drive_outcome(rt, alloc, &text, shape, variant, limit, gate);
+            write_outcome(output, faults, &outcome)
+        }
+        Err(outcome) => write_outcome(output, faults, &outcome),
+    }
+}
+
+/// The text of the history of what happens while the plan that the text spells is done on the tree, or why there is none.
+pub fn tree_drive_outcome<R: Threads + Sync, G: Gate + Sync>(
+    rt: &R,
+    alloc: Global,
+    text: &[u8],
+    shape: Shape,
+    variant: Variant,
+    limit: u32,
+    gate: &G,
+) -> Outcome
+    requires { IsWithinLimits shape }
+    ensures { IsTextOutcome (IsTreeDriveAnswer shape variant limit) IsDriveRefusal (Some text.now) result }
+{
+    let plan = match drivable_plan(alloc, text) {
+        Ok(plan) => plan,
+        Err(outcome) => return outcome,
+    };
+    match drive_arena(rt, alloc, &plan, shape, variant, limit, gate) {
+        Ok(history) => history_outcome(alloc, &history),
+        Err(_) => Outcome::Memory,
+    }
+}
