@@ -2,6 +2,7 @@ mod RowLemmas
 mod StopLemmas
 mod SubcommandLemmas
 mod PlainLemmas
+mod PlaceLemmas
 mod TableLemmas
 mod RequestLemmas
 mod StepLemmas

@@ -1,4 +1,4 @@
--- `check`, `drive`, `judge`, `locate` and `draw` are uses of the program's table, and ask for their lines.
+-- `check`, `judge`, `locate`, `draw` and `drive` are uses of the program's table, and ask for their lines.
 use Rattle.std.proofs.Common.{◌≡◌, ◌∙◌, ◌++◌, ℕ, refl, sym, ap, ap₂, inl, inr, arith, List, [], ◌∷◌, Option, Some, None, codes, false, true≢false}
 use Rattle.std.specs.Option.{option_map_or}
 use Rattle.std.specs.Prelude.{IfSome}
@@ -12,8 +12,7 @@ use Rattle.command_line.specs.Lines.{option_words as words_of}
 use Rattle.command_line.specs.Numbers.{IsNumberWithin, number_of}
 use Rattle.command_line.specs.Program.{bench_table, check_usage, draw_usage, drive_usage, judge_usage, locate_usage, search_usage}
 use Rattle.command_line.specs.Requests.{IsReadFrom}
-use Rattle.command_line.specs.Tables.{Flag, Usage, usage_named}
-use Rattle.command_line.specs.Trees.{without_tree}
+use Rattle.command_line.specs.Tables.{Flag, Usage, usage_named, within}
 use Rattle.command_line.specs.Words.{AreOptionsOf, Given, Gives, IsUse, option_words, value_given}
 use Rattle.command_line.specs.declared.line.Line.{Line}
 use Rattle.command_line.specs.declared.line.Line.TheVariants.{Check, Draw, Drive, Judge, Locate}
@@ -43,25 +42,35 @@ checks calls other gives = absurd (other_name _ _ gives.name refl)
 
 -- ---- drive
 
--- the words without the tree
-bare_drive : (words : List Text) (is : IsDrive words) → without_tree words ≡ is.0 ∷ codes "drive" ∷ []
-bare_drive words (name, inl is) = ap without_tree is
-bare_drive words (name, inr is) = ap without_tree is
+-- the tree that the words name
+pub drive_given : (words : List Text) → IsDrive words → List Given
+drive_given words (name, inl is) = []
+drive_given words (name, inr is) = (codes "tree", codes "locked") ∷ []
 
-pub drive_use : (words : List Text) → IsDrive words → IsUse bench_table (without_tree words) drive_usage [] []
-drive_use words is = record {
-  program = is.0;
-  words_are = bare_drive words is;
+pub drive_use : (words : List Text) (is : IsDrive words) → IsUse bench_table words drive_usage (drive_given words is) []
+unfolding drive_given
+drive_use words (name, inl is) = record {
+  program = name;
+  words_are = is;
   named = refl;
   options = tt;
   required = refl;
   numbers = λ k d lt. absurd (omega arith);
   no_calls = λ _. refl;
 }
+drive_use words (name, inr is) = record {
+  program = name;
+  words_are = is;
+  named = refl;
+  options = (refl, refl, tt);
+  required = refl;
+  numbers = λ k d lt. absurd (omega arith);
+  no_calls = λ _. refl;
+}
 
-pub drives : (line : Line) → Gives drive_usage [] [] (asked_by line) → line ≡ Drive Locked
-drives (Drive Locked) gives = refl
-drives other gives = absurd (other_name _ _ gives.name refl)
+pub drives : (given : List Given) (line : Line) → Gives drive_usage given [] (asked_by line) → line ≡ Drive Locked
+drives given (Drive Locked) gives = refl
+drives given other gives = absurd (other_name _ _ gives.name refl)
 
 -- ---- judge, locate and draw
 
@@ -71,10 +80,10 @@ given_as name value = option_map_or (λ text. (name, text) ∷ []) value []
 
 -- the two options
 abbrev budget_flag : Flag
-budget_flag = record { name = codes "budget"; least = 1; greatest = budget_limit; default = Some budget_default }
+budget_flag = record { name = codes "budget"; values = within 1 budget_limit; default = Some budget_default }
 
 abbrev workers_flag : Flag
-workers_flag = record { name = codes "workers"; least = 1; greatest = workers_limit; default = Some workers_default }
+workers_flag = record { name = codes "workers"; values = within 1 workers_limit; default = Some workers_default }
 
 -- the options in either order
 abbrev budget_first : Option Text → Option Text → List Given
@@ -169,9 +178,10 @@ search_gets subcommand is_named words budget workers is = elim is.in_an_order [
 ]
 
 -- the number that is read is that of the value, or the default
-read_number : (f : Flag) (value : Option Text) (default n : ℕ) → f.default ≡ Some default → IsReadFrom f value n → n ≡ option_map_or number_of value default
-read_number f None default n is read = same_Some n default (sym read ∙ is)
-read_number f (Some text) default n is read = read.2
+read_number : (name : Text) (greatest : ℕ) (value : Option Text) (default n : ℕ)
+    → IsReadFrom (record { name = name; values = within 1 greatest; default = Some default }) value n → n ≡ option_map_or number_of value default
+read_number name greatest None default n read = same_Some n default (sym read)
+read_number name greatest (Some text) default n read = read.2
 
 -- so are the two of a search
 record AreRead (budget workers : Option Text) (x y : ℕ) : Type 0 where
@@ -182,8 +192,8 @@ numbers_read : (given : List Given) (budget workers : Option Text) (x y : ℕ) �
     → value_given given (codes "workers") ≡ workers → IsReadFrom budget_flag (value_given given (codes "budget")) x
     → IsReadFrom workers_flag (value_given given (codes "workers")) y → AreRead budget workers x y
 numbers_read given budget workers x y b w read_budget read_workers = record {
-  budget_is = read_number budget_flag _ DEFAULT_BUDGET x refl read_budget ∙ ap (λ (o : Option Text). option_map_or number_of o DEFAULT_BUDGET) b;
-  workers_is = read_number workers_flag _ DEFAULT_WORKERS y refl read_workers ∙ ap (λ (o : Option Text). option_map_or number_of o DEFAULT_WORKERS) w;
+  budget_is = read_number (codes "budget") budget_limit _ DEFAULT_BUDGET x read_budget ∙ ap (λ (o : Option Text). option_map_or number_of o DEFAULT_BUDGET) b;
+  workers_is = read_number (codes "workers") workers_limit _ DEFAULT_WORKERS y read_workers ∙ ap (λ (o : Option Text). option_map_or number_of o DEFAULT_WORKERS) w;
 }
 
 -- a use of `judge`, for each of these words

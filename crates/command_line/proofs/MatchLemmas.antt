@@ -1,13 +1,12 @@
--- What the matches of a subcommand that asks for something hold: its name, and the values of its
--- arguments.
-use Rattle.std.proofs.Common.{◌≡◌, ◌∙◌, ℕ, refl, sym, ap, ap₂, subst, true, List, [], ◌∷◌, Option, Some, None, codes, is_some}
-use Rattle.std.specs.Option.{option_map}
+-- What the matches of a subcommand that is met hold: its name, and the values of its arguments.
+use Rattle.std.proofs.Common.{◌≡◌, ◌∙◌, ◌&&◌, ℕ, Bool, refl, sym, ap, ap₂, subst, true, List, [], ◌∷◌, Option, Some, None, codes, is_some}
+use Rattle.std.specs.Option.{option_map, option_map_or}
 use Rattle.std.proofs.lemmas.Option.{same_Some}
 use Rattle.clap.specs.Words.{Row, Text, first_of, first_value, rows_of, subcommand_name_of, subcommand_rows_of}
 use Rattle.clap.specs.declared.parser.matches.ArgMatches.{ArgMatches}
 use Rattle.clap.specs.declared.parser.matches.Found.{Found}
 use Rattle.clap.proofs.WalkLemmas.{first_value-rows}
-use Rattle.command_line.specs.Requests.{AreCallsOf, AreNumbersOf, Asked, Asks, IsNumberOf, values_of}
+use Rattle.command_line.specs.Requests.{AreCallsOf, AreNumbersOf, IsNumberOf, Meets, are_named, has_named, is_named, values_of}
 use Rattle.command_line.specs.Tables.{Flag, Usage, usage_named}
 
 -- ---- the subcommand
@@ -28,44 +27,48 @@ pub is_met : (m : ArgMatches) (name : Text) (rows : List Row) → Some name ≡ 
     → subcommand_rows_of m ≡ Some (name, rows)
 is_met m name rows first second = by_parts (subcommand_rows_of m) name rows (first ∙ part_of _ _) second
 
--- one that asks for something is met
-pub some_met : (m : ArgMatches) (table : List Usage) (asked : Asked) → Asks table (subcommand_rows_of m) asked → is_some (subcommand_name_of m) ≡ true
-some_met m table asked asks = ap is_some (part_of _ _ ∙ ap (option_map (λ (p : Text × List Row). p.0)) asks.subcommand)
+-- where a subcommand is met there is one
+pub some_met : (m : ArgMatches) (table : List Usage) → Meets table (subcommand_rows_of m) → is_some (subcommand_name_of m) ≡ true
+some_met m table meets = ap is_some (part_of _ _ ∙ ap (option_map (λ (p : Text × List Row). p.0)) meets.subcommand)
 
--- what is asked for, by the name and the rows that were met
-module _ (table : List Usage) (met : Option (Text × List Row)) (asked : Asked) (asks : Asks table met asked) (name : Text) (rows : List Row)
+-- by the name and the rows that were met
+module _ (table : List Usage) (met : Option (Text × List Row)) (meets : Meets table met) (name : Text) (rows : List Row)
     (is : met ≡ Some (name, rows)) where
-  both_are : ◌≡◌ {A = Text × List Row} (asked.name, asks.rows) (name, rows)
-  both_are = same_Some _ _ (sym asks.subcommand ∙ is)
+  both_are : ◌≡◌ {A = Text × List Row} (meets.name, meets.rows) (name, rows)
+  both_are = same_Some _ _ (sym meets.subcommand ∙ is)
 
-  name_is : asked.name ≡ name
-  name_is = ap (λ (p : Text × List Row). p.0) both_are
-
-  rows_are : asks.rows ≡ rows
+  rows_are : meets.rows ≡ rows
   rows_are = ap (λ (p : Text × List Row). p.1) both_are
 
-  named : usage_named name table ≡ Some asks.usage
-  named = ap (λ (n : Text). usage_named n table) (sym name_is) ∙ asks.named
+  named : usage_named name table ≡ Some meets.usage
+  named = ap (λ (n : Text). usage_named n table) (sym (ap (λ (p : Text × List Row). p.0) both_are)) ∙ meets.named
 
   -- the name is that of a row
   pub some_named : is_some (usage_named name table) ≡ true
   some_named = ap is_some named
 
   module _ (u : Usage) (found : usage_named name table ≡ Some u) where
-    usage_is : asks.usage ≡ u
+    usage_is : meets.usage ≡ u
     usage_is = same_Some _ _ (sym named ∙ found)
 
-    -- its options have numbers
-    pub numbers_met : AreNumbersOf u.flags (λ n. first_of n rows) asked.numbers
+    -- its values are words where those of its options are
+    pub names_met : has_named table met ≡ are_named u.flags (λ n. first_of n rows)
+    names_met =
+        ap (has_named table) is
+        ∙ ap (λ (o : Option Usage). option_map_or (λ v. are_named v.flags (λ n. first_of n rows)) o true) found
+
+    -- then its options have numbers
+    pub numbers_met : are_named u.flags (λ n. first_of n rows) ≡ true → (ns : List ℕ) × AreNumbersOf u.flags (λ n. first_of n rows) ns
     numbers_met =
-        subst (λ (v : Usage). AreNumbersOf v.flags (λ n. first_of n rows) asked.numbers) usage_is
-        (subst (λ (rs : List Row). AreNumbersOf asks.usage.flags (λ n. first_of n rs) asked.numbers) rows_are asks.numbers)
+        subst (λ (v : Usage). are_named v.flags (λ n. first_of n rows) ≡ true → (ns : List ℕ) × AreNumbersOf v.flags (λ n. first_of n rows) ns) usage_is
+        (subst (λ (rs : List Row). are_named meets.usage.flags (λ n. first_of n rs) ≡ true
+        → (ns : List ℕ) × AreNumbersOf meets.usage.flags (λ n. first_of n rs) ns) rows_are meets.numbers)
 
     -- and so have its calls
-    pub calls_met : AreCallsOf u.takes_calls (values_of (codes "CALL") rows) asked.calls
+    pub calls_met : (ns : List ℕ) × AreCallsOf u.takes_calls (values_of (codes "CALL") rows) ns
     calls_met =
-        subst (λ (v : Usage). AreCallsOf v.takes_calls (values_of (codes "CALL") rows) asked.calls) usage_is
-        (subst (λ (rs : List Row). AreCallsOf asks.usage.takes_calls (values_of (codes "CALL") rs) asked.calls) rows_are asks.calls)
+        subst (λ (v : Usage). (ns : List ℕ) × AreCallsOf v.takes_calls (values_of (codes "CALL") rows) ns) usage_is
+        (subst (λ (rs : List Row). (ns : List ℕ) × AreCallsOf meets.usage.takes_calls (values_of (codes "CALL") rs) ns) rows_are meets.calls)
 
 -- ---- the numbers of options
 
@@ -80,3 +83,8 @@ same_numbers (f ∷ fs) v w (n ∷ ns) same are =
 -- the values that a getter gives are those of the rows
 pub value_in_rows : (f : Found) (id : Text) → first_value f id ≡ first_of id (rows_of f)
 value_in_rows f id = first_value-rows f id
+
+-- the same values are words alike
+pub same_named : (fs : List Flag) (v w : Text → Option Text) → ((n : Text) → v n ≡ w n) → are_named fs v ≡ are_named fs w
+same_named [] v w same = refl
+same_named (f ∷ fs) v w same = ap₂ (λ (x y : Bool). x && y) (ap (is_named f.values) (same f.name)) (same_named fs v w same)

@@ -7,6 +7,7 @@ use Rattle.std.proofs.lemmas.Slice.Eq.{bytes_eq-Decides}
 use Rattle.clap.specs.Faults.{settle_fault, turn_fault, walk_fault}
 use Rattle.clap.specs.Simple.{Shape}
 use Rattle.clap.specs.ValueTests.{accepts}
+use Rattle.clap.specs.Values.{reading_of}
 use Rattle.clap.specs.Walk.{Held, Row, Text, Walk, arg_by_id, arg_by_long, at_row, has_row, is_pending, more_values, nothing_held, option, settled, walk_from}
 use Rattle.clap.specs.Walk.{walked, with_values, without}
 use Rattle.clap.specs.declared.builder.value_parser.Reading.TheVariants.{AsWritten}
@@ -14,11 +15,11 @@ use Rattle.clap.specs.declared.builder.value_parser.ValueParser.TheVariants.{Uns
 use Rattle.clap.specs.declared.parser.matches.ValueSource.TheVariants.{CommandLine}
 use Rattle.clap.proofs.FaultLemmas.{past}
 use Rattle.clap.proofs.ValueTestLemmas.{Accepts-accepts}
+use Rattle.command_line.specs.Commands.{parser_for}
 use Rattle.command_line.specs.Limits.{u64_limit}
-use Rattle.command_line.specs.Numbers.{IsNumberFrom}
-use Rattle.command_line.specs.Tables.{Flag, Usage, are_flags, flag_named}
-use Rattle.command_line.specs.Words.{AreOptionsOf, Given, IsValueOf, has_option, option_words}
-use Rattle.command_line.proofs.PlainLemmas.{IsPlain, spelled_is_plain}
+use Rattle.command_line.specs.Tables.{Choice, Flag, Usage, among, are_flags, flag_named, is_choice, within}
+use Rattle.command_line.specs.Words.{AreOptionsOf, Given, IsValue, IsValueOf, has_option, option_words}
+use Rattle.command_line.proofs.PlainLemmas.{IsPlain, value_is_plain}
 use Rattle.command_line.proofs.TableLemmas.{IsFlagWord, IsFound, both, built_calls, built_flag, built_usage, by_id, by_long, flag_word, found_flag, not_either}
 use Rattle.command_line.proofs.TableLemmas.{same_swapped}
 
@@ -55,6 +56,18 @@ has_row_more id (x ∷ xs) r none other =
 
 -- ---- one option
 
+-- a value that an option takes passes its parser
+value_passes : (choice : Choice) (text : Text) → is_choice choice ≡ true → IsValue choice text → accepts false (parser_for choice) text ≡ true
+value_passes (within least greatest) text sound value =
+    let fits = leb-true greatest u64_limit sound in
+    Accepts-accepts false (Unsigned least greatest) text (value.0, omega arith, value.1, value.2)
+value_passes (among words) text sound value = refl
+
+-- and is kept as it was written
+read_as_written : (choice : Choice) → reading_of (parser_for choice) ≡ AsWritten
+read_as_written (within least greatest) = refl
+read_as_written (among words) = refl
+
 -- the row of an option that is given
 abbrev pub row_given : Given → Row
 row_given g = row_with g.0 (g.1 ∷ [])
@@ -80,7 +93,7 @@ module _ (u : Usage) (all : are_flags u.flags ≡ true) where
   pub record IsOption (name text : Text) : Type 0 where
     pub flag : Flag
     pub found : flag_named name u.flags ≡ Some flag
-    pub value : IsNumberFrom flag.least flag.greatest text
+    pub value : IsValue flag.values text
 
   pub is_option : (name text : Text) → IsValueOf (flag_named name u.flags) text → IsOption name text
   is_option name text value = go (flag_named name u.flags) refl value
@@ -103,12 +116,10 @@ module _ (u : Usage) (all : are_flags u.flags ≡ true) where
     word = subst IsFlagWord found.name_is (flag_word is.flag.name found.is_flag.filled found.is_flag.no_equals)
 
     plain : IsPlain text
-    plain = spelled_is_plain text is.value.0
+    plain = value_is_plain is.flag.values text (both _ _ found.is_flag.limits).0 is.value
 
-    passes : accepts false (Unsigned is.flag.least is.flag.greatest) text ≡ true
-    passes =
-        let fits = leb-true is.flag.greatest u64_limit (both _ _ found.is_flag.limits).0 in
-        Accepts-accepts false (Unsigned is.flag.least is.flag.greatest) text (is.value.0, omega arith, is.value.1, is.value.2)
+    passes : accepts false (parser_for is.flag.values) text ≡ true
+    passes = value_passes is.flag.values text (both _ _ found.is_flag.limits).0 is.value
 
     -- the walk takes the flag
     flag_walked : (h : Held) → walked shape.rules [] (walk_from h) (45 ∷ 45 ∷ name) ≡ between name h
@@ -157,7 +168,8 @@ module _ (u : Usage) (all : are_flags u.flags ≡ true) where
           let by = flag_id in
           let same = found.name_is in
           let out = without_none name (settled shape.rules h).rows new in
-          rw (by, same, out) (new_row name (text ∷ []) (settled shape.rules h).rows new)
+          let reading = read_as_written is.flag.values in
+          rw (by, same, out, reading) (new_row name (text ∷ []) (settled shape.rules h).rows new)
 
       -- and is used without a fault
       taken_settles : Settles (taken name text h)

@@ -7,12 +7,12 @@ use Rattle.clap.specs.declared.error.Error.{Error}
 use Rattle.clap.specs.declared.error.kind.ErrorKind.TheVariants.{OutOfMemory}
 use Rattle.clap.specs.declared.parser.matches.ArgMatches.{ArgMatches}
 use Rattle.command_line.specs.Commands.{table_app}
-use Rattle.command_line.specs.Requests.{Asked, Asks, AsksSome}
+use Rattle.command_line.specs.Requests.{Asked, Asks, Meets, has_named}
 use Rattle.command_line.specs.Tables.{Usage, is_table}
 use Rattle.command_line.specs.Words.{Given, Gives, IsUse}
-use Rattle.command_line.proofs.RequestLemmas.{asks_some}
+use Rattle.command_line.proofs.RequestLemmas.{meets_some}
 use Rattle.command_line.proofs.TableLemmas.{free_table, simple_table}
-use Rattle.command_line.proofs.UseLemmas.{use_accepted, use_gives}
+use Rattle.command_line.proofs.UseLemmas.{use_accepted, use_gives, use_named}
 
 -- the command of a table is one of which `clap` says the matches
 table_simple : (name : Text) (table : List Usage) → is_table table ≡ true → is_simple (table_app name table) ≡ true
@@ -24,11 +24,11 @@ table_free : (name : Text) (table : List Usage) → is_table table ≡ true → 
 table_free name [] all = cc
 table_free name (u ∷ us) all = free_table name u us
 
--- words of which no step of reading fails ask for something
-pub table_asks : (name : Text) (table : List Usage) (words : List Text) → is_table table ≡ true → fault_of (table_app name table) words ≡ []
-    → AsksSome table (subcommand_of (table_app name table) words)
-table_asks name [] words all none = cc
-table_asks name (u ∷ us) words all none = asks_some name u us words all none
+-- words of which no step of reading fails meet a subcommand
+pub table_meets : (name : Text) (table : List Usage) (words : List Text) → is_table table ≡ true → fault_of (table_app name table) words ≡ []
+    → Meets table (subcommand_of (table_app name table) words)
+table_meets name [] words all none = cc
+table_meets name (u ∷ us) words all none = meets_some name u us words all none
 
 -- the use of a subcommand is accepted
 pub table_accepts : (name : Text) (table : List Usage) (words : List Text) (u : Usage) (given : List Given) (calls : List Text) → is_table table ≡ true
@@ -36,7 +36,13 @@ pub table_accepts : (name : Text) (table : List Usage) (words : List Text) (u : 
 table_accepts name [] words u given calls all is fits = cc
 table_accepts name (v ∷ vs) words u given calls all is fits = use_accepted name v vs all words u given calls is fits
 
--- and gives its numbers
+-- its values are words where they have to be
+pub table_names : (name : Text) (table : List Usage) (words : List Text) (u : Usage) (given : List Given) (calls : List Text) → is_table table ≡ true
+    → IsUse table words u given calls → length words ≤ usize_max → has_named table (subcommand_of (table_app name table) words) ≡ true
+table_names name [] words u given calls all is fits = cc
+table_names name (v ∷ vs) words u given calls all is fits = use_named name v vs all words u given calls is fits
+
+-- and it gives its numbers
 pub table_gives : (name : Text) (table : List Usage) (words : List Text) (u : Usage) (given : List Given) (calls : List Text) (asked : Asked)
     → is_table table ≡ true
     → IsUse table words u given calls → length words ≤ usize_max → Asks table (subcommand_of (table_app name table) words) asked → Gives u given calls asked

@@ -1,4 +1,4 @@
--- Words of which no step of reading fails ask for something.
+-- Words of which no step of reading fails meet a subcommand.
 use Rattle.std.proofs.Common.{◌≡◌, ◌∙◌, ◌++◌, ◌&&◌, ◌≤◌, Bool, ℕ, zero, suc, true, false, cond, not, refl, sym, ap, subst, arith, map, List, [], ◌∷◌, Option}
 use Rattle.std.proofs.Common.{Some, None, is_some, codes}
 use Rattle.std.specs.List.{All, find, list_any}
@@ -19,11 +19,11 @@ use Rattle.clap.specs.Walk.{Row, Rule, Text, arg_by_id, first_of, nothing_held, 
 use Rattle.clap.specs.declared.builder.value_parser.ValueParser.{ValueParser}
 use Rattle.clap.specs.declared.builder.value_parser.ValueParser.TheVariants.{Unsigned}
 use Rattle.clap.proofs.ValueTestLemmas.{accepts-Accepts}
-use Rattle.command_line.specs.Commands.{table_app}
-use Rattle.command_line.specs.Limits.{u64_limit}
+use Rattle.command_line.specs.Commands.{parser_for, table_app}
 use Rattle.command_line.specs.Numbers.{IsNumber, number_of}
-use Rattle.command_line.specs.Requests.{AreCallsOf, AreNumbersOf, AsksSome, IsNumberOf, values_of}
-use Rattle.command_line.specs.Tables.{Flag, Usage, are_flags, are_usages, has_limits, usage_named}
+use Rattle.command_line.specs.Requests.{AreCallsOf, AreNumbersOf, IsNumberOf, Meets, StandsFor, are_named, is_named, values_of}
+use Rattle.command_line.specs.Tables.{Choice, Flag, Usage, among, are_flags, are_usages, greatest_of, has_limits, is_choice, least_of, usage_named, within}
+use Rattle.command_line.proofs.PlaceLemmas.{place_among}
 use Rattle.command_line.proofs.RowLemmas.{AllOwn, HasValues, IsOwn, RowPasses, RowsPass, level_passes, neither}
 use Rattle.command_line.proofs.StopLemmas.{enters}
 use Rattle.command_line.proofs.TableLemmas.{both, built_calls, built_flag, built_is, built_rules, built_table, built_tail, built_usage, flag_parts, found_usage}
@@ -64,28 +64,38 @@ values_pass c a (r ∷ rs) own all = go (bytes_eq r.id a.id) refl (values_pass c
 -- ---- the number of an option
 
 -- a least and a greatest number, as tests
-within : (least greatest n : ℕ) → (nat_le least n && nat_le n greatest) ≡ true → (least ≤ n) × (n ≤ greatest)
-within least greatest n passes =
+within_both : (least greatest n : ℕ) → (nat_le least n && nat_le n greatest) ≡ true → (least ≤ n) × (n ≤ greatest)
+within_both least greatest n passes =
     let parts = both (nat_le least n) (nat_le n greatest) passes in
     (leb-true _ _ parts.0, leb-true _ _ parts.1)
 
 -- the default is within the limits
-default_within : (f : Flag) (n : ℕ) → has_limits f ≡ true → f.default ≡ Some n → (f.least ≤ n) × (n ≤ f.greatest)
+default_within : (f : Flag) (n : ℕ) → has_limits f ≡ true → f.default ≡ Some n → (least_of f.values ≤ n) × (n ≤ greatest_of f.values)
 default_within f n limits is =
-    let parts = both (nat_le f.greatest u64_limit) _ limits in
-    let passes : (nat_le f.least n && nat_le n f.greatest) ≡ true = rw is at parts.1 in
-    within f.least f.greatest n passes
+    let parts = both (is_choice f.values) _ limits in
+    let passes : (nat_le (least_of f.values) n && nat_le n (greatest_of f.values)) ≡ true = rw is at parts.1 in
+    within_both (least_of f.values) (greatest_of f.values) n passes
 
--- a value that passes the parser is within them
-value_within : (f : Flag) (text : Text) → value_kinds false (Unsigned f.least f.greatest) text ≡ [] → IsNumberOf f (Some text) (number_of text)
-value_within f text none = go (accepts false (Unsigned f.least f.greatest) text) refl none
+-- a number for which a value stands, within the limits
+record HasNumber (choice : Choice) (text : Text) : Type 0 where
+  number : ℕ
+  stands : StandsFor choice text number
+  least : least_of choice ≤ number
+  greatest : number ≤ greatest_of choice
+
+-- a value that passes the parser has one, if it is one of the words where it has to be
+value_within : (choice : Choice) (text : Text) → is_named choice (Some text) ≡ true → value_kinds false (parser_for choice) text ≡ [] → HasNumber choice text
+value_within (within least greatest) text named none = go (accepts false (Unsigned least greatest) text) refl none
   where
-    go : (b : Bool) → accepts false (Unsigned f.least f.greatest) text ≡ b → cond b [] (refused_kind (Unsigned f.least f.greatest) ∷ []) ≡ []
-        → IsNumberOf f (Some text) (number_of text)
+    go : (b : Bool) → accepts false (Unsigned least greatest) text ≡ b → cond b [] (refused_kind (Unsigned least greatest) ∷ []) ≡ []
+        → HasNumber (within least greatest) text
     go true passed none =
-        let read = accepts-Accepts false (Unsigned f.least f.greatest) text passed in
-        record { read = (read.0, read.1, refl); least = read.2; greatest = read.3 }
+        let read = accepts-Accepts false (Unsigned least greatest) text passed in
+        record { number = number_of text; stands = (read.0, read.1, refl); least = read.2; greatest = read.3 }
     go false passed none = cc
+value_within (among words) text named none =
+    let has = place_among text words named in
+    record { number = has.place; stands = has.is; least = omega arith; greatest = has.inside }
 
 -- a row that is found passes
 found_row : (c : List Rule) (rows : List Row) (p : Row → Bool) (r : Row) → RowsPass c rows → find p rows ≡ Some r → RowPasses c r × (p r ≡ true)
@@ -100,15 +110,18 @@ found_row c (x ∷ xs) p r all found = go (p x) refl found (found_row c xs p r a
 abbrev pub is_missing : List Row → Rule → Bool
 is_missing rows a = a.required && not (is_given a.id rows)
 
--- the first of values that pass is a number of the option
-first_number : (f : Flag) (values : List Text) → HasValues (built_flag f) values → (n : ℕ) × IsNumberOf f (slice_get values 0) n
-first_number f [] has = absurd (has.some refl)
-first_number f (v ∷ vs) has = (number_of v, value_within f v (neither (value_kinds false (Unsigned f.least f.greatest) v) _ has.pass).0)
+-- the first of values that pass stands for a number of the option
+first_number : (f : Flag) (values : List Text) → HasValues (built_flag f) values → is_named f.values (slice_get values 0) ≡ true
+    → (n : ℕ) × IsNumberOf f (slice_get values 0) n
+first_number f [] has named = absurd (has.some refl)
+first_number f (v ∷ vs) has named =
+    let number = value_within f.values v named (neither (value_kinds false (parser_for f.values) v) _ has.pass).0 in
+    (number.number, record { read = number.stands; least = number.least; greatest = number.greatest })
 
--- where all rows pass, an option that is not missing has a number
+-- where all rows pass, an option that is not missing has a number, if its value is one of its words
 flag_read : (c : List Rule) (f : Flag) (rows : List Row) → IsOwn c (built_flag f) → RowsPass c rows → has_limits f ≡ true
-    → is_missing rows (built_flag f) ≡ false → (n : ℕ) × IsNumberOf f (first_of f.name rows) n
-flag_read c f rows own all limits there = go (find (λ (r : Row). bytes_eq r.id f.name) rows) refl there
+    → is_missing rows (built_flag f) ≡ false → is_named f.values (first_of f.name rows) ≡ true → (n : ℕ) × IsNumberOf f (first_of f.name rows) n
+flag_read c f rows own all limits there named = go (find (λ (r : Row). bytes_eq r.id f.name) rows) refl there named
   where
     default : (d : Option ℕ) → f.default ≡ d → (not (is_some d) && true) ≡ false → (n : ℕ) × IsNumberOf f None n
     default None is there = cc
@@ -118,23 +131,26 @@ flag_read c f rows own all limits there = go (find (λ (r : Row). bytes_eq r.id 
 
     go : (o : Option Row) → find (λ (r : Row). bytes_eq r.id f.name) rows ≡ o
         → (not (is_some f.default) && not (option_map_or (λ (r : Row). explicit_source r.source) o false)) ≡ false
+        → is_named f.values (option_and_then (λ (r : Row). slice_get r.values 0) o) ≡ true
         → (n : ℕ) × IsNumberOf f (option_and_then (λ (r : Row). slice_get r.values 0) o) n
-    go None is there = default f.default refl there
-    go (Some r) is there =
+    go None is there named = default f.default refl there
+    go (Some r) is there named =
         let found = found_row c rows (λ (x : Row). bytes_eq x.id f.name) r all is in
         let own_r : arg_by_id c r.id ≡ Some (built_flag f) =
         subst (λ (w : Text). arg_by_id c w ≡ Some (built_flag f)) (sym ((bytes_eq-Decides r.id f.name).0 found.1)) own in
-        first_number f r.values (found.0 (built_flag f) own_r)
+        first_number f r.values (found.0 (built_flag f) own_r) named
 
 -- and so has each option
 flags_read : (c tail : List Rule) (fs : List Flag) (rows : List Row) → AllOwn c (map built_flag fs ++ tail) → RowsPass c rows → are_flags fs ≡ true
-    → list_any (is_missing rows) (map built_flag fs ++ tail) ≡ false → (ns : List ℕ) × AreNumbersOf fs (λ name. first_of name rows) ns
-flags_read c tail [] rows own all flags there = ([], tt)
-flags_read c tail (f ∷ fs) rows own all flags there =
+    → list_any (is_missing rows) (map built_flag fs ++ tail) ≡ false → are_named fs (λ name. first_of name rows) ≡ true
+    → (ns : List ℕ) × AreNumbersOf fs (λ name. first_of name rows) ns
+flags_read c tail [] rows own all flags there named = ([], tt)
+flags_read c tail (f ∷ fs) rows own all flags there named =
     let parts = flag_parts f fs flags in
     let missing = not_either (is_missing rows (built_flag f)) _ there in
-    let n = flag_read c f rows own.0 all parts.0.limits missing.0 in
-    let ns = flags_read c tail fs rows own.1 all parts.1 missing.1 in
+    let names = both (is_named f.values (first_of f.name rows)) _ named in
+    let n = flag_read c f rows own.0 all parts.0.limits missing.0 names.0 in
+    let ns = flags_read c tail fs rows own.1 all parts.1 missing.1 names.1 in
     (n.0 ∷ ns.0, (n.1, ns.1))
 
 -- ---- the numbers of calls
@@ -174,44 +190,42 @@ none_missing u words none =
     let default = neither (defaults_fault (settled s.rules end).rows s.rules) _ settle.1 in
     third_check false false _ default.1
 
--- where no step of its level fails, a subcommand asks for something
-usage_asks : (table : List Usage) (met : Option (Text × List Row)) (name : Text) (u : Usage) (words : List Text) → are_usages table ≡ true
+-- where no step of its level fails, a subcommand is met
+usage_met : (table : List Usage) (met : Option (Text × List Row)) (name : Text) (u : Usage) (words : List Text) → are_usages table ≡ true
     → usage_named name table ≡ Some u → met ≡ Some (rows_at (built_usage u) words)
-    → level_fault (built_usage u) [] nothing_held words false [] ≡ [] → AsksSome table met
-usage_asks table met name u words all named met_is none =
+    → level_fault (built_usage u) [] nothing_held words false [] ≡ [] → Meets table met
+usage_met table met name u words all named met_is none =
     let flags_are = (found_usage table name u all named).0 in
     let own = rules_own u.flags u.takes_calls flags_are in
     let rows : List Row = rows_after (built_usage u).rules [] words in
     let passes = level_passes (built_usage u) own [] words false [] none in
-    let numbers = flags_read (built_usage u).rules (built_tail u.takes_calls) u.flags rows own passes flags_are (none_missing u words none) in
-    let calls = calls_read u.flags u.takes_calls rows flags_are passes in (
-      record { name = name; numbers = numbers.0; calls = calls.0 },
-      record {
-        usage = u;
-        rows = rows;
-        named = named;
-        subcommand = met_is ∙ ap (λ (n : Text). Some (n, rows)) (named_so table name u named);
-        numbers = numbers.1;
-        calls = calls.1;
-      },
-    )
+    record {
+      usage = u;
+      rows = rows;
+      name = name;
+      named = named;
+      subcommand = met_is ∙ ap (λ (n : Text). Some (n, rows)) (named_so table name u named);
+      numbers = λ words_are.
+          flags_read (built_usage u).rules (built_tail u.takes_calls) u.flags rows own passes flags_are (none_missing u words none) words_are;
+      calls = calls_read u.flags u.takes_calls rows flags_are passes;
+    }
 
 -- so does a command of which no step fails
-built_asks : (program : Text) (table : List Usage) (words : List Text) → are_usages table ≡ true
+built_meets : (program : Text) (table : List Usage) (words : List Text) → are_usages table ≡ true
     → built_fault (built_table program table) nothing_held words ≡ []
-    → AsksSome table (entered (built_table program table) (stop_after (built_table program table).top.rules (names_of (built_table program table)) words))
-built_asks program table words all none =
+    → Meets table (entered (built_table program table) (stop_after (built_table program table).top.rules (names_of (built_table program table)) words))
+built_meets program table words all none =
     let e = enters (built_table program table) words refl none in
     let is = usage_found program table e.name e.shape e.found e.not_help in
     let met = entered (built_table program table) (stop_after (built_table program table).top.rules (names_of (built_table program table)) words) in
-    usage_asks table met e.name is.0 e.rest all is.1
+    usage_met table met e.name is.0 e.rest all is.1
     (e.entered_is ∙ ap (λ (s : Shape). Some (rows_at s e.rest)) is.2)
     (subst (λ (s : Shape). level_fault s [] nothing_held e.rest false [] ≡ []) is.2 e.passes)
 
--- the words ask for something, where no step of reading them fails
-pub asks_some : (program : Text) (u : Usage) (us : List Usage) (words : List Text) → are_usages (u ∷ us) ≡ true
-    → fault_of (table_app program (u ∷ us)) words ≡ [] → AsksSome (u ∷ us) (subcommand_of (table_app program (u ∷ us)) words)
-asks_some program u us words all none =
+-- the words meet a subcommand, where no step of reading them fails
+pub meets_some : (program : Text) (u : Usage) (us : List Usage) (words : List Text) → are_usages (u ∷ us) ≡ true
+    → fault_of (table_app program (u ∷ us)) words ≡ [] → Meets (u ∷ us) (subcommand_of (table_app program (u ∷ us)) words)
+meets_some program u us words all none =
     let rest : List Text = argument_words (table_app program (u ∷ us)) words in
-    let reads : App → Type 0 = λ a. built_fault a nothing_held rest ≡ [] → AsksSome (u ∷ us) (entered a (stop_after a.top.rules (names_of a) rest)) in
-    subst reads (sym (built_is program u us)) (built_asks program (u ∷ us) rest all) none
+    let reads : App → Type 0 = λ a. built_fault a nothing_held rest ≡ [] → Meets (u ∷ us) (entered a (stop_after a.top.rules (names_of a) rest)) in
+    subst reads (sym (built_is program u us)) (built_meets program (u ∷ us) rest all) none

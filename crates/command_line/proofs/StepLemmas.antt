@@ -4,21 +4,21 @@ use Rattle.std.specs.List.{slice_index_or}
 use Rattle.std.proofs.lemmas.List.{map-append, map_more}
 use Rattle.clap.specs.Simple.{with_rule, with_subcommand}
 use Rattle.clap.specs.Words.{Text}
-use Rattle.command_line.specs.Commands.{leaf, number_rule, rules_for, table_app}
+use Rattle.command_line.specs.Commands.{leaf, option_rule, rules_for, table_app}
 use Rattle.command_line.specs.Requests.{AreNumbersOf, IsNumberOf}
 use Rattle.command_line.specs.Tables.{Flag, Usage, flag_of, has_none, usage_of}
-use Rattle.command_line.specs.declared.table.NumberOption.{NumberOption}
+use Rattle.command_line.specs.declared.table.ValueOption.{ValueOption}
 use Rattle.command_line.specs.declared.table.Subcommand.{Subcommand}
 
 -- ---- the command
 
 -- one more option
-pub one_rule : (name : Text) (xs : List NumberOption) (i : ℕ) (d : NumberOption) → i < length xs
-    → with_rule (leaf name (map number_rule (map flag_of (take i xs)))) (number_rule (flag_of (slice_index_or xs i d)))
-    ≡ leaf name (map number_rule (map flag_of (take (i + 1) xs)))
+pub one_rule : (name : Text) (xs : List ValueOption) (i : ℕ) (d : ValueOption) → i < length xs
+    → with_rule (leaf name (map option_rule (map flag_of (take i xs)))) (option_rule (flag_of (slice_index_or xs i d)))
+    ≡ leaf name (map option_rule (map flag_of (take (i + 1) xs)))
 one_rule name xs i d lt =
     let more = map_more flag_of xs i d lt in
-    ap (leaf name) (sym (ap (map number_rule) more ∙ map-append number_rule (map flag_of (take i xs)) (flag_of (slice_index_or xs i d) ∷ [])))
+    ap (leaf name) (sym (ap (map option_rule) more ∙ map-append option_rule (map flag_of (take i xs)) (flag_of (slice_index_or xs i d) ∷ [])))
 
 -- a table with one more row has some
 some_more : (us : List Usage) (u : Usage) → has_none (us ++ u ∷ []) ≡ false
@@ -48,7 +48,7 @@ more_numbers (g ∷ gs) value [] f n are is = absurd are
 more_numbers (g ∷ gs) value (m ∷ ms) f n are is = (are.0, more_numbers gs value ms f n are.1 is)
 
 -- an option has a number, where each has
-pub number_at : (xs : List NumberOption) (value : Text → Option Text) (ns : List ℕ) (i : ℕ) (d : NumberOption) → i < length xs
+pub number_at : (xs : List ValueOption) (value : Text → Option Text) (ns : List ℕ) (i : ℕ) (d : ValueOption) → i < length xs
     → AreNumbersOf (map flag_of xs) value ns → (n : ℕ) × IsNumberOf (flag_of (slice_index_or xs i d)) (value (slice_index_or xs i d).name.now) n
 number_at [] value ns i d lt are = absurd (omega arith)
 number_at (x ∷ xs) value [] i d lt are = absurd are
@@ -56,7 +56,7 @@ number_at (x ∷ xs) value (n ∷ ns) zero d lt are = (n, are.0)
 number_at (x ∷ xs) value (n ∷ ns) (suc i) d lt are = number_at xs value ns i d (omega arith) are.1
 
 -- the numbers of one more option
-pub one_number : (xs : List NumberOption) (value : Text → Option Text) (ns : List ℕ) (i : ℕ) (d : NumberOption) (n : ℕ) → i < length xs
+pub one_number : (xs : List ValueOption) (value : Text → Option Text) (ns : List ℕ) (i : ℕ) (d : ValueOption) (n : ℕ) → i < length xs
     → AreNumbersOf (map flag_of (take i xs)) value ns → IsNumberOf (flag_of (slice_index_or xs i d)) (value (slice_index_or xs i d).name.now) n
     → AreNumbersOf (map flag_of (take (i + 1) xs)) value (ns ++ n ∷ [])
 one_number xs value ns i d n lt are is =

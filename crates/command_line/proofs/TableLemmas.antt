@@ -12,7 +12,7 @@ use Rattle.clap.specs.Simple.{App, Shape, built, built_leaf, filled, filled_from
 use Rattle.clap.specs.Simple.{is_simple_leaf, label_of, new_shape, with_index}
 use Rattle.clap.specs.Lexer.{has_byte, long_of}
 use Rattle.clap.specs.Walk.{Rule, Text, answers_to, arg_by_id, arg_by_index, arg_by_long, is_early_multiple, is_empty, subcommand_met, idle}
-use Rattle.command_line.specs.Commands.{calls_rule, calls_rules, leaf, number_rule, rules_for, table_app}
+use Rattle.command_line.specs.Commands.{calls_rule, calls_rules, leaf, option_rule, rules_for, table_app}
 use Rattle.command_line.specs.Tables.{Flag, Usage, are_flags, are_usages, flag_named, has_limits, is_flag_name, usage_named}
 use Rattle.command_line.proofs.RowLemmas.{AllOwn, IsOwn}
 use Rattle.command_line.proofs.StopLemmas.{is_help}
@@ -22,7 +22,7 @@ use Rattle.command_line.proofs.SubcommandLemmas.{NamesSubcommand}
 
 -- an option that is built
 abbrev pub built_flag : Flag → Rule
-built_flag f = with_index 1 (filled (number_rule f))
+built_flag f = with_index 1 (filled (option_rule f))
 
 -- the numbers of calls
 abbrev pub built_calls : Rule
@@ -37,7 +37,7 @@ abbrev pub built_rules : List Flag → Bool → List Rule
 built_rules flags takes_calls = map built_flag flags ++ built_tail takes_calls
 
 rules_are : (flags : List Flag) (takes_calls : Bool)
-    → filled_from 1 ((map number_rule flags ++ calls_rules takes_calls) ++ help_rule ∷ []) ≡ built_rules flags takes_calls
+    → filled_from 1 ((map option_rule flags ++ calls_rules takes_calls) ++ help_rule ∷ []) ≡ built_rules flags takes_calls
 rules_are [] takes_calls = refl
 rules_are (f ∷ fs) takes_calls = ap (λ rules. built_flag f ∷ rules) (rules_are fs takes_calls)
 
@@ -83,7 +83,7 @@ built_is name u us = ap (λ (subs : List Shape). record { top = built_top name; 
 -- ---- the command is one of which `clap` says the matches and the faults
 
 -- the rules of a subcommand are simple, free and in order
-rules_simple : (flags : List Flag) (takes_calls : Bool) → list_all (λ (a : Rule). a.is_simple) (map number_rule flags ++ calls_rules takes_calls) ≡ true
+rules_simple : (flags : List Flag) (takes_calls : Bool) → list_all (λ (a : Rule). a.is_simple) (map option_rule flags ++ calls_rules takes_calls) ≡ true
 rules_simple [] true = refl
 rules_simple [] false = refl
 rules_simple (f ∷ fs) takes_calls = rules_simple fs takes_calls

@@ -6,6 +6,7 @@ use Rattle.std.specs.Option.{option_and_then, option_map, option_map_or}
 use Rattle.std.specs.Prelude.{slice_get}
 use Rattle.std.specs.Str.{bytes_eq}
 use Rattle.std.proofs.lemmas.Option.{same_Some}
+use Rattle.std.proofs.lemmas.Slice.Eq.{bytes_eq-Decides}
 use Rattle.clap.specs.Facts.{explicit_source}
 use Rattle.clap.specs.Faults.{built_fault, check_fault, default_fault, defaults_fault, fault_of, given_default_fault, level_fault, turn_fault, walk_fault}
 use Rattle.clap.specs.Kinds.{Kinds, values_kinds}
@@ -18,9 +19,9 @@ use Rattle.clap.proofs.FaultLemmas.{past}
 use Rattle.clap.proofs.ValueTestLemmas.{Accepts-accepts}
 use Rattle.command_line.specs.Commands.{table_app}
 use Rattle.command_line.specs.Numbers.{IsNumber, number_of}
-use Rattle.command_line.specs.Requests.{AreCallsOf, AreNumbersOf, Asked, Asks, IsNumberOf, values_of}
-use Rattle.command_line.specs.Tables.{Flag, Usage, are_flags, are_usages, flag_named, usage_named}
-use Rattle.command_line.specs.Words.{AreOptionsOf, Given, Gives, IsUse, IsValueOf, has_option, has_required, option_words, value_given}
+use Rattle.command_line.specs.Requests.{AreCallsOf, AreNumbersOf, Asked, Asks, IsNumberOf, are_named, has_named, is_named, values_of}
+use Rattle.command_line.specs.Tables.{Choice, Flag, Usage, among, are_flags, are_usages, flag_named, usage_named, within}
+use Rattle.command_line.specs.Words.{AreOptionsOf, Given, Gives, IsUse, IsValue, IsValueOf, has_option, has_required, option_words, value_given}
 use Rattle.command_line.proofs.OptionLemmas.{Goes, Settles, new_row, options_go, row_given, row_with, taken_all}
 use Rattle.command_line.proofs.PlainLemmas.{IsPlain, spelled_is_plain}
 use Rattle.command_line.proofs.RequestLemmas.{is_missing, number_parser}
@@ -127,6 +128,61 @@ numbers_given (f ∷ fs) given calls (n ∷ ns) flags are =
     let parts = flag_parts f fs flags in
     let other : bytes_eq (codes "CALL") f.name ≡ false = same_swapped (codes "CALL") f.name ∙ parts.0.not_calls in
     (subst (λ (o : Option Text). IsNumberOf f o n) (value_is given calls f.name other) are.0, numbers_given fs given calls ns parts.1 are.1)
+
+-- ---- values that are words of their options
+
+-- each of these options is the first of its name
+abbrev FlagsOwn : List Flag → List Flag → Type 0
+FlagsOwn flags [] = Unit {0}
+FlagsOwn flags (f ∷ fs) = (flag_named f.name flags ≡ Some f) × FlagsOwn flags fs
+
+own_after_another : (g : Flag) (flags fs : List Flag) → list_any (λ (f : Flag). bytes_eq g.name f.name) fs ≡ false → FlagsOwn flags fs
+    → FlagsOwn (g ∷ flags) fs
+own_after_another g flags [] other own = tt
+own_after_another g flags (f ∷ fs) other own =
+    let parts = not_either (bytes_eq g.name f.name) _ other in
+    let first = parts.0 in
+    (rw first own.0, own_after_another g flags fs parts.1 own.1)
+
+flags_own : (flags : List Flag) → are_flags flags ≡ true → FlagsOwn flags flags
+flags_own [] all = tt
+flags_own (f ∷ fs) all =
+    let parts = flag_parts f fs all in
+    let mine : bytes_eq f.name f.name ≡ true = (bytes_eq-Decides f.name f.name).1 refl in
+    (rw mine refl, own_after_another f fs fs parts.0.other (flags_own fs parts.1))
+
+-- no value is none but a word
+none_named : (choice : Choice) → is_named choice None ≡ true
+none_named (within least greatest) = refl
+none_named (among words) = refl
+
+-- and a value that the option takes is a word where it has to be
+value_named : (choice : Choice) (text : Text) → IsValue choice text → is_named choice (Some text) ≡ true
+value_named (within least greatest) text value = refl
+value_named (among words) text value = value
+
+-- so is the one that is given
+given_named : (flags : List Flag) (f : Flag) (given : List Given) → flag_named f.name flags ≡ Some f → AreOptionsOf flags given
+    → is_named f.values (value_given given f.name) ≡ true
+given_named flags f [] own options = none_named f.values
+given_named flags f (g ∷ gs) own options = go (bytes_eq g.0 f.name) refl (given_named flags f gs own options.2)
+  where
+    go : (b : Bool) → bytes_eq g.0 f.name ≡ b → is_named f.values (value_given gs f.name) ≡ true
+        → is_named f.values (option_map (λ (x : Given). x.1) (cond b (Some g) (find (λ (x : Given). bytes_eq x.0 f.name) gs))) ≡ true
+    go true here later =
+        let value = subst (λ (n : Text). IsValueOf (flag_named n flags) g.1) ((bytes_eq-Decides g.0 f.name).0 here) options.0 in
+        value_named f.values g.1 (subst (λ (o : Option Flag). IsValueOf o g.1) own value)
+    go false here later = later
+
+all_named : (flags fs : List Flag) (given : List Given) (calls : List Text) → FlagsOwn flags fs → are_flags fs ≡ true → AreOptionsOf flags given
+    → are_named fs (λ name. first_of name (use_rows given calls)) ≡ true
+all_named flags [] given calls own all options = refl
+all_named flags (f ∷ fs) given calls own all options =
+    let parts = flag_parts f fs all in
+    let other : bytes_eq (codes "CALL") f.name ≡ false = same_swapped (codes "CALL") f.name ∙ parts.0.not_calls in
+    let here : is_named f.values (first_of f.name (use_rows given calls)) ≡ true =
+    ap (is_named f.values) (value_is given calls f.name other) ∙ given_named flags f given own.0 options in
+    rw here (all_named flags fs given calls own.1 parts.1 options)
 
 -- the values of CALL are the calls
 calls_are : (given : List Given) (calls : List Text) → has_row (codes "CALL") (map row_given given) ≡ false
@@ -401,6 +457,13 @@ module _ (program : Text) (first : Usage) (others : List Usage) (all : are_usage
       ∙ ap (λ (a : App). entered a (walk a.top.rules (names_of a) nothing_held (u.name ∷ rest)).stopped) (built_is program first others)
       ∙ name_enters (built_table program table) u.name (built_usage u) named rest
       ∙ ap (λ (rows : List Row). Some (u.name, rows)) level.rows_are
+
+  -- its values are words where they have to be
+  pub use_named : has_named table (subcommand_of (table_app program table) words) ≡ true
+  use_named =
+      ap (has_named table) met
+      ∙ ap (λ (o : Option Usage). option_map_or (λ v. are_named v.flags (λ name. first_of name (use_rows given calls))) o true) is.named
+      ∙ all_named u.flags u.flags given calls (flags_own u.flags flags_are) flags_are is.options
 
   -- so what they ask for is what they give
   pub use_gives : (asked : Asked) → Asks table (subcommand_of (table_app program table) words) asked → Gives u given calls asked

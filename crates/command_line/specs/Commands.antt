@@ -3,8 +3,9 @@ use Rattle.std.specs.Prelude.{Bool, true, not, if◌then◌else◌, is_some, Som
 use Rattle.clap.specs.Words.{App, Rule, Text, new_rule}
 use Rattle.clap.specs.Simple.{new_shape}
 use Rattle.clap.specs.Lexer.{usize_max}
-use Rattle.clap.specs.declared.builder.value_parser.ValueParser.TheVariants.{Unsigned}
-use Rattle.command_line.specs.Tables.{Flag, Usage, has_none}
+use Rattle.clap.specs.declared.builder.value_parser.ValueParser.{ValueParser}
+use Rattle.clap.specs.declared.builder.value_parser.ValueParser.TheVariants.{String, Unsigned}
+use Rattle.command_line.specs.Tables.{Choice, Flag, Usage, among, has_none, within}
 
 -- `[CALL]..`: any number of values, each a number that a `u32` holds
 abbrev pub calls_rule : Rule
@@ -13,12 +14,17 @@ calls_rule = record (new_rule (codes "CALL")) {
   parser = Some (Unsigned 0 4294967295);
 }
 
--- `--NAME N`: a number within its limits, which has to be there where it has no default
-abbrev pub number_rule : Flag → Rule
-number_rule f = record (new_rule f.name) {
+-- what `clap` checks of a value: a number within its limits, or any text
+abbrev pub parser_for : Choice → ValueParser
+parser_for (within least greatest) = Unsigned least greatest
+parser_for (among words) = String
+
+-- `--NAME VALUE`, which has to be there where it has no default
+abbrev pub option_rule : Flag → Rule
+option_rule f = record (new_rule f.name) {
   long = Some f.name;
   value_names = 1;
-  parser = Some (Unsigned f.least f.greatest);
+  parser = Some (parser_for f.values);
   required = not (is_some f.default);
 }
 
@@ -27,7 +33,7 @@ abbrev pub calls_rules : Bool → List Rule
 calls_rules takes_calls = if takes_calls then calls_rule ∷ [] else []
 
 abbrev pub rules_for : Usage → List Rule
-rules_for u = map number_rule u.flags ++ calls_rules u.takes_calls
+rules_for u = map option_rule u.flags ++ calls_rules u.takes_calls
 
 -- a subcommand with these arguments
 abbrev pub leaf : Text → List Rule → App

@@ -7,4 +7,3 @@ pub mod Words
 pub mod Program
 pub mod Lines
 pub mod LineFaults
-pub mod Trees

@@ -1,5 +1,5 @@
 -- What the words of a command line ask for.
-use Rattle.std.specs.Prelude.{◌≡◌, ◌≤◌, ◌⊎◌, ⊤, List, [], ◌∷◌, ◌++◌, Option, map, codes}
+use Rattle.std.specs.Prelude.{ℕ, ◌≡◌, ◌≤◌, ◌⊎◌, ⊤, List, [], ◌∷◌, ◌++◌, Option, map, codes}
 use Rattle.std.specs.Prelude.{IfSome}
 use Rattle.std.specs.List.{All}
 use Rattle.std.specs.Option.{option_map_or}
@@ -8,9 +8,14 @@ use Rattle.command_line.specs.Limits.{budget_limit, workers_limit}
 use Rattle.command_line.specs.Numbers.{IsNumber, IsNumberWithin, number_of}
 use Rattle.command_line.specs.Program.{bench_app, bench_table}
 use Rattle.command_line.specs.Requests.{Asked, Asks}
-use Rattle.command_line.specs.Trees.{without_tree}
 use Rattle.command_line.specs.declared.line.Line.{Line}
 use Rattle.command_line.specs.declared.line.Line.TheVariants.{Check, Judge, Locate, Draw, Generate, Replay, Drive}
+use Rattle.command_line.specs.declared.line.Tree.{Tree}
+use Rattle.command_line.specs.declared.line.Tree.TheVariants.{Locked}
+
+-- the place of a tree among those that the words may name
+abbrev pub place_of : Tree → ℕ
+place_of Locked = 0
 
 -- the subcommand of a line, the numbers of its options in the order of the table, and its calls
 abbrev pub asked_by : Line → Asked
@@ -27,11 +32,11 @@ asked_by (Generate seed processes calls get insert remove scan lo hi) = record {
   calls = [];
 }
 asked_by Replay = record { name = codes "replay"; numbers = []; calls = [] }
-asked_by (Drive tree) = record { name = codes "drive"; numbers = []; calls = [] }
+asked_by (Drive tree) = record { name = codes "drive"; numbers = place_of tree ∷ []; calls = [] }
 
 -- the words ask for this line, the program's name first
 abbrev pub IsLineOf : List Text → Line → Type 0
-IsLineOf words line = Asks bench_table (subcommand_of bench_app (without_tree words)) (asked_by line)
+IsLineOf words line = Asks bench_table (subcommand_of bench_app words) (asked_by line)
 
 -- each number of the line is within its limits; those of `generate` have none but their types
 abbrev pub IsWithinLimits : Line → Type 0
@@ -82,6 +87,6 @@ IsLocate words budget workers = IsSearch (codes "locate") words budget workers
 abbrev pub IsDraw : List Text → Option Text → Option Text → Type 0
 IsDraw words budget workers = IsSearch (codes "draw") words budget workers
 
--- the words are a name and `drive`, with the only tree or with none
+-- the words are a name and `drive`, with the tree or with none
 abbrev pub IsDrive : List Text → Type 0
 IsDrive words = (name : Text) × ((words ≡ name ∷ codes "drive" ∷ []) ⊎ (words ≡ name ∷ codes "drive" ∷ codes "--tree" ∷ codes "locked" ∷ []))

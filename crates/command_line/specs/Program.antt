@@ -3,7 +3,7 @@ use Rattle.std.specs.Prelude.{ℕ, List, [], ◌∷◌, Some, None, codes, true,
 use Rattle.clap.specs.Words.{App, Text}
 use Rattle.command_line.specs.Commands.{table_app}
 use Rattle.command_line.specs.Limits.{budget_default, budget_limit, u32_limit, u64_limit, workers_default, workers_limit}
-use Rattle.command_line.specs.Tables.{Flag, Usage}
+use Rattle.command_line.specs.Tables.{Flag, Usage, among, within}
 
 -- `check [CALL]..`
 abbrev pub check_usage : Usage
@@ -15,14 +15,12 @@ search_usage name = record {
   name = name;
   flags = record {
     name = codes "budget";
-    least = 1;
-    greatest = budget_limit;
+    values = within 1 budget_limit;
     default = Some budget_default;
   }
       ∷ record {
         name = codes "workers";
-        least = 1;
-        greatest = workers_limit;
+        values = within 1 workers_limit;
         default = Some workers_default;
       }
       ∷ [];
@@ -43,12 +41,7 @@ draw_usage = search_usage (codes "draw")
 
 -- `--NAME N`, which may not be left out, with any number up to the greatest
 abbrev pub required_flag : Text → ℕ → Flag
-required_flag name greatest = record {
-  name = name;
-  least = 0;
-  greatest = greatest;
-  default = None;
-}
+required_flag name greatest = record { name = name; values = within 0 greatest; default = None }
 
 -- `generate --seed N --processes N --calls N --get N --insert N --remove N --scan N --lo N --hi N`
 abbrev pub generate_usage : Usage
@@ -66,9 +59,18 @@ generate_usage = record {
 abbrev pub replay_usage : Usage
 replay_usage = record { name = codes "replay"; flags = []; takes_calls = false }
 
--- `drive`, to which the words add the only tree, or nothing
+-- `drive [--tree NAME]`
 abbrev pub drive_usage : Usage
-drive_usage = record { name = codes "drive"; flags = []; takes_calls = false }
+drive_usage = record {
+  name = codes "drive";
+  flags = record {
+    name = codes "tree";
+    values = among (codes "locked" ∷ []);
+    default = Some 0;
+  }
+      ∷ [];
+  takes_calls = false;
+}
 
 -- the subcommands of the program
 abbrev pub bench_table : List Usage

@@ -1,10 +1,12 @@
 -- What the matches of a command ask for, by its table.
 use Rattle.std.specs.Prelude.{◌≡◌, ◌<◌, ◌≤◌, ◌^◌, suc, length, slice_index, ⊤, ℕ, Bool, true, false, List, [], ◌∷◌, Option, Some, None, map, codes, unwrap_or}
-use Rattle.std.specs.List.{All}
+use Rattle.std.specs.Prelude.{position}
+use Rattle.std.specs.List.{All, list_all}
+use Rattle.std.specs.Option.{option_map_or}
 use Rattle.std.specs.Str.{bytes_eq}
 use Rattle.clap.specs.Words.{Row, Text, all_of, first_of}
 use Rattle.command_line.specs.Numbers.{IsNumber, IsSpelled, number_of}
-use Rattle.command_line.specs.Tables.{Flag, Usage, usage_named}
+use Rattle.command_line.specs.Tables.{Choice, Flag, Usage, among, greatest_of, is_among, least_of, usage_named, within}
 use Rattle.command_line.specs.declared.request.Request.{Request}
 
 -- a subcommand, the numbers of its options in the order of the table, and the numbers of its calls
@@ -16,16 +18,23 @@ pub record Asked : Type 0 where
 abbrev pub asked_of : Request → Asked
 asked_of r = record { name = r.name.now; numbers = r.numbers.items; calls = r.calls.items }
 
--- the number is the one that the value spells, or the default where there is no value
+-- the text stands for the number: it spells the number, or is the word at this place, the first that
+-- is this text
+abbrev pub StandsFor : Choice → Text → ℕ → Type 0
+StandsFor (within least greatest) text n =
+    IsSpelled text × (number_of text < 2 ^ 64) × (n ≡ number_of text)
+StandsFor (among words) text n = position (λ word. bytes_eq word text) words ≡ Some n
+
+-- the number is the one that the value stands for, or the default where there is no value
 abbrev pub IsReadFrom : Flag → Option Text → ℕ → Type 0
 IsReadFrom f None n = f.default ≡ Some n
-IsReadFrom f (Some text) n = IsSpelled text × (number_of text < 2 ^ 64) × (n ≡ number_of text)
+IsReadFrom f (Some text) n = StandsFor f.values text n
 
 -- and is within the limits of the option
 pub record IsNumberOf (f : Flag) (value : Option Text) (n : ℕ) : Type 0 where
   pub read : IsReadFrom f value n
-  pub least : f.least ≤ n
-  pub greatest : n ≤ f.greatest
+  pub least : least_of f.values ≤ n
+  pub greatest : n ≤ greatest_of f.values
 
 -- so it is of the number of each option, where each has its value
 abbrev pub AreNumbersOf : List Flag → (Text → Option Text) → List ℕ → Type 0
@@ -52,9 +61,32 @@ pub record Asks (table : List Usage) (met : Option (Text × List Row)) (asked : 
   pub numbers : AreNumbersOf usage.flags (λ name. first_of name rows) asked.numbers
   pub calls : AreCallsOf usage.takes_calls (values_of (codes "CALL") rows) asked.calls
 
--- the subcommand that was met asks for something
-abbrev pub AsksSome : List Usage → Option (Text × List Row) → Type 0
-AsksSome table met = (asked : Asked) × Asks table met asked
+-- ---- values that `clap` does not check
+
+-- the value is one of the words of its option, where that takes some words
+abbrev pub is_named : Choice → Option Text → Bool
+is_named (within least greatest) value = true
+is_named (among words) value = option_map_or (λ text. is_among text words) value true
+
+-- so it is of each option
+abbrev pub are_named : List Flag → (Text → Option Text) → Bool
+are_named flags value = list_all (λ f. is_named f.values (value f.name)) flags
+
+-- and of the options of the subcommand that was met
+abbrev pub has_named : List Usage → Option (Text × List Row) → Bool
+has_named table met = option_map_or (λ m. option_map_or (λ u.
+    are_named u.flags (λ name. first_of name m.1)) (usage_named m.0 table) true) met true
+
+-- a subcommand was met, and asks for something where its values are words of their options
+pub record Meets (table : List Usage) (met : Option (Text × List Row)) : Type 0 where
+  pub usage : Usage
+  pub rows : List Row
+  pub name : Text
+  pub named : usage_named name table ≡ Some usage
+  pub subcommand : met ≡ Some (name, rows)
+  pub numbers : are_named usage.flags (λ name. first_of name rows) ≡ true
+      → (ns : List ℕ) × AreNumbersOf usage.flags (λ name. first_of name rows) ns
+  pub calls : (ns : List ℕ) × AreCallsOf usage.takes_calls (values_of (codes "CALL") rows) ns
 
 -- ---- what a request of a table may be
 
@@ -66,8 +98,8 @@ numbers_from i (f ∷ fs) ns = slice_index ns i ∷ numbers_from (suc i) fs ns
 -- each is there, and within the limits of its option
 abbrev pub AreWithinFrom : ℕ → List Flag → List ℕ → Type 0
 AreWithinFrom i [] ns = ⊤
-AreWithinFrom i (f ∷ fs) ns = (i < length ns) × (f.least ≤ slice_index ns i)
-    × (slice_index ns i ≤ f.greatest) × AreWithinFrom (suc i) fs ns
+AreWithinFrom i (f ∷ fs) ns = (i < length ns) × (least_of f.values ≤ slice_index ns i)
+    × (slice_index ns i ≤ greatest_of f.values) × AreWithinFrom (suc i) fs ns
 
 -- there is a number within its limits for each option and no other, and there are calls only where
 -- the subcommand takes them

@@ -1,22 +1,42 @@
--- Tables of subcommands: the name of each, its options with their ranges and defaults, and whether it
+-- Tables of subcommands: the name of each, its options with their values and defaults, and whether it
 -- takes the numbers of calls.
-use Rattle.std.specs.Prelude.{ℕ, Bool, true, false, not, ◌&&◌, nat_le, List, [], ◌∷◌, Option, map, codes, find}
-use Rattle.std.specs.List.{list_any}
+use Rattle.std.specs.Prelude.{◌-◌, ◌==◌, ℕ, Bool, true, false, not, ◌&&◌, nat_le, length, List, [], ◌∷◌, Option, map, codes, find}
+use Rattle.std.specs.List.{list_all, list_any}
 use Rattle.std.specs.Option.{option_map_or}
 use Rattle.std.specs.Str.{bytes_eq}
 use Rattle.clap.specs.Lexer.{has_byte}
-use Rattle.clap.specs.Walk.{is_empty}
+use Rattle.clap.specs.Walk.{is_empty, texts}
 use Rattle.clap.specs.Words.{Text}
 use Rattle.command_line.specs.Limits.{u64_limit}
-use Rattle.command_line.specs.declared.table.NumberOption.{NumberOption}
 use Rattle.command_line.specs.declared.table.Subcommand.{Subcommand}
+use Rattle.command_line.specs.declared.table.ValueOption.{ValueOption}
+use Rattle.command_line.specs.declared.table.Values.{Values}
+use Rattle.command_line.specs.declared.table.Values.TheVariants.{Within, Among}
 
--- an option `--NAME N`: a number from the least to the greatest, with what is read where it is left
--- out; one with no default may not be left out
+-- what the value of an option may be, and the number that it stands for: a number from the least to
+-- the greatest, or one of some words, which stands for its place among them
+pub data Choice : Type 0 where
+  within : ℕ → ℕ → Choice
+  among : List Text → Choice
+
+-- the least and the greatest number that a value may stand for
+abbrev pub least_of : Choice → ℕ
+least_of (within least greatest) = least
+least_of (among words) = 0
+
+abbrev pub greatest_of : Choice → ℕ
+greatest_of (within least greatest) = greatest
+greatest_of (among words) = length words - 1
+
+-- the text is one of the words
+abbrev pub is_among : Text → List Text → Bool
+is_among text words = list_any (λ word. bytes_eq word text) words
+
+-- an option `--NAME VALUE`, with the number that is read where it is left out; one with no default may
+-- not be left out
 pub record Flag : Type 0 where
   pub name : Text
-  pub least : ℕ
-  pub greatest : ℕ
+  pub values : Choice
   pub default : Option ℕ
 
 -- a subcommand: its name, its options, and whether it takes `[CALL]..` after them
@@ -26,13 +46,12 @@ pub record Usage : Type 0 where
   pub takes_calls : Bool
 
 -- the same as the program's code writes them, without the texts of help
-abbrev pub flag_of : NumberOption → Flag
-flag_of o = record {
-  name = o.name.now;
-  least = o.least;
-  greatest = o.greatest;
-  default = o.default;
-}
+abbrev pub choice_of : Values → Choice
+choice_of (Within least greatest) = within least greatest
+choice_of (Among words) = among (texts words.now)
+
+abbrev pub flag_of : ValueOption → Flag
+flag_of o = record { name = o.name.now; values = choice_of o.values; default = o.default }
 
 abbrev pub usage_of : Subcommand → Usage
 usage_of s = record {
@@ -57,10 +76,21 @@ is_flag_name name others = not (is_empty name) && not (has_byte 61 name)
     && not (bytes_eq name (codes "help")) && not (bytes_eq name (codes "CALL"))
     && not (list_any (λ f. bytes_eq name f.name) others)
 
--- a `u64` holds the numbers of the option, and the default is one of them
+-- the word begins with no hyphen, and so is no flag
+abbrev pub is_no_flag : Text → Bool
+is_no_flag [] = true
+is_no_flag (x ∷ xs) = not (x == 45)
+
+-- a `u64` holds the numbers, or there is a word, and none that may be taken for a flag
+abbrev pub is_choice : Choice → Bool
+is_choice (within least greatest) = nat_le greatest u64_limit
+is_choice (among words) = not (is_empty words) && list_all is_no_flag words
+
+-- so it is of the option's values, and the default is within their limits
 abbrev pub has_limits : Flag → Bool
-has_limits f = nat_le f.greatest u64_limit
-    && option_map_or (λ n. nat_le f.least n && nat_le n f.greatest) f.default true
+has_limits f = is_choice f.values
+    && option_map_or (λ n. nat_le (least_of f.values) n && nat_le n (greatest_of f.values)) f.default
+    true
 
 -- so it is of each option
 abbrev pub are_flags : List Flag → Bool

@@ -5,7 +5,7 @@ use Rattle.std.specs.Str.{bytes_eq}
 use Rattle.clap.specs.Words.{Text}
 use Rattle.command_line.specs.Numbers.{IsNumber, IsNumberFrom, number_of}
 use Rattle.command_line.specs.Requests.{Asked, AreNumbersOf}
-use Rattle.command_line.specs.Tables.{Flag, Usage, flag_named, usage_named}
+use Rattle.command_line.specs.Tables.{Choice, Flag, Usage, among, flag_named, is_among, usage_named, within}
 
 -- an option's name, and the text of its value
 abbrev pub Given : Type 0
@@ -24,12 +24,17 @@ has_option name given = list_any (λ g. bytes_eq g.0 name) given
 abbrev pub value_given : List Given → Text → Option Text
 value_given given name = option_map (λ g. g.1) (find (λ g. bytes_eq g.0 name) given)
 
--- the text spells a number within the limits of the option
+-- the text spells a number within the limits, or is one of the words
+abbrev pub IsValue : Choice → Text → Type 0
+IsValue (within least greatest) text = IsNumberFrom least greatest text
+IsValue (among words) text = is_among text words ≡ true
+
+-- so it does by the values of the option
 abbrev pub IsValueOf : Option Flag → Text → Type 0
 IsValueOf None text = ⊥
-IsValueOf (Some f) text = IsNumberFrom f.least f.greatest text
+IsValueOf (Some f) text = IsValue f.values text
 
--- each is an option of the subcommand, is given once, and has a number within its limits
+-- each is an option of the subcommand, is given once, and has a value that the option takes
 abbrev pub AreOptionsOf : List Flag → List Given → Type 0
 AreOptionsOf flags [] = ⊤
 AreOptionsOf flags (g ∷ gs) =

@@ -1,10 +1,10 @@
 ghost use Rattle.std.specs.Prelude.{◌≡◌, IfOk, false, map};
 ghost use Rattle.clap.specs.Words.{app_of, rule_of};
 ghost use Rattle.clap.specs.declared.builder.command.Command.TheViews.{out-Command};
-ghost use Rattle.command_line.specs.Commands.{calls_rule, leaf, number_rule, rules_for, table_app};
-ghost use Rattle.command_line.specs.Tables.{flag_of, usage_of};
+ghost use Rattle.command_line.specs.Commands.{calls_rule, leaf, option_rule, parser_for, rules_for, table_app};
+ghost use Rattle.command_line.specs.Tables.{flag_of, usage_of, choice_of};
 
-use crate::table::{NumberOption, Subcommand};
+use crate::table::{Subcommand, ValueOption, Values};
 use clap::builder::ValueParser;
 use clap::{Arg, Command};
 use std::alloc::{AllocError, Global};
@@ -49,27 +49,46 @@ fn with_options<'a>(
     subcommand: &'a Subcommand<'a>,
 ) -> Result<Command<'a>, AllocError>
     ensures shape { IfOk result (λ c. app_of c ≡ leaf subcommand.entry.now.name.now
-        (map number_rule (map flag_of subcommand.entry.now.options.now))) }
+        (map option_rule (map flag_of subcommand.entry.now.options.now))) }
     ensures local { IfOk result (λ c. (out-Command c).has_globals ≡ false) }
 {
     let mut command = Command::new(alloc, subcommand.name).about(subcommand.about);
     for option in subcommand.options {
-        command = command.arg(number_argument(alloc, option))?;
+        command = command.arg(option_argument(alloc, option))?;
     }
     Ok(command)
 }
 
-// `--NAME N`
-fn number_argument<'a>(alloc: Global, option: &'a NumberOption<'a>) -> Arg<'a>
-    ensures rule { rule_of result ≡ number_rule (flag_of option.entry.now) }
+// `--NAME VALUE`
+fn option_argument<'a>(alloc: Global, option: &'a ValueOption<'a>) -> Arg<'a>
+    ensures rule { rule_of result ≡ option_rule (flag_of option.entry.now) }
     ensures local { result.global ≡ false }
 {
     Arg::new(alloc, option.name)
         .long(option.name)
         .help(option.help)
-        .value_name("N")
+        .value_name(value_name(option.values))
         .required(option.default.is_none())
-        .value_parser(ValueParser::unsigned(option.least, option.greatest))
+        .value_parser(parser_for(option.values))
+}
+
+// What stands for the value in help.
+fn value_name(values: Values<'_>) -> &'static str {
+    match values {
+        Values::Within(..) => "N",
+        Values::Among(_) => "NAME",
+    }
+}
+
+// What `clap` is to check of a value. That it is one of some words is checked after it: the parser of
+// `clap` for names holds a reference to them, and so a command with one has no statement of its own.
+fn parser_for<'a>(values: Values<'_>) -> ValueParser<'a>
+    ensures { result ≡ parser_for (choice_of values.entry) }
+{
+    match values {
+        Values::Within(least, greatest) => ValueParser::unsigned(least, greatest),
+        Values::Among(_) => ValueParser::string(),
+    }
 }
 
 // `[CALL]..`

@@ -2,9 +2,11 @@ ghost use Rattle.std.specs.Prelude.{◌≡◌};
 ghost use Rattle.clap.specs.Words.{kind_of};
 ghost use Rattle.command_line.specs.declared.fault.LineFault.TheVariants.{Memory};
 
+use crate::table::{ValueOption, Values};
 use clap::Error;
 use clap::error::ErrorKind;
 use std::alloc::{AllocError, AllocFailed, Global};
+use std::fmt;
 
 /// Why the words ask for nothing that can be done.
 #[derive(Debug, Drop)]
@@ -28,6 +30,50 @@ impl LineFault {
             Err(_) => LineFault::Memory,
         }
     }
+
+    /// The fault for a value that is none of the words of its option.
+    pub(crate) fn unknown<'o>(
+        alloc: Global,
+        option: &'o ValueOption<'o>,
+        value: &str,
+    ) -> LineFault {
+        match (UnknownWord { option, value }).to_string(alloc) {
+            Ok(text) => LineFault::Line(text),
+            Err(_) => LineFault::Memory,
+        }
+    }
+}
+
+// A value that is none of the words of its option.
+#[derive(Debug, Clone, Copy)]
+struct UnknownWord<'o, 'v> {
+    option: &'o ValueOption<'o>,
+    value: &'v str,
+}
+
+// As `clap` words it.
+impl fmt::Display for UnknownWord<'_, '_> {
+    fn fmt<W: fmt::Write>(&self, f: &mut fmt::Formatter<W>) -> fmt::Result {
+        let name = self.option.name;
+        let value = self.value;
+        write!(f, "error: invalid value '{value}' for '--{name} <NAME>'")?;
+        if let Values::Among(words) = self.option.values {
+            write_words(f, words)?;
+        }
+        f.write_str("\n\nFor more information, try '--help'.\n")
+    }
+}
+
+// The words that the value may be, in a line of their own.
+fn write_words<W: fmt::Write>(f: &mut fmt::Formatter<W>, words: &[&str]) -> fmt::Result {
+    f.write_str("\n  [possible values: ")?;
+    for (place, word) in words.iter().enumerate() {
+        if place > 0 {
+            f.write_str(", ")?;
+        }
+        f.write_str(word)?;
+    }
+    f.write_str("]")
 }
 
 impl From<AllocError> for LineFault {

@@ -2,7 +2,7 @@
 //!
 //! Which subcommands and arguments there are stands in one table, and what each line of words asks
 //! for in `specs/`. The words are read by `clap`, whose texts for help and for faults are passed on
-//! as they are.
+//! as they are. One fault alone is found after it: a value that is none of the words of its option.
 #![tactic(auto)]
 
 mod command;
@@ -14,7 +14,6 @@ mod request;
 mod table;
 #[cfg(test)]
 mod tests;
-mod tree;
 
 pub use fault::LineFault;
 pub use line::{DEFAULT_BUDGET, DEFAULT_WORKERS, Line, MAX_BUDGET, MAX_WORKERS, Tree};

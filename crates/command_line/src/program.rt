@@ -1,5 +1,5 @@
 use crate::line::{MAX_BUDGET, MAX_WORKERS};
-use crate::table::{NumberOption, Subcommand};
+use crate::table::{Subcommand, ValueOption, Values};
 
 /// The program's name in its help.
 pub(crate) const NAME: &str = "bench";
@@ -10,11 +10,10 @@ pub(crate) const ABOUT: &str = "Judges recorded histories of a concurrent ordere
 // An option with a default, which its help shows.
 macro_rules! number_option {
     ($name:literal, $help:literal, $least:literal to $greatest:expr, default $default:literal) => {
-        NumberOption {
+        ValueOption {
             name: $name,
             help: concat!($help, " [default: ", $default, "]"),
-            least: $least,
-            greatest: $greatest,
+            values: Values::Within($least, $greatest),
             default: Some($default),
         }
     };
@@ -26,11 +25,10 @@ macro_rules! required_option {
         required_option!($name, $help, u32::MAX as u64)
     };
     ($name:literal, $help:literal, $greatest:expr) => {
-        NumberOption {
+        ValueOption {
             name: $name,
             help: $help,
-            least: 0,
-            greatest: $greatest,
+            values: Values::Within(0, $greatest),
             default: None,
         }
     };
@@ -106,8 +104,13 @@ pub(crate) static SUBCOMMANDS: [Subcommand<'static>; 7] = [
     },
     Subcommand {
         name: "drive",
-        about: "Does the plan on standard input at a map under one lock, and writes the history that it records [--tree locked]",
-        options: &[],
+        about: "Does the plan on standard input at a map, and writes the history that it records",
+        options: &[ValueOption {
+            name: "tree",
+            help: "The map [default: locked] [possible values: locked]",
+            values: Values::Among(&["locked"]),
+            default: Some(0),
+        }],
         takes_calls: false,
     },
 ];

@@ -1,62 +1,61 @@
-ghost use Rattle.std.specs.Prelude.{◌≡◌, ℕ, IfErr, IfOk, List, MatchResult, OnOk, Option, true};
+ghost use Rattle.std.specs.Prelude.{◌≡◌, ◌<◌, ℕ, IfErr, IfOk, List, MatchResult, OnOk, Option, true};
 ghost use Rattle.std.specs.Option.{option_map_or};
 ghost use Rattle.clap.specs.Words.{Text, takes};
 ghost use Rattle.clap.specs.Walk.{texts};
-ghost use Rattle.command_line.specs.LineFaults.{IsAccepted, IsFaultAt};
-ghost use Rattle.command_line.specs.Lines.{asked_by, ChecksNumbers, IsCheck, IsDrive, IsDraw, IsJudge, IsLocate};
-ghost use Rattle.command_line.specs.Lines.{IsLineOf, IsWithinLimits};
+ghost use Rattle.command_line.specs.LineFaults.{HasNamed, IsAccepted, IsFaultAt};
+ghost use Rattle.command_line.specs.Lines.{asked_by, ChecksNumbers, IsCheck, IsDraw, IsDrive, IsJudge};
+ghost use Rattle.command_line.specs.Lines.{IsLineOf, IsLocate, IsWithinLimits, place_of};
 ghost use Rattle.command_line.specs.Numbers.{number_of};
 ghost use Rattle.command_line.specs.Program.{bench_app, bench_table};
 ghost use Rattle.command_line.specs.Requests.{IsAskable, asked_of};
 ghost use Rattle.command_line.specs.Tables.{Usage};
-ghost use Rattle.command_line.specs.Trees.{without_tree};
 ghost use Rattle.command_line.specs.Words.{Given, Gives, IsUse};
 
 use crate::fault::LineFault;
 use crate::line::{DEFAULT_BUDGET, DEFAULT_WORKERS, Line, Tree};
 use crate::program::{ABOUT, NAME, SUBCOMMANDS};
 use crate::request::{Request, read_request};
-use crate::tree::without_tree;
 use std::alloc::Global;
 
 /// What `words` ask for, the program's name first.
 ///
 /// The fault is `LineFault::Line`, with the text of `clap`, where the words are no line of the
-/// program or ask for help, and `LineFault::Memory` where an allocation was refused. The time grows
-/// with the number of words and with their length.
+/// program or ask for help, and `LineFault::Memory` where an allocation was refused. For a value that
+/// is none of the words that its option takes the text is worded as by `clap`, which does not check
+/// it. The time grows with the number of words and with their length.
 pub fn read_line<'a>(alloc: Global, words: &'a [&'a str]) -> Result<Line, LineFault>
     ensures line { IfOk result (IsLineOf (texts words.entry.now)) }
     ensures limits { IfOk result IsWithinLimits }
     ensures accepted { OnOk result (IsAccepted (texts words.entry.now)) }
     ensures refused { IfErr result (IsFaultAt (texts words.entry.now)) }
     // The same by the test that `clap` states for words that a command takes.
-    ensures taken { takes bench_app (without_tree (texts words.entry.now)) ≡ true
-        → IfErr result (λ e. e ≡ LineFault.Memory) }
+    ensures taken { takes bench_app (texts words.entry.now) ≡ true
+        → HasNamed (texts words.entry.now) → IfErr result (λ e. e ≡ LineFault.Memory) }
     // A subcommand, its options in any order and numbers of calls are always a line.
     ensures given { (usage : Usage) (given : List Given) (calls : List Text)
-        → IsUse bench_table (without_tree (texts words.entry.now)) usage given calls
+        → IsUse bench_table (texts words.entry.now) usage given calls
         → MatchResult result (λ line. Gives usage given calls (asked_by line))
         (λ e. e ≡ LineFault.Memory) }
     // So `check` and numbers are.
-    ensures check { (calls : List (List ℕ)) → IsCheck (without_tree (texts words.entry.now)) calls
+    ensures check { (calls : List (List ℕ)) → IsCheck (texts words.entry.now) calls
         → MatchResult result (ChecksNumbers calls) (λ e. e ≡ LineFault.Memory) }
     // And `judge` is, with or without either option, in either order.
     ensures judge { (budget workers : Option (List ℕ))
-        → IsJudge (without_tree (texts words.entry.now)) budget workers
+        → IsJudge (texts words.entry.now) budget workers
         → MatchResult result
         (λ line. line ≡ Line.Judge (option_map_or number_of budget DEFAULT_BUDGET)
         (option_map_or number_of workers DEFAULT_WORKERS))
         (λ e. e ≡ LineFault.Memory) }
     // And `locate` is, with the same options.
     ensures locate { (budget workers : Option (List ℕ))
-        → IsLocate (without_tree (texts words.entry.now)) budget workers
+        → IsLocate (texts words.entry.now) budget workers
         → MatchResult result
         (λ line. line ≡ Line.Locate (option_map_or number_of budget DEFAULT_BUDGET)
         (option_map_or number_of workers DEFAULT_WORKERS))
         (λ e. e ≡ LineFault.Memory) }
     // And `draw` is.
     ensures draw { (budget workers : Option (List ℕ))
-        → IsDraw (without_tree (texts words.entry.now)) budget workers
+        → IsDraw (texts words.entry.now) budget workers
         → MatchResult result
         (λ line. line ≡ Line.Draw (option_map_or number_of budget DEFAULT_BUDGET)
         (option_map_or number_of workers DEFAULT_WORKERS))
@@ -65,7 +64,7 @@ pub fn read_line<'a>(alloc: Global, words: &'a [&'a str]) -> Result<Line, LineFa
     ensures drive { IsDrive (texts words.entry.now)
         → MatchResult result (λ line. line ≡ Line.Drive Tree.Locked) (λ e. e ≡ LineFault.Memory) }
 {
-    match read_request(alloc, NAME, ABOUT, &SUBCOMMANDS, without_tree(words)) {
+    match read_request(alloc, NAME, ABOUT, &SUBCOMMANDS, words) {
         Ok(request) => Ok(line_of(request)),
         Err(fault) => Err(fault),
     }
@@ -105,7 +104,20 @@ fn line_of(request: Request<'_>) -> Line
             hi: request.number(8),
         },
         "replay" => Line::Replay,
-        "drive" => Line::Drive { tree: Tree::Locked },
+        "drive" => Line::Drive {
+            tree: tree_at(request.number(0)),
+        },
+        _ => unreachable!(),
+    }
+}
+
+// The tree at this place among those that the words may name.
+fn tree_at(place: u32) -> Tree
+    requires { place < 1 }
+    ensures { place_of result ≡ place }
+{
+    match place {
+        0 => Tree::Locked,
         _ => unreachable!(),
     }
 }

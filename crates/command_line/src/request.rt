@@ -1,19 +1,20 @@
 ghost use Rattle.std.specs.Prelude.{◌≡◌, ◌<◌, ◌^◌, ℕ, [], IfErr, IfOk, List, MatchResult, OnOk, Some};
-ghost use Rattle.std.specs.Prelude.{codes, is_some, length, map, slice_index, true};
-ghost use Rattle.std.specs.List.{All};
+ghost use Rattle.std.specs.Prelude.{Option, codes, is_some, length, map, not, option_map, position, slice_index, true};
+ghost use Rattle.std.specs.List.{All, list_any};
+ghost use Rattle.std.specs.Str.{bytes_eq};
 ghost use Rattle.clap.specs.Words.{Text, fault_of, first_value, found_of, rows_of, subcommand_of};
 ghost use Rattle.clap.specs.Words.{subcommand_rows_of, takes};
 ghost use Rattle.clap.specs.Walk.{texts};
 ghost use Rattle.command_line.specs.Commands.{table_app};
 ghost use Rattle.command_line.specs.Numbers.{IsNumber, number_of};
-ghost use Rattle.command_line.specs.Requests.{AreCallsOf, AreNumbersOf, Asks, AsksSome};
-ghost use Rattle.command_line.specs.Requests.{IsNumberOf, asked_of, values_of};
-ghost use Rattle.command_line.specs.Tables.{Usage, flag_of, is_table, usage_named, usage_of};
+ghost use Rattle.command_line.specs.Requests.{AreCallsOf, AreNumbersOf, Asks, Meets, are_named};
+ghost use Rattle.command_line.specs.Requests.{IsNumberOf, StandsFor, asked_of, has_named, is_named, values_of};
+ghost use Rattle.command_line.specs.Tables.{Usage, choice_of, flag_of, is_table, usage_named, usage_of};
 ghost use Rattle.command_line.specs.Words.{Given, Gives, IsUse};
 
 use crate::command::command_of;
 use crate::fault::LineFault;
-use crate::table::{NumberOption, Subcommand};
+use crate::table::{Subcommand, ValueOption, Values};
 use clap::ArgMatches;
 use std::alloc::{AllocError, Global};
 
@@ -62,12 +63,21 @@ pub(crate) fn read_request<'a>(
     ensures accepted { OnOk result
         (fault_of (table_app name.entry.now (map usage_of table.entry.now))
         (texts words.entry.now) ≡ []) }
+    ensures named { OnOk result (has_named (map usage_of table.entry.now)
+        (subcommand_of (table_app name.entry.now (map usage_of table.entry.now))
+        (texts words.entry.now)) ≡ true) }
     ensures refused { fault_of (table_app name.entry.now (map usage_of table.entry.now))
         (texts words.entry.now) ≡ []
+        → has_named (map usage_of table.entry.now)
+        (subcommand_of (table_app name.entry.now (map usage_of table.entry.now))
+        (texts words.entry.now)) ≡ true
         → IfErr result (λ e. e ≡ LineFault.Memory) }
     // The same by the test that `clap` states for words that a command takes.
     ensures taken { takes (table_app name.entry.now (map usage_of table.entry.now))
         (texts words.entry.now) ≡ true
+        → has_named (map usage_of table.entry.now)
+        (subcommand_of (table_app name.entry.now (map usage_of table.entry.now))
+        (texts words.entry.now)) ≡ true
         → IfErr result (λ e. e ≡ LineFault.Memory) }
     // A subcommand, its options in any order and numbers of calls are always accepted.
     ensures given { (usage : Usage) (given : List Given) (calls : List Text)
@@ -76,7 +86,7 @@ pub(crate) fn read_request<'a>(
         (λ e. e ≡ LineFault.Memory) }
 {
     match command_of(alloc, name, about, table)?.try_get_matches_from(words) {
-        Ok(matches) => Ok(request_of(alloc, table, &matches)?),
+        Ok(matches) => request_of(alloc, table, &matches),
         Err(error) => Err(LineFault::of(alloc, &error)),
     }
 }
@@ -86,18 +96,66 @@ fn request_of<'a>(
     alloc: Global,
     table: &'a [Subcommand<'a>],
     matches: &ArgMatches<'_>,
-) -> Result<Request<'a>, AllocError>
-    requires { AsksSome (map usage_of table.now) (subcommand_rows_of matches.now) }
-    ensures { IfOk result (λ r. Asks (map usage_of table.entry.now) (subcommand_rows_of matches.now)
-        (asked_of r)) }
+) -> Result<Request<'a>, LineFault>
+    requires { Meets (map usage_of table.now) (subcommand_rows_of matches.now) }
+    ensures asked { IfOk result (λ r. Asks (map usage_of table.entry.now)
+        (subcommand_rows_of matches.now) (asked_of r)) }
+    ensures named { OnOk result
+        (has_named (map usage_of table.entry.now) (subcommand_rows_of matches.now) ≡ true) }
+    ensures refused { has_named (map usage_of table.entry.now) (subcommand_rows_of matches.now)
+        ≡ true → IfErr result (λ e. e ≡ LineFault.Memory) }
 {
     let (name, matched) = matches.subcommand().unwrap();
     let subcommand = subcommand_named(table, name);
+    if let Some(option) = unknown_option(matched, subcommand.options) {
+        let value = matched.get_str(option.name).unwrap_or("");
+        return Err(LineFault::unknown(alloc, option, value));
+    }
     Ok(Request {
         name: subcommand.name,
         numbers: numbers_of_options(alloc, matched, subcommand.options)?,
         calls: calls_of(alloc, matched, subcommand.takes_calls)?,
     })
+}
+
+// The first option whose value is none of its words.
+fn unknown_option<'a>(
+    matches: &ArgMatches<'_>,
+    options: &'a [ValueOption<'a>],
+) -> Option<&'a ValueOption<'a>>
+    ensures { is_some result
+        ≡ not (are_named (map flag_of options.entry.now) (first_value (found_of matches.now))) }
+{
+    for option in options {
+        if !is_named(option.values, matches.get_str(option.name)) {
+            return Some(option);
+        }
+    }
+    None
+}
+
+// Whether the value is one of the words, where it has to be.
+fn is_named(values: Values<'_>, value: Option<&str>) -> bool
+    ensures { result ≡ is_named (choice_of values.entry) (option_map (λ text. text.now) value.entry) }
+{
+    match (values, value) {
+        (Values::Among(words), Some(text)) => is_among(text, words),
+        _ => true,
+    }
+}
+
+// Whether the text is one of the words.
+fn is_among(text: &str, words: &[&str]) -> bool
+    ensures { result ≡ list_any (λ word. bytes_eq word.now text.now) words.now }
+{
+    words.iter().any(|word| *word == text)
+}
+
+// The place of a text among words, the first where it is several times there.
+fn place_of(text: &str, words: &[&str]) -> Option<usize>
+    ensures { result ≡ position (λ word. bytes_eq word.now text.now) words.now }
+{
+    words.iter().position(|word| *word == text)
 }
 
 // The subcommand of this name.
@@ -117,7 +175,7 @@ fn subcommand_named<'a>(table: &'a [Subcommand<'a>], name: &str) -> &'a Subcomma
 fn numbers_of_options(
     alloc: Global,
     matches: &ArgMatches<'_>,
-    options: &[NumberOption<'_>],
+    options: &[ValueOption<'_>],
 ) -> Result<Vec<u64>, AllocError>
     requires { (ns : List ℕ)
         × AreNumbersOf (map flag_of options.now) (first_value (found_of matches.now)) ns }
@@ -131,16 +189,27 @@ fn numbers_of_options(
     Ok(numbers)
 }
 
-// The number that the value of an option spells, or its default where it was left out.
-fn number_of_option(matches: &ArgMatches<'_>, option: &NumberOption<'_>) -> u64
+// The number that the value of an option stands for, or its default where it was left out.
+fn number_of_option(matches: &ArgMatches<'_>, option: &ValueOption<'_>) -> u64
     requires { (n : ℕ) × IsNumberOf (flag_of option.now)
         (first_value (found_of matches.now) option.now.name.now) n }
     ensures { IsNumberOf (flag_of option.now)
         (first_value (found_of matches.now) option.now.name.now) result }
 {
     match matches.get_str(option.name) {
-        Some(text) => text.parse::<u64>().unwrap(),
+        Some(text) => number_of_value(option.values, text),
         None => option.default.unwrap(),
+    }
+}
+
+// The number that a value stands for.
+fn number_of_value(values: Values<'_>, text: &str) -> u64
+    requires { (n : ℕ) × StandsFor (choice_of values) text.now n }
+    ensures { StandsFor (choice_of values.entry) text.now result }
+{
+    match values {
+        Values::Within(..) => text.parse::<u64>().unwrap(),
+        Values::Among(words) => place_of(text, words).unwrap() as u64,
     }
 }
 

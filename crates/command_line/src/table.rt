@@ -1,14 +1,21 @@
-/// An option `--NAME N` of a subcommand, whose value is a number.
+/// What the value of an option may be, and the number that it stands for.
 #[derive(Debug, Clone, Copy)]
-pub(crate) struct NumberOption<'a> {
+pub(crate) enum Values<'a> {
+    /// A number, the least and the greatest that the option takes.
+    Within(u64, u64),
+    /// One of these words. It stands for its place among them, from 0.
+    Among(&'a [&'a str]),
+}
+
+/// An option `--NAME VALUE` of a subcommand.
+#[derive(Debug, Clone, Copy)]
+pub(crate) struct ValueOption<'a> {
     /// The name, without its hyphens.
     pub(crate) name: &'a str,
     /// What help says of the option.
     pub(crate) help: &'a str,
-    /// The least number that it takes.
-    pub(crate) least: u64,
-    /// The greatest number that it takes.
-    pub(crate) greatest: u64,
+    /// What its value may be.
+    pub(crate) values: Values<'a>,
     /// The number where the option is left out. One with none may not be left out.
     pub(crate) default: Option<u64>,
 }
@@ -21,7 +28,7 @@ pub(crate) struct Subcommand<'a> {
     /// What help says of it.
     pub(crate) about: &'a str,
     /// Its options.
-    pub(crate) options: &'a [NumberOption<'a>],
+    pub(crate) options: &'a [ValueOption<'a>],
     /// Whether it takes numbers of calls, `[CALL]..`, after its options.
     pub(crate) takes_calls: bool,
 }

@@ -70,15 +70,15 @@ static FAULTS: [(&[&str], &str); 22] = [
     ),
     (
         &["bench", "drive", "--tree", "other"],
-        "error: unexpected argument '--tree' found",
+        "error: invalid value 'other' for '--tree <NAME>'\n  [possible values: locked]\n\nFor more information, try '--help'.\n",
     ),
     (
         &["bench", "drive", "--tree"],
-        "error: unexpected argument '--tree' found",
+        "error: a value is required for '--tree <NAME>' but none was supplied",
     ),
     (
         &["bench", "drive", "--tree", "locked", "locked"],
-        "error: unexpected argument '--tree' found",
+        "error: unexpected argument 'locked' found",
     ),
     (
         &["bench", "drive", "locked"],
@@ -202,6 +202,7 @@ fn asks_for_a_drive(rt: HostRuntime) -> Result<(), Fail> {
     for words in [
         ["bench", "drive"].as_slice(),
         &["bench", "drive", "--tree", "locked"],
+        &["bench", "drive", "--tree=locked"],
     ] {
         match read_line(rt.alloc(), words)? {
             Line::Drive { tree } => assert_eq!(rt; tree, Tree::Locked),

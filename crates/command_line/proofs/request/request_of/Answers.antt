@@ -1,10 +1,11 @@
-use Rattle.std.proofs.Common.{ap, sym, map, List, Option, Some, ◌≡◌, ◌∙◌}
+use Rattle.std.proofs.Common.{ap, sym, refl, map, ℕ, Bool, true, false, not, true≢false, List, Option, Some, ◌≡◌, ◌∙◌}
 use Rattle.std.specs.Borrow.{Bor}
 use Rattle.std.specs.Option.{option_map}
 use Rattle.clap.specs.Words.{Text, first_of, first_value, found_of, rows_of, subcommand_name_of, subcommand_rows_of}
 use Rattle.clap.specs.declared.parser.matches.ArgMatches.{ArgMatches}
+use Rattle.command_line.specs.Requests.{AreNumbersOf, Meets, are_named, has_named}
 use Rattle.command_line.specs.Tables.{Usage, usage_named, usage_of}
-use Rattle.command_line.proofs.MatchLemmas.{is_met, numbers_met, same_numbers, value_in_rows}
+use Rattle.command_line.proofs.MatchLemmas.{is_met, names_met, numbers_met, same_named, same_numbers, value_in_rows}
 use Rattle.command_line.proofs.TableLemmas.{named_so}
 use Rattle.command_line.proofs.request.request_of.Goals as goal
 
@@ -18,19 +19,43 @@ met_is m got p is first second =
     (ap (option_map (λ (q : Bor Text × Bor ArgMatches). q.0.now)) (sym is) ∙ first)
     (ap (option_map (λ (q : Bor Text × Bor ArgMatches). rows_of (found_of q.1.now))) (sym is) ∙ second)
 
+-- the subcommand that is met, with its values as a getter gives them
+module _ (m : ArgMatches) (table : List Usage) (meets : Meets table (subcommand_rows_of m)) (p : Bor Text × Bor ArgMatches) (u : Usage)
+    (met : subcommand_rows_of m ≡ Some (p.0.now, rows_of (found_of p.1.now))) (found : usage_named p.0.now table ≡ Some u) where
+  abbrev value : Text → Option Text
+  value = first_value (found_of p.1.now)
+
+  -- its values are words where those of its options are
+  names_are : has_named table (subcommand_rows_of m) ≡ are_named u.flags value
+  names_are =
+      names_met table (subcommand_rows_of m) meets p.0.now (rows_of (found_of p.1.now)) met u found
+      ∙ same_named u.flags (λ n. first_of n (rows_of (found_of p.1.now))) value (λ n. sym (value_in_rows (found_of p.1.now) n))
+
+  -- then its options have numbers
+  numbers_are : are_named u.flags value ≡ true → (ns : List ℕ) × AreNumbersOf u.flags value ns
+  numbers_are named =
+      let rows = rows_of (found_of p.1.now) in
+      let same = same_named u.flags value (λ n. first_of n rows) (value_in_rows (found_of p.1.now)) in
+      let numbers = numbers_met table (subcommand_rows_of m) meets p.0.now rows met u found (sym same ∙ named) in
+      (numbers.0, same_numbers u.flags (λ n. first_of n rows) value numbers.0 (λ n. sym (value_in_rows (found_of p.1.now) n)) numbers.1)
+
+-- what a test that is denied says
+denied : (b : Bool) → false ≡ not b → b ≡ true
+denied true is = refl
+denied false is = cc
+
+affirmed : (b : Bool) → true ≡ not b → b ≡ false
+affirmed false is = refl
+affirmed true is = cc
+
 pub numbers_of_options-requires : goal.numbers_of_options-requires
 numbers_of_options-requires c =
-    let found = found_of c.unwrap.result.1.now in
     let met = met_is c.args.matches.now c.subcommand.result c.unwrap.result c.unwrap.ensures c.subcommand.ensures.name c.subcommand.ensures.rows in
-    let u : Usage = usage_of c.subcommand_named-subcommand.result.now in (
-      c.requires.0.numbers,
-      same_numbers u.flags (λ n. first_of n (rows_of found)) (first_value found) c.requires.0.numbers (λ n. sym (value_in_rows found n))
-          (numbers_met (map usage_of c.args.table.now) (subcommand_rows_of c.args.matches.now) c.requires.0 c.requires.1 c.unwrap.result.0.now
-          (rows_of found) met u c.subcommand_named-subcommand.ensures),
-    )
+    numbers_are c.args.matches.now (map usage_of c.args.table.now) c.requires c.unwrap.result (usage_of c.subcommand_named-subcommand.result.now)
+    met c.subcommand_named-subcommand.ensures (denied _ c.in_default.ensures)
 
-pub returns : goal.returns
-returns c =
+pub returns-clause-asked : goal.returns-clause-asked
+returns-clause-asked c =
     let table : List Usage = map usage_of c.args.table.now in
     let found = found_of c.unwrap.result.1.now in
     let met = met_is c.args.matches.now c.subcommand.result c.unwrap.result c.unwrap.ensures c.subcommand.ensures.name c.subcommand.ensures.rows in
@@ -46,3 +71,16 @@ returns c =
           (value_in_rows found) c.in_ok-numbers_of_options.ensures;
       calls = c.in_ok-calls_of.ensures;
     }
+
+pub returns-clause-named : goal.returns-clause-named
+returns-clause-named c =
+    let met = met_is c.args.matches.now c.subcommand.result c.unwrap.result c.unwrap.ensures c.subcommand.ensures.name c.subcommand.ensures.rows in
+    names_are c.args.matches.now (map usage_of c.args.table.now) c.requires c.unwrap.result (usage_of c.subcommand_named-subcommand.result.now)
+    met c.subcommand_named-subcommand.ensures ∙ denied _ c.in_default.ensures
+
+pub returns-in-Some-clause-refused : goal.returns-in-Some-clause-refused
+returns-in-Some-clause-refused c named =
+    let met = met_is c.args.matches.now c.subcommand.result c.unwrap.result c.unwrap.ensures c.subcommand.ensures.name c.subcommand.ensures.rows in
+    let same = names_are c.args.matches.now (map usage_of c.args.table.now) c.requires c.unwrap.result (usage_of c.subcommand_named-subcommand.result.now)
+    met c.subcommand_named-subcommand.ensures in
+    absurd (true≢false (sym named ∙ same ∙ affirmed _ c.in-Some.ensures))
