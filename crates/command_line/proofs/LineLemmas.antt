@@ -1,22 +1,26 @@
 -- `check`, `judge`, `locate`, `draw` and `drive` are uses of the program's table, and ask for their lines.
-use Rattle.std.proofs.Common.{◌≡◌, ◌∙◌, ◌++◌, ℕ, refl, sym, ap, ap₂, inl, inr, arith, List, [], ◌∷◌, Option, Some, None, codes, false, true≢false}
+use Rattle.std.proofs.Common.{◌≡◌, ◌∙◌, ◌++◌, append-nil, map, get_or, ℕ, refl, sym, ap, ap₂, inl, inr, arith, List, [], ◌∷◌, Option, Some, None, codes, false, true≢false}
 use Rattle.std.specs.Option.{option_map_or}
 use Rattle.std.specs.Prelude.{IfSome}
 use Rattle.std.specs.Str.{bytes_eq}
+use Rattle.std.proofs.lemmas.List.Quantifiers.{position-Some}
 use Rattle.std.proofs.lemmas.Option.{same_Some}
 use Rattle.std.proofs.lemmas.Slice.Eq.{bytes_eq-Decides}
 use Rattle.clap.specs.Words.{Text}
-use Rattle.command_line.specs.Limits.{budget_default, budget_limit, workers_default, workers_limit}
-use Rattle.command_line.specs.Lines.{ChecksNumbers, IsCheck, IsDraw, IsDrive, IsJudge, IsLocate, IsSearch, asked_by}
+use Rattle.command_line.specs.Limits.{budget_default, budget_limit, rows16_default, rows16_limit, rows256_default, rows256_limit, rows4_default, rows4_limit}
+use Rattle.command_line.specs.Limits.{rows48_default, rows48_limit, steps_limit, workers_default, workers_limit}
+use Rattle.command_line.specs.Lines.{ChecksNumbers, Drives, NamesTree, IsCheck, IsDraw, IsDrive, IsJudge, IsLocate, IsSearch, asked_by}
 use Rattle.command_line.specs.Lines.{option_words as words_of}
 use Rattle.command_line.specs.Numbers.{IsNumberWithin, number_of}
-use Rattle.command_line.specs.Program.{bench_table, check_usage, draw_usage, drive_usage, judge_usage, locate_usage, search_usage}
+use Rattle.command_line.specs.Program.{bench_table, check_usage, draw_usage, drive_usage, judge_usage, locate_usage, number_flag, search_usage, tree_flag}
 use Rattle.command_line.specs.Requests.{IsReadFrom}
-use Rattle.command_line.specs.Tables.{Flag, Usage, usage_named, within}
+use Rattle.command_line.specs.Tables.{Flag, Usage, usage_named}
+use Rattle.command_line.specs.Trees.{name_of, place_of, trees}
 use Rattle.command_line.specs.Words.{AreOptionsOf, Given, Gives, IsUse, option_words, value_given}
 use Rattle.command_line.specs.declared.line.Line.{Line}
 use Rattle.command_line.specs.declared.line.Line.TheVariants.{Check, Draw, Drive, Judge, Locate}
-use Rattle.command_line.specs.declared.line.Tree.TheVariants.{Locked}
+use Rattle.command_line.specs.declared.line.Tree.{Tree}
+use Rattle.command_line.specs.declared.line.Tree.TheVariants.{Locked, Coupled, Optimistic, ReadUnchecked, ScanUnvalidated, LockUnchecked, EarlyRelease}
 use Rattle.command_line.specs.declared.line.TheConstants.{DEFAULT_BUDGET, DEFAULT_WORKERS}
 
 -- a name is no other name
@@ -42,34 +46,63 @@ checks calls other gives = absurd (other_name _ _ gives.name refl)
 
 -- ---- drive
 
--- the tree that the words name
-pub drive_given : (words : List Text) → IsDrive words → List Given
-drive_given words (name, inl is) = []
-drive_given words (name, inr is) = (codes "tree", codes "locked") ∷ []
-
-pub drive_use : (words : List Text) (is : IsDrive words) → IsUse bench_table words drive_usage (drive_given words is) []
-unfolding drive_given
-drive_use words (name, inl is) = record {
-  program = name;
-  words_are = is;
+pub drive_use : (words : List Text) (given : List Given) → IsDrive words given → IsUse bench_table words drive_usage given []
+drive_use words given is = record {
+  program = is.name;
+  words_are = is.words_are ∙ ap (λ (ws : List Text). is.name ∷ codes "drive" ∷ ws) (sym (append-nil (option_words given)));
   named = refl;
-  options = tt;
-  required = refl;
-  numbers = λ k d lt. absurd (omega arith);
-  no_calls = λ _. refl;
-}
-drive_use words (name, inr is) = record {
-  program = name;
-  words_are = is;
-  named = refl;
-  options = (refl, refl, tt);
+  options = is.options;
   required = refl;
   numbers = λ k d lt. absurd (omega arith);
   no_calls = λ _. refl;
 }
 
-pub drives : (given : List Given) (line : Line) → Gives drive_usage given [] (asked_by line) → line ≡ Drive Locked
-drives given (Drive Locked) gives = refl
+-- the tree at a place is the one of the word there
+named_at : (tree : Tree) → get_or (map name_of trees) (place_of tree) [] ≡ name_of tree
+named_at Locked = refl
+named_at Coupled = refl
+named_at Optimistic = refl
+named_at ReadUnchecked = refl
+named_at ScanUnvalidated = refl
+named_at LockUnchecked = refl
+named_at EarlyRelease = refl
+
+-- and the default is optimistic
+at_default : (tree : Tree) → Some (place_of Optimistic) ≡ Some (place_of tree) → tree ≡ Optimistic
+at_default tree is = go tree (same_Some _ _ is)
+  where
+    go : (t : Tree) → place_of Optimistic ≡ place_of t → t ≡ Optimistic
+    go Locked same = absurd (omega (arith, same))
+    go Coupled same = absurd (omega (arith, same))
+    go Optimistic same = refl
+    go ReadUnchecked same = absurd (omega (arith, same))
+    go ScanUnvalidated same = absurd (omega (arith, same))
+    go LockUnchecked same = absurd (omega (arith, same))
+    go EarlyRelease same = absurd (omega (arith, same))
+
+-- so the tree that is read is the one that the value names
+names_tree : (value : Option Text) (tree : Tree) → IsReadFrom tree_flag value (place_of tree) → NamesTree value tree
+names_tree None tree read = at_default tree read
+names_tree (Some text) tree read =
+    let at = (position-Some (λ (word : Text). bytes_eq word text) (map name_of trees) (place_of tree) [] read).1 in
+    sym (named_at tree) ∙ (bytes_eq-Decides _ text).0 at
+
+-- the number that is read is that of the value, or the default
+read_number : (name : Text) (least greatest default : ℕ) (value : Option Text) (n : ℕ) → IsReadFrom (number_flag name least greatest default) value n
+    → n ≡ option_map_or number_of value default
+read_number name least greatest default None n read = same_Some n default (sym read)
+read_number name least greatest default (Some text) n read = read.2
+
+pub drives : (given : List Given) (line : Line) → Gives drive_usage given [] (asked_by line) → Drives given line
+drives given (Drive tree rows4 rows16 rows48 rows256 limit) gives =
+    let numbers = gives.numbers in (
+      names_tree _ tree numbers.0.read,
+      read_number (codes "rows4") 0 rows4_limit rows4_default _ rows4 numbers.1.0.read,
+      read_number (codes "rows16") 0 rows16_limit rows16_default _ rows16 numbers.1.1.0.read,
+      read_number (codes "rows48") 0 rows48_limit rows48_default _ rows48 numbers.1.1.1.0.read,
+      read_number (codes "rows256") 1 rows256_limit rows256_default _ rows256 numbers.1.1.1.1.0.read,
+      read_number (codes "limit") 1 steps_limit steps_limit _ limit numbers.1.1.1.1.1.0.read,
+    )
 drives given other gives = absurd (other_name _ _ gives.name refl)
 
 -- ---- judge, locate and draw
@@ -80,10 +113,10 @@ given_as name value = option_map_or (λ text. (name, text) ∷ []) value []
 
 -- the two options
 abbrev budget_flag : Flag
-budget_flag = record { name = codes "budget"; values = within 1 budget_limit; default = Some budget_default }
+budget_flag = number_flag (codes "budget") 1 budget_limit budget_default
 
 abbrev workers_flag : Flag
-workers_flag = record { name = codes "workers"; values = within 1 workers_limit; default = Some workers_default }
+workers_flag = number_flag (codes "workers") 1 workers_limit workers_default
 
 -- the options in either order
 abbrev budget_first : Option Text → Option Text → List Given
@@ -177,12 +210,6 @@ search_gets subcommand is_named words budget workers is = elim is.in_an_order [
   }
 ]
 
--- the number that is read is that of the value, or the default
-read_number : (name : Text) (greatest : ℕ) (value : Option Text) (default n : ℕ)
-    → IsReadFrom (record { name = name; values = within 1 greatest; default = Some default }) value n → n ≡ option_map_or number_of value default
-read_number name greatest None default n read = same_Some n default (sym read)
-read_number name greatest (Some text) default n read = read.2
-
 -- so are the two of a search
 record AreRead (budget workers : Option Text) (x y : ℕ) : Type 0 where
   budget_is : x ≡ option_map_or number_of budget DEFAULT_BUDGET
@@ -192,8 +219,8 @@ numbers_read : (given : List Given) (budget workers : Option Text) (x y : ℕ) �
     → value_given given (codes "workers") ≡ workers → IsReadFrom budget_flag (value_given given (codes "budget")) x
     → IsReadFrom workers_flag (value_given given (codes "workers")) y → AreRead budget workers x y
 numbers_read given budget workers x y b w read_budget read_workers = record {
-  budget_is = read_number (codes "budget") budget_limit _ DEFAULT_BUDGET x read_budget ∙ ap (λ (o : Option Text). option_map_or number_of o DEFAULT_BUDGET) b;
-  workers_is = read_number (codes "workers") workers_limit _ DEFAULT_WORKERS y read_workers ∙ ap (λ (o : Option Text). option_map_or number_of o DEFAULT_WORKERS) w;
+  budget_is = read_number (codes "budget") 1 budget_limit DEFAULT_BUDGET _ x read_budget ∙ ap (λ (o : Option Text). option_map_or number_of o DEFAULT_BUDGET) b;
+  workers_is = read_number (codes "workers") 1 workers_limit DEFAULT_WORKERS _ y read_workers ∙ ap (λ (o : Option Text). option_map_or number_of o DEFAULT_WORKERS) w;
 }
 
 -- a use of `judge`, for each of these words

@@ -4,6 +4,7 @@ pub mod Tables
 pub mod Commands
 pub mod Requests
 pub mod Words
+pub mod Trees
 pub mod Program
 pub mod Lines
 pub mod LineFaults

@@ -17,6 +17,36 @@ workers_limit = 64
 abbrev pub workers_default : ℕ
 workers_default = 1
 
+-- the most rows of each kind, by their children, that the table of a tree has
+abbrev pub rows4_limit : ℕ
+rows4_limit = 4096
+
+abbrev pub rows16_limit : ℕ
+rows16_limit = 1024
+
+abbrev pub rows48_limit : ℕ
+rows48_limit = 256
+
+abbrev pub rows256_limit : ℕ
+rows256_limit = 64
+
+-- and how many where no number of them is named
+abbrev pub rows4_default : ℕ
+rows4_default = 1024
+
+abbrev pub rows16_default : ℕ
+rows16_default = 256
+
+abbrev pub rows48_default : ℕ
+rows48_default = 64
+
+abbrev pub rows256_default : ℕ
+rows256_default = 16
+
+-- the most steps that a call has before it is left pending, which are meant where no number is named
+abbrev pub steps_limit : ℕ
+steps_limit = 1000000
+
 -- the greatest number that a `u64` holds
 abbrev pub u64_limit : ℕ
 u64_limit = 18446744073709551615

@@ -1,21 +1,22 @@
 -- What the words of a command line ask for.
-use Rattle.std.specs.Prelude.{ℕ, ◌≡◌, ◌≤◌, ◌⊎◌, ⊤, List, [], ◌∷◌, ◌++◌, Option, map, codes}
+use Rattle.std.specs.Prelude.{ℕ, ◌≡◌, ◌≤◌, ◌⊎◌, ⊤, List, [], ◌∷◌, ◌++◌, Option, Some, None, map, codes}
 use Rattle.std.specs.Prelude.{IfSome}
 use Rattle.std.specs.List.{All}
 use Rattle.std.specs.Option.{option_map_or}
 use Rattle.clap.specs.Words.{Text, subcommand_of}
-use Rattle.command_line.specs.Limits.{budget_limit, workers_limit}
+use Rattle.command_line.specs.Limits.{budget_limit, rows16_default, rows16_limit, rows256_default}
+use Rattle.command_line.specs.Limits.{rows256_limit, rows4_default, rows4_limit, rows48_default}
+use Rattle.command_line.specs.Limits.{rows48_limit, steps_limit, workers_limit}
 use Rattle.command_line.specs.Numbers.{IsNumber, IsNumberWithin, number_of}
-use Rattle.command_line.specs.Program.{bench_app, bench_table}
+use Rattle.command_line.specs.Program.{bench_app, bench_table, drive_usage}
 use Rattle.command_line.specs.Requests.{Asked, Asks}
+use Rattle.command_line.specs.Trees.{name_of, place_of}
+use Rattle.command_line.specs.Words.{AreOptionsOf, Given, value_given}
+use Rattle.command_line.specs.Words.{option_words as words_of}
 use Rattle.command_line.specs.declared.line.Line.{Line}
 use Rattle.command_line.specs.declared.line.Line.TheVariants.{Check, Judge, Locate, Draw, Generate, Replay, Drive}
 use Rattle.command_line.specs.declared.line.Tree.{Tree}
-use Rattle.command_line.specs.declared.line.Tree.TheVariants.{Locked}
-
--- the place of a tree among those that the words may name
-abbrev pub place_of : Tree → ℕ
-place_of Locked = 0
+use Rattle.command_line.specs.declared.line.Tree.TheVariants.{Optimistic}
 
 -- the subcommand of a line, the numbers of its options in the order of the table, and its calls
 abbrev pub asked_by : Line → Asked
@@ -32,7 +33,11 @@ asked_by (Generate seed processes calls get insert remove scan lo hi) = record {
   calls = [];
 }
 asked_by Replay = record { name = codes "replay"; numbers = []; calls = [] }
-asked_by (Drive tree) = record { name = codes "drive"; numbers = place_of tree ∷ []; calls = [] }
+asked_by (Drive tree rows4 rows16 rows48 rows256 limit) = record {
+  name = codes "drive";
+  numbers = place_of tree ∷ rows4 ∷ rows16 ∷ rows48 ∷ rows256 ∷ limit ∷ [];
+  calls = [];
+}
 
 -- the words ask for this line, the program's name first
 abbrev pub IsLineOf : List Text → Line → Type 0
@@ -49,7 +54,9 @@ IsWithinLimits (Draw budget workers) =
     (1 ≤ budget) × (budget ≤ budget_limit) × (1 ≤ workers) × (workers ≤ workers_limit)
 IsWithinLimits (Generate seed processes calls get insert remove scan lo hi) = ⊤
 IsWithinLimits Replay = ⊤
-IsWithinLimits (Drive tree) = ⊤
+IsWithinLimits (Drive tree rows4 rows16 rows48 rows256 limit) = (rows4 ≤ rows4_limit)
+    × (rows16 ≤ rows16_limit) × (rows48 ≤ rows48_limit) × (1 ≤ rows256) × (rows256 ≤ rows256_limit)
+    × (1 ≤ limit) × (limit ≤ steps_limit)
 
 -- the words are a name, `check` and texts of which each spells a number
 abbrev pub IsCheck : List Text → List Text → Type 0
@@ -87,6 +94,28 @@ IsLocate words budget workers = IsSearch (codes "locate") words budget workers
 abbrev pub IsDraw : List Text → Option Text → Option Text → Type 0
 IsDraw words budget workers = IsSearch (codes "draw") words budget workers
 
--- the words are a name and `drive`, with the tree or with none
-abbrev pub IsDrive : List Text → Type 0
-IsDrive words = (name : Text) × ((words ≡ name ∷ codes "drive" ∷ []) ⊎ (words ≡ name ∷ codes "drive" ∷ codes "--tree" ∷ codes "locked" ∷ []))
+-- the words are a name, `drive` and these options of it
+pub record IsDrive (words : List Text) (given : List Given) : Type 0 where
+  pub name : Text
+  pub words_are : words ≡ name ∷ codes "drive" ∷ words_of given
+  pub options : AreOptionsOf drive_usage.flags given
+
+-- the tree is the one that the value names, and optimistic where there is no value
+abbrev pub NamesTree : Option Text → Tree → Type 0
+NamesTree None tree = tree ≡ Optimistic
+NamesTree (Some text) tree = name_of tree ≡ text
+
+-- the number that the value of an option spells, or the default where it is left out
+abbrev pub number_given : List Given → Text → ℕ → ℕ
+number_given given name default = option_map_or number_of (value_given given name) default
+
+-- the line is a drive at the tree, with the rows and with the limit that the options name
+abbrev pub Drives : List Given → Line → Type 0
+Drives given (Drive tree rows4 rows16 rows48 rows256 limit) =
+    NamesTree (value_given given (codes "tree")) tree
+    × (rows4 ≡ number_given given (codes "rows4") rows4_default)
+    × (rows16 ≡ number_given given (codes "rows16") rows16_default)
+    × (rows48 ≡ number_given given (codes "rows48") rows48_default)
+    × (rows256 ≡ number_given given (codes "rows256") rows256_default)
+    × (limit ≡ number_given given (codes "limit") steps_limit)
+Drives given other = ⊥

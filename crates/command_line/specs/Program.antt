@@ -1,29 +1,30 @@
 -- The program's command line: the table of its subcommands.
-use Rattle.std.specs.Prelude.{ℕ, List, [], ◌∷◌, Some, None, codes, true, false}
+use Rattle.std.specs.Prelude.{ℕ, List, [], ◌∷◌, Some, None, codes, map, true, false}
 use Rattle.clap.specs.Words.{App, Text}
 use Rattle.command_line.specs.Commands.{table_app}
-use Rattle.command_line.specs.Limits.{budget_default, budget_limit, u32_limit, u64_limit, workers_default, workers_limit}
+use Rattle.command_line.specs.Limits.{budget_default, budget_limit, rows16_default, rows16_limit}
+use Rattle.command_line.specs.Limits.{rows256_default, rows256_limit, rows4_default, rows4_limit}
+use Rattle.command_line.specs.Limits.{rows48_default, rows48_limit, steps_limit, u32_limit}
+use Rattle.command_line.specs.Limits.{u64_limit, workers_default, workers_limit}
 use Rattle.command_line.specs.Tables.{Flag, Usage, among, within}
+use Rattle.command_line.specs.Trees.{name_of, place_of, trees}
+use Rattle.command_line.specs.declared.line.Tree.TheVariants.{Optimistic}
 
 -- `check [CALL]..`
 abbrev pub check_usage : Usage
 check_usage = record { name = codes "check"; flags = []; takes_calls = true }
 
+-- `--NAME N`, from the least to the greatest, with a default
+abbrev pub number_flag : Text → ℕ → ℕ → ℕ → Flag
+number_flag name least greatest default =
+    record { name = name; values = within least greatest; default = Some default }
+
 -- a subcommand of this name, with the options of a search: `NAME [--budget N] [--workers N]`
 abbrev pub search_usage : Text → Usage
 search_usage name = record {
   name = name;
-  flags = record {
-    name = codes "budget";
-    values = within 1 budget_limit;
-    default = Some budget_default;
-  }
-      ∷ record {
-        name = codes "workers";
-        values = within 1 workers_limit;
-        default = Some workers_default;
-      }
-      ∷ [];
+  flags = number_flag (codes "budget") 1 budget_limit budget_default
+      ∷ number_flag (codes "workers") 1 workers_limit workers_default ∷ [];
   takes_calls = false;
 }
 
@@ -59,16 +60,23 @@ generate_usage = record {
 abbrev pub replay_usage : Usage
 replay_usage = record { name = codes "replay"; flags = []; takes_calls = false }
 
--- `drive [--tree NAME]`
+-- `--tree NAME`, and `optimistic` where it is left out
+abbrev pub tree_flag : Flag
+tree_flag = record {
+  name = codes "tree";
+  values = among (map name_of trees);
+  default = Some (place_of Optimistic);
+}
+
+-- `drive [--tree NAME] [--rows4 N] [--rows16 N] [--rows48 N] [--rows256 N] [--limit N]`
 abbrev pub drive_usage : Usage
 drive_usage = record {
   name = codes "drive";
-  flags = record {
-    name = codes "tree";
-    values = among (codes "locked" ∷ []);
-    default = Some 0;
-  }
-      ∷ [];
+  flags = tree_flag ∷ number_flag (codes "rows4") 0 rows4_limit rows4_default
+      ∷ number_flag (codes "rows16") 0 rows16_limit rows16_default
+      ∷ number_flag (codes "rows48") 0 rows48_limit rows48_default
+      ∷ number_flag (codes "rows256") 1 rows256_limit rows256_default
+      ∷ number_flag (codes "limit") 1 steps_limit steps_limit ∷ [];
   takes_calls = false;
 }
 

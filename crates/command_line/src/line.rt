@@ -51,9 +51,17 @@ pub enum Line {
     },
     /// The history that the run of the replay on standard input records.
     Replay,
-    /// The history of the plan on standard input, done at this tree.
+    /// The history of the plan on standard input, done at this tree. Its table has so many rows of the
+    /// kinds with up to 4, 16, 48 and 256 children, at most 4,096, 1,024, 256 and 64, and 1 at least
+    /// of the last. A call that has had `limit` steps without an answer, 1 to 1,000,000, is left
+    /// pending. At `Tree::Locked` the rows and the limit mean nothing.
     Drive {
         tree: Tree,
+        rows4: u32,
+        rows16: u32,
+        rows48: u32,
+        rows256: u32,
+        limit: u32,
     },
 }
 
@@ -62,4 +70,16 @@ pub enum Line {
 pub enum Tree {
     /// A sorted map under one lock.
     Locked,
+    /// The tree with lock coupling: a row is locked before the row above it is unlocked.
+    Coupled,
+    /// The tree with versions, which are checked, and with locks for what is written.
+    Optimistic,
+    /// `Optimistic`, but a get checks nothing.
+    ReadUnchecked,
+    /// `Optimistic`, but a scan does not check its rows at the end.
+    ScanUnvalidated,
+    /// `Optimistic`, but a row is locked from whatever version it has.
+    LockUnchecked,
+    /// `Coupled`, but a get, remove or replace unlocks a row before it locks the next.
+    EarlyRelease,
 }

@@ -105,12 +105,27 @@ pub(crate) static SUBCOMMANDS: [Subcommand<'static>; 7] = [
     Subcommand {
         name: "drive",
         about: "Does the plan on standard input at a map, and writes the history that it records",
-        options: &[ValueOption {
-            name: "tree",
-            help: "The map [default: locked] [possible values: locked]",
-            values: Values::Among(&["locked"]),
-            default: Some(0),
-        }],
+        options: &[
+            ValueOption {
+                name: "tree",
+                help: "The map: locked, coupled, optimistic, read-unchecked, scan-unvalidated, lock-unchecked or early-release [default: optimistic]",
+                values: Values::Among(&[
+                    "locked",
+                    "coupled",
+                    "optimistic",
+                    "read-unchecked",
+                    "scan-unvalidated",
+                    "lock-unchecked",
+                    "early-release",
+                ]),
+                default: Some(2),
+            },
+            number_option!("rows4", "How many rows with up to 4 children its table has", 0 to 4096, default 1024),
+            number_option!("rows16", "How many rows with up to 16 children its table has", 0 to 1024, default 256),
+            number_option!("rows48", "How many rows with up to 48 children its table has", 0 to 256, default 64),
+            number_option!("rows256", "How many rows with up to 256 children its table has", 1 to 64, default 16),
+            number_option!("limit", "How many steps a call has at most before it is left pending", 1 to 1_000_000, default 1_000_000),
+        ],
         takes_calls: false,
     },
 ];

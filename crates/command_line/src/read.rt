@@ -3,8 +3,9 @@ ghost use Rattle.std.specs.Option.{option_map_or};
 ghost use Rattle.clap.specs.Words.{Text, takes};
 ghost use Rattle.clap.specs.Walk.{texts};
 ghost use Rattle.command_line.specs.LineFaults.{HasNamed, IsAccepted, IsFaultAt};
-ghost use Rattle.command_line.specs.Lines.{asked_by, ChecksNumbers, IsCheck, IsDraw, IsDrive, IsJudge};
-ghost use Rattle.command_line.specs.Lines.{IsLineOf, IsLocate, IsWithinLimits, place_of};
+ghost use Rattle.command_line.specs.Lines.{asked_by, ChecksNumbers, Drives, IsCheck, IsDraw, IsDrive};
+ghost use Rattle.command_line.specs.Lines.{IsJudge, IsLineOf, IsLocate, IsWithinLimits};
+ghost use Rattle.command_line.specs.Trees.{place_of};
 ghost use Rattle.command_line.specs.Numbers.{number_of};
 ghost use Rattle.command_line.specs.Program.{bench_app, bench_table};
 ghost use Rattle.command_line.specs.Requests.{IsAskable, asked_of};
@@ -60,9 +61,9 @@ pub fn read_line<'a>(alloc: Global, words: &'a [&'a str]) -> Result<Line, LineFa
         (λ line. line ≡ Line.Draw (option_map_or number_of budget DEFAULT_BUDGET)
         (option_map_or number_of workers DEFAULT_WORKERS))
         (λ e. e ≡ LineFault.Memory) }
-    // And `drive` is, with or without its tree.
-    ensures drive { IsDrive (texts words.entry.now)
-        → MatchResult result (λ line. line ≡ Line.Drive Tree.Locked) (λ e. e ≡ LineFault.Memory) }
+    // And `drive` is, with any of its options in any order.
+    ensures drive { (given : List Given) → IsDrive (texts words.entry.now) given
+        → MatchResult result (Drives given) (λ e. e ≡ LineFault.Memory) }
 {
     match read_request(alloc, NAME, ABOUT, &SUBCOMMANDS, words) {
         Ok(request) => Ok(line_of(request)),
@@ -106,6 +107,11 @@ fn line_of(request: Request<'_>) -> Line
         "replay" => Line::Replay,
         "drive" => Line::Drive {
             tree: tree_at(request.number(0)),
+            rows4: request.number(1),
+            rows16: request.number(2),
+            rows48: request.number(3),
+            rows256: request.number(4),
+            limit: request.number(5),
         },
         _ => unreachable!(),
     }
@@ -113,11 +119,17 @@ fn line_of(request: Request<'_>) -> Line
 
 // The tree at this place among those that the words may name.
 fn tree_at(place: u32) -> Tree
-    requires { place < 1 }
+    requires { place < 7 }
     ensures { place_of result ≡ place }
 {
     match place {
         0 => Tree::Locked,
+        1 => Tree::Coupled,
+        2 => Tree::Optimistic,
+        3 => Tree::ReadUnchecked,
+        4 => Tree::ScanUnvalidated,
+        5 => Tree::LockUnchecked,
+        6 => Tree::EarlyRelease,
         _ => unreachable!(),
     }
 }

@@ -2,7 +2,7 @@ use crate::{Line, LineFault, Tree, read_line};
 use std::test::Fail;
 
 // Words that are no line, and how the text that the user is shown begins.
-static FAULTS: [(&[&str], &str); 22] = [
+static FAULTS: [(&[&str], &str); 29] = [
     (
         &["bench"],
         "error: 'bench' requires a subcommand but one was not provided",
@@ -70,7 +70,35 @@ static FAULTS: [(&[&str], &str); 22] = [
     ),
     (
         &["bench", "drive", "--tree", "other"],
-        "error: invalid value 'other' for '--tree <NAME>'\n  [possible values: locked]\n\nFor more information, try '--help'.\n",
+        "error: invalid value 'other' for '--tree <NAME>'\n  [possible values: locked, coupled, optimistic, read-unchecked, scan-unvalidated, lock-unchecked, early-release]\n\nFor more information, try '--help'.\n",
+    ),
+    (
+        &["bench", "drive", "--rows4", "4097"],
+        "error: invalid value '4097' for '--rows4 <N>'",
+    ),
+    (
+        &["bench", "drive", "--rows16", "1025"],
+        "error: invalid value '1025' for '--rows16 <N>'",
+    ),
+    (
+        &["bench", "drive", "--rows48", "257"],
+        "error: invalid value '257' for '--rows48 <N>'",
+    ),
+    (
+        &["bench", "drive", "--rows256", "0"],
+        "error: invalid value '0' for '--rows256 <N>'",
+    ),
+    (
+        &["bench", "drive", "--rows256", "65"],
+        "error: invalid value '65' for '--rows256 <N>'",
+    ),
+    (
+        &["bench", "drive", "--limit", "0"],
+        "error: invalid value '0' for '--limit <N>'",
+    ),
+    (
+        &["bench", "drive", "--limit", "1000001"],
+        "error: invalid value '1000001' for '--limit <N>'",
     ),
     (
         &["bench", "drive", "--tree"],
@@ -112,6 +140,35 @@ static GENERATE: [&str; 20] = [
     "1",
     "--seed",
     "18446744073709551615",
+];
+
+// Every option of `drive`, at the end of its limits or near it.
+static DRIVE: [&str; 14] = [
+    "bench",
+    "drive",
+    "--limit",
+    "1",
+    "--rows256",
+    "64",
+    "--tree",
+    "locked",
+    "--rows48",
+    "256",
+    "--rows16",
+    "0",
+    "--rows4",
+    "4096",
+];
+
+// The trees, by their names.
+static TREES: [(&str, Tree); 7] = [
+    ("locked", Tree::Locked),
+    ("coupled", Tree::Coupled),
+    ("optimistic", Tree::Optimistic),
+    ("read-unchecked", Tree::ReadUnchecked),
+    ("scan-unvalidated", Tree::ScanUnvalidated),
+    ("lock-unchecked", Tree::LockUnchecked),
+    ("early-release", Tree::EarlyRelease),
 ];
 
 // What the user is shown who asks for help on `judge`.
@@ -199,13 +256,49 @@ fn asks_for_a_plan(rt: HostRuntime) -> Result<(), Fail> {
 
 #[test]
 fn asks_for_a_drive(rt: HostRuntime) -> Result<(), Fail> {
-    for words in [
-        ["bench", "drive"].as_slice(),
-        &["bench", "drive", "--tree", "locked"],
-        &["bench", "drive", "--tree=locked"],
-    ] {
-        match read_line(rt.alloc(), words)? {
-            Line::Drive { tree } => assert_eq!(rt; tree, Tree::Locked),
+    match read_line(rt.alloc(), &["bench", "drive"])? {
+        Line::Drive {
+            tree,
+            rows4,
+            rows16,
+            rows48,
+            rows256,
+            limit,
+        } => {
+            assert_eq!(rt; tree, Tree::Optimistic);
+            let numbers = [rows4, rows16, rows48, rows256, limit];
+            assert_eq!(rt; numbers.as_slice(), [1024, 256, 64, 16, 1000000].as_slice());
+        }
+        other => assert!(rt; false, "{other:?}"),
+    }
+    Ok(())
+}
+
+#[test]
+fn asks_for_a_drive_with_all_options(rt: HostRuntime) -> Result<(), Fail> {
+    match read_line(rt.alloc(), &DRIVE)? {
+        Line::Drive {
+            tree,
+            rows4,
+            rows16,
+            rows48,
+            rows256,
+            limit,
+        } => {
+            assert_eq!(rt; tree, Tree::Locked);
+            let numbers = [rows4, rows16, rows48, rows256, limit];
+            assert_eq!(rt; numbers.as_slice(), [4096, 0, 256, 64, 1].as_slice());
+        }
+        other => assert!(rt; false, "{other:?}"),
+    }
+    Ok(())
+}
+
+#[test]
+fn knows_each_tree(rt: HostRuntime) -> Result<(), Fail> {
+    for (name, expected) in &TREES {
+        match read_line(rt.alloc(), &["bench", "drive", "--tree", *name])? {
+            Line::Drive { tree, .. } => assert_eq!(rt; tree, *expected),
             other => assert!(rt; false, "{other:?}"),
         }
     }

@@ -8,7 +8,7 @@ use Rattle.command_line.specs.Words.{Gives}
 use Rattle.command_line.specs.declared.fault.LineFault.{LineFault}
 use Rattle.command_line.specs.declared.fault.LineFault.TheVariants as faults
 use Rattle.command_line.proofs.AskableLemmas.{askable}
-use Rattle.command_line.proofs.LineLemmas.{check_use, checks, draw_given, draw_use, draws, drive_given, drive_use, drives, judge_given, judge_use, judges, locate_given, locate_use, locates}
+use Rattle.command_line.proofs.LineLemmas.{check_use, checks, draw_given, draw_use, draws, drive_use, drives, judge_given, judge_use, judges, locate_given, locate_use, locates}
 use Rattle.command_line.proofs.read.read_line.Goals as goal
 
 -- a fault that is `Memory` where the words are accepted may come at them
@@ -58,11 +58,9 @@ returns-in-Ok-clause-draw c budget workers is =
     (subst (Gives draw_usage given []) (sym c.line_of.ensures.same) (c.in-Ok.ensures.given draw_usage given [] (draw_use words budget workers is)))
 
 pub returns-in-Ok-clause-drive : goal.returns-in-Ok-clause-drive
-returns-in-Ok-clause-drive c is =
-    let words = texts c.args.words.now in
-    let given = drive_given words is in
-    drives given c.line_of.result
-    (subst (Gives drive_usage given []) (sym c.line_of.ensures.same) (c.in-Ok.ensures.given drive_usage given [] (drive_use words is)))
+returns-in-Ok-clause-drive c given is =
+    let is_use = drive_use (texts c.args.words.now) given is in
+    drives given c.line_of.result (subst (Gives drive_usage given []) (sym c.line_of.ensures.same) (c.in-Ok.ensures.given drive_usage given [] is_use))
 
 pub returns-in-Err-clause-refused : goal.returns-in-Err-clause-refused
 unfolding bench_app
@@ -94,6 +92,4 @@ returns-in-Err-clause-draw c budget workers is =
     c.in-Err.ensures.given draw_usage (draw_given words budget workers is) [] (draw_use words budget workers is)
 
 pub returns-in-Err-clause-drive : goal.returns-in-Err-clause-drive
-returns-in-Err-clause-drive c is =
-    let words = texts c.args.words.now in
-    c.in-Err.ensures.given drive_usage (drive_given words is) [] (drive_use words is)
+returns-in-Err-clause-drive c given is = c.in-Err.ensures.given drive_usage given [] (drive_use (texts c.args.words.now) given is)
