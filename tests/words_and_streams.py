@@ -30,6 +30,9 @@ DRAWN = (
     "generate --seed 7 --processes 4 --calls 1000 --get 40 --insert 40 --remove 20 --scan 0 --lo 0 --hi 99"
 ).split()
 
+# And other plans, by the seed behind them.
+MIXED = "generate --processes 4 --calls 50 --get 40 --insert 30 --remove 20 --scan 10 --lo 0 --hi 20".split()
+
 # What a stream gets, as regular expressions over all its bytes.
 NOTHING = rb""
 LINE = rb"[^\n]+\n"
@@ -52,6 +55,10 @@ def refused_words():
     yield "too many workers", ["judge", "--workers", "65"], LINES
     yield "a budget of 0 to locate an event", ["locate", "--budget", "0"], LINES
     yield "too many workers for a picture", ["draw", "--workers", "65"], LINES
+    yield "no row of kind 256", ["drive", "--rows256", "0"], LINES
+    yield "too many rows of kind 4", ["drive", "--rows4", "4097"], LINES
+    yield "a limit of no steps", ["drive", "--limit", "0"], LINES
+    yield "a limit past the greatest", ["drive", "--limit", "1000001"], LINES
     yield "an unknown tree", ["drive", "--tree", "other"], LINES
     yield "no tree", ["drive", "--tree"], LINES
 
@@ -127,6 +134,10 @@ def runs(folder):
         words = ["judge", "--budget", "1000000"]
         yield "a wide search in little memory", run(words, source, before=with_little_memory), (4, NOTHING, rb"memory\n")
     yield "a plan that four threads do", piped(DRAWN, ["drive", "--tree", "locked"], ["judge"]), (0, YES, NOTHING)
+    for tree in ("coupled", "optimistic"):
+        for seed in range(1, 21):
+            result = piped([*MIXED, "--seed", str(seed)], ["drive", "--tree", tree], ["judge", "--budget", "1000000", "--workers", "4"])
+            yield f"plan {seed} that four threads do at the {tree} tree", result, (0, YES, NOTHING)
 
     unreadable = os.open(EXAMPLES, os.O_RDONLY)
     yield "input that is a folder", run(["check"], unreadable), (6, NOTHING, rb"io\n")

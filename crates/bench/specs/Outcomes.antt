@@ -1,6 +1,11 @@
 -- How a run comes out, for the words of the command line and the text on the source.
-use Rattle.std.specs.Prelude.{List}
+use Rattle.std.specs.Prelude.{ℕ, List, Option, Some, None}
 use Rattle.clap.specs.Words.{Text}
+use Rattle.art_rows.specs.declared.table.Shape.{Shape}
+use Rattle.art_steps.specs.declared.variant.Variant.{Variant}
+use Rattle.art_steps.specs.declared.variant.Variant.TheVariants as variants
+use Rattle.command_line.specs.declared.line.Tree.{Tree}
+use Rattle.command_line.specs.declared.line.Tree.TheVariants as trees
 use Rattle.command_line.specs.declared.line.Line.{Line}
 use Rattle.command_line.specs.declared.line.Line.TheVariants.{Check, Judge, Locate, Draw, Generate, Replay, Drive}
 use Rattle.command_line.specs.declared.fault.LineFault.{LineFault}
@@ -13,7 +18,22 @@ use Rattle.outcomes.specs.Ends.{Change, IsUnused, IsSound}
 use Rattle.history_engines.specs.Outcomes.{IsCheckOutcome, IsJudgeOutcome}
 use Rattle.history_engines.specs.LocateOutcomes.{IsLocateOutcome}
 use Rattle.picture_engines.specs.Outcomes.{IsDrawOutcome}
-use Rattle.plan_engines.specs.Outcomes.{IsDriveOutcome, IsGenerateOutcome, IsReplayOutcome}
+use Rattle.plan_engines.specs.Outcomes.{IsDriveOutcome, IsGenerateOutcome, IsReplayOutcome, IsTreeDriveOutcome}
+
+-- the variant of a tree on shared words; the map under a lock is none
+abbrev pub variant_of : Tree → Option Variant
+variant_of trees.Locked = None
+variant_of trees.Coupled = Some variants.Coupled
+variant_of trees.Optimistic = Some variants.Optimistic
+variant_of trees.ReadUnchecked = Some variants.ReadUnchecked
+variant_of trees.ScanUnvalidated = Some variants.ScanUnvalidated
+variant_of trees.LockUnchecked = Some variants.LockUnchecked
+variant_of trees.EarlyRelease = Some variants.EarlyRelease
+
+-- the outcome of a drive: on a tree of this shape within the limit, or at the map under a lock
+abbrev pub IsDrivenOutcome : Option Variant → Shape → ℕ → Change → Outcome → Type 0
+IsDrivenOutcome (Some variant) shape limit source outcome = IsTreeDriveOutcome shape variant limit source outcome
+IsDrivenOutcome None shape limit source outcome = IsDriveOutcome source outcome
 
 -- the outcome of what a line asks for
 abbrev pub IsLineOutcome : Line → Change → Outcome → Type 0
@@ -24,7 +44,8 @@ IsLineOutcome (Draw budget workers) source outcome = IsDrawOutcome budget source
 IsLineOutcome (Generate seed processes calls get insert remove scan lo hi) source outcome = IsUnused source
     × IsGenerateOutcome seed (record { get = get; insert = insert; remove = remove; scan = scan; lo = lo; hi = hi }) processes calls outcome
 IsLineOutcome Replay source outcome = IsReplayOutcome source outcome
-IsLineOutcome (Drive tree) source outcome = IsDriveOutcome source outcome
+IsLineOutcome (Drive tree rows4 rows16 rows48 rows256 limit) source outcome =
+    IsDrivenOutcome (variant_of tree) (record { rows4 = rows4; rows16 = rows16; rows48 = rows48; rows256 = rows256 }) limit source outcome
 
 -- the words ask for a line, which has this outcome
 pub record IsAskedOutcome (words : List Text) (source : Change) (outcome : Outcome) : Type 0 where

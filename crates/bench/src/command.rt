@@ -4,14 +4,15 @@ ghost use Rattle.clap.specs.Walk.{texts};
 ghost use Rattle.outcomes.specs.Ends.{change};
 ghost use Rattle.outcomes.specs.Runs.{IsRun};
 ghost use Rattle.outcomes.specs.Statuses.{words_status};
-ghost use Rattle.bench.specs.Outcomes.{IsWordsOutcome, fault_outcome};
+ghost use Rattle.bench.specs.Outcomes.{IsWordsOutcome, fault_outcome, variant_of};
 
+use art::{Shape, Variant};
 use command_line::{Line, LineFault, Tree, read_line};
 use history_engines::{run_check, run_judge, run_locate};
 use locked_map::LockedMap;
 use outcomes::{Outcome, write_outcome};
 use picture_engines::run_draw;
-use plan_engines::{run_drive, run_generate, run_replay};
+use plan_engines::{run_drive, run_generate, run_replay, run_tree_drive};
 use pool::Gate;
 use std::alloc::{AllocError, Global};
 use std::sync::Wait;
@@ -27,7 +28,7 @@ pub fn texts_of(alloc: Global, words: &[String]) -> Result<Vec<&str>, AllocError
 }
 
 /// Does what the words of the command line ask for, the program's name first, and answers the exit status.
-/// Workers pass the gate before each segment that they search.
+/// Workers pass the gate before each segment that they search, and the processes of a drive on a tree before they begin.
 pub fn run<R: Threads + Wait + Sync, S: Source, O: Sink, F: Sink, G: Gate + Sync>(
     rt: &R,
     alloc: Global,
@@ -87,10 +88,41 @@ pub fn run<R: Threads + Wait + Sync, S: Source, O: Sink, F: Sink, G: Gate + Sync
             run_generate(alloc, output, faults, seed, &mix, processes, calls)
         }
         Line::Replay => run_replay(alloc, source, output, faults),
-        Line::Drive { tree: Tree::Locked } => {
-            let map = LockedMap::new(rt, alloc);
-            run_drive(rt, alloc, source, output, faults, &map)
+        Line::Drive {
+            tree,
+            rows4,
+            rows16,
+            rows48,
+            rows256,
+            limit,
+        } => {
+            let Some(variant) = variant_of(tree) else {
+                let map = LockedMap::new(rt, alloc);
+                return run_drive(rt, alloc, source, output, faults, &map);
+            };
+            let shape = Shape {
+                rows4,
+                rows16,
+                rows48,
+                rows256,
+            };
+            run_tree_drive(rt, alloc, source, output, faults, shape, variant, limit, gate)
         }
+    }
+}
+
+/// The variant of a tree on shared words; `Tree::Locked` is none.
+fn variant_of(tree: Tree) -> Option<Variant>
+    ensures { result ≡ variant_of tree }
+{
+    match tree {
+        Tree::Locked => None,
+        Tree::Coupled => Some(Variant::Coupled),
+        Tree::Optimistic => Some(Variant::Optimistic),
+        Tree::ReadUnchecked => Some(Variant::ReadUnchecked),
+        Tree::ScanUnvalidated => Some(Variant::ScanUnvalidated),
+        Tree::LockUnchecked => Some(Variant::LockUnchecked),
+        Tree::EarlyRelease => Some(Variant::EarlyRelease),
     }
 }
 

@@ -50,6 +50,18 @@ fn gets_and_none(alloc: Global, count: usize) -> Result<String, AllocError> {
     Ok(text)
 }
 
+// Each tree, and the one that is meant where none is named.
+const TREE_LINES: [&str; 8] = [
+    "bench drive",
+    "bench drive --tree locked",
+    "bench drive --tree coupled",
+    "bench drive --tree optimistic",
+    "bench drive --tree read-unchecked",
+    "bench drive --tree scan-unvalidated",
+    "bench drive --tree lock-unchecked",
+    "bench drive --tree early-release",
+];
+
 #[test]
 fn driven_plans(rt: HostRuntime) -> Result<(), Fail> {
     let alloc = rt.alloc();
@@ -60,7 +72,7 @@ fn driven_plans(rt: HostRuntime) -> Result<(), Fail> {
         (REPLACES_PLAN, REPLACES_WRITTEN),
     ];
     for (text, output) in driven {
-        for line in ["bench drive", "bench drive --tree locked"] {
+        for line in TREE_LINES {
             leaves(&rt, alloc, line, text.as_bytes(), 0, output, "")?;
         }
     }
@@ -77,6 +89,34 @@ fn driven_plans(rt: HostRuntime) -> Result<(), Fail> {
     for (text, fault) in refused {
         leaves(&rt, alloc, "bench drive", text.as_bytes(), 3, "", fault)?;
     }
+    Ok(())
+}
+
+// A get that stops at its limit is pending: under optimistic lock coupling it makes four steps behind its invocation, under lock
+// coupling five. The map under a lock has no limit. A tree that has only its root refuses a key that parts from another behind the
+// first byte.
+#[test]
+fn limits_and_rows(rt: HostRuntime) -> Result<(), Fail> {
+    let alloc = rt.alloc();
+    let plan = r#"{"scripts":[[["get",5]]],"version":1}"#.as_bytes();
+    let pending = "{\"events\":[{\"invoke\":[\"get\",5],\"process\":0}],\"version\":1}\n";
+    let answered = "{\"events\":[{\"invoke\":[\"get\",5],\"process\":0},\
+        {\"answer\":null,\"process\":0}],\"version\":1}\n";
+    for (line, output) in [
+        ("bench drive --limit 3", pending),
+        ("bench drive --limit 4", answered),
+        ("bench drive --tree coupled --limit 4", pending),
+        ("bench drive --limit 5 --tree coupled", answered),
+        ("bench drive --tree locked --limit 1", answered),
+    ] {
+        leaves(&rt, alloc, line, plan, 0, output, "")?;
+    }
+    let line = "bench drive --rows4 0 --rows16 0 --rows48 0 --rows256 1";
+    let refused = "{\"events\":[\
+        {\"invoke\":[\"insert\",5,7],\"process\":0},{\"answer\":null,\"process\":0},\
+        {\"invoke\":[\"insert\",6,8],\"process\":0},{\"answer\":\"refused\",\"process\":0}],\"version\":1}\n";
+    let plan = r#"{"scripts":[[["insert",5,7],["insert",6,8]]],"version":1}"#.as_bytes();
+    leaves(&rt, alloc, line, plan, 0, refused, "")?;
     Ok(())
 }
 

@@ -69,12 +69,3 @@ returns-in-Replay-clause-run g c = record {
   leaves = c.run_replay.ensures.leaves;
 }
 
-pub returns-in-Drive-Locked-clause-run : goal.returns-in-Drive-Locked-clause-run
-returns-in-Drive-Locked-clause-run g c = record {
-  outcome = c.run_drive.ensures.outcome;
-  comes = read-words IsDriveAnswer IsDriveRefusal (texts c.args.words.now)
-      (change g.S.Source.remaining g.S.Source.failures c.args.source.now c.run_drive.new.source) c.run_drive.ensures.outcome
-      (λ comes. record { line = c.in-Ok.line; accepted = c.in-Ok.ensures.accepted; asked = c.in-Ok.ensures.line; comes = rw c.in-Drive-Locked.is comes })
-      c.run_drive.ensures.comes;
-  leaves = c.run_drive.ensures.leaves;
-}
