@@ -5,6 +5,8 @@
 #[cfg(test)]
 mod driven;
 #[cfg(test)]
+mod engine;
+#[cfg(test)]
 mod gates;
 #[cfg(test)]
 mod setups;

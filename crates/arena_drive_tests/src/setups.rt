@@ -22,7 +22,7 @@ pub(crate) const DEFAULT: Shape = Shape {
 };
 
 /// Whether a tree may have such a shape.
-fn is_within_limits(shape: Shape) -> bool
+pub(crate) fn is_within_limits(shape: Shape) -> bool
     ensures { IsTrue result ↔ IsWithinLimits shape }
 {
     shape.rows4 <= 4096

@@ -1,0 +1,61 @@
+// The engine that drives a plan on a tree, over ends in memory.
+ghost use Rattle.art_rows.specs.Table.{IsWithinLimits};
+
+use crate::setups::{DEFAULT, is_within_limits};
+use art::{Shape, Variant};
+use plan_engines::run_tree_drive;
+use pool::OpenGate;
+use std::alloc::Global;
+use std::process::Abort;
+use std::test::Fail;
+use std::thread::Threads;
+use streams::memory_ends::{MemorySink, MemorySource};
+
+/// A plan text that is driven under a limit leaves this status, this output and these faults.
+fn leaves<R: Threads + Sync + Abort>(
+    rt: &R,
+    alloc: Global,
+    text: &str,
+    shape: Shape,
+    limit: u32,
+    wanted: (u8, &str, &str),
+) -> Result<(), Fail>
+    requires { IsWithinLimits shape }
+{
+    let mut source = MemorySource::new(Vec::from_slice(alloc, text.as_bytes())?, 100, None);
+    let mut out = MemorySink::new(Vec::new(alloc), 100, None);
+    let mut err = MemorySink::new(Vec::new(alloc), 100, None);
+    let status = run_tree_drive(
+        rt,
+        alloc,
+        &mut source,
+        &mut out,
+        &mut err,
+        shape,
+        Variant::Optimistic,
+        limit,
+        &OpenGate,
+    );
+    assert_eq!(rt; status, wanted.0);
+    assert!(rt; out.bytes() == wanted.1.as_bytes());
+    assert!(rt; err.bytes() == wanted.2.as_bytes());
+    Ok(())
+}
+
+#[test]
+fn the_engine_writes_the_history_or_the_first_fault(rt: HostRuntime) -> Result<(), Fail> {
+    let alloc = rt.alloc();
+    if !is_within_limits(DEFAULT) {
+        return Err(Fail::new("no such shape"));
+    }
+    let plan = r#"{"scripts":[[["insert",5,7],["get",5]]],"version":1}"#;
+    let written = "{\"events\":[{\"invoke\":[\"insert\",5,7],\"process\":0},\
+        {\"answer\":null,\"process\":0},{\"invoke\":[\"get\",5],\"process\":0},\
+        {\"answer\":7,\"process\":0}],\"version\":1}\n";
+    leaves(&rt, alloc, plan, DEFAULT, 1_000_000, (0, written, ""))?;
+    let pending = "{\"events\":[{\"invoke\":[\"insert\",5,7],\"process\":0}],\"version\":1}\n";
+    leaves(&rt, alloc, plan, DEFAULT, 1, (0, pending, ""))?;
+    let none = r#"{"scripts":[],"version":1}"#;
+    leaves(&rt, alloc, none, DEFAULT, 1, (3, "", "plan: 3 TooMany\n"))?;
+    Ok(())
+}
