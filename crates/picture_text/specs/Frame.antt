@@ -44,8 +44,8 @@ with_lane text end lane process = text ++ ground_text end (y_of lane + 1) ++ nam
 -- what a circle and a red bar mean
 abbrev pub marks_text : Heading → List ℕ
 marks_text Order = codes "in a circle stands its place in the order."
-marks_text (NoOrder lo hi) = codes "in a circle stands its place in the longest beginning of an order of these keys; at a red one the history goes wrong."
-marks_text (Undecided lo hi) = codes "in a circle stands its place in the longest beginning of an order of these keys that was found."
+marks_text (NoOrder lo hi) = codes "circles show how far an order gets, red where it goes wrong."
+marks_text (Undecided lo hi) = codes "circles show how far an order got within the budget."
 
 -- what the shapes mean, below the lanes
 abbrev pub with_legend : List ℕ → ℕ → Heading → List ℕ

@@ -99,9 +99,7 @@ fn marks_text(heading: &Heading) -> &'static str
 {
     match heading {
         Heading::Order => "in a circle stands its place in the order.",
-        Heading::NoOrder { .. } =>
-            "in a circle stands its place in the longest beginning of an order of these keys; at a red one the history goes wrong.",
-        Heading::Undecided { .. } =>
-            "in a circle stands its place in the longest beginning of an order of these keys that was found.",
+        Heading::NoOrder { .. } => "circles show how far an order gets, red where it goes wrong.",
+        Heading::Undecided { .. } => "circles show how far an order got within the budget.",
     }
 }
