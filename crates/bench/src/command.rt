@@ -106,7 +106,9 @@ pub fn run<R: Threads + Wait + Sync, S: Source, O: Sink, F: Sink, G: Gate + Sync
                 rows48,
                 rows256,
             };
-            run_tree_drive(rt, alloc, source, output, faults, shape, variant, limit, gate)
+            run_tree_drive(
+                rt, alloc, source, output, faults, shape, variant, limit, gate,
+            )
         }
     }
 }

@@ -68,4 +68,3 @@ returns-in-Replay-clause-run g c = record {
       c.run_replay.ensures.comes;
   leaves = c.run_replay.ensures.leaves;
 }
-
