@@ -1,7 +1,7 @@
 #!/usr/bin/env python3
 """Times the program on histories that it generates, and prints the time and the peak memory of each run.
 
-    benchmarks/run.py [check|judge|search|segments|workers|generate|replay|record]..
+    benchmarks/run.py [check|judge|search|segments|workers|generate|replay|record|drive]..
 
 A history for `check` is made by one sorted map that processes call in turn, so that the calls by number are an
 order of it. In one for `judge` and `segments` the calls overlap, and each has its effect at some moment while it is
@@ -9,8 +9,8 @@ open. One for `search` is one segment without order: some pairs are held, some c
 with what nobody put there. One for `workers` has segments that are equal but for their keys, of many configurations and
 without order. `generate` makes plans, and `replay` runs generated plans on both full trees, each call to its end or some turns
 at a time, and one call that waits for a lock as long as a machine may live. `record` has threads note calls and answers at
-recorders, beside as many threads that add to one shared word as often: `crates/record_rate` does either, and the time of the
-same threads with nothing to do is taken off.
+recorders, beside as many threads that add to one shared word as often; `drive` has them do a plan on each full tree, beside additions
+to one word and reads of it: `crates/rates` does each, and the time of the same threads with nothing to do is taken off.
 """
 
 import json
@@ -23,7 +23,7 @@ import time
 
 TOP = os.path.dirname(os.path.dirname(os.path.abspath(__file__)))
 PROGRAM = os.path.join(TOP, "crates", "bench", "out", "bench")
-RECORD_RATE = os.path.join(TOP, "crates", "record_rate", "out", "record_rate")
+RATES = os.path.join(TOP, "crates", "rates", "out", "rates")
 MAX_TEXT = 16_777_216
 MAX_BUDGET = 1_000_000
 
@@ -288,23 +288,46 @@ def replay():
     show("replay, a get that waits, 1000000 turns", ["replay"], replay_text("coupled", scripts, schedule, 1_000_000), b'{"events":')
 
 
+def rates(threads, rounds, *works):
+    """How often in so many rounds each work was done, and the seconds that it took, less those of threads that do nothing."""
+    done = {}
+    for work in ("neither", *works):
+        seconds, _, count = min(run([work, str(threads), str(rounds)], b"", (0,), RATES) for _ in range(5))
+        done[work] = int(count), seconds
+    return [(done[work][0], done[work][1] - done["neither"][1]) for work in works]
+
+
+def build_rates():
+    subprocess.run(["rt", "run"], cwd=os.path.dirname(os.path.dirname(RATES)), stdout=subprocess.DEVNULL, check=True)
+
+
 def record(rounds=500):
-    subprocess.run(["rt", "run"], cwd=os.path.dirname(os.path.dirname(RECORD_RATE)), stdout=subprocess.DEVNULL, check=True)
+    build_rates()
     for threads in (1, 2, 4):
-        seconds = {}
-        for work in ("neither", "word", "recorder"):
-            words = [work, str(threads), str(rounds)]
-            seconds[work], _, done = min(run(words, b"", (0,), RECORD_RATE) for _ in range(5))
-        events = int(done)
-        noted, added = (seconds[work] - seconds["neither"] for work in ("recorder", "word"))
-        print(f"record, {threads} threads: {events / noted:14,.0f} events/s {events / added:14,.0f} additions/s {noted / added:6.2f} times")
+        (events, noted), (additions, added) = rates(threads, rounds, "recorder", "word")
+        print(f"record, {threads} threads: {events / noted:14,.0f} events/s {additions / added:14,.0f} additions/s {noted / added:6.2f} times")
+
+
+def drive(rounds=200):
+    build_rates()
+    for variant in ("coupled", "optimistic"):
+        _, _, answer = run(generated(1, 1024, 7, 1_000_000), b"")
+        scripts = json.loads(answer)["scripts"]
+        # The stamps are steps too, and the turns of one process are its steps.
+        steps = turns_of(variant, scripts, [[0, "end"]] * 1024)
+        for threads in (1, 2, 4):
+            (events, driven), (additions, added), (loads, loaded) = rates(threads, rounds, variant, "word", "load")
+            told = f"drive, {variant}, {threads} threads: {events / 2 / driven:12,.0f} calls/s"
+            if threads == 1:
+                told += f" {steps * rounds / driven:12,.0f} steps/s {additions / added:14,.0f} additions/s {loads / loaded:14,.0f} loads/s"
+            print(told)
 
 
 def main():
     # Builds the program where that is still to do.
     subprocess.run([os.path.join(TOP, "bench"), "judge"], input=history([]), stdout=subprocess.DEVNULL, check=True)
     parts = {"check": check, "judge": judge, "search": search, "segments": segments, "workers": workers,
-             "generate": generate, "replay": replay, "record": record}
+             "generate": generate, "replay": replay, "record": record, "drive": drive}
     for part in sys.argv[1:] or parts:
         parts[part]()
 

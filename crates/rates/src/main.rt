@@ -1,7 +1,7 @@
-//! Notes calls at recorders from some threads, or adds to one shared word as often, so that the time of either can be
-//! taken from outside: `record_rate recorder|word|neither THREADS ROUNDS`. A round starts the threads, and each of them
-//! notes 1,024 calls and their answers, or adds 2,048 times, or does neither. What is printed is how many events were
-//! noted or additions made.
+//! Work of some threads, so often that its time can be taken from outside: `rates WORK THREADS ROUNDS`. In a round each thread
+//! notes 1,024 calls and their answers at one recorder (`recorder`), or does the 1,024 calls of its script on one tree (`coupled`,
+//! `optimistic`), or adds 2,048 times to one shared word (`word`), or reads it as often (`load`), or does nothing (`neither`). What
+//! is printed is how many events were noted, or additions or reads made.
 #![tactic(auto)]
 
 mod rounds;
@@ -10,7 +10,7 @@ use rounds::{Work, done_in};
 use std::io::ErrorKind;
 use std::{env, io};
 
-/// The most threads: a recorder has room for so many processes with 1,024 calls each.
+/// The most threads: there is room for so many processes with 1,024 calls each.
 const MAX_THREADS: u8 = 4;
 
 fn main(rt: HostRuntime) -> io::Result<()> {

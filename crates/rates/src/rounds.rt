@@ -2,23 +2,46 @@
 ghost use Rattle.std.specs.Prelude.{◌≤◌};
 ghost use Rattle.recorder.specs.Recorders.{IsPassOf};
 
+use arena_drives::drive_arena;
+use art::{Shape, Variant};
+use drives::is_drivable;
 use events::{Call, Memory, Reply};
+use pool::OpenGate;
 use recorder::{Pass, Recorder};
 use std::alloc::Global;
 use std::sync::atomic::{AtomicU64, Ordering};
 use std::thread;
 use std::thread::Threads;
+use workload::{Mix, plan};
 
 /// How many calls a thread notes in a round.
 const CALLS: u32 = 1024;
+
+/// From what the scripts are drawn.
+const SEED: u64 = 7;
+
+/// Rows for all keys of a round.
+const SHAPE: Shape = Shape {
+    rows4: 4096,
+    rows16: 1024,
+    rows48: 256,
+    rows256: 64,
+};
+
+/// More steps than a call takes here.
+const LIMIT: u32 = 1_000_000;
 
 /// What a thread does in a round.
 #[derive(Clone, Copy)]
 pub(crate) enum Work {
     /// It notes calls and their answers at a recorder.
     Recorder,
+    /// It does the calls of a script, on one tree for all threads.
+    Tree(Variant),
     /// It adds to a word that all threads share, once for each invocation and once for each answer.
     Word,
+    /// It reads that word as often.
+    Load,
     /// It does nothing: what is left is the time of the threads.
     Neither,
 }
@@ -28,7 +51,10 @@ impl Work {
     pub(crate) fn named(name: &str) -> Option<Work> {
         match name {
             "recorder" => Some(Work::Recorder),
+            "coupled" => Some(Work::Tree(Variant::Coupled)),
+            "optimistic" => Some(Work::Tree(Variant::Optimistic)),
             "word" => Some(Work::Word),
+            "load" => Some(Work::Load),
             "neither" => Some(Work::Neither),
             _ => None,
         }
@@ -50,6 +76,13 @@ pub(crate) fn done_in<R: Threads + Sync>(
     for _ in 0..rounds {
         let by_thread = match work {
             Work::Recorder => recorded(rt, alloc, threads)?,
+            Work::Tree(variant) => driven(rt, alloc, variant, threads)?,
+            Work::Load => thread::map_indices(
+                rt,
+                alloc,
+                usize::from(threads),
+                &|_| load_all(&word),
+            )?,
             Work::Word => thread::map_indices(
                 rt,
                 alloc,
@@ -87,6 +120,40 @@ fn note_all(recorder: &Recorder, mut pass: Pass) -> u64
         }
     }
     done
+}
+
+/// How many events were noted while each of some threads did its script on one tree.
+fn driven<R: Threads + Sync>(
+    rt: &R,
+    alloc: Global,
+    variant: Variant,
+    threads: u8,
+) -> Result<Vec<u64>, Memory> {
+    let mix = Mix {
+        get: 40,
+        insert: 30,
+        remove: 20,
+        scan: 10,
+        lo: 0,
+        hi: 1_000_000,
+    };
+    let Ok(plan) = plan(alloc, SEED, &mix, u32::from(threads), CALLS) else {
+        return Err(Memory);
+    };
+    let mut done = Vec::new(alloc);
+    if is_drivable(&plan) {
+        let history = drive_arena(rt, alloc, &plan, SHAPE, variant, LIMIT, &OpenGate)?;
+        done.push(history.events().len() as u64)?;
+    }
+    Ok(done)
+}
+
+/// Reads a shared word as often as others add to it: how many reads were made.
+fn load_all(word: &AtomicU64) -> u64 {
+    for _ in 0..2 * CALLS {
+        word.load(Ordering::SeqCst);
+    }
+    u64::from(2 * CALLS)
 }
 
 /// Adds to a shared word as often: how many additions were made.

@@ -1,5 +1,5 @@
 use Rattle.recorder.specs.Recorders.{IsPassOf}
-use Rattle.record_rate.proofs.rounds.note_all.Given as goal
+use Rattle.rates.proofs.rounds.note_all.Given as goal
 
 -- the pass stays one of the recorder
 abbrev pub invariant-loop : goal.invariant-loop
