@@ -298,7 +298,7 @@ def rates(threads, rounds, *works):
 
 
 def build_rates():
-    subprocess.run(["rt", "run"], cwd=os.path.dirname(os.path.dirname(RATES)), stdout=subprocess.DEVNULL, check=True)
+    subprocess.run(["rt", "run", "--", "neither", "1", "0"], cwd=os.path.dirname(os.path.dirname(RATES)), stdout=subprocess.DEVNULL, check=True)
 
 
 def record(rounds=500):
