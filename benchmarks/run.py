@@ -311,7 +311,7 @@ def record(rounds=500):
 def drive(rounds=200):
     build_rates()
     for variant in ("coupled", "optimistic"):
-        _, _, answer = run(generated(1, 1024, 7, 1_000_000), b"")
+        _, _, answer = run(generated(1, 1024, 7, 10_000), b"")
         scripts = json.loads(answer)["scripts"]
         # The stamps are steps too, and the turns of one process are its steps.
         steps = turns_of(variant, scripts, [[0, "end"]] * 1024)

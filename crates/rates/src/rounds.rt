@@ -22,10 +22,10 @@ const SEED: u64 = 7;
 
 /// Rows for all keys of a round.
 const SHAPE: Shape = Shape {
-    rows4: 4096,
-    rows16: 1024,
-    rows48: 256,
-    rows256: 64,
+    rows4: 1024,
+    rows16: 256,
+    rows48: 64,
+    rows256: 16,
 };
 
 /// More steps than a call takes here.
@@ -135,7 +135,7 @@ fn driven<R: Threads + Sync>(
         remove: 20,
         scan: 10,
         lo: 0,
-        hi: 1_000_000,
+        hi: 10_000,
     };
     let Ok(plan) = plan(alloc, SEED, &mix, u32::from(threads), CALLS) else {
         return Err(Memory);
@@ -148,12 +148,15 @@ fn driven<R: Threads + Sync>(
     Ok(done)
 }
 
-/// Reads a shared word as often as others add to it: how many reads were made.
+/// Reads a shared word as often as others add to it: how many reads found 0.
 fn load_all(word: &AtomicU64) -> u64 {
+    let mut done: u64 = 0;
     for _ in 0..2 * CALLS {
-        word.load(Ordering::SeqCst);
+        if word.load(Ordering::SeqCst) == 0 {
+            done = done.wrapping_add(1);
+        }
     }
-    u64::from(2 * CALLS)
+    done
 }
 
 /// Adds to a shared word as often: how many additions were made.
