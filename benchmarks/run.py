@@ -10,7 +10,7 @@ with what nobody put there. One for `workers` has segments that are equal but fo
 without order. `generate` makes plans, and `replay` runs generated plans on both full trees, each call to its end or some turns
 at a time, and one call that waits for a lock as long as a machine may live. `record` has threads note calls and answers at
 recorders, beside as many threads that add to one shared word as often; `drive` has them do a plan on each full tree, beside additions
-to one word and reads of it: `crates/rates` does each, and the time of the same threads with nothing to do is taken off.
+to one word: `crates/rates` does each, and the time of the same threads with nothing to do is taken off.
 """
 
 import json
@@ -316,10 +316,10 @@ def drive(rounds=200):
         # The stamps are steps too, and the turns of one process are its steps.
         steps = turns_of(variant, scripts, [[0, "end"]] * 1024)
         for threads in (1, 2, 4):
-            (events, driven), (additions, added), (loads, loaded) = rates(threads, rounds, variant, "word", "load")
+            (events, driven), (additions, added) = rates(threads, rounds, variant, "word")
             told = f"drive, {variant}, {threads} threads: {events / 2 / driven:12,.0f} calls/s"
             if threads == 1:
-                told += f" {steps * rounds / driven:12,.0f} steps/s {additions / added:14,.0f} additions/s {loads / loaded:14,.0f} loads/s"
+                told += f" {steps * rounds / driven:12,.0f} steps/s {additions / added:14,.0f} additions/s"
             print(told)
 
 

@@ -1,7 +1,7 @@
 //! Work of some threads, so often that its time can be taken from outside: `rates WORK THREADS ROUNDS`. In a round each thread
 //! notes 1,024 calls and their answers at one recorder (`recorder`), or does the 1,024 calls of its script on one tree (`coupled`,
-//! `optimistic`), or adds 2,048 times to one shared word (`word`), or reads it as often (`load`), or does nothing (`neither`). What
-//! is printed is how many events were noted, or additions or reads made.
+//! `optimistic`), or adds 2,048 times to one shared word (`word`), or does nothing (`neither`). What is printed is
+//! how many events were noted, or additions made.
 #![tactic(auto)]
 
 mod rounds;

@@ -40,8 +40,6 @@ pub(crate) enum Work {
     Tree(Variant),
     /// It adds to a word that all threads share, once for each invocation and once for each answer.
     Word,
-    /// It reads that word as often.
-    Load,
     /// It does nothing: what is left is the time of the threads.
     Neither,
 }
@@ -54,7 +52,6 @@ impl Work {
             "coupled" => Some(Work::Tree(Variant::Coupled)),
             "optimistic" => Some(Work::Tree(Variant::Optimistic)),
             "word" => Some(Work::Word),
-            "load" => Some(Work::Load),
             "neither" => Some(Work::Neither),
             _ => None,
         }
@@ -77,12 +74,6 @@ pub(crate) fn done_in<R: Threads + Sync>(
         let by_thread = match work {
             Work::Recorder => recorded(rt, alloc, threads)?,
             Work::Tree(variant) => driven(rt, alloc, variant, threads)?,
-            Work::Load => thread::map_indices(
-                rt,
-                alloc,
-                usize::from(threads),
-                &|_| load_all(&word),
-            )?,
             Work::Word => thread::map_indices(
                 rt,
                 alloc,
@@ -146,17 +137,6 @@ fn driven<R: Threads + Sync>(
         done.push(history.events().len() as u64)?;
     }
     Ok(done)
-}
-
-/// Reads a shared word as often as others add to it: how many reads found 0.
-fn load_all(word: &AtomicU64) -> u64 {
-    let mut done: u64 = 0;
-    for _ in 0..2 * CALLS {
-        if word.load(Ordering::SeqCst) == 0 {
-            done = done.wrapping_add(1);
-        }
-    }
-    done
 }
 
 /// Adds to a shared word as often: how many additions were made.
