@@ -8,9 +8,9 @@ use events::Memory;
 use segments::Segment;
 use std::alloc::Global;
 
-/// The longest front of a segment that a search of it meets, by the numbers of its calls: how far an order gets. Where
-/// the segment has no order, and no more configurations count than the budget, no front of it is longer. It costs what the
-/// search costs, and a copy of the calls taken whenever more are taken than ever before.
+/// The longest front of a segment that a search of it meets, by the numbers of its calls: how far an order gets. Of the
+/// configurations that the search meets none has more calls taken. It costs what the search costs, and a copy of the calls
+/// taken whenever more are taken than ever before.
 pub fn longest_front(alloc: Global, segment: &Segment, budget: u32) -> Result<Vec<u32>, Memory>
     requires { (1 ≤ budget) × (budget ≤ MAX_BUDGET) }
     ensures front { IfOk result (λ v. IsFrontOf segment.now v.items) }
