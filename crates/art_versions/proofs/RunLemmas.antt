@@ -205,12 +205,12 @@ start-sound plan start words v root h =
 
 -- A state that a schedule gives, with the steps that were made up to it.
 pub sound-at : (plan : Plan) (start : Contents) (words schedule : List ℕ) (s : State) → IsRun plan start words schedule s → plan.variant ≡ Optimistic
-    → (n : ℕ) × IsSound plan.shape n s
+    → (n : ℕ) × (n < 2 ^ 62) × IsSound plan.shape n s
 sound-at plan start words schedule s run v =
     let first = start-sound plan start words v run.within.shape.root run.starts in
     let steps = run-steps plan schedule (opened_on plan words) s run.gives in
     let few : first.steps + length schedule < 2 ^ 62 = omega (arith, first.few, steps, run.few_steps) in
-    (first.steps + length schedule, (run-sound plan v run.within.shape.root schedule first.steps (opened_on plan words) s few first.sound run.gives).0)
+    (first.steps + length schedule, few, (run-sound plan v run.within.shape.root schedule first.steps (opened_on plan words) s few first.sound run.gives).0)
 
 -- A run in two parts.
 

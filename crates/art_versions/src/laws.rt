@@ -8,7 +8,8 @@ pub fn rows_are_sound()
     ensures { RowsAreSound }
 {}
 
-/// Versions never fall, and a row whose version is the same and unlocked has had the same words all the while.
+/// The version of a row that was claimed and that nobody fills never falls; where it is the same and unlocked, the row has
+/// had the same words.
 pub fn rows_stand_still()
     ensures { RowsStandStill }
 {}
