@@ -18,7 +18,7 @@ use Rattle.art_core.specs.declared.process.Process.{Process}
 use Rattle.art_core.specs.Core.{Plan, State, begun, history_of, known_reply, opened_on}
 use Rattle.art_core.specs.Runs.{Gives, HasFewSteps}
 use Rattle.art_core.specs.Starts.{StartsOn, IsStartOf}
-use Rattle.art_core.specs.Meaning.{Means}
+use Rattle.art_core.specs.Meaning.{Means, AllUnlocked}
 use Rattle.art_core.specs.Moments.{HasMoment}
 
 -- a plan within the limits
@@ -47,12 +47,12 @@ IsSerial [] = Unit {0}
 IsSerial (Invoke p call ∷ Answer q reply ∷ events) = (p ≡ q) × IsSerial events
 IsSerial events = ⊥
 
--- A serial schedule of a full tree does what the map does from the starting pairs on, and its words mean the map's pairs.
+-- A serial schedule of a full tree does what the map does from the starting pairs on; no row is locked after it, and its words mean the map's pairs.
 abbrev pub SerialIsMap : Type 0
 SerialIsMap =
     (plan : Plan) (start : Contents) (words schedule : List ℕ) (s : State) → IsRun plan start words schedule s
     → (plan.variant ≡ Coupled) ⊎ (plan.variant ≡ Optimistic) → IsSerial (history_of s)
-    → IsLegal start (operations (history_of s)) × Means plan.shape s.words (after_calls start (operations (history_of s)))
+    → IsLegal start (operations (history_of s)) × AllUnlocked plan.shape s.words × Means plan.shape s.words (after_calls start (operations (history_of s)))
 
 -- The histories of the full trees are linearizable: first of the coupled one,
 abbrev pub CoupledIsLinearizable : Type 0

@@ -97,4 +97,4 @@ serial-is-map opens same seeks scans inserts plan start words schedule s run ful
     let opened = opens plan.shape within.root in
     let k = serial-run-keeps plan start words schedule s (IsMap plan.shape) run serial (is-kept same plan.shape within seeks scans inserts plan.variant)
     (record { rest = opened.0; means = opened.1; few = omega arith }) in
-    (k.0, k.1.means)
+    (k.0, k.1.rest.unlocked, k.1.means)

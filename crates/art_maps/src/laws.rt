@@ -7,8 +7,8 @@ use art_inserts::inserts_are_the_maps;
 use art_trees::{same_trees_are_one, tables_open_at_rest};
 use art_walks::scans_are_the_maps;
 
-/// A serial schedule of a full tree has a legal history, and its words mean the pairs after it, those included that it
-/// starts with. It stands on the laws of trees and of calls that run alone.
+/// A serial schedule of a full tree has a legal history, no row is locked after it, and its words mean the pairs after it,
+/// those included that it starts with. It stands on the laws of trees and of calls that run alone.
 pub fn serial_is_map()
     ensures { SerialIsMap }
 {

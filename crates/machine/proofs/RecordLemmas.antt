@@ -17,7 +17,7 @@ use Rattle.art_steps.specs.declared.variant.Variant.TheVariants.{Coupled, Optimi
 use Rattle.art_core.specs.declared.process.Process.{Process}
 use Rattle.art_core.specs.Core.{Plan, State, history_of}
 use Rattle.art_core.specs.Claims.{IsRun, IsSerial, SerialIsMap}
-use Rattle.art_core.specs.Meaning.{Means}
+use Rattle.art_core.specs.Meaning.{Means, AllUnlocked}
 use Rattle.art_core.proofs.HistoryLemmas.{logs-are-history}
 use Rattle.machine.specs.declared.runner.Runner.{Runner}
 use Rattle.machine.specs.declared.machines.Machine.{Machine}
@@ -83,10 +83,11 @@ does-the-map serial m h is = ∥∥₁_map (reached m) go
     go : IsReached m → DoesTheMap m h
     go r full serial_h =
         let same : h ≡ record { start = start_of m; events = history_of r.state } = is r.plan r.state r.shows in
-        let (legal, means) = serial r.plan (start_of m) r.first r.schedule r.state r.run (subst (λ v. (v ≡ Coupled) ⊎ (v ≡ Optimistic))
+        let (legal, unlocked, means) = serial r.plan (start_of m) r.first r.schedule r.state r.run (subst (λ v. (v ≡ Coupled) ⊎ (v ≡ Optimistic))
         (sym r.shows.variant) full)
         (subst IsSerial (ap (λ h. h.events) same) serial_h) in (
           subst (λ (h : HistoryView). Legal h.start h.events) (sym same) legal,
+          subst (λ s. AllUnlocked s m.words.items) r.shows.shape (subst (AllUnlocked r.plan.shape) r.shows.words unlocked),
           subst (λ s. Means s m.words.items (after h)) r.shows.shape
               (subst (λ ws. Means r.plan.shape ws (after h)) r.shows.words
               (subst (λ (h : HistoryView). Means r.plan.shape r.state.words (after h)) (sym same) means)),

@@ -5,10 +5,11 @@ use Rattle.events.specs.Operations.{operations}
 use Rattle.orders.specs.Orders.{IsLegal, after_calls}
 use Rattle.art_steps.specs.declared.variant.Variant.TheVariants.{Coupled, Optimistic}
 use Rattle.art_core.specs.Claims.{IsSerial}
-use Rattle.art_core.specs.Meaning.{Means}
+use Rattle.art_core.specs.Meaning.{Means, AllUnlocked}
 use Rattle.machine.specs.declared.machines.Machine.{Machine}
 
--- Where the tree is full and no call overlaps another, the calls by number are legal from the starting pairs on, and the words mean the pairs after them.
+-- Where the tree is full and no call overlaps another, the calls by number are legal from the starting pairs on, no row is locked, and the words mean the
+-- pairs after them.
 abbrev pub DoesTheMap : Machine → HistoryView → Type 0
 DoesTheMap m h = (m.variant ≡ Coupled) ⊎ (m.variant ≡ Optimistic) → IsSerial h.events
-    → IsLegal h.start (operations h.events) × Means m.shape m.words.items (after_calls h.start (operations h.events))
+    → IsLegal h.start (operations h.events) × AllUnlocked m.shape m.words.items × Means m.shape m.words.items (after_calls h.start (operations h.events))

@@ -17,9 +17,9 @@ impl Machine {
 
     /// The history so far: the starting pairs, and all events by rising stamp. Open calls are pending, and calls that were
     /// not begun are not in it. Where the tree is full and no call overlaps another, the history is legal from its starting
-    /// pairs on, and the words mean the pairs after it. Where the tree is the optimistic one, each scan that was answered has a
-    /// moment within it at which all that it read stands still, and at which it would read the same alone; so has each get, for the
-    /// last row that it read, which says its reply. `Err` is want of memory.
+    /// pairs on, no row is locked, and the words mean the pairs after it. Where the tree is the optimistic one, each scan that was
+    /// answered has a moment within it at which all that it read stands still, and at which it would read the same alone; so has
+    /// each get, for the last row that it read, which says its reply. `Err` is want of memory.
     pub fn history(&self, alloc: Global) -> Result<History, Memory>
         ensures history { (plan : Plan) (s : State) → Shows plan self.now s → IfOk result (λ h. h
             ≡ record { start = start_of self.now; events = history_of s }) }
