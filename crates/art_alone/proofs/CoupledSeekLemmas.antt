@@ -15,7 +15,7 @@ use Rattle.art_steps.specs.Updates.{overwriting}
 use Rattle.art_steps.specs.Coupled.{overwrite, seek_below, step_down, seek_at, seek_from, seek}
 use Rattle.art_steps.proofs.GuardLemmas.{seek_from-body}
 use Rattle.art_core.specs.Meaning.{Reached, root, below, child_in, child_on, slot_of}
-use Rattle.art_core.specs.Invariant.{level_in}
+use Rattle.art_core.specs.Forms.{level_in}
 use Rattle.art_trees.specs.Trees.{IsAtRest, LeadsTo}
 use Rattle.art_alone.specs.Alone.{Comes}
 use Rattle.art_alone.specs.Finding.{keys_in, count_in, found_of}

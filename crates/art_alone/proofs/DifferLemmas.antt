@@ -9,7 +9,7 @@ use Rattle.art_rows.specs.declared.table.Child.TheVariants.{Row as ChildRow, Lea
 use Rattle.art_rows.specs.Words.{key_bytes, first_difference}
 use Rattle.art_steps.specs.Updates.{keys_differ_at}
 use Rattle.art_core.specs.Meaning.{child_on}
-use Rattle.art_core.specs.Invariant.{level_in, path_in}
+use Rattle.art_core.specs.Forms.{level_in, path_in}
 use Rattle.art_trees.specs.Trees.{IsAtRest, LeadsTo}
 use Rattle.art_alone.proofs.WayLemmas.{level-most, same-beginning}
 

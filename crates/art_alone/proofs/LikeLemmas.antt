@@ -11,7 +11,7 @@ use Rattle.art_rows.specs.declared.table.Child.{Child}
 use Rattle.art_rows.specs.Table.{row_words, table_words, claims_of, first_child}
 use Rattle.art_rows.specs.Words.{is_locked, is_obsolete, child_of}
 use Rattle.art_core.specs.Meaning.{Reached, child_in, slot_of}
-use Rattle.art_core.specs.Invariant.{HasForm}
+use Rattle.art_core.specs.Forms.{HasForm}
 use Rattle.art_trees.specs.Trees.{IsAtRest, SameRow, ChangesAt}
 use Rattle.art_alone.proofs.PlaceLemmas.{Sits, sits-part, sits-inside, claims-low, sits-kind_at}
 use Rattle.art_alone.proofs.SlotLemmas.{IsSlot, slot-is, slot-once, slot-same, form-same, SameKeys}

@@ -13,7 +13,7 @@ use Rattle.art_steps.specs.Rows.{Setting, Row, Place, key_of, byte_at, row_of, r
 use Rattle.art_steps.specs.Optimistic.{step_down, insert_below, insert_at, insert_from, insert}
 use Rattle.art_steps.proofs.GuardLemmas.{insert_from_optimistic-body}
 use Rattle.art_core.specs.Meaning.{Reached, root, below, child_in, child_on, slot_of}
-use Rattle.art_core.specs.Invariant.{level_in, path_in}
+use Rattle.art_core.specs.Forms.{level_in, path_in}
 use Rattle.art_trees.specs.Trees.{IsAtRest, LeadsTo}
 use Rattle.art_alone.specs.Alone.{Comes}
 use Rattle.art_alone.specs.Finding.{keys_in, count_in, found_of}

@@ -6,7 +6,7 @@ use Rattle.art_rows.specs.declared.table.Kind.TheVariants.{Four, Sixteen, FortyE
 use Rattle.art_rows.specs.Table.{row_words, rows_of, table_words, claims_of, base_of, kind_at}
 use Rattle.art_rows.specs.Words.{is_locked, is_obsolete}
 use Rattle.art_core.specs.Meaning.{Reached}
-use Rattle.art_core.specs.Invariant.{IsTree}
+use Rattle.art_core.specs.Forms.{IsTree}
 use Rattle.art_trees.specs.Trees.{IsAtRest}
 use Rattle.art_alone.proofs.PlaceLemmas.{Sits, sits-part, sits-inside, claims-low, kind_at-sits}
 use Rattle.art_alone.proofs.RestLemmas.{unclaimed-apart}

@@ -11,7 +11,7 @@ use Rattle.art_rows.proofs.ReaderLemmas.{most_of}
 use Rattle.art_rows.proofs.WriterLemmas.{length-keys16, length-keys4}
 use Rattle.art_steps.specs.Rows.{Setting, is_insert, Found, Has}
 use Rattle.art_core.specs.Meaning.{slot_of, entry_slot}
-use Rattle.art_core.specs.Invariant.{HasForm}
+use Rattle.art_core.specs.Forms.{HasForm}
 use Rattle.art_trees.specs.Trees.{SameRow}
 use Rattle.art_alone.specs.Finding.{keys_in, count_in, found_of, found_in}
 

@@ -15,7 +15,7 @@ use Rattle.art_rows.specs.Words.{key_bytes, first_difference, Info, info_of, kin
 use Rattle.art_steps.specs.Rows.{key_of}
 use Rattle.art_steps.specs.Updates.{overwriting}
 use Rattle.art_core.specs.Meaning.{Reached, root, below, child_on, slot_of}
-use Rattle.art_core.specs.Invariant.{level_in, path_in}
+use Rattle.art_core.specs.Forms.{level_in, path_in}
 use Rattle.art_trees.specs.Trees.{IsAtRest, LeadsTo}
 use Rattle.art_steps.specs.Steps.{Part}
 use Rattle.art_alone.specs.Alone.{Comes}

@@ -40,7 +40,8 @@ use Rattle.art_core.specs.Core.{Plan, State, Move, Invokes, Makes, Responds, beg
 use Rattle.art_core.specs.Core.{move_of, invoked, next_in, next_call, next_move, move_from, invocation, moved_by, step_of, step}
 use Rattle.art_core.specs.Runs.{run_on, HasFewSteps}
 use Rattle.art_core.specs.Starts.{StartsOn, start_plan}
-use Rattle.art_core.specs.Claims.{IsPlan, LogsAreHistory}
+use Rattle.art_core.specs.Plans.{IsPlan}
+use Rattle.art_core.specs.Claims.{LogsAreHistory}
 use Rattle.art_core.proofs.RunLemmas.{begun-more}
 
 mod-small : (a w : ℕ) → a < w → a % w ≡ a

@@ -25,7 +25,7 @@ use Rattle.art_core.specs.Core.{word_of_move, after_move, move_of}
 use Rattle.art_core.specs.Core.{move_from, next_move, next_call, invocation, step, opened_on, idle, history_of}
 use Rattle.art_core.specs.Accesses.{changed}
 use Rattle.art_core.specs.Runs.{run_on}
-use Rattle.art_core.specs.Claims.{IsPlan}
+use Rattle.art_core.specs.Plans.{IsPlan}
 use Rattle.art_core.specs.Laws.{IsClocked, ClocksAreAhead}
 use Rattle.art_core.proofs.HistoryLemmas.{IsLogged, has_begun, one-drawn, is-moved, nowhere, opened-logged, calls-within, all-idle}
 use Rattle.art_core.proofs.CountLemmas.{IsCounted, are_counted, counted-step}

@@ -1,51 +1,24 @@
--- What is claimed of every schedule: statements alone.
-use Rattle.std.specs.Prelude.{◌≡◌, ◌≢◌, ◌⊎◌, ℕ, ◌≤◌, Bool, true, false, IsTrue, List, [], ◌∷◌, length, map, sum, slice_get, All, Some}
+-- What is claimed of every schedule: statements alone. Laws carry those of histories (`logs_are_history`), of serial schedules (`serial_is_map`) and of scans
+-- (`scans_have_one_moment`); those of linearizability are not yet proved.
+use Rattle.std.specs.Prelude.{◌≡◌, ◌≢◌, ◌⊎◌, ℕ, Bool, true, false, IsTrue, List, length, slice_get, All, Some}
 use Rattle.events.specs.declared.event.Call.{Call}
 use Rattle.events.specs.declared.event.Call.TheVariants.{Scan}
 use Rattle.events.specs.declared.event.Reply.{Reply}
 use Rattle.events.specs.declared.event.Reply.TheVariants as replies
-use Rattle.events.specs.declared.event.Event.{Event}
-use Rattle.events.specs.declared.event.Event.TheVariants.{Invoke, Answer}
-use Rattle.events.specs.declared.TheConstants.{PROCESSES, MAX_CALLS}
 use Rattle.events.specs.Histories.{AreHistoryEvents}
 use Rattle.events.specs.Operations.{operations}
 use Rattle.map_object.specs.MapObject.{Contents}
 use Rattle.orders.specs.Orders.{IsLegal, after_calls, IsLinearizable}
-use Rattle.art_rows.specs.Table.{IsWithinLimits}
 use Rattle.art_steps.specs.declared.variant.Variant.TheVariants.{Coupled, Optimistic}
-use Rattle.art_steps.specs.TreeCalls.{is_tree_call}
 use Rattle.art_core.specs.declared.process.Process.{Process}
 use Rattle.art_core.specs.Core.{Plan, State, begun, history_of, known_reply, opened_on}
-use Rattle.art_core.specs.Runs.{Gives, HasFewSteps}
-use Rattle.art_core.specs.Starts.{StartsOn, IsStartOf}
+use Rattle.art_core.specs.Plans.{IsRun, IsSerial}
 use Rattle.art_core.specs.Meaning.{Means, AllUnlocked}
 use Rattle.art_core.specs.Moments.{HasMoment}
-
--- a plan within the limits
-pub record IsPlan (plan : Plan) : Type 0 where
-  pub shape : IsWithinLimits plan.shape
-  pub some_script : 1 ≤ length plan.scripts
-  pub few_scripts : length plan.scripts ≤ PROCESSES
-  pub few_calls : sum (map (λ script. length script) plan.scripts) ≤ MAX_CALLS
-  pub calls : All (λ script. All (λ call. IsTrue (is_tree_call call)) script) plan.scripts
-
--- A state that a schedule gives, of a plan within the limits, after few steps. It starts with these pairs, on these words.
-pub record IsRun (plan : Plan) (start : Contents) (words : List ℕ) (schedule : List ℕ) (s : State) : Type 0 where
-  pub within : IsPlan plan
-  pub start_within : IsStartOf plan start
-  pub starts : StartsOn plan.shape plan.variant start words
-  pub gives : Gives plan (opened_on plan words) schedule s
-  pub few_steps : HasFewSteps s
 
 -- What a state logs is a history.
 abbrev pub LogsAreHistory : Type 0
 LogsAreHistory = (plan : Plan) (start : Contents) (words schedule : List ℕ) (s : State) → IsRun plan start words schedule s → AreHistoryEvents (history_of s)
-
--- each call is answered before the next is invoked, the last one too
-abbrev pub IsSerial : List Event → Type 0
-IsSerial [] = Unit {0}
-IsSerial (Invoke p call ∷ Answer q reply ∷ events) = (p ≡ q) × IsSerial events
-IsSerial events = ⊥
 
 -- A serial schedule of a full tree does what the map does from the starting pairs on; no row is locked after it, and its words mean the map's pairs.
 abbrev pub SerialIsMap : Type 0

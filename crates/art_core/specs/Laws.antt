@@ -14,7 +14,7 @@ use Rattle.art_core.specs.declared.process.Process.{Process}
 use Rattle.art_core.specs.Core.{Plan, State, Move, Invokes, begun, finished, moved, move_of, history_of, opened, opened_on}
 use Rattle.art_core.specs.Runs.{Gives, run_on, run_from}
 use Rattle.art_core.specs.Starts.{StartsOn, IsStartRefused}
-use Rattle.art_core.specs.Claims.{IsPlan}
+use Rattle.art_core.specs.Plans.{IsPlan}
 use Rattle.art_core.specs.declared.item.Item.{Item}
 use Rattle.art_core.specs.NamedTurns.{AreMadeWhole}
 use Rattle.art_core.specs.Schedules.{Run, begun_run, items_made}

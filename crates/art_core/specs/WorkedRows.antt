@@ -72,10 +72,7 @@ one_each n = record { shape = record { rows4 = 1; rows16 = 1; rows48 = 1; rows25
     inserts k zero = []
     inserts k (suc n) = Insert k 1 ∷ inserts (k + 1) n
 
--- A get that stops for good, after k of its turns, and an insert after it.
-unfoldable pub stopped : Variant → Plan
-stopped v = record { shape = eights; variant = v; scripts = (Insert 5 50 ∷ Insert 9 90 ∷ Get 5 ∷ []) ∷ (Insert 3 30 ∷ []) ∷ [] }
-
+-- How many events there are where the get stops for good after k of its turns, and the insert comes after it.
 unfoldable pub count_events : Plan → ℕ → ℕ
 count_events plan k = length (events_of (schedule_run plan 100 (End 0 ∷ End 0 ∷ Turns 0 k ∷ End 1 ∷ [])))
   where
@@ -112,8 +109,8 @@ pub record WorkedRows : Type 0 where
       ≡ 34 ∷ 1 ∷ 1 ∷ 1 ∷ 1 ∷ 13 ∷ 49 ∷ 0 ∷ 14 ∷ 578437695752307201 ∷ 17 ∷ 17 ∷ 16 ∷ 133 ∷ []
   pub filled : words_at (one_each 49) (replicate 49 (End 0)) (4 ∷ 33 ∷ 67 ∷ 116 ∷ [])
       ≡ 2 ∷ 128 ∷ 48 ∷ 20 ∷ []
-  pub stopped_optimistic : map (count_events (stopped Optimistic)) (0 ∷ 1 ∷ 5 ∷ 10 ∷ 11 ∷ []) ≡ 6 ∷ 7 ∷ 7 ∷ 7 ∷ 8 ∷ []
-  pub stopped_coupled : map (count_events (stopped Coupled)) (0 ∷ 1 ∷ 2 ∷ 3 ∷ 10 ∷ 11 ∷ 12 ∷ []) ≡ 6 ∷ 7 ∷ 7 ∷ 6 ∷ 6 ∷ 7 ∷ 8 ∷ []
+  pub stopped_optimistic : map (count_events (shifted Optimistic)) (0 ∷ 1 ∷ 5 ∷ 10 ∷ 11 ∷ []) ≡ 6 ∷ 7 ∷ 7 ∷ 7 ∷ 8 ∷ []
+  pub stopped_coupled : map (count_events (shifted Coupled)) (0 ∷ 1 ∷ 2 ∷ 3 ∷ 10 ∷ 11 ∷ 12 ∷ []) ≡ 6 ∷ 7 ∷ 7 ∷ 6 ∷ 6 ∷ 7 ∷ 8 ∷ []
   -- the last event of the scan over all keys
   pub deep_scan : last_event (events deep (End 0 ∷ End 0 ∷ End 0 ∷ End 0 ∷ []))
       ≡ Some (Answer 0 (reply.Pairs ((16777217, 1) ∷ (16777218, 2) ∷ (16842752, 3) ∷ [])))

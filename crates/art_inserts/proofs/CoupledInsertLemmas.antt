@@ -20,7 +20,7 @@ use Rattle.art_steps.specs.Updates.{put, pair_in, grow, insert_in, insert_beside
 use Rattle.art_steps.specs.Coupled.{insert_below, insert_at, insert_from, insert}
 use Rattle.art_steps.proofs.GuardLemmas.{insert_from-body}
 use Rattle.art_core.specs.Meaning.{Reached, Means, root, below, child_in, child_on, slot_of}
-use Rattle.art_core.specs.Invariant.{level_in, path_in}
+use Rattle.art_core.specs.Forms.{level_in, path_in}
 use Rattle.art_trees.specs.Trees.{IsAtRest, LeadsTo}
 use Rattle.art_alone.specs.Alone.{Comes, Ends}
 use Rattle.art_alone.specs.Finding.{keys_in, count_in, found_of}

@@ -18,7 +18,7 @@ use Rattle.art_steps.specs.Rows.{Setting, Row, byte_at, unlock_obsolete, unlock_
 use Rattle.art_steps.specs.Steps.{Part, ◌>>◌, store}
 use Rattle.art_steps.specs.Updates.{grow, fill, next_kind}
 use Rattle.art_core.specs.Meaning.{Reached, Means, slot_of, child_in, child_on}
-use Rattle.art_core.specs.Invariant.{IsTree, level_in, path_in}
+use Rattle.art_core.specs.Forms.{IsTree, level_in, path_in}
 use Rattle.art_trees.specs.Trees.{IsAtRest, LeadsTo, IsGrown, ChangesAt, HasRowInPlace, SameRow, SameTreesAreOne, GrownRowsAreHung}
 use Rattle.art_words.specs.Laws.{WordsAreReadBack, VersionsSay, WordsAreSmall}
 use Rattle.art_writes.specs.Writes.{HasGrown, IsApart}

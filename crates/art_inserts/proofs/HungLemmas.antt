@@ -7,7 +7,7 @@ use Rattle.art_rows.specs.declared.table.Child.{Child}
 use Rattle.art_rows.specs.Table.{row_words, first_child}
 use Rattle.art_rows.specs.Words.{child_of}
 use Rattle.art_core.specs.Meaning.{Reached, child_in, slot_of}
-use Rattle.art_core.specs.Invariant.{HasForm}
+use Rattle.art_core.specs.Forms.{HasForm}
 use Rattle.art_trees.specs.Trees.{IsAtRest, ChangesAt}
 use Rattle.art_alone.proofs.PlaceLemmas.{sits-part}
 use Rattle.art_alone.proofs.SlotLemmas.{IsSlot, slot-is, slot-once, slot-same, form-same, SameKeys}

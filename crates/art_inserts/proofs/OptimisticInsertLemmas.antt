@@ -22,7 +22,7 @@ use Rattle.art_steps.specs.Updates.{keys_differ_at, put, grow, insert_in, insert
 use Rattle.art_steps.specs.Optimistic.{step_down, below_level, insert_below, take_above, insert_leaf, insert_at, insert_from, insert}
 use Rattle.art_steps.proofs.GuardLemmas.{insert_from_optimistic-body}
 use Rattle.art_core.specs.Meaning.{Reached, Means, root, below, child_in, child_on, slot_of}
-use Rattle.art_core.specs.Invariant.{level_in, path_in}
+use Rattle.art_core.specs.Forms.{level_in, path_in}
 use Rattle.art_trees.specs.Trees.{IsAtRest, LeadsTo}
 use Rattle.art_alone.specs.Alone.{Comes, Ends}
 use Rattle.art_alone.specs.Finding.{keys_in, count_in, found_of}

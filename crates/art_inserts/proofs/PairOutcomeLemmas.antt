@@ -17,7 +17,7 @@ use Rattle.art_steps.specs.Rows.{Setting, Row, byte_at}
 use Rattle.art_steps.specs.Steps.{Part, store}
 use Rattle.art_steps.specs.Updates.{Under, pair, pair_in}
 use Rattle.art_core.specs.Meaning.{Reached, Means, slot_of, child_on}
-use Rattle.art_core.specs.Invariant.{IsTree}
+use Rattle.art_core.specs.Forms.{IsTree}
 use Rattle.art_trees.specs.Trees.{IsAtRest, LeadsTo, Parts, IsPair, HasRowMore, SameRow, SameTreesAreOne, PairsAreHung}
 use Rattle.art_words.specs.Laws.{WordsAreReadBack, WordsAreSmall}
 use Rattle.art_words.specs.Stored.{IsStored, IsShort}

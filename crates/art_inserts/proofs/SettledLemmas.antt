@@ -5,7 +5,7 @@ use Rattle.art_rows.specs.declared.table.Kind.{Kind}
 use Rattle.art_rows.specs.Table.{row_words, rows_of, claims_of, base_of, kind_at}
 use Rattle.art_rows.specs.Words.{is_locked, is_obsolete}
 use Rattle.art_core.specs.Meaning.{Reached}
-use Rattle.art_core.specs.Invariant.{IsTree}
+use Rattle.art_core.specs.Forms.{IsTree}
 use Rattle.art_trees.specs.Trees.{IsAtRest}
 use Rattle.art_alone.proofs.PlaceLemmas.{Sits, sits-part, sits-inside, kind_at-sits}
 use Rattle.art_alone.proofs.LikeLemmas.{row_words-some, sits}

@@ -8,7 +8,7 @@ use Rattle.art_rows.specs.declared.table.Child.{Child}
 use Rattle.art_rows.specs.declared.table.Child.TheVariants.{Empty, Row as ChildRow, Leaf}
 use Rattle.art_rows.specs.Table.{info_at}
 use Rattle.art_rows.specs.Words.{key_bytes, first_difference, kind_code, low_bytes, Info, info_of}
-use Rattle.art_core.specs.Invariant.{path_in}
+use Rattle.art_core.specs.Forms.{path_in}
 use Rattle.art_trees.specs.Trees.{Parts}
 
 low-byte : (k w i : ℕ) → slice_index (low_bytes k w) i < 256

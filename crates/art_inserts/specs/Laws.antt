@@ -10,7 +10,7 @@ use Rattle.art_steps.specs.declared.variant.Variant.{Variant}
 use Rattle.art_steps.specs.TreeCalls.{is_tree_call}
 use Rattle.art_steps.specs.Act.{act}
 use Rattle.art_core.specs.Meaning.{Means}
-use Rattle.art_core.specs.Invariant.{IsTree}
+use Rattle.art_core.specs.Forms.{IsTree}
 use Rattle.art_alone.specs.Alone.{RunsAlone, accesses}
 use Rattle.art_trees.specs.Trees.{IsAtRest}
 use Rattle.art_inserts.specs.Settled.{IsSettled, HasOldOrNewRows}

@@ -12,7 +12,7 @@ use Rattle.art_steps.specs.TreeCalls.{is_tree_call}
 use Rattle.art_core.specs.Core.{Plan, State, idle, moved_by, opened, step}
 use Rattle.art_core.specs.Runs.{Gives}
 use Rattle.art_core.specs.Starts.{inserts, start_plan}
-use Rattle.art_core.specs.Claims.{IsPlan}
+use Rattle.art_core.specs.Plans.{IsPlan}
 use Rattle.art_trees.specs.Trees.{TablesOpenAtRest, SameTreesAreOne}
 use Rattle.art_alone.specs.Laws.{SeeksAreTheMaps}
 use Rattle.art_alone.proofs.AloneLemmas.{accesses-once}

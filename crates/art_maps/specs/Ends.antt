@@ -6,7 +6,7 @@ use Rattle.art_steps.specs.declared.variant.Variant.{Variant}
 use Rattle.art_core.specs.Core.{State, opened}
 use Rattle.art_core.specs.Runs.{Gives}
 use Rattle.art_core.specs.Starts.{start_plan}
-use Rattle.art_core.specs.Claims.{IsPlan}
+use Rattle.art_core.specs.Plans.{IsPlan}
 
 -- In every variant no schedule of the inserts has more than 1,002 steps a pair: an insert is called, makes at most 1,000 accesses, and is answered.
 abbrev pub StartsEnd : Type 0

@@ -23,7 +23,8 @@ use Rattle.art_stages.specs.Calls.{call_turn, call_behind}
 use Rattle.art_core.specs.declared.process.Process.{Process}
 use Rattle.art_core.specs.Core.{Plan, State, opened_on, begun, known_reply}
 use Rattle.art_core.specs.Runs.{run_on, At}
-use Rattle.art_core.specs.Claims.{IsRun, ScanHasMoment}
+use Rattle.art_core.specs.Plans.{IsRun}
+use Rattle.art_core.specs.Claims.{ScanHasMoment}
 use Rattle.art_core.specs.Meaning.{row_in}
 use Rattle.art_core.specs.Moments.{HasGot, BeginsAttempt, Reads, Enters, Checks, IsOfEnteredRow, StandsFrom, HasMoment}
 use Rattle.art_core.proofs.StartLemmas.{run-steps}

@@ -3,7 +3,7 @@ use Rattle.std.proofs.Common.{ℕ, zero, suc, ◌≤◌, List, [], ◌∷◌, le
 use Rattle.map_object.specs.MapObject.{Contents}
 use Rattle.art_core.specs.Core.{Plan, State, opened_on}
 use Rattle.art_core.specs.Runs.{At}
-use Rattle.art_core.specs.Claims.{IsRun}
+use Rattle.art_core.specs.Plans.{IsRun}
 use Rattle.art_core.proofs.StartLemmas.{run-steps}
 use Rattle.art_moments.specs.Reads.{RunsHaveMomentsOfScans, RunsHaveMomentsOfGets}
 use Rattle.art_moments.proofs.MomentLemmas.{scan-has-moment, get-has-moment}

@@ -8,7 +8,7 @@ use Rattle.art_steps.specs.declared.variant.Variant.TheVariants.{Optimistic}
 use Rattle.art_core.specs.declared.process.Process.{Process}
 use Rattle.art_core.specs.Core.{Plan, State, begun, known_reply, opened_on}
 use Rattle.art_core.specs.Runs.{At}
-use Rattle.art_core.specs.Claims.{IsRun}
+use Rattle.art_core.specs.Plans.{IsRun}
 use Rattle.art_core.specs.Moments.{HasMoment}
 use Rattle.art_moments.specs.LastRows.{HasMomentOfLastRow}
 

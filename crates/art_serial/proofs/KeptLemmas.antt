@@ -18,7 +18,7 @@ use Rattle.art_steps.specs.declared.variant.Variant.{Variant}
 use Rattle.art_steps.specs.Act.{act}
 use Rattle.art_steps.specs.TreeCalls.{is_tree_call}
 use Rattle.art_core.specs.Core.{Plan, State, history_of}
-use Rattle.art_core.specs.Claims.{IsSerial}
+use Rattle.art_core.specs.Plans.{IsSerial}
 use Rattle.art_alone.specs.Alone.{RunsAlone}
 use Rattle.art_alone.proofs.AloneLemmas.{runs-once}
 use Rattle.art_serial.specs.Serial.{ticked, SerialRun, none, more, IsDone, IsRunOn, calls_in}

@@ -21,7 +21,7 @@ use Rattle.art_steps.specs.TreeCalls.{is_tree_call}
 use Rattle.art_core.specs.declared.process.Process.{Process}
 use Rattle.art_core.specs.Core.{Plan, State, Move, Invokes, Makes, Responds, begun, moved, after_move, opened_on, move_of}
 use Rattle.art_core.specs.Core.{next_in, next_call, move_from, invocation}
-use Rattle.art_core.specs.Claims.{IsPlan, IsSerial}
+use Rattle.art_core.specs.Plans.{IsPlan, IsSerial}
 use Rattle.art_core.proofs.HistoryLemmas.{IsLogged, logged, map-same, changed-at}
 use Rattle.art_core.proofs.HistoryLemmas.{no-logs, all-idle}
 use Rattle.art_serial.specs.Serial.{ticked, SerialRun, none, more}

@@ -12,7 +12,7 @@ use Rattle.events.specs.Histories.{call_count}
 use Rattle.events.specs.Operations.{operations_from, response_from}
 use Rattle.logs.specs.Logs.{Stamped}
 use Rattle.art_core.specs.Core.{invoked, answered}
-use Rattle.art_core.specs.Claims.{IsSerial}
+use Rattle.art_core.specs.Plans.{IsSerial}
 use Rattle.art_serial.specs.Serial.{IsDone}
 
 -- each call is answered before the next is invoked

@@ -6,7 +6,7 @@ use Rattle.list_laws.proofs.Lists.{All-from_contains, place_of-Contains}
 use Rattle.art_core.specs.Core.{Plan, State, opened_on, history_of}
 use Rattle.art_core.specs.Core.{step}
 use Rattle.art_core.specs.Runs.{run_on, HasFewSteps}
-use Rattle.art_core.specs.Claims.{IsPlan, IsSerial}
+use Rattle.art_core.specs.Plans.{IsPlan, IsSerial}
 use Rattle.art_core.proofs.HistoryLemmas.{IsLogged, logged, one-move, is-moved, one-step, nowhere, steps-rise, opened-logged, all_steps, calls-within}
 use Rattle.art_serial.specs.Serial.{SerialRun, HasRunAlone}
 use Rattle.art_serial.specs.Laws.{SerialSchedulesRunAlone}

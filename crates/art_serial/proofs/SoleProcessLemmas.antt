@@ -18,7 +18,7 @@ use Rattle.art_core.specs.Core.{Plan, State, Move, Invokes, Makes, Responds, beg
 use Rattle.art_core.specs.Core.{opened_on, history_of, move_of}
 use Rattle.art_core.specs.Core.{next_in, next_call, next_move, move_from, invocation, step}
 use Rattle.art_core.specs.Runs.{HasFewSteps}
-use Rattle.art_core.specs.Claims.{IsPlan, IsSerial}
+use Rattle.art_core.specs.Plans.{IsPlan, IsSerial}
 use Rattle.art_core.proofs.RunLemmas.{begun-more}
 use Rattle.art_core.proofs.HistoryLemmas.{IsLogged, opened-logged, logged, is-moved}
 use Rattle.art_serial.specs.Serial.{sole_plan}

@@ -20,7 +20,7 @@ use Rattle.art_steps.specs.declared.variant.Variant.{Variant}
 use Rattle.art_steps.specs.TreeCalls.{is_tree_call}
 use Rattle.art_core.specs.Core.{Plan, State, history_of}
 use Rattle.art_core.specs.Starts.{inserts, start_plan, StartsOn}
-use Rattle.art_core.specs.Claims.{IsPlan, IsSerial, IsRun}
+use Rattle.art_core.specs.Plans.{IsPlan, IsSerial, IsRun}
 use Rattle.art_core.proofs.HistoryLemmas.{opening-length, start-length, start-clock}
 use Rattle.art_core.proofs.StartLemmas.{clock-at-zero}
 use Rattle.art_serial.specs.Serial.{IsRunOn, calls_in}

@@ -11,7 +11,7 @@ use Rattle.art_rows.specs.Table.{opening}
 use Rattle.art_steps.specs.declared.variant.Variant.{Variant}
 use Rattle.art_core.specs.declared.process.Process.{Process}
 use Rattle.art_core.specs.Core.{Plan, State, history_of, next_move}
-use Rattle.art_core.specs.Claims.{IsSerial, IsRun}
+use Rattle.art_core.specs.Plans.{IsSerial, IsRun}
 use Rattle.art_serial.specs.Serial.{IsRunOn, HasRunAlone, HasRunScript, calls_in, sole_plan}
 use Rattle.art_serial.specs.Composition.{ComesTo, EachMayBeAnswered}
 

@@ -14,7 +14,7 @@ use Rattle.art_steps.specs.TreeCalls.{is_tree_call}
 use Rattle.art_core.specs.declared.process.Process.{Process}
 use Rattle.art_core.specs.Core.{Plan, State, history_of, finished, opened_on}
 use Rattle.art_core.specs.Runs.{Gives, HasFewSteps}
-use Rattle.art_core.specs.Claims.{IsPlan, IsSerial}
+use Rattle.art_core.specs.Plans.{IsPlan, IsSerial}
 use Rattle.art_alone.specs.Alone.{RunsAlone}
 
 -- the words after a stamp was drawn: the clock is one higher

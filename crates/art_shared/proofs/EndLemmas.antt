@@ -17,7 +17,7 @@ use Rattle.art_core.specs.declared.process.Process.{Process}
 use Rattle.art_core.specs.Core.{idle, opened, history_of}
 use Rattle.art_core.specs.Runs.{Gives}
 use Rattle.art_core.specs.Laws.{begun_plan}
-use Rattle.art_core.specs.Claims.{IsPlan}
+use Rattle.art_core.specs.Plans.{IsPlan}
 use Rattle.art_core.proofs.HistoryLemmas.{opening-length}
 use Rattle.art_core.proofs.StartLemmas.{no-start}
 use Rattle.art_shared.specs.declared.view.Setup.{Setup}

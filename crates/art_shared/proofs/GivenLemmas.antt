@@ -13,7 +13,7 @@ use Rattle.art_steps.specs.TreeCalls.{is_tree_call}
 use Rattle.art_core.specs.declared.process.Process.{Process}
 use Rattle.art_core.specs.Core.{State, Move, Invokes, Makes, Responds, begun, word_of_move, new_word, after_move, idle}
 use Rattle.art_core.specs.Laws.{begun_plan, MayMove, IsClocked}
-use Rattle.art_core.specs.Claims.{IsPlan}
+use Rattle.art_core.specs.Plans.{IsPlan}
 use Rattle.art_core.proofs.RunLemmas.{move-reached, begun-more}
 use Rattle.art_core.proofs.StampLemmas.{clocks-are-ahead}
 use Rattle.art_core.proofs.HistoryLemmas.{opening-length, start-clock}

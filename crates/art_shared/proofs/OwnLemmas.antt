@@ -15,7 +15,7 @@ use Rattle.art_rows.specs.Table.{opening}
 use Rattle.art_core.specs.declared.process.Process.{Process}
 use Rattle.art_core.specs.Core.{Plan, State, Move, Invokes, Makes, Responds, step, moved, word_of_move, after_move, idle, opened, history_of}
 use Rattle.art_core.specs.Runs.{Gives, run_on}
-use Rattle.art_core.specs.Claims.{IsPlan}
+use Rattle.art_core.specs.Plans.{IsPlan}
 use Rattle.art_core.specs.Laws.{IsClocked}
 use Rattle.art_core.proofs.RunLemmas.{run-on-append}
 use Rattle.art_core.proofs.StampLemmas.{clocks-are-ahead}

@@ -10,7 +10,7 @@ use Rattle.art_rows.specs.Table.{opening}
 use Rattle.art_core.specs.Core.{Plan, State, history_of, opened}
 use Rattle.art_core.specs.Runs.{Gives, HasFewSteps}
 use Rattle.art_core.specs.Laws.{begun_plan}
-use Rattle.art_core.specs.Claims.{IsPlan, IsRun}
+use Rattle.art_core.specs.Plans.{IsPlan, IsRun}
 use Rattle.art_shared.specs.declared.view.Setup.{Setup}
 use Rattle.art_shared.specs.declared.view.View.{View}
 use Rattle.art_shared.specs.Views.{numbers_of}

@@ -9,7 +9,7 @@ use Rattle.art_rows.specs.declared.table.Child.{Child}
 use Rattle.art_rows.specs.Table.{info_at}
 use Rattle.art_rows.specs.Words.{key_bytes, kind_code, packed, info_of}
 use Rattle.art_core.specs.Meaning.{Reached, child_on}
-use Rattle.art_core.specs.Invariant.{HasForm, IsTree, level_in, path_in}
+use Rattle.art_core.specs.Forms.{HasForm, IsTree, level_in, path_in}
 use Rattle.art_trees.specs.Trees.{LeadsTo, ChangesAt}
 use Rattle.art_trees.proofs.InfoWords.{level_small}
 use Rattle.art_trees.proofs.Bytes.{one_more, byte_small}

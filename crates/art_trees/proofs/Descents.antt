@@ -11,7 +11,7 @@ use Rattle.art_rows.specs.declared.table.Child.TheVariants.{Empty, Leaf}
 use Rattle.art_rows.specs.Table.{info_at, kind_at}
 use Rattle.art_rows.specs.Words.{key_bytes, first_difference, info_of, child_of, row_child}
 use Rattle.art_core.specs.Meaning.{root, below, child_in, slot_of}
-use Rattle.art_core.specs.Invariant.{path_in}
+use Rattle.art_core.specs.Forms.{path_in}
 use Rattle.art_trees.specs.Trees.{WaysGoDown, LeavesAreSmall, KeysPart}
 use Rattle.art_trees.proofs.InfoWords.{level_small}
 use Rattle.art_trees.proofs.Changes.{way_byte}

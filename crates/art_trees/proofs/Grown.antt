@@ -10,7 +10,7 @@ use Rattle.art_rows.specs.declared.table.Child.TheVariants.{Row, Leaf}
 use Rattle.art_rows.specs.Table.{info_at, root_base}
 use Rattle.art_rows.specs.Words.{key_bytes, info_of, info_word}
 use Rattle.art_core.specs.Meaning.{Reached, root, below, Hangs, child_on}
-use Rattle.art_core.specs.Invariant.{HasForm, IsTree, level_in, path_in}
+use Rattle.art_core.specs.Forms.{HasForm, IsTree, level_in, path_in}
 use Rattle.art_trees.specs.Trees.{LeadsTo, ChangesAtBut, IsGrown, HasRowInPlace, GrownRowsAreHung}
 use Rattle.art_trees.proofs.InfoWords.{level_small, level_back, path_back, path_bytes}
 use Rattle.art_trees.proofs.Infos.{IsInfo, MayHang, LeafMayHang}

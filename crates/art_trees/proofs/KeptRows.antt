@@ -6,7 +6,7 @@ use Rattle.art_rows.specs.declared.table.Kind.TheVariants.{Full}
 use Rattle.art_rows.specs.declared.table.Child.TheVariants.{Row, Leaf}
 use Rattle.art_rows.specs.Table.{info_at, root_base}
 use Rattle.art_core.specs.Meaning.{Reached, root, below, child_on}
-use Rattle.art_core.specs.Invariant.{HasForm, IsTree}
+use Rattle.art_core.specs.Forms.{HasForm, IsTree}
 use Rattle.art_trees.proofs.Infos.{IsInfo, MayHang, LeafMayHang}
 
 -- the later table has the reached rows' infos and the rows on their bytes, rows in form and leaves that may hang where they hang

@@ -7,7 +7,7 @@ use Rattle.art_rows.specs.declared.table.Child.{Child}
 use Rattle.art_rows.specs.declared.table.Child.TheVariants.{Empty, Row, Leaf}
 use Rattle.art_rows.specs.Table.{info_at}
 use Rattle.art_core.specs.Meaning.{Reached, Hangs, child_on}
-use Rattle.art_core.specs.Invariant.{IsTree}
+use Rattle.art_core.specs.Forms.{IsTree}
 use Rattle.art_trees.specs.Trees.{LeadsTo, IsFree, ChangesAt, LeavesArePut, LeavesAreRemoved}
 use Rattle.art_trees.proofs.Infos.{LeafMayHang}
 use Rattle.art_trees.proofs.KeptRows.{KeepsRows, reached_before, reached_after, kept_tree}

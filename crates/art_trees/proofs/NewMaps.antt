@@ -6,7 +6,7 @@ use Rattle.art_rows.specs.declared.table.Shape.{Shape}
 use Rattle.map_object.specs.MapObject.{Contents, put, below, above}
 use Rattle.std.proofs.Common.{Contains}
 use Rattle.art_core.specs.Meaning.{Hangs, Means}
-use Rattle.art_core.specs.Invariant.{IsTree}
+use Rattle.art_core.specs.Forms.{IsTree}
 use Rattle.art_trees.proofs.MapValues.{put_at, put_here, put_other, left_out, left_in, rising_with, rising_without}
 use Rattle.art_trees.proofs.Ways.{one_leaf}
 

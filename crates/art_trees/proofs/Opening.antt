@@ -15,7 +15,7 @@ use Rattle.art_rows.specs.declared.table.Child.TheVariants.{Empty, Row, Leaf}
 use Rattle.art_rows.specs.Table.{opening, table_words, root_base, info_at, claims_of, base_of, first_base, row_words, rows_of, kind_at, is_base_of}
 use Rattle.art_rows.specs.Words.{child_of, is_locked, is_obsolete}
 use Rattle.art_core.specs.Meaning.{Reached, root, below, Means, child_on}
-use Rattle.art_core.specs.Invariant.{HasForm, IsTree}
+use Rattle.art_core.specs.Forms.{HasForm, IsTree}
 use Rattle.art_trees.specs.Trees.{IsAtRest, TablesOpenAtRest}
 use Rattle.art_trees.proofs.Infos.{IsInfo}
 use Rattle.art_trees.proofs.Ways.{empty-leaf, empty-row}

@@ -12,7 +12,7 @@ use Rattle.art_rows.specs.declared.table.Child.TheVariants.{Empty, Row, Leaf}
 use Rattle.art_rows.specs.Table.{info_at, root_base}
 use Rattle.art_rows.specs.Words.{key_bytes, info_of, info_word}
 use Rattle.art_core.specs.Meaning.{Reached, root, below, Hangs, child_on}
-use Rattle.art_core.specs.Invariant.{HasForm, IsTree, level_in, path_in}
+use Rattle.art_core.specs.Forms.{HasForm, IsTree, level_in, path_in}
 use Rattle.art_trees.specs.Trees.{LeadsTo, ChangesAt, IsPair, Parts, HasRowMore, PairsAreHung}
 use Rattle.art_trees.proofs.Bytes.{PartsAt, parts_at, deeper, parted_byte, one_more, take_less, byte_small}
 use Rattle.art_trees.proofs.InfoWords.{level_back, path_back, bytes_of_key, bytes_before, byte_at, path_bytes}

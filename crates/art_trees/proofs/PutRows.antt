@@ -10,7 +10,7 @@ use Rattle.art_rows.specs.declared.table.Child.{Child}
 use Rattle.art_rows.specs.Table.{keys_at, more_keys_at, count_at, child_at}
 use Rattle.art_rows.specs.Words.{child_of, keys4_of, keys16_of, keys16_word, place_of, new_place, with_key}
 use Rattle.art_core.specs.Meaning.{slot_of, child_in, child_on}
-use Rattle.art_core.specs.Invariant.{HasForm}
+use Rattle.art_core.specs.Forms.{HasForm}
 use Rattle.art_trees.specs.Trees.{ChangesAt}
 use Rattle.art_trees.specs.Keys.{IsPutIn}
 use Rattle.art_trees.specs.Puts.{HasRoomFor, FourTakesOneMore, SixteenTakesOneMore}

@@ -6,7 +6,7 @@ use Rattle.art_rows.specs.declared.table.Kind.TheVariants.{Four, Sixteen, FortyE
 use Rattle.art_rows.specs.Table.{row_words, info_at, keys_at, more_keys_at, index_at, count_at, child_at, first_child}
 use Rattle.art_rows.specs.Words.{place_of, keys4_of, keys16_of, entries_of}
 use Rattle.art_core.specs.Meaning.{slot_of, entry_slot}
-use Rattle.art_core.specs.Invariant.{HasForm}
+use Rattle.art_core.specs.Forms.{HasForm}
 
 -- words before the children that are the same, by the row's kind: slots, info and form are the same
 module _ (words later : List ℕ) (base : ℕ) where

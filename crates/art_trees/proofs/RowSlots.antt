@@ -9,7 +9,7 @@ use Rattle.art_rows.specs.Words.{place_of, keys4_of, keys16_of, entries_of, entr
 use Rattle.art_rows.proofs.ReaderLemmas.{most_of}
 use Rattle.art_rows.proofs.WriterLemmas.{length-keys16, length-keys4}
 use Rattle.art_core.specs.Meaning.{slot_of}
-use Rattle.art_core.specs.Invariant.{HasForm}
+use Rattle.art_core.specs.Forms.{HasForm}
 use Rattle.std.proofs.lemmas.Bool.{eqb-true}
 
 -- a place is one of the list

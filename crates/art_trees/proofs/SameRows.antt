@@ -6,7 +6,7 @@ use Rattle.art_rows.specs.declared.table.Kind.{Kind}
 use Rattle.art_rows.specs.Table.{info_at}
 use Rattle.art_rows.specs.Words.{child_of}
 use Rattle.art_core.specs.Meaning.{slot_of, child_in, child_on}
-use Rattle.art_core.specs.Invariant.{HasForm}
+use Rattle.art_core.specs.Forms.{HasForm}
 use Rattle.art_trees.specs.Trees.{SameRow}
 use Rattle.art_trees.proofs.RowHeads.{SameHead, head_info, head_slot, head_form, first_low}
 use Rattle.art_trees.proofs.RowSlots.{slot_inside}

@@ -2,7 +2,7 @@
 use Rattle.std.proofs.Common.{ℕ, List, sym, ◌∙◌}
 use Rattle.art_rows.specs.declared.table.Shape.{Shape}
 use Rattle.art_core.specs.Meaning.{Hangs}
-use Rattle.art_core.specs.Invariant.{IsTree}
+use Rattle.art_core.specs.Forms.{IsTree}
 use Rattle.art_trees.specs.Trees.{SameTree, SameTreesAreOne}
 use Rattle.art_trees.proofs.SameRows.{child_same, form_same, info_same}
 use Rattle.art_trees.proofs.KeptRows.{KeepsRows, reached_before, reached_after, kept_tree}

@@ -12,7 +12,7 @@ use Rattle.art_rows.specs.Words.{key_bytes}
 use Rattle.map_object.specs.MapObject.{IsRising}
 use Rattle.art_steps.specs.Steps.{numbers}
 use Rattle.art_core.specs.Meaning.{Reached, root, below, Hangs, Means, child_on, pairs_in, pairs_below}
-use Rattle.art_core.specs.Invariant.{IsTree, level_in, path_in}
+use Rattle.art_core.specs.Forms.{IsTree, level_in, path_in}
 use Rattle.art_trees.specs.Trees.{TreesAreWalked}
 use Rattle.art_trees.proofs.Bytes.{path_and_byte, take_less}
 use Rattle.art_trees.proofs.InfoWords.{level_small}

@@ -4,7 +4,7 @@ use Rattle.art_rows.specs.declared.table.Kind.{Kind}
 use Rattle.art_rows.specs.declared.table.Child.TheVariants.{Row, Leaf}
 use Rattle.art_rows.specs.Words.{key_bytes, first_difference}
 use Rattle.art_core.specs.Meaning.{Hangs}
-use Rattle.art_core.specs.Invariant.{level_in, path_in}
+use Rattle.art_core.specs.Forms.{level_in, path_in}
 use Rattle.art_trees.specs.Trees.{LeadsTo, WaysLeadToValues}
 use Rattle.art_trees.proofs.Bytes.{begins_not, byte_small}
 use Rattle.art_trees.proofs.MapValues.{value_of, no_value}

@@ -11,7 +11,7 @@ use Rattle.art_rows.specs.declared.table.Child.TheVariants.{Empty, Row, Leaf}
 use Rattle.art_rows.specs.Table.{info_at, root_base}
 use Rattle.art_rows.specs.Words.{key_bytes}
 use Rattle.art_core.specs.Meaning.{Reached, root, below, child_on, Hangs}
-use Rattle.art_core.specs.Invariant.{IsTree, level_in, path_in}
+use Rattle.art_core.specs.Forms.{IsTree, level_in, path_in}
 use Rattle.art_trees.specs.Trees.{LeadsTo}
 use Rattle.art_trees.proofs.InfoWords.{level_small}
 use Rattle.art_trees.proofs.Bytes.{path_and_byte, take_less}

@@ -7,7 +7,7 @@ use Rattle.art_rows.specs.declared.table.Child.TheVariants.{Empty, Row, Leaf}
 use Rattle.art_rows.specs.Table.{kind_at, keys_at, child_at}
 use Rattle.art_rows.specs.Words.{child_of, child_word, keys4_word}
 use Rattle.art_core.specs.Meaning.{child_on}
-use Rattle.art_core.specs.Invariant.{HasForm}
+use Rattle.art_core.specs.Forms.{HasForm}
 
 -- a child that a word can say: a leaf of a key and a value that a tree can hold, or a row that begins there
 abbrev pub IsWritable : Shape → Child → Type 0

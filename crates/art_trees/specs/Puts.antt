@@ -7,7 +7,7 @@ use Rattle.art_rows.specs.declared.table.Child.{Child}
 use Rattle.art_rows.specs.Table.{info_at, keys_at, more_keys_at, count_at, child_at}
 use Rattle.art_rows.specs.Words.{child_of, keys4_of, keys16_of, keys4_word, keys16_word, more_keys16_word, place_of, new_place, with_key}
 use Rattle.art_core.specs.Meaning.{Reached}
-use Rattle.art_core.specs.Invariant.{IsTree}
+use Rattle.art_core.specs.Forms.{IsTree}
 use Rattle.art_trees.specs.Trees.{SameRow, ChangesAt}
 
 -- The other rows are the same, and the row's info; its children below the byte's place stand as before, then comes the child, and the others have moved by one.

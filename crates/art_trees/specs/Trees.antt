@@ -9,7 +9,7 @@ use Rattle.art_rows.specs.declared.table.Child.TheVariants.{Empty, Row, Leaf}
 use Rattle.art_rows.specs.Table.{row_words, rows_of, table_words, claims_of, base_of, root_base, info_at, opening}
 use Rattle.art_rows.specs.Words.{is_obsolete, key_bytes, first_difference, info_word}
 use Rattle.art_core.specs.Meaning.{Reached, child_on, Means, AllUnlocked, pairs_of}
-use Rattle.art_core.specs.Invariant.{HasForm, IsTree, level_in, path_in}
+use Rattle.art_core.specs.Forms.{HasForm, IsTree, level_in, path_in}
 
 -- A table between calls where nobody else runs: no row is locked, the words are a tree, no row of it is obsolete, each row of it was claimed, at most n claims
 -- of each kind were made, and a row that was not claimed has only zeros.

@@ -17,7 +17,7 @@ use Rattle.art_core.specs.declared.process.Process.{Process}
 use Rattle.art_core.specs.Core.{Plan, State, opened, opened_on, step}
 use Rattle.art_core.specs.Runs.{run_on}
 use Rattle.art_core.specs.Starts.{StartsOn, start_plan}
-use Rattle.art_core.specs.Claims.{IsRun}
+use Rattle.art_core.specs.Plans.{IsRun}
 use Rattle.art_core.proofs.HistoryLemmas.{nowhere, all-idle, opening-length}
 use Rattle.art_core.proofs.StartLemmas.{run-steps}
 use Rattle.art_versions.specs.Holding.{IsSlot, Each, IsNamed, child_rows}

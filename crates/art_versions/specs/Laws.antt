@@ -4,7 +4,7 @@ use Rattle.map_object.specs.MapObject.{Contents}
 use Rattle.art_steps.specs.declared.variant.Variant.TheVariants.{Optimistic}
 use Rattle.art_core.specs.Core.{Plan, State, opened_on}
 use Rattle.art_core.specs.Runs.{Gives}
-use Rattle.art_core.specs.Claims.{IsRun}
+use Rattle.art_core.specs.Plans.{IsRun}
 use Rattle.art_versions.specs.Versions.{IsSound}
 use Rattle.art_versions.specs.Steady.{IsSteady}
 

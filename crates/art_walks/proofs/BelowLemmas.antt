@@ -10,7 +10,7 @@ use Rattle.art_rows.specs.Table.{kind_at}
 use Rattle.art_rows.specs.Words.{key_bytes, child_of, row_child}
 use Rattle.art_steps.specs.Steps.{numbers}
 use Rattle.art_core.specs.Meaning.{Reached, below, slot_of, child_in, child_on, pairs_in, pairs_below}
-use Rattle.art_core.specs.Invariant.{IsTree, level_in, path_in}
+use Rattle.art_core.specs.Forms.{IsTree, level_in, path_in}
 use Rattle.list_laws.proofs.Lists.{Contains-nil, Contains-cases}
 use Rattle.std.proofs.lemmas.Bool.{false≢true}
 use Rattle.std.proofs.lemmas.List.{take-append-le}

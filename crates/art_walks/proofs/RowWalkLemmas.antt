@@ -15,7 +15,7 @@ use Rattle.art_steps.specs.Steps.{Part, ◌>>=◌, give, load, over, numbers}
 use Rattle.art_steps.specs.Rows.{Setting, Row, locks, load_child}
 use Rattle.art_steps.specs.Scan.{Walked, walk_child, walk_slot, walk_place, walk_keys, walk_entry, walk_index, walk_in}
 use Rattle.art_core.specs.Meaning.{Reached, child_in, child_on, slot_of, entry_slot, pairs_in, pairs_below}
-use Rattle.art_core.specs.Invariant.{level_in, path_in}
+use Rattle.art_core.specs.Forms.{level_in, path_in}
 use Rattle.art_trees.specs.Trees.{IsAtRest}
 use Rattle.art_alone.specs.Alone.{Comes}
 use Rattle.art_alone.proofs.AloneLemmas.{give-comes, bind-comes, load-comes}

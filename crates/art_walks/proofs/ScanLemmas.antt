@@ -13,7 +13,7 @@ use Rattle.art_steps.specs.Rows.{Setting, locks, root_row, unlock_all, check_of}
 use Rattle.art_steps.specs.Scan.{Walked, with_row, walk_from, scan}
 use Rattle.art_steps.specs.Act.{procedure, act}
 use Rattle.art_core.specs.Meaning.{root, pairs_of, pairs_below}
-use Rattle.art_core.specs.Invariant.{level_in, path_in}
+use Rattle.art_core.specs.Forms.{level_in, path_in}
 use Rattle.art_trees.specs.Trees.{IsAtRest, SameTreesAreOne, MapsAreOne, TreesAreWalked, HasRows}
 use Rattle.art_alone.specs.Alone.{RunsAlone, Comes}
 use Rattle.art_alone.proofs.AloneLemmas.{give-comes, bind-comes, then-comes, act-comes}

@@ -11,7 +11,7 @@ use Rattle.art_steps.specs.Rows.{Setting, Row, locks}
 use Rattle.art_steps.specs.Scan.{Walked, can_lie, bytes_of, walk_in, walk_bytes, walk_from}
 use Rattle.art_steps.proofs.GuardLemmas.{walk_from-body}
 use Rattle.art_core.specs.Meaning.{Reached, pairs_below}
-use Rattle.art_core.specs.Invariant.{level_in, path_in}
+use Rattle.art_core.specs.Forms.{level_in, path_in}
 use Rattle.art_trees.specs.Trees.{IsAtRest}
 use Rattle.art_alone.proofs.AloneLemmas.{same-comes}
 use Rattle.art_alone.proofs.WayLemmas.{level-most}

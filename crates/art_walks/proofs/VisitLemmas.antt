@@ -17,7 +17,7 @@ use Rattle.art_steps.specs.Steps.{Part, ◌>>=◌, give, load}
 use Rattle.art_steps.specs.Rows.{Setting, Row, row_of, locks}
 use Rattle.art_steps.specs.Scan.{Walked, has_row, with_leaf, with_row, enter, walk_child}
 use Rattle.art_core.specs.Meaning.{Reached, below, child_on, pairs_in, pairs_below}
-use Rattle.art_core.specs.Invariant.{level_in, path_in}
+use Rattle.art_core.specs.Forms.{level_in, path_in}
 use Rattle.art_trees.specs.Trees.{IsAtRest}
 use Rattle.art_alone.specs.Alone.{Comes}
 use Rattle.art_alone.proofs.AloneLemmas.{give-comes, bind-comes, load-comes}

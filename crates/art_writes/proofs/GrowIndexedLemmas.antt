@@ -17,7 +17,7 @@ use Rattle.art_steps.specs.Steps.{◌>>◌, each, numbers, store}
 use Rattle.art_steps.specs.Rows.{Setting}
 use Rattle.art_steps.specs.Updates.{new_leaf, new_entry, store_child, store_index, fill}
 use Rattle.art_core.specs.Meaning.{child_in, entry_slot, slot_of}
-use Rattle.art_core.specs.Invariant.{HasForm}
+use Rattle.art_core.specs.Forms.{HasForm}
 use Rattle.art_alone.specs.Alone.{Comes}
 use Rattle.art_alone.proofs.AloneLemmas.{then-comes, store-comes}
 use Rattle.art_words.specs.Stored.{IsStored}

@@ -11,7 +11,7 @@ use Rattle.art_rows.specs.Words.{place_of}
 use Rattle.art_steps.specs.Rows.{Setting, Row}
 use Rattle.art_steps.specs.Updates.{new_leaf, fill, next_kind}
 use Rattle.art_core.specs.Meaning.{slot_of}
-use Rattle.art_core.specs.Invariant.{HasForm}
+use Rattle.art_core.specs.Forms.{HasForm}
 use Rattle.art_alone.specs.Alone.{Comes}
 use Rattle.art_alone.specs.Finding.{keys_in, count_in}
 use Rattle.art_words.specs.Stored.{IsStored}

@@ -13,7 +13,7 @@ use Rattle.art_steps.specs.Steps.{◌>>◌, store}
 use Rattle.art_steps.specs.Rows.{Setting, Row, byte_at, claim, unlock_obsolete, unlock_all}
 use Rattle.art_steps.specs.Updates.{fill, grow, next_kind}
 use Rattle.art_core.specs.Meaning.{slot_of}
-use Rattle.art_core.specs.Invariant.{HasForm}
+use Rattle.art_core.specs.Forms.{HasForm}
 use Rattle.art_alone.specs.Alone.{Comes}
 use Rattle.art_alone.specs.Finding.{keys_in, count_in}
 use Rattle.art_alone.proofs.AloneLemmas.{bind-comes, then-comes, store-comes}

@@ -13,7 +13,7 @@ use Rattle.art_steps.specs.Steps.{◌>>◌, store}
 use Rattle.art_steps.specs.Rows.{Setting}
 use Rattle.art_steps.specs.Updates.{new_leaf, put_in}
 use Rattle.art_core.specs.Meaning.{child_in, entry_slot, slot_of}
-use Rattle.art_core.specs.Invariant.{HasForm}
+use Rattle.art_core.specs.Forms.{HasForm}
 use Rattle.art_alone.specs.Alone.{Comes}
 use Rattle.art_alone.proofs.AloneLemmas.{then-comes, store-comes}
 use Rattle.art_words.specs.Stored.{IsStored}

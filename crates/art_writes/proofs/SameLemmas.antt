@@ -11,7 +11,7 @@ use Rattle.art_rows.specs.Table.{row_words, child_at}
 use Rattle.art_rows.specs.Words.{child_of, keys4_of, keys16_of, place_of, entries_of, count_of}
 use Rattle.art_steps.specs.Rows.{is_insert}
 use Rattle.art_core.specs.Meaning.{entry_slot, slot_of, child_in, child_on}
-use Rattle.art_core.specs.Invariant.{HasForm}
+use Rattle.art_core.specs.Forms.{HasForm}
 use Rattle.art_alone.specs.Finding.{keys_in, count_in}
 use Rattle.art_words.proofs.KeyLemmas.{place-within}
 use Rattle.art_writes.proofs.IndexLemmas.{length-entries, entries-most, entry_in, entry-named}

@@ -10,7 +10,7 @@ use Rattle.art_rows.specs.Words.{key_bytes, info_word, row_word, obsolete_word}
 use Rattle.art_steps.specs.Rows.{Setting, Row, byte_at}
 use Rattle.art_steps.specs.Updates.{Under, put_in, pair_in, fill, grow, next_kind}
 use Rattle.art_core.specs.Meaning.{slot_of, child_on}
-use Rattle.art_core.specs.Invariant.{HasForm}
+use Rattle.art_core.specs.Forms.{HasForm}
 use Rattle.art_words.specs.Stored.{IsStored}
 use Rattle.art_alone.specs.Alone.{Comes}
 use Rattle.art_alone.specs.Finding.{keys_in, count_in}

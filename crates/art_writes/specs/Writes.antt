@@ -11,7 +11,7 @@ use Rattle.art_steps.specs.Rows.{Row}
 use Rattle.art_steps.specs.Updates.{Under}
 use Rattle.art_words.specs.Stored.{IsShort}
 use Rattle.art_core.specs.Meaning.{child_on}
-use Rattle.art_core.specs.Invariant.{HasForm}
+use Rattle.art_core.specs.Forms.{HasForm}
 
 -- each word has 64 bits
 abbrev pub AreSmall : List ℕ → Type 0

@@ -16,7 +16,8 @@ use Rattle.art_steps.specs.declared.variant.Variant.{Variant}
 use Rattle.art_steps.specs.declared.variant.Variant.TheVariants.{Coupled, Optimistic}
 use Rattle.art_core.specs.declared.process.Process.{Process}
 use Rattle.art_core.specs.Core.{Plan, State, history_of}
-use Rattle.art_core.specs.Claims.{IsRun, IsSerial, SerialIsMap}
+use Rattle.art_core.specs.Plans.{IsRun, IsSerial}
+use Rattle.art_core.specs.Claims.{SerialIsMap}
 use Rattle.art_core.specs.Meaning.{Means, AllUnlocked}
 use Rattle.art_core.proofs.HistoryLemmas.{logs-are-history}
 use Rattle.machine.specs.declared.runner.Runner.{Runner}

@@ -2,7 +2,7 @@
 use Rattle.std.specs.Prelude.{ℕ, List}
 use Rattle.map_object.specs.MapObject.{Contents}
 use Rattle.art_core.specs.Core.{Plan, State}
-use Rattle.art_core.specs.Claims.{IsRun}
+use Rattle.art_core.specs.Plans.{IsRun}
 use Rattle.machine.specs.declared.machines.Machine.{Machine}
 use Rattle.machine.specs.Fitting.{ShowsState}
 

@@ -4,7 +4,7 @@ use Rattle.events.specs.HistoryView.{HistoryView}
 use Rattle.events.specs.Operations.{operations}
 use Rattle.orders.specs.Orders.{IsLegal, after_calls}
 use Rattle.art_steps.specs.declared.variant.Variant.TheVariants.{Coupled, Optimistic}
-use Rattle.art_core.specs.Claims.{IsSerial}
+use Rattle.art_core.specs.Plans.{IsSerial}
 use Rattle.art_core.specs.Meaning.{Means, AllUnlocked}
 use Rattle.machine.specs.declared.machines.Machine.{Machine}
 

@@ -6,7 +6,7 @@ ghost use Rattle.art_rows.specs.Table.{clock};
 ghost use Rattle.art_steps.specs.TreeCalls.{is_tree_call};
 ghost use Rattle.art_core.specs.declared.process.Process.{Process};
 ghost use Rattle.art_core.specs.Core.{Plan, State, answered, finished};
-ghost use Rattle.art_core.specs.Claims.{IsPlan};
+ghost use Rattle.art_core.specs.Plans.{IsPlan};
 ghost use Rattle.art_core.specs.Starts.{StartsOn, inserts, start_plan};
 ghost use Rattle.machine.specs.declared.fault.MachineFault.TheVariants as faults;
 ghost use Rattle.machine.specs.Machines.{Shows};

@@ -10,7 +10,7 @@ use std::alloc::Global;
 impl Machine {
     ghost use Rattle.std.specs.Prelude.{◌≡◌, map, IfOk, IfErr};
     ghost use Rattle.art_core.specs.Core.{Plan, State, opened_on};
-    ghost use Rattle.art_core.specs.Claims.{IsPlan};
+    ghost use Rattle.art_core.specs.Plans.{IsPlan};
     ghost use Rattle.art_core.specs.Starts.{StartsOn, IsStartOf};
     ghost use Rattle.machine.specs.Machines.{Shows, start_of, turns_left};
     ghost use Rattle.machine.specs.declared.fault.MachineFault.TheVariants as faults;

@@ -3,7 +3,7 @@ use Rattle.std.proofs.Common.{ℕ, List, []}
 use Rattle.art_rows.specs.Table.{opening}
 use Rattle.art_core.specs.Core.{opened}
 use Rattle.art_core.specs.Runs.{Gives, HasFewSteps}
-use Rattle.art_core.specs.Claims.{IsRun}
+use Rattle.art_core.specs.Plans.{IsRun}
 use Rattle.art_moments.specs.Reads.{RunsHaveMomentsOfScans, RunsHaveMomentsOfGets}
 use Rattle.art_shared.specs.declared.view.Setup.{Setup}
 use Rattle.art_shared.specs.declared.view.View.{View}

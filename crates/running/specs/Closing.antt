@@ -3,7 +3,7 @@ use Rattle.std.specs.Prelude.{◌≡◌, ◌≢◌, ℕ, List, length}
 use Rattle.events.specs.HistoryView.{HistoryView, with_no_start}
 use Rattle.art_core.specs.Core.{history_of, opened}
 use Rattle.art_core.specs.Runs.{Gives}
-use Rattle.art_core.specs.Claims.{IsPlan}
+use Rattle.art_core.specs.Plans.{IsPlan}
 use Rattle.art_shared.specs.declared.view.Setup.{Setup}
 use Rattle.art_shared.specs.declared.view.View.{View}
 use Rattle.art_shared.specs.Ends.{plan_of, state_of}

@@ -3,7 +3,7 @@ ghost use Rattle.std.specs.Prelude.{◌≡◌, ◌≤◌, length, map, sum, All,
 ghost use Rattle.map_object.specs.MapObject.{IsRising};
 ghost use Rattle.art_rows.specs.Table.{IsWithinLimits};
 ghost use Rattle.art_steps.specs.TreeCalls.{is_tree_call};
-ghost use Rattle.art_core.specs.Claims.{IsPlan};
+ghost use Rattle.art_core.specs.Plans.{IsPlan};
 ghost use Rattle.art_core.specs.Starts.{inserts};
 ghost use Rattle.machine.specs.Running.{plan_of};
 
