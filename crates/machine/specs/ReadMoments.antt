@@ -7,13 +7,15 @@ use Rattle.art_moments.specs.Reads.{AnsweredScansHaveMoments, AnsweredGetsHaveMo
 use Rattle.machine.specs.declared.machines.Machine.{Machine}
 use Rattle.machine.specs.Machines.{Shows, start_of}
 
--- Where the tree is the optimistic one, whatever schedule gives what the machine shows: each scan that was answered in it has one moment at which all that it
--- read stands still.
+-- Where the tree is the optimistic one, this is so of whatever schedule gives what the machine shows.
+abbrev pub InRuns : (Plan → List ℕ → List ℕ → Type 0) → Machine → Type 0
+InRuns Holds m = (plan : Plan) (first schedule : List ℕ) (s : State) → IsRun plan (start_of m) first schedule s → Shows plan m s → m.variant ≡ Optimistic
+    → Holds plan first schedule
+
+-- Each scan that was answered in it has one moment at which all that it read stands still.
 abbrev pub ScansHaveMoments : Machine → Type 0
-ScansHaveMoments m = (plan : Plan) (first schedule : List ℕ) (s : State) → IsRun plan (start_of m) first schedule s → Shows plan m s → m.variant ≡ Optimistic
-    → AnsweredScansHaveMoments plan first schedule
+ScansHaveMoments m = InRuns AnsweredScansHaveMoments m
 
 -- And each get that was answered in it has one at which the last row that it read stands still, and says the reply.
 abbrev pub GetsHaveMoments : Machine → Type 0
-GetsHaveMoments m = (plan : Plan) (first schedule : List ℕ) (s : State) → IsRun plan (start_of m) first schedule s → Shows plan m s → m.variant ≡ Optimistic
-    → AnsweredGetsHaveMoments plan first schedule
+GetsHaveMoments m = InRuns AnsweredGetsHaveMoments m

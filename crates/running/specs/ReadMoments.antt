@@ -2,22 +2,23 @@
 use Rattle.std.specs.Prelude.{◌≡◌, ℕ, List}
 use Rattle.art_rows.specs.Table.{opening}
 use Rattle.art_steps.specs.declared.variant.Variant.TheVariants.{Optimistic}
-use Rattle.art_core.specs.Core.{opened}
+use Rattle.art_core.specs.Core.{Plan, opened}
 use Rattle.art_core.specs.Runs.{Gives, HasFewSteps}
 use Rattle.art_moments.specs.Reads.{AnsweredScansHaveMoments, AnsweredGetsHaveMoments}
 use Rattle.art_shared.specs.declared.view.Setup.{Setup}
 use Rattle.art_shared.specs.declared.view.View.{View}
 use Rattle.art_shared.specs.Ends.{plan_of, state_of}
 
--- Where the tree is the optimistic one and the processes made few steps, whatever schedule gives them: each scan that was answered in it has one moment at which
--- all that it read stands still.
-abbrev pub ScansHaveMoments : Setup → View → Type 0
-ScansHaveMoments setup v = setup.variant ≡ Optimistic → (words schedule : List ℕ)
+-- Where the tree is the optimistic one and the processes made few steps, this is so of whatever schedule gives them.
+abbrev pub InRuns : (Plan → List ℕ → List ℕ → Type 0) → Setup → View → Type 0
+InRuns Holds setup v = setup.variant ≡ Optimistic → (words schedule : List ℕ)
     → Gives (plan_of setup v) (opened (plan_of setup v)) schedule (state_of words v) → HasFewSteps (state_of words v)
-    → AnsweredScansHaveMoments (plan_of setup v) (opening setup.shape) schedule
+    → Holds (plan_of setup v) (opening setup.shape) schedule
+
+-- Each scan that was answered in it has one moment at which all that it read stands still.
+abbrev pub ScansHaveMoments : Setup → View → Type 0
+ScansHaveMoments setup v = InRuns AnsweredScansHaveMoments setup v
 
 -- And each get that was answered in it has one at which the last row that it read stands still, and says the reply.
 abbrev pub GetsHaveMoments : Setup → View → Type 0
-GetsHaveMoments setup v = setup.variant ≡ Optimistic → (words schedule : List ℕ)
-    → Gives (plan_of setup v) (opened (plan_of setup v)) schedule (state_of words v) → HasFewSteps (state_of words v)
-    → AnsweredGetsHaveMoments (plan_of setup v) (opening setup.shape) schedule
+GetsHaveMoments setup v = InRuns AnsweredGetsHaveMoments setup v
