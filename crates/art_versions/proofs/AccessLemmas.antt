@@ -1,13 +1,14 @@
 -- Each access of an open call keeps rows and versions sound, and is steady.
-use Rattle.std.proofs.Common.{◌≡◌, ◌≢◌, ℕ, ◌+◌, ◌*◌, ◌^◌, ◌<◌, ◌≤◌, List, [], ◌∷◌, length, refl, ap, sym, subst, ◌∙◌, inl, inr, arith}
-use Rattle.std.proofs.Common.{true, false}
+use Rattle.std.proofs.Common.{◌≡◌, ◌≢◌, ℕ, ◌+◌, ◌*◌, ◌/◌, ◌%◌, ◌^◌, ◌<◌, ◌≤◌, List, [], ◌∷◌, length, refl, ap, sym, subst, ◌∙◌, inl, inr, arith}
+use Rattle.std.proofs.Common.{true, false, ne_eqb}
 use Rattle.std.specs.Prelude.{◌⊎◌, slice_get, slice_index, slice_set, Some}
 use Rattle.std.proofs.lemmas.Bool.{cases_eq}
+use Rattle.std.proofs.lemmas.Option.{same_Some}
 use Rattle.events.specs.declared.event.Call.{Call}
 use Rattle.art_rows.specs.declared.table.Shape.{Shape}
 use Rattle.art_rows.specs.declared.table.Kind.{Kind}
 use Rattle.art_rows.specs.Table.{row_words, claims_of, kind_at}
-use Rattle.art_rows.specs.Words.{is_locked, locked_word, released_word, obsolete_word}
+use Rattle.art_rows.specs.Words.{is_locked, is_locked as locks-word, locked_word, released_word, obsolete_word}
 use Rattle.art_words.proofs.TableLemmas.{row_begins, row_ends, rows_apart}
 use Rattle.art_steps.specs.Rows.{Setting}
 use Rattle.art_stages.specs.declared.stage.Held.{Held}
@@ -16,13 +17,16 @@ use Rattle.art_core.specs.declared.process.Process.{Process}
 use Rattle.art_core.specs.Core.{State}
 use Rattle.art_versions.specs.Holding.{OfRows, Named, IsSlot, IsKept, optimistic, Knows, holds, fills}
 use Rattle.art_versions.specs.Effects.{IsGoodAt, IsAmong, IsBehindVersion, Has}
-use Rattle.art_versions.specs.Versions.{IsOpen, stage_of, IsSettled, AreDistinct, IsSound}
+use Rattle.art_versions.specs.Versions.{IsOpen, stage_of, IsSettled, IsHeld, AreDistinct, IsSound}
 use Rattle.art_versions.specs.Steady.{IsSteady, SameRow}
 use Rattle.art_versions.proofs.KeyLemmas.{slot-behind}
 use Rattle.art_versions.proofs.KnownLemmas.{knows-more}
-use Rattle.art_versions.proofs.ChangeLemmas.{good-more, index-same, index-other, sound-now}
+use Rattle.art_versions.proofs.ChangeLemmas.{good-more, index-same, index-other, set-same, held-still, sound-now}
 use Rattle.art_versions.proofs.MoveLemmas as m
 use Rattle.art_versions.proofs.MoveLemmas.{settled-row, some-words, claims-low, not-locked, true-false, no-items, differ, differ-from}
+
+unlocked : (value : ℕ) → (value / 2) % 2 ≡ 0 → locks-word value ≡ false
+unlocked value e = ne_eqb ((value / 2) % 2) 1 (λ f. omega (arith, e, f))
 
 module _ (shape : Shape) (n : ℕ) (s : State) (h : IsSound shape n s) (few : n < 2 ^ 62) (p : ℕ) (q : Process) (here : slice_get s.processes p ≡ Some q)
     (call : Call) (is-open : q.call ≡ Some call) where
@@ -65,7 +69,7 @@ module _ (shape : Shape) (n : ℕ) (s : State) (h : IsSound shape n s) (few : n 
               (λ base kind e. omega (arith, all base, h.versions base kind e))
               (subst (IsGoodAt (IsSettled shape later) shape word) (sym same)
               (good-more P (IsSettled shape later) shape more word (slice_index s.words word) (h.children word)))
-              (λ x k r other w o a. all x.base),
+              (λ base kind e. all base),
           record {
             settled = more;
             rises = λ base kind x. omega (arith, all base);
@@ -110,7 +114,7 @@ module _ (shape : Shape) (n : ℕ) (s : State) (h : IsSound shape n s) (few : n 
                 (knows-more Q (IsSettled shape later) c (settles more) here-now has.0, has.1, has.2) within
                 (λ base kind e. omega (arith, bases base kind e, h.versions base kind e))
                 (good-more P (IsSettled shape later) shape more word value good)
-                (λ x kx r other w o a. bases x.base x.kind (settled-row shape s x.base x.kind kx.1)),
+                bases,
             steady more,
           )
 
@@ -182,12 +186,13 @@ module _ (shape : Shape) (n : ℕ) (s : State) (h : IsSound shape n s) (few : n 
 
     -- it holds these rows then, whose versions are as they were kept
     pub keeps-rising : (rows : List Held) → fills place ≡ [] → Has P c (stage_of shape call q') rows []
-        → ((y : Held) → IsAmong y rows → then-at y.base ≡ y.kept + 2) → AreDistinct rows
+        → ((y : Held) → IsAmong y rows → then-at y.base ≡ y.kept + 2)
+        → ((y : Held) → IsAmong y (holds place) → y.base ≢ x.base → IsAmong y rows) → (locks-word value ≡ true → IsAmong x rows) → AreDistinct rows
         → ((r : ℕ) (other : Call) (w : Process) → r ≢ p → IsOpen s r other w → (y z : Held) → IsAmong y rows → IsAmong z (holds (stage_of shape other w))
         → y.base ≢ z.base)
         → ((r : ℕ) (other : Call) (w : Process) → r ≢ p → IsOpen s r other w → (z : Held) → IsAmong z (holds (stage_of shape other w)) → z.base ≢ x.base)
         → IsSound shape (n + 1) after × IsSteady shape s after
-    keeps-rising rows none has locked distinct apart others =
+    keeps-rising rows none has locked stay held distinct apart others =
         let cl = m.claims-stay shape n s h few p q here call is-open x.base value q' its [] has.2 (inr refl) claims-same in
         let more : (b : ℕ) (l : Kind) → P b l → IsSettled shape after b l =
         λ b l y. m.settles shape n s h few p q here call is-open x.base value q' its cl b l y in (
@@ -200,6 +205,7 @@ module _ (shape : Shape) (n : ℕ) (s : State) (h : IsSound shape n s) (few : n 
                 (knows-more P (IsSettled shape after) c more (stage_of shape call q') has.0) other e;
             locked = λ other e. own (λ v. (y : Held) → IsAmong y (holds (stage_of shape v q')) → then-at y.base ≡ y.kept + 2)
                 (λ y a. locked y (subst (IsAmong y) has.1 a)) other e;
+            held = held-now;
             distinct = λ other e. own (λ v. AreDistinct (holds (stage_of shape v q'))) (subst AreDistinct (sym has.1) distinct) other e;
             apart = λ other e. own (λ v. (r : ℕ) (o : Call) (w : Process) → r ≢ p → IsOpen s r o w → (y z : Held)
                 → IsAmong y (holds (stage_of shape v q')) → IsAmong z (holds (stage_of shape o w)) → y.base ≢ z.base)
@@ -211,6 +217,30 @@ module _ (shape : Shape) (n : ℕ) (s : State) (h : IsSound shape n s) (few : n 
         own : (Q : Call → Type 0) → Q call → (other : Call) → q'.call ≡ Some other → Q other
         own Q y other e = m.for-own shape n s h few p q here call is-open x.base value q' its Q y other e
 
+        for-call : (other : Call) → q.call ≡ Some other → (y : Held) → IsAmong y (holds (stage_of shape other q)) → y.base ≢ x.base
+            → (q'.call ≡ Some other) × IsAmong y (holds (stage_of shape other q'))
+        for-call other f y a away =
+            let is = same_Some call other (sym is-open ∙ f) in (
+              its ∙ ap Some is,
+              subst (λ v. IsAmong y (holds (stage_of shape v q'))) is
+                  (subst (IsAmong y) (sym has.1) (stay y (subst (λ v. IsAmong y (holds (stage_of shape v q))) (sym is) a) away)),
+            )
+
+        held-now : (base : ℕ) (kind : Kind) → kind_at shape base ≡ Some kind → locks-word (then-at base) ≡ true → IsHeld shape after base
+        held-now base kind e free = elim (cases_eq base x.base) [
+          | inl same ↦ record {
+            holder = p;
+            call = call;
+            process = q';
+            is_open = record { own = set-same s.processes p q q' here; is_open = its };
+            row = x;
+            among = subst (IsAmong x) (sym has.1) (held (ap locks-word (sym (ap then-at same ∙ version)) ∙ free));
+            is = sym same;
+          }
+          | inr other ↦ held-still shape n s h p q here x.base value q' base (h.held base kind e (ap locks-word (sym (elsewhere base other)) ∙ free))
+              (λ o f y a is. for-call o f y a (λ g. other (sym is ∙ g)))
+        ]
+
   -- the row is taken
   locked-apart : (x y : Held) → IsKept P x → slice_index s.words x.base ≡ x.kept → IsKept P y → slice_index s.words y.base ≡ y.kept + 2 → y.base ≢ x.base
   locked-apart x y kx ex ky ey same = omega (arith, ap (slice_index s.words) same, ex, ey, kx.0, ky.0)
@@ -221,7 +251,7 @@ module _ (shape : Shape) (n : ℕ) (s : State) (h : IsSound shape n s) (few : n 
       × IsSteady shape s (record { words = slice_set s.words x.base (locked_word x.kept); processes = slice_set s.processes p q' })
   takes x k is none q' its has =
       keeps-rising x k (locked_word x.kept) q' its (omega (arith, is, value)) (omega (arith, is, value)) (x ∷ holds place) none has
-      locked (new, h.distinct p call q opens) apart others
+      locked (λ y a other. inr a) (λ e. inl refl) (new, h.distinct p call q opens) apart others
     where
       value : locked_word x.kept ≡ x.kept + 2
       value = omega (arith, is, version-small x k, few)
@@ -254,7 +284,7 @@ module _ (shape : Shape) (n : ℕ) (s : State) (h : IsSound shape n s) (few : n 
       → IsSound shape (n + 1) (record { words = slice_set s.words x.base value; processes = slice_set s.processes p q' })
       × IsSteady shape s (record { words = slice_set s.words x.base value; processes = slice_set s.processes p q' })
   releases x rest value k hold none written q' its has =
-      keeps-rising x k value q' its more-than at-most rest none has locked distinct.1 apart others
+      keeps-rising x k value q' its more-than at-most rest none has locked stay (λ e. absurd (true-false e free)) distinct.1 apart others
     where
       among-x : IsAmong x (holds place)
       among-x = subst (IsAmong x) (sym hold) (inl refl)
@@ -282,6 +312,19 @@ module _ (shape : Shape) (n : ℕ) (s : State) (h : IsSound shape n s) (few : n 
 
       locked : (y : Held) → IsAmong y rest → slice_index (slice_set s.words x.base value) y.base ≡ y.kept + 2
       locked y a = index-other s.words x.base value y.base (λ e. distinct.0 y a (sym e)) ∙ h.locked p call q opens y (later-among y a)
+
+      stay : (y : Held) → IsAmong y (holds place) → y.base ≢ x.base → IsAmong y rest
+      stay y a away = go (subst (IsAmong y) hold a)
+        where
+          go : IsAmong y (x ∷ rest) → IsAmong y rest
+          go (inl e) = absurd (away (ap (λ v. v.base) e))
+          go (inr b) = b
+
+      free : locks-word value ≡ false
+      free = elim written [
+        | inl e ↦ unlocked value (omega (arith, is, e, version-small x k, few, k.0))
+        | inr e ↦ unlocked value (omega (arith, is, e, version-small x k, few, k.0))
+      ]
 
       apart : (r : ℕ) (other : Call) (w : Process) → r ≢ p → IsOpen s r other w → (y z : Held) → IsAmong y rest
           → IsAmong z (holds (stage_of shape other w)) → y.base ≢ z.base

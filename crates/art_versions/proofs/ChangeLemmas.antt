@@ -1,22 +1,23 @@
 -- What has to be shown of a step, so that rows and versions stay sound.
-use Rattle.std.proofs.Common.{◌≡◌, ◌≢◌, ℕ, ◌+◌, ◌*◌, ◌<◌, ◌≤◌, List, [], ◌∷◌, length, ap, sym, subst, ◌∙◌, inl, inr, arith, get_or-set_other}
+use Rattle.std.proofs.Common.{◌≡◌, ◌≢◌, ℕ, zero, suc, ◌+◌, ◌*◌, ◌<◌, ◌≤◌, true, List, [], ◌∷◌, length, refl, ap, sym, subst, ◌∙◌, inl, inr, arith, get_or-set_other}
 use Rattle.std.proofs.Common.{get_or-set_same}
 use Rattle.std.specs.Prelude.{◌⊎◌, slice_get, slice_index, slice_set, Some}
 use Rattle.std.proofs.lemmas.List.{length-set}
 use Rattle.std.proofs.lemmas.Bool.{cases_eq}
+use Rattle.std.proofs.lemmas.Option.{same_Some, none-some}
 use Rattle.events.specs.declared.event.Call.{Call}
 use Rattle.art_rows.specs.declared.table.Shape.{Shape}
 use Rattle.art_rows.specs.declared.table.Kind.{Kind}
 use Rattle.art_rows.specs.declared.table.Kind.TheVariants.{Full}
 use Rattle.art_rows.specs.Table.{claims_of, root_base, kind_at}
-use Rattle.art_rows.specs.Words.{child_of}
+use Rattle.art_rows.specs.Words.{is_locked, child_of}
 use Rattle.art_stages.specs.declared.stage.Held.{Held}
 use Rattle.art_core.specs.declared.process.Process.{Process}
 use Rattle.art_core.specs.Core.{State}
 use Rattle.art_core.proofs.HistoryLemmas.{changed-at}
 use Rattle.art_versions.specs.Holding.{OfRows, IsNamed, child_rows, optimistic, Knows, holds, fills}
 use Rattle.art_versions.specs.Effects.{IsGoodAt, IsAmong}
-use Rattle.art_versions.specs.Versions.{IsOpen, stage_of, IsClaimed, IsSettled, AreDistinct, IsSound}
+use Rattle.art_versions.specs.Versions.{IsOpen, stage_of, IsClaimed, IsSettled, IsHeld, AreDistinct, IsSound}
 use Rattle.art_versions.proofs.KeyLemmas.{each-weaker}
 use Rattle.art_versions.proofs.KnownLemmas.{knows-more}
 
@@ -30,6 +31,18 @@ index-same words word value h = get_or-set_same words word value 0 h
 
 pub index-other : (words : List ℕ) (word value x : ℕ) → x ≢ word → slice_index (slice_set words word value) x ≡ slice_index words x
 index-other words word value x h = get_or-set_other words word x value 0 h
+
+pub set-same : {A : Type 0} (xs : List A) (i : ℕ) (old new : A) → slice_get xs i ≡ Some old → slice_get (slice_set xs i new) i ≡ Some new
+set-same [] i old new h = absurd (none-some old h)
+set-same (x ∷ xs) zero old new h = refl
+set-same (x ∷ xs) (suc i) old new h = set-same xs i old new h
+
+pub set-other : {A : Type 0} (xs : List A) (i : ℕ) (new : A) (j : ℕ) → j ≢ i → slice_get (slice_set xs i new) j ≡ slice_get xs j
+set-other [] i new j h = refl
+set-other (x ∷ xs) zero new zero h = absurd (h refl)
+set-other (x ∷ xs) zero new (suc j) h = refl
+set-other (x ∷ xs) (suc i) new zero h = refl
+set-other (x ∷ xs) (suc i) new (suc j) h = set-other xs i new j (λ e. h (ap suc e))
 
 module _ (shape : Shape) (n : ℕ) (s : State) (h : IsSound shape n s) (p : ℕ) (q : Process) (here : slice_get s.processes p ≡ Some q)
     (word value : ℕ) (q' : Process) where
@@ -48,6 +61,35 @@ module _ (shape : Shape) (n : ℕ) (s : State) (h : IsSound shape n s) (p : ℕ)
 
   pub own-call : (r : ℕ) (call : Call) (w : Process) → IsOpen next r call w → w ≡ q' → q'.call ≡ Some call
   own-call r call w o e = ap (λ x. x.call) (sym e) ∙ o.is_open
+
+  -- a row that was held is held still, where its process holds it still
+  pub held-still : (base : ℕ) → IsHeld shape s base
+      → ((call : Call) → q.call ≡ Some call → (x : Held) → IsAmong x (holds (stage_of shape call q)) → x.base ≡ base
+      → (q'.call ≡ Some call) × IsAmong x (holds (stage_of shape call q'))) → IsHeld shape next base
+  held-still base x stays = elim (cases_eq x.holder p) [
+    | inl same ↦
+        let its : x.process ≡ q = same_Some x.process q (sym x.is_open.own ∙ (ap (slice_get s.processes) same ∙ here)) in
+        let more = stays x.call (ap (λ w. w.call) (sym its) ∙ x.is_open.is_open) x.row
+        (subst (λ w. IsAmong x.row (holds (stage_of shape x.call w))) its x.among) x.is in
+        record {
+          holder = p;
+          call = x.call;
+          process = q';
+          is_open = record { own = set-same s.processes p q q' here; is_open = more.0 };
+          row = x.row;
+          among = more.1;
+          is = x.is;
+        }
+    | inr other ↦ record {
+      holder = x.holder;
+      call = x.call;
+      process = x.process;
+      is_open = record { own = set-other s.processes p q' x.holder other ∙ x.is_open.own; is_open = x.is_open.is_open };
+      row = x.row;
+      among = x.among;
+      is = x.is;
+    }
+  ]
 
   -- of claims, and of rows that are filled
   pub record Claims : Type 0 where
@@ -83,6 +125,7 @@ module _ (shape : Shape) (n : ℕ) (s : State) (h : IsSound shape n s) (p : ℕ)
           → now x.base ≡ slice_index s.words x.base
       pub knows : (call : Call) → q'.call ≡ Some call → Knows (IsSettled shape next) (optimistic shape call) (stage_of shape call q')
       pub locked : (call : Call) → q'.call ≡ Some call → (x : Held) → IsAmong x (holds (stage_of shape call q')) → now x.base ≡ x.kept + 2
+      pub held : (base : ℕ) (kind : Kind) → kind_at shape base ≡ Some kind → is_locked (now base) ≡ true → IsHeld shape next base
       pub distinct : (call : Call) → q'.call ≡ Some call → AreDistinct (holds (stage_of shape call q'))
       pub apart : (call : Call) → q'.call ≡ Some call → (r : ℕ) (other : Call) (w : Process) → r ≢ p → IsOpen s r other w → (x y : Held)
           → IsAmong x (holds (stage_of shape call q')) → IsAmong y (holds (stage_of shape other w)) → x.base ≢ y.base
@@ -159,6 +202,7 @@ module _ (shape : Shape) (n : ℕ) (s : State) (h : IsSound shape n s) (p : ℕ)
         children = good-now;
         knows = knows-now;
         locked = locked-now;
+        held = k.held;
         distinct = distinct-now;
         apart = apart-now;
         filled = filled-now;

@@ -585,4 +585,4 @@ module _ (s : Shape) (call : Call) (P : OfRows) (is_row : (b : â„•) (k : Kind) â
   key-does (Hang g) k = hang-does g g.hold.above refl k.kept.1 k.fits k
   key-does (Obsolete h) k = Releases h.row (all_of h.above) _ _ refl refl refl (inr refl) k.kept.0 (released s call P is_row root h.above _ k.kept.1)
   key-does (Unlock h outcome) k = Releases h.row (all_of h.above) _ _ refl refl refl (inl refl) k.kept.0 (released s call P is_row root h.above _ k.kept.1)
-  key-does (Over outcome) k = Answered _ refl
+  key-does (Over outcome) k = Answered _ refl refl

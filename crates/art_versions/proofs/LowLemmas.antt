@@ -8,6 +8,7 @@ use Rattle.art_rows.specs.declared.table.Shape.{Shape}
 use Rattle.art_rows.specs.declared.table.Kind.{Kind}
 use Rattle.art_rows.specs.declared.table.Kind.TheVariants.{Four, Sixteen, FortyEight, Full}
 use Rattle.art_rows.specs.Table.{rows_of, claims_of, base_of, root_base, kind_at}
+use Rattle.art_rows.specs.Words.{is_locked}
 use Rattle.art_words.proofs.TableLemmas.{row_begins, base_of-once}
 use Rattle.art_stages.specs.declared.stage.Held.{Held}
 use Rattle.art_core.specs.declared.process.Process.{Process}
@@ -18,7 +19,7 @@ use Rattle.art_versions.specs.Versions.{IsOpen, stage_of, IsClaimed, IsSettled, 
 use Rattle.art_versions.specs.Steady.{IsSteady}
 use Rattle.art_versions.proofs.KeyLemmas.{slot-behind}
 use Rattle.art_versions.proofs.KnownLemmas.{knows-more, held-is-kept}
-use Rattle.art_versions.proofs.ChangeLemmas.{index-same, index-other, Claims, settled-more, sound-now}
+use Rattle.art_versions.proofs.ChangeLemmas.{index-same, index-other, held-still, Claims, settled-more, sound-now}
 use Rattle.art_versions.proofs.MoveLemmas as m
 use Rattle.art_versions.proofs.MoveLemmas.{settled-row, claims-low, no-items, differ, differ-from}
 
@@ -86,9 +87,10 @@ module _ (shape : Shape) (n : ℕ) (s : State) (h : IsSound shape n s) (few : n 
     -- it holds nothing then, and fills nothing
     pub keeps-idle : ((kind : Kind) → now (claims_of kind) ≡ slice_index s.words (claims_of kind))
         → ((call : Call) → q'.call ≡ Some call → (holds (stage_of shape call q') ≡ []) × (fills (stage_of shape call q') ≡ []))
+        → ((call : Call) → q.call ≡ Some call → holds (stage_of shape call q) ≡ [])
         → ((Q : OfRows) → Q (root_base shape) Full → (call : Call) → q'.call ≡ Some call → Knows Q (optimistic shape call) (stage_of shape call q'))
         → IsSound shape (n + 1) later × IsSteady shape s later
-    keeps-idle claims none knows = (
+    keeps-idle claims none before knows = (
       sound-now shape n s h p q here word value q' cl (record {
         within = within;
         versions = versions;
@@ -97,6 +99,8 @@ module _ (shape : Shape) (n : ℕ) (s : State) (h : IsSound shape n s) (few : n 
             (settled-row shape s x.base x.kind (held-row r other w o x a).1);
         knows = λ call e. knows (IsSettled shape later) (more (root_base shape) Full h.root) call e;
         locked = λ call e x a. absurd (subst (IsAmong x) (none call e).0 a);
+        held = λ base kind e locked. held-still shape n s h p q here word value q' base (h.held base kind e (ap is_locked (sym (row-above base kind e)) ∙ locked))
+            (λ call f x a is. absurd (subst (IsAmong x) (before call f) a));
         distinct = λ call e. subst AreDistinct (sym (none call e).0) tt;
         apart = λ call e r other w away o x y a b. absurd (subst (IsAmong x) (none call e).0 a);
       }),
@@ -151,7 +155,7 @@ module _ (shape : Shape) (n : ℕ) (s : State) (h : IsSound shape n s) (few : n 
           (knows-more (IsSettled shape s) (IsSettled shape after) (optimistic shape call) more (stage_of shape call q') has.0, has.1, has.2)
           (within (claims_of kind) value (claims-low kind) q') (versions (claims_of kind) value (claims-low kind) q')
           (no-slot (claims_of kind) value (claims-low kind) q' (IsSettled shape after))
-          (λ x k r other w o a. row-above (claims_of kind) value (claims-low kind) q' x.base x.kind (settled-row shape s x.base x.kind k.1)),
+          (row-above (claims_of kind) value (claims-low kind) q'),
       steady (claims_of kind) value (claims-low kind) q' more,
     )
       where

@@ -20,7 +20,7 @@ use Rattle.art_versions.specs.Holding.{Named, IsKept, optimistic, Knows, holds, 
 use Rattle.art_versions.specs.Effects.{IsGoodAt, IsAmong, IsBehindVersion, Has}
 use Rattle.art_versions.specs.Versions.{IsOpen, stage_of, IsClaimed, IsSettled, AreDistinct, IsSound}
 use Rattle.art_versions.proofs.KnownLemmas.{held-is-kept}
-use Rattle.art_versions.proofs.ChangeLemmas.{index-same, index-other, next, now, Claims, settled-more, sound-now}
+use Rattle.art_versions.proofs.ChangeLemmas.{index-same, index-other, next, now, held-still, Claims, settled-more, sound-now}
 
 pub settled-row : (shape : Shape) (s : State) (b : ℕ) (k : Kind) → IsSettled shape s b k → kind_at shape b ≡ Some k
 settled-row shape s b k x = ap (kind_at shape) x.claimed.is ∙ kind_at-base_of shape k x.claimed.number x.claimed.within
@@ -121,22 +121,35 @@ module _ (shape : Shape) (n : ℕ) (s : State) (h : IsSound shape n s) (few : n 
       -- where it holds the rows that it held, and their versions stay
       pub rows-stay : (filled : List Named) → Has (IsSettled shape later) c (stage_of shape call q') (holds place) filled → word < length s.words
           → ((base : ℕ) (kind : Kind) → kind_at shape base ≡ Some kind → at-now base ≤ 3 * (n + 1)) → IsGoodAt (IsSettled shape later) shape word value
-          → ((x : Held) → IsKept (IsSettled shape s) x → (r : ℕ) (other : Call) (w : Process) → IsOpen s r other w → IsAmong x (holds (stage_of shape other w))
-          → at-now x.base ≡ slice_index s.words x.base)
+          → ((base : ℕ) (kind : Kind) → kind_at shape base ≡ Some kind → at-now base ≡ slice_index s.words base)
           → IsSound shape (n + 1) later
-      rows-stay filled has within versions good calm = sound-now shape n s h p q here word value q' cl (record {
+      rows-stay filled has within versions good same = sound-now shape n s h p q here word value q' cl (record {
         within = within;
         versions = versions;
         good = good;
-        others = λ r other w away o x a. calm x (held-row r other w o x a) r other w o a;
+        others = λ r other w away o x a. calm x (held-row r other w o x a);
         knows = λ other e. for-own (λ v. Knows (IsSettled shape later) (optimistic shape v) (stage_of shape v q')) has.0 other e;
         locked = λ other e. for-own (λ v. (x : Held) → IsAmong x (holds (stage_of shape v q')) → at-now x.base ≡ x.kept + 2)
-            (λ x a. let b = subst (IsAmong x) has.1 a in calm x (held-row p call q opens x b) p call q opens b ∙ h.locked p call q opens x b) other e;
+            (λ x a. let b = subst (IsAmong x) has.1 a in calm x (held-row p call q opens x b) ∙ h.locked p call q opens x b) other e;
+        held = λ base kind e free. held-still shape n s h p q here word value q' base (h.held base kind e (ap is_locked (sym (same base kind e)) ∙ free))
+            (λ other f x a is. for-call other f x a);
         distinct = λ other e. for-own (λ v. AreDistinct (holds (stage_of shape v q'))) (subst AreDistinct (sym has.1) (h.distinct p call q opens)) other e;
         apart = λ other e. for-own (λ v. (r : ℕ) (o : Call) (w : Process) → r ≢ p → IsOpen s r o w → (x y : Held)
             → IsAmong x (holds (stage_of shape v q')) → IsAmong y (holds (stage_of shape o w)) → x.base ≢ y.base)
             (λ r o w away ow x y a b same. away (sym (h.apart p r call o q w opens ow x y (subst (IsAmong x) has.1 a) b same))) other e;
       })
+        where
+          calm : (x : Held) → IsKept (IsSettled shape s) x → at-now x.base ≡ slice_index s.words x.base
+          calm x k = same x.base x.kind (kind-of x k)
+
+          for-call : (other : Call) → q.call ≡ Some other → (x : Held) → IsAmong x (holds (stage_of shape other q))
+              → (q'.call ≡ Some other) × IsAmong x (holds (stage_of shape other q'))
+          for-call other f x a =
+              let is = same_Some call other (sym is-open ∙ f) in (
+                its ∙ ap Some is,
+                subst (λ v. IsAmong x (holds (stage_of shape v q'))) is
+                    (subst (IsAmong x) (sym has.1) (subst (λ v. IsAmong x (holds (stage_of shape v q))) (sym is) a)),
+              )
 
     -- a word that is behind a version is no version
     pub no-version : (b : ℕ) (k : Kind) → kind_at shape b ≡ Some k → IsBehindVersion b k word → (base : ℕ) (kind : Kind) → kind_at shape base ≡ Some kind

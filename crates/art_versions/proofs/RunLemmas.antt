@@ -1,9 +1,9 @@
 -- Every run of the optimistic tree keeps rows and versions sound, and is steady.
-use Rattle.std.proofs.Common.{◌≡◌, ◌≢◌, ℕ, zero, suc, ◌+◌, ◌^◌, ◌<◌, ◌≤◌, List, [], ◌∷◌, ◌++◌, length, refl, ap, sym, subst, ◌∙◌, arith}
-use Rattle.std.specs.Prelude.{slice_index, slice_set, replicate, Option, Some, None}
+use Rattle.std.proofs.Common.{◌≡◌, ◌≢◌, ℕ, zero, suc, ◌+◌, ◌^◌, ◌<◌, ◌≤◌, true, List, [], ◌∷◌, ◌++◌, length, refl, ap, sym, subst, ◌∙◌, arith}
+use Rattle.std.specs.Prelude.{slice_get, slice_index, slice_set, replicate, Option, Some, None}
 use Rattle.std.proofs.lemmas.List.{length-replicate, length-set, length-append}
 use Rattle.art_core.proofs.RunLemmas.{run-on-append}
-use Rattle.std.proofs.lemmas.Option.{same_Some, none-some}
+use Rattle.std.proofs.lemmas.Option.{same_Some, none-some, slice_get_within}
 use Rattle.events.specs.declared.event.Call.{Call}
 use Rattle.map_object.specs.MapObject.{Contents}
 use Rattle.art_rows.specs.declared.table.Shape.{Shape}
@@ -14,18 +14,18 @@ use Rattle.art_rows.specs.Words.{is_locked, child_of}
 use Rattle.art_words.proofs.TableLemmas.{kind_at-base_of, row_begins, rows_apart}
 use Rattle.art_steps.specs.declared.variant.Variant.TheVariants.{Optimistic}
 use Rattle.art_core.specs.declared.process.Process.{Process}
-use Rattle.art_core.specs.Core.{Plan, State, opened, opened_on, step}
+use Rattle.art_core.specs.Core.{Plan, State, move_from, opened, opened_on, step}
 use Rattle.art_core.specs.Runs.{run_on}
 use Rattle.art_core.specs.Starts.{StartsOn, start_plan}
 use Rattle.art_core.specs.Plans.{IsRun}
-use Rattle.art_core.proofs.HistoryLemmas.{nowhere, all-idle, opening-length}
+use Rattle.art_core.proofs.HistoryLemmas.{nowhere, all-idle, opening-length, run-lengths}
 use Rattle.art_core.proofs.StartLemmas.{run-steps}
 use Rattle.art_versions.specs.Holding.{IsSlot, Each, IsNamed, child_rows}
 use Rattle.art_versions.specs.Versions.{IsOpen, IsSettled, IsSound}
 use Rattle.art_versions.specs.Steady.{IsSteady}
 use Rattle.art_versions.proofs.KeyLemmas.{slot-behind}
 use Rattle.art_versions.proofs.ChangeLemmas.{index-other, index-same, good-more}
-use Rattle.art_versions.proofs.MoveLemmas.{some-words, differ, differ-from}
+use Rattle.art_versions.proofs.MoveLemmas.{some-words, true-false, differ, differ-from}
 use Rattle.art_versions.proofs.StepLemmas.{one-step}
 
 pub steady-refl : (shape : Shape) (s : State) → IsSteady shape s s
@@ -139,6 +139,7 @@ module _ (shape : Shape) (some : 1 ≤ shape.rows256) where
     };
     children = λ x base kind e slot. subst (λ v. Each (IsNamed (IsSettled shape s)) (child_rows (child_of shape v))) (sym (at x ∙ slot-zero base kind e x slot)) tt;
     knows = λ p call q o. absurd (none p call q o);
+    held = λ base kind e locked. absurd (differs (at base ∙ zeros base (differ-from base 4 (omega (arith, row_begins shape base kind e))) (behind-root base kind e)) locked);
     locked = λ p call q o. absurd (none p call q o);
     distinct = λ p call q o. absurd (none p call q o);
     apart = λ p r call other q w o. absurd (none p call q o);
@@ -146,12 +147,15 @@ module _ (shape : Shape) (some : 1 ≤ shape.rows256) where
     fills_apart = λ p r call other q w o. absurd (none p call q o);
   }
     where
+      differs : {v : ℕ} → v ≡ 0 → is_locked v ≡ true → ⊥
+      differs e f = true-false f (ap is_locked e)
+
       at : (x : ℕ) → slice_index s.words x ≡ slice_index words x
       at x = ap (λ w. slice_index w x) is
 
 -- With the clock set back, and no process in a call before or after, all stays sound.
-pub reset-sound : (shape : Shape) (n : ℕ) (s t : State) → IsSound shape n s → t.words ≡ slice_set s.words 0 0 → AllIdle t → IsSound shape n t
-reset-sound shape n s t h is none = record {
+pub reset-sound : (shape : Shape) (n : ℕ) (s t : State) → IsSound shape n s → AllIdle s → t.words ≡ slice_set s.words 0 0 → AllIdle t → IsSound shape n t
+reset-sound shape n s t h before is none = record {
   long = ap (λ w. length w) is ∙ (length-set s.words 0 0 ∙ h.long);
   versions = λ base kind e. omega (arith, at base (omega (arith, row_begins shape base kind e)), h.versions base kind e);
   claims = λ kind. omega (arith, at (claims_of kind) (claims-some kind), h.claims kind);
@@ -161,6 +165,9 @@ reset-sound shape n s t h is none = record {
       (good-more (IsSettled shape s) (IsSettled shape t) shape settled x (slice_index s.words x) (h.children x) base kind e slot);
   knows = λ p call q o. absurd (none p call q o);
   locked = λ p call q o. absurd (none p call q o);
+  held = λ base kind e locked.
+      let x = h.held base kind e (ap is_locked (sym (at base (omega (arith, row_begins shape base kind e)))) ∙ locked) in
+      absurd (before x.holder x.call x.process x.is_open);
   distinct = λ p call q o. absurd (none p call q o);
   apart = λ p r call other q w o. absurd (none p call q o);
   filled = λ p call q o. absurd (none p call q o);
@@ -189,6 +196,18 @@ pub record StartsSound (plan : Plan) (words : List ℕ) : Type 0 where
   pub few : steps < 2 ^ 61
   pub sound : IsSound plan.shape steps (opened_on plan words)
 
+no-call : (plan : Plan) (q : Process) (o : Option Call) → move_from plan 0 q o ≡ None → o ≡ None
+no-call plan q None e = refl
+no-call plan q (Some call) e = absurd (none-some _ (sym e))
+
+start-idle : (plan : Plan) (start : Contents) (words : List ℕ) (h : StartsOn plan.shape plan.variant start words) → AllIdle h.state
+start-idle plan start words h p call q o =
+    let first = start_plan plan.shape plan.variant start in
+    let alone : length h.state.processes ≡ 1 = (run-lengths first h.inserted.schedule (opened first) h.state h.inserted.gives).1 in
+    let its : p ≡ 0 = omega (arith, alone, slice_get_within h.state.processes p q o.own) in
+    let same : q ≡ h.process = same_Some q h.process (sym (subst (λ i. slice_get h.state.processes i ≡ Some q) its o.own) ∙ h.inserted.is_process) in
+    none-some call (sym (ap (λ x. x.call) same ∙ no-call first h.process h.process.call h.all) ∙ o.is_open)
+
 pub start-sound : (plan : Plan) (start : Contents) (words : List ℕ) → plan.variant ≡ Optimistic → 1 ≤ plan.shape.rows256
     → StartsOn plan.shape plan.variant start words → StartsSound plan words
 start-sound plan start words v root h =
@@ -200,7 +219,7 @@ start-sound plan start words v root h =
     record {
       steps = 0 + length h.inserted.schedule;
       few = omega (arith, few);
-      sound = reset-sound plan.shape (0 + length h.inserted.schedule) h.state (opened_on plan words) sound h.leaves (idle-idle plan words);
+      sound = reset-sound plan.shape (0 + length h.inserted.schedule) h.state (opened_on plan words) sound (start-idle plan start words h) h.leaves (idle-idle plan words);
     }
 
 -- A state that a schedule gives, with the steps that were made up to it.

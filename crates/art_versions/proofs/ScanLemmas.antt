@@ -193,4 +193,4 @@ module _ (s : Shape) (call : Call) (P : OfRows) (is_row : (b : ℕ) (k : Kind) �
         refl,
       ))
       go (Release n) w k = Reads _ _ refl (λ value good. (releases n w (value == n.kept), refl, refl))
-      go Over w k = Answered _ refl
+      go Over w k = Answered _ refl refl

@@ -181,7 +181,7 @@ module _ (shape : Shape) (root : 1 ≤ shape.rows256) (n : ℕ) (s : State) (h :
 
         one : (value + 1) % 2 ^ 64 ≡ value + 1
         one = omega (arith, h.claims kind, few)
-    access a mark e (Answered reply turn) = absurd (asks-answers (sym e ∙ turn))
+    access a mark e (Answered reply turn none) = absurd (asks-answers (sym e ∙ turn))
 
   -- stamps
 
@@ -205,13 +205,13 @@ module _ (shape : Shape) (root : 1 ≤ shape.rows256) (n : ℕ) (s : State) (h :
   claims-above value FortyEight = index-other s.words 0 value 3 (λ e. omega (arith, e))
   claims-above value Full = index-other s.words 0 value 4 (λ e. omega (arith, e))
 
-  invoked : (call : Call) → Kept (Invokes call)
-  invoked call = keeps-idle shape n s h few p q here 0 _ (omega arith) (after_move p (Invokes call) (slice_index s.words 0) q) (claims-above _)
-      (λ other e. begun-idle other other) (λ Q r other e. begun-knows other other Q)
+  invoked : (call : Call) → q.call ≡ None → Kept (Invokes call)
+  invoked call idle = keeps-idle shape n s h few p q here 0 _ (omega arith) (after_move p (Invokes call) (slice_index s.words 0) q) (claims-above _)
+      (λ other e. begun-idle other other) (λ other e. absurd (none-some other (sym idle ∙ e))) (λ Q r other e. begun-knows other other Q)
 
-  responded : (reply : Reply) → Kept (Responds reply)
-  responded reply = keeps-idle shape n s h few p q here 0 _ (omega arith) (after_move p (Responds reply) (slice_index s.words 0) q) (claims-above _)
-      (λ other e. absurd (none-some other e)) (λ Q r other e. absurd (none-some other e))
+  responded : (reply : Reply) → ((call : Call) → q.call ≡ Some call → holds (stage_of shape call q) ≡ []) → Kept (Responds reply)
+  responded reply nothing = keeps-idle shape n s h few p q here 0 _ (omega arith) (after_move p (Responds reply) (slice_index s.words 0) q) (claims-above _)
+      (λ other e. absurd (none-some other e)) nothing (λ Q r other e. absurd (none-some other e))
 
   pub one-move : (plan : Plan) → plan.shape ≡ shape → plan.variant ≡ Optimistic → (o : Option Call) (m : Move) → q.call ≡ o → move_from plan p q o ≡ Some m
       → Kept m
@@ -219,17 +219,31 @@ module _ (shape : Shape) (root : 1 ≤ shape.rows256) (n : ℕ) (s : State) (h :
     where
       begins : (o : Option Call) → invocation o ≡ Some m → Kept m
       begins None f = absurd (none-some m f)
-      begins (Some call) f = subst Kept (same_Some (Invokes call) m f) (invoked call)
+      begins (Some call) f = subst Kept (same_Some (Invokes call) m f) (invoked call e)
   one-move plan its-shape its-variant (Some call) m e k =
       goes (act plan.shape plan.variant call q.got) (sym turn) k
     where
       turn : act plan.shape plan.variant call q.got ≡ call_turn (optimistic shape call) (stage_of shape call q)
       turn = ap (λ x. act x plan.variant call q.got) its-shape ∙ (ap (λ v. act shape v call q.got) its-variant ∙ next-turn shape call q)
 
+      doing : Does (IsSettled shape s) (optimistic shape call) (stage_of shape call q)
+      doing = does shape call (IsSettled shape s) (settled-row shape s) h.root (stage_of shape call q) (h.knows p call q (record { own = here; is_open = e }))
+
+      nothing : (reply : Reply) → call_turn (optimistic shape call) (stage_of shape call q) ≡ Answers reply
+          → Does (IsSettled shape s) (optimistic shape call) (stage_of shape call q) → holds (stage_of shape call q) ≡ []
+      nothing reply f (Answered other turn none) = none
+      nothing reply f (Reads word at turn after) = absurd (asks-answers (sym turn ∙ f))
+      nothing reply f (Writes x word value at turn among kept behind good after) = absurd (asks-answers (sym turn ∙ f))
+      nothing reply f (Fills b k word value at turn filled behind row good after) = absurd (asks-answers (sym turn ∙ f))
+      nothing reply f (Ends b k word value at turn filled behind row good after) = absurd (asks-answers (sym turn ∙ f))
+      nothing reply f (Releases x rest value at turn hold none written kept after) = absurd (asks-answers (sym turn ∙ f))
+      nothing reply f (Takes x at turn none kept taken other) = absurd (asks-answers (sym turn ∙ f))
+      nothing reply f (Claims kind at turn none claimed full) = absurd (asks-answers (sym turn ∙ f))
+
       goes : (t : Turn) → call_turn (optimistic shape call) (stage_of shape call q) ≡ t → ◌≡◌ {A = Option Move} (Some (move_of t)) (Some m) → Kept m
-      goes (Asks a mark) f l = subst Kept (same_Some (Makes a) m l) (access call e a mark f
-          (does shape call (IsSettled shape s) (settled-row shape s) h.root (stage_of shape call q) (h.knows p call q (record { own = here; is_open = e }))))
-      goes (Answers reply) f l = subst Kept (same_Some (Responds reply) m l) (responded reply)
+      goes (Asks a mark) f l = subst Kept (same_Some (Makes a) m l) (access call e a mark f doing)
+      goes (Answers reply) f l = subst Kept (same_Some (Responds reply) m l) (responded reply (λ other g.
+          subst (λ x. holds (stage_of shape x q) ≡ []) (same_Some call other (sym e ∙ g)) (nothing reply f doing)))
 
 -- A step of the optimistic tree.
 pub one-step : (plan : Plan) → plan.variant ≡ Optimistic → 1 ≤ plan.shape.rows256 → (n : ℕ) → n < 2 ^ 62 → (s : State) → IsSound plan.shape n s

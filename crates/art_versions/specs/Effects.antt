@@ -55,4 +55,4 @@ pub data Does (P : OfRows) (c : Setting) (at : CallAt) : Type 0 where
       → ((value : ℕ) → value < rows_of c.shape kind
       → Has P c (call_after c at value) (holds at) ((base_of c.shape kind value, kind) ∷ []))
       → ((value : ℕ) → rows_of c.shape kind ≤ value → Has P c (call_after c at value) (holds at) []) → Does P c at
-  Answered : (reply : Reply) → call_turn c at ≡ Answers reply → Does P c at
+  Answered : (reply : Reply) → call_turn c at ≡ Answers reply → holds at ≡ [] → Does P c at

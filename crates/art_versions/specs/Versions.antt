@@ -1,10 +1,11 @@
 -- The invariant of rows and versions: in every state that a schedule of the optimistic tree gives, after few steps.
-use Rattle.std.specs.Prelude.{◌≡◌, ◌≢◌, ℕ, ◌+◌, ◌*◌, ◌<◌, ◌≤◌, List, [], ◌∷◌, length, slice_get, slice_index, Some}
+use Rattle.std.specs.Prelude.{◌≡◌, ◌≢◌, ℕ, ◌+◌, ◌*◌, ◌<◌, ◌≤◌, true, List, [], ◌∷◌, length, slice_get, slice_index, Some}
 use Rattle.events.specs.declared.event.Call.{Call}
 use Rattle.art_rows.specs.declared.table.Shape.{Shape}
 use Rattle.art_rows.specs.declared.table.Kind.{Kind}
 use Rattle.art_rows.specs.declared.table.Kind.TheVariants.{Full}
 use Rattle.art_rows.specs.Table.{table_words, rows_of, claims_of, base_of, root_base, kind_at}
+use Rattle.art_rows.specs.Words.{is_locked}
 use Rattle.art_stages.specs.declared.stage.Held.{Held}
 use Rattle.art_stages.specs.Calls.{CallAt, call_behind}
 use Rattle.art_core.specs.declared.process.Process.{Process}
@@ -33,6 +34,16 @@ pub record IsSettled (shape : Shape) (s : State) (base : ℕ) (kind : Kind) : Ty
   pub claimed : IsClaimed shape s.words base kind
   pub unfilled : (p : ℕ) (call : Call) (q : Process) → IsOpen s p call q → (b : ℕ) (k : Kind) → fills (stage_of shape call q) ≡ (b, k) ∷ [] → base ≢ b
 
+-- a process is in a call that holds the row
+pub record IsHeld (shape : Shape) (s : State) (base : ℕ) : Type 0 where
+  pub holder : ℕ
+  pub call : Call
+  pub process : Process
+  pub is_open : IsOpen s holder call process
+  pub row : Held
+  pub among : IsAmong row (holds (stage_of shape call process))
+  pub is : row.base ≡ base
+
 -- no row is among them twice
 abbrev pub AreDistinct : List Held → Type 0
 AreDistinct [] = Unit {0}
@@ -52,6 +63,9 @@ pub record IsSound (shape : Shape) (n : ℕ) (s : State) : Type 0 where
   -- a row that a process holds is locked from the version that was kept, and no two processes hold one row
   pub locked : (p : ℕ) (call : Call) (q : Process) → IsOpen s p call q → (h : Held) → IsAmong h (holds (stage_of shape call q))
       → slice_index s.words h.base ≡ h.kept + 2
+  -- A row that is locked is held by a process, without exception: a fresh row and one that is released for good are not locked, and the root is a row
+  -- as any other.
+  pub held : (base : ℕ) (kind : Kind) → kind_at shape base ≡ Some kind → is_locked (slice_index s.words base) ≡ true → IsHeld shape s base
   pub distinct : (p : ℕ) (call : Call) (q : Process) → IsOpen s p call q → AreDistinct (holds (stage_of shape call q))
   pub apart : (p r : ℕ) (call other : Call) (q w : Process) → IsOpen s p call q → IsOpen s r other w → (h x : Held)
       → IsAmong h (holds (stage_of shape call q)) → IsAmong x (holds (stage_of shape other w)) → h.base ≡ x.base → p ≡ r

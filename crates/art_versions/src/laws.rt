@@ -2,8 +2,8 @@
 ghost use Rattle.art_versions.specs.Laws.{RowsAreSound, RowsStandStill};
 
 /// In every state of the optimistic tree, whatever calls run: each row that a process holds is locked from the version that
-/// the process has kept, no two processes hold one row, versions that calls have kept were neither locked nor obsolete, and
-/// no word names a row that is still being filled.
+/// the process has kept, each row that is locked is held by a process, no two processes hold one row, versions that calls
+/// have kept were neither locked nor obsolete, and no word names a row that is still being filled.
 pub fn rows_are_sound()
     ensures { RowsAreSound }
 {}
