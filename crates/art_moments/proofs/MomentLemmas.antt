@@ -73,37 +73,37 @@ module _ (plan : Plan) (start : Contents) (words schedule : List ℕ) (s : State
   abbrev first : State
   first = opened_on plan words
 
-  pub begun-sound : StartsSound plan words
-  begun-sound = start-sound plan start words v run.within.shape.root run.starts
+  pub begun-sound : StartsSound Optimistic plan words
+  begun-sound = start-sound Optimistic (inr refl) plan start words v run.within.shape.root run.starts
 
   few : begun-sound.steps + length schedule < 2 ^ 62
   few = omega (arith, begun-sound.few, run-steps plan schedule first s run.gives, run.few_steps)
 
-  pub sound-time : (t : ℕ) → t ≤ length schedule → (a : State) → At plan first schedule t a → IsSound plan.shape (begun-sound.steps + t) a
-  sound-time zero l a h = subst (λ n. IsSound plan.shape n a) (omega arith) (subst (IsSound plan.shape begun-sound.steps) (same_Some first a h) begun-sound.sound)
+  pub sound-time : (t : ℕ) → t ≤ length schedule → (a : State) → At plan first schedule t a → IsSound Optimistic plan.shape (begun-sound.steps + t) a
+  sound-time zero l a h = subst (λ n. IsSound Optimistic plan.shape n a) (omega arith) (subst (IsSound Optimistic plan.shape begun-sound.steps) (same_Some first a h) begun-sound.sound)
   sound-time (suc t) l a h =
       let b = at-before plan first schedule t a (omega (arith, l)) h in
-      subst (λ n. IsSound plan.shape n a) (omega arith) (one-step plan v run.within.shape.root (begun-sound.steps + t) (omega (arith, few, l)) b.state
+      subst (λ n. IsSound Optimistic plan.shape n a) (omega arith) (one-step Optimistic (inr refl) plan v run.within.shape.root (begun-sound.steps + t) (omega (arith, few, l)) b.state
       (sound-time t (omega (arith, l)) b.state b.at) b.turn a b.is).0
 
-  steady-time : (d t : ℕ) → t + d ≤ length schedule → (a b : State) → At plan first schedule t a → At plan first schedule (t + d) b → IsSteady plan.shape a b
+  steady-time : (d t : ℕ) → t + d ≤ length schedule → (a b : State) → At plan first schedule t a → At plan first schedule (t + d) b → IsSteady Optimistic plan.shape a b
   steady-time zero t l a b ha hb =
-      subst (IsSteady plan.shape a) (same_Some a b (sym ha ∙ subst (λ k. run_on plan (Some first) (take k schedule) ≡ Some b) (zero-more t) hb))
-      (steady-refl plan.shape a)
+      subst (IsSteady Optimistic plan.shape a) (same_Some a b (sym ha ∙ subst (λ k. run_on plan (Some first) (take k schedule) ≡ Some b) (zero-more t) hb))
+      (steady-refl Optimistic plan.shape a)
     where
       zero-more : (n : ℕ) → n + zero ≡ n
       zero-more n = omega arith
   steady-time (suc d) t l a b ha hb =
       let m = at-before plan first schedule (t + d) b (omega (arith, l)) (subst (λ k. run_on plan (Some first) (take k schedule) ≡ Some b) (more t) hb) in
-      steady-trans plan.shape a m.state b (steady-time d t (omega (arith, l)) a m.state ha m.at)
-      (one-step plan v run.within.shape.root (begun-sound.steps + (t + d)) (omega (arith, few, l)) m.state
+      steady-trans Optimistic plan.shape a m.state b (steady-time d t (omega (arith, l)) a m.state ha m.at)
+      (one-step Optimistic (inr refl) plan v run.within.shape.root (begun-sound.steps + (t + d)) (omega (arith, few, l)) m.state
       (sound-time (t + d) (omega (arith, l)) m.state m.at) m.turn b m.is).1
     where
       more : (n : ℕ) → n + suc d ≡ suc (n + d)
       more n = omega arith
 
   -- from each moment to a later one
-  pub steady-at : (t u : ℕ) → t ≤ u → u ≤ length schedule → (a b : State) → At plan first schedule t a → At plan first schedule u b → IsSteady plan.shape a b
+  pub steady-at : (t u : ℕ) → t ≤ u → u ≤ length schedule → (a b : State) → At plan first schedule t a → At plan first schedule u b → IsSteady Optimistic plan.shape a b
   steady-at t u le l a b ha hb =
       steady-time (u - t) t (omega (arith, le, l)) a b ha (subst (λ k. run_on plan (Some first) (take k schedule) ≡ Some b) (rest t u le) hb)
     where
@@ -167,7 +167,7 @@ module _ (plan : Plan) (start : Contents) (words schedule : List ℕ) (s : State
 
     -- A row that was settled when it was entered, up to a check that found the same version.
     module _ (i j base : ℕ) (kind : Kind) (e : Enters plan call attempt i base kind) (k : Checks plan call attempt j base)
-        (same : slice_index attempt j ≡ slice_index attempt i) (settled : IsSettled plan.shape (got-at i e.reads.made).state base kind) where
+        (same : slice_index attempt j ≡ slice_index attempt i) (settled : IsSettled Optimistic plan.shape (got-at i e.reads.made).state base kind) where
       abbrev entry : GotAt plan first schedule (length schedule) p q call (le + i)
       entry = got-at i e.reads.made
 
@@ -178,7 +178,7 @@ module _ (plan : Plan) (start : Contents) (words schedule : List ℕ) (s : State
       record Stays (t : ℕ) (now : State) : Type 0 where
         behind : entry.u ≤ t
         before : t ≤ check.u
-        steady : IsSteady plan.shape entry.state now
+        steady : IsSteady Optimistic plan.shape entry.state now
         version : slice_index now.words base ≡ slice_index attempt i
         same_row : SameRow entry.state.words now.words base kind
         free : is_locked (slice_index now.words base) ≡ false
@@ -252,23 +252,23 @@ module _ (plan : Plan) (start : Contents) (words schedule : List ℕ) (s : State
     scanned i less = got-at p q scan x.earlier x.attempt in-scan i less
 
     -- the row that an entry loads the version of is settled then
-    scan-settled : (i base : ℕ) (kind : Kind) (e : Enters plan scan x.attempt i base kind) → IsSettled plan.shape (scanned i e.reads.made).state base kind
+    scan-settled : (i base : ℕ) (kind : Kind) (e : Enters plan scan x.attempt i base kind) → IsSettled Optimistic plan.shape (scanned i e.reads.made).state base kind
     scan-settled i base kind e =
         let g = scanned i e.reads.made in
         let sound = sound-time g.u (omega (arith, g.before)) g.state g.at in
         let known = sound.knows p scan g.process (record { own = g.own; is_open = g.is_open }) in
         let fold = all-fold plan.shape run.within.shape.root lo hi (scan_start (optimistic plan.shape scan)) g.process.got in
-        let knows = subst (Knows (IsSettled plan.shape g.state) (optimistic plan.shape scan)) fold known in
+        let knows = subst (Knows (IsSettled Optimistic plan.shape g.state) (optimistic plan.shape scan)) fold known in
         let turn : scan_turn (optimistic plan.shape scan) (stage plan.shape lo hi g.process.got) ≡ Asks (Load base) e.reads.mark =
-        sym (ap (call_turn (optimistic plan.shape scan)) fold) ∙ (sym (next-turn plan.shape scan g.process)
+        sym (ap (call_turn (optimistic plan.shape scan)) fold) ∙ (sym (next-turn Optimistic plan.shape scan g.process)
         ∙ (ap (λ y. act plan.shape y scan g.process.got) (sym v)
         ∙ (ap (act plan.shape plan.variant scan) (g.got ∙ words-of p q scan x.earlier x.attempt in-scan i)
         ∙ (x.begins (take i x.attempt) ∙ e.reads.load)))) in
-        let in-it = loads-known plan.shape scan (IsSettled plan.shape g.state) sound.root (stage plan.shape lo hi g.process.got) knows base e.reads.mark turn
+        let in-it = loads-known plan.shape scan (IsSettled Optimistic plan.shape g.state) sound.root (stage plan.shape lo hi g.process.got) knows base e.reads.mark turn
         e.no_check in
-        let same = rows_apart plan.shape in-it.base base in-it.kind kind base (settled-row plan.shape g.state in-it.base in-it.kind in-it.known) e.row in-it.from
+        let same = rows_apart plan.shape in-it.base base in-it.kind kind base (settled-row Optimistic plan.shape g.state in-it.base in-it.kind in-it.known) e.row in-it.from
         in-it.below (omega arith) (omega (arith, some-words kind)) in
-        subst (λ k. IsSettled plan.shape g.state base k) same.1 (subst (λ b. IsSettled plan.shape g.state b in-it.kind) same.0 in-it.known)
+        subst (λ k. IsSettled Optimistic plan.shape g.state base k) same.1 (subst (λ b. IsSettled Optimistic plan.shape g.state b in-it.kind) same.0 in-it.known)
 
     -- the row that has the word at which an attempt enters one is that row
     entered-row : (i base : ℕ) (kind : Kind) (e : Enters plan scan x.attempt i base kind) → ((x.reads i base e.reads).base ≡ base) × ((x.reads i base e.reads).kind ≡ kind)
@@ -368,7 +368,7 @@ module _ (plan : Plan) (start : Contents) (words schedule : List ℕ) (s : State
     abbrev gotten : (i : ℕ) → i < length x.attempt → GotAt plan first schedule (length schedule) p q get (length x.earlier + i)
     gotten i less = got-at p q get x.earlier x.attempt in-get i less
 
-    get-settled : (i base : ℕ) (kind : Kind) (e : Enters plan get x.attempt i base kind) → IsSettled plan.shape (gotten i e.reads.made).state base kind
+    get-settled : (i base : ℕ) (kind : Kind) (e : Enters plan get x.attempt i base kind) → IsSettled Optimistic plan.shape (gotten i e.reads.made).state base kind
     get-settled i base kind e =
         let g = gotten i e.reads.made in
         let sound = sound-time g.u (omega (arith, g.before)) g.state g.at in
@@ -376,7 +376,7 @@ module _ (plan : Plan) (start : Contents) (words schedule : List ℕ) (s : State
         let here = ap (call_behind (optimistic plan.shape get)) (g.got ∙ words-of p q get x.earlier x.attempt in-get i) ∙ h.stages (take i x.attempt) in
         entering plan.shape run.within.shape.root key (take i x.attempt) (get-stage plan.shape run.within.shape.root key (take i x.attempt)) base kind e.reads.mark
         (h.seeks i (omega (arith, e.reads.made))) (to-load plan key v run.within.shape.root x.attempt i base e.reads).turn e.no_check e.row
-        (IsSettled plan.shape g.state) sound.root (subst (Knows (IsSettled plan.shape g.state) (optimistic plan.shape get)) here known)
+        (IsSettled Optimistic plan.shape g.state) sound.root (subst (Knows (IsSettled Optimistic plan.shape g.state) (optimistic plan.shape get)) here known)
 
     -- when its last row is checked
     moment-of-get : HasMomentOfLastRow plan first schedule p (length (begun q)) key q.got reply

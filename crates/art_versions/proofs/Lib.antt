@@ -1,8 +1,11 @@
 pub mod WordFacts
 pub mod AfterLemmas
 pub mod KeyLemmas
+pub mod OptimisticLemmas
+pub mod CoupledLemmas
 pub mod ScanLemmas
 pub mod KnownLemmas
+pub mod WithLemmas
 pub mod ChangeLemmas
 pub mod MoveLemmas
 pub mod AccessLemmas

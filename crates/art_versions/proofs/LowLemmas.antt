@@ -11,17 +11,21 @@ use Rattle.art_rows.specs.Table.{rows_of, claims_of, base_of, root_base, kind_at
 use Rattle.art_rows.specs.Words.{is_locked}
 use Rattle.art_words.proofs.TableLemmas.{row_begins, base_of-once}
 use Rattle.art_stages.specs.declared.stage.Held.{Held}
+use Rattle.art_stages.specs.Stages.{setting}
+use Rattle.art_steps.specs.declared.variant.Variant.{Variant}
+use Rattle.art_steps.specs.Rows.{locks}
 use Rattle.art_core.specs.declared.process.Process.{Process}
 use Rattle.art_core.specs.Core.{State}
-use Rattle.art_versions.specs.Holding.{OfRows, Named, IsKept, optimistic, Knows, holds, fills}
+use Rattle.art_versions.specs.Holding.{OfRows, Named, IsKept, Knows}
 use Rattle.art_versions.specs.Effects.{IsGoodAt, IsAmong, Has}
-use Rattle.art_versions.specs.Versions.{IsOpen, stage_of, IsClaimed, IsSettled, AreDistinct, IsSound}
+use Rattle.art_versions.specs.Versions.{IsOpen, stage_of, held_by, filled_by, IsClaimed, IsSettled, AreDistinct, IsSound}
 use Rattle.art_versions.specs.Steady.{IsSteady}
 use Rattle.art_versions.proofs.KeyLemmas.{slot-behind}
 use Rattle.art_versions.proofs.KnownLemmas.{knows-more, held-is-kept}
 use Rattle.art_versions.proofs.ChangeLemmas.{index-same, index-other, held-still, Claims, settled-more, sound-now}
+use Rattle.art_versions.proofs.MoveLemmas.{settled-row, claims-low, no-items, differ-from}
+use Rattle.art_words.proofs.KeyLemmas.{less}
 use Rattle.art_versions.proofs.MoveLemmas as m
-use Rattle.art_versions.proofs.MoveLemmas.{settled-row, claims-low, no-items, differ, differ-from}
 
 first-item : {x y : Named} → ◌≡◌ {A = List Named} (x ∷ []) (y ∷ []) → x ≡ y
 first-item e = cc
@@ -47,10 +51,10 @@ same-claims Full Sixteen e = absurd (omega (arith, e))
 same-claims Full FortyEight e = absurd (omega (arith, e))
 same-claims Full Full e = refl
 
-module _ (shape : Shape) (n : ℕ) (s : State) (h : IsSound shape n s) (few : n < 2 ^ 62) (p : ℕ) (q : Process) (here : slice_get s.processes p ≡ Some q) where
-  held-row : (r : ℕ) (other : Call) (w : Process) → IsOpen s r other w → (x : Held) → IsAmong x (holds (stage_of shape other w))
-      → IsKept (IsSettled shape s) x
-  held-row r other w o x a = held-is-kept (IsSettled shape s) (optimistic shape other) (stage_of shape other w) (h.knows r other w o) x a
+module _ (variant : Variant) (shape : Shape) (n : ℕ) (s : State) (h : IsSound variant shape n s) (few : n < 2 ^ 62) (p : ℕ) (q : Process) (here : slice_get s.processes p ≡ Some q) where
+  held-row : (r : ℕ) (other : Call) (w : Process) → IsOpen s r other w → (x : Held) → IsAmong x (held_by variant shape other w)
+      → IsKept (locks variant) (IsSettled variant shape s) x
+  held-row r other w o x a = held-is-kept (IsSettled variant shape s) (setting shape variant other) (stage_of variant shape other w) (h.knows r other w o) x a
 
   module _ (word value : ℕ) (low : word < 5) (q' : Process) where
     abbrev later : State
@@ -74,32 +78,32 @@ module _ (shape : Shape) (n : ℕ) (s : State) (h : IsSound shape n s) (few : n 
     no-slot : (Q : OfRows) → IsGoodAt Q shape word value
     no-slot Q base kind e slot = absurd (omega (arith, low, (slot-behind base kind word slot).0, row_begins shape base kind e))
 
-    steady : ((base : ℕ) (kind : Kind) → IsSettled shape s base kind → IsSettled shape later base kind) → IsSteady shape s later
+    steady : ((base : ℕ) (kind : Kind) → IsSettled variant shape s base kind → IsSettled variant shape later base kind) → IsSteady variant shape s later
     steady more = record {
       settled = more;
-      rises = λ base kind x. omega (arith, row-above base kind (settled-row shape s base kind x));
-      stands = λ base kind x e free w l less. above w (omega (arith, l, row_begins shape base kind (settled-row shape s base kind x)));
+      rises = λ base kind x. omega (arith, row-above base kind (settled-row variant shape s base kind x));
+      stands = λ base kind x e free w l less. above w (omega (arith, l, row_begins shape base kind (settled-row variant shape s base kind x)));
     }
 
     abbrev ClaimsNow : Type 0
-    ClaimsNow = Claims shape n s h p q here word value q'
+    ClaimsNow = Claims variant shape n s h p q here word value q'
 
     -- it holds nothing then, and fills nothing
     pub keeps-idle : ((kind : Kind) → now (claims_of kind) ≡ slice_index s.words (claims_of kind))
-        → ((call : Call) → q'.call ≡ Some call → (holds (stage_of shape call q') ≡ []) × (fills (stage_of shape call q') ≡ []))
-        → ((call : Call) → q.call ≡ Some call → holds (stage_of shape call q) ≡ [])
-        → ((Q : OfRows) → Q (root_base shape) Full → (call : Call) → q'.call ≡ Some call → Knows Q (optimistic shape call) (stage_of shape call q'))
-        → IsSound shape (n + 1) later × IsSteady shape s later
+        → ((call : Call) → q'.call ≡ Some call → (held_by variant shape call q' ≡ []) × (filled_by variant shape call q' ≡ []))
+        → ((call : Call) → q.call ≡ Some call → held_by variant shape call q ≡ [])
+        → ((Q : OfRows) → Q (root_base shape) Full → (call : Call) → q'.call ≡ Some call → Knows Q (setting shape variant call) (stage_of variant shape call q'))
+        → IsSound variant shape (n + 1) later × IsSteady variant shape s later
     keeps-idle claims none before knows = (
-      sound-now shape n s h p q here word value q' cl (record {
+      sound-now variant shape n s h p q here word value q' cl (record {
         within = within;
         versions = versions;
-        good = no-slot (IsSettled shape later);
+        good = no-slot (IsSettled variant shape later);
         others = λ r other w away o x a. row-above x.base x.kind
-            (settled-row shape s x.base x.kind (held-row r other w o x a).1);
-        knows = λ call e. knows (IsSettled shape later) (more (root_base shape) Full h.root) call e;
+            (settled-row variant shape s x.base x.kind (held-row r other w o x a).1);
+        knows = λ call e. knows (IsSettled variant shape later) (more (root_base shape) Full h.root) call e;
         locked = λ call e x a. absurd (subst (IsAmong x) (none call e).0 a);
-        held = λ base kind e locked. held-still shape n s h p q here word value q' base (h.held base kind e (ap is_locked (sym (row-above base kind e)) ∙ locked))
+        held = λ base kind e locked. held-still variant shape n s h p q here word value q' base (h.held base kind e (ap is_locked (sym (row-above base kind e)) ∙ locked))
             (λ call f x a is. absurd (subst (IsAmong x) (before call f) a));
         distinct = λ call e. subst AreDistinct (sym (none call e).0) tt;
         apart = λ call e r other w away o x y a b. absurd (subst (IsAmong x) (none call e).0 a);
@@ -116,8 +120,8 @@ module _ (shape : Shape) (n : ℕ) (s : State) (h : IsSound shape n s) (few : n 
           apart = λ call e r other w away o b d k l f g. absurd (no-items (sym (none call e).1 ∙ f));
         }
 
-        more : (b : ℕ) (k : Kind) → IsSettled shape s b k → IsSettled shape later b k
-        more b k x = settled-more shape n s h p q here word value q' cl b k x
+        more : (b : ℕ) (k : Kind) → IsSettled variant shape s b k → IsSettled variant shape later b k
+        more b k x = settled-more variant shape n s h p q here word value q' cl b k x
 
   -- a claim by an open call
   module _ (call : Call) (is-open : q.call ≡ Some call) (kind : Kind) (value : ℕ) (one : value ≡ slice_index s.words (claims_of kind) + 1) (q' : Process)
@@ -148,18 +152,18 @@ module _ (shape : Shape) (n : ℕ) (s : State) (h : IsSound shape n s) (few : n 
         omega (arith, x.claimed, same.1, ap (λ k. slice_index s.words (claims_of k)) same.0)
 
     pub keeps-claim : (filled : List Named) → (filled ≡ []) ⊎ ((claimed < rows_of shape kind) × (filled ≡ (base_of shape kind claimed, kind) ∷ []))
-        → Has (IsSettled shape s) (optimistic shape call) (stage_of shape call q') (holds (stage_of shape call q)) filled
-        → IsSound shape (n + 1) after × IsSteady shape s after
+        → Has (IsSettled variant shape s) (setting shape variant call) (stage_of variant shape call q') (held_by variant shape call q) filled
+        → IsSound variant shape (n + 1) after × IsSteady variant shape s after
     keeps-claim filled as-said has = (
-      m.rows-stay shape n s h few p q here call is-open (claims_of kind) value q' its cl filled
-          (knows-more (IsSettled shape s) (IsSettled shape after) (optimistic shape call) more (stage_of shape call q') has.0, has.1, has.2)
+      m.rows-stay variant shape n s h few p q here call is-open (claims_of kind) value q' its cl filled
+          (knows-more (IsSettled variant shape s) (IsSettled variant shape after) (setting shape variant call) more (stage_of variant shape call q') has.0, has.1, has.2)
           (within (claims_of kind) value (claims-low kind) q') (versions (claims_of kind) value (claims-low kind) q')
-          (no-slot (claims_of kind) value (claims-low kind) q' (IsSettled shape after))
+          (no-slot (claims_of kind) value (claims-low kind) q' (IsSettled variant shape after))
           (row-above (claims_of kind) value (claims-low kind) q'),
       steady (claims_of kind) value (claims-low kind) q' more,
     )
       where
-        its-row : (b : ℕ) (k : Kind) → fills (stage_of shape call q') ≡ (b, k) ∷ []
+        its-row : (b : ℕ) (k : Kind) → filled_by variant shape call q' ≡ (b, k) ∷ []
             → (claimed < rows_of shape kind) × (b ≡ base_of shape kind claimed) × (k ≡ kind)
         its-row b k f = elim as-said [
           | inl e ↦ absurd (no-items (sym e ∙ (sym has.2 ∙ f)))
@@ -175,7 +179,7 @@ module _ (shape : Shape) (n : ℕ) (s : State) (h : IsSound shape n s) (few : n 
           is = x.1;
         })
 
-        cl : Claims shape n s h p q here (claims_of kind) value q'
+        cl : Claims variant shape n s h p q here (claims_of kind) value q'
         cl = record {
           rise = λ other. elim (claim-rises other) [
             | inl e ↦ omega (arith, e.1, ap (slice_index s.words) e.0)
@@ -185,14 +189,14 @@ module _ (shape : Shape) (n : ℕ) (s : State) (h : IsSound shape n s) (few : n 
             | inl e ↦ omega (arith, e.1, h.claims kind)
             | inr e ↦ omega (arith, e, h.claims other)
           ];
-          filled = λ other e. own (λ x. (b : ℕ) (k : Kind) → fills (stage_of shape x q') ≡ (b, k) ∷ []
+          filled = λ other e. own (λ x. (b : ℕ) (k : Kind) → filled_by variant shape x q' ≡ (b, k) ∷ []
               → IsClaimed shape (slice_set s.words (claims_of kind) value) b k) (λ b k f. is-claimed b k (its-row b k f)) other e;
-          fresh = λ other e. own (λ x. (b : ℕ) (k : Kind) → fills (stage_of shape x q') ≡ (b, k) ∷ [] → (l : Kind) → IsSettled shape s b l → ⊥)
+          fresh = λ other e. own (λ x. (b : ℕ) (k : Kind) → filled_by variant shape x q' ≡ (b, k) ∷ [] → (l : Kind) → IsSettled variant shape s b l → ⊥)
               (λ b k f l y. let r = its-row b k f in unclaimed r.0 b l r.1 y.claimed) other e;
           apart = λ other e. own (λ x. (r : ℕ) (o : Call) (w : Process) → r ≢ p → IsOpen s r o w → (b d : ℕ) (k l : Kind)
-              → fills (stage_of shape x q') ≡ (b, k) ∷ [] → fills (stage_of shape o w) ≡ (d, l) ∷ [] → b ≢ d)
+              → filled_by variant shape x q' ≡ (b, k) ∷ [] → filled_by variant shape o w ≡ (d, l) ∷ [] → b ≢ d)
               (λ r o w away ow b d k l f g same. let x = its-row b k f in unclaimed x.0 d l (sym same ∙ x.1) (h.filled r o w ow d l g)) other e;
         }
 
-        more : (b : ℕ) (k : Kind) → IsSettled shape s b k → IsSettled shape after b k
-        more b k x = settled-more shape n s h p q here (claims_of kind) value q' cl b k x
+        more : (b : ℕ) (k : Kind) → IsSettled variant shape s b k → IsSettled variant shape after b k
+        more b k x = settled-more variant shape n s h p q here (claims_of kind) value q' cl b k x

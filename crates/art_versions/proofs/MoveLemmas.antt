@@ -1,6 +1,6 @@
 -- Each access of an open call keeps rows and versions sound.
-use Rattle.std.proofs.Common.{◌≡◌, ◌≢◌, ℕ, ◌+◌, ◌*◌, ◌/◌, ◌%◌, ◌^◌, ◌<◌, ◌≤◌, List, [], ◌∷◌, length, refl, ap, sym, subst, ◌∙◌, inl, inr, arith}
-use Rattle.std.proofs.Common.{true, false, eq-eqb}
+use Rattle.std.proofs.Common.{◌≡◌, ◌≢◌, ℕ, ◌+◌, ◌*◌, ◌/◌, ◌%◌, ◌^◌, ◌<◌, ◌≤◌, List, [], ◌∷◌, length, refl, ap, sym, subst, ◌∙◌, inl, inr, arith, true}
+use Rattle.std.proofs.Common.{false, eq-eqb}
 use Rattle.std.specs.Prelude.{◌⊎◌, slice_get, slice_index, slice_set, Some}
 use Rattle.std.proofs.lemmas.Bool.{cases_eq}
 use Rattle.std.proofs.lemmas.Option.{same_Some}
@@ -11,19 +11,22 @@ use Rattle.art_rows.specs.declared.table.Kind.TheVariants.{Four, Sixteen, FortyE
 use Rattle.art_rows.specs.Table.{row_words, claims_of, kind_at}
 use Rattle.art_rows.specs.Words.{is_locked}
 use Rattle.art_words.proofs.TableLemmas.{kind_at-base_of, rows_apart}
-use Rattle.art_steps.specs.Rows.{Setting}
+use Rattle.art_steps.specs.Rows.{Setting, locks}
 use Rattle.art_stages.specs.declared.stage.Held.{Held}
 use Rattle.art_stages.specs.Calls.{CallAt}
+use Rattle.art_stages.specs.Stages.{setting}
+use Rattle.art_steps.specs.declared.variant.Variant.{Variant}
 use Rattle.art_core.specs.declared.process.Process.{Process}
 use Rattle.art_core.specs.Core.{State}
-use Rattle.art_versions.specs.Holding.{Named, IsKept, optimistic, Knows, holds, fills}
+use Rattle.art_versions.specs.Holding.{Named, IsKept, Knows, holds, fills}
 use Rattle.art_versions.specs.Effects.{IsGoodAt, IsAmong, IsBehindVersion, Has}
-use Rattle.art_versions.specs.Versions.{IsOpen, stage_of, IsClaimed, IsSettled, AreDistinct, IsSound}
+use Rattle.art_versions.specs.Versions.{IsOpen, stage_of, held_by, filled_by, IsClaimed, IsSettled, AreDistinct, IsSound}
 use Rattle.art_versions.proofs.KnownLemmas.{held-is-kept}
 use Rattle.art_versions.proofs.ChangeLemmas.{index-same, index-other, next, now, held-still, Claims, settled-more, sound-now}
+use Rattle.art_stages.proofs.BehindLemmas.{behind}
 
-pub settled-row : (shape : Shape) (s : State) (b : ℕ) (k : Kind) → IsSettled shape s b k → kind_at shape b ≡ Some k
-settled-row shape s b k x = ap (kind_at shape) x.claimed.is ∙ kind_at-base_of shape k x.claimed.number x.claimed.within
+pub settled-row : (variant : Variant) (shape : Shape) (s : State) (b : ℕ) (k : Kind) → IsSettled variant shape s b k → kind_at shape b ≡ Some k
+settled-row variant shape s b k x = ap (kind_at shape) x.claimed.is ∙ kind_at-base_of shape k x.claimed.number x.claimed.within
 
 pub some-words : (kind : Kind) → 0 < row_words kind
 some-words Four = omega arith
@@ -46,40 +49,40 @@ differ-from a b h e = omega (arith, h, e)
 pub no-items : {b : ℕ} {k : Kind} → ◌≡◌ {A = List Named} [] ((b, k) ∷ []) → ⊥
 no-items e = cc
 
-pub not-locked : (v : ℕ) → v % 4 ≡ 0 → is_locked (v + 2) ≡ true
+pub not-locked : (v : ℕ) → (v / 2) % 2 ≡ 0 → is_locked (v + 2) ≡ true
 not-locked v e = eq-eqb (((v + 2) / 2) % 2) 1 (omega (arith, e))
 
 pub true-false : {b : _} → b ≡ true → b ≡ false → ⊥
 true-false e f = cc
 
-module _ (shape : Shape) (n : ℕ) (s : State) (h : IsSound shape n s) (few : n < 2 ^ 62) (p : ℕ) (q : Process) (here : slice_get s.processes p ≡ Some q)
+module _ (variant : Variant) (shape : Shape) (n : ℕ) (s : State) (h : IsSound variant shape n s) (few : n < 2 ^ 62) (p : ℕ) (q : Process) (here : slice_get s.processes p ≡ Some q)
     (call : Call) (is-open : q.call ≡ Some call) where
   abbrev c : Setting
-  c = optimistic shape call
+  c = setting shape variant call
 
   abbrev pub place : CallAt
-  place = stage_of shape call q
+  place = stage_of variant shape call q
 
   pub opens : IsOpen s p call q
   opens = record { own = here; is_open = is-open }
 
   -- a row that some process holds
-  pub held-row : (r : ℕ) (other : Call) (w : Process) → IsOpen s r other w → (x : Held) → IsAmong x (holds (stage_of shape other w))
-      → IsKept (IsSettled shape s) x
-  held-row r other w o x a = held-is-kept (IsSettled shape s) (optimistic shape other) (stage_of shape other w) (h.knows r other w o) x a
+  pub held-row : (r : ℕ) (other : Call) (w : Process) → IsOpen s r other w → (x : Held) → IsAmong x (held_by variant shape other w)
+      → IsKept (locks variant) (IsSettled variant shape s) x
+  held-row r other w o x a = held-is-kept (IsSettled variant shape s) (setting shape variant other) (stage_of variant shape other w) (h.knows r other w o) x a
 
-  pub kind-of : (x : Held) → IsKept (IsSettled shape s) x → kind_at shape x.base ≡ Some x.kind
-  kind-of x k = settled-row shape s x.base x.kind k.1
+  pub kind-of : (x : Held) → IsKept (locks variant) (IsSettled variant shape s) x → kind_at shape x.base ≡ Some x.kind
+  kind-of x k = settled-row variant shape s x.base x.kind k.1
 
   module _ (word value : ℕ) (q' : Process) (its : q'.call ≡ Some call) where
     abbrev pub later : State
-    later = next shape n s h p q here word value q'
+    later = next variant shape n s h p q here word value q'
 
     abbrev pub at-now : ℕ → ℕ
-    at-now x = now shape n s h p q here word value q' x
+    at-now x = now variant shape n s h p q here word value q' x
 
     abbrev ClaimsNow : Type 0
-    ClaimsNow = Claims shape n s h p q here word value q'
+    ClaimsNow = Claims variant shape n s h p q here word value q'
 
     pub for-own : (Q : Call → Type 0) → Q call → (other : Call) → q'.call ≡ Some other → Q other
     for-own Q x other e = subst Q (same_Some call other (sym its ∙ e)) x
@@ -91,21 +94,21 @@ module _ (shape : Shape) (n : ℕ) (s : State) (h : IsSound shape n s) (few : n 
     ]
 
     -- where the claims stay, and it fills the row that it filled, or none
-    pub claims-stay : (filled : List Named) → fills (stage_of shape call q') ≡ filled → (filled ≡ fills place) ⊎ (filled ≡ [])
+    pub claims-stay : (filled : List Named) → filled_by variant shape call q' ≡ filled → (filled ≡ fills place) ⊎ (filled ≡ [])
         → ((kind : Kind) → at-now (claims_of kind) ≡ slice_index s.words (claims_of kind)) → ClaimsNow
     claims-stay filled is same claims = record {
       rise = λ kind. omega (arith, claims kind);
       few = λ kind. omega (arith, claims kind, h.claims kind);
-      filled = λ other e. for-own (λ x. (b : ℕ) (k : Kind) → fills (stage_of shape x q') ≡ (b, k) ∷ [] → IsClaimed shape (slice_set s.words word value) b k)
+      filled = λ other e. for-own (λ x. (b : ℕ) (k : Kind) → filled_by variant shape x q' ≡ (b, k) ∷ [] → IsClaimed shape (slice_set s.words word value) b k)
           (λ b k f. more b k (h.filled p call q opens b k (old b k f))) other e;
-      fresh = λ other e. for-own (λ x. (b : ℕ) (k : Kind) → fills (stage_of shape x q') ≡ (b, k) ∷ [] → (l : Kind) → IsSettled shape s b l → ⊥)
+      fresh = λ other e. for-own (λ x. (b : ℕ) (k : Kind) → filled_by variant shape x q' ≡ (b, k) ∷ [] → (l : Kind) → IsSettled variant shape s b l → ⊥)
           (λ b k f l y. y.unfilled p call q opens b k (old b k f) refl) other e;
       apart = λ other e. for-own (λ x. (r : ℕ) (o : Call) (w : Process) → r ≢ p → IsOpen s r o w → (b d : ℕ) (k l : Kind)
-          → fills (stage_of shape x q') ≡ (b, k) ∷ [] → fills (stage_of shape o w) ≡ (d, l) ∷ [] → b ≢ d)
+          → filled_by variant shape x q' ≡ (b, k) ∷ [] → filled_by variant shape o w ≡ (d, l) ∷ [] → b ≢ d)
           (λ r o w away ow b d k l f g same. away (sym (h.fills_apart p r call o q w opens ow b d k l (old b k f) g same))) other e;
     }
       where
-        old : (b : ℕ) (k : Kind) → fills (stage_of shape call q') ≡ (b, k) ∷ [] → fills place ≡ (b, k) ∷ []
+        old : (b : ℕ) (k : Kind) → filled_by variant shape call q' ≡ (b, k) ∷ [] → fills place ≡ (b, k) ∷ []
         old b k f = elim same [
           | inl e ↦ sym e ∙ (sym is ∙ f)
           | inr e ↦ absurd (no-items (sym e ∙ (sym is ∙ f)))
@@ -115,40 +118,40 @@ module _ (shape : Shape) (n : ℕ) (s : State) (h : IsSound shape n s) (few : n 
         more b k x = record { number = x.number; claimed = omega (arith, x.claimed, claims k); within = x.within; is = x.is }
 
     module _ (cl : ClaimsNow) where
-      abbrev pub settles : (b : ℕ) (k : Kind) → IsSettled shape s b k → IsSettled shape later b k
-      settles b k x = settled-more shape n s h p q here word value q' cl b k x
+      abbrev pub settles : (b : ℕ) (k : Kind) → IsSettled variant shape s b k → IsSettled variant shape later b k
+      settles b k x = settled-more variant shape n s h p q here word value q' cl b k x
 
       -- where it holds the rows that it held, and their versions stay
-      pub rows-stay : (filled : List Named) → Has (IsSettled shape later) c (stage_of shape call q') (holds place) filled → word < length s.words
-          → ((base : ℕ) (kind : Kind) → kind_at shape base ≡ Some kind → at-now base ≤ 3 * (n + 1)) → IsGoodAt (IsSettled shape later) shape word value
+      pub rows-stay : (filled : List Named) → Has (IsSettled variant shape later) c (stage_of variant shape call q') (holds c place) filled → word < length s.words
+          → ((base : ℕ) (kind : Kind) → kind_at shape base ≡ Some kind → at-now base ≤ 3 * (n + 1)) → IsGoodAt (IsSettled variant shape later) shape word value
           → ((base : ℕ) (kind : Kind) → kind_at shape base ≡ Some kind → at-now base ≡ slice_index s.words base)
-          → IsSound shape (n + 1) later
-      rows-stay filled has within versions good same = sound-now shape n s h p q here word value q' cl (record {
+          → IsSound variant shape (n + 1) later
+      rows-stay filled has within versions good same = sound-now variant shape n s h p q here word value q' cl (record {
         within = within;
         versions = versions;
         good = good;
         others = λ r other w away o x a. calm x (held-row r other w o x a);
-        knows = λ other e. for-own (λ v. Knows (IsSettled shape later) (optimistic shape v) (stage_of shape v q')) has.0 other e;
-        locked = λ other e. for-own (λ v. (x : Held) → IsAmong x (holds (stage_of shape v q')) → at-now x.base ≡ x.kept + 2)
+        knows = λ other e. for-own (λ v. Knows (IsSettled variant shape later) (setting shape variant v) (stage_of variant shape v q')) has.0 other e;
+        locked = λ other e. for-own (λ v. (x : Held) → IsAmong x (held_by variant shape v q') → at-now x.base ≡ x.kept + 2)
             (λ x a. let b = subst (IsAmong x) has.1 a in calm x (held-row p call q opens x b) ∙ h.locked p call q opens x b) other e;
-        held = λ base kind e free. held-still shape n s h p q here word value q' base (h.held base kind e (ap is_locked (sym (same base kind e)) ∙ free))
+        held = λ base kind e free. held-still variant shape n s h p q here word value q' base (h.held base kind e (ap is_locked (sym (same base kind e)) ∙ free))
             (λ other f x a is. for-call other f x a);
-        distinct = λ other e. for-own (λ v. AreDistinct (holds (stage_of shape v q'))) (subst AreDistinct (sym has.1) (h.distinct p call q opens)) other e;
+        distinct = λ other e. for-own (λ v. AreDistinct (held_by variant shape v q')) (subst AreDistinct (sym has.1) (h.distinct p call q opens)) other e;
         apart = λ other e. for-own (λ v. (r : ℕ) (o : Call) (w : Process) → r ≢ p → IsOpen s r o w → (x y : Held)
-            → IsAmong x (holds (stage_of shape v q')) → IsAmong y (holds (stage_of shape o w)) → x.base ≢ y.base)
+            → IsAmong x (held_by variant shape v q') → IsAmong y (held_by variant shape o w) → x.base ≢ y.base)
             (λ r o w away ow x y a b same. away (sym (h.apart p r call o q w opens ow x y (subst (IsAmong x) has.1 a) b same))) other e;
       })
         where
-          calm : (x : Held) → IsKept (IsSettled shape s) x → at-now x.base ≡ slice_index s.words x.base
+          calm : (x : Held) → IsKept (locks variant) (IsSettled variant shape s) x → at-now x.base ≡ slice_index s.words x.base
           calm x k = same x.base x.kind (kind-of x k)
 
-          for-call : (other : Call) → q.call ≡ Some other → (x : Held) → IsAmong x (holds (stage_of shape other q))
-              → (q'.call ≡ Some other) × IsAmong x (holds (stage_of shape other q'))
+          for-call : (other : Call) → q.call ≡ Some other → (x : Held) → IsAmong x (held_by variant shape other q)
+              → (q'.call ≡ Some other) × IsAmong x (held_by variant shape other q')
           for-call other f x a =
               let is = same_Some call other (sym is-open ∙ f) in (
                 its ∙ ap Some is,
-                subst (λ v. IsAmong x (holds (stage_of shape v q'))) is
-                    (subst (IsAmong x) (sym has.1) (subst (λ v. IsAmong x (holds (stage_of shape v q))) (sym is) a)),
+                subst (λ v. IsAmong x (held_by variant shape v q')) is
+                    (subst (IsAmong x) (sym has.1) (subst (λ v. IsAmong x (held_by variant shape v q)) (sym is) a)),
               )
 
     -- a word that is behind a version is no version

@@ -1,5 +1,5 @@
 -- What a scan loads before its checks lies in a row that it knows.
-use Rattle.std.proofs.Common.{◌≡◌, ◌≢◌, ℕ, ◌+◌, ◌*◌, ◌<◌, ◌≤◌, refl, sym, subst, arith}
+use Rattle.std.proofs.Common.{◌≡◌, ◌≢◌, ℕ, ◌+◌, ◌*◌, ◌<◌, ◌≤◌, refl, sym, subst, false, arith}
 use Rattle.std.specs.Prelude.{Option, Some}
 use Rattle.events.specs.declared.event.Call.{Call}
 use Rattle.art_rows.specs.declared.table.Kind.{Kind}
@@ -50,13 +50,13 @@ module _ (s : Shape) (call : Call) (P : OfRows) (root : P (root_base s) Full) wh
   keys-known FortyEight n word mark k p e = in-row n.base n.kind (keys_at n.base) word p (load-same e).0 (omega arith) (omega (arith, some-words n.kind))
   keys-known Full n word mark k p e = in-row n.base n.kind (keys_at n.base) word p (load-same e).0 (omega arith) (omega (arith, some-words n.kind))
 
-  pub loads-known : (x : ScanAt) → KnowsScan P x → (word : ℕ) (mark : Option Point) → scan_turn (optimistic s call) x ≡ Asks (Load word) mark
+  pub loads-known : (x : ScanAt) → KnowsScan P false x → (word : ℕ) (mark : Option Point) → scan_turn (optimistic s call) x ≡ Asks (Load word) mark
       → mark ≢ Some point.Check → IsInKnown word
   loads-known x k word mark e no-check = go x.step x.walk k e
     where
-      go : (step : ScanStep) (w : Walk) → KnowsScan P (at step w) → scan_turn (optimistic s call) (at step w) ≡ Asks (Load word) mark → IsInKnown word
+      go : (step : ScanStep) (w : Walk) → KnowsScan P false (at step w) → scan_turn (optimistic s call) (at step w) ≡ Asks (Load word) mark → IsInKnown word
       go (Lock entry first) w k e = absurd k.fits
-      go (Exchange entry v) w k e = absurd k.fits
+      go (Exchange entry v) w k e = absurd k.fits.0
       go (Wait Root) w k e = in-row (root_base s) Full (root_base s) word root (load-same e).0 (omega arith) (omega arith)
       go (Wait (Below base kind)) w k e = in-row base kind base word k.known.0 (load-same e).0 (omega arith) (omega (arith, some-words kind))
       go (Info base kind kept) w k e = in-row base kind (info_at base) word k.known.0 (load-same e).0 (omega arith) (omega (arith, some-words kind))

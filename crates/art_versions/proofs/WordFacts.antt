@@ -1,5 +1,6 @@
 -- Facts on counts, places and child words.
-use Rattle.std.proofs.Common.{◌≡◌, ℕ, zero, suc, ◌+◌, ◌*◌, ◌-◌, ◌/◌, ◌%◌, ◌^◌, ◌<◌, ◌≤◌, [], length, refl, ap, sym, subst, ◌∙◌, Bool, true, false, arith}
+use Rattle.std.proofs.Common.{◌≡◌, ℕ, zero, suc, ◌+◌, ◌*◌, ◌-◌, ◌/◌, ◌%◌, ◌^◌, ◌<◌, ◌≤◌, [], length, refl, ap, sym, subst, ◌∙◌, Bool, true, false}
+use Rattle.std.proofs.Common.{arith}
 use Rattle.std.specs.Prelude.{nat_le, if◌then◌else◌, ◌==◌, slice_index, Some, None}
 use Rattle.std.proofs.lemmas.Option.{none-some, same_Some}
 use Rattle.events.specs.declared.event.Call.{Call}
@@ -19,7 +20,7 @@ use Rattle.art_steps.specs.Updates.{overwriting, new_leaf}
 use Rattle.art_steps.proofs.AccessLemmas.{entries-most}
 use Rattle.art_stages.specs.declared.stage.Keys.{Keys}
 use Rattle.art_stages.specs.Stages.{count_in, keys_among}
-use Rattle.art_versions.specs.Holding.{OfRows, Each, IsNamed, child_rows}
+use Rattle.art_versions.specs.Holding.{OfRows, Each, IsNamed, IsVersion, child_rows}
 
 pub keys4-most : (w : ℕ) → length (keys4_of w) ≤ 4
 keys4-most w = omega (arith, length-keys4 w, few (nat_le (w % 256) 4) refl)
@@ -42,6 +43,9 @@ count-most Full keys = omega arith
 
 pub not-full : (a b : ℕ) → (a == b) ≡ false → a ≤ b → a < b
 not-full a b e l = grind arith
+
+pub full-not-less : (a b : ℕ) → (a == b) ≡ true → a < b → ⊥
+full-not-less a b e l = grind arith
 
 -- where a key stands among the keys of a row
 pub among-most : (kind : Kind) (keys : Keys) → length (keys_among kind keys) ≤ capacity kind
@@ -66,6 +70,11 @@ key_byte-small key (suc (suc (suc (suc i)))) = omega arith
 -- a version that WAIT keeps
 pub free-version : (v : ℕ) → is_locked v ≡ false → is_obsolete v ≡ false → v % 4 ≡ 0
 free-version v l o = grind (arith, l, o)
+
+-- a version that a call keeps is one of a row that is not locked
+pub version-free : (l : Bool) (v : ℕ) → IsVersion l v → (v / 2) % 2 ≡ 0
+version-free true v e = grind (arith, e)
+version-free false v e = omega (arith, e)
 
 -- child words
 

@@ -1,3 +1,4 @@
+pub mod Locking
 pub mod Holding
 pub mod Effects
 pub mod Versions

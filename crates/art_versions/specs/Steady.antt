@@ -4,6 +4,7 @@ use Rattle.art_rows.specs.declared.table.Shape.{Shape}
 use Rattle.art_rows.specs.declared.table.Kind.{Kind}
 use Rattle.art_rows.specs.Table.{row_words}
 use Rattle.art_rows.specs.Words.{is_locked}
+use Rattle.art_steps.specs.declared.variant.Variant.{Variant}
 use Rattle.art_core.specs.Core.{State}
 use Rattle.art_versions.specs.Versions.{IsSettled}
 
@@ -13,8 +14,8 @@ SameRow words later base kind = (word : ℕ) → base ≤ word → word < base +
 
 -- From the one state to a later one each row that was settled stays so, its version does not fall, and where it is the same and unlocked, so are all words
 -- of the row.
-pub record IsSteady (shape : Shape) (s later : State) : Type 0 where
-  pub settled : (base : ℕ) (kind : Kind) → IsSettled shape s base kind → IsSettled shape later base kind
-  pub rises : (base : ℕ) (kind : Kind) → IsSettled shape s base kind → slice_index s.words base ≤ slice_index later.words base
-  pub stands : (base : ℕ) (kind : Kind) → IsSettled shape s base kind → slice_index later.words base ≡ slice_index s.words base
+pub record IsSteady (variant : Variant) (shape : Shape) (s later : State) : Type 0 where
+  pub settled : (base : ℕ) (kind : Kind) → IsSettled variant shape s base kind → IsSettled variant shape later base kind
+  pub rises : (base : ℕ) (kind : Kind) → IsSettled variant shape s base kind → slice_index s.words base ≤ slice_index later.words base
+  pub stands : (base : ℕ) (kind : Kind) → IsSettled variant shape s base kind → slice_index later.words base ≡ slice_index s.words base
       → is_locked (slice_index s.words base) ≡ false → SameRow s.words later.words base kind

@@ -1,15 +1,16 @@
 // Laws of versions: each function only carries its clause.
 ghost use Rattle.art_versions.specs.Laws.{RowsAreSound, RowsStandStill};
 
-/// In every state of the optimistic tree, whatever calls run: each row that a process holds is locked from the version that
-/// the process has kept, each row that is locked is held by a process, no two processes hold one row, versions that calls
-/// have kept were neither locked nor obsolete, and no word names a row that is still being filled.
+/// In every state of a full tree, the coupled one or the optimistic one, whatever calls run: each row that a process holds is
+/// locked from the version that the process has kept, each row that is locked is held by a process, no two processes hold
+/// one row, versions that calls have kept were not locked, and in the optimistic tree not obsolete, and no word names a row
+/// that is still being filled.
 pub fn rows_are_sound()
     ensures { RowsAreSound }
 {}
 
-/// The version of a row that was claimed and that nobody fills never falls; where it is the same and unlocked, the row has
-/// had the same words.
+/// In both full trees the version of a row that was claimed and that nobody fills never falls; where it is the same and
+/// unlocked, the row has had the same words.
 pub fn rows_stand_still()
     ensures { RowsStandStill }
 {}

@@ -1,4 +1,5 @@
-//! Versions of rows under optimistic lock coupling: who holds a row, who fills one, and that a row stands still while its version does.
+//! Rows and versions under lock coupling and under optimistic lock coupling: who holds a row, who fills one, and that a row stands
+//! still while its version does.
 #![tactic(auto)]
 
 mod laws;
