@@ -1,4 +1,5 @@
 -- Each access of an open call keeps rows and versions sound, and is steady.
+use Rattle.art_versions.specs.Writers.{IsHeldBy, MayWrite, WritesOwn}
 use Rattle.std.proofs.Common.{◌≡◌, ◌≢◌, ℕ, ◌+◌, ◌*◌, ◌/◌, ◌%◌, ◌^◌, ◌<◌, ◌≤◌, List, [], length, refl, ap, sym, subst, ◌∙◌, inl, inr, arith, Bool}
 use Rattle.std.proofs.Common.{true, false, ne_eqb}
 use Rattle.std.specs.Prelude.{◌⊎◌, slice_get, slice_index, slice_set, Some}
@@ -25,7 +26,7 @@ use Rattle.art_versions.proofs.KeyLemmas.{slot-behind}
 use Rattle.art_versions.proofs.KnownLemmas.{knows-more}
 use Rattle.art_versions.proofs.WordFacts.{version-free}
 use Rattle.art_versions.proofs.WithLemmas.{with-here, with-more, with-split, distinct-with, distinct-without}
-use Rattle.art_versions.proofs.ChangeLemmas.{good-more, index-same, index-other, set-same, held-still, sound-now}
+use Rattle.art_versions.proofs.ChangeLemmas.{written, good-more, index-same, index-other, set-same, held-still, sound-now}
 use Rattle.art_versions.proofs.MoveLemmas.{settled-row, some-words, claims-low, not-locked, true-false, differ}
 use Rattle.art_versions.proofs.MoveLemmas as m
 
@@ -60,7 +61,7 @@ module _ (variant : Variant) (shape : Shape) (n : ℕ) (s : State) (h : IsSound 
     now x = slice_index (slice_set s.words word value) x
 
     abbrev pub Kept : Type 0
-    Kept = IsSound variant shape (n + 1) later × IsSteady variant shape s later
+    Kept = IsSound variant shape (n + 1) later × IsSteady variant shape s later × WritesOwn variant shape s p later
 
     abbrev here-now : CallAt
     here-now = stage_of variant shape call q'
@@ -82,11 +83,12 @@ module _ (variant : Variant) (shape : Shape) (n : ℕ) (s : State) (h : IsSound 
             rises = λ base kind x. omega (arith, all base);
             stands = λ base kind x e free y low high. all y;
           },
+          λ base kind e y low high changed. absurd (changed (all y)),
         )
 
     -- a word behind a version changes, in a row that is locked or being filled
     module _ (b : ℕ) (k : Kind) (row : kind_at shape b ≡ Some k) (behind : IsBehindVersion b k word)
-        (private : (l : Kind) → P b l → is_locked (slice_index s.words b) ≡ false → ⊥) where
+        (private : (l : Kind) → P b l → is_locked (slice_index s.words b) ≡ false → ⊥) (may : MayWrite variant shape s p later b word) where
       bases : (base : ℕ) (kind : Kind) → kind_at shape base ≡ Some kind → now base ≡ slice_index s.words base
       bases base kind e = index-other s.words word value base
           (m.no-version variant shape n s h few p q here call is-open word value q' its b k row behind base kind e)
@@ -123,7 +125,14 @@ module _ (variant : Variant) (shape : Shape) (n : ℕ) (s : State) (h : IsSound 
                 (good-more P (IsSettled variant shape later) shape more word value good)
                 bases,
             steady more,
+            written variant shape s p word value (slice_set s.processes p q') own,
           )
+        where
+          own : (base : ℕ) (kind : Kind) → kind_at shape base ≡ Some kind → base ≤ word → word < base + row_words kind
+              → MayWrite variant shape s p later base word
+          own base kind e low high =
+              let one = rows_apart shape base b kind k word e row low high (omega (arith, behind.0)) behind.1 in
+              subst (λ a. MayWrite variant shape s p later a word) (sym one.0) may
 
   -- a row that it holds is locked
   pub is-locked : (x : Held) → IsAmong x (holds c place) → IsKept l P x → is_locked (slice_index s.words x.base) ≡ true
@@ -195,11 +204,12 @@ module _ (variant : Variant) (shape : Shape) (n : ℕ) (s : State) (h : IsSound 
     pub keeps-rising : (rows : List Held) → fills place ≡ [] → Has P c (stage_of variant shape call q') rows []
         → ((y : Held) → IsAmong y rows → then-at y.base ≡ y.kept + 2)
         → ((y : Held) → IsAmong y (holds c place) → y.base ≢ x.base → IsAmong y rows) → (locks-word value ≡ true → IsAmong x rows) → AreDistinct rows
+        → MayWrite variant shape s p after x.base x.base
         → ((r : ℕ) (other : Call) (w : Process) → r ≢ p → IsOpen s r other w → (y z : Held) → IsAmong y rows → IsAmong z (held_by variant shape other w)
         → y.base ≢ z.base)
         → ((r : ℕ) (other : Call) (w : Process) → r ≢ p → IsOpen s r other w → (z : Held) → IsAmong z (held_by variant shape other w) → z.base ≢ x.base)
-        → IsSound variant shape (n + 1) after × IsSteady variant shape s after
-    keeps-rising rows none has locked stay held distinct apart others =
+        → IsSound variant shape (n + 1) after × IsSteady variant shape s after × WritesOwn variant shape s p after
+    keeps-rising rows none has locked stay held distinct may apart others =
         let cl = m.claims-stay variant shape n s h few p q here call is-open x.base value q' its [] has.2 (inr refl) claims-same in
         let more : (b : ℕ) (l : Kind) → P b l → IsSettled variant shape after b l =
         λ b l y. m.settles variant shape n s h few p q here call is-open x.base value q' its cl b l y in (
@@ -219,10 +229,17 @@ module _ (variant : Variant) (shape : Shape) (n : ℕ) (s : State) (h : IsSound 
                 (λ r o w away ow y z a b. apart r o w away ow y z (subst (IsAmong y) has.1 a) b) other e;
           }),
           rising more,
+          written variant shape s p x.base value (slice_set s.processes p q') own-row,
         )
       where
         own : (Q : Call → Type 0) → Q call → (other : Call) → q'.call ≡ Some other → Q other
         own Q y other e = m.for-own variant shape n s h few p q here call is-open x.base value q' its Q y other e
+
+        own-row : (base : ℕ) (kind : Kind) → kind_at shape base ≡ Some kind → base ≤ x.base → x.base < base + row_words kind
+            → MayWrite variant shape s p after base x.base
+        own-row base kind e low high =
+            let one = rows_apart shape base x.base kind x.kind x.base e row low high (omega arith) (omega (arith, some-words x.kind)) in
+            subst (λ a. MayWrite variant shape s p after a x.base) (sym one.0) may
 
         for-call : (other : Call) → q.call ≡ Some other → (y : Held) → IsAmong y (held_by variant shape other q) → y.base ≢ x.base
             → (q'.call ≡ Some other) × IsAmong y (held_by variant shape other q')
@@ -258,11 +275,12 @@ module _ (variant : Variant) (shape : Shape) (n : ℕ) (s : State) (h : IsSound 
       → (((y : Held) → IsAmong y (holds c place) → y.base ≢ x.base) → Has P c (stage_of variant shape call q') all [])
       → IsSound variant shape (n + 1) (record { words = slice_set s.words x.base (locked_word x.kept); processes = slice_set s.processes p q' })
       × IsSteady variant shape s (record { words = slice_set s.words x.base (locked_word x.kept); processes = slice_set s.processes p q' })
+      × WritesOwn variant shape s p (record { words = slice_set s.words x.base (locked_word x.kept); processes = slice_set s.processes p q' })
   takes x all k is with none q' its has =
       keeps-rising x k (locked_word x.kept) q' its (omega (arith, is, value)) (omega (arith, is, value)) all none
       (has (λ y a. held-apart p call q opens y a))
       (λ y a. locked y (with-split x (holds c place) all y with a)) (λ y a other. with-more x (holds c place) all y with a)
-      (λ e. with-here x (holds c place) all with) (distinct-with x (holds c place) all with (h.distinct p call q opens) new)
+      (λ e. with-here x (holds c place) all with) (distinct-with x (holds c place) all with (h.distinct p call q opens) new) (inr (inl (refl, by-it)))
       (λ r other w away o y z a. apart r other w away o y z (with-split x (holds c place) all y with a)) others
     where
       value : locked_word x.kept ≡ x.kept + 2
@@ -271,6 +289,20 @@ module _ (variant : Variant) (shape : Shape) (n : ℕ) (s : State) (h : IsSound 
       held-apart : (r : ℕ) (other : Call) (w : Process) → IsOpen s r other w → (y : Held) → IsAmong y (held_by variant shape other w) → y.base ≢ x.base
       held-apart r other w o y a =
           locked-apart x y k is (m.held-row variant shape n s h few p q here call is-open r other w o y a) (h.locked r other w o y a)
+
+      by-it : IsHeldBy variant shape (record { words = slice_set s.words x.base (locked_word x.kept); processes = slice_set s.processes p q' }) p x.base
+      by-it = (
+        record {
+          holder = p;
+          call = call;
+          process = q';
+          is_open = record { own = set-same s.processes p q q' here; is_open = its };
+          row = x;
+          among = subst (IsAmong x) (sym (has (λ y a. held-apart p call q opens y a)).1) (with-here x (holds c place) all with);
+          is = refl;
+        },
+        refl,
+      )
 
       locked : (y : Held) → (y ≡ x) ⊎ IsAmong y (holds c place)
           → slice_index (slice_set s.words x.base (locked_word x.kept)) y.base ≡ y.kept + 2
@@ -295,11 +327,15 @@ module _ (variant : Variant) (shape : Shape) (n : ℕ) (s : State) (h : IsSound 
       → Has P c (stage_of variant shape call q') rest []
       → IsSound variant shape (n + 1) (record { words = slice_set s.words x.base value; processes = slice_set s.processes p q' })
       × IsSteady variant shape s (record { words = slice_set s.words x.base value; processes = slice_set s.processes p q' })
+      × WritesOwn variant shape s p (record { words = slice_set s.words x.base value; processes = slice_set s.processes p q' })
   releases x rest value k with none written q' its has =
-      keeps-rising x k value q' its more-than at-most rest none has locked stay (λ e. absurd (true-false e free)) distinct.0 apart others
+      keeps-rising x k value q' its more-than at-most rest none has locked stay (λ e. absurd (true-false e free)) distinct.0 (inl by-it) apart others
     where
       among-x : IsAmong x (holds c place)
       among-x = with-here x rest (holds c place) with
+
+      by-it : IsHeldBy variant shape s p x.base
+      by-it = (record { holder = p; call = call; process = q; is_open = opens; row = x; among = among-x; is = refl }, refl)
 
       later-among : (y : Held) → IsAmong y rest → IsAmong y (holds c place)
       later-among y a = with-more x rest (holds c place) y with a

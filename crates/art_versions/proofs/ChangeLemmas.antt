@@ -1,4 +1,6 @@
 -- What has to be shown of a step, so that rows and versions stay sound.
+use Rattle.art_rows.specs.Table.{row_words}
+use Rattle.art_versions.specs.Writers.{MayWrite, WritesOwn}
 use Rattle.std.proofs.Common.{◌≡◌, ◌≢◌, ℕ, zero, suc, ◌+◌, ◌*◌, ◌<◌, ◌≤◌, true, List, [], ◌∷◌, length, refl, ap, sym, subst, ◌∙◌, inl, inr, arith}
 use Rattle.std.proofs.Common.{get_or-set_other, get_or-set_same}
 use Rattle.std.specs.Prelude.{◌⊎◌, slice_get, slice_index, slice_set, Some}
@@ -45,6 +47,17 @@ set-other (x ∷ xs) zero new zero h = absurd (h refl)
 set-other (x ∷ xs) zero new (suc j) h = refl
 set-other (x ∷ xs) (suc i) new zero h = refl
 set-other (x ∷ xs) (suc i) new (suc j) h = set-other xs i new j (λ e. h (ap suc e))
+
+-- one word changes, and this process may write it
+pub written : (variant : Variant) (shape : Shape) (s : State) (p word value : ℕ) (processes : List Process)
+    → ((base : ℕ) (kind : Kind) → kind_at shape base ≡ Some kind → base ≤ word → word < base + row_words kind
+    → MayWrite variant shape s p (record { words = slice_set s.words word value; processes = processes }) base word)
+    → WritesOwn variant shape s p (record { words = slice_set s.words word value; processes = processes })
+written variant shape s p word value processes may base kind e x low high changed = elim (cases_eq x word) [
+  | inl same ↦ subst (MayWrite variant shape s p (record { words = slice_set s.words word value; processes = processes }) base) (sym same)
+      (may base kind e (omega (arith, low, same)) (omega (arith, high, same)))
+  | inr other ↦ absurd (changed (index-other s.words word value x other))
+]
 
 module _ (variant : Variant) (shape : Shape) (n : ℕ) (s : State) (h : IsSound variant shape n s) (p : ℕ) (q : Process) (here : slice_get s.processes p ≡ Some q)
     (word value : ℕ) (q' : Process) where

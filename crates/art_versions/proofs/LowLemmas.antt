@@ -1,4 +1,7 @@
 -- Claims and stamps keep rows and versions sound: they change no word of a row.
+use Rattle.art_versions.specs.Writers.{MayWrite, WritesOwn}
+use Rattle.art_versions.proofs.ChangeLemmas.{written}
+use Rattle.art_rows.specs.Table.{row_words}
 use Rattle.std.proofs.Common.{◌≡◌, ◌≢◌, ℕ, ◌+◌, ◌*◌, ◌^◌, ◌<◌, ◌≤◌, List, [], ◌∷◌, length, refl, ap, sym, subst, ◌∙◌, inl, inr, arith}
 use Rattle.std.specs.Prelude.{◌⊎◌, slice_get, slice_index, slice_set, Some}
 use Rattle.std.proofs.lemmas.Bool.{cases_eq}
@@ -85,6 +88,9 @@ module _ (variant : Variant) (shape : Shape) (n : ℕ) (s : State) (h : IsSound 
       stands = λ base kind x e free w l less. above w (omega (arith, l, row_begins shape base kind (settled-row variant shape s base kind x)));
     }
 
+    no-row : (base : ℕ) (kind : Kind) → kind_at shape base ≡ Some kind → base ≤ word → word < base + row_words kind → MayWrite variant shape s p later base word
+    no-row base kind e from below = absurd (omega (arith, low, from, row_begins shape base kind e))
+
     abbrev ClaimsNow : Type 0
     ClaimsNow = Claims variant shape n s h p q here word value q'
 
@@ -93,7 +99,7 @@ module _ (variant : Variant) (shape : Shape) (n : ℕ) (s : State) (h : IsSound 
         → ((call : Call) → q'.call ≡ Some call → (held_by variant shape call q' ≡ []) × (filled_by variant shape call q' ≡ []))
         → ((call : Call) → q.call ≡ Some call → held_by variant shape call q ≡ [])
         → ((Q : OfRows) → Q (root_base shape) Full → (call : Call) → q'.call ≡ Some call → Knows Q (setting shape variant call) (stage_of variant shape call q'))
-        → IsSound variant shape (n + 1) later × IsSteady variant shape s later
+        → IsSound variant shape (n + 1) later × IsSteady variant shape s later × WritesOwn variant shape s p later
     keeps-idle claims none before knows = (
       sound-now variant shape n s h p q here word value q' cl (record {
         within = within;
@@ -109,6 +115,7 @@ module _ (variant : Variant) (shape : Shape) (n : ℕ) (s : State) (h : IsSound 
         apart = λ call e r other w away o x y a b. absurd (subst (IsAmong x) (none call e).0 a);
       }),
       steady more,
+      written variant shape s p word value (slice_set s.processes p q') no-row,
     )
       where
         cl : ClaimsNow
@@ -153,7 +160,7 @@ module _ (variant : Variant) (shape : Shape) (n : ℕ) (s : State) (h : IsSound 
 
     pub keeps-claim : (filled : List Named) → (filled ≡ []) ⊎ ((claimed < rows_of shape kind) × (filled ≡ (base_of shape kind claimed, kind) ∷ []))
         → Has (IsSettled variant shape s) (setting shape variant call) (stage_of variant shape call q') (held_by variant shape call q) filled
-        → IsSound variant shape (n + 1) after × IsSteady variant shape s after
+        → IsSound variant shape (n + 1) after × IsSteady variant shape s after × WritesOwn variant shape s p after
     keeps-claim filled as-said has = (
       m.rows-stay variant shape n s h few p q here call is-open (claims_of kind) value q' its cl filled
           (knows-more (IsSettled variant shape s) (IsSettled variant shape after) (setting shape variant call) more (stage_of variant shape call q') has.0, has.1, has.2)
@@ -161,6 +168,7 @@ module _ (variant : Variant) (shape : Shape) (n : ℕ) (s : State) (h : IsSound 
           (no-slot (claims_of kind) value (claims-low kind) q' (IsSettled variant shape after))
           (row-above (claims_of kind) value (claims-low kind) q'),
       steady (claims_of kind) value (claims-low kind) q' more,
+      written variant shape s p (claims_of kind) value (slice_set s.processes p q') (no-row (claims_of kind) value (claims-low kind) q'),
     )
       where
         its-row : (b : ℕ) (k : Kind) → filled_by variant shape call q' ≡ (b, k) ∷ []

@@ -1,4 +1,5 @@
 -- Every run of a full tree keeps rows and versions sound, and is steady.
+use Rattle.art_versions.specs.Writers.{WritesOwn}
 use Rattle.std.proofs.Common.{◌≡◌, ◌≢◌, ℕ, zero, suc, ◌+◌, ◌^◌, ◌<◌, ◌≤◌, true, List, [], ◌∷◌, ◌++◌, length, refl, ap, sym, subst, ◌∙◌, arith}
 use Rattle.std.specs.Prelude.{slice_get, slice_index, slice_set, replicate, Option, Some, None}
 use Rattle.std.proofs.lemmas.List.{length-replicate, length-set, length-append}
@@ -255,3 +256,24 @@ steady-between variant full plan start words earlier later s t run v e =
     let here = (run-sound variant full plan v run.within.shape.root earlier first.steps (opened_on plan words) s (omega (arith, few)) first.sound e).0 in
     let on = later-part plan (opened_on plan words) s t earlier later e run.gives in
     ((run-sound variant full plan v run.within.shape.root later (first.steps + length earlier) s t few here on).1, first.steps + length earlier, here)
+
+-- The last step of a run.
+
+last-step : (plan : Plan) (s t : State) (p : ℕ) → run_on plan (Some s) (p ∷ []) ≡ Some t → step plan s p ≡ Some t
+last-step plan s t p e = go (step plan s p) e
+  where
+    go : (o : Option State) → run_on plan o [] ≡ Some t → o ≡ Some t
+    go None f = absurd (nowhere plan [] t f)
+    go (Some next) f = f
+
+pub written-at : (variant : Variant) → IsFull variant → (plan : Plan) (start : Contents) (words schedule : List ℕ) (p : ℕ) (s t : State)
+    → IsRun plan start words (schedule ++ p ∷ []) t → plan.variant ≡ variant → run_on plan (Some (opened_on plan words)) schedule ≡ Some s
+    → WritesOwn variant plan.shape s p t
+written-at variant full plan start words schedule p s t run v e =
+    let first = start-sound variant full plan start words v run.within.shape.root run.starts in
+    let steps = run-steps plan (schedule ++ p ∷ []) (opened_on plan words) t run.gives in
+    let long = length-append schedule (p ∷ []) in
+    let few : first.steps + length schedule < 2 ^ 62 = omega (arith, first.few, steps, run.few_steps, long) in
+    let here = (run-sound variant full plan v run.within.shape.root schedule first.steps (opened_on plan words) s few first.sound e).0 in
+    let on = later-part plan (opened_on plan words) s t schedule (p ∷ []) e run.gives in
+    (one-step variant full plan v run.within.shape.root (first.steps + length schedule) few s here p t (last-step plan s t p on)).2

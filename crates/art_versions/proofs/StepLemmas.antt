@@ -1,4 +1,5 @@
 -- Each step of a full tree keeps rows and versions sound, and is steady.
+use Rattle.art_versions.specs.Writers.{WritesOwn}
 use Rattle.std.proofs.Common.{true, false}
 use Rattle.art_steps.specs.Rows.{locks}
 use Rattle.std.proofs.Common.{◌≡◌, ◌≢◌, ℕ, ◌+◌, ◌%◌, ◌^◌, ◌<◌, ◌≤◌, List, [], ◌∷◌, ◌++◌, length, refl, ap, sym, subst, ◌∙◌, inl, inr, arith, eq-eqb}
@@ -95,7 +96,7 @@ asks-answers e = cc
 module _ (variant : Variant) (shape : Shape) (root : 1 ≤ shape.rows256) (n : ℕ) (s : State) (h : IsSound variant shape n s) (few : n < 2 ^ 62) (p : ℕ) (q : Process)
     (here : slice_get s.processes p ≡ Some q) where
   abbrev Kept : Move → Type 0
-  Kept m = IsSound variant shape (n + 1) (moved s p q m) × IsSteady variant shape s (moved s p q m)
+  Kept m = IsSound variant shape (n + 1) (moved s p q m) × IsSteady variant shape s (moved s p q m) × WritesOwn variant shape s p (moved s p q m)
 
   module _ (call : Call) (is-open : q.call ≡ Some call) where
     abbrev c : Setting
@@ -132,15 +133,18 @@ module _ (variant : Variant) (shape : Shape) (root : 1 ≤ shape.rows256) (n : �
     access a mark e (Writes x word value at turn among kept behind good after) = subst (λ a. Kept (Makes a)) (asks-same (sym turn ∙ e))
         (keeps-versions variant shape n s h few p q here call is-open word value (later (Store word value)) is-open (in-table (Store word value) at turn)
         x.base x.kind (settled-row variant shape s x.base x.kind kept.1) behind
-        (λ l y free. true-false (is-locked variant shape n s h few p q here call is-open x among kept) free) good (fills place) (inl refl) P (λ more. more)
+        (λ l y free. true-false (is-locked variant shape n s h few p q here call is-open x among kept) free)
+        (inl (record { holder = p; call = call; process = q; is_open = opens; row = x; among = among; is = refl }, refl)) good (fills place) (inl refl) P (λ more. more)
         (has-at P (Store word value) (holds c place) (fills place) after))
     access a mark e (Fills b k word value at turn filled behind row good after) = subst (λ a. Kept (Makes a)) (asks-same (sym turn ∙ e))
         (keeps-versions variant shape n s h few p q here call is-open word value (later (Store word value)) is-open (in-table (Store word value) at turn)
-        b k row behind (λ l y free. y.unfilled p call q opens b k filled refl) good (fills place) (inl refl) P (λ more. more)
+        b k row behind (λ l y free. y.unfilled p call q opens b k filled refl)
+        (inr (inr (record { call = call; process = q; is_open = opens; kind = k; fills = filled }))) good (fills place) (inl refl) P (λ more. more)
         (has-at P (Store word value) (holds c place) (fills place) after))
     access a mark e (Ends b k word value at turn filled behind row good after) = subst (λ a. Kept (Makes a)) (asks-same (sym turn ∙ e))
         (keeps-versions variant shape n s h few p q here call is-open word value (later (Store word value)) is-open (in-table (Store word value) at turn)
-        b k row behind (λ l y free. y.unfilled p call q opens b k filled refl) good [] (inr refl) (With P b k) settles
+        b k row behind (λ l y free. y.unfilled p call q opens b k filled refl)
+        (inr (inr (record { call = call; process = q; is_open = opens; kind = k; fills = filled }))) good [] (inr refl) (With P b k) settles
         (has-at (With P b k) (Store word value) (holds c place) [] after))
       where
         stored : State
@@ -196,7 +200,7 @@ module _ (variant : Variant) (shape : Shape) (root : 1 ≤ shape.rows256) (n : �
         }
 
         Chosen : Bool → Type 0
-        Chosen b = IsSound variant shape (n + 1) (to b) × IsSteady variant shape s (to b)
+        Chosen b = IsSound variant shape (n + 1) (to b) × IsSteady variant shape s (to b) × WritesOwn variant shape s p (to b)
     access a mark e (Claims kind at turn none claimed full) = subst (λ a. Kept (Makes a)) (asks-same (sym turn ∙ e)) (elim (cases_lt value (rows_of shape kind)) [
       | inl less ↦ keeps-claim variant shape n s h few p q here call is-open kind ((value + 1) % 2 ^ 64) one (later (Add (claims_of kind))) is-open
           ((base_of shape kind value, kind) ∷ []) (inr (less, refl)) (has-at P (Add (claims_of kind)) (holds c place) ((base_of shape kind value, kind) ∷ [])
@@ -297,8 +301,8 @@ module _ (variant : Variant) (shape : Shape) (root : 1 ≤ shape.rows256) (n : �
 -- A step of a full tree.
 pub one-step : (variant : Variant) → IsFull variant → (plan : Plan) → plan.variant ≡ variant → 1 ≤ plan.shape.rows256 → (n : ℕ) → n < 2 ^ 62 → (s : State)
     → IsSound variant plan.shape n s → (p : ℕ) (later : State) → step plan s p ≡ Some later
-    → IsSound variant plan.shape (n + 1) later × IsSteady variant plan.shape s later
+    → IsSound variant plan.shape (n + 1) later × IsSteady variant plan.shape s later × WritesOwn variant plan.shape s p later
 one-step variant full plan its-variant root n few s h p later e =
     let m = is-moved plan s p later e in
-    subst (λ t. IsSound variant plan.shape (n + 1) t × IsSteady variant plan.shape s t) (sym m.is)
+    subst (λ t. IsSound variant plan.shape (n + 1) t × IsSteady variant plan.shape s t × WritesOwn variant plan.shape s p t) (sym m.is)
     (one-move variant plan.shape root n s h few p m.process m.here full plan refl its-variant m.process.call m.move refl m.is_next)

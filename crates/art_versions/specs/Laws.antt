@@ -1,5 +1,5 @@
 -- The laws of rows and versions of the two full trees.
-use Rattle.std.specs.Prelude.{◌≡◌, ◌⊎◌, ℕ, ◌<◌, ◌^◌, List, ◌++◌}
+use Rattle.std.specs.Prelude.{◌≡◌, ◌⊎◌, ℕ, ◌<◌, ◌^◌, List, ◌++◌, [], ◌∷◌}
 use Rattle.map_object.specs.MapObject.{Contents}
 use Rattle.art_steps.specs.declared.variant.Variant.{Variant}
 use Rattle.art_steps.specs.declared.variant.Variant.TheVariants.{Coupled, Optimistic}
@@ -8,6 +8,7 @@ use Rattle.art_core.specs.Runs.{Gives}
 use Rattle.art_core.specs.Plans.{IsRun}
 use Rattle.art_versions.specs.Versions.{IsSound}
 use Rattle.art_versions.specs.Steady.{IsSteady}
+use Rattle.art_versions.specs.Writers.{WritesOwn}
 
 -- a tree that leaves out no lock and no check
 abbrev pub IsFull : Variant → Type 0
@@ -22,3 +23,8 @@ RowsAreSound = (plan : Plan) (start : Contents) (words schedule : List ℕ) (s :
 abbrev pub RowsStandStill : Type 0
 RowsStandStill = (plan : Plan) (start : Contents) (words earlier later : List ℕ) (s t : State) → IsRun plan start words (earlier ++ later) t
     → IsFull plan.variant → Gives plan (opened_on plan words) earlier s → IsSteady plan.variant plan.shape s t
+
+-- In each step a process writes only words of rows that it holds, takes or fills.
+abbrev pub HoldersWrite : Type 0
+HoldersWrite = (plan : Plan) (start : Contents) (words schedule : List ℕ) (p : ℕ) (s t : State) → IsRun plan start words (schedule ++ p ∷ []) t
+    → IsFull plan.variant → Gives plan (opened_on plan words) schedule s → WritesOwn plan.variant plan.shape s p t

@@ -3,4 +3,5 @@ pub mod Holding
 pub mod Effects
 pub mod Versions
 pub mod Steady
+pub mod Writers
 pub mod Laws

@@ -1,5 +1,5 @@
 // Laws of versions: each function only carries its clause.
-ghost use Rattle.art_versions.specs.Laws.{RowsAreSound, RowsStandStill};
+ghost use Rattle.art_versions.specs.Laws.{HoldersWrite, RowsAreSound, RowsStandStill};
 
 /// In every state of a full tree, the coupled one or the optimistic one, whatever calls run: each row that a process holds is
 /// locked from the version that the process has kept, each row that is locked is held by a process, no two processes hold
@@ -13,4 +13,10 @@ pub fn rows_are_sound()
 /// unlocked, the row has had the same words.
 pub fn rows_stand_still()
     ensures { RowsStandStill }
+{}
+
+/// In both full trees a process writes in each step only words of rows that it holds, a version by which it takes its row, or
+/// words of the fresh row that it fills: no other word of any row changes.
+pub fn only_holders_write()
+    ensures { HoldersWrite }
 {}
