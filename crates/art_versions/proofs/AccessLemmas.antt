@@ -9,7 +9,7 @@ use Rattle.events.specs.declared.event.Call.{Call}
 use Rattle.art_rows.specs.declared.table.Shape.{Shape}
 use Rattle.art_rows.specs.declared.table.Kind.{Kind}
 use Rattle.art_rows.specs.Table.{row_words, claims_of, kind_at}
-use Rattle.art_rows.specs.Words.{is_locked, is_locked as locks-word, locked_word, released_word, obsolete_word}
+use Rattle.art_rows.specs.Words.{is_locked, locked_word, released_word, obsolete_word}
 use Rattle.art_words.proofs.TableLemmas.{row_begins, row_ends, rows_apart}
 use Rattle.art_steps.specs.declared.variant.Variant.{Variant}
 use Rattle.art_steps.specs.Rows.{Setting, locks}
@@ -30,7 +30,7 @@ use Rattle.art_versions.proofs.ChangeLemmas.{written, good-more, index-same, ind
 use Rattle.art_versions.proofs.MoveLemmas.{settled-row, some-words, claims-low, not-locked, true-false, differ}
 use Rattle.art_versions.proofs.MoveLemmas as m
 
-unlocked : (value : ℕ) → (value / 2) % 2 ≡ 0 → locks-word value ≡ false
+unlocked : (value : ℕ) → (value / 2) % 2 ≡ 0 → is_locked value ≡ false
 unlocked value e = ne_eqb ((value / 2) % 2) 1 (λ f. omega (arith, e, f))
 
 module _ (variant : Variant) (shape : Shape) (n : ℕ) (s : State) (h : IsSound variant shape n s) (few : n < 2 ^ 62) (p : ℕ) (q : Process) (here : slice_get s.processes p ≡ Some q)
@@ -203,7 +203,7 @@ module _ (variant : Variant) (shape : Shape) (n : ℕ) (s : State) (h : IsSound 
     -- it holds these rows then, whose versions are as they were kept
     pub keeps-rising : (rows : List Held) → fills place ≡ [] → Has P c (stage_of variant shape call q') rows []
         → ((y : Held) → IsAmong y rows → then-at y.base ≡ y.kept + 2)
-        → ((y : Held) → IsAmong y (holds c place) → y.base ≢ x.base → IsAmong y rows) → (locks-word value ≡ true → IsAmong x rows) → AreDistinct rows
+        → ((y : Held) → IsAmong y (holds c place) → y.base ≢ x.base → IsAmong y rows) → (is_locked value ≡ true → IsAmong x rows) → AreDistinct rows
         → MayWrite variant shape s p after x.base x.base
         → ((r : ℕ) (other : Call) (w : Process) → r ≢ p → IsOpen s r other w → (y z : Held) → IsAmong y rows → IsAmong z (held_by variant shape other w)
         → y.base ≢ z.base)
@@ -250,7 +250,7 @@ module _ (variant : Variant) (shape : Shape) (n : ℕ) (s : State) (h : IsSound 
                   (subst (IsAmong y) (sym has.1) (stay y (subst (λ v. IsAmong y (held_by variant shape v q)) (sym is) a) away)),
             )
 
-        held-now : (base : ℕ) (kind : Kind) → kind_at shape base ≡ Some kind → locks-word (then-at base) ≡ true → IsHeld variant shape after base
+        held-now : (base : ℕ) (kind : Kind) → kind_at shape base ≡ Some kind → is_locked (then-at base) ≡ true → IsHeld variant shape after base
         held-now base kind e free = elim (cases_eq base x.base) [
           | inl same ↦ record {
             holder = p;
@@ -258,10 +258,10 @@ module _ (variant : Variant) (shape : Shape) (n : ℕ) (s : State) (h : IsSound 
             process = q';
             is_open = record { own = set-same s.processes p q q' here; is_open = its };
             row = x;
-            among = subst (IsAmong x) (sym has.1) (held (ap locks-word (sym (ap then-at same ∙ version)) ∙ free));
+            among = subst (IsAmong x) (sym has.1) (held (ap is_locked (sym (ap then-at same ∙ version)) ∙ free));
             is = sym same;
           }
-          | inr other ↦ held-still variant shape n s h p q here x.base value q' base (h.held base kind e (ap locks-word (sym (elsewhere base other)) ∙ free))
+          | inr other ↦ held-still variant shape n s h p q here x.base value q' base (h.held base kind e (ap is_locked (sym (elsewhere base other)) ∙ free))
               (λ o f y a is. for-call o f y a (λ g. other (sym is ∙ g)))
         ]
 
@@ -367,7 +367,7 @@ module _ (variant : Variant) (shape : Shape) (n : ℕ) (s : State) (h : IsSound 
         | inr b ↦ b
       ]
 
-      free : locks-word value ≡ false
+      free : is_locked value ≡ false
       free = elim written [
         | inl e ↦ unlocked value (omega (arith, is, e, version-small x k, few, version-free l x.kept k.0))
         | inr e ↦ unlocked value (omega (arith, is, e, version-small x k, few, version-free l x.kept k.0))

@@ -34,13 +34,11 @@ module _ (P : OfRows) (l : Bool) where
 
 module _ (P : OfRows) where
   place-kept : (l i : Bool) (p : Position) → Each (IsKept l P) (kept_at_place l i p) → Each (IsKept l P) (held_at_place l i p)
-  place-kept true true p k = k
-  place-kept true false p k = k
+  place-kept true i p k = k
   place-kept false i p k = tt
 
   below-kept : (l i : Bool) (d : Down) (kept : ℕ) → Each (IsKept l P) (kept_below l i d kept) → Each (IsKept l P) (held_below l i d kept)
-  below-kept true true d kept k = k
-  below-kept true false d kept k = k
+  below-kept true i d kept k = k
   below-kept false i d kept k = tt
 
   between-kept : (l : Bool) (d : Down) (kept : ℕ) → Each (IsKept l P) (held d.base d.kind 0 kept ∷ d.above ∷ []) → Each (IsKept l P) (held_between l d kept)

@@ -299,13 +299,13 @@ module _ (variant : Variant) (s : Shape) (call : Call) (P : OfRows) (is_row : (b
 
 -- A scan of the optimistic tree.
 module _ (s : Shape) (call : Call) (P : OfRows) (is_row : (b : ℕ) (k : Kind) → P b k → kind_at s b ≡ Some k) (root : P (root_base s) Full) (lo hi : ℕ) where
-  abbrev o : Setting
-  o = setting s Optimistic call
+  abbrev optimistic-setting : Setting
+  optimistic-setting = setting s Optimistic call
 
   abbrev Knowing : List Held → ScanAt → Type 0
   Knowing rows x = Good Optimistic s call P is_row root lo hi rows x
 
-  met : (n : Held) (w : Walk) → P n.base n.kind → Each (FitsFrame P) w.way → Has P o (OnScan lo hi (visit_at o lo hi n w)) [] []
+  met : (n : Held) (w : Walk) → P n.base n.kind → Each (FitsFrame P) w.way → Has P optimistic-setting (OnScan lo hi (visit_at optimistic-setting lo hi n w)) [] []
   met n w p way = go (bytes_of lo hi (row_at n)) (has_row n.base (map row_at w.rows))
     where
       here : Bool → Walk
@@ -315,30 +315,30 @@ module _ (s : Shape) (call : Call) (P : OfRows) (is_row : (b : ℕ) (k : Kind) �
       same true = way
       same false = way
 
-      go : (xs : List ℕ) (b : Bool) → Has P o (OnScan lo hi (visit_list o lo hi n (here b) xs)) [] []
+      go : (xs : List ℕ) (b : Bool) → Has P optimistic-setting (OnScan lo hi (visit_list optimistic-setting lo hi n (here b) xs)) [] []
       go xs b = let k = listed Optimistic s call P is_row root lo hi (here b).rows n (here b) xs refl tt p (same b) in (k.0, ap locks_of k.1, refl)
 
-  entered : (entry : Entry) (w : Walk) (v : ℕ) → KnowsScan P false (at (Wait entry) w) → Has P o (OnScan lo hi (entry_at o lo hi entry w v)) [] []
+  entered : (entry : Entry) (w : Walk) (v : ℕ) → KnowsScan P false (at (Wait entry) w) → Has P optimistic-setting (OnScan lo hi (entry_at optimistic-setting lo hi entry w v)) [] []
   entered Root w v k = met (held (root_base s) Full 3 v) w root k.way
   entered (Below base kind) w v k = (record { kept = tt; known = k.known; fits = tt; way = k.way }, refl, refl)
 
-  begun : Has P o (OnScan lo hi (scan_start o)) [] []
+  begun : Has P optimistic-setting (OnScan lo hi (scan_start optimistic-setting)) [] []
   begun = (record { kept = tt; known = tt; fits = tt; way = tt }, refl, refl)
 
   waits : (entry : Entry) (w : Walk) (value : ℕ) → KnowsScan P false (at (Wait entry) w)
-      → Has P o (OnScan lo hi (step_after o lo hi (Wait entry) w value)) [] []
+      → Has P optimistic-setting (OnScan lo hi (step_after optimistic-setting lo hi (Wait entry) w value)) [] []
   waits entry w value k = choose (is_locked value) (is_obsolete value)
     where
-      choose : (b d : Bool) → Has P o (OnScan lo hi (if b then at (Wait entry) w else if d then scan_start o else entry_at o lo hi entry w value)) [] []
+      choose : (b d : Bool) → Has P optimistic-setting (OnScan lo hi (if b then at (Wait entry) w else if d then scan_start optimistic-setting else entry_at optimistic-setting lo hi entry w value)) [] []
       choose true d = (k, refl, refl)
       choose false true = begun
       choose false false = entered entry w value k
 
-  checks : (w : Walk) (b : Bool) → Has P o (OnScan lo hi (if b then close_at o w else scan_start o)) [] []
+  checks : (w : Walk) (b : Bool) → Has P optimistic-setting (OnScan lo hi (if b then close_at optimistic-setting w else scan_start optimistic-setting)) [] []
   checks w true = let k = closed Optimistic s call P is_row root lo hi w.rows w refl tt in (k.0, ap locks_of k.1, refl)
   checks w false = begun
 
-  pub optimistic-scan-does : (x : ScanAt) → KnowsScan P false x → Does P o (OnScan lo hi x)
+  pub optimistic-scan-does : (x : ScanAt) → KnowsScan P false x → Does P optimistic-setting (OnScan lo hi x)
   optimistic-scan-does x k = step-does Optimistic s call P is_row root lo hi x.walk (record {
     lock = λ entry first k. absurd k.fits;
     exchange = λ entry v k. absurd k.fits.0;
@@ -349,59 +349,59 @@ module _ (s : Shape) (call : Call) (P : OfRows) (is_row : (b : ℕ) (k : Kind) �
 
 -- A scan of the coupled tree.
 module _ (s : Shape) (call : Call) (P : OfRows) (is_row : (b : ℕ) (k : Kind) → P b k → kind_at s b ≡ Some k) (root : P (root_base s) Full) (lo hi : ℕ) where
-  abbrev k-setting : Setting
-  k-setting = setting s Coupled call
+  abbrev coupled-setting : Setting
+  coupled-setting = setting s Coupled call
 
   -- a row that was locked last is met
   locked-row : (n : Held) (w : Walk) → Each (λ x. x.base ≢ n.base) w.rows → Each (IsKept true P) w.rows → IsKept true P n → Each (FitsFrame P) w.way
-      → Has P k-setting (OnScan lo hi (visit_at k-setting lo hi n w)) (locks_of (w.rows ++ n ∷ [])) []
+      → Has P coupled-setting (OnScan lo hi (visit_at coupled-setting lo hi n w)) (locks_of (w.rows ++ n ∷ [])) []
   locked-row n w fresh kept new way = go (bytes_of lo hi (row_at n)) (has_row n.base (map row_at w.rows)) (fresh-row n.base w.rows fresh)
     where
       all : Walk
       all = record { rows = w.rows ++ n ∷ []; pairs = w.pairs; way = w.way }
 
       go : (xs : List ℕ) (b : Bool) → b ≡ false
-          → Has P k-setting (OnScan lo hi (visit_list k-setting lo hi n (if b then w else all) xs)) (locks_of (w.rows ++ n ∷ [])) []
+          → Has P coupled-setting (OnScan lo hi (visit_list coupled-setting lo hi n (if b then w else all) xs)) (locks_of (w.rows ++ n ∷ [])) []
       go xs true e = absurd (false≢true (sym e))
       go xs false e =
           let k = listed Coupled s call P is_row root lo hi (w.rows ++ n ∷ []) n all xs refl (each-end (IsKept true P) w.rows n kept new) new.1 way in
           (k.0, ap locks_of k.1, refl)
 
-  locks-does : (w : Walk) (entry : Entry) (first : Bool) → KnowsScan P true (at (Lock entry first) w) → Does P k-setting (OnScan lo hi (at (Lock entry first) w))
+  locks-does : (w : Walk) (entry : Entry) (first : Bool) → KnowsScan P true (at (Lock entry first) w) → Does P coupled-setting (OnScan lo hi (at (Lock entry first) w))
   locks-does w entry first k = go first
     where
       after : (value : ℕ) (b : Bool) → is_locked value ≡ b
-          → Has P k-setting (OnScan lo hi (if b then at (Lock entry false) w else at (Exchange entry value) w)) (locks_of w.rows) []
+          → Has P coupled-setting (OnScan lo hi (if b then at (Lock entry false) w else at (Exchange entry value) w)) (locks_of w.rows) []
       after value true e = (record { kept = k.kept; known = k.known; fits = tt; way = k.way }, refl, refl)
       after value false e = (record { kept = k.kept; known = k.known; fits = (tt, e); way = k.way }, refl, refl)
 
-      go : (first : Bool) → Does P k-setting (OnScan lo hi (at (Lock entry first) w))
+      go : (first : Bool) → Does P coupled-setting (OnScan lo hi (at (Lock entry first) w))
       go true = Reads _ _ refl (λ value good. after value (is_locked value) refl)
       go false = Reads _ _ refl (λ value good. after value (is_locked value) refl)
 
   apart-rows : (base : ℕ) (rows : List Held) → ((x : Held) → IsAmong x (locks_of rows) → x.base ≢ base) → Each (λ x. x.base ≢ base) rows
   apart-rows base rows h = among-all (λ x. x.base ≢ base) rows h (λ x y. y)
 
-  exchanges-does : (w : Walk) (entry : Entry) (v : ℕ) → KnowsScan P true (at (Exchange entry v) w) → Does P k-setting (OnScan lo hi (at (Exchange entry v) w))
+  exchanges-does : (w : Walk) (entry : Entry) (v : ℕ) → KnowsScan P true (at (Exchange entry v) w) → Does P coupled-setting (OnScan lo hi (at (Exchange entry v) w))
   exchanges-does w Root v k =
       let n = held (root_base s) Full 0 v in
       Takes n (locks_of (w.rows ++ n ∷ [])) _ refl (subst (IsWith n (locks_of w.rows)) (sym (locks-end w.rows n)) (with-last n (locks_of w.rows))) refl (k.fits.1, root)
-      (λ apart. subst (λ b. Has P k-setting (OnScan lo hi (if b then entry_at k-setting lo hi Root w v else at (Lock Root false) w)) (locks_of (w.rows ++ n ∷ [])) [])
+      (λ apart. subst (λ b. Has P coupled-setting (OnScan lo hi (if b then entry_at coupled-setting lo hi Root w v else at (Lock Root false) w)) (locks_of (w.rows ++ n ∷ [])) [])
       (sym (eq-eqb v v refl)) (same-locks (locked-row (held (root_base s) Full 3 v) w (apart-rows (root_base s) w.rows apart) k.kept (k.fits.1, root) k.way)))
-      (λ value other. subst (λ b. Has P k-setting (OnScan lo hi (if b then entry_at k-setting lo hi Root w v else at (Lock Root false) w)) (locks_of w.rows) [])
+      (λ value other. subst (λ b. Has P coupled-setting (OnScan lo hi (if b then entry_at coupled-setting lo hi Root w v else at (Lock Root false) w)) (locks_of w.rows) [])
       (sym (ne_eqb value v other)) again)
     where
-      again : Has P k-setting (OnScan lo hi (at (Lock Root false) w)) (locks_of w.rows) []
+      again : Has P coupled-setting (OnScan lo hi (at (Lock Root false) w)) (locks_of w.rows) []
       again = (record { kept = k.kept; known = k.known; fits = tt; way = k.way }, refl, refl)
 
-      same-locks : {x : ScanAt} → Has P k-setting (OnScan lo hi x) (locks_of (w.rows ++ held (root_base s) Full 3 v ∷ [])) []
-          → Has P k-setting (OnScan lo hi x) (locks_of (w.rows ++ held (root_base s) Full 0 v ∷ [])) []
+      same-locks : {x : ScanAt} → Has P coupled-setting (OnScan lo hi x) (locks_of (w.rows ++ held (root_base s) Full 3 v ∷ [])) []
+          → Has P coupled-setting (OnScan lo hi x) (locks_of (w.rows ++ held (root_base s) Full 0 v ∷ [])) []
       same-locks h = (h.0, h.1 ∙ (locks-end w.rows (held (root_base s) Full 3 v) ∙ sym (locks-end w.rows (held (root_base s) Full 0 v))), h.2)
   exchanges-does w (Below base kind) v k =
       let n = held base kind 0 v in
       Takes n (locks_of (w.rows ++ n ∷ [])) _ refl (subst (IsWith n (locks_of w.rows)) (sym (locks-end w.rows n)) (with-last n (locks_of w.rows))) refl
       (k.fits.1, k.known.0)
-      (λ apart. subst (λ b. Has P k-setting (OnScan lo hi (if b then at (Info base kind v) w else at (Lock (Below base kind) false) w)) (locks_of (w.rows ++ n ∷ [])) [])
+      (λ apart. subst (λ b. Has P coupled-setting (OnScan lo hi (if b then at (Info base kind v) w else at (Lock (Below base kind) false) w)) (locks_of (w.rows ++ n ∷ [])) [])
       (sym (eq-eqb v v refl)) (
         record {
           kept = each-end (IsKept true P) w.rows n k.kept (k.fits.1, k.known.0);
@@ -412,26 +412,26 @@ module _ (s : Shape) (call : Call) (P : OfRows) (is_row : (b : ℕ) (k : Kind) �
         refl,
         refl,
       ))
-      (λ value other. subst (λ b. Has P k-setting (OnScan lo hi (if b then at (Info base kind v) w else at (Lock (Below base kind) false) w)) (locks_of w.rows) [])
+      (λ value other. subst (λ b. Has P coupled-setting (OnScan lo hi (if b then at (Info base kind v) w else at (Lock (Below base kind) false) w)) (locks_of w.rows) [])
       (sym (ne_eqb value v other)) (record { kept = k.kept; known = k.known; fits = tt; way = k.way }, refl, refl))
 
-  infos-does : (w : Walk) (base : ℕ) (kind : Kind) (kept : ℕ) → KnowsScan P true (at (Info base kind kept) w) → Does P k-setting (OnScan lo hi (at (Info base kind kept) w))
+  infos-does : (w : Walk) (base : ℕ) (kind : Kind) (kept : ℕ) → KnowsScan P true (at (Info base kind kept) w) → Does P coupled-setting (OnScan lo hi (at (Info base kind kept) w))
   infos-does w base kind kept k = Reads _ _ refl (λ value good.
       let parts = each-init (IsKept true P) w.rows (held base kind 0 kept) k.kept in
       same-locks value (locked-row (held base kind value kept) w k.fits parts.0 parts.1 k.way))
     where
-      same-locks : (value : ℕ) {x : ScanAt} → Has P k-setting (OnScan lo hi x) (locks_of (w.rows ++ held base kind value kept ∷ [])) []
-          → Has P k-setting (OnScan lo hi x) (locks_of (w.rows ++ held base kind 0 kept ∷ [])) []
+      same-locks : (value : ℕ) {x : ScanAt} → Has P coupled-setting (OnScan lo hi x) (locks_of (w.rows ++ held base kind value kept ∷ [])) []
+          → Has P coupled-setting (OnScan lo hi x) (locks_of (w.rows ++ held base kind 0 kept ∷ [])) []
       same-locks value h = (h.0, h.1 ∙ (locks-end w.rows (held base kind value kept) ∙ sym (locks-end w.rows (held base kind 0 kept))), h.2)
 
-  releases-does : (w : Walk) (n : Held) → KnowsScan P true (at (Release n) w) → Does P k-setting (OnScan lo hi (at (Release n) w))
+  releases-does : (w : Walk) (n : Held) → KnowsScan P true (at (Release n) w) → Does P coupled-setting (OnScan lo hi (at (Release n) w))
   releases-does w n k = Releases (lock_of n) (locks_of w.rows) _ _ refl (inl (refl, refl)) refl (inl refl) k.kept.0 (go w.rows k.kept.1)
     where
-      go : (rows : List Held) → Each (IsKept true P) rows → Has P k-setting (OnScan lo hi (release_rows rows w.pairs)) (locks_of rows) []
+      go : (rows : List Held) → Each (IsKept true P) rows → Has P coupled-setting (OnScan lo hi (release_rows rows w.pairs)) (locks_of rows) []
       go [] kept = (record { kept = tt; known = tt; fits = tt; way = tt }, refl, refl)
       go (m ∷ rows) kept = (record { kept = kept; known = tt; fits = tt; way = tt }, refl, refl)
 
-  pub coupled-scan-does : (x : ScanAt) → KnowsScan P true x → Does P k-setting (OnScan lo hi x)
+  pub coupled-scan-does : (x : ScanAt) → KnowsScan P true x → Does P coupled-setting (OnScan lo hi x)
   coupled-scan-does x k = step-does Coupled s call P is_row root lo hi x.walk (record {
     lock = locks-does x.walk;
     exchange = exchanges-does x.walk;

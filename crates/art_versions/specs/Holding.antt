@@ -37,7 +37,7 @@ use Rattle.art_stages.specs.declared.stage.ScanStep.TheVariants as scan
 use Rattle.art_stages.specs.Stages.{held, count_in, place_in, leaf_place}
 use Rattle.art_stages.specs.Scans.{Walk, ScanAt}
 use Rattle.art_stages.specs.Calls.{CallAt, OnKey, OnScan}
-use Rattle.art_versions.specs.Locking.{all_of, locks_of, rows_of_hold, rows_of_target, rows_held, scan_held}
+use Rattle.art_versions.specs.Locking.{all_of, locks_of, rows_of_hold, rows_of_target, rows_held, scan_held, held_at_place, held_below}
 
 -- a call on the full optimistic tree
 abbrev pub optimistic : Shape → Call → Setting
@@ -66,16 +66,14 @@ child_rows (ChildRow base kind) = (base, kind) ∷ []
 child_rows Empty = []
 child_rows (Leaf key value) = []
 
--- The rows that a call has kept a version of: where reads are locked, those that it holds.
+-- The rows of which a call has kept a version: where reads are locked, those that it holds.
 
 abbrev pub kept_at_place : Bool → Bool → Position → List Held
-kept_at_place true true p = p.row ∷ all_of p.above
-kept_at_place true false p = p.row ∷ []
+kept_at_place true i p = held_at_place true i p
 kept_at_place false i p = p.row ∷ all_of p.above
 
 abbrev pub kept_below : Bool → Bool → Down → ℕ → List Held
-kept_below true true d kept = held d.base d.kind 0 kept ∷ d.above ∷ []
-kept_below true false d kept = held d.base d.kind 0 kept ∷ []
+kept_below true i d kept = held_below true i d kept
 kept_below false i d kept = held d.base d.kind 0 kept ∷ d.above ∷ []
 
 abbrev pub rows_kept : Bool → Bool → Stage → List Held
