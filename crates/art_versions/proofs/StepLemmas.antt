@@ -237,7 +237,7 @@ module _ (variant : Variant) (shape : Shape) (root : 1 ≤ shape.rows256) (n : �
   scan-knows true Q = record { kept = tt; known = tt; fits = tt; way = tt }
   scan-knows false Q = record { kept = tt; known = tt; fits = tt; way = tt }
 
-  begun-idle : (call whole : Call) → (holds (setting shape variant whole) (begun_as call (setting shape variant whole)) ≡ [])
+  pub begun-idle : (call whole : Call) → (holds (setting shape variant whole) (begun_as call (setting shape variant whole)) ≡ [])
       × (fills (begun_as call (setting shape variant whole)) ≡ [])
   begun-idle (Get k) whole = start-idle (locks variant) (is_insert whole)
   begun-idle (Insert k v) whole = start-idle (locks variant) (is_insert whole)

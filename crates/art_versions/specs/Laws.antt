@@ -6,6 +6,7 @@ use Rattle.art_steps.specs.declared.variant.Variant.TheVariants.{Coupled, Optimi
 use Rattle.art_core.specs.Core.{Plan, State, opened_on}
 use Rattle.art_core.specs.Runs.{Gives}
 use Rattle.art_core.specs.Plans.{IsRun}
+use Rattle.art_core.specs.Invariant.{LocksAreHeld}
 use Rattle.art_versions.specs.Versions.{IsSound}
 use Rattle.art_versions.specs.Steady.{IsSteady}
 use Rattle.art_versions.specs.Writers.{WritesOwn}
@@ -28,3 +29,8 @@ RowsStandStill = (plan : Plan) (start : Contents) (words earlier later : List �
 abbrev pub HoldersWrite : Type 0
 HoldersWrite = (plan : Plan) (start : Contents) (words schedule : List ℕ) (p : ℕ) (s t : State) → IsRun plan start words (schedule ++ p ∷ []) t
     → IsFull plan.variant → Gives plan (opened_on plan words) schedule s → WritesOwn plan.variant plan.shape s p t
+
+-- In every state that a schedule gives, a version is locked exactly where one process has locked it by an access and has not released it since.
+abbrev pub LocksAreHeldInRuns : Type 0
+LocksAreHeldInRuns = (plan : Plan) (start : Contents) (words schedule : List ℕ) (s : State) → IsRun plan start words schedule s → IsFull plan.variant
+    → LocksAreHeld plan s

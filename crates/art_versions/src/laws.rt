@@ -1,5 +1,5 @@
 // Laws of versions: each function only carries its clause.
-ghost use Rattle.art_versions.specs.Laws.{HoldersWrite, RowsAreSound, RowsStandStill};
+ghost use Rattle.art_versions.specs.Laws.{HoldersWrite, LocksAreHeldInRuns, RowsAreSound, RowsStandStill};
 
 /// In every state of a full tree, the coupled one or the optimistic one, whatever calls run: each row that a process holds is
 /// locked from the version that the process has kept, each row that is locked is held by a process, no two processes hold
@@ -19,4 +19,10 @@ pub fn rows_stand_still()
 /// words of the fresh row that it fills: no other word of any row changes.
 pub fn only_holders_write()
     ensures { HoldersWrite }
+{}
+
+/// In every state of both full trees the version of a row is locked exactly where one process has locked it: by an exchange
+/// that was made, with no store to the version since. That process is the only one, and the word says what it locked from.
+pub fn locks_are_held()
+    ensures { LocksAreHeldInRuns }
 {}
