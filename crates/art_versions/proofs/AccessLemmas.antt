@@ -1,5 +1,5 @@
 -- Each access of an open call keeps rows and versions sound, and is steady.
-use Rattle.art_versions.specs.Writers.{IsHeldBy, MayWrite, WritesOwn}
+use Rattle.art_versions.specs.Writers.{IsHeldBy, IsTakenBy, MayWrite, WritesOwn}
 use Rattle.std.proofs.Common.{◌≡◌, ◌≢◌, ℕ, ◌+◌, ◌*◌, ◌/◌, ◌%◌, ◌^◌, ◌<◌, ◌≤◌, List, [], length, refl, ap, sym, subst, ◌∙◌, inl, inr, arith, Bool}
 use Rattle.std.proofs.Common.{true, false, ne_eqb}
 use Rattle.std.specs.Prelude.{◌⊎◌, slice_get, slice_index, slice_set, Some}
@@ -290,7 +290,7 @@ module _ (variant : Variant) (shape : Shape) (n : ℕ) (s : State) (h : IsSound 
       held-apart r other w o y a =
           locked-apart x y k is (m.held-row variant shape n s h few p q here call is-open r other w o y a) (h.locked r other w o y a)
 
-      by-it : IsHeldBy variant shape (record { words = slice_set s.words x.base (locked_word x.kept); processes = slice_set s.processes p q' }) p x.base
+      by-it : IsTakenBy variant shape s p (record { words = slice_set s.words x.base (locked_word x.kept); processes = slice_set s.processes p q' }) x.base
       by-it = (
         record {
           holder = p;
@@ -302,6 +302,7 @@ module _ (variant : Variant) (shape : Shape) (n : ℕ) (s : State) (h : IsSound 
           is = refl;
         },
         refl,
+        is,
       )
 
       locked : (y : Held) → (y ≡ x) ⊎ IsAmong y (holds c place)

@@ -13,5 +13,6 @@ pub mod LowLemmas
 pub mod StepLemmas
 pub mod RunLemmas
 pub mod LockLemmas
+pub mod RestLemmas
 pub mod ByteLemmas
 pub mod SettledLemmas

@@ -8,7 +8,7 @@ use Rattle.art_core.specs.Runs.{Gives}
 use Rattle.art_core.specs.Plans.{IsRun}
 use Rattle.art_core.specs.Invariant.{LocksAreHeld}
 use Rattle.art_versions.specs.Versions.{IsSound}
-use Rattle.art_versions.specs.Steady.{IsSteady}
+use Rattle.art_versions.specs.Steady.{IsSteady, ObsoleteStand}
 use Rattle.art_versions.specs.Writers.{WritesOwn}
 
 -- a tree that leaves out no lock and no check
@@ -34,3 +34,8 @@ HoldersWrite = (plan : Plan) (start : Contents) (words schedule : List ℕ) (p :
 abbrev pub LocksAreHeldInRuns : Type 0
 LocksAreHeldInRuns = (plan : Plan) (start : Contents) (words schedule : List ℕ) (s : State) → IsRun plan start words schedule s → IsFull plan.variant
     → LocksAreHeld plan s
+
+-- In the optimistic tree an obsolete row is as it was, from each state of a schedule to each later one.
+abbrev pub ObsoleteRowsRest : Type 0
+ObsoleteRowsRest = (plan : Plan) (start : Contents) (words earlier later : List ℕ) (s t : State) → IsRun plan start words (earlier ++ later) t
+    → plan.variant ≡ Optimistic → Gives plan (opened_on plan words) earlier s → ObsoleteStand Optimistic plan.shape s t

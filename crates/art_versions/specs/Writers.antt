@@ -19,10 +19,14 @@ pub record IsFilledBy (variant : Variant) (shape : Shape) (s : State) (p base : 
   pub kind : Kind
   pub fills : filled_by variant shape call process ≡ (base, kind) ∷ []
 
+-- in the later state p holds the row, from the version that it has in the earlier one
+abbrev pub IsTakenBy : Variant → Shape → State → ℕ → State → ℕ → Type 0
+IsTakenBy variant shape s p later base = (x : IsHeld variant shape later base) × (x.holder ≡ p) × (slice_index s.words base ≡ x.row.kept)
+
 -- process p may write the word in the step to a later state: it holds or fills the row, or the word is the version by which it takes the row
 abbrev pub MayWrite : Variant → Shape → State → ℕ → State → ℕ → ℕ → Type 0
 MayWrite variant shape s p later base word =
-    IsHeldBy variant shape s p base ⊎ ((word ≡ base) × IsHeldBy variant shape later p base) ⊎ IsFilledBy variant shape s p base
+    IsHeldBy variant shape s p base ⊎ ((word ≡ base) × IsTakenBy variant shape s p later base) ⊎ IsFilledBy variant shape s p base
 
 -- Each word of a row that the step of process p changes is one that it may write.
 abbrev pub WritesOwn : Variant → Shape → State → ℕ → State → Type 0

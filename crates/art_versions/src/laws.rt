@@ -1,5 +1,5 @@
 // Laws of versions: each function only carries its clause.
-ghost use Rattle.art_versions.specs.Laws.{HoldersWrite, LocksAreHeldInRuns, RowsAreSound, RowsStandStill};
+ghost use Rattle.art_versions.specs.Laws.{HoldersWrite, LocksAreHeldInRuns, ObsoleteRowsRest, RowsAreSound, RowsStandStill};
 
 /// In every state of a full tree, the coupled one or the optimistic one, whatever calls run: each row that a process holds is
 /// locked from the version that the process has kept, each row that is locked is held by a process, no two processes hold
@@ -25,4 +25,9 @@ pub fn only_holders_write()
 /// that was made, with no store to the version since. That process is the only one, and the word says what it locked from.
 pub fn locks_are_held()
     ensures { LocksAreHeldInRuns }
+{}
+
+/// In the optimistic tree a row that was released as obsolete has the same words in every later state.
+pub fn obsolete_rows_rest()
+    ensures { ObsoleteRowsRest }
 {}

@@ -4,4 +4,6 @@
 
 mod laws;
 
-pub use laws::{locks_are_held, only_holders_write, rows_are_sound, rows_stand_still};
+pub use laws::{
+    locks_are_held, obsolete_rows_rest, only_holders_write, rows_are_sound, rows_stand_still,
+};
