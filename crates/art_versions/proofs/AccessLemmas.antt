@@ -79,6 +79,7 @@ module _ (variant : Variant) (shape : Shape) (n : ℕ) (s : State) (h : IsSound 
               (good-more P (IsSettled variant shape later) shape more word (slice_index s.words word) (h.children word)))
               (λ base kind e. all base),
           record {
+            claims = λ kind. omega (arith, all (claims_of kind));
             settled = more;
             rises = λ base kind x. omega (arith, all base);
             stands = λ base kind x e free y low high. all y;
@@ -108,6 +109,7 @@ module _ (variant : Variant) (shape : Shape) (n : ℕ) (s : State) (h : IsSound 
 
       steady : ((base : ℕ) (kind : Kind) → P base kind → IsSettled variant shape later base kind) → IsSteady variant shape s later
       steady more = record {
+        claims = λ kind. omega (arith, claims kind);
         settled = more;
         rises = λ base kind x. omega (arith, bases base kind (settled-row variant shape s base kind x));
         stands = λ base kind x e free. stands base kind x free;
@@ -183,6 +185,7 @@ module _ (variant : Variant) (shape : Shape) (n : ℕ) (s : State) (h : IsSound 
 
     rising : ((base : ℕ) (kind : Kind) → P base kind → IsSettled variant shape after base kind) → IsSteady variant shape s after
     rising more = record {
+      claims = λ kind. omega (arith, claims-same kind);
       settled = more;
       rises = λ base kind y. elim (cases_eq base x.base) [
         | inl same ↦ omega (arith, ap then-at same, version, more-than, ap (slice_index s.words) same)

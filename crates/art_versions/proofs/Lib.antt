@@ -14,5 +14,6 @@ pub mod StepLemmas
 pub mod RunLemmas
 pub mod LockLemmas
 pub mod RestLemmas
+pub mod FreshLemmas
 pub mod ByteLemmas
 pub mod SettledLemmas

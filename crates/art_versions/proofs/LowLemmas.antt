@@ -81,8 +81,9 @@ module _ (variant : Variant) (shape : Shape) (n : ℕ) (s : State) (h : IsSound 
     no-slot : (Q : OfRows) → IsGoodAt Q shape word value
     no-slot Q base kind e slot = absurd (omega (arith, low, (slot-behind base kind word slot).0, row_begins shape base kind e))
 
-    steady : ((base : ℕ) (kind : Kind) → IsSettled variant shape s base kind → IsSettled variant shape later base kind) → IsSteady variant shape s later
-    steady more = record {
+    steady : ((kind : Kind) → slice_index s.words (claims_of kind) ≤ now (claims_of kind)) → ((base : ℕ) (kind : Kind) → IsSettled variant shape s base kind → IsSettled variant shape later base kind) → IsSteady variant shape s later
+    steady rise more = record {
+      claims = rise;
       settled = more;
       rises = λ base kind x. omega (arith, row-above base kind (settled-row variant shape s base kind x));
       stands = λ base kind x e free w l less. above w (omega (arith, l, row_begins shape base kind (settled-row variant shape s base kind x)));
@@ -114,7 +115,7 @@ module _ (variant : Variant) (shape : Shape) (n : ℕ) (s : State) (h : IsSound 
         distinct = λ call e. subst AreDistinct (sym (none call e).0) tt;
         apart = λ call e r other w away o x y a b. absurd (subst (IsAmong x) (none call e).0 a);
       }),
-      steady more,
+      steady (λ kind. omega (arith, claims kind)) more,
       written variant shape s p word value (slice_set s.processes p q') no-row,
     )
       where
@@ -167,7 +168,7 @@ module _ (variant : Variant) (shape : Shape) (n : ℕ) (s : State) (h : IsSound 
           (within (claims_of kind) value (claims-low kind) q') (versions (claims_of kind) value (claims-low kind) q')
           (no-slot (claims_of kind) value (claims-low kind) q' (IsSettled variant shape after))
           (row-above (claims_of kind) value (claims-low kind) q'),
-      steady (claims_of kind) value (claims-low kind) q' more,
+      steady (claims_of kind) value (claims-low kind) q' cl.rise more,
       written variant shape s p (claims_of kind) value (slice_set s.processes p q') (no-row (claims_of kind) value (claims-low kind) q'),
     )
       where

@@ -31,10 +31,11 @@ use Rattle.art_versions.proofs.MoveLemmas.{some-words, true-false, differ, diffe
 use Rattle.art_versions.proofs.StepLemmas.{one-step}
 
 pub steady-refl : (variant : Variant) (shape : Shape) (s : State) → IsSteady variant shape s s
-steady-refl variant shape s = record { settled = λ b k x. x; rises = λ b k x. omega arith; stands = λ b k x e free w low high. refl }
+steady-refl variant shape s = record { claims = λ kind. omega arith; settled = λ b k x. x; rises = λ b k x. omega arith; stands = λ b k x e free w low high. refl }
 
 pub steady-trans : (variant : Variant) (shape : Shape) (a b c : State) → IsSteady variant shape a b → IsSteady variant shape b c → IsSteady variant shape a c
 steady-trans variant shape a b c h k = record {
+  claims = λ kind. omega (arith, h.claims kind, k.claims kind);
   settled = λ base kind x. k.settled base kind (h.settled base kind x);
   rises = λ base kind x. omega (arith, h.rises base kind x, k.rises base kind (h.settled base kind x));
   stands = λ base kind x e free w low high.
@@ -90,21 +91,21 @@ module _ (variant : Variant) (shape : Shape) (some : 1 ≤ shape.rows256) where
   abbrev words : List ℕ
   words = opening shape
 
-  abbrev root : ℕ
+  abbrev pub root : ℕ
   root = root_base shape
 
-  root-row : kind_at shape root ≡ Some Full
+  pub root-row : kind_at shape root ≡ Some Full
   root-row = kind_at-base_of shape Full 0 some
 
   root-low : 5 ≤ root
   root-low = row_begins shape root Full root-row
 
-  zeros : (x : ℕ) → x ≢ 4 → x ≢ root + 1 → slice_index words x ≡ 0
+  pub zeros : (x : ℕ) → x ≢ 4 → x ≢ root + 1 → slice_index words x ≡ 0
   zeros x four info =
       index-other (slice_set (replicate (table_words shape) 0) 4 1) (root + 1) 3 x info
       ∙ (index-other (replicate (table_words shape) 0) 4 1 x four ∙ all-zeros (table_words shape) x)
 
-  one : slice_index words 4 ≡ 1
+  pub one : slice_index words 4 ≡ 1
   one = index-other (slice_set (replicate (table_words shape) 0) 4 1) (root + 1) 3 4 (differ 4 (root + 1) (omega (arith, root-low)))
       ∙ index-same (replicate (table_words shape) 0) 4 1 (long-enough (table_words shape) (omega arith))
 

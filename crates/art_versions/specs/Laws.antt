@@ -10,6 +10,7 @@ use Rattle.art_core.specs.Invariant.{LocksAreHeld}
 use Rattle.art_versions.specs.Versions.{IsSound}
 use Rattle.art_versions.specs.Steady.{IsSteady, ObsoleteStand}
 use Rattle.art_versions.specs.Writers.{WritesOwn}
+use Rattle.art_versions.specs.Fresh.{FreshAreZero}
 
 -- a tree that leaves out no lock and no check
 abbrev pub IsFull : Variant → Type 0
@@ -39,3 +40,8 @@ LocksAreHeldInRuns = (plan : Plan) (start : Contents) (words schedule : List ℕ
 abbrev pub ObsoleteRowsRest : Type 0
 ObsoleteRowsRest = (plan : Plan) (start : Contents) (words earlier later : List ℕ) (s t : State) → IsRun plan start words (earlier ++ later) t
     → plan.variant ≡ Optimistic → Gives plan (opened_on plan words) earlier s → ObsoleteStand Optimistic plan.shape s t
+
+-- In every state that a schedule gives, rows that no claim has reached have only zeros.
+abbrev pub FreshRowsAreZero : Type 0
+FreshRowsAreZero = (plan : Plan) (start : Contents) (words schedule : List ℕ) (s : State) → IsRun plan start words schedule s → IsFull plan.variant
+    → FreshAreZero plan.shape s

@@ -4,4 +4,5 @@ pub mod Effects
 pub mod Versions
 pub mod Steady
 pub mod Writers
+pub mod Fresh
 pub mod Laws

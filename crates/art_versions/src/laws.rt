@@ -1,5 +1,5 @@
 // Laws of versions: each function only carries its clause.
-ghost use Rattle.art_versions.specs.Laws.{HoldersWrite, LocksAreHeldInRuns, ObsoleteRowsRest, RowsAreSound, RowsStandStill};
+ghost use Rattle.art_versions.specs.Laws.{FreshRowsAreZero, HoldersWrite, LocksAreHeldInRuns, ObsoleteRowsRest, RowsAreSound, RowsStandStill};
 
 /// In every state of a full tree, the coupled one or the optimistic one, whatever calls run: each row that a process holds is
 /// locked from the version that the process has kept, each row that is locked is held by a process, no two processes hold
@@ -30,4 +30,9 @@ pub fn locks_are_held()
 /// In the optimistic tree a row that was released as obsolete has the same words in every later state.
 pub fn obsolete_rows_rest()
     ensures { ObsoleteRowsRest }
+{}
+
+/// In every state of both full trees a row whose number no claim has reached has only zeros.
+pub fn fresh_rows_are_zero()
+    ensures { FreshRowsAreZero }
 {}

@@ -5,5 +5,6 @@
 mod laws;
 
 pub use laws::{
-    locks_are_held, obsolete_rows_rest, only_holders_write, rows_are_sound, rows_stand_still,
+    fresh_rows_are_zero, locks_are_held, obsolete_rows_rest, only_holders_write, rows_are_sound,
+    rows_stand_still,
 };
