@@ -24,7 +24,7 @@ pub(crate) fn do_script(
     ensures done { IfOk result (λ p. ShowsDone (least_process (shows pass)) limit script.now (shows p)) }
 {
     for call in script {
-        arena.begin(alloc, &mut pass, *call)?;
+        arena.begin(&mut pass, *call)?;
         match arena.advance(alloc, &mut pass, limit)? {
             Progress::Done(_) => {}
             Progress::Going => return Ok(pass),

@@ -22,13 +22,13 @@ fn a_get_alone_is_answered_by_its_last_step(rt: HostRuntime) -> Result<(), Fail>
     let alloc = rt.alloc();
     for (variant, few, enough) in [(Variant::Optimistic, 3, 4), (Variant::Coupled, 4, 5)] {
         let (arena, mut pass) = open_one(alloc, variant, 1)?;
-        begin(alloc, &arena, &mut pass, &Call::Get(5))?;
+        begin(&arena, &mut pass, &Call::Get(5))?;
         assert!(rt; advance(alloc, &arena, &mut pass, few)?.is_none());
         let history = closed_alone(alloc, arena, pass)?;
         assert_eq!(rt; write_history(alloc, &history)?.as_str(), PENDING);
 
         let (arena, mut pass) = open_one(alloc, variant, 1)?;
-        begin(alloc, &arena, &mut pass, &Call::Get(5))?;
+        begin(&arena, &mut pass, &Call::Get(5))?;
         assert!(rt;
             matches!(
                 advance(alloc, &arena, &mut pass, enough)?,
@@ -57,7 +57,7 @@ fn still_out(alloc: Global, arena: Arena, pass: Pass) -> Result<(Arena, Pass), F
 fn without_a_pass_all_come_back_and_go_on(rt: HostRuntime) -> Result<(), Fail> {
     let alloc = rt.alloc();
     let (arena, mut first, second) = open_two(alloc, Variant::Optimistic, 1)?;
-    begin(alloc, &arena, &mut first, &Call::Get(5))?;
+    begin(&arena, &mut first, &Call::Get(5))?;
     let (arena, second) = still_out(alloc, arena, second)?;
     let (arena, mut first) = still_out(alloc, arena, first)?;
     assert!(rt; matches!(advance(alloc, &arena, &mut first, 900)?, Some(Reply::None)));
@@ -75,11 +75,11 @@ fn a_pass_tells_of_its_least_process(rt: HostRuntime) -> Result<(), Fail> {
         (second.process(), second.left(), second.idle()),
         (1, 2, true)
     );
-    begin(alloc, &arena, &mut second, &Call::Get(5))?;
+    begin(&arena, &mut second, &Call::Get(5))?;
     assert_eq!(rt; (second.left(), second.idle()), (1, false));
     assert!(rt; matches!(advance(alloc, &arena, &mut second, 900)?, Some(Reply::None)));
     assert_eq!(rt; (second.left(), second.idle()), (1, true));
-    begin(alloc, &arena, &mut first, &Call::Get(5))?;
+    begin(&arena, &mut first, &Call::Get(5))?;
     arena.join(&mut second, first);
     assert_eq!(rt;
         (second.process(), second.left(), second.idle()),

@@ -24,7 +24,7 @@ fn a_scan_that_is_not_validated_misses_the_first_of_two_inserts(
         ),
     ] {
         let (arena, mut first, mut second) = open_two(alloc, variant, 2)?;
-        begin(alloc, &arena, &mut first, &Call::Scan(16777216, 33554432))?;
+        begin(&arena, &mut first, &Call::Scan(16777216, 33554432))?;
         assert!(rt; advance(alloc, &arena, &mut first, 2)?.is_none());
         let low = call(alloc, &arena, &mut second, &Call::Insert(16777216, 1))?;
         assert!(rt; matches!(low, Reply::None));
@@ -62,7 +62,7 @@ fn a_lock_that_checks_nothing_loses_an_insert(rt: HostRuntime) -> Result<(), Fai
         ),
     ] {
         let (arena, mut first, mut second) = open_two(alloc, variant, 2)?;
-        begin(alloc, &arena, &mut first, &Call::Insert(5, 50))?;
+        begin(&arena, &mut first, &Call::Insert(5, 50))?;
         assert!(rt; advance(alloc, &arena, &mut first, 3)?.is_none());
         let other = call(alloc, &arena, &mut second, &Call::Insert(9, 90))?;
         assert!(rt; matches!(other, Reply::None));

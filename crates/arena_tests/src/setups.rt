@@ -48,7 +48,7 @@ pub fn open_two(
 }
 
 /// The pass's process begins a call.
-pub fn begin(alloc: Global, arena: &Arena, pass: &mut Pass, call: &Call) -> Result<(), Fail>
+pub fn begin(arena: &Arena, pass: &mut Pass, call: &Call) -> Result<(), Fail>
     requires { IsPassOf arena.now pass.old }
     ensures { IsPassOf arena.now pass.new }
 {
@@ -61,7 +61,7 @@ pub fn begin(alloc: Global, arena: &Arena, pass: &mut Pass, call: &Call) -> Resu
     if pass.left() == 0 {
         return Err(Fail::new("no call is left"));
     }
-    Ok(arena.begin(alloc, pass, call)?)
+    Ok(arena.begin(pass, call)?)
 }
 
 /// So many steps of the open call: its reply, or none where it is still open.
@@ -99,7 +99,7 @@ pub fn call(alloc: Global, arena: &Arena, pass: &mut Pass, call: &Call) -> Resul
     requires { IsPassOf arena.now pass.old }
     ensures { IsPassOf arena.now pass.new }
 {
-    begin(alloc, arena, pass, call)?;
+    begin(arena, pass, call)?;
     end(alloc, arena, pass)
 }
 

@@ -16,7 +16,7 @@ fn make_turns(alloc: Global, arena: &Arena, pass: &mut Pass, turns: u32) -> Resu
     if turns == 0 {
         return Ok(());
     }
-    begin(alloc, arena, pass, &Call::Get(5))?;
+    begin(arena, pass, &Call::Get(5))?;
     if turns == 1 {
         return Ok(());
     }
@@ -35,7 +35,7 @@ fn insert_beside_stopped_get(
     call(alloc, &arena, &mut first, &Call::Insert(5, 50))?;
     call(alloc, &arena, &mut first, &Call::Insert(9, 90))?;
     make_turns(alloc, &arena, &mut first, turns)?;
-    begin(alloc, &arena, &mut second, &Call::Insert(3, 30))?;
+    begin(&arena, &mut second, &Call::Insert(3, 30))?;
     let answered = advance(alloc, &arena, &mut second, 900)?.is_some();
     let history = closed(alloc, arena, first, second)?;
     Ok((answered, judged(alloc, &history)?))

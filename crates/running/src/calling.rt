@@ -15,7 +15,7 @@ use std::alloc::Global;
 impl Arena {
     /// The pass's least process begins a call: the stamp of its invocation, which is one step. Room for the event is taken
     /// before; `Err` is want of it, and then nothing has changed.
-    pub fn begin(&self, _alloc: Global, pass: &mut Pass, call: TreeCall) -> Result<(), Memory>
+    pub fn begin(&self, pass: &mut Pass, call: TreeCall) -> Result<(), Memory>
         requires own { IsPassOf self.now pass.old }
         requires idle { IsTrue (is_idle (shows pass.old)) }
         requires left { 0 < calls_left (shows pass.old) }
