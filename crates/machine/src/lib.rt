@@ -16,5 +16,3 @@ mod turns;
 
 pub use fault::{MachineFault, RunFault};
 pub use machines::Machine;
-pub use runner::Runner;
-pub use starting::START_TURNS;
