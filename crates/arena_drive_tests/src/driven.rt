@@ -19,8 +19,8 @@ static PENDING: &str = r#"{"events":[{"invoke":["get",5],"process":0}],"version"
 static ANSWERED: &str =
     r#"{"events":[{"invoke":["get",5],"process":0},{"answer":null,"process":0}],"version":1}"#;
 
-// On an empty tree an optimistic get reads the root's version, the child word and the version again, and then stamps its
-// response; a coupled one locks the root, reads the child word, unlocks the root, and stamps.
+/// On an empty tree an optimistic get reads the root's version, the child word and the version again, and then stamps its
+/// response; a coupled one locks the root, reads the child word, unlocks the root, and stamps.
 #[test]
 fn a_call_stops_at_the_limit(rt: HostRuntime) -> Result<(), Fail> {
     let alloc = rt.alloc();
@@ -37,7 +37,7 @@ fn a_call_stops_at_the_limit(rt: HostRuntime) -> Result<(), Fail> {
     Ok(())
 }
 
-// The second call is not begun once the first has stopped, and a process with an empty script has no events.
+/// The second call is not begun once the first has stopped, and a process with an empty script has no events.
 #[test]
 fn a_process_that_stops_begins_no_other_call(rt: HostRuntime) -> Result<(), Fail> {
     let alloc = rt.alloc();
@@ -97,7 +97,7 @@ static MIX: Mix = Mix {
     hi: 20,
 };
 
-// The full trees' histories are linearizable, whether a call stopped at the limit or not.
+/// The full trees' histories are linearizable, whether a call stopped at the limit or not.
 #[test]
 fn four_processes_on_a_full_tree_are_judged_yes(rt: HostRuntime) -> Result<(), Fail> {
     let alloc = rt.alloc();
@@ -115,7 +115,8 @@ fn four_processes_on_a_full_tree_are_judged_yes(rt: HostRuntime) -> Result<(), F
     Ok(())
 }
 
-// What the other trees do may be wrong, and a call on them may never end; it stops at the limit.
+/// What the other trees do may be wrong, and a call on them may never end; it stops at the limit. How many calls there are
+/// follows from the contract: what the test shows is only that the drive comes to its end.
 #[test]
 fn four_processes_on_a_tree_that_skips_a_rule_come_to_an_end(rt: HostRuntime) -> Result<(), Fail> {
     let alloc = rt.alloc();

@@ -102,6 +102,7 @@ fn process_of(item: Item) -> usize
     }
 }
 
+/// Whether the next step is at this point.
 fn is_at(next: Option<Point>, point: Point) -> bool
     ensures { IsTrue result ↔ (next ≡ Some point) }
 {

@@ -103,6 +103,7 @@ fn start_script(alloc: Global, start: &[(u64, u64)]) -> Result<Vec<TreeCall>, Me
     Ok(script)
 }
 
+/// The call that inserts a pair.
 fn insert(key: u64, value: u64) -> TreeCall
     requires { IsTrue (is_tree_call (Insert key value)) }
     ensures { result ≡ Insert key value }
@@ -147,6 +148,7 @@ fn has_refusal(log: &[(u64, Event)]) -> bool
     false
 }
 
+/// Whether an event answers that a call is refused.
 fn is_refusal(event: &Event) -> bool
     ensures { IsTrue result ↔ (answered event.now ≡ Some replies.Refused) }
 {
@@ -156,6 +158,7 @@ fn is_refusal(event: &Event) -> bool
     }
 }
 
+/// Whether a reply is that a call is refused.
 fn is_refused(reply: &Reply) -> bool
     ensures { IsTrue result ↔ (reply.now ≡ replies.Refused) }
 {
