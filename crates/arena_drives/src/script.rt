@@ -1,5 +1,5 @@
 // One process does its script.
-ghost use Rattle.std.specs.Prelude.{◌≡◌, ◌≤◌, IfOk, length};
+ghost use Rattle.std.specs.Prelude.{◌≤◌, IfOk, length};
 ghost use Rattle.running.specs.Passes.{shows, opened_for, IsPassOf};
 ghost use Rattle.running.specs.Steps.{least_process};
 ghost use Rattle.arena_drives.specs.Passes.{IsReady, ShowsDone};

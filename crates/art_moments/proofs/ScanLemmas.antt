@@ -27,13 +27,13 @@ use Rattle.art_stages.specs.declared.stage.ScanStep.TheVariants.{Lock, Exchange,
 use Rattle.art_stages.specs.declared.stage.ScanStep.TheVariants.{Over}
 use Rattle.art_stages.specs.Stages.{held}
 use Rattle.art_stages.specs.Automaton.{keys_one}
-use Rattle.art_stages.specs.Scans.{Walk, ScanAt, at, no_walk, walked, frame_of, keys16, release_rows, close_at, resume_at, with_frame}
-use Rattle.art_stages.specs.Scans.{child_after, scan_start, scan_after, step_after, scan_turn}
+use Rattle.art_stages.specs.Scans.{Walk, ScanAt, at, walked, frame_of, keys16, close_at, with_frame}
+use Rattle.art_stages.specs.Scans.{child_after, scan_start, scan_after, scan_turn}
 use Rattle.art_stages.specs.Calls.{CallAt, OnScan, after_all, call_begun, call_behind}
 use Rattle.art_versions.specs.Holding.{OfRows, Each, FitsFrame}
 use Rattle.art_versions.proofs.KeyLemmas.{slot-behind}
 use Rattle.art_moments.proofs.TimeLemmas.{take-more, take-whole, index-more}
-use Rattle.art_moments.proofs.AttemptLemmas.{stage, fold, fold-more, Loads, IsSettledWord, loads-more, loads-cases, entered-more, covers-more, Walking, InRows}
+use Rattle.art_moments.proofs.AttemptLemmas.{stage, fold, fold-more, IsSettledWord, loads-more, loads-cases, entered-more, covers-more, Walking, InRows}
 use Rattle.art_moments.proofs.StandsLemmas.{Releasing, Stands, StandsAt, Next, waits-root, waits-below, visits, checks, reads-on, resumes, released}
 
 load-answers : {a : ℕ} {m : Option Point} {r : Reply} → Answers r ≡ Asks (Load a) m → ⊥

@@ -21,8 +21,6 @@ use Rattle.art_stages.specs.Scans.{words_at, place_slot, child_from, frame_at, w
 use Rattle.art_versions.specs.Holding.{OfRows, Each, IsSlot, FitsFrame}
 use Rattle.art_versions.proofs.ByteLemmas.{index-small}
 use Rattle.art_versions.proofs.WordFacts.{place-fits, entry-fits}
-use Rattle.art_moments.proofs.AttemptLemmas.{stage, fold, fold-more, Loads, IsSettledWord, loads-more, loads-cases, Entered, entered-more, Covers, Walking, InRows}
-use Rattle.art_moments.proofs.AttemptLemmas.{covers-more, walks-on, no-check}
 
 -- Where a walk resumes: whatever is so of the stages that can come is so.
 module _ (s : Shape) (lo hi : ℕ) (rows : List Held) (P : OfRows) (G : ScanAt → Type 0)

@@ -29,6 +29,7 @@ use Rattle.art_versions.proofs.WithLemmas.{with-here, with-more, with-split, dis
 use Rattle.art_versions.proofs.ChangeLemmas.{written, good-more, index-same, index-other, set-same, held-still, sound-now}
 use Rattle.art_versions.proofs.MoveLemmas.{settled-row, some-words, claims-low, not-locked, true-false, differ}
 use Rattle.art_versions.proofs.MoveLemmas as m
+use Rattle.art_versions.proofs.MoveLemmas.{settled-row, some-words, claims-low, not-locked, differ}
 
 unlocked : (value : ℕ) → (value / 2) % 2 ≡ 0 → is_locked value ≡ false
 unlocked value e = ne_eqb ((value / 2) % 2) 1 (λ f. omega (arith, e, f))

@@ -29,6 +29,7 @@ use Rattle.art_versions.proofs.ChangeLemmas.{index-same, index-other, held-still
 use Rattle.art_versions.proofs.MoveLemmas.{settled-row, claims-low, no-items, differ-from}
 use Rattle.art_words.proofs.KeyLemmas.{less}
 use Rattle.art_versions.proofs.MoveLemmas as m
+use Rattle.art_versions.proofs.MoveLemmas.{settled-row, claims-low, no-items, differ-from}
 
 first-item : {x y : Named} → ◌≡◌ {A = List Named} (x ∷ []) (y ∷ []) → x ≡ y
 first-item e = cc

@@ -5,7 +5,7 @@ use art_moments::{answered_gets_have_moments, answered_scans_have_moments};
 use std::alloc::Global;
 
 impl Machine {
-    ghost use Rattle.std.specs.Prelude.{◌≡◌, ◌+◌, ℕ, slice_get, Some, None, OnOk, OnErr, IfErr, IsSomeAnd};
+    ghost use Rattle.std.specs.Prelude.{◌≡◌, ◌+◌, OnOk, OnErr, IfErr, IsSomeAnd};
     ghost use Rattle.art_core.specs.Core.{Plan, State, step};
     ghost use Rattle.machine.specs.Machines.{Shows, start_of, turns_left};
     ghost use Rattle.machine.specs.Refusals.{IsRefusedIn};

@@ -4,11 +4,8 @@ ghost use Rattle.art_rows.specs.Table.{table_words};
 ghost use Rattle.machine.specs.Fitting.{AreFor};
 ghost use Rattle.machine.specs.UnderWay.{IsUnderWay};
 
-use crate::fault::MachineFault;
 use crate::runner::Runner;
 use art::{Shape, Variant};
-use events::Memory;
-use std::alloc::Global;
 
 /// The core under way: the words of the table, the pairs that were in it at the start, the processes, and the turns that are
 /// left.

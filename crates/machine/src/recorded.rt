@@ -9,7 +9,6 @@ use std::alloc::Global;
 
 impl Machine {
     ghost use Rattle.std.specs.Prelude.{◌≡◌, IfOk};
-    ghost use Rattle.events.specs.HistoryView.{HistoryView};
     ghost use Rattle.art_core.specs.Core.{Plan, State, history_of};
     ghost use Rattle.machine.specs.Machines.{Shows, start_of, IsReached};
     ghost use Rattle.machine.specs.ReadMoments.{GetsHaveMoments, ScansHaveMoments};

@@ -9,7 +9,7 @@ use art_moments::{answered_gets_have_moments, answered_scans_have_moments};
 use std::alloc::Global;
 
 impl Machine {
-    ghost use Rattle.std.specs.Prelude.{ℕ, slice_get, OnOk, IfErr};
+    ghost use Rattle.std.specs.Prelude.{slice_get, OnOk, IfErr};
     ghost use Rattle.art_core.specs.Core.{Plan, State};
     ghost use Rattle.art_core.specs.NamedTurns.{process_of_item, next_point, finished_count, WantsTurn};
     ghost use Rattle.machine.specs.Machines.{Shows, start_of, turns_left};

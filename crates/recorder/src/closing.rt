@@ -1,5 +1,5 @@
 // All passes come together, and their logs become a history.
-ghost use Rattle.std.specs.Prelude.{◌≡◌, ℕ, ◌<◌, ◌↔◌, length, map, flat_map, sum_by, All, Contains, IsTrue, OnOk, IfOk, IfErr};
+ghost use Rattle.std.specs.Prelude.{◌≡◌, ◌<◌, ◌↔◌, length, map, flat_map, All, Contains, IsTrue, OnOk, IfOk, IfErr};
 ghost use Rattle.events.specs.HistoryView.{with_no_start};
 ghost use Rattle.events.specs.Histories.{AreHistoryEvents};
 ghost use Rattle.tickets.specs.Numbers.{EachOnce};

@@ -4,7 +4,6 @@ ghost use Rattle.tickets.specs.Hands.{drawn_by, left_of};
 ghost use Rattle.recorder.specs.Records.{IsRecord};
 
 use events::Event;
-use std::alloc::Global;
 use tickets::Hand;
 
 /// The part of one process in a [`Recorder`](crate::Recorder): its number, the draws of its calls, and its events with

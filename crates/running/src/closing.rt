@@ -1,6 +1,5 @@
 //! An arena ends, and what its processes did becomes a history.
 ghost use Rattle.std.specs.Prelude.{◌≡◌, flat_map, IfOk, IfErr, OnOk};
-ghost use Rattle.events.specs.HistoryView.{with_no_start};
 ghost use Rattle.art_shared.specs.Ends.{HasOwnEvents};
 ghost use Rattle.running.specs.Passes.{shows, opened_for, IsPassOf};
 ghost use Rattle.running.specs.Closing.{HoldsAll, IsHistoryOf, IsHandedBack};

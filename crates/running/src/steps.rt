@@ -1,5 +1,5 @@
 // The steps of one process.
-ghost use Rattle.std.specs.Prelude.{◌≡◌, ◌<◌, ℕ, [], Some, true, is_some, not, IsTrue, IfOk, OnOk, OnErr, MatchOption, vec_len, vec_capacity};
+ghost use Rattle.std.specs.Prelude.{◌≡◌, ◌<◌, ℕ, Some, IsTrue, IfOk, OnOk, OnErr, MatchOption, vec_len, vec_capacity};
 ghost use Rattle.art.specs.Tasks.{IsReady};
 ghost use Rattle.art_rows.specs.Table.{IsWithinLimits};
 ghost use Rattle.art_shared.specs.Places.{shown, IsPlaceOf};
