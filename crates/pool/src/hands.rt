@@ -1,15 +1,15 @@
 // The workers' hands, with which they draw the numbers of segments.
-ghost use Rattle.std.specs.Prelude.{◌≡◌, ◌*◌, ◌≤◌, All, IfOk, vec_len};
+ghost use Rattle.std.specs.Prelude.{◌≡◌, ◌*◌, ◌^◌, ◌≤◌, All, IfOk, vec_len};
 ghost use Rattle.tickets.specs.Hands.{counter, counter_of, left_of};
 
 use events::Memory;
 use std::alloc::Global;
-use tickets::{Hand, MAX_QUOTA, Tickets};
+use tickets::{Hand, Tickets};
 
 /// Tickets, and a hand for each worker with so many draws.
 pub(crate) fn deal(alloc: Global, workers: u32, draws: u64) -> Result<(Tickets, Vec<Hand>), Memory>
     requires some { 1 ≤ workers }
-    requires few { workers * draws ≤ MAX_QUOTA }
+    requires few { workers * draws ≤ 2 ^ 61 }
     ensures many { IfOk result (λ t. vec_len t.1 ≡ workers) }
     ensures own { IfOk result (λ t. All (λ h. counter_of h ≡ counter t.0) t.1.items) }
     ensures equal { IfOk result (λ t. All (λ h. left_of h ≡ draws) t.1.items) }

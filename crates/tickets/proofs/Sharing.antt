@@ -1,5 +1,5 @@
 -- What each step does to holdings that are shared out.
-use Rattle.std.proofs.Common.{◌≡◌, ℕ, ◌+◌, ◌<◌, ◌≤◌, ◌≢◌, ◌==◌, cond, List, [], ◌∷◌, ◌++◌, length, set, refl, sym, ap, ◌∙◌, length-append, arith}
+use Rattle.std.proofs.Common.{◌≡◌, ℕ, ◌+◌, ◌^◌, ◌<◌, ◌≤◌, ◌≢◌, ◌==◌, cond, List, [], ◌∷◌, ◌++◌, length, set, refl, sym, ap, ◌∙◌, length-append, arith}
 use Rattle.std.specs.Prelude.{sum_by, All}
 use Rattle.std.proofs.lemmas.List.Sums.{sum_by_push, sum_by-append, count_by-le-length}
 use Rattle.std.proofs.lemmas.List.Elements.{All-set, All-weaker, All-push}
@@ -8,7 +8,6 @@ use mathlib.Core.Option.{some}
 use lib.ListN.{get_elem?}
 use Rattle.atomic_table.proofs.Lists.{set_else}
 use Rattle.tickets.specs.declared.rule.Holding.{Holding}
-use Rattle.tickets.specs.declared.TheConstants.{MAX_QUOTA}
 use Rattle.tickets.specs.Numbers.{times_in, EachOnce}
 use Rattle.tickets.specs.Holdings.{drawn_count, left_count, times_drawn, IsSharedOut, after_draw, noted, kept_part, given_part, both_parts, no_part}
 use Rattle.tickets.proofs.Sums.{All-read, sum_by-replaced, read-le-sum_by, sum_by-plus, sum_by-sole}
@@ -48,7 +47,7 @@ module _ (quota word : ℕ) (all : List Holding) (shared : IsSharedOut quota wor
     floor-le = All-read (λ k. k.floor ≤ word) all i h shared.floors at
 
     -- what one hand has is within the bound
-    pub share-small : drawn_count h + left_count h ≤ MAX_QUOTA
+    pub share-small : drawn_count h + left_count h ≤ 2 ^ 61
     share-small =
         let a = read-le-sum_by drawn_count all i h at in
         let b = read-le-sum_by left_count all i h at in

@@ -1,9 +1,8 @@
 -- What the hands of one counter hold, and the rule of its word.
 -- The word is how many numbers were drawn. Each number below it was drawn by one hand, once, and each draw of the quota that is left is with one hand.
-use Rattle.std.specs.Prelude.{◌≡◌, ℕ, ◌+◌, ◌-◌, ◌<◌, ◌≤◌, List, [], ◌∷◌, ◌++◌, length, slice_index, max, sum_by, All}
+use Rattle.std.specs.Prelude.{◌≡◌, ℕ, ◌+◌, ◌-◌, ◌^◌, ◌<◌, ◌≤◌, List, [], ◌∷◌, ◌++◌, length, slice_index, max, sum_by, All}
 use Rattle.atomic_table.specs.Table.{State, Me, Step}
 use Rattle.tickets.specs.declared.rule.Holding.{Holding}
-use Rattle.tickets.specs.declared.TheConstants.{MAX_QUOTA}
 use Rattle.tickets.specs.Numbers.{times_in}
 
 -- a holding by its fields
@@ -24,7 +23,7 @@ times_drawn x h = times_in h.drawn x
 
 -- the word counts the draws, and the holdings share the numbers below it and the rest of the quota
 pub record IsSharedOut (quota word : ℕ) (holdings : List Holding) : Type 0 where
-  pub small : quota ≤ MAX_QUOTA
+  pub small : quota ≤ 2 ^ 61
   pub drawn : sum_by drawn_count holdings ≡ word
   pub left : word + sum_by left_count holdings ≡ quota
   pub below : (x : ℕ) → x < word → sum_by (times_drawn x) holdings ≡ 1
@@ -57,7 +56,7 @@ SetsAside step hand n new = new ≡ (noted hand.0 step.first, hand.1)
 
 -- nothing changes, and what the hand holds is within the bound
 abbrev pub StaysWithin : Step (Unit {0}) → Place → ℕ → Place → Type 0
-StaysWithin step hand n new = (new ≡ hand) × (drawn_count hand.0 + left_count hand.0 ≤ MAX_QUOTA)
+StaysWithin step hand n new = (new ≡ hand) × (drawn_count hand.0 + left_count hand.0 ≤ 2 ^ 61)
 
 -- what a hand keeps at a split
 abbrev pub kept_part : Holding → Holding

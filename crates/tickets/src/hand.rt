@@ -1,6 +1,5 @@
 //! A share of the draws.
-ghost use Rattle.std.specs.Prelude.{◌≡◌, ◌+◌, ◌<◌, ◌≤◌, [], length, All};
-ghost use Rattle.tickets.specs.declared.TheConstants.{MAX_QUOTA};
+ghost use Rattle.std.specs.Prelude.{◌≡◌, ◌+◌, ◌^◌, ◌<◌, ◌≤◌, [], length, All};
 
 use crate::rule::Holding;
 use atomic_table::Seat;
@@ -15,7 +14,7 @@ pub struct Hand {
     ghost slots: { seat.me.1 ≡ [] },
     ghost left_is: { left ≡ seat.me.0.left },
     ghost drawn_is: { drawn ≡ length seat.me.0.drawn },
-    ghost small: { drawn + left ≤ MAX_QUOTA },
+    ghost small: { drawn + left ≤ 2 ^ 61 },
     ghost floored: { All (λ x. x < seat.me.0.floor) seat.me.0.drawn },
 }
 

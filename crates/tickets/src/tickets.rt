@@ -1,7 +1,6 @@
 //! The shared counter, and what is done with its hands.
-ghost use Rattle.std.specs.Prelude.{◌≡◌, ◌+◌, ◌-◌, ◌<◌, ◌≤◌, ◌↔◌, [], ◌∷◌, ◌++◌, max, All, IfOk, IfErr, IsOk};
+ghost use Rattle.std.specs.Prelude.{◌≡◌, ◌+◌, ◌-◌, ◌^◌, ◌<◌, ◌≤◌, ◌↔◌, [], ◌∷◌, ◌++◌, max, All, IfOk, IfErr, IsOk};
 
-use crate::MAX_QUOTA;
 use crate::hand::Hand;
 use crate::rule::{Counting, Draw, Holding, Look, Part, SetAside};
 use atomic_table::Table;
@@ -24,7 +23,7 @@ impl Tickets {
     /// Tickets from which `quota` numbers can be drawn, and a hand that may draw them all. Of all calls this alone
     /// takes memory, and it fails only for want of it.
     pub fn open(alloc: Global, quota: u64) -> Result<(Tickets, Hand), AllocError>
-        requires { quota ≤ MAX_QUOTA }
+        requires { quota ≤ 2 ^ 61 }
         ensures quota { IfOk result (λ t. quota_of t.0 ≡ quota) }
         ensures own { IfOk result (λ t. counter_of t.1 ≡ counter t.0) }
         ensures hand { IfOk result (λ t. Holds t.1 [] quota 0) }
