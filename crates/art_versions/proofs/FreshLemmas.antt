@@ -15,7 +15,7 @@ use Rattle.art_stages.specs.Stages.{setting}
 use Rattle.art_core.specs.Core.{Plan, State, opened, opened_on, step}
 use Rattle.art_core.specs.Runs.{run_on}
 use Rattle.art_core.specs.Starts.{StartsOn, start_plan}
-use Rattle.art_core.specs.Claims.{IsRun}
+use Rattle.art_core.specs.Plans.{IsRun}
 use Rattle.art_core.proofs.HistoryLemmas.{nowhere}
 use Rattle.art_core.proofs.StartLemmas.{run-steps}
 use Rattle.art_versions.specs.Versions.{IsClaimed, IsHeld, IsSettled, IsSound, stage_of}

@@ -27,8 +27,8 @@ use Rattle.art_core.specs.declared.process.Process.{Process}
 use Rattle.art_core.specs.Accesses.{told}
 use Rattle.art_core.specs.Core.{Plan, State, Move, Invokes, Makes, Responds, after_move, word_of_move, move_of, invocation, next_call, move_from, opened_on, step}
 use Rattle.art_core.specs.Runs.{run_on}
-use Rattle.art_core.specs.Invariant.{HasLocked, Holds, LocksAreHeld}
-use Rattle.art_core.specs.Claims.{IsRun}
+use Rattle.art_versions.specs.Locks.{HasLocked, Holds, LocksAreHeld}
+use Rattle.art_core.specs.Plans.{IsRun}
 use Rattle.art_core.proofs.HistoryLemmas.{changed-at, is-moved, nowhere}
 use Rattle.art_core.proofs.StartLemmas.{run-steps}
 use Rattle.art_versions.specs.Holding.{OfRows, holds}

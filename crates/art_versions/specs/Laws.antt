@@ -6,7 +6,7 @@ use Rattle.art_steps.specs.declared.variant.Variant.TheVariants.{Coupled, Optimi
 use Rattle.art_core.specs.Core.{Plan, State, opened_on}
 use Rattle.art_core.specs.Runs.{Gives}
 use Rattle.art_core.specs.Plans.{IsRun}
-use Rattle.art_core.specs.Invariant.{LocksAreHeld}
+use Rattle.art_versions.specs.Locks.{LocksAreHeld}
 use Rattle.art_versions.specs.Versions.{IsSound}
 use Rattle.art_versions.specs.Steady.{IsSteady, ObsoleteStand}
 use Rattle.art_versions.specs.Writers.{WritesOwn}
