@@ -16,7 +16,7 @@ use Rattle.art_versions.specs.Fresh.{FreshAreZero}
 abbrev pub IsFull : Variant → Type 0
 IsFull variant = (variant ≡ Coupled) ⊎ (variant ≡ Optimistic)
 
--- In every state that a schedule gives, rows and versions are sound, with a number of steps that no version can outgrow.
+-- In every state that a schedule gives, rows and versions are sound, after so few steps that no version outgrows its word.
 abbrev pub RowsAreSound : Type 0
 RowsAreSound = (plan : Plan) (start : Contents) (words schedule : List ℕ) (s : State) → IsRun plan start words schedule s → IsFull plan.variant
     → (n : ℕ) × (n < 2 ^ 62) × IsSound plan.variant plan.shape n s
