@@ -324,10 +324,13 @@ def drive(rounds=200):
 
 
 def main():
-    # Builds the program where that is still to do.
-    subprocess.run([os.path.join(TOP, "bench"), "judge"], input=history([]), stdout=subprocess.DEVNULL, check=True)
     parts = {"check": check, "judge": judge, "search": search, "segments": segments, "workers": workers,
              "generate": generate, "replay": replay, "record": record, "drive": drive}
+    unknown = [part for part in sys.argv[1:] if part not in parts]
+    if unknown:
+        sys.exit(f"benchmarks/run.py: {unknown[0]} is none of {', '.join(parts)}")
+    # Builds the program where that is still to do.
+    subprocess.run([os.path.join(TOP, "bench"), "judge"], input=history([]), stdout=subprocess.DEVNULL, check=True)
     for part in sys.argv[1:] or parts:
         parts[part]()
 

@@ -24,6 +24,7 @@ LONGEST_TEXT = 16_777_216
 MOST_CALLS = 4096
 LITTLE_STACK = 256 * 1024
 LITTLE_MEMORY = 64 * 1024 * 1024
+WORKER_STACK = 8 * 1024 * 1024
 
 # Words that draw a plan.
 DRAWN = (
@@ -86,6 +87,8 @@ def with_little_stack():
 
 def with_little_memory():
     resource.setrlimit(resource.RLIMIT_AS, (LITTLE_MEMORY, LITTLE_MEMORY))
+    # Each worker's stack is of this size, so that few of them fit and the search has room left.
+    resource.setrlimit(resource.RLIMIT_STACK, (WORKER_STACK, WORKER_STACK))
 
 
 def wide_text(path):
