@@ -1,1 +1,2 @@
 mod GoingLemmas
+pub mod DoingLemmas

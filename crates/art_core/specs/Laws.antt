@@ -2,7 +2,7 @@
 use Rattle.std.specs.Prelude.{◌≡◌, ℕ, ◌+◌, ◌*◌, ◌<◌, ◌≤◌, List, [], ◌∷◌, ◌++◌, length, map, slice_get, slice_index, All, Option, Some, None}
 use Rattle.std.specs.List.{AllZip}
 use Rattle.events.specs.declared.event.Call.{Call}
-use Rattle.events.specs.declared.TheConstants.{MAX_CALLS}
+use Rattle.events.specs.Limits.{call_limit}
 use Rattle.events.specs.Histories.{AreHistoryEvents}
 use Rattle.map_object.specs.MapObject.{Contents}
 use Rattle.logs.specs.Logs.{Stamped}
@@ -53,7 +53,7 @@ MovesAreReached = (shape : Shape) (variant : Variant) (s : State) (schedule : Li
 -- The clock is above all stamps, and counts few of them; what was logged is a history.
 pub record IsClocked (s : State) : Type 0 where
   pub stamps : All (λ q. All (λ (e : Stamped). e.0 < slice_index s.words clock) q.log) s.processes
-  pub few : slice_index s.words clock ≤ 2 * MAX_CALLS
+  pub few : slice_index s.words clock ≤ 2 * call_limit
   pub history : AreHistoryEvents (history_of s)
 
 -- So it is in each state that a schedule of a plan within the limits gives, however many steps were made.

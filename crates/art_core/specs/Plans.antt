@@ -2,7 +2,7 @@
 use Rattle.std.specs.Prelude.{◌≡◌, ℕ, ◌≤◌, IsTrue, List, [], ◌∷◌, length, map, sum, All}
 use Rattle.events.specs.declared.event.Event.{Event}
 use Rattle.events.specs.declared.event.Event.TheVariants.{Invoke, Answer}
-use Rattle.events.specs.declared.TheConstants.{PROCESSES, MAX_CALLS}
+use Rattle.events.specs.Limits.{process_limit, call_limit}
 use Rattle.map_object.specs.MapObject.{Contents}
 use Rattle.art_rows.specs.Table.{IsWithinLimits}
 use Rattle.art_steps.specs.TreeCalls.{is_tree_call}
@@ -14,8 +14,8 @@ use Rattle.art_core.specs.Starts.{StartsOn, IsStartOf}
 pub record IsPlan (plan : Plan) : Type 0 where
   pub shape : IsWithinLimits plan.shape
   pub some_script : 1 ≤ length plan.scripts
-  pub few_scripts : length plan.scripts ≤ PROCESSES
-  pub few_calls : sum (map (λ script. length script) plan.scripts) ≤ MAX_CALLS
+  pub few_scripts : length plan.scripts ≤ process_limit
+  pub few_calls : sum (map (λ script. length script) plan.scripts) ≤ call_limit
   pub calls : All (λ script. All (λ call. IsTrue (is_tree_call call)) script) plan.scripts
 
 -- A state that a schedule gives, of a plan within the limits, after few steps. It starts with these pairs, on these words.

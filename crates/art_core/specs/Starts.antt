@@ -3,7 +3,7 @@ use Rattle.std.specs.Prelude.{◌≡◌, ◌≢◌, ℕ, ◌+◌, ◌≤◌, IsT
 use Rattle.events.specs.declared.event.Call.{Call}
 use Rattle.events.specs.declared.event.Call.TheVariants.{Insert}
 use Rattle.events.specs.declared.event.Reply.TheVariants as replies
-use Rattle.events.specs.declared.TheConstants.{MAX_CALLS}
+use Rattle.events.specs.Limits.{call_limit}
 use Rattle.map_object.specs.MapObject.{Contents, IsRising}
 use Rattle.art_rows.specs.declared.table.Shape.{Shape}
 use Rattle.art_rows.specs.Table.{clock}
@@ -48,4 +48,4 @@ pub record IsStartRefused (shape : Shape) (variant : Variant) (start : Contents)
 pub record IsStartOf (plan : Plan) (start : Contents) : Type 0 where
   pub rising : IsRising start
   pub calls : All (λ call. IsTrue (is_tree_call call)) (inserts start)
-  pub few : length start + sum (map (λ script. length script) plan.scripts) ≤ MAX_CALLS
+  pub few : length start + sum (map (λ script. length script) plan.scripts) ≤ call_limit

@@ -4,7 +4,7 @@ use Rattle.std.proofs.Common.{subst, arith}
 use Rattle.std.proofs.Math.Nat.{mod-lt}
 use Rattle.events.specs.declared.event.Call.{Call}
 use Rattle.events.specs.declared.event.Call.TheVariants.{Get, Insert, Remove, Scan, Replace}
-use Rattle.events.specs.declared.TheConstants.{MAX_CALLS}
+use Rattle.events.specs.Limits.{call_limit}
 use Rattle.map_object.specs.MapObject.{Contents, value_at, value_reply, reply_to, after, after_reply}
 use Rattle.art_rows.specs.declared.table.Shape.{Shape}
 use Rattle.art_rows.specs.Table.{clock, IsWithinLimits}
@@ -64,7 +64,7 @@ module _ (same : SameTreesAreOne) (s : Shape) where
   }
 
   module _ (within : IsWithinLimits s) (seeks : SeeksAreTheMaps) (scans : ScansAreTheMaps) (inserts : InsertsAreTheMaps) where
-    each : (variant : Variant) (n : ℕ) (words : List ℕ) (m : Contents) (call : Call) → IsTrue (is_tree_call call) → n < MAX_CALLS → IsMap s n words m
+    each : (variant : Variant) (n : ℕ) (words : List ℕ) (m : Contents) (call : Call) → IsTrue (is_tree_call call) → n < call_limit → IsMap s n words m
         → MayRunAlone s variant (IsMap s) n words m call
     each variant n words m (Get key) tree few h =
         done variant n words m (Get key) h (seeks s variant (n + 1) words m (Get key) tree refl h.rest h.means)

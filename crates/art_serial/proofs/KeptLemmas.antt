@@ -8,7 +8,7 @@ use Rattle.events.specs.declared.event.Call.{Call}
 use Rattle.events.specs.declared.event.Reply.{Reply}
 use Rattle.events.specs.declared.operation.Operation.{Operation}
 use Rattle.events.specs.declared.operation.Response.{Response}
-use Rattle.events.specs.declared.TheConstants.{MAX_CALLS}
+use Rattle.events.specs.Limits.{call_limit}
 use Rattle.events.specs.Operations.{operations}
 use Rattle.map_object.specs.MapObject.{Contents, after_reply, IsLegalReply}
 use Rattle.orders.specs.Orders.{IsLegal, IsLegalCall, after_call, after_calls}
@@ -40,7 +40,7 @@ pub record MayRunAlone (shape : Shape) (variant : Variant) (claim : Said) (n : �
 pub record IsKept (shape : Shape) (variant : Variant) (claim : Said) : Type 0 where
   pub stamps : (n : ℕ) (words : List ℕ) (m : Contents) → claim n words m → claim n (ticked words) m
   pub resets : (n : ℕ) (words : List ℕ) (m : Contents) → claim n words m → claim n (slice_set words clock 0) m
-  pub calls : (n : ℕ) (words : List ℕ) (m : Contents) (call : Call) → IsTrue (is_tree_call call) → n < MAX_CALLS → claim n words m
+  pub calls : (n : ℕ) (words : List ℕ) (m : Contents) (call : Call) → IsTrue (is_tree_call call) → n < call_limit → claim n words m
       → MayRunAlone shape variant claim n words m call
 
 -- Lists of calls with their replies.
@@ -111,7 +111,7 @@ module _ (shape : Shape) (variant : Variant) (claim : Said) (kept : IsKept shape
     pub is_said : claim (made + length done) words (after_done start done)
 
   pub run-keeps : (done : List (Call × Reply)) (words : List ℕ) → SerialRun shape variant first done words
-      → All (λ call. IsTrue (is_tree_call call.0)) done → made + length done ≤ MAX_CALLS → Kept done words
+      → All (λ call. IsTrue (is_tree_call call.0)) done → made + length done ≤ call_limit → Kept done words
   run-keeps done words none calls few = record { legal = tt; is_said = subst (λ n. claim n first start) (omega arith) said }
   run-keeps done words (more {done = before} {words = earlier} {last = last} call reply run alone) calls few =
       let longer = length-append before ((call, reply) ∷ []) in
@@ -135,7 +135,7 @@ module _ (shape : Shape) (variant : Variant) (claim : Said) (kept : IsKept shape
 
 -- The history of a serial schedule is legal, and what is said stays so.
 pub serial-keeps : (plan : Plan) (first schedule : List ℕ) (s : State) (claim : Said) (made : ℕ) (start : Contents) → IsRunOn plan first schedule s
-    → IsSerial (history_of s) → made + calls_in plan ≤ MAX_CALLS → IsKept plan.shape plan.variant claim → claim made first start
+    → IsSerial (history_of s) → made + calls_in plan ≤ call_limit → IsKept plan.shape plan.variant claim → claim made first start
     → IsLegal start (operations (history_of s)) × claim (made + length (operations (history_of s))) s.words (after_calls start (operations (history_of s)))
 serial-keeps plan first schedule s claim made start run serial room kept said =
     let alone = serial-runs-alone plan first schedule s run serial in

@@ -7,7 +7,7 @@ use Rattle.std.proofs.lemmas.Option.{none-some, same_Some, slice_get_within}
 use Rattle.events.specs.declared.event.Call.{Call}
 use Rattle.events.specs.declared.event.Reply.{Reply}
 use Rattle.events.specs.declared.event.Event.TheVariants.{Invoke, Answer}
-use Rattle.events.specs.declared.TheConstants.{MAX_CALLS}
+use Rattle.events.specs.Limits.{call_limit}
 use Rattle.map_object.specs.MapObject.{Contents, after_reply}
 use Rattle.art_rows.specs.declared.table.Shape.{Shape}
 use Rattle.art_steps.specs.declared.variant.Variant.{Variant}
@@ -28,7 +28,7 @@ use Rattle.art_serial.proofs.KeptLemmas.{Said, IsKept}
 
 -- Where this is said, the call, run alone, makes at most 1,000 accesses.
 abbrev pub IsBrief : Shape → Variant → Said → Call → Type 0
-IsBrief shape variant claim call = (n : ℕ) (words : List ℕ) (m : Contents) → n < MAX_CALLS → claim n words m → (last : List ℕ) (reply : Reply)
+IsBrief shape variant claim call = (n : ℕ) (words : List ℕ) (m : Contents) → n < call_limit → claim n words m → (last : List ℕ) (reply : Reply)
     (r : RunsAlone (act shape variant call) words last reply) → accesses r ≤ 1000
 
 call-at : (before later : List Call) (call : Call) → slice_get (before ++ call ∷ later) (length before) ≡ Some call
@@ -161,7 +161,7 @@ module _ (shape : Shape) (variant : Variant) (script : List Call) where
 
   module _ (claim : Said) (kept : IsKept shape variant claim) where
     pub ends-script : (left : List Call) (words : List ℕ) (m : Contents) (q : Process) → q.call ≡ None → script ≡ begun q ++ left
-        → All (λ call. IsTrue (is_tree_call call)) left → All (IsBrief shape variant claim) left → length (begun q) + length left ≤ MAX_CALLS
+        → All (λ call. IsTrue (is_tree_call call)) left → All (IsBrief shape variant claim) left → length (begun q) + length left ≤ call_limit
         → claim (length (begun q)) words m → ComesToEnd (1002 * length left) words q
     ends-script [] words m q free all tree briefs few said = record {
       steps = 0;

@@ -8,7 +8,7 @@ use Rattle.events.specs.declared.event.Call.{Call}
 use Rattle.events.specs.declared.event.Call.TheVariants.{Insert}
 use Rattle.events.specs.declared.event.Reply.{Reply}
 use Rattle.events.specs.declared.event.Reply.TheVariants as replies
-use Rattle.events.specs.declared.TheConstants.{MAX_CALLS}
+use Rattle.events.specs.Limits.{call_limit}
 use Rattle.events.specs.Operations.{operations}
 use Rattle.map_object.specs.MapObject.{Contents, IsRising, after, after_reply, put, below, above}
 use Rattle.map_object.proofs.MapLemmas.{below_gap, above_gap}
@@ -72,7 +72,7 @@ after-inserts m ((key, value) ∷ start) (c ∷ done) calls accepted rising =
 
 -- The plan of the inserts is within the limits.
 start-within : (shape : Shape) (variant : Variant) (start : Contents) → IsWithinLimits shape → All (λ call. IsTrue (is_tree_call call)) (inserts start)
-    → length start ≤ MAX_CALLS → IsPlan (start_plan shape variant start)
+    → length start ≤ call_limit → IsPlan (start_plan shape variant start)
 start-within shape variant start within calls few = record {
   shape = within;
   some_script = omega arith;
@@ -101,7 +101,7 @@ module _ (claim : Said) where
       let h = sole.1 in
       let as-many : length done ≡ length start = sym (length-map done (λ c. c.0))
       ∙ (ap (λ l. length l) h.calls ∙ length-map start (λ pair. Insert pair.0 pair.1)) in
-      let few : 0 + length done ≤ MAX_CALLS = omega (arith, h.alone.few, within.few_calls) in
+      let few : 0 + length done ≤ call_limit = omega (arith, h.alone.few, within.few_calls) in
       let k = run-keeps shape variant claim kept 0 (opening shape) [] said done starts.state.words h.alone.run h.alone.calls few in
       let pairs = after-inserts [] start done h.calls (subst (All (λ reply. reply ≢ replies.Refused)) (sym h.replies) starts.accepted) rising in
       let at-end : claim (length start) starts.state.words start =
@@ -114,7 +114,7 @@ pub serial-run-keeps : (plan : Plan) (start : Contents) (words schedule : List �
     → IsLegal start (operations (history_of s))
     × claim (length start + length (operations (history_of s))) s.words (after_calls start (operations (history_of s)))
 serial-run-keeps plan start words schedule s claim run serial kept said =
-    let few : length start + calls_in plan ≤ MAX_CALLS = run.start_within.few in
+    let few : length start + calls_in plan ≤ call_limit = run.start_within.few in
     let within = start-within plan.shape plan.variant start run.within.shape run.start_within.calls (omega arith) in
     let started = start-keeps claim plan.shape plan.variant start words within run.start_within.rising run.starts kept said in
     let on : IsRunOn plan words schedule s = record {

@@ -2,7 +2,7 @@
 use Rattle.std.specs.Prelude.{ℕ, ◌+◌, ◌<◌, IsTrue, List, slice_set}
 use Rattle.events.specs.declared.event.Call.{Call}
 use Rattle.events.specs.declared.event.Reply.{Reply}
-use Rattle.events.specs.declared.TheConstants.{MAX_CALLS}
+use Rattle.events.specs.Limits.{call_limit}
 use Rattle.map_object.specs.MapObject.{Contents, after_reply, IsLegalReply}
 use Rattle.art_rows.specs.declared.table.Shape.{Shape}
 use Rattle.art_rows.specs.Table.{clock}
@@ -19,7 +19,7 @@ pub data ComesTo (shape : Shape) (variant : Variant) (made : ℕ) (first : List 
   stamp : {n : ℕ} {words : List ℕ} {m : Contents} → ComesTo shape variant made first start n words m → ComesTo shape variant made first start n (ticked words) m
   reset : {n : ℕ} {words : List ℕ} {m : Contents} → ComesTo shape variant made first start n words m
       → ComesTo shape variant made first start n (slice_set words clock 0) m
-  call : {n : ℕ} {words last : List ℕ} {m : Contents} → (c : Call) → (reply : Reply) → IsTrue (is_tree_call c) → n < MAX_CALLS
+  call : {n : ℕ} {words last : List ℕ} {m : Contents} → (c : Call) → (reply : Reply) → IsTrue (is_tree_call c) → n < call_limit
       → ComesTo shape variant made first start n words m → RunsAlone (act shape variant c) words last reply → IsLegalReply m c reply
       → ComesTo shape variant made first start (n + 1) last (after_reply m c reply)
 
@@ -29,5 +29,5 @@ MayBeAnswered shape variant words m c = (last : List ℕ) × (reply : Reply) × 
 
 -- each call of a tree may be answered so, from all that stamps and such calls come to
 abbrev pub EachMayBeAnswered : Shape → Variant → ℕ → List ℕ → Contents → Type 0
-EachMayBeAnswered shape variant made first start = (n : ℕ) (words : List ℕ) (m : Contents) (c : Call) → IsTrue (is_tree_call c) → n < MAX_CALLS
+EachMayBeAnswered shape variant made first start = (n : ℕ) (words : List ℕ) (m : Contents) (c : Call) → IsTrue (is_tree_call c) → n < call_limit
     → ComesTo shape variant made first start n words m → MayBeAnswered shape variant words m c

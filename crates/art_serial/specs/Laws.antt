@@ -2,7 +2,7 @@
 use Rattle.std.specs.Prelude.{◌≡◌, ℕ, ◌+◌, ◌≤◌, List, [], length, slice_get, Some, None}
 use Rattle.events.specs.declared.event.Call.{Call}
 use Rattle.events.specs.declared.event.Reply.{Reply}
-use Rattle.events.specs.declared.TheConstants.{MAX_CALLS}
+use Rattle.events.specs.Limits.{call_limit}
 use Rattle.events.specs.Operations.{operations}
 use Rattle.map_object.specs.MapObject.{Contents}
 use Rattle.orders.specs.Orders.{IsLegal, after_calls}
@@ -25,7 +25,7 @@ SerialSchedulesRunAlone =
 -- come to the state's words and the pairs after its history. Some calls may have been made before the schedule.
 abbrev pub SerialSchedulesCompose : Type 0
 SerialSchedulesCompose = (plan : Plan) (first schedule : List ℕ) (s : State) (made : ℕ) (start : Contents) → IsRunOn plan first schedule s
-    → IsSerial (history_of s) → made + calls_in plan ≤ MAX_CALLS → EachMayBeAnswered plan.shape plan.variant made first start
+    → IsSerial (history_of s) → made + calls_in plan ≤ call_limit → EachMayBeAnswered plan.shape plan.variant made first start
     → IsLegal start (operations (history_of s))
     × ComesTo plan.shape plan.variant made first start (made + length (operations (history_of s))) s.words (after_calls start (operations (history_of s)))
 

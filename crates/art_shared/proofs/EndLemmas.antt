@@ -26,7 +26,7 @@ use Rattle.art_shared.specs.Setups.{IsSetup}
 use Rattle.art_shared.specs.Views.{Numbered, numbers_of}
 use Rattle.art_shared.specs.Rule.{Has, times, Above, Rises, IsReached, Kept, Seated, first_view}
 use Rattle.art_shared.specs.Ends.{Ended, Looks}
-use Rattle.art_shared.proofs.NumberedLemmas.{hit, miss}
+use Rattle.art_shared.proofs.NumberedLemmas.{times-hit, times-miss}
 use Rattle.art_shared.proofs.ReachedLemmas.{reached-noted, shown-below}
 use Rattle.art_shared.proofs.GivenLemmas.{given-first, given-plan, given-clocked}
 use Rattle.art_shared.proofs.OwnLemmas.{owned, own-events}
@@ -44,13 +44,13 @@ idle-has a (suc n) p q h = ⊎_elim
 
 idle-absent : (p a n : ℕ) → p < a → times p (idle_from a n) ≡ 0
 idle-absent p a zero lt = refl
-idle-absent p a (suc n) lt = let x = miss p a (λ e. omega arith) in let y = idle-absent p (a + 1) n (omega arith) in omega arith
+idle-absent p a (suc n) lt = times-miss p (a, idle) (idle_from (a + 1) n) (λ e. omega arith) ∙ idle-absent p (a + 1) n (omega arith)
 
 idle-once : (p a n : ℕ) → a ≤ p → p < a + n → times p (idle_from a n) ≡ 1
 idle-once p a zero low high = absurd (omega arith)
 idle-once p a (suc n) low high = ⊎_elim
-    (λ e. let x = hit p a e in let y = idle-absent p (a + 1) n (omega arith) in omega arith)
-    (λ lt. let x = miss p a (λ e. omega arith) in let y = idle-once p (a + 1) n (omega arith) (omega arith) in omega arith) (first (cases_lt a p))
+    (λ e. let x = times-hit p (a, idle) (idle_from (a + 1) n) e in let y = idle-absent p (a + 1) n (omega arith) in omega arith)
+    (λ lt. let x = times-miss p (a, idle) (idle_from (a + 1) n) (λ e. omega arith) in let y = idle-once p (a + 1) n (omega arith) (omega arith) in omega arith) (first (cases_lt a p))
   where
     first : (a < p) ⊎ (p ≤ a) → (p ≡ a) ⊎ (a < p)
     first (inl lt) = inr lt

@@ -1,4 +1,5 @@
 pub mod NumberedLemmas
+pub mod RisingLemmas
 pub mod CountLemmas
 pub mod GivenLemmas
 pub mod ReachedLemmas

@@ -1,23 +1,33 @@
 -- Lists of numbered processes: who stands in them, how often, and in which order.
-use Rattle.std.proofs.Common.{◌≡◌, ℕ, ◌+◌, ◌<◌, ◌≤◌, ◌≢◌, ◌⊎◌, inl, inr, ⊎_elim, Bool, true, false, eqb, List, [], ◌∷◌, ◌++◌}
+use Rattle.std.proofs.Common.{◌≡◌, ℕ, ◌+◌, ◌<◌, ◌≤◌, ◌≢◌, ◌⊎◌, inl, inr, ⊎_elim, Bool, true, false, cond, eqb, List, [], ◌∷◌, ◌++◌}
 use Rattle.std.proofs.Common.{sym, refl, ap, subst, ◌∙◌, arith, eq-eqb, ne_eqb}
 use Rattle.std.specs.Prelude.{nat_lt, if◌then◌else◌, take, drop}
 use Rattle.std.proofs.lemmas.Bool.{ltb-true, ltb-false}
 use Rattle.std.proofs.lemmas.List.{take-append-drop}
+use Rattle.std.proofs.lemmas.List.Sums.{sum_by-cons, sum_by-take-drop}
 use Rattle.art_core.specs.declared.process.Process.{Process}
 use Rattle.art_shared.specs.Views.{Numbered, placed, merge}
-use Rattle.art_shared.specs.Rule.{Has, weight, times, Above, Rises}
+use Rattle.art_shared.specs.Rule.{Has, times, Above, Rises}
 
-pub hit : (x y : ℕ) → x ≡ y → weight (eqb x y) ≡ 1
-hit x y e = ap weight (eq-eqb x y e)
+-- how often p stands in a list, by its first process and the others
+pub times-hit : (p : ℕ) (y : Numbered) (ys : List Numbered) → p ≡ y.0 → times p (y ∷ ys) ≡ 1 + times p ys
+times-hit p y ys e = sum_by-cons (λ (x : Numbered). cond (eqb p x.0) 1 0) y ys ∙ ap (λ b. cond b 1 0 + times p ys) (eq-eqb p y.0 e)
 
-pub miss : (x y : ℕ) → x ≢ y → weight (eqb x y) ≡ 0
-miss x y e = ap weight (ne_eqb x y e)
+pub times-miss : (p : ℕ) (y : Numbered) (ys : List Numbered) → p ≢ y.0 → times p (y ∷ ys) ≡ times p ys
+times-miss p y ys e =
+    let all : times p (y ∷ ys) ≡ 0 + times p ys =
+    sum_by-cons (λ (x : Numbered). cond (eqb p x.0) 1 0) y ys ∙ ap (λ b. cond b 1 0 + times p ys) (ne_eqb p y.0 e) in
+    omega arith
+
+-- in a list with one process more it stands as often, or once more
+pub times-more : (p : ℕ) (y : Numbered) (ys : List Numbered) → times p ys ≤ times p (y ∷ ys)
+times-more p y ys = let all = sum_by-cons (λ (x : Numbered). cond (eqb p x.0) 1 0) y ys in omega arith
 
 pub has-times : (p : ℕ) (q : Process) (l : List Numbered) → Has (p, q) l → 1 ≤ times p l
 has-times p q [] h = absurd h
-has-times p q (y ∷ ys) h =
-    ⊎_elim (λ e. let one = hit p y.0 (ap (λ (x : Numbered). x.0) e) in omega arith) (λ t. let r = has-times p q ys t in omega arith) h
+has-times p q (y ∷ ys) h = ⊎_elim
+    (λ e. let one = times-hit p y ys (ap (λ (x : Numbered). x.0) e) in omega arith)
+    (λ t. let r = has-times p q ys t in let more = times-more p y ys in omega arith) h
 
 -- Two lists, one behind the other.
 
@@ -28,10 +38,6 @@ has-left x (y ∷ l) m h = ⊎_elim (λ e. inl e) (λ t. inr (has-left x l m t))
 has-right : (x : Numbered) (l m : List Numbered) → Has x m → Has x (l ++ m)
 has-right x [] m h = h
 has-right x (y ∷ l) m h = inr (has-right x l m h)
-
-times-append : (p : ℕ) (l m : List Numbered) → times p (l ++ m) ≡ times p l + times p m
-times-append p [] m = omega arith
-times-append p (x ∷ l) m = let r = times-append p l m in omega arith
 
 above-left : (p : ℕ) (l m : List Numbered) → Above p (l ++ m) → Above p l
 above-left p [] m h = tt
@@ -55,7 +61,7 @@ module _ (i : ℕ) (l : List Numbered) where
   has-drop x h = subst (Has x) (take-append-drop i l) (has-right x (take i l) (drop i l) h)
 
   pub times-cut : (p : ℕ) → times p (take i l) + times p (drop i l) ≡ times p l
-  times-cut p = sym (times-append p (take i l) (drop i l)) ∙ ap (times p) (take-append-drop i l)
+  times-cut p = sum_by-take-drop (λ (x : Numbered). cond (eqb p x.0) 1 0) l i
 
   pub rises-take : Rises l → Rises (take i l)
   rises-take h = rises-left (take i l) (drop i l) (subst Rises (sym (take-append-drop i l)) h)
@@ -69,13 +75,26 @@ branch : (b : Bool) (f : List Numbered → ℕ) (l m : List Numbered) (n : ℕ) 
 branch true f l m n a b = a
 branch false f l m n a b = b
 
-times-placed : (p : ℕ) (x : Numbered) (l : List Numbered) → times p (placed x l) ≡ weight (eqb p x.0) + times p l
+times-placed : (p : ℕ) (x : Numbered) (l : List Numbered) → times p (placed x l) ≡ times p (x ∷ l)
 times-placed p x [] = refl
-times-placed p x (y ∷ ys) = let r = times-placed p x ys in branch (nat_lt x.0 y.0) (times p) (x ∷ y ∷ ys) (y ∷ placed x ys) _ refl (omega arith)
+times-placed p x (y ∷ ys) =
+    let one : Numbered → ℕ = λ z. cond (eqb p z.0) 1 0 in
+    let r = times-placed p x ys in
+    let a = sum_by-cons one y (placed x ys) in
+    let b = sum_by-cons one x (y ∷ ys) in
+    let c = sum_by-cons one y ys in
+    let d = sum_by-cons one x ys in
+    branch (nat_lt x.0 y.0) (times p) (x ∷ y ∷ ys) (y ∷ placed x ys) (times p (x ∷ y ∷ ys)) refl (omega arith)
 
 pub times-merge : (p : ℕ) (l m : List Numbered) → times p (merge l m) ≡ times p l + times p m
-times-merge p l [] = omega arith
-times-merge p l (x ∷ xs) = let r = times-merge p l xs in let i = times-placed p x (merge l xs) in omega arith
+times-merge p l [] = let none : times p [] ≡ 0 = refl in omega arith
+times-merge p l (x ∷ xs) =
+    let one : Numbered → ℕ = λ z. cond (eqb p z.0) 1 0 in
+    let r = times-merge p l xs in
+    let i = times-placed p x (merge l xs) in
+    let a = sum_by-cons one x (merge l xs) in
+    let b = sum_by-cons one x xs in
+    omega arith
 
 has-branch : (b : Bool) (x : Numbered) (l m : List Numbered) (P : Type 0) → (Has x l → P) → (Has x m → P) → Has x (if b then l else m) → P
 has-branch true x l m P f g h = f h
@@ -108,19 +127,22 @@ rises-placed x [] new h = (tt, tt)
 rises-placed x (y ∷ ys) new h = go (nat_lt x.0 y.0) refl (λ none. rises-placed x ys none h.1)
   where
     apart : x.0 ≡ y.0 → ⊥
-    apart e = let one = hit x.0 y.0 e in omega arith
+    apart e = let one = times-hit x.0 y ys e in omega arith
+
+    none : times x.0 ys ≡ 0
+    none = let more = times-more x.0 y ys in omega arith
 
     go : (b : Bool) → nat_lt x.0 y.0 ≡ b → (times x.0 ys ≡ 0 → Rises (placed x ys)) → Rises (if b then x ∷ y ∷ ys else y ∷ placed x ys)
     go true e later = let lt = ltb-true x.0 y.0 e in ((lt, above-all y.0 ys x.0 (omega arith) h.0), h)
     go false e later =
         let le = ltb-false x.0 y.0 e in
         let lt : y.0 < x.0 = omega (arith, apart) in
-        (above-placed y.0 x ys lt h.0, later (omega arith))
+        (above-placed y.0 x ys lt h.0, later none)
 
 pub rises-merge : (l m : List Numbered) → Rises l → ((p : ℕ) (q : Process) → Has (p, q) m → times p l + times p m ≤ 1) → Rises (merge l m)
 rises-merge l [] h once = h
 rises-merge l (x ∷ xs) h once =
     let one = once x.0 x.1 (inl refl) in
-    let self = hit x.0 x.0 refl in
+    let self = times-hit x.0 x xs refl in
     let both = times-merge x.0 l xs in
-    rises-placed x (merge l xs) (omega arith) (rises-merge l xs h (λ p q t. let a = once p q (inr t) in omega arith))
+    rises-placed x (merge l xs) (omega arith) (rises-merge l xs h (λ p q t. let a = once p q (inr t) in let more = times-more p x xs in omega arith))

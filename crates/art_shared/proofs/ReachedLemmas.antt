@@ -3,18 +3,19 @@ use Rattle.std.proofs.Common.{◌≡◌, ℕ, zero, suc, ◌+◌, ◌-◌, ◌<�
 use Rattle.std.proofs.Common.{sym, refl, ap, subst, ◌∙◌, arith}
 use mathlib.Core.Option.{some}
 use lib.ListN.{get_elem?}
-use Rattle.std.specs.Prelude.{Option, Some, slice_get, slice_set}
+use Rattle.std.specs.Prelude.{sum_by, Option, Some, slice_get, slice_set}
 use Rattle.std.proofs.lemmas.Option.{slice_get_within, none-some}
+use Rattle.std.proofs.lemmas.List.Sums.{sum_by_push}
 use Rattle.atomic_table.proofs.Lists.{at_set, at_snoc}
 use Rattle.events.specs.declared.event.Call.{Call}
 use Rattle.art_core.specs.declared.process.Process.{Process}
 use Rattle.art_shared.specs.declared.view.Setup.{Setup}
 use Rattle.art_shared.specs.declared.view.Noted.{Noted}
 use Rattle.art_shared.specs.Views.{Numbered, view}
-use Rattle.art_shared.specs.Rule.{noted, Has, times, times_in, total, Rises, IsGiven, IsReached, kept_part, given_part, both_parts, no_part}
-use Rattle.art_shared.proofs.NumberedLemmas.{hit, has-times, has-take, has-drop, times-cut, rises-take, rises-drop}
+use Rattle.art_shared.specs.Rule.{noted, Has, times, times_in, Rises, IsGiven, IsReached, kept_part, given_part, both_parts, no_part}
+use Rattle.art_shared.proofs.NumberedLemmas.{times-hit, has-times, has-take, has-drop, times-cut, rises-take, rises-drop}
 use Rattle.art_shared.proofs.NumberedLemmas.{times-merge, has-merge, rises-merge}
-use Rattle.art_shared.proofs.CountLemmas.{total-set, total-push, total-one, total-two}
+use Rattle.art_shared.proofs.CountLemmas.{sum-set, sum-one, sum-two}
 
 get-set : {A : Type 0} (xs : List A) (p : ℕ) (x y : A) → slice_get xs p ≡ Some y → slice_get (slice_set xs p x) p ≡ Some x
 get-set [] p x y h = absurd (none-some y h)
@@ -44,7 +45,7 @@ module _ (setup : Setup) (words : List ℕ) (views : List Noted) (r : IsReached 
         given = r.given;
         shows = λ j u e p q h. let o = old j u e in
             subst (λ z. (z.setup ≡ setup) × (slice_get r.processes p ≡ Some q)) o.3 (r.shows o.0 o.1 o.2 p q (subst (λ z. Has (p, q) z.processes) (sym o.3) h));
-        once = λ p lt. let t = total-set (times_in p) views id v w at in let one = r.once p lt in omega arith;
+        once = λ p lt. let t = sum-set (times_in p) views id v w at in let one = r.once p lt in omega arith;
         rising = λ j u e. let o = old j u e in subst (λ z. Rises z.processes) o.3 (r.rising o.0 o.1 o.2);
       }
 
@@ -67,8 +68,8 @@ module _ (setup : Setup) (words : List ℕ) (views : List Noted) (r : IsReached 
             (ap (λ z. z.view.setup) (sym a) ∙ s.0, s.1))
             (at_snoc (set views id kept) given u j e);
         once = λ p lt.
-            let t = total-set (times_in p) views id v kept at in
-            let t' = total-push (times_in p) (set views id kept) given in
+            let t = sum-set (times_in p) views id v kept at in
+            let t' = sum_by_push (times_in p) (set views id kept) given in
             let c = times-cut i l p in
             let one = r.once p lt in
             omega arith;
@@ -101,8 +102,8 @@ module _ (setup : Setup) (words : List ℕ) (views : List Noted) (r : IsReached 
             (λ t'. r.shows j y t'.1 p q h) (at_set views id j both y t.1))
             (at_set (set views id both) other j no_part y e);
         once = λ p lt.
-            let t = total-set (times_in p) views id v both at in
-            let t' = total-set (times_in p) (set views id both) other u no_part there in
+            let t = sum-set (times_in p) views id v both at in
+            let t' = sum-set (times_in p) (set views id both) other u no_part there in
             let c = times-merge p l m in
             let one = r.once p lt in
             omega arith;
@@ -121,7 +122,7 @@ module _ (setup : Setup) (words : List ℕ) (views : List Noted) (r : IsReached 
           let below = slice_get_within r.processes p q s in
           let many = r.given.many in
           let one = r.once p (omega arith) in
-          let two = total-two (times_in p) views id other v u (λ e. apart (sym e)) at theirs in
+          let two = sum-two (times_in p) views id other v u (λ e. apart (sym e)) at theirs in
           omega arith
 
 -- a step of the first process of a view
@@ -136,21 +137,21 @@ module _ (setup : Setup) (words new_words : List ℕ) (views : List Noted) (r : 
   pub first-there : slice_get r.processes p ≡ Some q
   first-there = (r.shows id old at p q (inl refl)).1
 
-  alone : total (times_in p) views ≡ 1
+  alone : sum_by (times_in p) views ≡ 1
   alone = r.once p (shown-below setup words views r id old at p q (inl refl))
 
   twice : (i : ℕ) (x : Process) → Has (i, x) rest → i ≡ p → ⊥
   twice i x t is =
-      let all = total-one (times_in p) views id old at in
-      let one = hit p p refl in
+      let all = sum-one (times_in p) views id old at in
+      let one = times-hit p (p, q) rest refl in
       let a = alone in
       let more : 1 ≤ times p rest = subst (λ z. 1 ≤ times z rest) is (has-times i x rest t) in
       omega arith
 
   elsewhere : (j : ℕ) (u : Noted) (i : ℕ) (x : Process) → Has (i, x) u.view.processes → j ≢ id → get_elem? views j ≡ some u → i ≡ p → ⊥
   elsewhere j u i x h ne there is =
-      let both = total-two (times_in p) views id j old u (λ y. ne (sym y)) at there in
-      let one = hit p p refl in
+      let both = sum-two (times_in p) views id j old u (λ y. ne (sym y)) at there in
+      let one = times-hit p (p, q) rest refl in
       let a = alone in
       let more : 1 ≤ times p u.view.processes = subst (λ z. 1 ≤ times z u.view.processes) is (has-times i x u.view.processes h) in
       omega arith
@@ -170,6 +171,6 @@ module _ (setup : Setup) (words new_words : List ℕ) (views : List Noted) (r : 
         (λ t. (ap (λ z. z.view.setup) (sym t.1), shows-new i x (subst (λ z. Has (i, x) z.view.processes) (sym t.1) h)))
         (λ t. let s = r.shows j u t.1 i x h in (s.0, get-set-other r.processes p i q' (elsewhere j u i x h t.0 t.1) ∙ s.1))
         (at_set views id j new u e);
-    once = λ i lt. let t = total-set (times_in i) views id old new at in let one = r.once i lt in omega arith;
+    once = λ i lt. let t = sum-set (times_in i) views id old new at in let one = r.once i lt in omega arith;
     rising = λ j u e. ⊎_elim (λ t. subst (λ z. Rises z.view.processes) t.1 (r.rising id old at)) (λ t. r.rising j u t.1) (at_set views id j new u e);
   }

@@ -1,7 +1,7 @@
 -- The rule of the words: some schedule of the core, with the calls begun so far as scripts,
 -- gives the words and what the views show of each process.
-use Rattle.std.specs.Prelude.{◌≡◌, ℕ, ◌+◌, ◌<◌, ◌≤◌, ◌⊎◌, ◌==◌, Bool, true, false, IsTrue, List, [], ◌∷◌, length, slice_get}
-use Rattle.std.specs.Prelude.{All, Option, Some, None}
+use Rattle.std.specs.Prelude.{◌≡◌, ℕ, ◌<◌, ◌≤◌, ◌⊎◌, ◌==◌, IsTrue, List, [], ◌∷◌, length, slice_get}
+use Rattle.std.specs.Prelude.{All, count_by, sum_by, Option, Some, None}
 use mathlib.Core.Option.{some}
 use lib.ListN.{get_elem?}
 use Rattle.atomic_table.specs.Table.{State as Table, Me, Step}
@@ -25,21 +25,12 @@ abbrev pub Has : Numbered → List Numbered → Type 0
 Has x [] = ⊥
 Has x (y ∷ ys) = (x ≡ y) ⊎ Has x ys
 
-abbrev pub weight : Bool → ℕ
-weight true = 1
-weight false = 0
-
 -- how often process p stands among them
 abbrev pub times : ℕ → List Numbered → ℕ
-times p [] = 0
-times p (y ∷ ys) = weight (p == y.0) + times p ys
+times p processes = count_by (λ x. p == x.0) processes
 
 abbrev pub times_in : ℕ → Noted → ℕ
 times_in p v = times p v.view.processes
-
-abbrev pub total : (Noted → ℕ) → List Noted → ℕ
-total f [] = 0
-total f (v ∷ vs) = f v + total f vs
 
 -- a view shows its processes as they are; one that has none is excepted
 abbrev pub Shows : Setup → List Process → Noted → Type 0
@@ -69,7 +60,7 @@ pub record IsReached (setup : Setup) (words : List ℕ) (views : List Noted) : T
   pub processes : List Process
   pub given : IsGiven setup words processes
   pub shows : (j : ℕ) (v : Noted) → get_elem? views j ≡ some v → Shows setup processes v
-  pub once : (p : ℕ) → p < setup.processes → total (times_in p) views ≡ 1
+  pub once : (p : ℕ) → p < setup.processes → sum_by (times_in p) views ≡ 1
   pub rising : (j : ℕ) (v : Noted) → get_elem? views j ≡ some v → Rises v.view.processes
 
 abbrev pub Kept : Setup → Table Call Noted → Type 0

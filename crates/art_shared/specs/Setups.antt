@@ -1,6 +1,6 @@
 -- What a core may be opened for.
 use Rattle.std.specs.Prelude.{◌≤◌, ◌*◌}
-use Rattle.events.specs.declared.TheConstants.{PROCESSES, MAX_CALLS}
+use Rattle.events.specs.Limits.{process_limit, call_limit}
 use Rattle.art_rows.specs.Table.{IsWithinLimits}
 use Rattle.art_shared.specs.declared.view.Setup.{Setup}
 
@@ -8,5 +8,5 @@ use Rattle.art_shared.specs.declared.view.Setup.{Setup}
 pub record IsSetup (setup : Setup) : Type 0 where
   pub shape : IsWithinLimits setup.shape
   pub some_process : 1 ≤ setup.processes
-  pub few_processes : setup.processes ≤ PROCESSES
-  pub few_calls : setup.processes * setup.calls_each ≤ MAX_CALLS
+  pub few_processes : setup.processes ≤ process_limit
+  pub few_calls : setup.processes * setup.calls_each ≤ call_limit

@@ -1,6 +1,6 @@
 -- What a place shows, and what the steps of its first process make of it.
-use Rattle.std.specs.Prelude.{◌≡◌, ℕ, ◌-◌, Bool, false, not, is_some, nat_lt, if◌then◌else◌, List, [], ◌∷◌, map, length}
-use Rattle.std.specs.Prelude.{take, drop, All, Option, Some, None}
+use Rattle.std.specs.Prelude.{◌≡◌, ℕ, ◌-◌, ◌≤◌, Bool, false, not, is_some, nat_lt, if◌then◌else◌, List, [], ◌∷◌, map, length}
+use Rattle.std.specs.Prelude.{take, drop, All, AllPairs, Option, Some, None}
 use Rattle.std.specs.List.{range_with_len}
 use Rattle.events.specs.declared.event.Call.{Call}
 use Rattle.events.specs.declared.event.Reply.{Reply}
@@ -20,6 +20,10 @@ view setup processes = record { setup = setup; processes = processes }
 
 abbrev pub numbers_of : List Numbered → List ℕ
 numbers_of processes = map (λ x. x.0) processes
+
+-- no process stands before one with a smaller number, so the first has the least
+abbrev pub NumbersRise : View → Type 0
+NumbersRise v = AllPairs (λ x y. x.0 ≤ y.0) v.processes
 
 -- all processes, before the first step
 abbrev pub all_idle : Setup → View

@@ -1,5 +1,6 @@
 // What a thread steps with.
 ghost use Rattle.std.specs.Prelude.{◌≡◌, []};
+ghost use Rattle.art_shared.specs.Views.{NumbersRise};
 
 use crate::view::Noted;
 use art_steps::TreeCall;
@@ -11,4 +12,17 @@ use atomic_table::Seat;
 pub struct Place {
     pub(crate) seat: Seat<TreeCall, Noted>,
     ghost no_slots: { seat.me.1 ≡ [] },
+    ghost rising: { NumbersRise seat.me.0.view },
+}
+
+impl Place {
+    ghost use Rattle.art_shared.specs.Places.{shown};
+
+    /// A law for proofs: the processes that a place shows stand by rising number, so the first of them is the least. It does
+    /// nothing.
+    pub fn numbers_rise(&self)
+        ensures { NumbersRise (shown self.now) }
+    {
+        let _ = &self.seat;
+    }
 }

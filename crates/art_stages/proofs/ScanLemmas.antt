@@ -10,7 +10,7 @@ use Rattle.art_rows.specs.declared.table.Child.{Child}
 use Rattle.art_rows.specs.declared.table.Child.TheVariants.{Empty, Row as ChildRow, Leaf}
 use Rattle.art_rows.specs.Table.{root_base, index_at, child_at}
 use Rattle.art_rows.specs.Words.{is_locked, is_obsolete, locked_word, entries_of, place_of, child_of}
-use Rattle.art_steps.specs.declared.TheConstants.{MAX_LEAVES}
+use Rattle.events.specs.Limits.{pair_limit}
 use Rattle.art_stages.specs.declared.stage.Held.{Held}
 use Rattle.art_stages.specs.declared.stage.Keys.{Keys as KeyWords}
 use Rattle.art_stages.specs.declared.stage.Entry.{Entry}
@@ -312,7 +312,7 @@ enter_step c lo hi again entry w rest = go (locks c.variant)
 -- a leaf counts or not
 leaf_same : (lo hi key value : ℕ) (w : Walk)
     → walked (record { rows = w.rows; pairs = (with_leaf lo hi key value (walked w)).pairs; way = w.way }) ≡ with_leaf lo hi key value (walked w)
-leaf_same lo hi key value w = go (nat_le lo key && nat_le key hi && nat_lt (length w.pairs) MAX_LEAVES)
+leaf_same lo hi key value w = go (nat_le lo key && nat_le key hi && nat_lt (length w.pairs) pair_limit)
   where
     go : (b : Bool)
         → walked

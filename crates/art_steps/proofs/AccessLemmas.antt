@@ -27,7 +27,7 @@ use Rattle.art_steps.specs.Coupled as coupled
 use Rattle.art_steps.specs.Optimistic as optimistic
 use Rattle.art_steps.specs.Scan.{Walked, with_leaf, has_row, with_row, can_lie, bytes_of, enter, walk_child, walk_slot, walk_place, walk_keys, walk_entry}
 use Rattle.art_steps.specs.Scan.{walk_index, walk_in, walk_bytes, At, walk_from, scan}
-use Rattle.art_steps.specs.declared.TheConstants.{MAX_LEAVES}
+use Rattle.events.specs.Limits.{pair_limit}
 use Rattle.art_steps.specs.Act.{procedure, act}
 use Rattle.art_steps.specs.Fits.{word_of, StaysInTable, AnswersFewPairs}
 use Rattle.art_steps.specs.Updates.{overwriting, keys_differ_at, Under, pair, pair_in, copy_child, make_room, put_in, put, store_index, spread_entry}
@@ -591,7 +591,7 @@ each-append P (x ∷ xs) y h k = (h.0, each-append P xs y h.1 k)
 
 pub record IsWalk (s : Shape) (w : Walked) : Type 0 where
   pub rows : Each (IsRow s) w.rows
-  pub few : length w.pairs ≤ MAX_LEAVES
+  pub few : length w.pairs ≤ pair_limit
 
 with_row-each : (s : Shape) (n : Row) (w : Walked) → IsWalk s w → IsRow s n → IsWalk s (with_row n w)
 with_row-each s n w h k = go (has_row n.base w.rows)
@@ -601,7 +601,7 @@ with_row-each s n w h k = go (has_row n.base w.rows)
     go false = record { rows = each-append (IsRow s) w.rows n h.rows k; few = h.few }
 
 with_leaf-rows : (s : Shape) (lo hi key value : ℕ) (w : Walked) → IsWalk s w → IsWalk s (with_leaf lo hi key value w)
-with_leaf-rows s lo hi key value w h = go (nat_le lo key && nat_le key hi && nat_lt (length w.pairs) MAX_LEAVES) refl
+with_leaf-rows s lo hi key value w h = go (nat_le lo key && nat_le key hi && nat_lt (length w.pairs) pair_limit) refl
   where
     last : (a b c : Bool) → (a && b && c) ≡ true → c ≡ true
     last true true c e = e
@@ -611,11 +611,11 @@ with_leaf-rows s lo hi key value w h = go (nat_le lo key && nat_le key hi && nat
     less : (a b : ℕ) → nat_lt a b ≡ true → a < b
     less a b e = grind arith
 
-    go : (b : Bool) → (nat_le lo key && nat_le key hi && nat_lt (length w.pairs) MAX_LEAVES) ≡ b
+    go : (b : Bool) → (nat_le lo key && nat_le key hi && nat_lt (length w.pairs) pair_limit) ≡ b
         → IsWalk s (if b then record { rows = w.rows; pairs = w.pairs ++ (key, value) ∷ [] } else w)
     go true e =
-        let room : length w.pairs < MAX_LEAVES =
-        less (length w.pairs) MAX_LEAVES (last (nat_le lo key) (nat_le key hi) (nat_lt (length w.pairs) MAX_LEAVES) e) in
+        let room : length w.pairs < pair_limit =
+        less (length w.pairs) pair_limit (last (nat_le lo key) (nat_le key hi) (nat_lt (length w.pairs) pair_limit) e) in
         record { rows = h.rows; few = omega (arith, length-append w.pairs ((key, value) ∷ []), room) }
     go false e = h
 
@@ -717,14 +717,14 @@ walk_from-within c lo hi at h = recursive-within c.shape (IsWalk c.shape) (IsAt 
     (bytes_of lo hi a.row) a.walked ha.row
     (filter-each (λ x. x < 256) (can_lie lo hi a.row) bytes bytes-each) ha.walked) at h
 
-pub scan-within : (c : Setting) (lo hi : ℕ) → 1 ≤ c.shape.rows256 → Within c.shape (λ pairs. length pairs ≤ MAX_LEAVES) (scan c lo hi)
+pub scan-within : (c : Setting) (lo hi : ℕ) → 1 ≤ c.shape.rows256 → Within c.shape (λ pairs. length pairs ≤ pair_limit) (scan c lo hi)
 unfolding scan
 scan-within c lo hi r = bind-within (enter-within c (root_base c.shape) Full (root_in c r)) λ v _.
     bind-within (walk_from-within c lo hi _ (record { row = root_in c r; walked = record { rows = (root_in c r, tt); few = omega arith } })) λ w hw.
     then-within
     (if-within (locks c.variant) (λ _. unlock_all-within c.shape w.rows hw.rows)
     (λ _. each-within c.shape (IsRow c.shape) (check_of c) (check_of-within c) w.rows hw.rows))
-    (give-within c.shape (λ pairs. length pairs ≤ MAX_LEAVES) w.pairs hw.few)
+    (give-within c.shape (λ pairs. length pairs ≤ pair_limit) w.pairs hw.few)
 
 -- Calls
 

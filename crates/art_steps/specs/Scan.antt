@@ -7,7 +7,7 @@ use Rattle.art_rows.specs.Table.{root_base, info_at, keys_at, more_keys_at, inde
 use Rattle.art_rows.specs.declared.table.Child.{Child}
 use Rattle.art_rows.specs.declared.table.Child.TheVariants.{Empty, Row as ChildRow, Leaf}
 use Rattle.art_rows.specs.Words.{big_endian, keys4_of, keys16_of, place_of, entries_of}
-use Rattle.art_steps.specs.declared.TheConstants.{MAX_LEAVES}
+use Rattle.events.specs.Limits.{pair_limit}
 use Rattle.art_steps.specs.Steps.{Part, ◌>>=◌, ◌>>◌, give, load, recursive, each, over, numbers}
 use Rattle.art_steps.specs.Rows.{Setting, Row, locks, root_row, row_of, lock, wait, check_of, unlock_all, load_child}
 
@@ -28,7 +28,7 @@ bytes_of lo hi n = filter (can_lie lo hi n) (numbers 0 256)
 -- a leaf counts if its key is in the range and fewer than 4,096 leaves have counted before it
 abbrev pub with_leaf : ℕ → ℕ → ℕ → ℕ → Walked → Walked
 with_leaf lo hi key value w =
-    if nat_le lo key && nat_le key hi && nat_lt (length w.pairs) MAX_LEAVES
+    if nat_le lo key && nat_le key hi && nat_lt (length w.pairs) pair_limit
     then record { rows = w.rows; pairs = w.pairs ++ (key, value) ∷ [] }
     else w
 

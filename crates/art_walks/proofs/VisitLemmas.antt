@@ -12,7 +12,7 @@ use Rattle.art_rows.specs.declared.table.Kind.{Kind}
 use Rattle.art_rows.specs.declared.table.Child.{Child}
 use Rattle.art_rows.specs.declared.table.Child.TheVariants.{Empty, Row as ChildRow, Leaf}
 use Rattle.art_rows.specs.Table.{info_at, kind_at}
-use Rattle.art_steps.specs.declared.TheConstants.{MAX_LEAVES}
+use Rattle.events.specs.Limits.{pair_limit}
 use Rattle.art_steps.specs.Steps.{Part, ◌>>=◌, give, load}
 use Rattle.art_steps.specs.Rows.{Setting, Row, row_of, locks}
 use Rattle.art_steps.specs.Scan.{Walked, has_row, with_leaf, with_row, enter, walk_child}
@@ -117,9 +117,9 @@ module _ (c : Setting) (n : ℕ) (words : List ℕ) (rest : IsAtRest c.shape n w
       }
 
       go : (a b : Bool) → length (w.pairs ++ (if a && b then (key, value) ∷ [] else [])) ≤ 4096
-          → Walks locking (give (if a && b && nat_lt (length w.pairs) MAX_LEAVES then record { rows = w.rows; pairs = w.pairs ++ (key, value) ∷ [] } else w)) now w
+          → Walks locking (give (if a && b && nat_lt (length w.pairs) pair_limit then record { rows = w.rows; pairs = w.pairs ++ (key, value) ∷ [] } else w)) now w
           (if a && b then (key, value) ∷ [] else []) IsBelow
-      go true true few = counted (nat_lt (length w.pairs) MAX_LEAVES) (room few)
+      go true true few = counted (nat_lt (length w.pairs) pair_limit) (room few)
       go true false few = walks-nothing locking now w IsBelow walking
       go false true few = walks-nothing locking now w IsBelow walking
       go false false few = walks-nothing locking now w IsBelow walking

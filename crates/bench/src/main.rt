@@ -7,8 +7,6 @@
 
 mod command;
 #[cfg(test)]
-mod drive_tests;
-#[cfg(test)]
 mod tests;
 
 use command::{run, texts_of};

@@ -16,5 +16,5 @@ mod table;
 mod tests;
 
 pub use fault::LineFault;
-pub use line::{DEFAULT_BUDGET, DEFAULT_WORKERS, Line, MAX_BUDGET, MAX_WORKERS, Tree};
+pub use line::{DEFAULT_BUDGET, DEFAULT_WORKERS, Line, Tree};
 pub use read::read_line;

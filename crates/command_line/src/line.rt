@@ -1,14 +1,8 @@
 /// The budget of a judgement where the words name none.
 pub const DEFAULT_BUDGET: u32 = 100000;
 
-/// The greatest budget that a judgement may have.
-pub const MAX_BUDGET: u32 = 1000000;
-
 /// The workers of a judgement where the words name no number of them.
 pub const DEFAULT_WORKERS: u32 = 1;
-
-/// The most workers that a judgement may have.
-pub const MAX_WORKERS: u32 = 64;
 
 /// What the words ask for: a subcommand, with its values.
 #[derive(Debug, Drop)]
@@ -19,7 +13,7 @@ pub enum Line {
     },
     /// Whether the history on standard input is linearizable, where `workers` workers search the
     /// segments side by side, at most `budget` configurations of each. The budget is from 1 to
-    /// `MAX_BUDGET`, and the workers from 1 to `MAX_WORKERS`.
+    /// 1,000,000, and the workers from 1 to 64.
     Judge {
         budget: u32,
         workers: u32,

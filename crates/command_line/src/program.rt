@@ -1,4 +1,3 @@
-use crate::line::{MAX_BUDGET, MAX_WORKERS};
 use crate::table::{Subcommand, ValueOption, Values};
 
 /// The program's name in its help.
@@ -7,12 +6,12 @@ pub(crate) const NAME: &str = "bench";
 /// What help says of the program.
 pub(crate) const ABOUT: &str = "Judges recorded histories of a concurrent ordered map";
 
-// An option with a default, which its help shows.
+// An option with a default, which its help shows with the least number and the greatest.
 macro_rules! number_option {
-    ($name:literal, $help:literal, $least:literal to $greatest:expr, default $default:literal) => {
+    ($name:literal, $help:literal, $least:literal to $greatest:literal, default $default:literal) => {
         ValueOption {
             name: $name,
-            help: concat!($help, " [default: ", $default, "]"),
+            help: concat!($help, ", from ", $least, " to ", $greatest, " [default: ", $default, "]"),
             values: Values::Within($least, $greatest),
             default: Some($default),
         }
@@ -41,13 +40,13 @@ macro_rules! search_options {
             number_option!(
                 "budget",
                 "How many configurations of each segment are searched at most",
-                1 to MAX_BUDGET as u64,
+                1 to 1000000,
                 default 100000
             ),
             number_option!(
                 "workers",
                 "How many workers search the segments side by side",
-                1 to MAX_WORKERS as u64,
+                1 to 64,
                 default 1
             ),
         ]

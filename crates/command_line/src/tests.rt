@@ -177,8 +177,8 @@ const JUDGE_HELP: &str = "Tells whether the history on standard input is lineari
 Usage: bench judge [OPTIONS]
 
 Options:
-      --budget <N>   How many configurations of each segment are searched at most [default: 100000]
-      --workers <N>  How many workers search the segments side by side [default: 1]
+      --budget <N>   How many configurations of each segment are searched at most, from 1 to 1000000 [default: 100000]
+      --workers <N>  How many workers search the segments side by side, from 1 to 64 [default: 1]
   -h, --help         Print help
 ";
 

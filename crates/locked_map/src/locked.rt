@@ -2,7 +2,7 @@
 ghost use Rattle.std.specs.Prelude.{◌≡◌, ◌<◌, ◌≤◌};
 ghost use Rattle.events.specs.declared.event.Reply.TheVariants.{Refused};
 ghost use Rattle.events.specs.Histories.{pair_count};
-ghost use Rattle.locked_map.specs.Answers.{IsDoneOrRefused};
+ghost use Rattle.locked_map.specs.Answers.{IsAnswerOf, IsDoneOrRefused};
 
 use events::{Call, MAX_PAIRS, Reply};
 use map_object::SortedMap;
@@ -29,7 +29,10 @@ impl<'a, R: Wait> LockedMap<'a, R> {
 
 impl<'a, R: Wait> Subject for LockedMap<'a, R> {
     /// Waits for the lock, then does the call. It costs what the sorted map's call costs.
-    fn call(&self, call: &Call) -> Reply {
+    fn call(&self, call: &Call) -> Reply
+        ensures short { pair_count result ≤ MAX_PAIRS }
+        ensures answer { IsAnswerOf call.now result }
+    {
         let mut map = self.map.lock(self.rt);
         answer(self.alloc, &mut map, call)
     }

@@ -18,10 +18,10 @@ use Rattle.art_core.specs.Runs.{run_on}
 use Rattle.art_core.proofs.RunLemmas.{run-on-append}
 use Rattle.art_core.proofs.HistoryLemmas.{one-step}
 use Rattle.machine.specs.declared.runner.Runner.{Runner}
-use Rattle.machine.specs.declared.doing.Doing.{Doing}
-use Rattle.machine.specs.declared.doing.Doing.TheVariants.{Idle, Going, Answered}
-use Rattle.machine.specs.Doings.{IsFor}
-use Rattle.machine.specs.Fitting.{FitsDoing, FitsProcess, ShowsState, Moves, AreFor}
+use Rattle.art.specs.declared.doing.Doing.{Doing}
+use Rattle.art.specs.declared.doing.Doing.TheVariants.{Idle, Going, Answered}
+use Rattle.art.specs.Doings.{FitsDoing, IsFor}
+use Rattle.machine.specs.Fitting.{FitsProcess, ShowsState, Moves, AreFor}
 use Rattle.machine.specs.Refusals.{HasMove}
 use Rattle.machine.specs.UnderWay.{IsUnderWay}
 use Rattle.machine.specs.Working.{HasNothingToDo}

@@ -12,8 +12,8 @@ use Rattle.art_steps.specs.declared.variant.Variant.{Variant}
 use Rattle.art_core.specs.declared.process.Process.{Process}
 use Rattle.art_core.specs.Core.{idle}
 use Rattle.machine.specs.declared.runner.Runner.{Runner}
-use Rattle.machine.specs.Doings.{IsFor}
-use Rattle.machine.specs.Fitting.{FitsDoing, FitsProcess, AreFor}
+use Rattle.art.specs.Doings.{FitsDoing, IsFor}
+use Rattle.machine.specs.Fitting.{FitsProcess, AreFor}
 use Rattle.machine.specs.Opening.{IsFresh}
 use Rattle.machine.specs.Running.{plan_of}
 

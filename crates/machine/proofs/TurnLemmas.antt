@@ -1,5 +1,5 @@
 -- A task that fits still fits after its access.
-use Rattle.std.proofs.Common.{◌≡◌, ℕ, ◌+◌, ◌%◌, ◌^◌, List, [], ◌∷◌, ◌++◌, length, refl, ap, sym, subst, ◌∙◌, append_assoc, false}
+use Rattle.std.proofs.Common.{◌≡◌, ℕ, ◌+◌, ◌%◌, ◌^◌, List, [], ◌∷◌, ◌++◌, length, refl, ap, sym, subst, ◌∙◌, false}
 use Rattle.std.specs.Prelude.{Option, Some, None, is_some, slice_get, slice_index, slice_set, filter_map}
 use Rattle.std.proofs.lemmas.List.{append-nil, length-append}
 use Rattle.std.proofs.lemmas.List.Elements.{filter_map-append}
@@ -9,41 +9,20 @@ use Rattle.art.specs.Tasks.{rest_of}
 use Rattle.art_core.specs.declared.process.Process.{Process}
 use Rattle.art_core.specs.Core.{Plan, Invokes, Makes, Responds, begun, finished, invoked, answered, move_of, move_from, invocation, next_in}
 use Rattle.art.specs.declared.task.Task.{Task}
-use Rattle.machine.specs.declared.doing.Doing.TheVariants.{Idle, Going, Answered}
+use Rattle.art.specs.declared.doing.Doing.TheVariants.{Idle, Going, Answered}
 use Rattle.machine.specs.declared.runner.Runner.{Runner}
 use Rattle.events.specs.declared.event.Call.{Call}
 use Rattle.events.specs.declared.event.Reply.{Reply}
 use Rattle.art_rows.specs.declared.table.Shape.{Shape}
 use Rattle.art_steps.specs.declared.variant.Variant.{Variant}
 use Rattle.art_steps.specs.declared.access.Access.{Access}
-use Rattle.art_steps.specs.declared.access.Point.{Point}
-use Rattle.art_steps.specs.Steps.{Turn, Rest, Asks, Answers, access_of, reply_of}
+use Rattle.art_steps.specs.Steps.{Rest, access_of, reply_of}
 use Rattle.art_steps.specs.Act.{act}
 use Rattle.art_steps.specs.Fits.{Fits}
 use Rattle.art_core.specs.Accesses.{got_by, words_after}
-use Rattle.machine.specs.declared.doing.Doing.{Doing}
-use Rattle.machine.specs.Doings.{after_access}
-use Rattle.machine.specs.Fitting.{Advances, FitsDoing, FitsProcess, Moves}
-
-asks_of : (t : Turn) (a : Access) → access_of t ≡ Some a → (p : Option Point) × (t ≡ Asks a p)
-asks_of (Asks b p) a e = (p, ap (λ x. Asks x p) (some_same e))
-  where
-    some_same : {x y : Access} → ◌≡◌ {A = Option Access} (Some x) (Some y) → x ≡ y
-    some_same h = cc
-asks_of (Answers r) a e = absurd (none_some e)
-  where
-    none_some : {y : Access} → ◌≡◌ {A = Option Access} None (Some y) → ⊥
-    none_some h = cc
-
-pub answers_of : (t : Turn) (r : Reply) → reply_of t ≡ Some r → t ≡ Answers r
-answers_of (Asks b p) r e = absurd (none_some e)
-  where
-    none_some : {y : Reply} → ◌≡◌ {A = Option Reply} None (Some y) → ⊥
-    none_some h = cc
-answers_of (Answers q) r e = ap Answers (some_same e)
-  where
-    some_same : {x y : Reply} → ◌≡◌ {A = Option Reply} (Some x) (Some y) → x ≡ y
-    some_same h = cc
+use Rattle.art.specs.Doings.{FitsDoing, after_access}
+use Rattle.art.proofs.DoingLemmas.{next-asks, fits-after}
+use Rattle.machine.specs.Fitting.{Advances, FitsProcess, Moves}
 
 pub unanswered : (o : Option Reply) → is_some o ≡ false → o ≡ None
 unanswered None h = refl
@@ -52,28 +31,19 @@ unanswered (Some r) h = absurd (true_false h)
     true_false : is_some (Some r) ≡ false → ⊥
     true_false k = cc
 
-module _ (shape : Shape) (variant : Variant) (call : Call) (got old new : List ℕ) (rest : Rest) (a : Access) (w : ℕ)
-    (fits : Fits shape variant call got rest) (asks : access_of (rest []) ≡ Some a) (gave : w ≡ got_by a old) where
-  asked : (p : Option Point) × (act shape variant call got ≡ Asks a p)
-  asked = let found = asks_of (rest []) a asks in (found.0, ap (act shape variant call) (sym (append-nil got)) ∙ (sym (fits []) ∙ found.1))
-
-  later : (rest' : Rest) → ((more : List ℕ) → rest' more ≡ rest (w ∷ more)) → Fits shape variant call (got ++ got_by a old ∷ []) rest'
-  later rest' goes = λ more. goes more
-      ∙ (fits (w ∷ more)
-      ∙ (ap (λ x. act shape variant call (got ++ x ∷ more)) gave ∙ ap (act shape variant call) (sym (append_assoc got (got_by a old ∷ []) more))))
-
-  answers : (r : Reply) → reply_of (rest (w ∷ [])) ≡ Some r → act shape variant call (got ++ got_by a old ∷ []) ≡ Answers r
-  answers r e = ap (λ x. act shape variant call (got ++ x ∷ [])) (sym gave) ∙ (sym (fits (w ∷ [])) ∙ answers_of (rest (w ∷ [])) r e)
-
-  makes : (doing : Doing) → new ≡ words_after a old → FitsDoing shape variant doing (Some call) (got ++ got_by a old ∷ [])
-      → Advances shape variant call got old new doing
-  makes doing wrote f = record { access = a; point = asked.0; asks = asked.1; words = wrote; fits = f }
-
-  -- the task took what the access got: it goes on, or its call is answered
-  pub taken : (task : Task) (o : Option Reply) → new ≡ words_after a old → reply_of (rest (w ∷ [])) ≡ o
-      → (o ≡ None → (more : List ℕ) → rest_of task more ≡ rest (w ∷ more)) → Advances shape variant call got old new (after_access task o)
-  taken task None wrote reply goes = makes (Going task) wrote (call, refl, later (rest_of task) (goes refl))
-  taken task (Some r) wrote reply goes = makes (Answered r) wrote (call, refl, answers r reply)
+-- the task took what the access got: it goes on, or its call is answered
+pub taken : (shape : Shape) (variant : Variant) (call : Call) (got old new : List ℕ) (rest : Rest) (a : Access) (w : ℕ) → Fits shape variant call got rest
+    → access_of (rest []) ≡ Some a → w ≡ got_by a old → (task : Task) (o : Option Reply) → new ≡ words_after a old → reply_of (rest (w ∷ [])) ≡ o
+    → (o ≡ None → (more : List ℕ) → rest_of task more ≡ rest (w ∷ more)) → Advances shape variant call got old new (after_access task o)
+taken shape variant call got old new rest a w fits asks gave task o wrote reply goes =
+    let asked = next-asks shape variant call got rest fits a asks in
+    record {
+      access = a;
+      point = asked.0;
+      asks = asked.1;
+      words = wrote;
+      fits = fits-after shape variant call got rest fits (got_by a old) w task o gave reply goes;
+    }
 
 -- A turn of a runner is the next move of the process that it fits.
 

@@ -1,31 +1,22 @@
 -- What it means that a runner fits a process of the core.
-use Rattle.std.specs.Prelude.{◌≡◌, ℕ, List, [], ◌∷◌, ◌++◌, length, slice_get, slice_index, slice_set, Option, Some, None}
+use Rattle.std.specs.Prelude.{◌≡◌, ℕ, List, [], ◌∷◌, ◌++◌, length, slice_get, slice_index, slice_set, Option, Some}
 use Rattle.events.specs.declared.event.Call.{Call}
 use Rattle.art_rows.specs.declared.table.Shape.{Shape}
 use Rattle.art_steps.specs.declared.variant.Variant.{Variant}
-use Rattle.art_steps.specs.Steps.{Asks, Answers}
+use Rattle.art_steps.specs.Steps.{Asks}
 use Rattle.art_steps.specs.Act.{act}
-use Rattle.art_steps.specs.Fits.{Fits}
 use Rattle.art_steps.specs.declared.access.Access.{Access}
 use Rattle.art_steps.specs.declared.access.Point.{Point}
 use Rattle.art_core.specs.Accesses.{got_by, words_after}
-use Rattle.art.specs.Tasks.{rest_of}
 use Rattle.art_core.specs.declared.process.Process.{Process}
 use Rattle.art_core.specs.Core.{Plan, State, Move, begun, finished, next_move, word_of_move, new_word, after_move}
 use Rattle.machine.specs.declared.runner.Runner.{Runner}
-use Rattle.machine.specs.declared.doing.Doing.{Doing}
-use Rattle.machine.specs.declared.doing.Doing.TheVariants.{Idle, Going, Answered}
-use Rattle.machine.specs.Doings.{IsFor}
+use Rattle.art.specs.declared.doing.Doing.{Doing}
+use Rattle.art.specs.Doings.{FitsDoing, IsFor}
 
 -- each runner's task is for the table
 abbrev pub AreFor : Shape → List Runner → Type 0
 AreFor shape runners = (i : ℕ) (r : Runner) → slice_get runners i ≡ Some r → IsFor shape r.doing
-
--- what a process is doing fits its open call and the words that the call got
-abbrev pub FitsDoing : Shape → Variant → Doing → Option Call → List ℕ → Type 0
-FitsDoing shape variant Idle call got = call ≡ None
-FitsDoing shape variant (Going task) call got = (c : Call) × (call ≡ Some c) × Fits shape variant c got (rest_of task)
-FitsDoing shape variant (Answered r) call got = (c : Call) × (call ≡ Some c) × (act shape variant c got ≡ Answers r)
 
 -- a runner fits a process of the core
 pub record FitsProcess (plan : Plan) (p : ℕ) (r : Runner) (q : Process) : Type 0 where

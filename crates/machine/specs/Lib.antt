@@ -1,4 +1,3 @@
-pub mod Doings
 pub mod Fitting
 pub mod UnderWay
 pub mod Working

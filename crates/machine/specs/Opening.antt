@@ -2,7 +2,7 @@
 use Rattle.std.specs.Prelude.{◌≡◌, List, []}
 use Rattle.events.specs.declared.event.Call.{Call}
 use Rattle.machine.specs.declared.runner.Runner.{Runner}
-use Rattle.machine.specs.declared.doing.Doing.TheVariants.{Idle}
+use Rattle.art.specs.declared.doing.Doing.TheVariants.{Idle}
 
 pub record IsFresh (calls : List Call) (r : Runner) : Type 0 where
   pub script : r.script.items ≡ calls

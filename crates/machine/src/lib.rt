@@ -1,7 +1,6 @@
 //! The core run by schedules: processes that make the accesses of their calls over a vector of words, one step a turn.
 #![tactic(auto)]
 
-mod doing;
 mod fault;
 mod machine_turn;
 mod machines;

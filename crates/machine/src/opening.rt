@@ -3,9 +3,8 @@ ghost use Rattle.std.specs.Prelude.{map, IfOk};
 ghost use Rattle.std.specs.List.{AllZip};
 ghost use Rattle.machine.specs.Opening.{IsFresh};
 
-use crate::doing::Doing;
 use crate::runner::Runner;
-use art::TreeCall;
+use art::{Doing, TreeCall};
 use events::Memory;
 use std::alloc::Global;
 

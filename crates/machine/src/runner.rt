@@ -1,8 +1,7 @@
 ghost use Rattle.std.specs.Prelude.{◌≡◌, ◌≤◌, false, vec_len};
-ghost use Rattle.machine.specs.Doings.{is_late};
+ghost use Rattle.art.specs.Doings.{is_late};
 
-use crate::doing::Doing;
-use art::TreeCall;
+use art::{Doing, TreeCall};
 use events::Event;
 
 /// A process: its script, how many calls of it were begun and how many are finished, what it is doing, and its events with

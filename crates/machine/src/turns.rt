@@ -10,13 +10,12 @@ ghost use Rattle.art_rows.specs.Table.{table_words};
 ghost use Rattle.art_steps.specs.declared.variant.Variant.{Variant};
 ghost use Rattle.art_steps.specs.Fits.{Fits};
 ghost use Rattle.art.specs.Tasks.{rest_of, shape_of, IsReady};
-ghost use Rattle.machine.specs.Doings.{IsFor, IsAnswered, after_access};
+ghost use Rattle.art.specs.Doings.{IsFor, IsAnswered, after_access};
 ghost use Rattle.machine.specs.Fitting.{Advances};
 
-use crate::doing::Doing;
 use crate::runner::Runner;
 use crate::table::{access, stamp};
-use art::{Point, Shape, Task, Variant};
+use art::{Doing, Point, Shape, Task, Variant};
 use events::{Event, Memory, Reply};
 use std::alloc::Global;
 use std::mem;
@@ -54,7 +53,7 @@ impl Runner {
     ghost use Rattle.machine.specs.Working.{HasNothingToDo};
     ghost use Rattle.machine.specs.Fitting.{FitsProcess, Moves};
     ghost use Rattle.art_rows.specs.Table.{IsWithinLimits};
-    ghost use Rattle.machine.specs.declared.doing.Doing.TheVariants.{Idle};
+    ghost use Rattle.art.specs.declared.doing.Doing.TheVariants.{Idle};
 
     /// Draws the stamp of the next call's invocation.
     fn invoke(

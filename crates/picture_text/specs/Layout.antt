@@ -1,5 +1,6 @@
 -- Where things stand, in the units of the text, at a width of a column.
-use Rattle.std.specs.Prelude.{ℕ, ◌+◌, ◌-◌, ◌*◌, ◌/◌, max, Option, Some, None}
+use Rattle.std.specs.Prelude.{ℕ, ◌+◌, ◌-◌, ◌*◌, ◌/◌, max, min, List, length, map, Option, Some, None, option_map, string_bytes}
+use Rattle.list_laws.specs.Lists.{greatest}
 use Rattle.pictures.specs.declared.bars.Bar.{Bar}
 
 -- a column from the left, and a lane from above
@@ -21,6 +22,22 @@ end_of columns bar = end_from columns bar.to
 -- how many letters have room above a bar
 abbrev pub room_of : ℕ → ℕ → Bar → ℕ
 room_of width columns bar = (width * (end_of columns bar - bar.from + 1) - 6) / 6
+
+-- how many letters a call has, or its reply, whichever has more
+abbrev pub letters : List ℕ → Option (List ℕ) → ℕ
+letters call None = length call
+letters call (Some reply) = max (length call) (length reply)
+
+abbrev pub letters_of : Bar → ℕ
+letters_of bar = letters (string_bytes bar.call) (option_map string_bytes bar.reply)
+
+-- a width of a column at which these letters have room above a bar
+abbrev pub width_for : ℕ → Bar → ℕ
+width_for columns bar = (letters_of bar * 6 + 6) / (end_of columns bar - bar.from + 1) + 1
+
+-- the width of a column: at it the words of all bars have room, where it is from 28 to 72
+abbrev pub column_width : ℕ → List Bar → ℕ
+column_width columns bars = min 72 (max 28 (greatest (map (width_for columns) bars)))
 
 -- how wide and how high a picture is: the words above and below its lanes have room
 abbrev pub width_of : ℕ → ℕ → ℕ

@@ -1,12 +1,12 @@
 -- The text of a picture: Scalable Vector Graphics 1.1.
-use Rattle.std.specs.Prelude.{◌≡◌, ℕ, ◌+◌, ◌-◌, ◌/◌, ◌≤◌, List, [], ◌∷◌, ◌++◌, length, codes}
+use Rattle.std.specs.Prelude.{◌≡◌, ℕ, ◌+◌, ◌-◌, ◌/◌, List, [], ◌∷◌, ◌++◌, length, codes}
 use Rattle.pictures.specs.declared.bars.Bar.{Bar}
 use Rattle.pictures.specs.declared.marks.Mark.{Mark}
 use Rattle.pictures.specs.declared.pictures_of.Picture.{Picture}
 use Rattle.picture_text.specs.Bars.{with_bar}
 use Rattle.picture_text.specs.Marks.{with_mark}
 use Rattle.picture_text.specs.Frame.{head_text, with_heading, with_start, with_lane, with_legend}
-use Rattle.picture_text.specs.Layout.{y_of, width_of, height_of}
+use Rattle.picture_text.specs.Layout.{y_of, width_of, height_of, column_width}
 
 -- the lanes, from one on
 abbrev pub with_lanes : List ℕ → ℕ → ℕ → List ℕ → List ℕ
@@ -35,9 +35,6 @@ svg_text style width picture =
     let bars = with_bars lanes width picture.columns picture.bars.items in
     with_legend (with_marks bars width picture.marks.items) (y_of (length picture.lanes.items) + 20) picture.heading ++ codes "</svg>"
 
--- a text of a picture: at some width of a column from 28 to 72
-pub record IsSvgOf (style : List ℕ) (picture : Picture) (text : List ℕ) : Type 0 where
-  pub width : ℕ
-  pub wide : 28 ≤ width
-  pub narrow : width ≤ 72
-  pub text_is : text ≡ svg_text style width picture
+-- the text of a picture: at the width of a column at which its words have room
+abbrev pub IsSvgOf : List ℕ → Picture → List ℕ → Type 0
+IsSvgOf style picture text = text ≡ svg_text style (column_width picture.columns picture.bars.items) picture

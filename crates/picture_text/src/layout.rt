@@ -1,6 +1,6 @@
 // Where things stand, in the units of the text.
 ghost use Rattle.std.specs.Prelude.{◌≡◌, ◌≤◌, ◌<◌, ◌^◌};
-ghost use Rattle.picture_text.specs.Layout.{x_of, y_of, end_of, room_of, height_of, width_of};
+ghost use Rattle.picture_text.specs.Layout.{x_of, y_of, end_of, room_of, height_of, width_of, letters_of, column_width};
 
 use pictures::{Bar, Picture};
 
@@ -54,7 +54,7 @@ pub fn height_of(lanes: usize) -> u128
 
 /// The width of a column at which the words of all bars have room, where it is from 28 to 72.
 pub fn column_width(picture: &Picture) -> u8
-    ensures { (28 ≤ result) × (result ≤ 72) }
+    ensures { result ≡ column_width picture.now.columns picture.now.bars.items }
 {
     let mut width: u8 = 28;
     for bar in &picture.bars {
@@ -70,7 +70,9 @@ pub fn column_width(picture: &Picture) -> u8
 }
 
 /// The length of the longer one of a bar's words.
-fn longest(bar: &Bar) -> usize {
+fn longest(bar: &Bar) -> usize
+    ensures { result ≡ letters_of bar.now }
+{
     match &bar.reply {
         Some(reply) => bar.call.len().max(reply.len()),
         None => bar.call.len(),

@@ -1,6 +1,6 @@
 //! The text of a picture: one SVG that names nothing outside of itself, without a script.
 //!
-//! What stands in it is a function of the picture and of the width of a column.
+//! What stands in it is a function of the picture: its columns are as wide as its words ask, from 28 to 72.
 #![tactic(auto)]
 
 mod bar_text;

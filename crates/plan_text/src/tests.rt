@@ -31,7 +31,7 @@ fn expect_fault(rt: &impl Abort, alloc: Global, text: &str, fault: PlanFault) ->
     Ok(())
 }
 
-/// A text of one script for each item of `sizes`, with so many calls.
+/// A text of so many scripts, each with so many calls.
 fn text_of(alloc: Global, scripts: usize, calls: usize) -> Result<String, Fail> {
     let mut text = String::new(alloc);
     text.push_str("{\"version\":1,\"scripts\":[")?;

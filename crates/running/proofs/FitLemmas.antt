@@ -5,15 +5,18 @@ use Rattle.std.specs.List.{range_with_len}
 use Rattle.std.proofs.lemmas.List.{map-append}
 use Rattle.std.proofs.lemmas.Option.{same_Some, none-some}
 use Rattle.events.specs.declared.event.Call.{Call}
+use Rattle.art_rows.specs.declared.table.Shape.{Shape}
+use Rattle.art_steps.specs.declared.variant.Variant.{Variant}
+use Rattle.art.specs.declared.doing.Doing.{Doing}
+use Rattle.art.specs.declared.doing.Doing.TheVariants.{Idle, Going, Answered}
+use Rattle.art.specs.Doings.{FitsDoing}
 use Rattle.art_core.specs.declared.process.Process.{Process}
 use Rattle.art_core.specs.Core.{begun, idle}
 use Rattle.art_shared.specs.declared.view.Setup.{Setup}
 use Rattle.art_shared.specs.declared.view.View.{View}
 use Rattle.art_shared.specs.Views.{Numbered, open_move, next_in, is_first_idle, is_idle, left_of_first, calls_left, placed, merge}
 use Rattle.running.specs.declared.runner.Runner.{Runner}
-use Rattle.running.specs.declared.runner.Doing.{Doing}
-use Rattle.running.specs.declared.runner.Doing.TheVariants.{Idle, Going, Answered}
-use Rattle.running.specs.Fitting.{Run, FitsDoing, FitsProcess, Fit, others_in, IsFirst, IsBeside}
+use Rattle.running.specs.Fitting.{Run, FitsProcess, Fit, others_in, IsFirst, IsBeside}
 use Rattle.running.specs.Steps.{first_number, least_process, is_open}
 
 -- The first process.
@@ -60,13 +63,15 @@ open-move setup got (Some call) = refl
 pub open-is : (v : View) (n : ℕ) (q : Process) (others : List Numbered) → v.processes ≡ (n, q) ∷ others → is_open v ≡ is_some q.call
 open-is v n q others is = ap (λ xs. is_some (next_in v.setup xs)) is ∙ open-move v.setup q.got q.call
 
-pub idle-call : (setup : Setup) (doing : Doing) (call : Option Call) (got : List ℕ) → FitsDoing setup doing call got → doing ≡ Idle → is_some call ≡ false
-idle-call setup doing call got fits is = ap is_some (subst (λ d. FitsDoing setup d call got) is fits)
+pub idle-call : (shape : Shape) (variant : Variant) (doing : Doing) (call : Option Call) (got : List ℕ) → FitsDoing shape variant doing call got → doing ≡ Idle
+    → is_some call ≡ false
+idle-call shape variant doing call got fits is = ap is_some (subst (λ d. FitsDoing shape variant d call got) is fits)
 
-pub answered-call : (setup : Setup) (doing : Doing) (call : Option Call) (got : List ℕ) → FitsDoing setup doing call got → (doing ≡ Idle → ⊥) → is_some call ≡ true
-answered-call setup Idle call got fits other = absurd (other refl)
-answered-call setup (Going o) call got fits other = ap is_some fits.1
-answered-call setup (Answered r) call got fits other = ap is_some fits.1
+pub answered-call : (shape : Shape) (variant : Variant) (doing : Doing) (call : Option Call) (got : List ℕ) → FitsDoing shape variant doing call got
+    → (doing ≡ Idle → ⊥) → is_some call ≡ true
+answered-call shape variant Idle call got fits other = absurd (other refl)
+answered-call shape variant (Going task) call got fits other = ap is_some fits.1
+answered-call shape variant (Answered reply) call got fits other = ap is_some fits.1
 
 pub left-is : (v : View) (n : ℕ) (r : Runner) → IsFirst v n r → calls_left v ≡ r.left
 left-is v n r first =
@@ -151,7 +156,7 @@ first_process p = (p, idle)
 pub fits-idle : (setup : Setup) (n : ℕ) (r : Runner) → r.left ≡ setup.calls_each → r.doing ≡ Idle → r.log.items ≡ [] → FitsProcess setup (n, idle) (n, r)
 fits-idle setup n r left is log = record {
   number = refl;
-  doing = subst (λ d. FitsDoing setup d None []) (sym is) refl;
+  doing = subst (λ d. FitsDoing setup.shape setup.variant d None []) (sym is) refl;
   left = let none : length (begun idle) ≡ 0 = refl in omega (arith, none, left);
   log = sym log;
 }

@@ -1,40 +1,33 @@
 -- A step of a process as a thread runs it is a step of the process that it fits.
-use Rattle.std.proofs.Common.{◌≡◌, ℕ, zero, suc, ◌+◌, IsTrue, List, [], ◌∷◌, ◌++◌, length, refl, sym, ap, subst, ◌∙◌, arith, append_assoc}
+use Rattle.std.proofs.Common.{◌≡◌, ℕ, zero, suc, ◌+◌, IsTrue, List, [], ◌∷◌, ◌++◌, length, refl, sym, ap, subst, ◌∙◌, arith}
 use Rattle.std.specs.Prelude.{Option, Some, None, MatchOption, is_some}
 use Rattle.std.proofs.lemmas.List.{append-nil, length-append}
 use Rattle.std.proofs.lemmas.List.Elements.{filter_map-append}
-use Rattle.std.proofs.lemmas.Option.{same_Some, none-some}
 use Rattle.events.specs.declared.event.Call.{Call}
 use Rattle.events.specs.declared.event.Reply.{Reply}
 use Rattle.events.specs.declared.event.Event.TheVariants.{Invoke, Answer}
 use Rattle.logs.specs.Logs.{Stamped}
-use Rattle.art.specs.Tasks.{rest_of}
 use Rattle.art_steps.specs.declared.access.Access.{Access}
-use Rattle.art_steps.specs.declared.access.Point.{Point}
-use Rattle.art_steps.specs.Steps.{Turn, Asks, Answers, access_of, reply_of}
+use Rattle.art_steps.specs.Steps.{Turn, Rest, Asks, Answers, access_of, reply_of}
 use Rattle.art_steps.specs.Act.{act}
 use Rattle.art_steps.specs.Fits.{Fits}
+use Rattle.art.specs.declared.task.Task.{Task}
+use Rattle.art.specs.declared.doing.Doing.TheVariants.{Idle, Going, Answered}
+use Rattle.art.specs.Tasks.{rest_of}
+use Rattle.art.specs.Doings.{FitsDoing, after_access}
+use Rattle.art.proofs.DoingLemmas.{next-asks, fits-after}
 use Rattle.art_core.specs.declared.process.Process.{Process}
 use Rattle.art_core.specs.Accesses.{told}
 use Rattle.art_core.specs.Core.{Move, Invokes, Makes, Responds, begun, invoked, move_of, after_move}
+use Rattle.art_shared.specs.declared.view.Setup.{Setup}
 use Rattle.art_shared.specs.declared.view.View.{View}
 use Rattle.art_shared.specs.Views.{Numbered, view, open_move, next_in, next_of, moved_first, moved_if, advanced, invoking, IsAnswered}
 use Rattle.running.specs.declared.runner.Runner.{Runner}
-use Rattle.running.specs.declared.runner.Open.{Open}
-use Rattle.running.specs.declared.runner.Doing.TheVariants.{Idle, Going, Answered}
-use Rattle.running.specs.Fitting.{FitsDoing, FitsProcess, others_of, IsFirst, IsBeside}
+use Rattle.running.specs.Fitting.{FitsProcess, others_of, IsFirst, IsBeside}
 use Rattle.running.specs.Steps.{is_open, Ran, HasReplied}
 use Rattle.running.proofs.FitLemmas.{open-is}
 
 -- What a call does next.
-
-asks-of : (t : Turn) (a : Access) → access_of t ≡ Some a → (p : Option Point) × (t ≡ Asks a p)
-asks-of (Asks b p) a e = (p, ap (λ x. Asks x p) (same_Some b a e))
-asks-of (Answers r) a e = absurd (none-some a e)
-
-answers-of : (t : Turn) (r : Reply) → reply_of t ≡ Some r → t ≡ Answers r
-answers-of (Asks b p) r e = absurd (none-some r e)
-answers-of (Answers q) r e = ap Answers (same_Some q r e)
 
 next-move : (v : View) (n : ℕ) (q : Process) (others : List Numbered) (c : Call) (t : Turn) → v.processes ≡ (n, q) ∷ others → q.call ≡ Some c
     → act v.setup.shape v.setup.variant c q.got ≡ t → next_of v ≡ Some (move_of t)
@@ -55,71 +48,78 @@ module _ (v w : View) (number : ℕ) (old new : Runner) (first : IsFirst v numbe
   pub beside-now : IsBeside v w
   beside-now = record { setup = ap (λ z. z.setup) is; others = ap others_of is }
 
--- An access.
-module _ (v : View) (number : ℕ) (r : Runner) (call : Open) (first : IsFirst v number (record r { doing = Going call })) (a : Access)
-    (asks : access_of (rest_of call.task []) ≡ Some a) where
+-- The open call of the first process goes on, with room for what its next access gets.
+module _ (v : View) (number : ℕ) (r : Runner) (task : Task) (first : IsFirst v number r) (going : r.doing ≡ Going task) where
   abbrev q : Process
   q = first.process
 
-  abbrev c : Call
-  c = first.fits.doing.0
+  abbrev setup : Setup
+  setup = v.setup
 
-  fits : Fits v.setup.shape v.setup.variant c q.got (rest_of call.task)
-  fits = first.fits.doing.2
+  under_way : FitsDoing setup.shape setup.variant (Going task) q.call q.got
+  under_way = subst (λ d. FitsDoing setup.shape setup.variant d q.call q.got) going first.fits.doing
 
-  pub next-access : next_of v ≡ Some (Makes a)
-  next-access =
-      let found = asks-of (rest_of call.task []) a asks in
-      next-move v number q (others_of v) c (Asks a found.0) first.is first.fits.doing.1
-      (ap (act v.setup.shape v.setup.variant c) (sym (append-nil q.got)) ∙ (sym (fits []) ∙ found.1))
-
-  module _ (w : View) (n : ℕ) (made : w ≡ advanced v n) (tells : told a n ≡ n) (new : Runner) (left : new.left ≡ r.left) (log : new.log.items ≡ r.log.items) where
-    moved-view : w ≡ view v.setup ((number, after_move number (Makes a) n q) ∷ others_of v)
-    moved-view = made ∙ advanced-is v (Makes a) number q (others_of v) first.is next-access n
-
-    pub access-beside : IsBeside v w
-    access-beside = beside-now v w number _ new first (after_move number (Makes a) n q) moved-view
-
-    pub access-open : IsTrue (is_open w)
-    access-open =
-        open-is w number (after_move number (Makes a) n q) (others_of v) (ap (λ z. z.processes) moved-view) ∙ ap is_some first.fits.doing.1
-
-    access-first : FitsDoing v.setup new.doing q.call (q.got ++ told a n ∷ []) → IsFirst w number new
-    access-first doing = first-now v w number _ new first (after_move number (Makes a) n q) moved-view (record {
+  -- it has taken room, and no more
+  pub first-ready : (later : Task) (new : Runner) → ((rest : List ℕ) → rest_of later rest ≡ rest_of task rest) → new.doing ≡ Going later
+      → new.left ≡ r.left → new.log.items ≡ r.log.items → IsFirst v number new
+  first-ready later new same is left log = record {
+    process = q;
+    is = first.is;
+    fits = record {
       number = refl;
-      doing = doing;
+      doing = subst (λ d. FitsDoing setup.shape setup.variant d q.call q.got) (sym is)
+          (under_way.0, under_way.1, λ more. same more ∙ under_way.2 more);
       left = ap (λ k. length (begun q) + k) left ∙ first.fits.left;
       log = first.fits.log ∙ sym log;
-    })
+    };
+  }
 
-    -- it goes on
-    pub goes-on : (later : Open) → new.doing ≡ Going later → ((rest : List ℕ) → rest_of later.task rest ≡ rest_of call.task (n ∷ rest)) → IsFirst w number new
-    goes-on later is goes =
-        access-first (subst (λ d. FitsDoing v.setup d q.call (q.got ++ told a n ∷ [])) (sym is) (
-          c,
-          first.fits.doing.1,
-          λ more. goes more
-              ∙ (fits (n ∷ more)
-              ∙ (ap (λ x. act v.setup.shape v.setup.variant c (q.got ++ x ∷ more)) (sym tells)
-              ∙ ap (act v.setup.shape v.setup.variant c) (sym (append_assoc q.got (told a n ∷ []) more)))),
-        ))
+  module _ (rest : Rest) (same : (more : List ℕ) → rest more ≡ rest_of task more) (a : Access) (asks : access_of (rest []) ≡ Some a) where
+    abbrev c : Call
+    c = under_way.0
 
-    -- its reply is known
-    pub gets-reply : (reply : Reply) → new.doing ≡ Answered reply → reply_of (rest_of call.task (n ∷ [])) ≡ Some reply → IsFirst w number new
-    gets-reply reply is known =
-        access-first (subst (λ d. FitsDoing v.setup d q.call (q.got ++ told a n ∷ [])) (sym is) (
-          c,
-          first.fits.doing.1,
-          ap (λ x. act v.setup.shape v.setup.variant c (q.got ++ x ∷ [])) tells ∙ (sym (fits (n ∷ [])) ∙ answers-of (rest_of call.task (n ∷ [])) reply known),
-        ))
+    fits : Fits setup.shape setup.variant c q.got rest
+    fits = λ more. same more ∙ under_way.2 more
+
+    pub next-access : next_of v ≡ Some (Makes a)
+    next-access =
+        let found = next-asks setup.shape setup.variant c q.got rest fits a asks in
+        next-move v number q (others_of v) c (Asks a found.0) first.is under_way.1 found.1
+
+    module _ (w : View) (n : ℕ) (made : w ≡ advanced v n) where
+      moved-view : w ≡ view setup ((number, after_move number (Makes a) n q) ∷ others_of v)
+      moved-view = made ∙ advanced-is v (Makes a) number q (others_of v) first.is next-access n
+
+      pub access-beside : IsBeside v w
+      access-beside = beside-now v w number r r first (after_move number (Makes a) n q) moved-view
+
+      pub access-open : IsTrue (is_open w)
+      access-open =
+          open-is w number (after_move number (Makes a) n q) (others_of v) (ap (λ z. z.processes) moved-view) ∙ ap is_some under_way.1
+
+      pub access-first : (later : Task) (o : Option Reply) (new : Runner) → told a n ≡ n → reply_of (rest (n ∷ [])) ≡ o
+          → (o ≡ None → (more : List ℕ) → rest_of later more ≡ rest (n ∷ more)) → new.doing ≡ after_access later o
+          → new.left ≡ r.left → new.log.items ≡ r.log.items → IsFirst w number new
+      access-first later o new tells reply goes is left log =
+          first-now v w number r new first (after_move number (Makes a) n q) moved-view (record {
+            number = refl;
+            doing = subst (λ d. FitsDoing setup.shape setup.variant d q.call (q.got ++ told a n ∷ [])) (sym is)
+                (subst (λ call. FitsDoing setup.shape setup.variant (after_access later o) call (q.got ++ told a n ∷ [])) (sym under_way.1)
+                (fits-after setup.shape setup.variant c q.got rest fits (told a n) n later o (sym tells) reply goes));
+            left = ap (λ k. length (begun q) + k) left ∙ first.fits.left;
+            log = first.fits.log ∙ sym log;
+          })
 
 -- The response.
-module _ (v : View) (number : ℕ) (r : Runner) (reply : Reply) (first : IsFirst v number (record r { doing = Answered reply })) where
+module _ (v : View) (number : ℕ) (r : Runner) (reply : Reply) (first : IsFirst v number r) (answered : r.doing ≡ Answered reply) where
   abbrev p : Process
   p = first.process
 
-  pub next-response : next_of v ≡ Some (Responds reply)
-  next-response = next-move v number p (others_of v) first.fits.doing.0 (Answers reply) first.is first.fits.doing.1 first.fits.doing.2
+  known : FitsDoing v.setup.shape v.setup.variant (Answered reply) p.call p.got
+  known = subst (λ d. FitsDoing v.setup.shape v.setup.variant d p.call p.got) answered first.fits.doing
+
+  next-response : next_of v ≡ Some (Responds reply)
+  next-response = next-move v number p (others_of v) known.0 (Answers reply) first.is known.1 known.2
 
   pub is-answered : IsAnswered v
   is-answered = (reply, next-response)
@@ -140,23 +140,20 @@ module _ (v : View) (number : ℕ) (r : Runner) (reply : Reply) (first : IsFirst
       log = refl;
     }
 
-    module _ (new : Runner) (left : new.left ≡ r.left) (log : new.log.items ≡ r.log.items ++ (n, Answer number reply) ∷ []) (idle : new.doing ≡ Idle) where
-      pub response-beside : IsBeside v w
-      response-beside = beside-now v w number _ new first (after_move number (Responds reply) n p) answered-view
+    pub response-beside : IsBeside v w
+    response-beside = beside-now v w number r r first (after_move number (Responds reply) n p) answered-view
 
-      pub response-first : IsFirst w number new
-      response-first = first-now v w number _ new first (after_move number (Responds reply) n p) answered-view (record {
-        number = refl;
-        doing = subst (λ d. FitsDoing v.setup d None []) (sym idle) refl;
-        left =
-            let same = ap (λ l. length l) (filter_map-append (λ (e : Stamped). invoked e.1) p.log ((n, Answer number reply) ∷ []) ∙ append-nil (begun p)) in
-            same' same;
-        log = ap (λ l. l ++ (n, Answer number reply) ∷ []) first.fits.log ∙ sym log;
-      })
-        where
-          same' : length (begun (after_move number (Responds reply) n p)) ≡ length (begun p)
-              → length (begun (after_move number (Responds reply) n p)) + new.left ≡ v.setup.calls_each
-          same' e = ap (λ k. k + new.left) e ∙ (ap (λ k. length (begun p) + k) left ∙ first.fits.left)
+    pub response-first : (new : Runner) → new.left ≡ r.left → new.log.items ≡ r.log.items ++ (n, Answer number reply) ∷ [] → new.doing ≡ Idle
+        → IsFirst w number new
+    response-first new left log idle = first-now v w number r new first (after_move number (Responds reply) n p) answered-view (record {
+      number = refl;
+      doing = subst (λ d. FitsDoing v.setup.shape v.setup.variant d None []) (sym idle) refl;
+      left =
+          ap (λ k. k + new.left)
+          (ap (λ l. length l) (filter_map-append (λ (e : Stamped). invoked e.1) p.log ((n, Answer number reply) ∷ []) ∙ append-nil (begun p)))
+          ∙ (ap (λ k. length (begun p) + k) left ∙ first.fits.left);
+      log = ap (λ l. l ++ (n, Answer number reply) ∷ []) first.fits.log ∙ sym log;
+    })
 
 -- The invocation.
 module _ (v : View) (number : ℕ) (r : Runner) (first : IsFirst v number r) (call : Call) (w : View) (n : ℕ) (made : w ≡ invoking call v n) where
@@ -169,11 +166,11 @@ module _ (v : View) (number : ℕ) (r : Runner) (first : IsFirst v number r) (ca
   pub invoke-beside : IsBeside v w
   invoke-beside = beside-now v w number r r first (after_move number (Invokes call) n o) invoked-view
 
-  pub invoke-first : (new : Runner) (later : Open) → new.left + 1 ≡ r.left → new.log.items ≡ r.log.items ++ (n, Invoke number call) ∷ []
-      → new.doing ≡ Going later → ((rest : List ℕ) → rest_of later.task rest ≡ act v.setup.shape v.setup.variant call rest) → IsFirst w number new
-  invoke-first new later left log is goes = first-now v w number r new first (after_move number (Invokes call) n o) invoked-view (record {
+  pub invoke-first : (new : Runner) (task : Task) → new.left + 1 ≡ r.left → new.log.items ≡ r.log.items ++ (n, Invoke number call) ∷ []
+      → new.doing ≡ Going task → ((rest : List ℕ) → rest_of task rest ≡ act v.setup.shape v.setup.variant call rest) → IsFirst w number new
+  invoke-first new task left log is goes = first-now v w number r new first (after_move number (Invokes call) n o) invoked-view (record {
     number = refl;
-    doing = subst (λ d. FitsDoing v.setup d (Some call) []) (sym is) (call, refl, goes);
+    doing = subst (λ d. FitsDoing v.setup.shape v.setup.variant d (Some call) []) (sym is) (call, refl, goes);
     left =
         let more = ap (λ l. length l) (filter_map-append (λ (e : Stamped). invoked e.1) o.log ((n, Invoke number call) ∷ [])) in
         let long = length-append (begun o) (call ∷ []) in

@@ -1,33 +1,21 @@
 -- What it means that a process as a thread runs it fits the one that a place shows.
-use Rattle.std.specs.Prelude.{◌≡◌, ℕ, ◌+◌, List, [], ◌∷◌, length, Option, Some, None}
-use Rattle.events.specs.declared.event.Call.{Call}
-use Rattle.art_steps.specs.Steps.{Answers}
-use Rattle.art_steps.specs.Act.{act}
-use Rattle.art_steps.specs.Fits.{Fits}
-use Rattle.art.specs.Tasks.{rest_of}
+use Rattle.std.specs.Prelude.{◌≡◌, ℕ, ◌+◌, List, [], ◌∷◌, length}
+use Rattle.art.specs.Doings.{FitsDoing}
 use Rattle.art_core.specs.declared.process.Process.{Process}
 use Rattle.art_core.specs.Core.{begun}
 use Rattle.art_shared.specs.declared.view.Setup.{Setup}
 use Rattle.art_shared.specs.declared.view.View.{View}
 use Rattle.art_shared.specs.Views.{Numbered}
-use Rattle.running.specs.declared.runner.Doing.{Doing}
-use Rattle.running.specs.declared.runner.Doing.TheVariants.{Idle, Going, Answered}
 use Rattle.running.specs.declared.runner.Runner.{Runner}
 
 -- a process as a thread runs it, with its number
 abbrev pub Run : Type 0
 Run = ℕ × Runner
 
--- what it is doing fits the open call and the words that the call got
-abbrev pub FitsDoing : Setup → Doing → Option Call → List ℕ → Type 0
-FitsDoing setup Idle call got = call ≡ None
-FitsDoing setup (Going o) call got = (c : Call) × (call ≡ Some c) × Fits setup.shape setup.variant c got (rest_of o.task)
-FitsDoing setup (Answered r) call got = (c : Call) × (call ≡ Some c) × (act setup.shape setup.variant c got ≡ Answers r)
-
 -- it fits the process: the same number, the same call, as many calls left, the same log
 pub record FitsProcess (setup : Setup) (x : Numbered) (r : Run) : Type 0 where
   pub number : x.0 ≡ r.0
-  pub doing : FitsDoing setup r.1.doing x.1.call x.1.got
+  pub doing : FitsDoing setup.shape setup.variant r.1.doing x.1.call x.1.got
   pub left : length (begun x.1) + r.1.left ≡ setup.calls_each
   pub log : x.1.log ≡ r.1.log.items
 

@@ -7,8 +7,8 @@ ghost use Rattle.running.specs.Passes.{shows, setup_with, opened_for, IsPassOf};
 
 use crate::arena::Arena;
 use crate::pass::Pass;
-use crate::runner::{Doing, Runner};
-use art::{Shape, Variant};
+use crate::runner::Runner;
+use art::{Doing, Shape, Variant};
 use art_shared::{Setup, SharedCore};
 use events::{MAX_CALLS, Memory, PROCESSES};
 use std::alloc::Global;

@@ -5,7 +5,7 @@ ghost use Rattle.running.specs.Steps.{is_open, least_process};
 ghost use Rattle.running.specs.Passes.{shows, IsPass};
 
 use crate::pass::Pass;
-use crate::runner::Doing;
+use art::Doing;
 
 impl Pass {
     /// The number of the least process, which begins calls and makes their steps.

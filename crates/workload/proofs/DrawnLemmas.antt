@@ -5,7 +5,7 @@ use Rattle.std.proofs.lemmas.List.Elements.{All-map, All-from_recursion}
 use Rattle.std.proofs.lemmas.List.FromFn.{length-map-range_with_len}
 use Rattle.std.proofs.lemmas.List.Sums.{sum_by-cons}
 use Rattle.std.specs.List.{range_with_len, AllByRecursion}
-use Rattle.events.specs.declared.TheConstants.{PROCESSES, MAX_CALLS}
+use Rattle.events.specs.Limits.{process_limit, call_limit}
 use Rattle.rand_pcg.specs.Lcg.{Lcg}
 use Rattle.events.specs.declared.event.Call.{Call}
 use Rattle.art_steps.specs.TreeCalls.{is_tree_call}
@@ -77,8 +77,8 @@ scripts_of-are_scripts seed processes calls mix lt keys within =
     record {
       few = record {
         some_script = subst (λ (n : ℕ). 1 ≤ n) (sym long) within.some_process;
-        few_scripts = subst (λ (n : ℕ). n ≤ PROCESSES) (sym long) within.few_processes;
-        few_calls = subst (λ (n : ℕ). n ≤ MAX_CALLS) (sym sums) within.few_calls;
+        few_scripts = subst (λ (n : ℕ). n ≤ process_limit) (sym long) within.few_processes;
+        few_calls = subst (λ (n : ℕ). n ≤ call_limit) (sym sums) within.few_calls;
       };
       calls = All-given (λ script. All (λ call. IsTrue (is_tree_call call)) script) f
           (λ p. All-from_recursion (λ call. IsTrue (is_tree_call call)) _ (tree_calls mix keys lt calls (generator_of seed p))) ps;

@@ -1,6 +1,6 @@
 -- From what mixes, and how many processes and calls, a plan is drawn.
 use Rattle.std.specs.Prelude.{ℕ, ◌+◌, ◌*◌, ◌≡◌, ◌≤◌}
-use Rattle.events.specs.declared.TheConstants.{PROCESSES, MAX_CALLS}
+use Rattle.events.specs.Limits.{process_limit, call_limit}
 use Rattle.workload.specs.declared.mix.Mix.{Mix}
 
 -- the shares of the kinds are a hundred together
@@ -14,5 +14,5 @@ HasKeys mix = mix.lo ≤ mix.hi
 -- a plan may have so many processes, with so many calls each
 pub record AreWithin (processes calls : ℕ) : Type 0 where
   pub some_process : 1 ≤ processes
-  pub few_processes : processes ≤ PROCESSES
-  pub few_calls : processes * calls ≤ MAX_CALLS
+  pub few_processes : processes ≤ process_limit
+  pub few_calls : processes * calls ≤ call_limit

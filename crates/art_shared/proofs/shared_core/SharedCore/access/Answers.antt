@@ -1,11 +1,12 @@
-use Rattle.std.proofs.Common.{◌≡◌, eqb, rules, refl, ap, ◌∙◌}
+use Rattle.std.proofs.Common.{◌≡◌, eqb, rules, refl, sym, ap, subst, ◌∙◌}
 use mathlib.Core.Option.{none}
 use Rattle.std.specs.Prelude.{Some}
 use Rattle.atomic_table.specs.Table.{step}
 use Rattle.art_core.specs.Core.{Makes}
 use Rattle.art_steps.specs.declared.access.Access.TheVariants.{Load, Store, Exchange, Add}
-use Rattle.art_shared.specs.Views.{next_of}
+use Rattle.art_shared.specs.Views.{next_of, NumbersRise}
 use Rattle.art_shared.proofs.StepLemmas.{access-inside, access-allowed, store-allowed, store-blind, either-if}
+use Rattle.art_shared.proofs.RisingLemmas.{advanced-rises}
 use Rattle.art_shared.proofs.shared_core.SharedCore.access.Goals as goal
 
 pub load-requires : goal.load-requires
@@ -55,3 +56,15 @@ pub returns-in-Store-clause-made : goal.returns-in-Store-clause-made
 returns-in-Store-clause-made c =
     let next = c.requires.next ∙ ap (λ a. Some (Makes a)) c.in-Store.is in
     c.store.ensures.2.1 ∙ store-blind c.args.place.now.seat.me.0.view c.in-Store.word c.in-Store.value next c.in-Store.value 0
+
+pub invariant_of-place-clause-rising : goal.invariant_of-place-clause-rising
+invariant_of-place-clause-rising c = subst NumbersRise (sym c.load.ensures.2.1) (advanced-rises c.args.place.now.seat.me.0.view _ c.args.place.now.rising)
+
+pub invariant_of-place-in-Store-clause-rising : goal.invariant_of-place-in-Store-clause-rising
+invariant_of-place-in-Store-clause-rising c = subst NumbersRise (sym c.store.ensures.2.1) (advanced-rises c.args.place.now.seat.me.0.view _ c.args.place.now.rising)
+
+pub invariant_of-place-in-Exchange-clause-rising : goal.invariant_of-place-in-Exchange-clause-rising
+invariant_of-place-in-Exchange-clause-rising c = subst NumbersRise (sym c.compare_exchange.ensures.2.1) (advanced-rises c.args.place.now.seat.me.0.view _ c.args.place.now.rising)
+
+pub invariant_of-place-in-Add-clause-rising : goal.invariant_of-place-in-Add-clause-rising
+invariant_of-place-in-Add-clause-rising c = subst NumbersRise (sym c.fetch_add.ensures.2.1) (advanced-rises c.args.place.now.seat.me.0.view _ c.args.place.now.rising)

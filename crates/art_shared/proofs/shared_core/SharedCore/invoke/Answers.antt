@@ -2,9 +2,10 @@ use Rattle.std.proofs.Common.{◌≡◌, ◌<◌, IsTrue, rules, arith, refl, ap
 use mathlib.Core.Option.{none}
 use Rattle.atomic_table.specs.Table.{step}
 use Rattle.std.specs.Prelude.{Some}
-use Rattle.art_shared.specs.Views.{is_idle, calls_left, AllStamps}
+use Rattle.art_shared.specs.Views.{is_idle, calls_left, AllStamps, NumbersRise}
 use Rattle.art_shared.specs.Rule.{noted, with_asked}
 use Rattle.art_shared.proofs.StepLemmas.{note-allowed, invocation-allowed}
+use Rattle.art_shared.proofs.RisingLemmas.{invoking-rises}
 use Rattle.art_shared.proofs.shared_core.SharedCore.invoke.Goals as goal
 
 pub compare_exchange_with-requires : goal.compare_exchange_with-requires
@@ -40,3 +41,9 @@ returns-clause-invoked c =
 pub returns-clause-later : goal.returns-clause-later
 returns-clause-later c =
     subst (λ z. AllStamps (λ stamp. stamp < c.fetch_add.result) z.view) (c.compare_exchange_with.ensures.2.1 c.args.call.now refl) c.fetch_add.ensures.2.2
+
+pub invariant_of-place-clause-rising : goal.invariant_of-place-clause-rising
+invariant_of-place-clause-rising c =
+    let is = c.compare_exchange_with.ensures.2.1 c.args.call.now refl in
+    let made = c.fetch_add.ensures.2.1 ∙ ap (λ z. with_asked z.asked z.view c.fetch_add.result) is in
+    subst NumbersRise (sym made) (invoking-rises c.args.call.now c.args.place.now.seat.me.0.view _ c.args.place.now.rising)

@@ -1,5 +1,7 @@
-use Rattle.std.proofs.Common.{rules, arith}
+use Rattle.std.proofs.Common.{rules, arith, ap, subst, sym}
 use Rattle.art_shared.proofs.StepLemmas.{join-allowed}
+use Rattle.art_shared.specs.Views.{NumbersRise}
+use Rattle.art_shared.proofs.RisingLemmas.{merged-rises}
 use Rattle.art_shared.proofs.shared_core.SharedCore.join.Goals as goal
 
 pub join_seat-requires : goal.join_seat-requires
@@ -11,3 +13,7 @@ join_seat-requires c =
       omega (arith, core.words),
       join-allowed _ core.limits core.table.shared.table_id.slots _ c.args.place.now.seat.me c.requires.own.setup _ _,
     )
+
+pub invariant_of-place-clause-rising : goal.invariant_of-place-clause-rising
+invariant_of-place-clause-rising c =
+    subst NumbersRise (sym (ap (λ z. z.0.view) c.join_seat.ensures.2)) (merged-rises c.args.place.now.seat.me.0.view c.args.other.seat.me.0.view c.args.place.now.rising)

@@ -1,5 +1,5 @@
 use Rattle.std.proofs.Common.{refl, subst, ◌∙◌}
-use Rattle.machine.specs.Doings.{after_access}
+use Rattle.art.specs.Doings.{after_access}
 use Rattle.machine.specs.Fitting.{Advances}
 use Rattle.machine.proofs.TurnLemmas.{goes-on}
 use Rattle.machine.proofs.runner.Runner.turn.Goals as goal

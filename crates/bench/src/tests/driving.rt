@@ -1,7 +1,8 @@
 // Plans that are done by the program, with histories and lines worked out by hand.
 
+use super::failing_ends::{assert_reads_fail, assert_writes_fail};
+use super::leaves;
 use crate::command::run;
-use crate::tests::{assert_reads_fail, assert_writes_fail, leaves};
 use events::{Call, Reply};
 use history_engines::worked_texts::padded;
 use plan_engines::run_drive;
