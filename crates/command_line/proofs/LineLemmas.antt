@@ -21,7 +21,6 @@ use Rattle.command_line.specs.declared.line.Line.{Line}
 use Rattle.command_line.specs.declared.line.Line.TheVariants.{Check, Draw, Drive, Judge, Locate}
 use Rattle.command_line.specs.declared.line.Tree.{Tree}
 use Rattle.command_line.specs.declared.line.Tree.TheVariants.{Locked, Coupled, Optimistic, ReadUnchecked, ScanUnvalidated, LockUnchecked, EarlyRelease}
-use Rattle.command_line.specs.declared.line.TheConstants.{DEFAULT_BUDGET, DEFAULT_WORKERS}
 
 -- a name is no other name
 other_name : (a b : Text) → a ≡ b → bytes_eq a b ≡ false → ⊥
@@ -212,15 +211,15 @@ search_gets subcommand is_named words budget workers is = elim is.in_an_order [
 
 -- so are the two of a search
 record AreRead (budget workers : Option Text) (x y : ℕ) : Type 0 where
-  budget_is : x ≡ option_map_or number_of budget DEFAULT_BUDGET
-  workers_is : y ≡ option_map_or number_of workers DEFAULT_WORKERS
+  budget_is : x ≡ option_map_or number_of budget budget_default
+  workers_is : y ≡ option_map_or number_of workers workers_default
 
 numbers_read : (given : List Given) (budget workers : Option Text) (x y : ℕ) → value_given given (codes "budget") ≡ budget
     → value_given given (codes "workers") ≡ workers → IsReadFrom budget_flag (value_given given (codes "budget")) x
     → IsReadFrom workers_flag (value_given given (codes "workers")) y → AreRead budget workers x y
 numbers_read given budget workers x y b w read_budget read_workers = record {
-  budget_is = read_number (codes "budget") 1 budget_limit DEFAULT_BUDGET _ x read_budget ∙ ap (λ (o : Option Text). option_map_or number_of o DEFAULT_BUDGET) b;
-  workers_is = read_number (codes "workers") 1 workers_limit DEFAULT_WORKERS _ y read_workers ∙ ap (λ (o : Option Text). option_map_or number_of o DEFAULT_WORKERS) w;
+  budget_is = read_number (codes "budget") 1 budget_limit budget_default _ x read_budget ∙ ap (λ (o : Option Text). option_map_or number_of o budget_default) b;
+  workers_is = read_number (codes "workers") 1 workers_limit workers_default _ y read_workers ∙ ap (λ (o : Option Text). option_map_or number_of o workers_default) w;
 }
 
 -- a use of `judge`, for each of these words
@@ -235,7 +234,7 @@ judge_use words budget workers is = (search_gets (codes "judge") refl words budg
 judges_numbers : (given : List Given) (budget workers : Option Text) (line : Line) → value_given given (codes "budget") ≡ budget
     → value_given given (codes "workers") ≡ workers
     → Gives judge_usage given [] (asked_by line)
-    → line ≡ Judge (option_map_or number_of budget DEFAULT_BUDGET) (option_map_or number_of workers DEFAULT_WORKERS)
+    → line ≡ Judge (option_map_or number_of budget budget_default) (option_map_or number_of workers workers_default)
 judges_numbers given budget workers (Judge x y) b w gives =
     let read = numbers_read given budget workers x y b w gives.numbers.0.read gives.numbers.1.0.read in
     ap₂ Judge read.budget_is read.workers_is
@@ -243,7 +242,7 @@ judges_numbers given budget workers other b w gives = absurd (other_name _ _ giv
 
 pub judges : (words : List Text) (budget workers : Option Text) (line : Line) (is : IsJudge words budget workers)
     → Gives judge_usage (judge_given words budget workers is) [] (asked_by line)
-    → line ≡ Judge (option_map_or number_of budget DEFAULT_BUDGET) (option_map_or number_of workers DEFAULT_WORKERS)
+    → line ≡ Judge (option_map_or number_of budget budget_default) (option_map_or number_of workers workers_default)
 unfolding judge_given
 judges words budget workers line is gives =
     let gets = search_gets (codes "judge") refl words budget workers is in
@@ -261,7 +260,7 @@ locate_use words budget workers is = (search_gets (codes "locate") refl words bu
 locates_numbers : (given : List Given) (budget workers : Option Text) (line : Line) → value_given given (codes "budget") ≡ budget
     → value_given given (codes "workers") ≡ workers
     → Gives locate_usage given [] (asked_by line)
-    → line ≡ Locate (option_map_or number_of budget DEFAULT_BUDGET) (option_map_or number_of workers DEFAULT_WORKERS)
+    → line ≡ Locate (option_map_or number_of budget budget_default) (option_map_or number_of workers workers_default)
 locates_numbers given budget workers (Locate x y) b w gives =
     let read = numbers_read given budget workers x y b w gives.numbers.0.read gives.numbers.1.0.read in
     ap₂ Locate read.budget_is read.workers_is
@@ -269,7 +268,7 @@ locates_numbers given budget workers other b w gives = absurd (other_name _ _ gi
 
 pub locates : (words : List Text) (budget workers : Option Text) (line : Line) (is : IsLocate words budget workers)
     → Gives locate_usage (locate_given words budget workers is) [] (asked_by line)
-    → line ≡ Locate (option_map_or number_of budget DEFAULT_BUDGET) (option_map_or number_of workers DEFAULT_WORKERS)
+    → line ≡ Locate (option_map_or number_of budget budget_default) (option_map_or number_of workers workers_default)
 unfolding locate_given
 locates words budget workers line is gives =
     let gets = search_gets (codes "locate") refl words budget workers is in
@@ -287,7 +286,7 @@ draw_use words budget workers is = (search_gets (codes "draw") refl words budget
 draws_numbers : (given : List Given) (budget workers : Option Text) (line : Line) → value_given given (codes "budget") ≡ budget
     → value_given given (codes "workers") ≡ workers
     → Gives draw_usage given [] (asked_by line)
-    → line ≡ Draw (option_map_or number_of budget DEFAULT_BUDGET) (option_map_or number_of workers DEFAULT_WORKERS)
+    → line ≡ Draw (option_map_or number_of budget budget_default) (option_map_or number_of workers workers_default)
 draws_numbers given budget workers (Draw x y) b w gives =
     let read = numbers_read given budget workers x y b w gives.numbers.0.read gives.numbers.1.0.read in
     ap₂ Draw read.budget_is read.workers_is
@@ -295,7 +294,7 @@ draws_numbers given budget workers other b w gives = absurd (other_name _ _ give
 
 pub draws : (words : List Text) (budget workers : Option Text) (line : Line) (is : IsDraw words budget workers)
     → Gives draw_usage (draw_given words budget workers is) [] (asked_by line)
-    → line ≡ Draw (option_map_or number_of budget DEFAULT_BUDGET) (option_map_or number_of workers DEFAULT_WORKERS)
+    → line ≡ Draw (option_map_or number_of budget budget_default) (option_map_or number_of workers workers_default)
 unfolding draw_given
 draws words budget workers line is gives =
     let gets = search_gets (codes "draw") refl words budget workers is in

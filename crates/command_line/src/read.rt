@@ -3,6 +3,7 @@ ghost use Rattle.std.specs.Option.{option_map_or};
 ghost use Rattle.clap.specs.Words.{Text, takes};
 ghost use Rattle.clap.specs.Walk.{texts};
 ghost use Rattle.command_line.specs.LineFaults.{HasNamed, IsAccepted, IsFaultAt};
+ghost use Rattle.command_line.specs.Limits.{budget_default, workers_default};
 ghost use Rattle.command_line.specs.Lines.{asked_by, ChecksNumbers, Drives, IsCheck, IsDraw, IsDrive};
 ghost use Rattle.command_line.specs.Lines.{IsJudge, IsLineOf, IsLocate, IsWithinLimits};
 ghost use Rattle.command_line.specs.Trees.{place_of};
@@ -13,7 +14,7 @@ ghost use Rattle.command_line.specs.Tables.{Usage};
 ghost use Rattle.command_line.specs.Words.{Given, Gives, IsUse};
 
 use crate::fault::LineFault;
-use crate::line::{DEFAULT_BUDGET, DEFAULT_WORKERS, Line, Tree};
+use crate::line::{Line, Tree};
 use crate::program::{ABOUT, NAME, SUBCOMMANDS};
 use crate::request::{Request, read_request};
 use std::alloc::Global;
@@ -44,22 +45,22 @@ pub fn read_line<'a>(alloc: Global, words: &'a [&'a str]) -> Result<Line, LineFa
     ensures judge { (budget workers : Option (List ℕ))
         → IsJudge (texts words.entry.now) budget workers
         → MatchResult result
-        (λ line. line ≡ Line.Judge (option_map_or number_of budget DEFAULT_BUDGET)
-        (option_map_or number_of workers DEFAULT_WORKERS))
+        (λ line. line ≡ Line.Judge (option_map_or number_of budget budget_default)
+        (option_map_or number_of workers workers_default))
         (λ e. e ≡ LineFault.Memory) }
     // And `locate` is, with the same options.
     ensures locate { (budget workers : Option (List ℕ))
         → IsLocate (texts words.entry.now) budget workers
         → MatchResult result
-        (λ line. line ≡ Line.Locate (option_map_or number_of budget DEFAULT_BUDGET)
-        (option_map_or number_of workers DEFAULT_WORKERS))
+        (λ line. line ≡ Line.Locate (option_map_or number_of budget budget_default)
+        (option_map_or number_of workers workers_default))
         (λ e. e ≡ LineFault.Memory) }
     // And `draw` is.
     ensures draw { (budget workers : Option (List ℕ))
         → IsDraw (texts words.entry.now) budget workers
         → MatchResult result
-        (λ line. line ≡ Line.Draw (option_map_or number_of budget DEFAULT_BUDGET)
-        (option_map_or number_of workers DEFAULT_WORKERS))
+        (λ line. line ≡ Line.Draw (option_map_or number_of budget budget_default)
+        (option_map_or number_of workers workers_default))
         (λ e. e ≡ LineFault.Memory) }
     // And `drive` is, with any of its options in any order.
     ensures drive { (given : List Given) → IsDrive (texts words.entry.now) given

@@ -1,7 +1,7 @@
 -- What is recorded while each process does the calls of a script of its own.
 use Rattle.std.specs.Prelude.{◌≡◌, ℕ, ◌*◌, ◌<◌, ◌≤◌, true, false, List, [], ◌∷◌, ◌++◌, length, map, Some, slice_get, All}
 use Rattle.list_laws.specs.Lists.{greatest}
-use Rattle.events.specs.declared.TheConstants.{MAX_CALLS}
+use Rattle.events.specs.Limits.{call_limit}
 use Rattle.events.specs.declared.event.Call.{Call}
 use Rattle.events.specs.declared.event.Event.{Event}
 use Rattle.events.specs.declared.event.Event.TheVariants.{Invoke, Answer}
@@ -46,4 +46,4 @@ longest scripts = greatest (map (λ script. length script) scripts)
 
 -- there is room for as many calls of each process as the longest script has
 abbrev pub IsDrivable : List (List Call) → Type 0
-IsDrivable scripts = length scripts * longest scripts ≤ MAX_CALLS
+IsDrivable scripts = length scripts * longest scripts ≤ call_limit

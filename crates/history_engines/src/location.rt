@@ -6,12 +6,13 @@ ghost use Rattle.history_engines.specs.LocateOutcomes.{IsLocateOutcome};
 ghost use Rattle.outcomes.specs.Ends.{change};
 ghost use Rattle.outcomes.specs.Outcomes.{IsTextOutcome};
 ghost use Rattle.outcomes.specs.Runs.{IsRun};
+ghost use Rattle.pool.specs.Limits.{worker_limit};
+ghost use Rattle.search.specs.Limits.{budget_limit};
 
 use history_text::{MAX_TEXT, read_history};
-use judge::MAX_BUDGET;
 use locating::{Location, locate, location_line};
 use outcomes::{Answer, Outcome, line_of, text_from, write_outcome};
-use pool::{Gate, MAX_WORKERS};
+use pool::Gate;
 use std::alloc::Global;
 use std::thread::Threads;
 use streams::{Sink, Source};
@@ -28,8 +29,8 @@ pub fn run_locate<R: Threads + Sync, S: Source, O: Sink, F: Sink, G: Gate + Sync
     workers: u32,
     gate: &G,
 ) -> u8
-    requires budget { (1 ≤ budget) × (budget ≤ MAX_BUDGET) }
-    requires workers { (1 ≤ workers) × (workers ≤ MAX_WORKERS) }
+    requires budget { (1 ≤ budget) × (budget ≤ budget_limit) }
+    requires workers { (1 ≤ workers) × (workers ≤ worker_limit) }
     requires source { S.failures source.old < u64.MAX }
     requires output { O.failures output.old < u64.MAX }
     requires faults { F.failures faults.old < u64.MAX }
@@ -56,8 +57,8 @@ pub fn locate_outcome<R: Threads + Sync, G: Gate + Sync>(
     workers: u32,
     gate: &G,
 ) -> Outcome
-    requires budget { (1 ≤ budget) × (budget ≤ MAX_BUDGET) }
-    requires workers { (1 ≤ workers) × (workers ≤ MAX_WORKERS) }
+    requires budget { (1 ≤ budget) × (budget ≤ budget_limit) }
+    requires workers { (1 ≤ workers) × (workers ≤ worker_limit) }
     ensures { IsTextOutcome (IsLocateAnswer budget) IsHistoryRefusal (Some text.now) result }
 {
     let history = match read_history(alloc, text) {

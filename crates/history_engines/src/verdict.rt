@@ -5,11 +5,13 @@ ghost use Rattle.outcomes.specs.Ends.{change};
 ghost use Rattle.history_engines.specs.Outcomes.{IsJudgeOutcome};
 ghost use Rattle.outcomes.specs.Outcomes.{IsTextOutcome};
 ghost use Rattle.outcomes.specs.Runs.{IsRun};
+ghost use Rattle.pool.specs.Limits.{worker_limit};
+ghost use Rattle.search.specs.Limits.{budget_limit};
 
 use history_text::MAX_TEXT;
-use judge::{JudgeFault, MAX_BUDGET, Verdict, judge_text};
+use judge::{JudgeFault, Verdict, judge_text};
 use outcomes::{Answer, Outcome, line_of, text_from, write_outcome};
-use pool::{Gate, MAX_WORKERS};
+use pool::Gate;
 use std::alloc::Global;
 use std::thread::Threads;
 use streams::{Sink, Source};
@@ -27,8 +29,8 @@ pub fn run_judge<R: Threads + Sync, S: Source, O: Sink, F: Sink, G: Gate + Sync>
     workers: u32,
     gate: &G,
 ) -> u8
-    requires budget { (1 ≤ budget) × (budget ≤ MAX_BUDGET) }
-    requires workers { (1 ≤ workers) × (workers ≤ MAX_WORKERS) }
+    requires budget { (1 ≤ budget) × (budget ≤ budget_limit) }
+    requires workers { (1 ≤ workers) × (workers ≤ worker_limit) }
     requires source { S.failures source.old < u64.MAX }
     requires output { O.failures output.old < u64.MAX }
     requires faults { F.failures faults.old < u64.MAX }
@@ -55,8 +57,8 @@ pub fn judge_outcome<R: Threads + Sync, G: Gate + Sync>(
     workers: u32,
     gate: &G,
 ) -> Outcome
-    requires budget { (1 ≤ budget) × (budget ≤ MAX_BUDGET) }
-    requires workers { (1 ≤ workers) × (workers ≤ MAX_WORKERS) }
+    requires budget { (1 ≤ budget) × (budget ≤ budget_limit) }
+    requires workers { (1 ≤ workers) × (workers ≤ worker_limit) }
     ensures { IsTextOutcome (IsJudgeAnswer budget) IsHistoryRefusal (Some text.now) result }
 {
     match judge_text(rt, alloc, text, budget, workers, gate) {

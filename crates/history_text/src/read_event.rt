@@ -10,8 +10,9 @@ ghost use Rattle.events.specs.Histories.{has_range};
 ghost use Rattle.events.specs.PlainHistories.{is_replace};
 ghost use Rattle.history_text.specs.Texts.{number_data, list_data, pair_data, call_data, reply_data, event_data, may_stand};
 ghost use Rattle.history_text.specs.ValueFaults.{object_of_two, object_of_three, invocation_data, response_data, IsValueFault, IsPairValueFault};
+ghost use Rattle.events.specs.Limits.{process_limit, start_limit};
 
-use events::{Call, Event, HistoryFault, MAX_START, Memory, PROCESSES, Pairs, Reply};
+use events::{Call, Event, HistoryFault, MAX_START, Memory, Pairs, Reply};
 use serde_json::Value;
 use std::alloc::Global;
 
@@ -90,7 +91,7 @@ fn response_of(
 /// A process number, so far as it can be held; `PROCESSES` is tested with the event's turn.
 fn process_number(number: u64) -> Result<u8, HistoryFault>
     ensures ok { IfOk result (λ process. process ≡ number) }
-    ensures refused { IfErr result (λ fault. (fault ≡ faults.TooMany) × (PROCESSES ≤ number)) }
+    ensures refused { IfErr result (λ fault. (fault ≡ faults.TooMany) × (process_limit ≤ number)) }
 {
     u8::try_from(number).map_err(|_| HistoryFault::TooMany)
 }
@@ -255,7 +256,7 @@ pub fn pairs_of(alloc: Global, items: &[Value]) -> Result<Option<Vec<(u64, u64)>
 /// or `Start`.
 pub fn starting_pair(place: usize, value: &Value) -> Result<(u64, u64), HistoryFault>
     ensures ok { IfOk result (λ pair. view value.now ≡ pair_data pair) }
-    ensures room { OnOk result (place < MAX_START) }
+    ensures room { OnOk result (place < start_limit) }
     ensures refused { IfErr result (IsPairValueFault place (view value.now)) }
 {
     if place >= MAX_START {

@@ -5,8 +5,8 @@ ghost use Rattle.serde_json.specs.Written.{compact_text};
 ghost use Rattle.std.specs.List.{list_all};
 ghost use Rattle.events.specs.PlainHistories.{is_plain_event, is_plain};
 ghost use Rattle.history_text.specs.Texts.{list_data, pair_data, call_data, reply_data, event_data, history_data, Spells};
+ghost use Rattle.history_text.specs.Limits.{text_limit};
 
-use crate::MAX_TEXT;
 use events::{Call, Event, History, Memory, Reply};
 use serde_json::{Value, json};
 use std::alloc::{AllocError, Global};
@@ -18,7 +18,7 @@ pub fn write_history(alloc: Global, history: &History) -> Result<String, Memory>
     ensures compact { IfOk result
         (λ text. string_bytes text ≡ compact_text (history_data history.now)) }
     ensures again { IfOk result
-        (λ text. string_len text ≤ MAX_TEXT → Spells (string_bytes text) history.now) }
+        (λ text. string_len text ≤ text_limit → Spells (string_bytes text) history.now) }
 {
     let value = history_value(alloc, history)?;
     Ok(value.to_string(alloc)?)

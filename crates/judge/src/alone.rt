@@ -5,12 +5,13 @@ ghost use Rattle.events.specs.Operations.{operations};
 ghost use Rattle.search.specs.Exact.{IsExactAnswer};
 ghost use Rattle.judge.specs.Shown.{IsShown};
 ghost use Rattle.judge.specs.Exact.{IsExactVerdict};
+ghost use Rattle.search.specs.Limits.{budget_limit};
 
 use crate::conclusion::conclude;
 use crate::verdict::Verdict;
 use cutter::cut;
 use events::{History, Memory};
-use search::{Found, MAX_BUDGET, search};
+use search::{Found, search};
 use segments::Segment;
 use std::alloc::Global;
 
@@ -19,7 +20,7 @@ use std::alloc::Global;
 /// search needs more than the budget is named; else the orders of all segments are merged. Want of memory is
 /// an error and decides nothing. It costs what the cut, the searches and the merge cost.
 pub fn judge_alone(alloc: Global, history: &History, budget: u32) -> Result<Verdict, Memory>
-    requires { (1 ≤ budget) × (budget ≤ MAX_BUDGET) }
+    requires { (1 ≤ budget) × (budget ≤ budget_limit) }
     ensures shown { IfOk result (IsShown history.now.start budget (operations history.now.events)) }
     ensures exact { IfOk result (IsExactVerdict history.now.start budget (operations history.now.events)) }
 {
@@ -30,7 +31,7 @@ pub fn judge_alone(alloc: Global, history: &History, budget: u32) -> Result<Verd
 
 /// What the search of each segment finds.
 fn search_each(alloc: Global, segments: &[Segment], budget: u32) -> Result<Vec<Found>, Memory>
-    requires { (1 ≤ budget) × (budget ≤ MAX_BUDGET) }
+    requires { (1 ≤ budget) × (budget ≤ budget_limit) }
     ensures { IfOk result (λ v. AllZip (IsExactAnswer budget) segments.now v.items) }
 {
     let mut answers = Vec::with_capacity(alloc, segments.len())?;

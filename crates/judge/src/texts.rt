@@ -5,14 +5,15 @@ ghost use Rattle.events.specs.Histories.{IsHistory};
 ghost use Rattle.history_text.specs.Texts.{Spells};
 ghost use Rattle.judge.specs.declared.fault.JudgeFault.TheVariants as faults;
 ghost use Rattle.judge.specs.Judged.{IsJudged, IsUnjudged};
+ghost use Rattle.pool.specs.Limits.{worker_limit};
+ghost use Rattle.search.specs.Limits.{budget_limit};
 
 use crate::fault::JudgeFault;
 use crate::reports::report;
 use crate::verdict::Verdict;
 use crate::workers::judge;
 use history_text::read_history;
-use pool::{Gate, MAX_WORKERS};
-use search::MAX_BUDGET;
+use pool::Gate;
 use std::alloc::Global;
 use std::thread::Threads;
 
@@ -26,8 +27,8 @@ pub fn judge_text<R: Threads + Sync, G: Gate + Sync>(
     workers: u32,
     gate: &G,
 ) -> Result<(Verdict, String), JudgeFault>
-    requires budget { (1 ≤ budget) × (budget ≤ MAX_BUDGET) }
-    requires workers { (1 ≤ workers) × (workers ≤ MAX_WORKERS) }
+    requires budget { (1 ≤ budget) × (budget ≤ budget_limit) }
+    requires workers { (1 ≤ workers) × (workers ≤ worker_limit) }
     ensures judged { IfOk result (λ answer. IsJudged budget text.now answer.0 (string_bytes answer.1)) }
     ensures refused { IfErr result (IsUnjudged text.now) }
     ensures accepted { (history : HistoryView) → Spells text.now history → IsHistory history

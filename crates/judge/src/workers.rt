@@ -3,13 +3,14 @@ ghost use Rattle.std.specs.Prelude.{◌≤◌, IfOk};
 ghost use Rattle.events.specs.Operations.{operations};
 ghost use Rattle.judge.specs.Shown.{IsShown};
 ghost use Rattle.judge.specs.Exact.{IsExactVerdict};
+ghost use Rattle.pool.specs.Limits.{worker_limit};
+ghost use Rattle.search.specs.Limits.{budget_limit};
 
 use crate::conclusion::conclude;
 use crate::verdict::Verdict;
 use cutter::cut;
 use events::{History, Memory};
-use pool::{Gate, MAX_WORKERS, search_all};
-use search::MAX_BUDGET;
+use pool::{Gate, search_all};
 use std::alloc::Global;
 use std::thread::Threads;
 
@@ -23,8 +24,8 @@ pub fn judge<R: Threads + Sync, G: Gate + Sync>(
     workers: u32,
     gate: &G,
 ) -> Result<Verdict, Memory>
-    requires budget { (1 ≤ budget) × (budget ≤ MAX_BUDGET) }
-    requires workers { (1 ≤ workers) × (workers ≤ MAX_WORKERS) }
+    requires budget { (1 ≤ budget) × (budget ≤ budget_limit) }
+    requires workers { (1 ≤ workers) × (workers ≤ worker_limit) }
     ensures shown { IfOk result (IsShown history.now.start budget (operations history.now.events)) }
     ensures exact { IfOk result (IsExactVerdict history.now.start budget (operations history.now.events)) }
 {

@@ -2,14 +2,16 @@
 ghost use Rattle.std.specs.Prelude.{◌≡◌, ℕ, ◌+◌, ◌*◌, ◌-◌, ◌^◌, ◌<◌, ◌≤◌, length, IfOk};
 ghost use Rattle.locating.specs.Locations.{IsLocated};
 ghost use Rattle.locating.specs.Brackets.{IsKnown};
+ghost use Rattle.pool.specs.Limits.{worker_limit};
+ghost use Rattle.search.specs.Limits.{budget_limit};
 
 use crate::answering::call_answered_at;
 use crate::bracket::Bracket;
 use crate::first_events::first_events;
 use crate::location::Location;
 use events::{History, Memory};
-use judge::{MAX_BUDGET, Verdict, judge};
-use pool::{Gate, MAX_WORKERS};
+use judge::{Verdict, judge};
+use pool::Gate;
 use prefixes::{histories_have_few_events, orders_are_lost_at_answers};
 use std::alloc::Global;
 use std::thread::Threads;
@@ -30,8 +32,8 @@ pub fn locate<R: Threads + Sync, G: Gate + Sync>(
     workers: u32,
     gate: &G,
 ) -> Result<Location, Memory>
-    requires budget { (1 ≤ budget) × (budget ≤ MAX_BUDGET) }
-    requires workers { (1 ≤ workers) × (workers ≤ MAX_WORKERS) }
+    requires budget { (1 ≤ budget) × (budget ≤ budget_limit) }
+    requires workers { (1 ≤ workers) × (workers ≤ worker_limit) }
     ensures { IfOk result (IsLocated budget history.now) }
 {
     let mut found = nothing_known(history);
@@ -70,8 +72,8 @@ fn turn<R: Threads + Sync, G: Gate + Sync>(
     gate: &G,
     found: Bracket,
 ) -> Result<Bracket, Memory>
-    requires budget { (1 ≤ budget) × (budget ≤ MAX_BUDGET) }
-    requires workers { (1 ≤ workers) × (workers ≤ MAX_WORKERS) }
+    requires budget { (1 ≤ budget) × (budget ≤ budget_limit) }
+    requires workers { (1 ≤ workers) × (workers ≤ worker_limit) }
     requires known { IsKnown budget history.now found }
     requires left { found.yes + 1 < found.cut }
     ensures known { IfOk result (IsKnown budget history.now) }

@@ -2,6 +2,7 @@
 ghost use Rattle.std.specs.Prelude.{◌≡◌, ◌<◌, ◌≤◌};
 ghost use Rattle.events.specs.declared.event.Reply.TheVariants.{Refused};
 ghost use Rattle.events.specs.Histories.{pair_count};
+ghost use Rattle.events.specs.Limits.{pair_limit};
 ghost use Rattle.locked_map.specs.Answers.{IsAnswerOf, IsDoneOrRefused};
 
 use events::{Call, MAX_PAIRS, Reply};
@@ -30,7 +31,7 @@ impl<'a, R: Wait> LockedMap<'a, R> {
 impl<'a, R: Wait> Subject for LockedMap<'a, R> {
     /// Waits for the lock, then does the call. It costs what the sorted map's call costs.
     fn call(&self, call: &Call) -> Reply
-        ensures short { pair_count result ≤ MAX_PAIRS }
+        ensures short { pair_count result ≤ pair_limit }
         ensures answer { IsAnswerOf call.now result }
     {
         let mut map = self.map.lock(self.rt);
@@ -40,7 +41,7 @@ impl<'a, R: Wait> Subject for LockedMap<'a, R> {
 
 /// Does the call, or refuses it.
 fn answer(alloc: Global, map: &mut SortedMap, call: &Call) -> Reply
-    ensures short { pair_count result ≤ MAX_PAIRS }
+    ensures short { pair_count result ≤ pair_limit }
     ensures done { IsDoneOrRefused map.old call.now result map.new }
 {
     match map.step(alloc, call) {
@@ -51,9 +52,9 @@ fn answer(alloc: Global, map: &mut SortedMap, call: &Call) -> Reply
 
 /// The reply, or that the call is refused where it lists too many pairs: only a scan's does, which changes nothing.
 fn within_limit(reply: Reply) -> Reply
-    ensures short { pair_count result ≤ MAX_PAIRS }
-    ensures same { pair_count reply ≤ MAX_PAIRS → result ≡ reply }
-    ensures refused { MAX_PAIRS < pair_count reply → result ≡ Refused }
+    ensures short { pair_count result ≤ pair_limit }
+    ensures same { pair_count reply ≤ pair_limit → result ≡ reply }
+    ensures refused { pair_limit < pair_count reply → result ≡ Refused }
 {
     if pair_count(&reply) > MAX_PAIRS {
         return Reply::Refused;

@@ -6,16 +6,18 @@ ghost use Rattle.outcomes.specs.Outcomes.{IsTextOutcome};
 ghost use Rattle.outcomes.specs.Runs.{IsRun};
 ghost use Rattle.picture_engines.specs.Drawings.{event_of, IsDrawAnswer, IsDrawing, IsWrongEvent};
 ghost use Rattle.picture_engines.specs.Outcomes.{IsDrawOutcome};
+ghost use Rattle.pool.specs.Limits.{worker_limit};
+ghost use Rattle.search.specs.Limits.{budget_limit};
 
 use events::{History, Memory};
 use history_engines::answer_of;
 use history_text::{MAX_TEXT, read_history};
-use judge::{MAX_BUDGET, Verdict, judge};
+use judge::{Verdict, judge};
 use locating::{Location, locate};
 use outcomes::{Answer, Outcome, line_of, text_from, write_outcome};
 use picture_text::svg;
 use pictures::{front_of, picture_of};
-use pool::{Gate, MAX_WORKERS};
+use pool::Gate;
 use std::alloc::Global;
 use std::thread::Threads;
 use streams::{Sink, Source};
@@ -34,8 +36,8 @@ pub fn run_draw<R: Threads + Sync, S: Source, O: Sink, F: Sink, G: Gate + Sync>(
     workers: u32,
     gate: &G,
 ) -> u8
-    requires budget { (1 ≤ budget) × (budget ≤ MAX_BUDGET) }
-    requires workers { (1 ≤ workers) × (workers ≤ MAX_WORKERS) }
+    requires budget { (1 ≤ budget) × (budget ≤ budget_limit) }
+    requires workers { (1 ≤ workers) × (workers ≤ worker_limit) }
     requires source { S.failures source.old < u64.MAX }
     requires output { O.failures output.old < u64.MAX }
     requires faults { F.failures faults.old < u64.MAX }
@@ -62,8 +64,8 @@ pub fn draw_outcome<R: Threads + Sync, G: Gate + Sync>(
     workers: u32,
     gate: &G,
 ) -> Outcome
-    requires budget { (1 ≤ budget) × (budget ≤ MAX_BUDGET) }
-    requires workers { (1 ≤ workers) × (workers ≤ MAX_WORKERS) }
+    requires budget { (1 ≤ budget) × (budget ≤ budget_limit) }
+    requires workers { (1 ≤ workers) × (workers ≤ worker_limit) }
     ensures { IsTextOutcome (IsDrawAnswer budget) IsHistoryRefusal (Some text.now) result }
 {
     let history = match read_history(alloc, text) {
@@ -85,8 +87,8 @@ fn drawing_of<R: Threads + Sync, G: Gate + Sync>(
     workers: u32,
     gate: &G,
 ) -> Result<(Answer, String), Memory>
-    requires budget { (1 ≤ budget) × (budget ≤ MAX_BUDGET) }
-    requires workers { (1 ≤ workers) × (workers ≤ MAX_WORKERS) }
+    requires budget { (1 ≤ budget) × (budget ≤ budget_limit) }
+    requires workers { (1 ≤ workers) × (workers ≤ worker_limit) }
     ensures { IfOk result (λ drawn. IsDrawing budget history.now drawn.0 (string_bytes drawn.1)) }
 {
     let verdict = judge(rt, alloc, history, budget, workers, gate)?;
@@ -107,8 +109,8 @@ fn wrong_event<R: Threads + Sync, G: Gate + Sync>(
     workers: u32,
     gate: &G,
 ) -> Result<Option<usize>, Memory>
-    requires budget { (1 ≤ budget) × (budget ≤ MAX_BUDGET) }
-    requires workers { (1 ≤ workers) × (workers ≤ MAX_WORKERS) }
+    requires budget { (1 ≤ budget) × (budget ≤ budget_limit) }
+    requires workers { (1 ≤ workers) × (workers ≤ worker_limit) }
     ensures { IfOk result (IsWrongEvent budget history.now verdict.now) }
 {
     match verdict {

@@ -5,9 +5,10 @@ ghost use Rattle.judge.specs.Shown.{IsShown};
 ghost use Rattle.pictures.specs.Fronts.{IsFrontShown};
 ghost use Rattle.pictures.specs.Marks.{IsMarkable};
 ghost use Rattle.pictures.specs.Pictures.{marked};
+ghost use Rattle.search.specs.Limits.{budget_limit};
 
 use events::{History, Memory};
-use judge::{MAX_BUDGET, Verdict};
+use judge::Verdict;
 use search::longest_front;
 use std::alloc::Global;
 
@@ -19,7 +20,7 @@ pub fn front_of(
     verdict: &Verdict,
     budget: u32,
 ) -> Result<Vec<u32>, Memory>
-    requires budget { (1 ≤ budget) × (budget ≤ MAX_BUDGET) }
+    requires budget { (1 ≤ budget) × (budget ≤ budget_limit) }
     requires shown { IsShown history.now.start budget (operations history.now.events) verdict.now }
     ensures front { IfOk result (λ v. IsFrontShown budget verdict.now v.items) }
     ensures markable { IfOk result (λ v. IsMarkable (operations history.now.events) (marked verdict.now v.items)) }

@@ -7,10 +7,11 @@ ghost use Rattle.history_text.specs.Texts.{call_data};
 ghost use Rattle.plans.specs.Plans.{AreTreeCalls};
 ghost use Rattle.plan_text.specs.Scripts.{script_data, scripts_data};
 ghost use Rattle.plan_text.specs.PlanTexts.{is_plain_script, are_plain_scripts, written_data, SpellsPlan};
+ghost use Rattle.history_text.specs.Limits.{text_limit};
 
 use art_steps::TreeCall;
 use events::{Call, Memory};
-use history_text::{MAX_TEXT, call_value};
+use history_text::call_value;
 use plans::Plan;
 use serde_json::{Value, json};
 use std::alloc::{AllocError, Global};
@@ -20,7 +21,7 @@ use std::alloc::{AllocError, Global};
 /// refuses it.
 pub fn write_plan(alloc: Global, plan: &Plan) -> Result<String, Memory>
     ensures compact { IfOk result (λ text. string_bytes text ≡ compact_text (written_data plan.now)) }
-    ensures again { IfOk result (λ text. string_len text ≤ MAX_TEXT → SpellsPlan (string_bytes text) plan.now) }
+    ensures again { IfOk result (λ text. string_len text ≤ text_limit → SpellsPlan (string_bytes text) plan.now) }
 {
     let value = plan_value(alloc, plan)?;
     Ok(value.to_string(alloc)?)

@@ -4,11 +4,12 @@ ghost use Rattle.std.specs.List.{AllZip};
 ghost use Rattle.std.specs.declared.option.Option.TheVariants.{None};
 ghost use Rattle.search.specs.Exact.{IsExactAnswer};
 ghost use Rattle.pool.specs.Known.{with_answer, IsExactIfKnown};
+ghost use Rattle.search.specs.Limits.{budget_limit};
 
 use crate::gate::Gate;
 use crate::worker::{SegmentAnswer, enter_and_search};
 use events::Memory;
-use search::{Found, MAX_BUDGET};
+use search::Found;
 use segments::Segment;
 use std::alloc::Global;
 
@@ -48,7 +49,7 @@ pub(crate) fn complete<G: Gate>(
     gate: &G,
     known: Vec<Option<Found>>,
 ) -> Result<Vec<Found>, Memory>
-    requires budget { (1 ≤ budget) × (budget ≤ MAX_BUDGET) }
+    requires budget { (1 ≤ budget) × (budget ≤ budget_limit) }
     requires exact { AllZip (IsExactIfKnown budget) segments.now known.items }
     ensures { IfOk result (λ v. AllZip (IsExactAnswer budget) segments.now v.items) }
 {

@@ -4,14 +4,15 @@ ghost use Rattle.std.specs.List.{AllZip};
 ghost use Rattle.search.specs.Exact.{IsExactAnswer};
 ghost use Rattle.search.specs.Found.{IsSoundAnswer};
 ghost use Rattle.pool.specs.Answers.{AnswersOneOf};
+ghost use Rattle.pool.specs.Limits.{worker_limit};
+ghost use Rattle.search.specs.Limits.{budget_limit};
 
-use crate::MAX_WORKERS;
 use crate::gate::Gate;
 use crate::hands::deal;
 use crate::known::{complete, in_place};
 use crate::worker::{SegmentAnswer, work};
 use events::Memory;
-use search::{Found, MAX_BUDGET};
+use search::Found;
 use segments::Segment;
 use std::alloc::Global;
 use std::thread;
@@ -34,8 +35,8 @@ pub fn search_all<R: Threads + Sync, G: Gate + Sync>(
     workers: u32,
     gate: &G,
 ) -> Result<Vec<Found>, Memory>
-    requires budget { (1 ≤ budget) × (budget ≤ MAX_BUDGET) }
-    requires workers { (1 ≤ workers) × (workers ≤ MAX_WORKERS) }
+    requires budget { (1 ≤ budget) × (budget ≤ budget_limit) }
+    requires workers { (1 ≤ workers) × (workers ≤ worker_limit) }
     ensures exact { IfOk result (λ v. AllZip (IsExactAnswer budget) segments.now v.items) }
     ensures sound { IfOk result (λ v. AllZip (IsSoundAnswer budget) segments.now v.items) }
 {
@@ -53,8 +54,8 @@ fn search_apart<R: Threads + Sync, G: Gate + Sync>(
     workers: u32,
     gate: &G,
 ) -> Result<Vec<SegmentAnswer>, Memory>
-    requires budget { (1 ≤ budget) × (budget ≤ MAX_BUDGET) }
-    requires workers { (1 ≤ workers) × (workers ≤ MAX_WORKERS) }
+    requires budget { (1 ≤ budget) × (budget ≤ budget_limit) }
+    requires workers { (1 ≤ workers) × (workers ≤ worker_limit) }
     ensures { IfOk result (λ v. All (AnswersOneOf budget segments.now) v.items) }
 {
     // With a draw for each segment and one more, each worker can draw until no segment is left. The most draws that

@@ -4,10 +4,11 @@ ghost use Rattle.std.specs.List.{HoldsAt};
 ghost use Rattle.search.specs.Exact.{IsExactAnswer};
 ghost use Rattle.tickets.specs.Hands.{counter, counter_of};
 ghost use Rattle.pool.specs.Answers.{AnswersOneOf};
+ghost use Rattle.search.specs.Limits.{budget_limit};
 
 use crate::gate::Gate;
 use events::Memory;
-use search::{Found, MAX_BUDGET, search};
+use search::{Found, search};
 use segments::Segment;
 use std::alloc::Global;
 use tickets::{Hand, Tickets};
@@ -28,7 +29,7 @@ pub(crate) fn work<G: Gate>(
     tickets: &Tickets,
     mut hand: Hand,
 ) -> Result<Vec<SegmentAnswer>, Memory>
-    requires budget { (1 ≤ budget) × (budget ≤ MAX_BUDGET) }
+    requires budget { (1 ≤ budget) × (budget ≤ budget_limit) }
     requires own { counter_of hand ≡ counter tickets.now }
     ensures { IfOk result (λ v. All (AnswersOneOf budget segments.now) v.items) }
 {
@@ -52,7 +53,7 @@ pub(crate) fn enter_and_search<G: Gate>(
     gate: &G,
     segment: usize,
 ) -> Result<Found, Memory>
-    requires budget { (1 ≤ budget) × (budget ≤ MAX_BUDGET) }
+    requires budget { (1 ≤ budget) × (budget ≤ budget_limit) }
     requires known { segment < length segments.now }
     ensures { IfOk result (λ f. HoldsAt (λ s. IsExactAnswer budget s f) segments.now segment) }
 {

@@ -4,10 +4,11 @@ ghost use Rattle.std.specs.List.{range_with_len};
 ghost use Rattle.tickets.specs.Hands.{drawn_by, left_of};
 ghost use Rattle.recorder.specs.Passes.{process_number, calls_of, log_of};
 ghost use Rattle.recorder.specs.Recorders.{processes_of, calls_for_each, IsPassOf};
+ghost use Rattle.events.specs.Limits.{call_limit, process_limit};
 
 use crate::pass::Pass;
 use crate::recorders::Recorder;
-use events::{MAX_CALLS, Memory, PROCESSES};
+use events::Memory;
 use std::alloc::Global;
 use tickets::{Hand, Tickets};
 
@@ -19,8 +20,8 @@ impl Recorder {
         processes: u8,
         calls_each: u32,
     ) -> Result<(Recorder, Vec<Pass>), Memory>
-        requires processes { (1 ≤ processes) × (processes ≤ PROCESSES) }
-        requires calls { processes * calls_each ≤ MAX_CALLS }
+        requires processes { (1 ≤ processes) × (processes ≤ process_limit) }
+        requires calls { processes * calls_each ≤ call_limit }
         ensures recorder { IfOk result (λ r. (processes_of r.0 ≡ processes) × (calls_for_each r.0 ≡ calls_each)) }
         ensures passes { IfOk result (λ r. map process_number r.1.items ≡ range_with_len 0 processes) }
         ensures own { IfOk result (λ r. All (IsPassOf r.0) r.1.items) }
@@ -45,8 +46,8 @@ impl Recorder {
 
 /// A pass with no event yet.
 fn first_pass(alloc: Global, process: u8, calls: u32, hand: Hand) -> Pass
-    requires process { process < PROCESSES }
-    requires calls { calls ≤ MAX_CALLS }
+    requires process { process < process_limit }
+    requires calls { calls ≤ call_limit }
     requires drawn { drawn_by hand ≡ [] }
     requires left { left_of hand ≡ 2 * calls }
     ensures process { process_number result ≡ process }

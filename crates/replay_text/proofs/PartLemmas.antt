@@ -10,7 +10,7 @@ use Rattle.serde_json.specs.View.{view}
 use Rattle.serde_json.specs.declared.value.Value.{Value}
 use Rattle.events.specs.declared.event.Call.{Call}
 use Rattle.events.specs.declared.event.Call.TheVariants.{Insert}
-use Rattle.events.specs.declared.TheConstants.{MAX_CALLS}
+use Rattle.events.specs.Limits.{call_limit}
 use Rattle.map_object.specs.MapObject.{Contents}
 use Rattle.art_steps.specs.TreeCalls.{is_tree_call}
 use Rattle.plans.specs.Plans.{AreFew}
@@ -48,11 +48,11 @@ after_two k l d e f g ms rest others h two = cc
 
 -- scripts that are too many beside the pairs are too many under another name
 pub too_many_beside : (pairs : ℕ) (scripts found : List (List Call)) → scripts_data scripts ≡ scripts_data found
-    → (AreFew found → pairs + sum (map (λ script. length script) found) ≤ MAX_CALLS → ⊥) → AreFew scripts
-    → pairs + sum (map (λ script. length script) scripts) ≤ MAX_CALLS → ⊥
+    → (AreFew found → pairs + sum (map (λ script. length script) found) ≤ call_limit → ⊥) → AreFew scripts
+    → pairs + sum (map (λ script. length script) scripts) ≤ call_limit → ⊥
 too_many_beside pairs scripts found same none few room =
     let is = scripts_data_injective scripts found same in
-    none (subst AreFew is few) (subst (λ (s : List (List Call)). pairs + sum (map (λ script. length script) s) ≤ MAX_CALLS) is room)
+    none (subst AreFew is few) (subst (λ (s : List (List Call)). pairs + sum (map (λ script. length script) s) ≤ call_limit) is room)
 
 -- a tree can insert each pair where it can do each call that inserts one
 pub calls_insertable : (pairs : Contents) → list_all (λ pair. is_tree_call (Insert pair.0 pair.1)) pairs ≡ true

@@ -3,7 +3,6 @@ ghost use Rattle.std.specs.Prelude.{◌≡◌, ◌+◌, ◌≤◌, List, length,
 ghost use Rattle.serde_json.specs.Data.{Data};
 ghost use Rattle.serde_json.specs.View.{view};
 ghost use Rattle.events.specs.declared.event.Call.{Call};
-ghost use Rattle.events.specs.declared.TheConstants.{MAX_CALLS};
 ghost use Rattle.map_object.specs.MapObject.{IsRising};
 ghost use Rattle.art_steps.specs.TreeCalls.{is_tree_call};
 ghost use Rattle.plans.specs.Plans.{AreFew, AreTreeCalls, AreScripts};
@@ -12,6 +11,7 @@ ghost use Rattle.replay_text.specs.Replays.{ReplayView};
 ghost use Rattle.art_core.specs.Starts.{inserts};
 ghost use Rattle.replay_text.specs.ReplayTexts.{SpellsStart, ArePartsOf};
 ghost use Rattle.replay_text.specs.ReplayViews.{shown};
+ghost use Rattle.events.specs.Limits.{call_limit};
 
 use crate::replay::Replay;
 use crate::schedules::schedule_of;
@@ -77,9 +77,9 @@ fn scripts_beside(
         (λ scripts. SpellsScripts may_replace (view value.now) (map (λ script. script.items) scripts.items))) }
     ensures plan { IfOk result (λ found. IfSome found (λ scripts. AreScripts (map (λ script. script.items) scripts.items))) }
     ensures room { IfOk result (λ found. IfSome found
-        (λ scripts. pairs + sum (map (λ script. length script) (map (λ script. script.items) scripts.items)) ≤ MAX_CALLS)) }
+        (λ scripts. pairs + sum (map (λ script. length script) (map (λ script. script.items) scripts.items)) ≤ call_limit)) }
     ensures none { IfOk result (λ found. IfNone found ((scripts : List (List Call)) → SpellsScripts may_replace (view value.now) scripts
-        → AreFew scripts → pairs + sum (map (λ script. length script) scripts) ≤ MAX_CALLS → ⊥)) }
+        → AreFew scripts → pairs + sum (map (λ script. length script) scripts) ≤ call_limit → ⊥)) }
 {
     let Some(scripts) = scripts_of(alloc, may_replace, value)? else {
         return Ok(None);
@@ -92,9 +92,9 @@ fn few_beside(pairs: usize, scripts: Vec<Vec<TreeCall>>) -> Option<Vec<Vec<TreeC
     requires { AreTreeCalls (map (λ script. script.items) scripts.items) }
     ensures same { IfSome result (λ found. map (λ script. script.items) found.items ≡ map (λ script. script.items) scripts.items) }
     ensures plan { IfSome result (λ found. AreScripts (map (λ script. script.items) found.items)) }
-    ensures room { IfSome result (λ found. pairs + sum (map (λ script. length script) (map (λ script. script.items) found.items)) ≤ MAX_CALLS) }
+    ensures room { IfSome result (λ found. pairs + sum (map (λ script. length script) (map (λ script. script.items) found.items)) ≤ call_limit) }
     ensures none { IfNone result (AreFew (map (λ script. script.items) scripts.items)
-        → pairs + sum (map (λ script. length script) (map (λ script. script.items) scripts.items)) ≤ MAX_CALLS → ⊥) }
+        → pairs + sum (map (λ script. length script) (map (λ script. script.items) scripts.items)) ≤ call_limit → ⊥) }
 {
     let left = MAX_CALLS.checked_sub(pairs)?;
     let Ok(plan) = Plan::from_scripts(scripts) else {

@@ -1,3 +1,4 @@
+pub mod Limits
 pub mod Remaining
 pub mod Found
 pub mod LeastOrder

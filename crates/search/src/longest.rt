@@ -1,8 +1,8 @@
 // The longest of the fronts that a search meets.
 ghost use Rattle.std.specs.Prelude.{◌≤◌, IfOk, length};
 ghost use Rattle.search.specs.LongestFront.{IsFrontOf, IsMostTaken};
+ghost use Rattle.search.specs.Limits.{budget_limit};
 
-use crate::MAX_BUDGET;
 use crate::walk::{begin, make_turn, order_of};
 use events::Memory;
 use segments::Segment;
@@ -12,7 +12,7 @@ use std::alloc::Global;
 /// configurations that the search meets none has more calls taken. It costs what the search costs, and a copy of the calls
 /// taken whenever more are taken than ever before.
 pub fn longest_front(alloc: Global, segment: &Segment, budget: u32) -> Result<Vec<u32>, Memory>
-    requires { (1 ≤ budget) × (budget ≤ MAX_BUDGET) }
+    requires { (1 ≤ budget) × (budget ≤ budget_limit) }
     ensures front { IfOk result (λ v. IsFrontOf segment.now v.items) }
     ensures longest { IfOk result (λ v. IsMostTaken segment.now budget (length v.items)) }
 {

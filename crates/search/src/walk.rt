@@ -4,8 +4,8 @@ ghost use Rattle.search.specs.Exact.{IsExactAnswer};
 ghost use Rattle.search.specs.Found.{IsSoundAnswer};
 ghost use Rattle.search.specs.Standing.{places, Stands};
 ghost use Rattle.search.specs.Turn.{IsTurn, IsTurnAt};
+ghost use Rattle.search.specs.Limits.{budget_limit};
 
-use crate::MAX_BUDGET;
 use crate::found::Found;
 use crate::standing::{Progress, Standing, make_step, open_standing};
 use events::Memory;
@@ -46,7 +46,7 @@ pub enum Turn {
 impl Walk {
     /// Before the first call of a segment, which is copied.
     pub fn open(alloc: Global, segment: &Segment, budget: u32) -> Result<Walk, Memory>
-        requires { (1 ≤ budget) × (budget ≤ MAX_BUDGET) }
+        requires { (1 ≤ budget) × (budget ≤ budget_limit) }
         ensures segment { IfOk result (λ w. w.segment ≡ segment.now) }
         ensures budget { IfOk result (λ w. w.budget ≡ budget) }
         ensures len { IfOk result (λ w. w.len ≡ 1) }
@@ -142,7 +142,7 @@ pub(crate) fn order_of(
 /// once. What a call tried leads to is looked up among the configurations met. Nothing recurses: the calls taken
 /// stand on a stack of its own.
 pub fn search(alloc: Global, segment: &Segment, budget: u32) -> Result<Found, Memory>
-    requires { (1 ≤ budget) × (budget ≤ MAX_BUDGET) }
+    requires { (1 ≤ budget) × (budget ≤ budget_limit) }
     ensures exact { IfOk result (IsExactAnswer budget segment.now) }
     ensures sound { IfOk result (IsSoundAnswer budget segment.now) }
 {
