@@ -1,7 +1,7 @@
 // The engine that drives a plan on a tree, over ends in memory.
 ghost use Rattle.art_rows.specs.Table.{IsWithinLimits};
 
-use crate::setups::{DEFAULT, is_within_limits};
+use crate::setups::DEFAULT;
 use art::{Shape, Variant};
 use plan_engines::run_tree_drive;
 use pool::OpenGate;
@@ -10,6 +10,7 @@ use std::process::Abort;
 use std::test::Fail;
 use std::thread::Threads;
 use streams::memory_ends::{MemorySink, MemorySource};
+use tree_tests::checks::is_within_limits;
 
 /// A plan text that is driven under a limit leaves this status, this output and these faults.
 fn leaves<R: Threads + Sync + Abort>(

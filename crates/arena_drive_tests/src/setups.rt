@@ -1,7 +1,4 @@
 // Plans that are driven on a tree.
-ghost use Rattle.std.specs.Prelude.{◌↔◌, IsTrue};
-ghost use Rattle.art_rows.specs.Table.{IsWithinLimits};
-
 use arena_drives::drive_arena;
 use art::{Shape, Variant};
 use drives::is_drivable;
@@ -12,6 +9,7 @@ use pool::Gate;
 use std::alloc::Global;
 use std::test::Fail;
 use std::thread::Threads;
+use tree_tests::checks::is_within_limits;
 
 /// The shape that the program takes where it is told none.
 pub(crate) const DEFAULT: Shape = Shape {
@@ -20,17 +18,6 @@ pub(crate) const DEFAULT: Shape = Shape {
     rows48: 64,
     rows256: 16,
 };
-
-/// Whether a tree may have such a shape.
-pub(crate) fn is_within_limits(shape: Shape) -> bool
-    ensures { IsTrue result ↔ IsWithinLimits shape }
-{
-    shape.rows4 <= 4096
-        && shape.rows16 <= 1024
-        && shape.rows48 <= 256
-        && 1 <= shape.rows256
-        && shape.rows256 <= 64
-}
 
 /// What is recorded when a plan is driven on a tree of the default shape.
 pub(crate) fn driven_plan<R: Threads + Sync, G: Gate + Sync>(

@@ -1,9 +1,10 @@
 // Two processes whose steps are interleaved: what leaving out a check makes of a call, which the verdict refutes, and what
 // the full tree answers.
-use crate::setups::{advance, assert_judged, begin, call, closed, end, open_two};
+use crate::setups::{advance, begin, call, closed, end, open_two};
 use art::Variant;
 use events::{Call, Reply};
 use std::test::Fail;
+use tree_tests::checks::assert_judged;
 
 /// A scan has read the root's first slot when two inserts come, the second of them behind it.
 #[test]
@@ -40,7 +41,7 @@ fn a_scan_that_is_not_validated_misses_the_first_of_two_inserts(
             (1, "\"answer\":null"),
             (0, answer),
         ];
-        assert_judged(&rt, alloc, &history, &expected, report)?;
+        assert_judged(alloc, &history, &expected, report)?;
     }
     Ok(())
 }
@@ -77,7 +78,7 @@ fn a_lock_that_checks_nothing_loses_an_insert(rt: HostRuntime) -> Result<(), Fai
             (1, "\"invoke\":[\"get\",9]"),
             (1, answer),
         ];
-        assert_judged(&rt, alloc, &history, &expected, report)?;
+        assert_judged(alloc, &history, &expected, report)?;
     }
     Ok(())
 }

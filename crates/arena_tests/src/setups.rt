@@ -5,11 +5,8 @@ ghost use Rattle.running.specs.Passes.{IsPassOf};
 
 use art::{Shape, TreeCall, Variant};
 use events::{Call, History, Reply};
-use history_text::write_history;
-use judge::{judge_alone, report};
 use running::{Arena, Pass, Progress};
 use std::alloc::Global;
-use std::process::Abort;
 use std::test::Fail;
 
 /// Eight rows of each kind below the root.
@@ -121,34 +118,4 @@ pub fn closed_alone(alloc: Global, arena: Arena, pass: Pass) -> Result<History, 
         Ok(history) => Ok(history),
         Err(_) => Err(Fail::new("the arena was not closed")),
     }
-}
-
-/// The text of a history, of events each with its process.
-pub fn text(alloc: Global, events: &[(u8, &str)]) -> Result<String, Fail> {
-    let mut text = String::from_str(alloc, "{\"events\":[")?;
-    for (place, (process, event)) in events.iter().enumerate() {
-        let comma = if place == 0 { "" } else { "," };
-        text.push_str(&format!(in alloc; "{comma}{{{event},\"process\":{process}}}")?)?;
-    }
-    text.push_str("],\"version\":1}")?;
-    Ok(text)
-}
-
-/// The report of the verdict on a history.
-pub fn judged(alloc: Global, history: &History) -> Result<String, Fail> {
-    let verdict = judge_alone(alloc, history, 1000)?;
-    Ok(report(alloc, &verdict)?)
-}
-
-/// The history has these events, and this is the report on it.
-pub fn assert_judged(
-    rt: &impl Abort,
-    alloc: Global,
-    history: &History,
-    events: &[(u8, &str)],
-    told: &str,
-) -> Result<(), Fail> {
-    assert_eq!(rt; write_history(alloc, history)?, text(alloc, events)?);
-    assert_eq!(rt; judged(alloc, history)?.as_str(), told);
-    Ok(())
 }

@@ -1,12 +1,13 @@
 // A process that stops for good within its call, and one that goes on.
 ghost use Rattle.running.specs.Passes.{IsPassOf};
 
-use crate::setups::{advance, begin, call, closed, judged, open_two};
+use crate::setups::{advance, begin, call, closed, open_two};
 use art::Variant;
 use events::Call;
 use running::{Arena, Pass};
 use std::alloc::Global;
 use std::test::Fail;
+use tree_tests::checks::judged;
 
 /// So many turns of a get of 5: its invocation, and then steps.
 fn make_turns(alloc: Global, arena: &Arena, pass: &mut Pass, turns: u32) -> Result<(), Fail>

@@ -1,6 +1,7 @@
 // Two processes whose steps are interleaved: what leaving out a check makes of a call, which the verdict refutes, and what
 // the full tree answers.
-use crate::setups::{assert_judged, opened};
+use crate::checks::assert_judged;
+use crate::setups::opened;
 use art::{Point, Variant};
 use art_core::Item;
 use events::Call;
@@ -20,11 +21,16 @@ fn run_on_eights(
     Ok(machine)
 }
 
-/// A get has read the key bytes when an insert shifts the children.
-#[test]
-fn a_get_that_checks_nothing_reads_a_shifted_child(rt: HostRuntime) -> Result<(), Fail> {
-    let alloc = rt.alloc();
+/// A get has read the key bytes when an insert shifts the children: under the variant it is answered so, and this is the
+/// report.
+fn get_across_a_shift(
+    alloc: Global,
+    variant: Variant,
+    answer: &str,
+    report: &str,
+) -> Result<(), Fail> {
     let first = [Call::Insert(5, 50), Call::Insert(9, 90), Call::Get(5)];
+    let scripts: [&[Call]; 2] = [&first, &[Call::Insert(3, 30)]];
     let schedule = [
         Item::End { process: 0 },
         Item::End { process: 0 },
@@ -35,33 +41,34 @@ fn a_get_that_checks_nothing_reads_a_shifted_child(rt: HostRuntime) -> Result<()
         Item::End { process: 1 },
         Item::End { process: 0 },
     ];
-    for (variant, answer, report) in [
-        (
-            Variant::ReadUnchecked,
-            "\"answer\":null",
-            "{\"calls\":[0,2],\"hi\":5,\"lo\":5,\"verdict\":\"no\"}",
-        ),
-        (
-            Variant::Optimistic,
-            "\"answer\":50",
-            "{\"order\":[0,1,2,3],\"verdict\":\"yes\"}",
-        ),
-    ] {
-        let scripts: [&[Call]; 2] = [&first, &[Call::Insert(3, 30)]];
-        let machine = run_on_eights(alloc, variant, scripts, &schedule)?;
-        let expected = [
-            (0, "\"invoke\":[\"insert\",5,50]"),
-            (0, "\"answer\":null"),
-            (0, "\"invoke\":[\"insert\",9,90]"),
-            (0, "\"answer\":null"),
-            (0, "\"invoke\":[\"get\",5]"),
-            (1, "\"invoke\":[\"insert\",3,30]"),
-            (1, "\"answer\":null"),
-            (0, answer),
-        ];
-        assert_judged(&rt, alloc, &machine, &expected, report)?;
-    }
-    Ok(())
+    let machine = run_on_eights(alloc, variant, scripts, &schedule)?;
+    let expected = [
+        (0, "\"invoke\":[\"insert\",5,50]"),
+        (0, "\"answer\":null"),
+        (0, "\"invoke\":[\"insert\",9,90]"),
+        (0, "\"answer\":null"),
+        (0, "\"invoke\":[\"get\",5]"),
+        (1, "\"invoke\":[\"insert\",3,30]"),
+        (1, "\"answer\":null"),
+        (0, answer),
+    ];
+    assert_judged(alloc, &machine.history(alloc)?, &expected, report)
+}
+
+#[test]
+fn a_get_that_checks_nothing_reads_a_shifted_child(rt: HostRuntime) -> Result<(), Fail> {
+    get_across_a_shift(
+        rt.alloc(),
+        Variant::ReadUnchecked,
+        "\"answer\":null",
+        "{\"calls\":[0,2],\"hi\":5,\"lo\":5,\"verdict\":\"no\"}",
+    )?;
+    get_across_a_shift(
+        rt.alloc(),
+        Variant::Optimistic,
+        "\"answer\":50",
+        "{\"order\":[0,1,2,3],\"verdict\":\"yes\"}",
+    )
 }
 
 /// An insert has read the root when another one hangs its leaf there.
@@ -99,7 +106,7 @@ fn a_lock_that_checks_nothing_loses_an_insert(rt: HostRuntime) -> Result<(), Fai
             (1, "\"invoke\":[\"get\",9]"),
             (1, answer),
         ];
-        assert_judged(&rt, alloc, &machine, &expected, report)?;
+        assert_judged(alloc, &machine.history(alloc)?, &expected, report)?;
     }
     Ok(())
 }
@@ -142,39 +149,63 @@ fn a_scan_that_is_not_validated_misses_the_first_of_two_inserts(
             (1, "\"answer\":null"),
             (0, answer),
         ];
-        assert_judged(&rt, alloc, &machine, &expected, report)?;
+        assert_judged(alloc, &machine.history(alloc)?, &expected, report)?;
     }
     Ok(())
 }
 
-/// A remove stands before a row that is replaced before it is locked. Under full coupling it holds the row above, so the
-/// insert that would replace the row waits until no turn is left.
-#[test]
-fn a_remove_that_lets_go_too_early_works_on_a_replaced_row(rt: HostRuntime) -> Result<(), Fail> {
-    let alloc = rt.alloc();
-    let inserts_and_get = [
+/// A remove of the key 1, beside five inserts, of which the last replaces the row of the others, and a get of the key.
+const REMOVE_BESIDE_INSERTS: [&[Call]; 2] = [
+    &[Call::Remove(1)],
+    &[
         Call::Insert(1, 10),
         Call::Insert(2, 20),
         Call::Insert(3, 30),
         Call::Insert(4, 40),
         Call::Insert(5, 50),
         Call::Get(1),
-    ];
-    let schedule = [
-        Item::End { process: 1 },
-        Item::End { process: 1 },
-        Item::End { process: 1 },
-        Item::End { process: 1 },
-        Item::Until {
-            process: 0,
-            point: Point::LockRow,
-        },
-        Item::End { process: 1 },
-        Item::End { process: 0 },
-        Item::End { process: 1 },
-    ];
-    let scripts: [&[Call]; 2] = [&[Call::Remove(1)], &inserts_and_get];
-    let machine = run_on_eights(alloc, Variant::EarlyRelease, scripts, &schedule)?;
+    ],
+];
+
+/// The remove stands before the row, not yet locked, when the last insert comes.
+static REPLACED_BEFORE_THE_LOCK: [Item; 8] = [
+    Item::End { process: 1 },
+    Item::End { process: 1 },
+    Item::End { process: 1 },
+    Item::End { process: 1 },
+    Item::Until {
+        process: 0,
+        point: Point::LockRow,
+    },
+    Item::End { process: 1 },
+    Item::End { process: 0 },
+    Item::End { process: 1 },
+];
+
+/// A remove stands before a row that is replaced before it is locked. Under full coupling it holds the row above, so the
+/// insert that would replace the row waits until no turn is left.
+#[test]
+fn a_remove_that_lets_go_too_early_works_on_a_replaced_row(rt: HostRuntime) -> Result<(), Fail> {
+    removes_from_a_replaced_row(rt.alloc())?;
+    let scripts = REMOVE_BESIDE_INSERTS;
+    let mut coupled = opened(rt.alloc(), [8, 8, 8, 1], Variant::Coupled, scripts, 1000)?;
+    let stopped = coupled.run(rt.alloc(), &REPLACED_BEFORE_THE_LOCK);
+    let fault = RunFault {
+        item: 5,
+        fault: MachineFault::TurnLimit,
+    };
+    assert_eq!(rt; stopped, Err(fault));
+    Ok(())
+}
+
+/// Where the remove lets go too early, it answers the value and the key stays: the verdict is no.
+fn removes_from_a_replaced_row(alloc: Global) -> Result<(), Fail> {
+    let machine = run_on_eights(
+        alloc,
+        Variant::EarlyRelease,
+        REMOVE_BESIDE_INSERTS,
+        &REPLACED_BEFORE_THE_LOCK,
+    )?;
     let expected = [
         (1, "\"invoke\":[\"insert\",1,10]"),
         (1, "\"answer\":null"),
@@ -192,18 +223,9 @@ fn a_remove_that_lets_go_too_early_works_on_a_replaced_row(rt: HostRuntime) -> R
         (1, "\"answer\":10"),
     ];
     assert_judged(
-        &rt,
         alloc,
-        &machine,
+        &machine.history(alloc)?,
         &expected,
         "{\"calls\":[0,4,6],\"hi\":1,\"lo\":1,\"verdict\":\"no\"}",
-    )?;
-    let mut coupled = opened(alloc, [8, 8, 8, 1], Variant::Coupled, scripts, 1000)?;
-    let stopped = coupled.run(alloc, &schedule);
-    let fault = RunFault {
-        item: 5,
-        fault: MachineFault::TurnLimit,
-    };
-    assert_eq!(rt; stopped, Err(fault));
-    Ok(())
+    )
 }

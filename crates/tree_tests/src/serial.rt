@@ -142,47 +142,41 @@ fn a_scan_finds_the_greatest_key(rt: HostRuntime) -> Result<(), Fail> {
     assert_recorded(&rt, alloc, &machine, &expected)
 }
 
-/// One row of each kind: it grows from 4 to 16 to 48 children, and there the inserts end.
-#[test]
-fn a_row_grows_through_all_kinds(rt: HostRuntime) -> Result<(), Fail> {
-    let alloc = rt.alloc();
+/// Inserts of the keys below 49, of which the last is refused, and a get of the last key that is there.
+fn inserts_past_the_last_place(alloc: Global) -> Result<Vec<Call>, Fail> {
     let mut calls = Vec::new(alloc);
     for key in 0..49 {
         calls.push(Call::Insert(key, 1))?;
     }
     calls.push(Call::Get(47))?;
-    let mut machine = opened(
-        alloc,
-        [1, 1, 1, 1],
-        Variant::Optimistic,
-        [&calls, &[]],
-        100_000,
-    )?;
+    Ok(calls)
+}
+
+/// The words at these places are these.
+fn assert_words(
+    rt: &impl Abort,
+    alloc: Global,
+    machine: &Machine,
+    words: &[(usize, u64)],
+) -> Result<(), Fail> {
+    for (place, word) in words {
+        let found = words_at(alloc, machine, &[*place])?;
+        assert_eq!(rt; found.as_slice(), [*word].as_slice());
+    }
+    Ok(())
+}
+
+/// One row of each kind: it grows from 4 to 16 to 48 children, and there the inserts end.
+#[test]
+fn a_row_grows_through_all_kinds(rt: HostRuntime) -> Result<(), Fail> {
+    let alloc = rt.alloc();
+    let calls = inserts_past_the_last_place(alloc)?;
+    let scripts: [&[Call]; 2] = [&calls, &[]];
+    let mut machine = opened(alloc, [1, 1, 1, 1], Variant::Optimistic, scripts, 100_000)?;
     run_to_end(alloc, &mut machine, 17)?;
-    let places = [0, 1, 2, 3, 4, 5, 12, 33, 34, 35, 37, 67, 116, 118];
-    let grown = [
-        34,
-        1,
-        1,
-        1,
-        1,
-        13,
-        49,
-        0,
-        14,
-        578437695752307201,
-        17,
-        17,
-        16,
-        133,
-    ];
-    assert_eq!(rt;
-        words_at(alloc, &machine, &places)?.as_slice(),
-        grown.as_slice()
-    );
+    assert_words(&rt, alloc, &machine, &GROWN_TO_48)?;
     run_to_end(alloc, &mut machine, 32)?;
-    let full = words_at(alloc, &machine, &[4, 33, 67, 116])?;
-    assert_eq!(rt; full.as_slice(), [2, 128, 48, 20].as_slice());
+    assert_words(&rt, alloc, &machine, &FULL)?;
     run_to_end(alloc, &mut machine, 1)?;
     let text = recorded(alloc, &machine)?;
     assert!(rt;
@@ -194,3 +188,24 @@ fn a_row_grows_through_all_kinds(rt: HostRuntime) -> Result<(), Fail> {
     );
     Ok(())
 }
+
+/// Words after 17 inserts, each with its place.
+static GROWN_TO_48: [(usize, u64); 14] = [
+    (0, 34),
+    (1, 1),
+    (2, 1),
+    (3, 1),
+    (4, 1),
+    (5, 13),
+    (12, 49),
+    (33, 0),
+    (34, 14),
+    (35, 578437695752307201),
+    (37, 17),
+    (67, 17),
+    (116, 16),
+    (118, 133),
+];
+
+/// Words after all 49 inserts, each with its place.
+static FULL: [(usize, u64); 4] = [(4, 2), (33, 128), (67, 48), (116, 20)];

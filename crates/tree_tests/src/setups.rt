@@ -7,13 +7,12 @@ ghost use Rattle.art_core.specs.Plans.{IsPlan};
 ghost use Rattle.art_core.specs.Starts.{inserts};
 ghost use Rattle.machine.specs.Running.{plan_of};
 
+use crate::checks::is_within_limits;
 use art::{Shape, TreeCall, Variant};
 use events::{Call, History};
 use history_text::write_history;
-use judge::{judge_alone, report};
 use machine::{Machine, MachineFault};
 use std::alloc::Global;
-use std::process::Abort;
 use std::test::Fail;
 
 /// A shape, by its rows of the kinds 4, 16, 48 and 256.
@@ -105,16 +104,6 @@ fn test_pairs(pairs: &[(u64, u64)]) -> Result<(), Fail>
     Ok(())
 }
 
-fn is_within_limits(shape: Shape) -> bool
-    ensures { IsTrue result → IsWithinLimits shape }
-{
-    shape.rows4 <= 4096
-        && shape.rows16 <= 1024
-        && shape.rows48 <= 256
-        && 1 <= shape.rows256
-        && shape.rows256 <= 64
-}
-
 fn script(alloc: Global, calls: &[Call]) -> Result<Vec<TreeCall>, Fail>
     ensures calls { IfOk result (λ script. All (λ call. IsTrue (is_tree_call call)) script.items) }
     ensures few { IfOk result (λ script. vec_len script ≤ 100) }
@@ -143,37 +132,6 @@ fn tree_call(call: &Call) -> Result<TreeCall, Fail>
 pub fn recorded(alloc: Global, machine: &Machine) -> Result<String, Fail> {
     let history = machine.history(alloc)?;
     Ok(write_history(alloc, &history)?)
-}
-
-/// The report of the verdict on what the machine has recorded.
-pub fn judged(alloc: Global, machine: &Machine) -> Result<String, Fail> {
-    let history = machine.history(alloc)?;
-    let verdict = judge_alone(alloc, &history, 1000)?;
-    Ok(report(alloc, &verdict)?)
-}
-
-/// A history's text, of events each with its process.
-fn history(alloc: Global, events: &[(u8, &str)]) -> Result<String, Fail> {
-    let mut text = String::from_str(alloc, "{\"events\":[")?;
-    for (place, (process, event)) in events.iter().enumerate() {
-        let comma = if place == 0 { "" } else { "," };
-        text.push_str(&format!(in alloc; "{comma}{{{event},\"process\":{process}}}")?)?;
-    }
-    text.push_str("],\"version\":1}")?;
-    Ok(text)
-}
-
-/// The machine has recorded these events, and this is the report on them.
-pub fn assert_judged(
-    rt: &impl Abort,
-    alloc: Global,
-    machine: &Machine,
-    events: &[(u8, &str)],
-    report: &str,
-) -> Result<(), Fail> {
-    assert_eq!(rt; recorded(alloc, machine)?, history(alloc, events)?);
-    assert_eq!(rt; judged(alloc, machine)?.as_str(), report);
-    Ok(())
 }
 
 /// The words at these places.

@@ -1,5 +1,6 @@
 // Machines that start with pairs.
-use crate::setups::{judged, opened_with, recorded, words_at};
+use crate::checks::judged;
+use crate::setups::{opened_with, recorded, words_at};
 use art::{Point, Variant};
 use art_core::Item;
 use events::Call;
@@ -26,7 +27,7 @@ fn a_tree_starts_with_three_keys_in_two_rows(rt: HostRuntime) -> Result<(), Fail
         \"start\":[[16777217,1],[16777218,2],[16842752,3]],\"version\":2}"
     );
     assert_eq!(rt;
-        judged(alloc, &machine)?.as_str(),
+        judged(alloc, &machine.history(alloc)?)?.as_str(),
         "{\"order\":[0],\"verdict\":\"yes\"}"
     );
     Ok(())
@@ -115,7 +116,7 @@ fn two_replaces_of_one_value_are_told_apart(rt: HostRuntime) -> Result<(), Fail>
             {{\"answer\":{answer},\"process\":0}}],\"start\":[[5,1]],\"version\":2}}"
         )?;
         assert_eq!(rt; recorded(alloc, &machine)?, expected);
-        assert_eq!(rt; judged(alloc, &machine)?.as_str(), report);
+        assert_eq!(rt; judged(alloc, &machine.history(alloc)?)?.as_str(), report);
     }
     Ok(())
 }

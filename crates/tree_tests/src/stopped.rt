@@ -1,6 +1,7 @@
 // A process that is stopped for good in the middle of a call, while another one goes on: it is answered, or it waits for a
 // lock until no turn is left. What is recorded either way has an order.
-use crate::setups::{assert_judged, opened};
+use crate::checks::assert_judged;
+use crate::setups::opened;
 use art::Variant;
 use art_core::Item;
 use events::Call;
@@ -47,7 +48,7 @@ fn assert_stopped(
     )?;
     events.extend_from_slice(later)?;
     let report = format!(in alloc; "{{\"order\":{order},\"verdict\":\"yes\"}}")?;
-    assert_judged(rt, alloc, &machine, &events, &report)
+    assert_judged(alloc, &machine.history(alloc)?, &events, &report)
 }
 
 /// A get without locks takes eleven turns.
