@@ -16,5 +16,5 @@ mod table;
 mod tests;
 
 pub use fault::LineFault;
-pub use line::{DEFAULT_BUDGET, DEFAULT_WORKERS, Line, Tree};
+pub use line::{Line, Tree};
 pub use read::read_line;

@@ -1,9 +1,3 @@
-/// The budget of a judgement where the words name none.
-pub const DEFAULT_BUDGET: u32 = 100000;
-
-/// The workers of a judgement where the words name no number of them.
-pub const DEFAULT_WORKERS: u32 = 1;
-
 /// What the words ask for: a subcommand, with its values.
 #[derive(Debug, Drop)]
 pub enum Line {
