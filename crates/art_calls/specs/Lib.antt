@@ -1,0 +1,4 @@
+pub mod Effects
+pub mod FewPairs
+pub mod Laws
+pub mod RunCalls

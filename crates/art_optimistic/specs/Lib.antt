@@ -1,0 +1,4 @@
+pub mod Knows
+pub mod Goes
+pub mod Laws
+pub mod Steps
