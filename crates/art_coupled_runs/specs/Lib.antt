@@ -1,0 +1,4 @@
+pub mod CoupledFits
+pub mod KeptScans
+pub mod Linear
+pub mod ScanFits
