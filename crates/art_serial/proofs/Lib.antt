@@ -1,8 +1,8 @@
-mod SerialHistoryLemmas
-mod AloneRunLemmas
-mod OrderlyLemmas
-mod SerialScheduleLemmas
-mod SoleProcessLemmas
-pub mod KeptLemmas
-pub mod StartKeptLemmas
-pub mod ScriptEndLemmas
+pub mod words
+pub mod trees
+pub mod alone
+pub mod writes
+pub mod walks
+pub mod serial
+pub mod inserts
+pub mod maps

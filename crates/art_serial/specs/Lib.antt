@@ -1,3 +1,8 @@
-pub mod Serial
-pub mod Composition
-pub mod Laws
+pub mod words
+pub mod trees
+pub mod alone
+pub mod writes
+pub mod walks
+pub mod serial
+pub mod inserts
+pub mod maps

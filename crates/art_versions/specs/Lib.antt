@@ -1,9 +1,2 @@
-pub mod Locking
-pub mod Holding
-pub mod Effects
-pub mod Versions
-pub mod Steady
-pub mod Writers
-pub mod Fresh
-pub mod Locks
-pub mod Laws
+pub mod versions
+pub mod moments

@@ -1,10 +1,15 @@
-//! Rows and versions under lock coupling and under optimistic lock coupling: who holds a row, who fills one, and that a row stands
-//! still while its version does.
+//! Rows and versions of the two full trees, and the moments of their reads. Laws alone, in two parts:
+//! - versions: who holds a row and who writes it, and that a row stands still while its version does;
+//! - moments: the one moment of a validated scan, and of a checked get: where all that it read stands still.
 #![tactic(auto)]
 
 mod laws;
 
-pub use laws::{
+pub use laws::moments::{
+    answered_gets_are_checked, answered_gets_have_moments, answered_scans_are_validated,
+    answered_scans_have_moments, gets_have_one_moment, scans_have_one_moment, words_were_got,
+};
+pub use laws::versions::{
     fresh_rows_are_zero, locks_are_held, obsolete_rows_rest, only_holders_write, rows_are_sound,
     rows_stand_still,
 };

@@ -21,7 +21,7 @@ use Rattle.art_core.specs.Core.{Plan, State, answered, next_move, opened}
 use Rattle.art_core.specs.NamedTurns.{AreMade}
 use Rattle.art_core.specs.Starts.{AreInsertedIn, inserts, start_plan}
 use Rattle.art_core.specs.Plans.{IsPlan}
-use Rattle.art_maps.specs.Ends.{StartsEnd}
+use Rattle.art_serial.specs.maps.Ends.{StartsEnd}
 use Rattle.art_core.proofs.HistoryLemmas.{run-lengths}
 use Rattle.art_core.proofs.StartLemmas.{run-steps}
 use Rattle.machine.specs.declared.machines.Machine.{Machine}

@@ -3,7 +3,7 @@ use Rattle.std.specs.Prelude.{◌≡◌, ℕ, List}
 use Rattle.art_steps.specs.declared.variant.Variant.TheVariants.{Optimistic}
 use Rattle.art_core.specs.Core.{Plan, State}
 use Rattle.art_core.specs.Plans.{IsRun}
-use Rattle.art_moments.specs.Reads.{AnsweredScansHaveMoments, AnsweredGetsHaveMoments}
+use Rattle.art_versions.specs.moments.Reads.{AnsweredScansHaveMoments, AnsweredGetsHaveMoments}
 use Rattle.machine.specs.declared.machines.Machine.{Machine}
 use Rattle.machine.specs.Machines.{Shows, start_of}
 

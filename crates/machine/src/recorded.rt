@@ -1,8 +1,8 @@
 // What a machine has recorded.
 use crate::machines::Machine;
 use crate::runner::Runner;
-use art_maps::serial_is_map;
-use art_moments::{answered_gets_have_moments, answered_scans_have_moments};
+use art_serial::serial_is_map;
+use art_versions::{answered_gets_have_moments, answered_scans_have_moments};
 use events::{Event, History, Memory};
 use logs::{append_log, history_by_stamp};
 use std::alloc::Global;

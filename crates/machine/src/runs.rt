@@ -5,7 +5,7 @@ use crate::fault::{MachineFault, RunFault};
 use crate::machines::Machine;
 use art::Point;
 use art_core::Item;
-use art_moments::{answered_gets_have_moments, answered_scans_have_moments};
+use art_versions::{answered_gets_have_moments, answered_scans_have_moments};
 use std::alloc::Global;
 
 impl Machine {

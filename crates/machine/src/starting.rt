@@ -16,7 +16,7 @@ use crate::fault::MachineFault;
 use crate::machines::Machine;
 use art::{Shape, TreeCall, Variant};
 use art_core::Item;
-use art_maps::starts_end;
+use art_serial::starts_end;
 use events::{Call, Event, Memory, Reply};
 use std::alloc::Global;
 

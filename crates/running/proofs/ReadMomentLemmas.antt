@@ -4,7 +4,7 @@ use Rattle.art_rows.specs.Table.{opening}
 use Rattle.art_core.specs.Core.{opened}
 use Rattle.art_core.specs.Runs.{Gives, HasFewSteps}
 use Rattle.art_core.specs.Plans.{IsRun}
-use Rattle.art_moments.specs.Reads.{RunsHaveMomentsOfScans, RunsHaveMomentsOfGets}
+use Rattle.art_versions.specs.moments.Reads.{RunsHaveMomentsOfScans, RunsHaveMomentsOfGets}
 use Rattle.art_shared.specs.declared.view.Setup.{Setup}
 use Rattle.art_shared.specs.declared.view.View.{View}
 use Rattle.art_shared.specs.Ends.{plan_of, state_of, Ended}

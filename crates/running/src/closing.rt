@@ -9,7 +9,7 @@ use crate::arena::Arena;
 use crate::fault::ArenaClose;
 use crate::pass::Pass;
 use crate::runner::Runner;
-use art_moments::{answered_gets_have_moments, answered_scans_have_moments};
+use art_versions::{answered_gets_have_moments, answered_scans_have_moments};
 use events::{Event, History, Memory};
 use logs::{append_log, history_by_stamp};
 use std::alloc::Global;

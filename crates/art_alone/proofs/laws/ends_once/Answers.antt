@@ -1,6 +1,0 @@
-use Rattle.art_alone.proofs.AloneLemmas.{runs-once}
-use Rattle.art_alone.proofs.laws.ends_once.Goals as goal
-
--- src/laws.rt
-pub returns : goal.returns
-returns c = λ rest words last last2 reply reply2 h k. runs-once h k

@@ -1,4 +1,0 @@
-pub mod Effects
-pub mod FewPairs
-pub mod Laws
-pub mod RunCalls

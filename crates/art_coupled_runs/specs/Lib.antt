@@ -1,4 +1,0 @@
-pub mod CoupledFits
-pub mod KeptScans
-pub mod Linear
-pub mod ScanFits

@@ -1,4 +1,0 @@
-mod LengthLemmas
-mod ClockLemmas
-pub mod SerialMapLemmas
-mod StartEndLemmas

@@ -1,4 +1,0 @@
-pub mod Knows
-pub mod Goes
-pub mod Laws
-pub mod Steps

@@ -1,0 +1,250 @@
+-- The map of a run has no more pairs than it started with and calls were begun.
+use Rattle.std.proofs.Common.{◌≡◌, ℕ, zero, suc, ◌+◌, ◌^◌, ◌<◌, ◌≤◌, Bool, true, false, List, [], ◌∷◌, ◌++◌, length, map, sum, cond}
+use Rattle.std.proofs.Common.{refl, ap, sym, subst, ◌∙◌, arith}
+use Rattle.std.specs.Prelude.{◌≢◌, if◌then◌else◌, All, AllPairs, Option, Some, None}
+use Rattle.std.proofs.lemmas.Bool.{false≢true}
+use Rattle.std.proofs.lemmas.Bool.Decides.{nat_tests}
+use Rattle.std.proofs.lemmas.List.{length-append}
+use Rattle.std.proofs.lemmas.List.Elements.{All-cons, All-nil, All-weaker}
+use Rattle.std.proofs.lemmas.List.Kept.{AllPairs-cons}
+use Rattle.std.proofs.lemmas.List.Sums.{sum_by-cons}
+use Rattle.std.proofs.lemmas.Option.{same_Some}
+use Rattle.list_laws.proofs.Lists.{AllPairs-nil, length-distinct_below}
+use Rattle.list_laws.proofs.NumberLemmas.{slice_get-below}
+use Rattle.events.specs.declared.event.Call.{Call}
+use Rattle.events.specs.declared.event.Call.TheVariants.{Get, Insert, Remove, Scan, Replace}
+use Rattle.events.specs.declared.event.Event.{Event}
+use Rattle.events.specs.declared.event.Event.TheVariants.{Invoke, Answer}
+use Rattle.events.specs.declared.event.Reply.{Reply}
+use Rattle.events.specs.declared.event.Reply.TheVariants as replies
+use Rattle.events.specs.declared.operation.Operation.{Operation}
+use Rattle.events.specs.declared.operation.Response.{Response}
+use Rattle.events.specs.Events.{is_invocation}
+use Rattle.events.specs.Histories.{call_count}
+use Rattle.events.specs.Operations.{operations_from, operations}
+use Rattle.map_object.specs.MapObject.{Contents, put, below, above, is_just, value_at, after, after_reply}
+use Rattle.orders.specs.Orders.{after_call}
+use Rattle.art_core.specs.Core.{Plan, State, history_of, opened_on, step}
+use Rattle.art_core.specs.Runs.{run_on, HasFewSteps, At}
+use Rattle.art_core.specs.Plans.{IsPlan, IsRun}
+use Rattle.art_core.proofs.HistoryLemmas.{IsLogged, calls-within, one-move, is-moved, one-step, nowhere, steps-rise, all_steps}
+use Rattle.art_core.proofs.HistoryLemmas.{opened-logged, start-length, start-clock}
+use Rattle.art_schedules.specs.calls.RunCalls.{IsIn, IsRunCall, HasCalls}
+use Rattle.art_schedules.specs.calls.Effects.{IsStepOf, ChangesOnce, HasEffect, Changes, Finds, Pends, HaveEffects}
+use Rattle.art_schedules.specs.calls.FewPairs.{ChangesIn, GrowByCalls, PairsStayFew, EffectsKeepFewPairs}
+use Rattle.art_schedules.proofs.calls.RunCallLemmas.{run-has-calls}
+
+-- ---- a call adds one pair at most
+
+parts-few : (key : ℕ) (m : Contents) → length (below key m) + length (above key m) ≤ length m
+parts-few key [] = omega arith
+parts-few key (pair ∷ m) = grind (arith, nat_tests, parts-few key m)
+
+put-few : (key value : ℕ) (m : Contents) → length (put key value m) ≤ length m + 1
+put-few key value m = omega (arith, length-append (below key m) ((key, value) ∷ above key m), parts-few key m)
+
+removed-few : (key : ℕ) (m : Contents) → length (below key m ++ above key m) ≤ length m + 1
+removed-few key m = omega (arith, length-append (below key m) (above key m), parts-few key m)
+
+after-few : (m : Contents) (call : Call) → length (after m call) ≤ length m + 1
+after-few m (Get key) = omega arith
+after-few m (Insert key value) = put-few key value m
+after-few m (Remove key) = removed-few key m
+after-few m (Scan low high) = omega arith
+after-few m (Replace key expected value) = either (is_just (value_at m key) expected)
+  where
+    either : (b : Bool) → length (if b then put key value m else m) ≤ length m + 1
+    either true = put-few key value m
+    either false = omega arith
+
+after-reply-few : (m : Contents) (call : Call) (reply : Reply) → length (after_reply m call reply) ≤ length m + 1
+after-reply-few m call replies.Refused = omega arith
+after-reply-few m call replies.None = after-few m call
+after-reply-few m call (replies.Some value) = after-few m call
+after-reply-few m call (replies.Pairs pairs) = after-few m call
+
+after-call-few : (m : Contents) (call : Call) (response : Option Response) → length (after_call m call response) ≤ length m + 1
+after-call-few m call None = after-few m call
+after-call-few m call (Some response) = after-reply-few m call response.reply
+
+-- ---- a run has no more calls than its scripts
+
+logged-on : (plan : Plan) → IsPlan plan → (schedule : List ℕ) (first s : State) → IsLogged plan first → run_on plan (Some first) schedule ≡ Some s
+    → HasFewSteps s → IsLogged plan s
+logged-on plan within [] first s h gives few = subst (IsLogged plan) (same_Some first s gives) h
+logged-on plan within (p ∷ schedule) first s h gives few = go (step plan first p) refl (λ next. logged-on plan within schedule next s) gives
+  where
+    go : (o : Option State) → step plan first p ≡ o
+        → ((next : State) → IsLogged plan next → run_on plan (Some next) schedule ≡ Some s → HasFewSteps s → IsLogged plan s)
+        → run_on plan o schedule ≡ Some s → IsLogged plan s
+    go None e later k = absurd (nowhere plan schedule s k)
+    go (Some next) e later k =
+        let m = is-moved plan first p next e in
+        let bound = steps-rise plan schedule next s k in
+        let fewer : all_steps first + 1 < 2 ^ 61 = omega (arith, one-step plan first p next e) in
+        later next (subst (IsLogged plan) (sym m.is) (one-move plan within first p m.process h m.here fewer m.process.call m.move refl m.is_next)) k few
+
+length-operations : (i : ℕ) (events : List Event) → length (operations_from i events) ≡ call_count events
+length-operations i [] = refl
+length-operations i (Answer p reply ∷ events) = length-operations (suc i) events
+length-operations i (Invoke p call ∷ events) =
+    let more = sum_by-cons (λ x. cond (is_invocation x) 1 0) (Invoke p call) events in omega (arith, length-operations (suc i) events)
+
+few-operations : (plan : Plan) (start : Contents) (words schedule : List ℕ) (s : State) → IsRun plan start words schedule s
+    → length (operations (history_of s)) ≤ sum (map (λ script. length script) plan.scripts)
+unfolding history_of
+few-operations plan start words schedule s run =
+    let first = opened-logged plan words (start-length plan.shape plan.variant start words run.starts)
+    (start-clock plan.shape plan.variant start words run.starts) in
+    let is = logged-on plan run.within schedule (opened_on plan words) s first run.gives run.few_steps in
+    omega (arith, length-operations 0 (history_of s), is.calls, calls-within s.processes plan.scripts is.scripts)
+
+-- ---- so the pairs are few
+
+module _ (plan : Plan) (start : Contents) (first : State) (schedule : List ℕ) (s : State) (h : HasCalls plan first schedule s) where
+  abbrev calls : List Operation
+  calls = operations (history_of s)
+
+  -- the call that a process was in when its step changed the pairs
+  record TheCall (p number : ℕ) : Type 0 where
+    n : ℕ
+    known : n < length calls
+    process : (h.call_of n).process ≡ p
+    count : (h.call_of n).calls ≡ number
+    operation : Operation
+    is : IsRunCall plan first schedule operation (h.call_of n)
+
+  the-call : (t p number : ℕ) (now : State) (call : Call) → At plan first schedule t now → IsIn now p number call → TheCall p number
+  the-call t p number now call at in-it =
+      let (n, known, process, count) = h.all t now p number call at in-it in
+      let (a, here) = slice_get-below calls n known in
+      record { n = n; known = known; process = process; count = count; operation = a; is = h.each n a here }
+
+  -- each step of the process in that call is one of the call's
+  its-step : (changes : ℕ → Bool) (p number : ℕ) (c : TheCall p number) (t : ℕ) → ChangesIn plan first schedule changes t p number
+      → IsStepOf schedule (h.call_of c.n) t
+  its-step changes p number c t x =
+      let is_in : IsIn x.now (h.call_of c.n).process (h.call_of c.n).calls x.call =
+      subst (λ i. IsIn x.now i (h.call_of c.n).calls x.call) (sym c.process) (subst (λ i. IsIn x.now p i x.call) (sym c.count) x.is_in) in
+      (x.turn ∙ ap Some (sym c.process), (c.is.within t x.now x.call x.at is_in).0)
+
+  module _ (pairs : ℕ → Contents) (changes : ℕ → Bool) (g : GrowByCalls plan start first schedule pairs changes) where
+    -- call n has changed the pairs before moment t
+    abbrev HasChangedBy : ℕ → ℕ → Type 0
+    HasChangedBy t n = (u : ℕ) × (u < t) × ChangesIn plan first schedule changes u (h.call_of n).process (h.call_of n).calls
+
+    -- the calls that have changed the pairs before moment t
+    record Counted (t : ℕ) : Type 0 where
+      numbers : List ℕ
+      few : length (pairs t) ≤ length start + length numbers
+      known : All (λ n. n < length calls) numbers
+      distinct : AllPairs (λ m n. m ≢ n) numbers
+      changed : All (HasChangedBy t) numbers
+
+    later : (t n : ℕ) → HasChangedBy t n → HasChangedBy (t + 1) n
+    later t n (u, before, is) = (u, omega (arith, before), is)
+
+    module _ (t : ℕ) (less : t < length schedule) (before : Counted t) where
+      kept : changes t ≡ false → Counted (t + 1)
+      kept none = record {
+        numbers = before.numbers;
+        few = omega (arith, before.few, ap (λ m. length m) (g.stay t less none));
+        known = before.known;
+        distinct = before.distinct;
+        changed = All-weaker (HasChangedBy t) (HasChangedBy (t + 1)) (later t) before.numbers before.changed;
+      }
+
+      -- a call that changes them now has not done so before
+      fresh : (n m : ℕ) → ChangesIn plan first schedule changes t (h.call_of n).process (h.call_of n).calls → HasChangedBy t m → n ≢ m
+      fresh n m own (u, earlier, is) same =
+          let its : ChangesIn plan first schedule changes u (h.call_of n).process (h.call_of n).calls =
+          subst (λ i. ChangesIn plan first schedule changes u (h.call_of i).process (h.call_of i).calls) (sym same) is in
+          absurd (omega (arith, earlier, g.once t u (h.call_of n).process (h.call_of n).calls own its))
+
+      grown : changes t ≡ true → Counted (t + 1)
+      grown change =
+          let (p, turn) = slice_get-below schedule t less in
+          let (now, number, call, at, in-it) = g.in_call t p turn change in
+          let c = the-call t p number now call at in-it in
+          let own : ChangesIn plan first schedule changes t (h.call_of c.n).process (h.call_of c.n).calls = record {
+            change = change;
+            turn = turn ∙ ap Some (sym c.process);
+            now = now;
+            at = at;
+            call = call;
+            is_in = subst (λ i. IsIn now i (h.call_of c.n).calls call) (sym c.process) (subst (λ i. IsIn now p i call) (sym c.count) in-it);
+          } in
+          record {
+            numbers = c.n ∷ before.numbers;
+            few = omega (arith, before.few, g.grow t less change);
+            known = All-cons (λ n. n < length calls) c.n before.numbers c.known before.known;
+            distinct = AllPairs-cons (λ (m n : ℕ). m ≢ n) c.n before.numbers
+                (All-weaker (HasChangedBy t) (λ m. c.n ≢ m) (λ m k. fresh c.n m own k) before.numbers before.changed) before.distinct;
+            changed = All-cons (HasChangedBy (t + 1)) c.n before.numbers (t, omega arith, own)
+                (All-weaker (HasChangedBy t) (HasChangedBy (t + 1)) (later t) before.numbers before.changed);
+          }
+
+      counted-next : (b : Bool) → changes t ≡ b → Counted (suc t)
+      counted-next false none = subst Counted (omega arith) (kept none)
+      counted-next true change = subst Counted (omega arith) (grown change)
+
+    counted : (t : ℕ) → t ≤ length schedule → Counted t
+    counted zero most = record {
+      numbers = [];
+      few = omega (arith, ap (λ m. length m) g.begins);
+      known = All-nil (λ n. n < length calls);
+      distinct = AllPairs-nil (λ (m n : ℕ). m ≢ n);
+      changed = All-nil (HasChangedBy 0);
+    }
+    counted (suc t) most = counted-next t (omega (arith, most)) (counted t (omega (arith, most))) (changes t) refl
+
+    pub pairs-below : (t : ℕ) → t ≤ length schedule → length (pairs t) ≤ length start + length calls
+    pairs-below t most = let k = counted t most in omega (arith, k.few, length-distinct_below k.numbers (length calls) k.distinct k.known)
+
+  -- where each call has its effect, pairs grow so
+  module _ (e : HaveEffects plan start first schedule) where
+    changes-once : (p number : ℕ) (c : TheCall p number) (t : ℕ) → ChangesIn plan first schedule e.changes t p number
+        → ChangesOnce schedule e.pairs e.changes c.operation (h.call_of c.n)
+    changes-once p number c t own = go (e.each c.operation (h.call_of c.n) c.is)
+      where
+        go : HasEffect schedule e.pairs e.changes c.operation (h.call_of c.n) → ChangesOnce schedule e.pairs e.changes c.operation (h.call_of c.n)
+        go (Changes x) = x
+        go (Finds x) = absurd (false≢true (sym (x.nothing t (its-step e.changes p number c t own)) ∙ own.change))
+        go (Pends pending nothing) = absurd (false≢true (sym (nothing t (its-step e.changes p number c t own)) ∙ own.change))
+
+    once : (t u p number : ℕ) → ChangesIn plan first schedule e.changes t p number → ChangesIn plan first schedule e.changes u p number → t ≡ u
+    once t u p number one two =
+        let c = the-call t p number one.now one.call one.at one.is_in in
+        let x = changes-once p number c t one in
+        x.only t (its-step e.changes p number c t one) one.change ∙ sym (x.only u (its-step e.changes p number c u two) two.change)
+
+    grow : (t : ℕ) → t < length schedule → e.changes t ≡ true → length (e.pairs (t + 1)) ≤ length (e.pairs t) + 1
+    grow t less change =
+        let (p, turn) = slice_get-below schedule t less in
+        let (now, number, call, at, in-it) = e.in_call t p turn change in
+        let c = the-call t p number now call at in-it in
+        let own : ChangesIn plan first schedule e.changes t p number =
+        record { change = change; turn = turn; now = now; at = at; call = call; is_in = in-it } in
+        let x = changes-once p number c t own in
+        let same : t ≡ x.t = x.only t (its-step e.changes p number c t own) change in
+        let next : e.pairs (t + 1) ≡ after_call (e.pairs t) c.operation.call c.operation.response =
+        subst (λ i. e.pairs (i + 1) ≡ after_call (e.pairs i) c.operation.call c.operation.response) (sym same) x.leaves.1 in
+        omega (arith, ap (λ m. length m) next, after-call-few (e.pairs t) c.operation.call c.operation.response)
+
+    effects-grow : GrowByCalls plan start first schedule e.pairs e.changes
+    effects-grow = record { begins = e.begins; stay = e.stay; in_call = e.in_call; grow = grow; once = once }
+
+pub pairs-few : PairsStayFew
+pairs-few plan start words schedule s pairs changes run g t most =
+    let h = run-has-calls plan start words schedule s run in
+    omega (
+      arith,
+      pairs-below plan start (opened_on plan words) schedule s h pairs changes g t most,
+      few-operations plan start words schedule s run,
+      run.start_within.few,
+    )
+
+pub effects-few : EffectsKeepFewPairs
+effects-few plan start words schedule s run effects t most =
+    pairs-few plan start words schedule s effects.pairs effects.changes run
+    (effects-grow plan start (opened_on plan words) schedule s (run-has-calls plan start words schedule s run) effects) t most

@@ -1,0 +1,243 @@
+-- What a call knows on its way stays so, whatever other calls do.
+use Rattle.std.proofs.Common.{◌≡◌, ℕ, ◌+◌, ◌-◌, ◌<◌, ◌≤◌, List, [], ◌∷◌, slice_index, Bool, true, false, sym, ap, ◌∙◌, subst, arith, inl}
+use Rattle.std.specs.Prelude.{Option, Some, None}
+use Rattle.std.proofs.lemmas.Option.{none-some, same_Some}
+use Rattle.map_object.specs.MapObject.{Contents}
+use Rattle.events.specs.declared.event.Reply.{Reply}
+use Rattle.art_rows.specs.declared.table.Kind.{Kind}
+use Rattle.art_rows.specs.declared.table.Kind.TheVariants.{Four, Sixteen, FortyEight, Full}
+use Rattle.art_rows.specs.declared.table.Child.{Child}
+use Rattle.art_rows.specs.declared.table.Child.TheVariants.{Empty, Row as ChildRow, Leaf}
+use Rattle.art_rows.specs.Table.{row_words, first_child, index_at}
+use Rattle.art_rows.specs.Words.{key_bytes, first_difference, child_of}
+use Rattle.art_steps.specs.declared.variant.Variant.TheVariants.{Coupled}
+use Rattle.art_steps.specs.Rows.{Setting, key_of, is_insert}
+use Rattle.art_stages.specs.declared.stage.Held.{Held}
+use Rattle.art_stages.specs.declared.stage.Finding.{Finding}
+use Rattle.art_stages.specs.declared.stage.Finding.TheVariants.{Has, Lacks}
+use Rattle.art_stages.specs.declared.stage.Keys.{Keys}
+use Rattle.art_stages.specs.declared.stage.Position.{Position}
+use Rattle.art_stages.specs.declared.stage.Down.{Down}
+use Rattle.art_stages.specs.declared.stage.Hold.{Hold}
+use Rattle.art_stages.specs.declared.stage.Work.{Work}
+use Rattle.art_stages.specs.declared.stage.Work.TheVariants as work
+use Rattle.art_stages.specs.declared.stage.Target.{Target}
+use Rattle.art_stages.specs.declared.stage.Target.TheVariants.{Root, Below, Taken}
+use Rattle.art_stages.specs.declared.stage.Stage.{Stage}
+use Rattle.art_stages.specs.declared.stage.Stage.TheVariants.{Lock, Exchange, Between, Info, Find, FindKeys, FindMore, FindCount, Slot, LetGo, Unlock, Over}
+use Rattle.art_stages.specs.Stages.{row_at, byte_in, setting}
+use Rattle.art_core.specs.Meaning.{below, child_in}
+use Rattle.art_serial.specs.trees.Trees.{SameRow, LeadsTo, Parts}
+use Rattle.art_serial.proofs.alone.SlotLemmas.{slot-is, row-keys, slot-same, keys-same, count-same, form-same}
+use Rattle.art_versions.specs.versions.Holding.{Each}
+use Rattle.art_versions.specs.versions.Locking.{rows_held, held_at_place, rows_of_target, rows_of_hold, all_of}
+use Rattle.art_versions.proofs.versions.WordFacts.{key_byte-small}
+use Rattle.art_schedules.specs.work.Works.{LacksByte}
+use Rattle.art_schedules.specs.changes.Courses.{IsGoneBy}
+use Rattle.art_schedules.specs.changes.Follows.{Follows}
+use Rattle.art_schedules.specs.coupled.Begins.{IsOnWay, HasChild, Hangs, upper_of, BeginsWork}
+use Rattle.art_schedules.specs.coupled.Knows.{IsOwn, HangsBelow, KnowsTarget, KnowsPlace, KnowsFinding, KnowsInfo, IsPassed, KnowsStage, KnowsReply, KnowsAt}
+use Rattle.art_schedules.specs.coupled.Knows.{slot_in}
+use Rattle.art_schedules.specs.coupled.Stays.{IsStill, WaysAreKept}
+
+first-some : (kind : Kind) → 1 ≤ first_child kind
+first-some Four = omega arith
+first-some Sixteen = omega arith
+first-some FortyEight = omega arith
+first-some Full = omega arith
+
+seven-words : (kind : Kind) → 7 ≤ row_words kind
+seven-words Four = omega arith
+seven-words Sixteen = omega arith
+seven-words FortyEight = omega arith
+seven-words Full = omega arith
+
+-- the word of a row at another place
+placed-word : (calm after : List ℕ) (base : ℕ) (kind : Kind) (word j : ℕ) → SameRow calm after base kind → word ≡ base + j → 1 ≤ j → j < row_words kind
+    → slice_index after word ≡ slice_index calm word
+placed-word calm after base kind word j same is low high = ap (slice_index after) is ∙ (same j low high ∙ ap (slice_index calm) (sym is))
+
+module _ (c : Setting) (n : ℕ) (calm after : List ℕ) (pairs : Contents) (gone : ℕ → Type 0) (fresh : ℕ → Kind → Type 0)
+    (follows : Follows c.shape n calm after pairs gone fresh) where
+  abbrev Still : Held → Type 0
+  Still h = SameRow calm after h.base h.kind × (gone h.base → ⊥)
+
+  byte-small : (h : Held) → byte_in c h < 256
+  byte-small h = key_byte-small (key_of c.call) (row_at h).level
+
+  on-way : (h : Held) → Still h → IsOnWay c calm h → IsOnWay c after h
+  on-way h still on = record {
+    leads = follows.ways (key_of c.call) h.base h.kind (byte_in c h) on.leads still.1;
+    info = follows.info h.base h.kind on.leads.reached ∙ on.info;
+  }
+
+  slot-still : (h : Held) → Still h → slot_in c after h ≡ slot_in c calm h
+  slot-still h still = slot-same calm after h.base h.kind (byte_in c h) (byte-small h) (row-keys calm after h.base h.kind still.0)
+
+  child-still : (h : Held) (slot : ℕ) (child : Child) → Still h → HasChild c calm h slot child → HasChild c after h slot child
+  child-still h slot child still at =
+      let place = slot-is calm h.base h.kind (byte_in c h) slot (byte-small h) at.at in
+      record {
+        at = slot-still h still ∙ at.at;
+        has = ap (child_of c.shape)
+            (placed-word calm after h.base h.kind slot place.place still.0 place.is (omega (arith, first-some h.kind, place.low)) place.high) ∙ at.has;
+      }
+
+  hangs-still : (h : Held) (slot : ℕ) (child : Child) → Still h → Hangs c calm h slot child → Hangs c after h slot child
+  hangs-still h slot child still (on, at) = (on-way h still on, child-still h slot child still at)
+
+  lacks-still : (h : Held) (keys : Keys) → Still h → LacksByte c h keys calm → LacksByte c h keys after
+  lacks-still h keys still l =
+      let same = row-keys calm after h.base h.kind still.0 in
+      record {
+        form = form-same calm after h.base h.kind same l.form;
+        absent = slot-still h still ∙ l.absent;
+        keys = l.keys ∙ sym (keys-same calm after h.base h.kind (byte_in c h) (byte-small h) same);
+        count = l.count ∙ sym (count-same calm after h.base c.call h.kind (byte_in c h) (byte-small h) same);
+      }
+
+  finding-still : (i : Bool) (h : Held) (f : Finding) → Still h → KnowsFinding i c calm h f → KnowsFinding i c after h f
+  finding-still i h (Has slot child) still at = child-still h slot child still at
+  finding-still true h (Lacks keys) still l = lacks-still h keys still l
+  finding-still false h (Lacks keys) still none = slot-still h still ∙ none
+
+  above-still : (h : Held) (slot : ℕ) (above : Option Held) → Each Still (all_of above) → HangsBelow c calm h slot above → HangsBelow c after h slot above
+  above-still h slot None still k = tt
+  above-still h slot (Some a) still k = hangs-still a slot (ChildRow h.base h.kind) still.0 k
+
+  place-still : (i : Bool) (p : Position) → Each Still (held_at_place true i p) → KnowsPlace i c calm p → KnowsPlace i c after p
+  place-still true p still (on, up) = (on-way p.row still.0 on, above-still p.row p.slot p.above still.1 up)
+  place-still false p still on = on-way p.row still.0 on
+
+  row-still : (i : Bool) (p : Position) → Each Still (held_at_place true i p) → Still p.row
+  row-still true p still = still.0
+  row-still false p still = still.0
+
+  target-still : (t : Target) → Each Still (rows_of_target t) → KnowsTarget c calm t → KnowsTarget c after t
+  target-still Root still k = tt
+  target-still (Below d) still k = hangs-still d.above d.slot (ChildRow d.base d.kind) still.0 k
+  target-still (Taken t) still k = absurd k
+
+  info-still : (i : Bool) (d : Down) (kept : ℕ) → Each Still (rows_held true i (Info d kept)) → KnowsInfo i c calm d → KnowsInfo i c after d
+  info-still true d kept still k = hangs-still d.above d.slot (ChildRow d.base d.kind) still.1.0 k
+  info-still false d kept still k =
+      subst (λ l. LeadsTo c.shape after (key_of c.call) d.base d.kind (slice_index (key_bytes (key_of c.call)) l)) (sym (follows.level d.base d.kind k.reached))
+      (follows.ways (key_of c.call) d.base d.kind _ k still.0.1)
+
+  passed-still : (i : Bool) (d : Down) (kept : ℕ) → Each Still (rows_held true i (Info d kept)) → IsPassed i c calm d → IsPassed i c after d
+  passed-still true d kept still k = absurd k
+  passed-still false d kept still (reached, (x, differs)) = (
+    (follows.rows d.base d.kind).1 (inl (reached, still.0.1)),
+    (x, ap (λ xs. first_difference xs (key_bytes (key_of c.call))) (follows.path d.base d.kind reached) ∙ differs),
+  )
+
+  index-still : (h : Held) → Still h → h.kind ≡ FortyEight → slice_index after (index_at h.base (byte_in c h)) ≡ slice_index calm (index_at h.base (byte_in c
+      h))
+  index-still h still is =
+      let small = byte-small h in
+      placed-word calm after h.base FortyEight (index_at h.base (byte_in c h)) (index_at h.base (byte_in c h) - h.base)
+      (subst (λ k. SameRow calm after h.base k) is still.0) (omega arith) (omega arith) (omega (arith, small))
+
+  stage-still : (i : Bool) (stage : Stage) → Each Still (rows_held true i stage) → KnowsStage i c calm stage → KnowsStage i c after stage
+  stage-still i (Lock t first) still k = target-still t still k
+  stage-still i (Exchange t v) still k = target-still t still k
+  stage-still i (Between d kept) still k = hangs-still d.above d.slot (ChildRow d.base d.kind) still.1.0 k
+  stage-still i (Info d kept) still k = info-still i d kept still k
+  stage-still i (Find p) still k = place-still i p still k
+  stage-still i (FindKeys p count) still (k, is, a) =
+      let row = (row-still i p still).0 in
+      (place-still i p still k, is, a ∙ sym (row 4 (omega arith) (omega (arith, seven-words p.row.kind))))
+  stage-still i (FindMore p count first) still (k, is, a, b) =
+      let row = (row-still i p still).0 in (
+        place-still i p still k,
+        is,
+        a ∙ sym (row 4 (omega arith) (omega (arith, seven-words p.row.kind))),
+        b ∙ sym (row 2 (omega arith) (omega (arith, seven-words p.row.kind))),
+      )
+  stage-still i (FindCount p index) still (k, is, a, none) =
+      let row = row-still i p still in
+      (place-still i p still k, is, a ∙ sym (index-still p.row row is), slot-still p.row row ∙ none)
+  stage-still i (Slot p slot) still (k, at) = (place-still i p still k, slot-still p.row (row-still i p still) ∙ at)
+  stage-still i (LetGo above p f) still (on, k, r) =
+      (on-way p.row still.0 on, finding-still i p.row f still.0 k, (follows.rows above.base above.kind).1 (inl (r, still.1.0.1)))
+  stage-still i stage still k = absurd k
+
+  reply-still : (r : Reply) (i : Bool) (stage : Stage) → Each Still (rows_held true i stage) → KnowsReply r i c calm stage → KnowsReply r i c after stage
+  reply-still r i (Info d kept) still (is, k) = (is, passed-still i d kept still k)
+  reply-still r i (Unlock h outcome) still (none, is, reached) = (none, is, (follows.rows h.row.base h.row.kind).1 (inl (reached, still.0.1)))
+  reply-still r i (Over outcome) still k = k
+  reply-still r i stage still k = absurd k
+
+  pub at-still : (o : Option Reply) (i : Bool) (stage : Stage) → Each Still (rows_held true i stage) → KnowsAt o i c calm stage → KnowsAt o i c after stage
+  at-still None i stage still k = stage-still i stage still k
+  at-still (Some r) i stage still k = reply-still r i stage still k
+
+  -- ---- where work begins
+
+  parts-still : (n : Held) (slot d a : ℕ) (child : Child) → Hangs c calm n slot child → Parts calm (key_of c.call) d a child
+      → Parts after (key_of c.call) d a child
+  parts-still n slot d a Empty k parts = absurd parts
+  parts-still n slot d a (Leaf key value) k parts = parts
+  parts-still n slot d a (ChildRow base kind) (on, at) (differs, is) =
+      let path = follows.path base kind (below on.leads.reached (byte_in c n) (byte-small n) (ap (child_in c.shape calm) at.at ∙ at.has)) in
+      (ap (λ xs. first_difference xs (key_bytes (key_of c.call))) path ∙ differs, is ∙ ap (λ xs. slice_index xs d) (sym path))
+
+  upper-still : (row : Held) (above : Option Held) → Each Still (row ∷ all_of above) → Still (upper_of row above)
+  upper-still row None still = still.0
+  upper-still row (Some a) still = still.1.0
+
+  above-one : (above : Option Held) (n : Held) → above ≡ Some n → Each Still (all_of above) → Still n
+  above-one None n e still = absurd (none-some n e)
+  above-one (Some a) n e still = subst Still (same_Some a n e) still.0
+
+  pub begins-still : (m : Contents) (h : Hold) (work : Work) → Each Still (rows_of_hold h) → BeginsWork c calm m h work → BeginsWork c after m h work
+  begins-still m h (work.Write slot word value) still b = record {
+    fits = tt;
+    way = (b.way.0, (b.way.1.0, hangs-still h.row slot b.way.1.0 still.0 b.way.1.1, b.way.1.2));
+    value = b.value;
+  }
+  begins-still m h (work.Pair p) still b =
+      let upper = upper_of h.row h.above in
+      let hangs = hangs-still upper p.slot p.child (upper-still h.row h.above still) b.way.0 in
+      record {
+        fits = (b.fits.0, hangs.1.has, b.fits.2, b.fits.3, b.fits.4);
+        way = (hangs, parts-still upper p.slot p.level p.byte p.child b.way.0 b.way.1);
+        value = b.value;
+      }
+  begins-still m h (work.Put keys) still b = record {
+    fits = (b.fits.0, lacks-still h.row keys still.0 b.fits.1, b.fits.2);
+    way = (b.way.0, on-way h.row still.0 b.way.1);
+    value = b.value;
+  }
+  begins-still m h (work.Grow slot keys) still b =
+      let (n, is, hangs, on) = b.way in
+      let up = hangs-still n slot (ChildRow h.row.base h.row.kind) (above-one h.above n is still.1) hangs in
+      record {
+        fits = (b.fits.0, lacks-still h.row keys still.0 b.fits.1, b.fits.2, up.1.has);
+        way = (n, is, up, on-way h.row still.0 on);
+        value = b.value;
+      }
+
+-- a row that is the call's own stays so
+pub own-still : (calm words after later : List ℕ) (h : Held) → SameRow calm after h.base h.kind → SameRow words later h.base h.kind → IsOwn calm words h
+    → IsOwn after later h
+own-still calm words after later h row same own = record {
+  same = λ j low high. same j low high ∙ (own.same j low high ∙ sym (row j low high));
+  live = own.live;
+}
+
+pub ways-are-kept : WaysAreKept
+ways-are-kept shape call n calm words after later pairs effect found stage follows still k = record {
+  way = at-still (setting shape Coupled call) n calm after pairs _ _ follows found (is_insert call) stage (rows (rows_held true (is_insert call) stage) still)
+      k.way;
+  rows = own (rows_held true (is_insert call) stage) still k.rows;
+}
+  where
+    rows : (hs : List Held) → Each (IsStill calm words after later effect) hs
+        → Each (λ h. SameRow calm after h.base h.kind × (IsGoneBy effect h.base → ⊥)) hs
+    rows [] still = tt
+    rows (h ∷ hs) still = ((still.0.row, still.0.stays), rows hs still.1)
+
+    own : (hs : List Held) → Each (IsStill calm words after later effect) hs → Each (IsOwn calm words) hs → Each (IsOwn after later) hs
+    own [] still k = tt
+    own (h ∷ hs) still k = (own-still calm words after later h still.0.row still.0.same k.0, own hs still.1 k.1)

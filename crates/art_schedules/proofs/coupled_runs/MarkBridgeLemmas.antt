@@ -1,0 +1,28 @@
+-- What a call at work makes obsolete leaves the tree, as calls on their way know of it; and the row that it brings is its fresh one.
+use Rattle.std.proofs.Common.{◌≡◌, ℕ, List, refl, sym, ap, ◌∙◌}
+use Rattle.std.specs.Prelude.{Option, Some}
+use Rattle.art_rows.specs.declared.table.Shape.{Shape}
+use Rattle.art_rows.specs.declared.table.Kind.{Kind}
+use Rattle.art_rows.specs.declared.table.Kind.TheVariants.{Four}
+use Rattle.art_stages.specs.declared.stage.Hold.{Hold}
+use Rattle.art_versions.specs.versions.Holding.{Named}
+use Rattle.art_schedules.specs.changes.Effects.{Effect, Keeps, Fills, PutsLeaf, RemovesLeaf, HangsPair, HangsGrown, IsFresh}
+use Rattle.art_schedules.specs.coupled.Moments.{MakesLeave}
+use Rattle.art_schedules.specs.effects.AtWork.{fresh_of}
+use Rattle.art_schedules.specs.effects.Marks.{HangsOnAbove}
+
+-- a row that hangs on the row above that is held leaves, where it is named
+pub makes-leave : (shape : Shape) (calm : List ℕ) (h : Hold) → HangsOnAbove shape calm h → MakesLeave shape calm h (Some h.row.base)
+makes-leave shape calm h x =
+    record { above = x.above; is = x.is; byte = x.byte; is_byte = x.is_byte; reached = x.reached; hangs = x.hangs; names = refl }
+
+-- the row that an effect brings
+pub fresh-is : (e : Effect) (fresh : Option Named) → fresh ≡ fresh_of e → (b : ℕ) (k : Kind) → IsFresh e b k → fresh ≡ Some (b, k)
+fresh-is (Keeps base kind) fresh is b k none = absurd none
+fresh-is (Fills base kind) fresh is b k none = absurd none
+fresh-is (PutsLeaf base kind x key value) fresh is b k none = absurd none
+fresh-is (RemovesLeaf base kind x key) fresh is b k none = absurd none
+fresh-is (HangsPair base kind x key value row d a) fresh is b k here =
+    is ∙ (ap (λ z. Some (z, Four)) (sym here.0) ∙ ap (λ z. Some (b, z)) (sym here.1))
+fresh-is (HangsGrown base kind x key value full full_kind y row larger) fresh is b k here =
+    is ∙ (ap (λ z. Some (z, larger)) (sym here.0) ∙ ap (λ z. Some (b, z)) (sym here.1))

@@ -1,0 +1,81 @@
+-- The reply that goes with an effect is the map's.
+use Rattle.std.proofs.Common.{◌≡◌, ◌≢◌, inl, inr, ℕ, List, true, refl, sym, ap, ◌∙◌, subst}
+use Rattle.std.specs.Prelude.{if◌then◌else◌, Option, Some, None}
+use Rattle.std.proofs.Common.{eq-eqb}
+use Rattle.events.specs.declared.event.Call.{Call}
+use Rattle.events.specs.declared.event.Call.TheVariants.{Get, Insert, Remove, Scan, Replace}
+use Rattle.events.specs.declared.event.Reply.TheVariants as replies
+use Rattle.map_object.specs.MapObject as map
+use Rattle.map_object.specs.MapObject.{Contents, value_at, put, is_just, after_reply, IsLegalReply}
+use Rattle.art_rows.specs.declared.table.Kind.{Kind}
+use Rattle.art_rows.specs.declared.table.Child.{Child}
+use Rattle.art_rows.specs.declared.table.Child.TheVariants.{Empty, Row, Leaf}
+use Rattle.art_rows.specs.Words.{key_bytes, first_difference}
+use Rattle.art_steps.specs.Rows.{Setting}
+use Rattle.art_stages.specs.Stages.{value_reply}
+use Rattle.art_core.specs.Meaning.{Means, child_on}
+use Rattle.art_serial.specs.trees.Trees.{IsAtRest, Parts}
+use Rattle.art_serial.proofs.inserts.InsertEndLemmas.{first-differs}
+use Rattle.art_schedules.specs.changes.Effects.{Effect, Keeps, Fills, PutsLeaf, RemovesLeaf, HangsPair, HangsGrown, pairs_after}
+use Rattle.art_schedules.specs.changes.Laws.{WaysSayValues}
+use Rattle.art_schedules.specs.changes.Sayings.{IsSaidBy}
+use Rattle.art_schedules.specs.effects.AtWork.{IsOld, IsPending, key_of_effect, IsEffectOf}
+
+same-differ : (xs : List ℕ) (d : ℕ) → first_difference xs xs ≡ Some d → ⊥
+same-differ xs d e = first-differs xs xs d e refl
+
+old-said : (c : Setting) (calm : List ℕ) (key base : ℕ) (kind : Kind) (y : ℕ) (old : Option ℕ) → IsOld c calm key base kind y old
+    → IsSaidBy calm key old (child_on c.shape calm base kind y)
+old-said c calm key base kind y None is = subst (IsSaidBy calm key None) (sym is) refl
+old-said c calm key base kind y (Some value) is = subst (IsSaidBy calm key (Some value)) (sym is) (inl (refl, refl))
+
+parted-said : (calm : List ℕ) (key d a : ℕ) (child : Child) → Parts calm key d a child → IsSaidBy calm key None child
+parted-said calm key d a Empty parts = refl
+parted-said calm key d a (Leaf k value) parts =
+    inr (λ e. same-differ (key_bytes key) d (ap (λ z. first_difference (key_bytes z) (key_bytes key)) (sym e) ∙ parts.0), refl)
+parted-said calm key d a (Row b kind) parts = (d, parts.0, refl)
+
+-- what the map has at a key is no refusal
+pub value-not-refused : (old : Option ℕ) → value_reply old ≢ replies.Refused
+value-not-refused None e = cc
+value-not-refused (Some value) e = cc
+
+module _ (says : WaysSayValues) (c : Setting) (n : ℕ) (real calm : List ℕ) (m : Contents) (rest : IsAtRest c.shape n calm) (means : Means c.shape calm m) where
+  -- what the map has at the key of an effect
+  value-before : (e : Effect) (old : Option ℕ) → IsPending c real calm e old → value_at m (key_of_effect e) ≡ old
+  value-before (Keeps base kind) old none = absurd none
+  value-before (Fills base kind) old none = absurd none
+  value-before (PutsLeaf base kind y key value) old (leads, was, row) =
+      says c.shape n calm m key base kind y old rest means leads (old-said c calm key base kind y old was)
+  value-before (RemovesLeaf base kind y key) old (leads, was, slot) =
+      says c.shape n calm m key base kind y old rest means leads (old-said c calm key base kind y old was)
+  value-before (HangsPair base kind y key value fresh d a) old (leads, none, parts, slot, ready, pair) =
+      says c.shape n calm m key base kind y None rest means leads (parted-said calm key d a (child_on c.shape calm base kind y) parts) ∙ sym none
+  value-before (HangsGrown base kind y key value full full_kind z fresh larger) old (above, none, hangs, leads, empty, slot, ready, copy) =
+      says c.shape n calm m key full full_kind z None rest means leads (subst (IsSaidBy calm key None) (sym empty) refl) ∙ sym none
+
+  replied : (key : ℕ) (old : Option ℕ) → value_at m key ≡ old → map.value_reply (value_at m key) ≡ value_reply old
+  replied key None e = ap map.value_reply e
+  replied key (Some value) e = ap map.value_reply e
+
+  answered : (call : Call) (old : Option ℕ) → after_reply m call (value_reply old) ≡ map.after m call
+  answered call None = refl
+  answered call (Some value) = refl
+
+  -- the effect makes the map after the call, and its reply is the map's
+  pub does-so : (e : Effect) (old : Option ℕ) → IsPending c real calm e old → (call : Call) → IsEffectOf call old e
+      → (pairs_after e m ≡ after_reply m call (value_reply old)) × IsLegalReply m call (value_reply old)
+  does-so e old pending (Insert key value) (same, pairs) =
+      let was = ap (value_at m) same ∙ value-before e old pending in
+      (pairs m ∙ sym (answered (Insert key value) old), inr (sym (replied key old was)))
+  does-so e old pending (Remove key) (same, pairs) =
+      let was = ap (value_at m) same ∙ value-before e old pending in
+      (pairs m ∙ sym (answered (Remove key) old), inr (sym (replied key old was)))
+  does-so e old pending (Replace key expected value) (same, found, pairs) =
+      let was = ap (value_at m) same ∙ value-before e old pending in
+      let just : is_just (value_at m key) expected ≡ true = ap (λ z. is_just z expected) (was ∙ found) ∙ eq-eqb expected expected refl in (
+        pairs m ∙ (sym (ap (λ b. if b then put key value m else m) just) ∙ sym (answered (Replace key expected value) old)),
+        inr (sym (replied key old was)),
+      )
+  does-so e old pending (Get key) none = absurd none
+  does-so e old pending (Scan low high) none = absurd none

@@ -1,0 +1,99 @@
+-- A step of another process.
+use Rattle.std.proofs.Common.{◌≡◌, ◌≢◌, inl, inr, ℕ, ◌+◌, ◌%◌, ◌≤◌, List, [], ◌∷◌, ◌++◌, slice_index, true, false, refl, sym, ap, ◌∙◌, subst, arith}
+use Rattle.std.proofs.Common.{ne_eqb}
+use Rattle.std.specs.Prelude.{Option, Some}
+use Rattle.std.proofs.lemmas.Bool.{cases_eq, false≢true}
+use Rattle.events.specs.declared.event.Call.{Call}
+use Rattle.art_rows.specs.declared.table.Shape.{Shape}
+use Rattle.art_rows.specs.Table.{row_words}
+use Rattle.art_rows.specs.Words.{is_obsolete}
+use Rattle.art_steps.specs.declared.variant.Variant.TheVariants.{Optimistic}
+use Rattle.art_steps.specs.Rows.{is_insert}
+use Rattle.art_stages.specs.declared.stage.Held.{Held}
+use Rattle.art_stages.specs.declared.stage.Stage.{Stage}
+use Rattle.art_stages.specs.Stages.{setting}
+use Rattle.art_stages.specs.Calls.{OnKey}
+use Rattle.art_core.specs.declared.process.Process.{Process}
+use Rattle.art_core.specs.Core.{State, opened_on}
+use Rattle.art_serial.specs.trees.Trees.{SameRow}
+use Rattle.art_versions.specs.versions.Holding.{Each, IsKept, Knows, holds}
+use Rattle.art_versions.specs.versions.Locking.{lock_of, locks_of, rows_held}
+use Rattle.art_versions.specs.versions.Effects.{IsAmong}
+use Rattle.art_versions.specs.versions.Versions.{IsOpen, IsHeld, IsSettled, IsSound, stage_of, held_by}
+use Rattle.art_versions.specs.versions.Writers.{WritesOwn, MayWrite}
+use Rattle.art_versions.proofs.versions.KnownLemmas.{held-is-kept}
+use Rattle.art_versions.proofs.versions.MoveLemmas.{settled-row}
+use Rattle.art_versions.proofs.versions.RunLemmas.{written-at}
+use Rattle.art_schedules.specs.calm.Calm.{calm_of}
+use Rattle.art_schedules.specs.calm.Changes.{CalmStep}
+use Rattle.art_schedules.proofs.calm.InductionLemmas.{run-begins, last-step, step-of-run}
+use Rattle.art_schedules.proofs.calm.RunLemmas.{step-at}
+use Rattle.art_schedules.specs.changes.Courses.{IsGoneBy}
+use Rattle.art_schedules.specs.changes.Effects.{Effect}
+use Rattle.art_schedules.proofs.changes.RowLemmas.{steady-row}
+use Rattle.art_schedules.specs.optimistic.Laws.{IsStill}
+use Rattle.art_schedules.specs.optimistic.Steps.{OtherStepsKeepWays}
+use Rattle.art_schedules.proofs.optimistic.InfoLemmas.{infos-stay, calm-agrees}
+use Rattle.art_schedules.proofs.optimistic.StayLemmas.{ways-are-kept}
+
+-- what is so of each lock is so of each row
+each-of : (Q : Held → Type 0) (hs : List Held) → ((h : Held) → IsAmong (lock_of h) (locks_of hs) → Q h) → Each Q hs
+each-of Q [] f = tt
+each-of Q (h ∷ hs) f = (f h (inl refl), each-of Q hs (λ x among. f x (inr among)))
+
+taken-live : (v : ℕ) → v % 4 ≡ 0 → is_obsolete (v + 2) ≡ false
+taken-live v e = ne_eqb ((v + 2) % 2) 1 (λ f. omega (arith, e, f))
+
+module _ (shape : Shape) (n k : ℕ) (s t : State) (before : IsSound Optimistic shape n s) (behind : IsSound Optimistic shape k t) (mover : ℕ)
+    (writes : WritesOwn Optimistic shape s mover t) (calm after : List ℕ) (made : CalmStep Optimistic shape s mover t calm after) (effect : Option Effect)
+    (leaving : (base : ℕ) → IsGoneBy effect base → is_obsolete (slice_index t.words base) ≡ true)
+    (p : ℕ) (call : Call) (q : Process) (other : p ≢ mover) (was : IsOpen s p call q) (is : IsOpen t p call q) where
+  -- a row that the process holds
+  still : (h : Held) → IsAmong h (held_by Optimistic shape call q) → IsStill calm s.words after t.words effect h
+  still h among = record { row = steady-row calm after h.base h.kind (made.held h.base h.kind row held-then); same = same; stays = stays }
+    where
+      kept : IsKept false (IsSettled Optimistic shape s) h
+      kept = held-is-kept (IsSettled Optimistic shape s) (setting shape Optimistic call) (stage_of Optimistic shape call q) (before.knows p call q was) h among
+
+      row : Rattle.art_rows.specs.Table.kind_at shape h.base ≡ Some h.kind
+      row = settled-row Optimistic shape s h.base h.kind kept.1
+
+      held-then : IsHeld Optimistic shape t h.base
+      held-then = record { holder = p; call = call; process = q; is_open = is; row = h; among = among; is = refl }
+
+      none : (j : ℕ) → 1 ≤ j → MayWrite Optimistic shape s mover t h.base (h.base + j) → ⊥
+      none j low (inl (x, e)) = other (before.apart p x.holder call x.call q x.process was x.is_open h x.row among x.among (sym x.is) ∙ e)
+      none j low (inr (inl (e, x))) = omega (arith, e, low)
+      none j low (inr (inr x)) = kept.1.unfilled mover x.call x.process x.is_open h.base x.kind x.fills refl
+
+      same : SameRow s.words t.words h.base h.kind
+      same j low high = elim (cases_eq (slice_index t.words (h.base + j)) (slice_index s.words (h.base + j))) [
+        | inl e ↦ e
+        | inr d ↦ absurd (none j low (writes h.base h.kind row (h.base + j) (omega arith) (omega (arith, high)) d))
+      ]
+
+      stays : IsGoneBy effect h.base → ⊥
+      stays g = false≢true (sym (ap is_obsolete (behind.locked p call q is h among) ∙ taken-live h.kept kept.0) ∙ leaving h.base g)
+
+  -- all that it holds
+  all-still : (stage : Stage) → stage_of Optimistic shape call q ≡ OnKey stage
+      → Each (IsStill calm s.words after t.words effect) (rows_held false (is_insert call) stage)
+  all-still stage e = each-of (IsStill calm s.words after t.words effect) (rows_held false (is_insert call) stage)
+      (λ h among. let x = still (lock_of h) (subst (λ at. IsAmong (lock_of h) (holds (setting shape Optimistic call) at)) (sym e) among) in
+      record { row = x.row; same = x.same; stays = x.stays })
+
+pub other-steps-keep-ways : OtherStepsKeepWays
+other-steps-keep-ways plan start words schedule mover s t run v e n pairs effect follows leaving p call q stage found other at is knows =
+    let past = run-begins plan start words schedule (mover ∷ []) s t run e in
+    let made = step-of-run Optimistic (inr refl) plan start words schedule mover s t past v (last-step plan
+    (opened_on plan words) s t schedule mover e run.gives) in
+    let change = subst (λ x. CalmStep x plan.shape s mover t (calm_of plan words schedule) (calm_of plan words (schedule ++ mover ∷ []))) v
+    (step-at plan start words schedule mover s t run (inr v) e) in
+    let rows = subst (λ x. Knows (IsSettled Optimistic plan.shape s) (setting plan.shape Optimistic call) x) at.1 (made.before.knows p call q at.0) in
+    ways-are-kept plan.shape call n (calm_of plan words schedule) (calm_of plan words (schedule ++ mover ∷ [])) pairs effect s t found stage follows
+    (calm-agrees plan start words schedule s past v) (calm-agrees plan start words (schedule ++ mover ∷ []) t run v) made.steady
+    (infos-stay plan start words schedule mover s t run v e) leaving rows
+    (all-still plan.shape made.count (made.count + 1) s t made.before made.behind mover
+    (written-at Optimistic (inr refl) plan start words schedule mover s t run v e) (calm_of plan words schedule) (calm_of plan words
+    (schedule ++ mover ∷ [])) change
+    effect leaving p call q other at.0 is stage at.1) knows

@@ -1,0 +1,403 @@
+-- What a call knows on its way stays so, whatever other calls do.
+use Rattle.std.proofs.Common.{◌≡◌, ℕ, ◌+◌, ◌-◌, ◌<◌, ◌≤◌, List, [], ◌∷◌, ◌++◌, slice_index, Bool, true, false, sym, ap, ◌∙◌, subst, arith, inl}
+use Rattle.std.specs.Prelude.{Option, Some, None}
+use Rattle.std.proofs.lemmas.Bool.{false≢true}
+use Rattle.map_object.specs.MapObject.{Contents}
+use Rattle.events.specs.declared.event.Call.{Call}
+use Rattle.events.specs.declared.event.Reply.{Reply}
+use Rattle.art_rows.specs.declared.table.Shape.{Shape}
+use Rattle.art_rows.specs.declared.table.Kind.{Kind}
+use Rattle.art_rows.specs.declared.table.Kind.TheVariants.{Four, Sixteen, FortyEight, Full}
+use Rattle.art_rows.specs.declared.table.Child.{Child}
+use Rattle.art_rows.specs.declared.table.Child.TheVariants.{Empty, Row as ChildRow, Leaf}
+use Rattle.art_rows.specs.Table.{row_words, first_child, kind_at, index_at}
+use Rattle.art_rows.specs.Words.{key_bytes, first_difference, info_of, child_of, is_obsolete}
+use Rattle.art_steps.specs.declared.variant.Variant.TheVariants.{Optimistic}
+use Rattle.art_steps.specs.Rows.{Setting, key_of, is_insert}
+use Rattle.art_stages.specs.declared.stage.Held.{Held}
+use Rattle.art_stages.specs.declared.stage.Finding.{Finding}
+use Rattle.art_stages.specs.declared.stage.Finding.TheVariants.{Has, Lacks}
+use Rattle.art_stages.specs.declared.stage.Keys.{Keys}
+use Rattle.art_stages.specs.declared.stage.Position.{Position}
+use Rattle.art_stages.specs.declared.stage.Down.{Down}
+use Rattle.art_stages.specs.declared.stage.Hold.{Hold}
+use Rattle.art_stages.specs.declared.stage.Work.{Work}
+use Rattle.art_stages.specs.declared.stage.Work.TheVariants as work
+use Rattle.art_stages.specs.declared.stage.Target.TheVariants.{Root, Below, Taken}
+use Rattle.art_stages.specs.declared.stage.Stage.{Stage}
+use Rattle.art_stages.specs.declared.stage.Stage.TheVariants.{Wait, Between, Info, Find, FindKeys, FindMore}
+use Rattle.art_stages.specs.declared.stage.Stage.TheVariants.{FindCount, Slot, Check, CheckLast, Take, Unlock, Over}
+use Rattle.art_stages.specs.Stages.{row_at, held, byte_in, setting}
+use Rattle.art_core.specs.Core.{State}
+use Rattle.art_core.specs.Meaning.{Reached, below, slot_of, child_on, child_in}
+use Rattle.art_core.specs.Forms.{path_in}
+use Rattle.art_serial.specs.trees.Trees.{SameRow, LeadsTo, Parts}
+use Rattle.art_serial.proofs.alone.SlotLemmas.{slot-is, row-keys, slot-same, keys-same, count-same, form-same}
+use Rattle.art_versions.specs.versions.Holding.{Each, IsKept, rows_kept}
+use Rattle.art_versions.specs.versions.Locking.{rows_held, all_of}
+use Rattle.art_versions.specs.versions.Versions.{IsSettled}
+use Rattle.art_versions.specs.versions.Steady.{IsSteady}
+use Rattle.art_versions.proofs.versions.MoveLemmas.{settled-row}
+use Rattle.art_versions.proofs.versions.WordFacts.{key_byte-small}
+use Rattle.art_schedules.specs.calm.Calm.{is_busy}
+use Rattle.art_schedules.proofs.calm.VersionLemmas.{free-parts}
+use Rattle.art_schedules.specs.work.Works.{LacksByte}
+use Rattle.art_schedules.specs.changes.Courses.{IsGoneBy, IsFreshBy}
+use Rattle.art_schedules.specs.changes.Effects.{Effect}
+use Rattle.art_schedules.specs.changes.Follows.{Follows}
+use Rattle.art_schedules.proofs.changes.EffectLemmas.{way-small}
+use Rattle.art_schedules.proofs.changes.SayingLemmas.{same-rows-say-the-same}
+use Rattle.art_schedules.specs.effects.Begins.{BeginsWork, IsOverwritten, upper_of}
+use Rattle.art_schedules.specs.optimistic.Knows.{IsOnWay, HasChild, Hangs, Stands, IsBelow, HangsBelow, KnowsPlace, KnowsFinding, KnowsStage}
+use Rattle.art_schedules.specs.optimistic.Knows.{KnowsReply, KnowsAt, IsReachedHere, AllStand, hold_taken}
+use Rattle.art_schedules.specs.optimistic.Knows.{PathFollows, PathDiffers, IsReachedBelow, IsPast, IsOwn, slot_in}
+use Rattle.art_schedules.specs.optimistic.Goes.{Agrees}
+use Rattle.art_schedules.specs.optimistic.Laws.{IsStill, InfosStay, WaysAreKept}
+use Rattle.art_schedules.proofs.calm.VersionLemmas.{unmarked-free}
+
+first-some : (kind : Kind) → 1 ≤ first_child kind
+first-some Four = omega arith
+first-some Sixteen = omega arith
+first-some FortyEight = omega arith
+first-some Full = omega arith
+
+seven-words : (kind : Kind) → 7 ≤ row_words kind
+seven-words Four = omega arith
+seven-words Sixteen = omega arith
+seven-words FortyEight = omega arith
+seven-words Full = omega arith
+
+-- the word of a row at another place
+placed-word : (calm after : List ℕ) (base : ℕ) (kind : Kind) (word j : ℕ) → SameRow calm after base kind → word ≡ base + j → 1 ≤ j → j < row_words kind
+    → slice_index after word ≡ slice_index calm word
+placed-word calm after base kind word j same is low high = ap (slice_index after) is ∙ (same j low high ∙ ap (slice_index calm) (sym is))
+
+module _ (c : Setting) (n : ℕ) (calm after : List ℕ) (pairs : Contents) (gone : ℕ → Type 0) (fresh : ℕ → Kind → Type 0)
+    (follows : Follows c.shape n calm after pairs gone fresh) where
+  -- the calm row stays
+  abbrev pub Still : Held → Type 0
+  Still h = SameRow calm after h.base h.kind × (gone h.base → ⊥)
+
+  byte-small : (h : Held) → byte_in c h < 256
+  byte-small h = key_byte-small (key_of c.call) (row_at h).level
+
+  pub on-way : (h : Held) → Still h → IsOnWay c calm h → IsOnWay c after h
+  on-way h still on = record {
+    leads = follows.ways (key_of c.call) h.base h.kind (byte_in c h) on.leads still.1;
+    info = follows.info h.base h.kind on.leads.reached ∙ on.info;
+  }
+
+  slot-at : (h : Held) (x : ℕ) → x < 256 → Still h → slot_of after h.base h.kind x ≡ slot_of calm h.base h.kind x
+  slot-at h x small still = slot-same calm after h.base h.kind x small (row-keys calm after h.base h.kind still.0)
+
+  word-at : (h : Held) (x slot : ℕ) → x < 256 → Still h → slot_of calm h.base h.kind x ≡ Some slot → slice_index after slot ≡ slice_index calm slot
+  word-at h x slot small still at =
+      let place = slot-is calm h.base h.kind x slot small at in
+      placed-word calm after h.base h.kind slot place.place still.0 place.is (omega (arith, first-some h.kind, place.low)) place.high
+
+  slot-still : (h : Held) → Still h → slot_in c after h ≡ slot_in c calm h
+  slot-still h still = slot-at h (byte_in c h) (byte-small h) still
+
+  child-still : (h : Held) (slot : ℕ) (child : Child) → Still h → HasChild c calm h slot child → HasChild c after h slot child
+  child-still h slot child still at = record {
+    at = slot-still h still ∙ at.at;
+    has = ap (child_of c.shape) (word-at h (byte_in c h) slot (byte-small h) still at.at) ∙ at.has;
+  }
+
+  pub hangs-still : (h : Held) (slot : ℕ) (child : Child) → Still h → Hangs c calm h slot child → Hangs c after h slot child
+  hangs-still h slot child still (on, at) = (on-way h still on, child-still h slot child still at)
+
+  lacks-still : (h : Held) (keys : Keys) → Still h → LacksByte c h keys calm → LacksByte c h keys after
+  lacks-still h keys still l =
+      let same = row-keys calm after h.base h.kind still.0 in
+      record {
+        form = form-same calm after h.base h.kind same l.form;
+        absent = slot-still h still ∙ l.absent;
+        keys = l.keys ∙ sym (keys-same calm after h.base h.kind (byte_in c h) (byte-small h) same);
+        count = l.count ∙ sym (count-same calm after h.base c.call h.kind (byte_in c h) (byte-small h) same);
+      }
+
+  pub finding-still : (i : Bool) (h : Held) (f : Finding) → Still h → KnowsFinding i c calm h f → KnowsFinding i c after h f
+  finding-still i h (Has slot child) still at = child-still h slot child still at
+  finding-still true h (Lacks keys) still l = lacks-still h keys still l
+  finding-still false h (Lacks keys) still none = slot-still h still ∙ none
+
+  pub index-still : (h : Held) → Still h → h.kind ≡ FortyEight
+      → slice_index after (index_at h.base (byte_in c h)) ≡ slice_index calm (index_at h.base (byte_in c h))
+  index-still h still is =
+      let small = byte-small h in
+      placed-word calm after h.base FortyEight (index_at h.base (byte_in c h)) (index_at h.base (byte_in c h) - h.base)
+      (subst (λ k. SameRow calm after h.base k) is still.0) (omega arith) (omega arith) (omega (arith, small))
+
+  -- ---- work that begins
+
+  upper-still : (row : Held) (above : Option Held) → Each Still (row ∷ all_of above) → Still (upper_of row above)
+  upper-still row None still = still.0
+  upper-still row (Some a) still = still.1.0
+
+  parts-still : (key base x d a : ℕ) (kind : Kind) (child : Child) → LeadsTo c.shape calm key base kind x → x < 256
+      → child_on c.shape calm base kind x ≡ child → Parts calm key d a child → Parts after key d a child
+  parts-still key base x d a kind Empty leads small at p = absurd p
+  parts-still key base x d a kind (Leaf k v) leads small at p = p
+  parts-still key base x d a kind (ChildRow b k) leads small at p =
+      let path = follows.path b k (below leads.reached x small at) in
+      (ap (λ xs. first_difference xs (key_bytes key)) path ∙ p.0, p.1 ∙ ap (λ xs. slice_index xs d) (sym path))
+
+  pub begins-still : (row : Held) (above : Option Held) (w : Work) → Each Still (row ∷ all_of above)
+      → BeginsWork c calm (record { row = row; above = above }) w → BeginsWork c after (record { row = row; above = above }) w
+  begins-still row above w still b = go w b.words b.finds
+    where
+      hold : Hold
+      hold = record { row = row; above = above }
+
+      upper : Held
+      upper = upper_of row above
+
+      stays : Still upper
+      stays = upper-still row above still
+
+      small : b.byte < 256
+      small = way-small c.shape calm (key_of c.call) upper.base upper.kind b.byte b.leads
+
+      leads : LeadsTo c.shape after (key_of c.call) upper.base upper.kind b.byte
+      leads = follows.ways (key_of c.call) upper.base upper.kind b.byte b.leads stays.1
+
+      alone : above ≡ None → Reached c.shape calm row.base row.kind
+      alone e = subst (λ o. Reached c.shape calm (upper_of row o).base (upper_of row o).kind) e b.leads.reached
+
+      go : (w : Work) → Rattle.art_schedules.specs.work.Works.FitsWords c hold w calm → Rattle.art_schedules.specs.effects.Begins.FindsSlot c calm hold w b.byte
+          → BeginsWork c after hold w
+      go (work.Write slot word old) words finds = record {
+        call = b.call;
+        words = tt;
+        byte = b.byte;
+        leads = leads;
+        finds = (
+          finds.0,
+          slot-at row b.byte small still.0 ∙ finds.1,
+          subst (IsOverwritten c word old) (sym ((same-rows-say-the-same c.shape calm after row.base row.kind still.0.0).child b.byte small)) finds.2,
+        );
+      }
+      go (work.Pair p) words finds = record {
+        call = b.call;
+        words = (words.0, ap (child_of c.shape) (word-at upper b.byte p.slot small stays finds.0) ∙ words.1, words.2, words.3, words.4);
+        byte = b.byte;
+        leads = leads;
+        finds = (
+          slot-at upper b.byte small stays ∙ finds.0,
+          parts-still (key_of c.call) upper.base b.byte p.level p.byte upper.kind p.child b.leads small (ap (child_in c.shape calm) finds.0 ∙ words.1) finds.1,
+        );
+      }
+      go (work.Put keys) words finds = record {
+        call = b.call;
+        words = (words.0, lacks-still row keys still.0 words.1, words.2);
+        byte = b.byte;
+        leads = leads;
+        finds = (finds.0, follows.info row.base row.kind (alone finds.0) ∙ finds.1);
+      }
+      go (work.Grow slot keys) words finds = record {
+        call = b.call;
+        words = (words.0, lacks-still row keys still.0 words.1, words.2, ap (child_of c.shape) (word-at upper b.byte slot small stays finds.1) ∙ words.3);
+        byte = b.byte;
+        leads = leads;
+        finds = (
+          finds.0,
+          slot-at upper b.byte small stays ∙ finds.1,
+          follows.ways (key_of c.call) row.base row.kind (byte_in c row) finds.2 still.0.1,
+          follows.info row.base row.kind finds.2.reached ∙ finds.3,
+        );
+      }
+
+-- ---- a step, with the states before and behind it
+
+module _ (shape : Shape) (call : Call) (n : ℕ) (calm after : List ℕ) (pairs : Contents) (effect : Option Effect) (s t : State)
+    (follows : Follows shape n calm after pairs (IsGoneBy effect) (IsFreshBy effect)) (agree : Agrees shape s.words calm)
+    (agree-then : Agrees shape t.words after)
+    (steady : IsSteady Optimistic shape s t) (infos : InfosStay shape s t)
+    (leaving : (base : ℕ) → IsGoneBy effect base → is_obsolete (slice_index t.words base) ≡ true) where
+  abbrev c : Setting
+  c = setting shape Optimistic call
+
+  abbrev S : Held → Type 0
+  S h = SameRow calm after h.base h.kind × (IsGoneBy effect h.base → ⊥)
+
+  abbrev Kept : Held → Type 0
+  Kept h = IsKept false (IsSettled Optimistic shape s) h
+
+  abbrev Past : Held → Type 0
+  Past h = IsPast s.words h
+
+  -- a row that stands behind the step stood before it, and stays
+  back : (h : Held) → Kept h → Past h → Stands t.words h → Stands s.words h × S h
+  back h kept past st = (stood, (row, stays))
+    where
+      stood : Stands s.words h
+      stood = omega (arith, past, st, steady.rises h.base h.kind kept.1)
+
+      here : kind_at shape h.base ≡ Some h.kind
+      here = settled-row Optimistic shape s h.base h.kind kept.1
+
+      free : is_busy h.kept ≡ false
+      free = unmarked-free h.kept kept.0
+
+      row : SameRow calm after h.base h.kind
+      row j low high =
+          agree-then.free h.base h.kind here (ap is_busy st ∙ free) (h.base + j) (omega arith) (omega (arith, high))
+          ∙ (steady.stands h.base h.kind kept.1 (st ∙ sym stood) (ap Rattle.art_rows.specs.Words.is_locked stood ∙ (free-parts h.kept free).0)
+          (h.base + j) (omega arith) (omega (arith, high))
+          ∙ sym (agree.free h.base h.kind here (ap is_busy stood ∙ free) (h.base + j) (omega arith) (omega (arith, high))))
+
+      stays : IsGoneBy effect h.base → ⊥
+      stays g = false≢true (sym (ap is_obsolete st ∙ (free-parts h.kept free).1) ∙ leaving h.base g)
+
+  hangs : (h : Held) (slot : ℕ) (child : Child) → S h → Hangs c calm h slot child → Hangs c after h slot child
+  hangs h slot child = hangs-still c n calm after pairs (IsGoneBy effect) (IsFreshBy effect) follows h slot child
+
+  below-kept : (d : Down) → Kept d.above → Past d.above → IsBelow c calm s.words d → IsBelow c after t.words d
+  below-kept d kept past k st =
+      let x = back d.above kept past st in
+      hangs d.above d.slot (ChildRow d.base d.kind) x.1 (k x.0)
+
+  above-kept : (h : Held) (slot : ℕ) (above : Option Held) → Each Kept (all_of above) → Each Past (all_of above) → HangsBelow c calm s.words h slot above
+      → HangsBelow c after t.words h slot above
+  above-kept h slot None kept past k = tt
+  above-kept h slot (Some a) kept past k = λ st.
+      let x = back a kept.0 past.0 st in
+      hangs a slot (ChildRow h.base h.kind) x.1 (k x.0)
+
+  place-kept : (p : Position) → Each Kept (p.row ∷ all_of p.above) → Each Past (p.row ∷ all_of p.above) → KnowsPlace c calm s.words p
+      → KnowsPlace c after t.words p
+  place-kept p kept past (led, up) = (
+    (λ st. let x = back p.row kept.0 past.0 st in on-way c n calm after pairs (IsGoneBy effect) (IsFreshBy effect) follows p.row x.1 (led x.0)),
+    above-kept p.row p.slot p.above kept.1 past.1 up,
+  )
+
+  -- what a row that stands has said, it says
+  says : (h : Held) → Kept h → Past h → (P Q : Type 0) → (S h → P → Q) → (Stands s.words h → P) → Stands t.words h → Q
+  says h kept past P Q f p st =
+      let x = back h kept past st in
+      f x.1 (p x.0)
+
+  path-kept : (base : ℕ) (kind : Kind) → IsSettled Optimistic shape s base kind → path_in t.words base kind ≡ path_in s.words base kind
+  path-kept base kind settled = ap (λ v. (info_of kind v).path) (infos base kind settled)
+
+  follows-kept : (i : Bool) (d : Down) → IsSettled Optimistic shape s d.base d.kind → PathFollows i c s.words d → PathFollows i c t.words d
+  follows-kept true d settled k = tt
+  follows-kept false d settled k = ap (λ xs. first_difference xs (key_bytes (key_of call))) (path-kept d.base d.kind settled) ∙ k
+
+  differs-kept : (i : Bool) (d : Down) → IsSettled Optimistic shape s d.base d.kind → PathDiffers i c s.words d → PathDiffers i c t.words d
+  differs-kept true d settled k = absurd k
+  differs-kept false d settled (x, k) = (x, ap (λ xs. first_difference xs (key_bytes (key_of call))) (path-kept d.base d.kind settled) ∙ k)
+
+  reached-kept : (d : Down) (was : ℕ) → Kept (held d.base d.kind 0 was) → Past (held d.base d.kind 0 was) → IsReachedBelow c calm s.words d was
+      → IsReachedBelow c after t.words d was
+  reached-kept d was kept past k st =
+      let x = back (held d.base d.kind 0 was) kept past st in
+      (follows.rows d.base d.kind).1 (inl (k x.0, x.1.1))
+
+  taking-kept : (row : Held) (above under : Option Held) (w : Work) → Each Kept (row ∷ (all_of above ++ all_of under))
+      → Each Past (row ∷ (all_of above ++ all_of under)) → Each S (all_of above)
+      → (AllStand s.words row under → BeginsWork c calm (hold_taken row above under) w)
+      → AllStand t.words row under → BeginsWork c after (hold_taken row above under) w
+  taking-kept row above None w kept past still k st =
+      let x = back row kept.0 past.0 st in
+      begins-still c n calm after pairs (IsGoneBy effect) (IsFreshBy effect) follows row above w (x.1, still) (k x.0)
+  taking-kept row None (Some b) w kept past still k st =
+      let x = back row kept.0 past.0 st.0 in
+      let y = back b kept.1.0 past.1.0 st.1 in
+      begins-still c n calm after pairs (IsGoneBy effect) (IsFreshBy effect) follows b (Some row) w (y.1, (x.1, tt)) (k (x.0, y.0))
+  taking-kept row (Some a) (Some b) w kept past still k st =
+      let x = back row kept.0 past.0 st.0 in
+      let y = back b kept.1.1.0 past.1.1.0 st.1 in
+      begins-still c n calm after pairs (IsGoneBy effect) (IsFreshBy effect) follows b (Some row) w (y.1, (x.1, tt)) (k (x.0, y.0))
+
+  here-kept : (h : Held) → Kept h → Past h → IsReachedHere c calm s.words h → IsReachedHere c after t.words h
+  here-kept h kept past k = λ st.
+      let x = back h kept past st in
+      (follows.rows h.base h.kind).1 (inl (k x.0, x.1.1))
+
+  under-kept : (row : Held) (above under : Option Held) → Each Kept (row ∷ (all_of above ++ all_of under)) → Each Past (row ∷ (all_of above ++ all_of under))
+      → Each (IsReachedHere c calm s.words) (all_of under) → Each (IsReachedHere c after t.words) (all_of under)
+  under-kept row above None kept past k = tt
+  under-kept row None (Some b) kept past k = (here-kept b kept.1.0 past.1.0 k.0, tt)
+  under-kept row (Some a) (Some b) kept past k = (here-kept b kept.1.1.0 past.1.1.0 k.0, tt)
+
+  stage-kept : (i : Bool) (stage : Stage) → Each Kept (rows_kept false i stage) → Each Past (rows_kept false i stage) → Each S (rows_held false i stage)
+      → KnowsStage i c calm s.words stage → KnowsStage i c after t.words stage
+  stage-kept i (Wait Root) kept past still k = tt
+  stage-kept i (Wait (Below d)) kept past still k = below-kept d kept.0 past.0 k
+  stage-kept i (Wait (Taken x)) kept past still k = absurd k
+  stage-kept i (Between d was) kept past still k = below-kept d kept.1.0 past.1.0 k
+  stage-kept i (Info d was) kept past still k =
+      (below-kept d kept.1.0 past.1.0 k.0, reached-kept d was kept.0 past.0 k.1, follows-kept i d kept.0.1 k.2)
+  stage-kept i (Find p) kept past still k = place-kept p kept past k
+  stage-kept i (FindKeys p count) kept past still k = (
+    place-kept p kept past k.0,
+    k.1,
+    says p.row kept.0 past.0 _ _ (λ x a. a ∙ sym (x.0 4 (omega arith) (omega (arith, seven-words p.row.kind)))) k.2,
+  )
+  stage-kept i (FindMore p count first) kept past still k = (
+    place-kept p kept past k.0,
+    k.1,
+    says p.row kept.0 past.0 _ _ (λ x a. (
+      a.0 ∙ sym (x.0 4 (omega arith) (omega (arith, seven-words p.row.kind))),
+      a.1 ∙ sym (x.0 2 (omega arith) (omega (arith, seven-words p.row.kind))),
+    )) k.2,
+  )
+  stage-kept i (FindCount p index) kept past still k = (
+    place-kept p kept past k.0,
+    k.1,
+    says p.row kept.0 past.0 _ _ (λ x a. (
+      a.0 ∙ sym (index-still c n calm after pairs (IsGoneBy effect) (IsFreshBy effect) follows p.row x k.1),
+      slot-still c n calm after pairs (IsGoneBy effect) (IsFreshBy effect) follows p.row x ∙ a.1,
+    )) k.2,
+  )
+  stage-kept i (Slot p slot) kept past still k = (
+    place-kept p kept past k.0,
+    says p.row kept.0 past.0 _ _ (λ x a. slot-still c n calm after pairs (IsGoneBy effect) (IsFreshBy effect) follows p.row x ∙ a) k.1,
+  )
+  stage-kept i (Check p f) kept past still k = (
+    place-kept p kept past k.0,
+    says p.row kept.0 past.0 _ _ (λ x a. finding-still c n calm after pairs (IsGoneBy effect) (IsFreshBy effect) follows i p.row f x a) k.1,
+  )
+  stage-kept i (Take x) kept past still k =
+      (here-kept x.row kept.0 past.0 k.0, under-kept x.row x.held x.below kept past k.1, taking-kept x.row x.held x.below x.work kept past still k.2)
+  stage-kept i (Unlock h outcome) kept past still k = k
+  stage-kept i stage kept past still k = absurd k
+
+  reply-kept : (r : Reply) (i : Bool) (stage : Stage) → Each Kept (rows_kept false i stage) → KnowsReply r i c s.words stage → KnowsReply r i c t.words stage
+  reply-kept r i (Info d was) kept k = (k.0, differs-kept i d kept.0.1 k.1)
+  reply-kept r i (CheckLast h) kept k = k
+  reply-kept r i (Over outcome) kept k = k
+  reply-kept r i stage kept k = absurd k
+
+  at-kept : (o : Option Reply) (i : Bool) (stage : Stage) → Each Kept (rows_kept false i stage) → Each Past (rows_kept false i stage)
+      → Each S (rows_held false i stage) → KnowsAt o i c calm s.words stage → KnowsAt o i c after t.words stage
+  at-kept None i stage kept past still k = stage-kept i stage kept past still k
+  at-kept (Some r) i stage kept past still k = reply-kept r i stage kept k
+
+  past-kept : (hs : List Held) → Each Kept hs → Each Past hs → Each (IsPast t.words) hs
+  past-kept [] kept past = tt
+  past-kept (h ∷ hs) kept past = (omega (arith, past.0, steady.rises h.base h.kind kept.0.1), past-kept hs kept.1 past.1)
+
+  rows-still : (hs : List Held) → Each (IsStill calm s.words after t.words effect) hs → Each S hs
+  rows-still [] still = tt
+  rows-still (h ∷ hs) still = ((still.0.row, still.0.stays), rows-still hs still.1)
+
+  own-kept : (hs : List Held) → Each (IsStill calm s.words after t.words effect) hs → Each (IsOwn shape calm s.words) hs → Each (IsOwn shape after t.words) hs
+  own-kept [] still own = tt
+  own-kept (h ∷ hs) still own = (
+    (
+      (λ j low high. still.0.same j low high ∙ (own.0.0 j low high ∙ sym (still.0.row j low high))),
+      (follows.rows h.base h.kind).1 (inl (own.0.1, still.0.stays)),
+    ),
+    own-kept hs still.1 own.1,
+  )
+
+pub ways-are-kept : WaysAreKept
+ways-are-kept shape call n calm after pairs effect s t found stage follows agree agree-then steady infos leaving rows still k = record {
+  way = at-kept shape call n calm after pairs effect s t follows agree agree-then steady infos leaving found (is_insert call) stage rows.kept k.kept
+      (rows-still shape call n calm after pairs effect s t follows agree agree-then steady infos leaving _ still) k.way;
+  kept = past-kept shape call n calm after pairs effect s t follows agree agree-then steady infos leaving _ rows.kept k.kept;
+  rows = own-kept shape call n calm after pairs effect s t follows agree agree-then steady infos leaving _ still k.rows;
+}

@@ -1,0 +1,145 @@
+-- What an open call of the optimistic tree is answered.
+use Rattle.std.proofs.Common.{◌≡◌, ℕ, ◌≤◌, true, List, [], ◌∷◌, ◌++◌, length, refl, sym, ap, subst, ◌∙◌, ⊎_elim, arith}
+use Rattle.std.specs.Prelude.{Some}
+use Rattle.std.proofs.lemmas.Option.{same_Some, none-some}
+use Rattle.std.proofs.Math.Seq.{take-length}
+use Rattle.events.specs.declared.event.Call.{Call}
+use Rattle.events.specs.declared.event.Call.TheVariants.{Scan}
+use Rattle.events.specs.declared.event.Reply.{Reply}
+use Rattle.map_object.specs.MapObject.{Contents, Does}
+use Rattle.art_rows.specs.declared.table.Shape.{Shape}
+use Rattle.art_steps.specs.declared.variant.Variant.TheVariants.{Optimistic}
+use Rattle.art_steps.specs.Steps.{Answers, reply_of}
+use Rattle.art_steps.specs.TreeCalls.{is_tree_call}
+use Rattle.art_stages.specs.declared.stage.Stage.{Stage}
+use Rattle.art_stages.specs.declared.stage.Stage.TheVariants.{Info, CheckLast, Unlock, Over}
+use Rattle.art_stages.specs.Stages.{setting, reply_for}
+use Rattle.art_stages.specs.Automaton.{turn_at}
+use Rattle.art_stages.specs.Calls.{OnKey, call_turn}
+use Rattle.art_core.specs.declared.process.Process.{Process}
+use Rattle.art_core.specs.Core.{Plan, State, begun, opened_on, known_reply}
+use Rattle.art_core.specs.Runs.{At, Gives}
+use Rattle.art_schedules.specs.calls.RunCalls.{IsIn}
+use Rattle.art_versions.specs.versions.Versions.{IsOpen, stage_of}
+use Rattle.art_versions.proofs.versions.StepLemmas.{next-turn}
+use Rattle.art_schedules.specs.calm.Calm.{calm_of}
+use Rattle.art_schedules.specs.stories.Stories.{Status, Before, Found, HasNotChanged, HasReply, Tale, IsInCall}
+use Rattle.art_schedules.specs.stories.Fitting.{IsToldStep, AllFit, IsAnswered, Stays, FindsAt, AnswersCall, MeansAt}
+use Rattle.art_schedules.specs.optimistic.Knows.{KnowsWay}
+use Rattle.art_schedules.specs.scan_points.ScanPoints.{HasScanPoint}
+use Rattle.art_schedules.specs.effects.AtWork.{AtWork, AtEnd, Answering, Leaving}
+use Rattle.art_schedules.specs.effects.Outcomes as outcomes
+use Rattle.art_schedules.specs.effects.Outcomes.{WorkStep}
+use Rattle.art_schedules.specs.optimistic_runs.OptimisticFits.{Ghosts, IsWorld, IsFit, Seeks, Works, Finds, Ends, Walks, OptimisticFits, the_plan}
+use Rattle.art_schedules.proofs.optimistic_runs.PartLaws.{LawsOfParts}
+use Rattle.art_schedules.proofs.optimistic_runs.LedLemmas as led
+
+-- an end is answered what it has
+end-answers : (shape : Shape) (real calm : List ℕ) (call : Call) (reply answer : Reply) (stage : Stage)
+    → AtEnd (setting shape Optimistic call) real calm reply stage → turn_at (setting shape Optimistic call) stage ≡ Answers answer → reply ≡ answer
+end-answers shape real calm call reply answer stage (Answering o e at) turn = e ∙ go (ap (turn_at (setting shape Optimistic call)) (sym at) ∙ turn)
+  where
+    go : turn_at (setting shape Optimistic call) (Over o) ≡ Answers answer → reply_for o ≡ answer
+    go k = cc
+end-answers shape real calm call reply answer stage (Leaving o h e at rows same) turn =
+    absurd (go (ap (turn_at (setting shape Optimistic call)) (sym at) ∙ turn))
+  where
+    go : turn_at (setting shape Optimistic call) (Unlock h (Some o)) ≡ Answers answer → ⊥
+    go k = cc
+
+-- what was found is what is answered
+found-answers : (shape : Shape) (calm words : List ℕ) (call : Call) (reply answer : Reply) (stage : Stage)
+    → KnowsWay (setting shape Optimistic call) calm words (Some reply) stage → turn_at (setting shape Optimistic call) stage ≡ Answers answer → reply ≡ answer
+found-answers shape calm words call reply answer (Info d kept) k e = cc
+found-answers shape calm words call reply answer (CheckLast n) k e = cc
+found-answers shape calm words call reply answer (Over outcome) k e = k.way ∙ go e
+  where
+    go : turn_at (setting shape Optimistic call) (Over outcome) ≡ Answers answer → reply_for outcome ≡ answer
+    go k = cc
+found-answers shape calm words call reply answer stage k e = absurd k.way
+
+module _ (laws : LawsOfParts) (shape : Shape) (scripts : List (List Call)) (start : Contents) (words : List ℕ)
+    (schedule : List ℕ) (tale : Tale) (p : ℕ) (s t : State) (g : Ghosts)
+    (told : IsToldStep (the_plan shape scripts) start words schedule tale p s t (calm_of (the_plan shape scripts) words schedule)
+    (calm_of (the_plan shape scripts) words (schedule ++ p ∷ [])))
+    (world : IsWorld shape g s) (all : AllFit (OptimisticFits shape g) schedule s (calm_of (the_plan shape scripts) words schedule)) where
+  abbrev plan : Plan
+  plan = the_plan shape scripts
+
+  abbrev calm : List ℕ
+  calm = calm_of plan words schedule
+
+  abbrev after : List ℕ
+  after = calm_of plan words (schedule ++ p ∷ [])
+
+  abbrev m : Contents
+  m = tale.pairs (length schedule)
+
+  module _ (call : Call) (q : Process) (status : Status) (reply : Reply) (x : AnswersCall plan s p t call q reply) (tree : is_tree_call call ≡ true) where
+    abbrev Answer : Type 0
+    Answer = IsAnswered plan words schedule tale p call q status reply
+
+    turn : (stage : Stage) → stage_of Optimistic shape call q ≡ OnKey stage → turn_at (setting shape Optimistic call) stage ≡ Answers reply
+    turn stage at = ap (call_turn (setting shape Optimistic call)) (sym at) ∙ x.answers
+
+    -- behind the step the process is in no call
+    closed : (other : Process) → IsOpen t p call other → ⊥
+    closed other o = none-some call (sym x.idle ∙ (ap (λ (y : Process). y.call) (same_Some x.later other (sym x.own ∙ o.own)) ∙ o.is_open))
+
+    works : (stage : Stage) → stage_of Optimistic shape call q ≡ OnKey stage → AtWork (setting shape Optimistic call) s.words calm (g p) stage → ⊥
+    works stage at w =
+        go (laws.workers_step plan start words schedule p s t told.claims m
+        (led.is-last laws shape scripts start words schedule tale p s t g told world all) told.rests told.means call stage (g p)
+        (record { process = q; is_open = x.here; at = at }) w)
+      where
+        go : WorkStep Optimistic shape s p t calm after m call (g p) → ⊥
+        go (outcomes.Works next fresh there work goes makes) = closed there.process there.is_open
+        go (outcomes.IsRefused next there end makes) = closed there.process there.is_open
+        go (outcomes.TakesEffect next effect reply there end makes fresh pairs legal accepted live) = closed there.process there.is_open
+
+    known : known_reply plan q.got q.call ≡ Some reply
+    known = ap (known_reply plan q.got) x.here.is_open ∙ ap reply_of (next-turn Optimistic shape call q ∙ x.answers)
+
+    -- a scan has found its reply at its point, an earlier moment
+    walks : (low high : ℕ) → call ≡ Scan low high → status ≡ Before → Answer
+    walks low high is e =
+        (Found reply, FindsAt reply point.t (subst HasNotChanged (sym e) tt) refl until within does, refl)
+      where
+        at-end : At plan (opened_on plan words) schedule (length schedule) s
+        at-end = subst (λ l. Gives plan (opened_on plan words) l s) (sym (take-length schedule)) told.before.gives
+
+        point : HasScanPoint plan words schedule (length schedule) p (length (begun q)) low high reply
+        point = laws.answered_scans_have_points plan start words schedule s told.before refl (length schedule) s at-end p low high q reply x.here.own
+            (x.here.is_open ∙ ap Some is) known
+
+        until : point.t ≤ length schedule
+        until = omega (arith, point.before)
+
+        within : IsInCall plan (opened_on plan words) schedule point.t p (length (begun q)) call
+        within = record { now = point.now; at = point.at; is_in = subst (IsIn point.now p (length (begun q))) (sym is) point.is_in }
+
+        does : Does (tale.pairs point.t) call reply (tale.pairs point.t)
+        does =
+            let its : MeansAt plan words schedule point.t (tale.pairs point.t) = told.earlier point.t until in
+            subst (λ c. Does (tale.pairs point.t) c reply (tale.pairs point.t)) (sym is)
+            (point.replies its.claims (tale.pairs point.t) its.few its.rests its.means).1
+
+    pub answered : OptimisticFits shape g schedule s calm p call q status → Answer
+    answered fits = go fits.fit
+      where
+        go : IsFit shape g s calm p call q status → Answer
+        go (Seeks stage scan none at k e) =
+            let from = laws.own_steps_go_on plan start words schedule p s t told.behind refl told.before.gives call q stage (x.here, at) tree scan told.claims m
+            told.rests told.means k in
+            absurd (closed from.0.process from.0.at.0)
+        go (Finds stage found scan none at k e) =
+            (status, Stays refl, subst (λ y. HasReply y reply) (sym e) (found-answers shape calm s.words call found reply stage k (turn stage at)))
+        go (Works stage at w e) = absurd (works stage at w)
+        go (Ends stage known none at end e) = (
+          status,
+          Stays refl,
+          ⊎_elim
+              (λ k. subst (λ y. HasReply y reply) (sym k) (end-answers shape s.words calm call known reply stage end (turn stage at)))
+              (λ k. subst (λ y. HasReply y reply) (sym k.1) (sym k.0 ∙ end-answers shape s.words calm call known reply stage end (turn stage at))) e,
+        )
+        go (Walks low high at none is stage e) = walks low high is e

@@ -1,0 +1,27 @@
+-- The laws of the parts of which the proof is made.
+use Rattle.art_schedules.specs.changes.Laws.{KeptTreesFollow}
+use Rattle.art_schedules.specs.effects.Laws.{WorkBegins, WorkersHoldReached, LeaversHoldReached, OthersKeepWork, OthersKeepEnds, WorkersStep, LeaversStep}
+use Rattle.art_schedules.specs.effects.Laws.{EffectsBringTheirs, FreshIsClaimed}
+use Rattle.art_schedules.specs.optimistic.Laws.{WaysBegin}
+use Rattle.art_schedules.specs.optimistic.Steps.{OtherStepsKeepWays, OwnFindingsStay, OwnStepsGoOn, QuietStepsKeepTrees, ScansStoreNothing}
+use Rattle.art_schedules.specs.scan_points.ScanPoints.{AnsweredScansHavePoints}
+
+-- each of them, by the name of the function that carries it
+pub record LawsOfParts : Type 0 where
+  pub kept_trees_follow : KeptTreesFollow
+  pub work_begins : WorkBegins
+  pub workers_hold_reached : WorkersHoldReached
+  pub leavers_hold_reached : LeaversHoldReached
+  pub others_keep_work : OthersKeepWork
+  pub others_keep_ends : OthersKeepEnds
+  pub workers_step : WorkersStep
+  pub leavers_step : LeaversStep
+  pub effects_bring_theirs : EffectsBringTheirs
+  pub fresh_is_claimed : FreshIsClaimed
+  pub ways_begin : WaysBegin
+  pub other_steps_keep_ways : OtherStepsKeepWays
+  pub own_steps_go_on : OwnStepsGoOn
+  pub own_findings_stay : OwnFindingsStay
+  pub quiet_steps_keep_trees : QuietStepsKeepTrees
+  pub scans_store_nothing : ScansStoreNothing
+  pub answered_scans_have_points : AnsweredScansHavePoints

@@ -1,0 +1,226 @@
+-- A scan of the optimistic tree that is answered alone on some words is answered so on calm too, and runs alone there to the end.
+use Rattle.std.proofs.Common.{◌≡◌, ℕ, zero, suc, ◌+◌, ◌<◌, ◌≤◌, List, [], ◌∷◌, ◌++◌, length, take, refl, ap, sym, subst, ◌∙◌, false}
+use Rattle.std.proofs.Common.{inl, inr, arith, append_assoc}
+use Rattle.std.specs.Prelude.{slice_index, Option, Some}
+use Rattle.std.proofs.lemmas.List.{length-append, append-nil, set-get_or}
+use Rattle.std.proofs.lemmas.Bool.{cases_lt}
+use Rattle.std.proofs.lemmas.Option.{same_Some, none-some}
+use Rattle.events.specs.declared.event.Call.{Call}
+use Rattle.events.specs.declared.event.Call.TheVariants.{Scan}
+use Rattle.events.specs.declared.event.Reply.{Reply}
+use Rattle.events.specs.declared.event.Reply.TheVariants as replies
+use Rattle.art_rows.specs.declared.table.Kind.{Kind}
+use Rattle.art_rows.specs.declared.table.Kind.TheVariants.{Four, Sixteen, FortyEight, Full}
+use Rattle.art_rows.specs.Table.{kind_at}
+use Rattle.art_steps.specs.declared.variant.Variant.TheVariants.{Optimistic}
+use Rattle.art_steps.specs.declared.access.Access.{Access}
+use Rattle.art_steps.specs.declared.access.Access.TheVariants.{Load}
+use Rattle.art_steps.specs.declared.access.Point.{Point}
+use Rattle.art_steps.specs.Steps.{Turn, Asks, Answers, reply_of}
+use Rattle.art_steps.specs.Rows.{Setting}
+use Rattle.art_steps.specs.Act.{act}
+use Rattle.art_stages.specs.declared.stage.ScanStep.{ScanStep}
+use Rattle.art_stages.specs.declared.stage.ScanStep.TheVariants.{Lock, Exchange, Wait, Info, Keys, FirstKeys, SecondKeys, Index, Child as LoadChild}
+use Rattle.art_stages.specs.declared.stage.ScanStep.TheVariants.{Release, Over}
+use Rattle.art_stages.specs.declared.stage.Held.{Held}
+use Rattle.art_stages.specs.Scans.{Walk, ScanAt, at, scan_start, scan_turn, keys_turn}
+use Rattle.art_stages.specs.Calls.{call_turn, call_begun, after_all}
+use Rattle.art_core.specs.Accesses.{got_by}
+use Rattle.art_core.specs.Core.{Plan}
+use Rattle.art_core.specs.Moments.{next_word, alone, AnswersAlone, Reads}
+use Rattle.art_serial.specs.alone.Alone.{RunsAlone, ends, goes}
+use Rattle.art_serial.proofs.alone.AloneLemmas.{same-runs}
+use Rattle.art_versions.specs.versions.Steady.{SameRow}
+use Rattle.art_schedules.specs.calm.Calm.{is_busy}
+use Rattle.art_schedules.proofs.calm.VersionLemmas.{unmarked-free}
+use Rattle.art_versions.proofs.moments.TimeLemmas.{take-more, take-whole, index-more, index-last}
+use Rattle.art_versions.proofs.moments.AttemptLemmas.{stage}
+use Rattle.art_versions.proofs.moments.StandsLemmas.{Stands}
+use Rattle.art_versions.proofs.moments.ScanLemmas.{all-fold, all-append, AllStand, at-end, attempted}
+use Rattle.art_versions.proofs.moments.ValidLemmas.{turn-is, validated, some-words}
+use Rattle.art_versions.proofs.moments.AloneLemmas.{answers-alone}
+
+load-is : {a : Access} {m : Option Point} {w : ℕ} {l : Option Point} → Asks a m ≡ Asks (Load w) l → a ≡ Load w
+load-is e = cc
+
+no-load : {r : Reply} {w : ℕ} {l : Option Point} → Answers r ≡ Asks (Load w) l → ⊥
+no-load e = cc
+
+same-reply : {r q : Reply} → Answers r ≡ Answers q → r ≡ q
+same-reply e = cc
+
+take-behind : (xs ys : List ℕ) (i : ℕ) → take (length xs + i) (xs ++ ys) ≡ xs ++ take i ys
+take-behind [] ys i = ap (λ k. take k ys) (omega arith)
+take-behind (x ∷ xs) ys i = ap (λ k. take k (x ∷ (xs ++ ys))) (plus (length xs)) ∙ ap (λ zs. x ∷ zs) (take-behind xs ys i)
+  where
+    plus : (n : ℕ) → suc n + i ≡ suc (n + i)
+    plus n = omega arith
+
+index-behind : (xs ys : List ℕ) (i : ℕ) → slice_index (xs ++ ys) (length xs + i) ≡ slice_index ys i
+index-behind [] ys i = ap (slice_index ys) (omega arith)
+index-behind (x ∷ xs) ys i = ap (slice_index (x ∷ (xs ++ ys))) (plus (length xs)) ∙ index-behind xs ys i
+  where
+    plus : (n : ℕ) → suc n + i ≡ suc (n + i)
+    plus n = omega arith
+
+module _ (plan : Plan) (call : Call) (words : List ℕ) where
+  abbrev turn-of : List ℕ → Turn
+  turn-of got = act plan.shape plan.variant call got
+
+  -- each word that a call gets alone is the word that it loads
+  alone-word : (n i word : ℕ) (mark : Option Point) → i < length (alone n plan call words)
+      → turn-of (take i (alone n plan call words)) ≡ Asks (Load word) mark → slice_index (alone n plan call words) i ≡ slice_index words word
+  alone-word zero i word mark less e = absurd (omega (arith, less))
+  alone-word (suc n) i word mark less e = go (turn-of (alone n plan call words)) refl (alone-word n i word mark)
+    where
+      before : List ℕ
+      before = alone n plan call words
+
+      Before : Type 0
+      Before = i < length before → turn-of (take i before) ≡ Asks (Load word) mark → slice_index before i ≡ slice_index words word
+
+      last : (a : Access) (m : Option Point) → turn-of before ≡ Asks a m → Before → i < length (before ++ got_by a words ∷ [])
+          → turn-of (take i (before ++ got_by a words ∷ [])) ≡ Asks (Load word) mark → slice_index (before ++ got_by a words ∷ []) i ≡ slice_index words word
+      last a m f earlier less e = elim (cases_lt i (length before)) [
+        | inl old ↦ index-more i before (got_by a words) old
+            ∙ earlier old (ap turn-of (sym (take-more i before (got_by a words) (omega (arith, old)))) ∙ e)
+        | inr new ↦
+            let is : i ≡ length before = omega (arith, new, less, length-append before (got_by a words ∷ [])) in
+            let whole : take i (before ++ got_by a words ∷ []) ≡ before =
+            ap (λ k. take k (before ++ got_by a words ∷ [])) is ∙ (take-more (length before) before (got_by a words) (omega arith) ∙ take-whole before) in
+            let same : a ≡ Load word = load-is (sym f ∙ (ap turn-of (sym whole) ∙ e)) in
+            ap (slice_index (before ++ got_by a words ∷ [])) is ∙ (index-last before (got_by a words) ∙ ap (λ x. got_by x words) same)
+      ]
+
+      go : (t : Turn) → turn-of before ≡ t → Before → slice_index (alone (suc n) plan call words) i ≡ slice_index words word
+      go (Asks a m) f earlier =
+          let is : alone (suc n) plan call words ≡ before ++ got_by a words ∷ [] = ap (λ t. before ++ next_word t words) f in
+          ap (λ l. slice_index l i) is
+          ∙ last a m f earlier (subst (λ l. i < length l) is less) (ap (λ l. turn-of (take i l)) (sym is) ∙ e)
+      go (Answers r) f earlier =
+          let is : alone (suc n) plan call words ≡ before = ap (λ t. before ++ next_word t words) f ∙ append-nil before in
+          ap (λ l. slice_index l i) is ∙ earlier (subst (λ l. i < length l) is less) (ap (λ l. turn-of (take i l)) (sym is) ∙ e)
+
+module _ (plan : Plan) (lo hi : ℕ) (v : plan.variant ≡ Optimistic) (some : 1 ≤ plan.shape.rows256) where
+  abbrev scan : Call
+  scan = Scan lo hi
+
+  abbrev set : Setting
+  set = Rattle.art_versions.proofs.moments.AttemptLemmas.c plan.shape lo hi
+
+  -- A scan of the optimistic tree loads, or answers pairs, whatever it got.
+  data LoadsOrAnswers (got : List ℕ) : Type 0 where
+    LoadsWord : (word : ℕ) → (mark : Option Point) → act plan.shape plan.variant scan got ≡ Asks (Load word) mark → LoadsOrAnswers got
+    AnswersPairs : (pairs : List (ℕ × ℕ)) → act plan.shape plan.variant scan got ≡ Answers (replies.Pairs pairs) → LoadsOrAnswers got
+
+  loads-or-answers : (got : List ℕ) → LoadsOrAnswers got
+  loads-or-answers got = go here.step here.walk stands is
+    where
+      x : Rattle.art_versions.proofs.moments.ScanLemmas.Attempted plan.shape some lo hi got
+      x = attempted plan.shape some lo hi got
+
+      here : ScanAt
+      here = stage plan.shape lo hi x.attempt
+
+      stands : Stands plan.shape some lo hi x.attempt here.step here.walk
+      stands = at-end plan.shape some lo hi x.attempt x.stands
+
+      is : act plan.shape plan.variant scan got ≡ scan_turn set here
+      is = turn-is plan lo hi v some got ∙ (sym (ap (call_turn set) (all-fold plan.shape some lo hi (scan_start set) got))
+          ∙ ap (call_turn set) (ap (after_all set (call_begun set)) x.all ∙ (all-append plan.shape some lo hi (call_begun set) x.earlier x.attempt
+          ∙ (ap (λ y. after_all set y x.attempt) x.begins ∙ all-fold plan.shape some lo hi (scan_start set) x.attempt))))
+
+      keys : (kind : Kind) (n : Held) → act plan.shape plan.variant scan got ≡ keys_turn kind n → LoadsOrAnswers got
+      keys Four n e = LoadsWord _ _ e
+      keys Sixteen n e = LoadsWord _ _ e
+      keys FortyEight n e = LoadsWord _ _ e
+      keys Full n e = LoadsWord _ _ e
+
+      go : (step : ScanStep) (w : Walk) → Stands plan.shape some lo hi x.attempt step w → act plan.shape plan.variant scan got ≡ scan_turn set (at step w)
+          → LoadsOrAnswers got
+      go (Lock entry first) w h e = absurd h
+      go (Exchange entry u) w h e = absurd h
+      go (Wait entry) w h e = LoadsWord _ _ e
+      go (Info base kind kept) w h e = LoadsWord _ _ e
+      go (Keys n) w h e = keys n.kind n e
+      go (FirstKeys n count) w h e = LoadsWord _ _ e
+      go (SecondKeys n count first) w h e = LoadsWord _ _ e
+      go (Index n j m) w h e = LoadsWord _ _ e
+      go (LoadChild f slot) w h e = LoadsWord _ _ e
+      go (Release n) w h e = LoadsWord _ _ e
+      go Over w h e = AnswersPairs _ e
+
+  -- Where other words have each row that is not busy, the scan has the same answer alone on them.
+  pub moves : (words calm : List ℕ)
+      → ((base : ℕ) (kind : Kind) → kind_at plan.shape base ≡ Some kind → is_busy (slice_index words base) ≡ false → SameRow words calm base kind)
+      → (reply : Reply) → AnswersAlone plan scan words reply → AnswersAlone plan scan calm reply
+  moves words calm free reply (n, e) =
+      answers-alone plan lo hi v some x.attempt calm val.stands holds reply
+      (sym (x.begins x.attempt) ∙ (ap (act plan.shape plan.variant scan) (sym x.all) ∙ e))
+    where
+      val : Rattle.art_versions.proofs.moments.ValidLemmas.Validation plan lo hi v some (alone n plan scan words)
+      val = validated plan lo hi v some (alone n plan scan words) reply e
+
+      x : Rattle.art_versions.specs.moments.Attempts.IsValidated plan scan (alone n plan scan words)
+      x = val.is
+
+      was : (i word : ℕ) → Reads plan scan x.attempt i word → slice_index x.attempt i ≡ slice_index words word
+      was i word r =
+          let part : take (length x.earlier + i) (alone n plan scan words) ≡ x.earlier ++ take i x.attempt =
+          ap (take (length x.earlier + i)) x.all ∙ take-behind x.earlier x.attempt i in
+          let long = ap (λ l. length l) x.all ∙ length-append x.earlier x.attempt in
+          sym (ap (λ l. slice_index l (length x.earlier + i)) x.all ∙ index-behind x.earlier x.attempt i)
+          ∙ alone-word plan scan words n (length x.earlier + i) word r.mark (omega (arith, long, r.made))
+          (ap (act plan.shape plan.variant scan) part ∙ (x.begins (take i x.attempt) ∙ r.load))
+
+      holds : (i word : ℕ) → Reads plan scan x.attempt i word → slice_index calm word ≡ slice_index x.attempt i
+      holds i word r =
+          let row = x.reads i word r in
+          free row.base row.kind row.enters.row
+          (ap is_busy (sym (was row.entry row.base row.enters.reads)) ∙ unmarked-free (slice_index x.attempt row.entry) row.free) word row.from row.below
+          ∙ sym (was i word r)
+
+  -- It runs alone, and changes no word.
+  pub runs : (calm : List ℕ) (reply : Reply) → AnswersAlone plan scan calm reply → RunsAlone (act plan.shape plan.variant scan) calm calm reply
+  runs calm reply (n, e) = from n 0 (omega arith)
+    where
+      from : (d i : ℕ) → d + i ≡ n → RunsAlone (λ got. act plan.shape plan.variant scan (alone i plan scan calm ++ got)) calm calm reply
+      from zero i is =
+          ends (ap (act plan.shape plan.variant scan) (append-nil (alone i plan scan calm) ∙ ap (λ k. alone k plan scan calm) i-is-n) ∙ e)
+        where
+          i-is-n : i ≡ n
+          i-is-n = omega (arith, is)
+      from (suc d) i is = go (loads-or-answers (alone i plan scan calm)) (from d (suc i) (omega (arith, is)))
+        where
+          before : List ℕ
+          before = alone i plan scan calm
+
+          go : LoadsOrAnswers before → RunsAlone (λ got. act plan.shape plan.variant scan (alone (suc i) plan scan calm ++ got)) calm calm reply
+              → RunsAlone (λ got. act plan.shape plan.variant scan (before ++ got)) calm calm reply
+          go (LoadsWord word mark f) rest =
+              let one : alone (suc i) plan scan calm ≡ before ++ slice_index calm word ∷ [] = ap (λ t. before ++ next_word t calm) f in
+              goes (Load word) mark (ap (act plan.shape plan.variant scan) (append-nil before) ∙ f)
+              (subst (λ (w : List ℕ). RunsAlone (λ got. act plan.shape plan.variant scan (before ++ (slice_index calm word ∷ got))) w calm reply)
+              (sym (set-get_or calm word 0))
+              (same-runs (λ got. act plan.shape plan.variant scan (before ++ (slice_index calm word ∷ got)))
+              (λ got. ap (act plan.shape plan.variant scan)
+              (sym (append_assoc before (slice_index calm word ∷ []) got) ∙ ap (λ l. l ++ got) (sym one))) rest))
+          go (AnswersPairs pairs f) rest =
+              let none : alone (suc i) plan scan calm ≡ before = ap (λ t. before ++ next_word t calm) f ∙ append-nil before in
+              same-runs (λ got. act plan.shape plan.variant scan (before ++ got))
+              (λ got. ap (λ l. act plan.shape plan.variant scan (l ++ got)) (sym none)) rest
+
+  -- an answer is no refusal
+  pub unrefused : (got : List ℕ) (reply : Reply) → act plan.shape plan.variant scan got ≡ Answers reply → reply ≡ replies.Refused → ⊥
+  unrefused got reply e f = go (loads-or-answers got)
+    where
+      go : LoadsOrAnswers got → ⊥
+      go (LoadsWord word mark g) = no-load (sym e ∙ g)
+      go (AnswersPairs pairs g) = other (sym (same-reply (sym e ∙ g)) ∙ f)
+        where
+          other : replies.Pairs pairs ≡ replies.Refused → ⊥
+          other e = cc
+
+pub answers-of : (t : Turn) (r : Reply) → reply_of t ≡ Some r → t ≡ Answers r
+answers-of (Asks a m) r e = absurd (none-some r e)
+answers-of (Answers x) r e = ap (λ y. Answers y) (same_Some x r e)

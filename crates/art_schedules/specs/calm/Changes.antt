@@ -1,0 +1,88 @@
+-- What a step of a full tree changes: in the words of rows, and in calm.
+use Rattle.std.specs.Prelude.{◌≡◌, ◌≢◌, ◌⊎◌, ℕ, ◌+◌, ◌<◌, ◌≤◌, true, false, List, [], ◌∷◌, slice_index, Option, Some}
+use Rattle.events.specs.declared.event.Call.{Call}
+use Rattle.art_rows.specs.declared.table.Shape.{Shape}
+use Rattle.art_rows.specs.declared.table.Kind.{Kind}
+use Rattle.art_rows.specs.Table.{row_words, kind_at}
+use Rattle.art_rows.specs.Words.{is_obsolete, locked_word, released_word, obsolete_word}
+use Rattle.art_steps.specs.declared.variant.Variant.{Variant}
+use Rattle.art_steps.specs.declared.access.Access.{Access}
+use Rattle.art_steps.specs.declared.access.Access.TheVariants.{Store, Exchange}
+use Rattle.art_steps.specs.declared.access.Point.{Point}
+use Rattle.art_steps.specs.Steps.{Asks}
+use Rattle.art_steps.specs.Rows.{locks}
+use Rattle.art_stages.specs.declared.stage.Held.{Held}
+use Rattle.art_stages.specs.Calls.{call_turn}
+use Rattle.art_stages.specs.Stages.{setting}
+use Rattle.art_core.specs.declared.process.Process.{Process}
+use Rattle.art_core.specs.Core.{State}
+use Rattle.art_versions.specs.versions.Holding.{IsKept}
+use Rattle.art_versions.specs.versions.Effects.{IsAmong, IsWith, IsBehindVersion}
+use Rattle.art_versions.specs.versions.Versions.{IsOpen, IsHeld, stage_of, held_by, filled_by, IsSettled}
+use Rattle.art_versions.specs.versions.Steady.{SameRow}
+use Rattle.art_schedules.specs.calm.Calm.{is_busy}
+
+-- no other word changes
+abbrev pub ChangesOnly : State → State → ℕ → Type 0
+ChangesOnly s later word = (other : ℕ) → other ≢ word → slice_index later.words other ≡ slice_index s.words other
+
+-- the process is in a call that asks for this access
+pub record AsksFor (variant : Variant) (shape : Shape) (s : State) (p : ℕ) (a : Access) : Type 0 where
+  pub call : Call
+  pub process : Process
+  pub is_open : IsOpen s p call process
+  pub mark : Option Point
+  pub turn : call_turn (setting shape variant call) (stage_of variant shape call process) ≡ Asks a mark
+
+-- The process is in this call behind the step too, where it holds these rows.
+pub record HoldsThen (variant : Variant) (shape : Shape) (later : State) (p : ℕ) (call : Call) (rows : List Held) : Type 0 where
+  pub process : Process
+  pub is_open : IsOpen later p call process
+  pub holds : held_by variant shape call process ≡ rows
+
+-- What the step of process p changes in the words of rows: nothing, a word behind the version of a row that it holds or of the row that it fills, the version
+-- by which it takes a row, or that by which it releases one.
+pub data RowChange (variant : Variant) (shape : Shape) (s : State) (p : ℕ) (later : State) : Type 0 where
+  RowsStay : ((word : ℕ) → 5 ≤ word → slice_index later.words word ≡ slice_index s.words word) → RowChange variant shape s p later
+  RowWritten : (word value : ℕ) → (asks : AsksFor variant shape s p (Store word value)) → (h : Held)
+      → IsAmong h (held_by variant shape asks.call asks.process) → IsKept (locks variant) (IsSettled variant shape s) h → IsBehindVersion h.base h.kind word
+      → slice_index later.words word ≡ value → ChangesOnly s later word → RowChange variant shape s p later
+  RowFilled : (word value : ℕ) → (asks : AsksFor variant shape s p (Store word value)) → (base : ℕ) → (kind : Kind)
+      → filled_by variant shape asks.call asks.process ≡ (base, kind) ∷ [] → kind_at shape base ≡ Some kind → IsBehindVersion base kind word
+      → slice_index later.words word ≡ value → ChangesOnly s later word → RowChange variant shape s p later
+  RowTaken : (h : Held) → (asks : AsksFor variant shape s p (Exchange h.base h.kept (locked_word h.kept))) → (rows : List Held)
+      → IsWith h (held_by variant shape asks.call asks.process) rows → HoldsThen variant shape later p asks.call rows
+      → IsKept (locks variant) (IsSettled variant shape s) h → slice_index s.words h.base ≡ h.kept → slice_index later.words h.base ≡ h.kept + 2
+      → ChangesOnly s later h.base → RowChange variant shape s p later
+  RowReleased : (h : Held) → (value : ℕ) → (asks : AsksFor variant shape s p (Store h.base value)) → (rest : List Held)
+      → IsWith h rest (held_by variant shape asks.call asks.process) → HoldsThen variant shape later p asks.call rest
+      → IsKept (locks variant) (IsSettled variant shape s) h → (value ≡ released_word h.kept) ⊎ (value ≡ obsolete_word h.kept)
+      → slice_index later.words h.base ≡ value → ChangesOnly s later h.base → RowChange variant shape s p later
+
+-- the word is of no row between these
+abbrev pub IsOutside : ℕ → Kind → ℕ → Type 0
+IsOutside base kind word = (word < base) ⊎ (base + row_words kind ≤ word)
+
+-- How calm changes in a step of process p: by no word of a row, by a word of the row that p fills, or by the words of one row, which p held and released,
+-- not as obsolete.
+pub data CalmChange (variant : Variant) (shape : Shape) (s : State) (p : ℕ) (later : State) (calm after : List ℕ) : Type 0 where
+  CalmStays : ((word : ℕ) → 5 ≤ word → slice_index after word ≡ slice_index calm word) → CalmChange variant shape s p later calm after
+  CalmFilled : (word value : ℕ) → (asks : AsksFor variant shape s p (Store word value)) → (base : ℕ) → (kind : Kind)
+      → filled_by variant shape asks.call asks.process ≡ (base, kind) ∷ [] → IsBehindVersion base kind word → slice_index after word ≡ value
+      → ((other : ℕ) → 5 ≤ other → other ≢ word → slice_index after other ≡ slice_index calm other) → CalmChange variant shape s p later calm after
+  CalmReleased : (h : Held) → (asks : AsksFor variant shape s p (Store h.base (released_word h.kept))) → (rest : List Held)
+      → IsWith h rest (held_by variant shape asks.call asks.process) → HoldsThen variant shape later p asks.call rest
+      → IsKept (locks variant) (IsSettled variant shape s) h → is_obsolete h.kept ≡ false → SameRow later.words after h.base h.kind
+      → ((other : ℕ) → 5 ≤ other → IsOutside h.base h.kind other → slice_index after other ≡ slice_index calm other)
+      → CalmChange variant shape s p later calm after
+
+-- A step, and calm before and behind it.
+pub record CalmStep (variant : Variant) (shape : Shape) (s : State) (p : ℕ) (later : State) (calm after : List ℕ) : Type 0 where
+  pub rows : RowChange variant shape s p later
+  pub change : CalmChange variant shape s p later calm after
+  -- a row that is busy behind the step has the same words in calm: one that is held, or obsolete, then
+  pub busy : (base : ℕ) (kind : Kind) → kind_at shape base ≡ Some kind → is_busy (slice_index later.words base) ≡ true → SameRow calm after base kind
+  pub held : (base : ℕ) (kind : Kind) → kind_at shape base ≡ Some kind → IsHeld variant shape later base → SameRow calm after base kind
+  -- an obsolete row stays obsolete
+  pub obsolete : (base : ℕ) (kind : Kind) → kind_at shape base ≡ Some kind → is_obsolete (slice_index s.words base) ≡ true
+      → is_obsolete (slice_index later.words base) ≡ true

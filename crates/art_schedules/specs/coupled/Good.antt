@@ -1,0 +1,75 @@
+-- Rows that a call holds under lock coupling: those of the calm tree alone, and none that was obsolete when it was taken.
+use Rattle.std.specs.Prelude.{◌≡◌, ◌≢◌, ℕ, List, [], ◌∷◌, ◌++◌, false, true, slice_index, Option, None}
+use Rattle.events.specs.declared.event.Call.{Call}
+use Rattle.events.specs.declared.event.Reply.{Reply}
+use Rattle.map_object.specs.MapObject.{Contents}
+use Rattle.art_rows.specs.declared.table.Shape.{Shape}
+use Rattle.art_rows.specs.declared.table.Kind.{Kind}
+use Rattle.art_rows.specs.Words.{is_obsolete, locked_word}
+use Rattle.art_steps.specs.declared.variant.Variant.TheVariants.{Coupled}
+use Rattle.art_steps.specs.declared.access.Access.TheVariants.{Exchange as Swap}
+use Rattle.art_steps.specs.Steps.{Answers}
+use Rattle.art_stages.specs.declared.stage.Held.{Held}
+use Rattle.art_stages.specs.declared.stage.Stage.{Stage}
+use Rattle.art_stages.specs.Stages.{setting}
+use Rattle.art_stages.specs.Automaton.{turn_at}
+use Rattle.art_core.specs.declared.process.Process.{Process}
+use Rattle.art_core.specs.Core.{Plan, State}
+use Rattle.art_core.specs.Meaning.{Reached}
+use Rattle.art_versions.specs.versions.Effects.{IsAmong}
+use Rattle.art_versions.specs.versions.Versions.{IsOpen, held_by}
+use Rattle.art_schedules.specs.calm.Calm.{calm_of}
+use Rattle.art_schedules.specs.calm.Changes.{AsksFor}
+use Rattle.art_schedules.specs.changes.Effects.{Effect}
+use Rattle.art_schedules.specs.changes.Courses.{IsGoneBy, IsFreshBy}
+use Rattle.art_schedules.specs.changes.Follows.{Follows}
+use Rattle.art_schedules.specs.coupled.Knows.{KnowsWay}
+use Rattle.art_schedules.specs.coupled.Moments.{IsStepOf, IsAtStage, TakesLive}
+
+-- the row is one of the calm tree, and was not obsolete when it was taken
+pub record IsGoodRow (shape : Shape) (calm : List ℕ) (h : Held) : Type 0 where
+  pub reached : Reached shape calm h.base h.kind
+  pub live : is_obsolete h.kept ≡ false
+
+-- a call holds such rows alone
+abbrev pub HoldsGood : Shape → List ℕ → Call → Process → Type 0
+HoldsGood shape calm call q = (h : Held) → IsAmong h (held_by Coupled shape call q) → IsGoodRow shape calm h
+
+-- and so does the process
+abbrev pub GoodOf : Shape → State → ℕ → List ℕ → Type 0
+GoodOf shape s p calm = (call : Call) (q : Process) → IsOpen s p call q → HoldsGood shape calm call q
+
+-- a row that the process takes in its step is one of the calm tree
+abbrev pub TakesReached : Shape → State → ℕ → List ℕ → Type 0
+TakesReached shape s p calm = (h : Held) → AsksFor Coupled shape s p (Swap h.base h.kept (locked_word h.kept)) → slice_index s.words h.base ≡ h.kept
+    → (kind : Kind) × Reached shape calm h.base kind
+
+-- A call on its way takes rows of the calm tree alone.
+abbrev pub WaysTakeReached : Type 0
+WaysTakeReached = (plan : Plan) (start : Contents) (words schedule : List ℕ) (p : ℕ) (s t : State) (claims : ℕ) (m : Contents) (call : Call) (stage : Stage)
+    (found : Option Reply) → IsStepOf plan start words schedule p s t claims m → IsAtStage plan.shape s p call stage
+    → KnowsWay (setting plan.shape Coupled call) (calm_of plan words schedule) s.words found stage
+    → TakesReached plan.shape s p (calm_of plan words schedule)
+
+-- Where a process takes live rows of the calm tree alone, each row that it holds behind its step is one of the tree of then, and was live when it was taken.
+-- The calm tree changes by an effect, or by none; the row that leaves it, if one does, is obsolete then.
+abbrev pub GoodRowsStay : Type 0
+GoodRowsStay = (plan : Plan) (start : Contents) (words schedule : List ℕ) (p : ℕ) (s t : State) (claims : ℕ) (m : Contents) (n : ℕ) (pairs : Contents)
+    (effect : Option Effect) → IsStepOf plan start words schedule p s t claims m
+    → Follows plan.shape n (calm_of plan words schedule) (calm_of plan words (schedule ++ p ∷ [])) pairs (IsGoneBy effect) (IsFreshBy effect)
+    → ((b : ℕ) → IsGoneBy effect b → is_obsolete (slice_index t.words b) ≡ true) → GoodOf plan.shape s p (calm_of plan words schedule)
+    → TakesLive plan.shape s p → TakesReached plan.shape s p (calm_of plan words schedule)
+    → GoodOf plan.shape t p (calm_of plan words (schedule ++ p ∷ []))
+
+-- So are the rows that the other processes hold.
+abbrev pub OthersLeaveGood : Type 0
+OthersLeaveGood = (plan : Plan) (start : Contents) (words schedule : List ℕ) (p : ℕ) (s t : State) (claims : ℕ) (m : Contents) (n : ℕ) (pairs : Contents)
+    (effect : Option Effect) → IsStepOf plan start words schedule p s t claims m
+    → Follows plan.shape n (calm_of plan words schedule) (calm_of plan words (schedule ++ p ∷ [])) pairs (IsGoneBy effect) (IsFreshBy effect)
+    → ((b : ℕ) → IsGoneBy effect b → is_obsolete (slice_index t.words b) ≡ true) → (r : ℕ) (call : Call) (q : Process) → r ≢ p → IsOpen s r call q
+    → HoldsGood plan.shape (calm_of plan words schedule) call q → HoldsGood plan.shape (calm_of plan words (schedule ++ p ∷ [])) call q
+
+-- A call on its way that has found nothing is not answered.
+abbrev pub SeekersAreNotAnswered : Type 0
+SeekersAreNotAnswered = (shape : Shape) (call : Call) (calm words : List ℕ) (stage : Stage) (reply : Reply)
+    → KnowsWay (setting shape Coupled call) calm words None stage → turn_at (setting shape Coupled call) stage ≡ Answers reply → ⊥

@@ -1,0 +1,113 @@
+-- What a call on a key knows under lock coupling at each stage at which it is not at work.
+use Rattle.std.specs.Prelude.{◌≡◌, ℕ, Bool, true, false, List, slice_index, Option, Some, None}
+use Rattle.events.specs.declared.event.Reply.{Reply}
+use Rattle.events.specs.declared.event.Reply.TheVariants as reply
+use Rattle.art_rows.specs.declared.table.Kind.TheVariants.{Sixteen, FortyEight}
+use Rattle.art_rows.specs.declared.table.Child.TheVariants.{Row as ChildRow}
+use Rattle.art_rows.specs.Table.{keys_at, index_at, count_at}
+use Rattle.art_rows.specs.Words.{is_obsolete, key_bytes, first_difference}
+use Rattle.art_steps.specs.Rows.{Setting, key_of, is_insert}
+use Rattle.art_stages.specs.declared.stage.Held.{Held}
+use Rattle.art_stages.specs.declared.stage.Finding.{Finding}
+use Rattle.art_stages.specs.declared.stage.Finding.TheVariants.{Has, Lacks}
+use Rattle.art_stages.specs.declared.stage.Keys.{Keys}
+use Rattle.art_stages.specs.declared.stage.Position.{Position}
+use Rattle.art_stages.specs.declared.stage.Down.{Down}
+use Rattle.art_stages.specs.declared.stage.Target.{Target}
+use Rattle.art_stages.specs.declared.stage.Target.TheVariants.{Root, Below, Taken}
+use Rattle.art_stages.specs.declared.stage.Outcome.{Outcome}
+use Rattle.art_stages.specs.declared.stage.Stage.{Stage}
+use Rattle.art_stages.specs.declared.stage.Stage.TheVariants.{Lock, Exchange, Between, Info, Find, FindKeys, FindMore, FindCount, Slot, LetGo, Unlock, Over}
+use Rattle.art_stages.specs.Stages.{byte_in, reply_for}
+use Rattle.art_core.specs.Meaning.{Reached, slot_of}
+use Rattle.art_core.specs.Forms.{level_in, path_in}
+use Rattle.art_serial.specs.trees.Trees.{SameRow, LeadsTo}
+use Rattle.art_versions.specs.versions.Holding.{Each}
+use Rattle.art_versions.specs.versions.Locking.{rows_held}
+use Rattle.art_schedules.specs.work.Works.{LacksByte}
+use Rattle.art_schedules.specs.coupled.Begins.{IsOnWay, HasChild, Hangs}
+
+-- A row that the call holds and has not written to: behind its version the words are the calm ones, and it was not obsolete when it was locked.
+pub record IsOwn (calm words : List ℕ) (n : Held) : Type 0 where
+  pub same : SameRow calm words n.base n.kind
+  pub live : is_obsolete n.kept ≡ false
+
+-- the row below hangs on the key's byte of the row above, to which the key's way leads
+abbrev pub IsBelow : Setting → List ℕ → Down → Type 0
+IsBelow c calm d = Hangs c calm d.above d.slot (ChildRow d.base d.kind)
+
+abbrev pub KnowsTarget : Setting → List ℕ → Target → Type 0
+KnowsTarget c calm Root = Unit {0}
+KnowsTarget c calm (Below d) = IsBelow c calm d
+KnowsTarget c calm (Taken t) = ⊥
+
+-- the row hangs on the key's byte of the row above, if there is one
+abbrev pub HangsBelow : Setting → List ℕ → Held → ℕ → Option Held → Type 0
+HangsBelow c calm n slot None = Unit {0}
+HangsBelow c calm n slot (Some above) = Hangs c calm above slot (ChildRow n.base n.kind)
+
+-- At a row: an insert holds the row above too. Here and below the flag says that the call is an insert.
+abbrev pub KnowsPlace : Bool → Setting → List ℕ → Position → Type 0
+KnowsPlace true c calm p = IsOnWay c calm p.row × HangsBelow c calm p.row p.slot p.above
+KnowsPlace false c calm p = IsOnWay c calm p.row
+
+-- the row has the slot for the key's byte, or no slot
+abbrev pub slot_in : Setting → List ℕ → Held → Option ℕ
+slot_in c calm n = slot_of calm n.base n.kind (byte_in c n)
+
+-- what was read of a row that has not the byte: only an insert has to know it
+abbrev pub KnowsKeys : Bool → Setting → List ℕ → Held → Keys → Type 0
+KnowsKeys true c calm n keys = LacksByte c n keys calm
+KnowsKeys false c calm n keys = slot_in c calm n ≡ None
+
+-- What FIND saw is so of the calm row.
+abbrev pub KnowsFinding : Bool → Setting → List ℕ → Held → Finding → Type 0
+KnowsFinding i c calm n (Has slot child) = HasChild c calm n slot child
+KnowsFinding i c calm n (Lacks keys) = KnowsKeys i c calm n keys
+
+-- Once a get, a remove or a replace has let the row above go, the key's way leads to the row below, where the key may be;
+abbrev pub KnowsInfo : Bool → Setting → List ℕ → Down → Type 0
+KnowsInfo true c calm d = IsBelow c calm d
+KnowsInfo false c calm d = LeadsTo c.shape calm (key_of c.call) d.base d.kind (slice_index (key_bytes (key_of c.call)) (level_in calm d.base d.kind))
+
+-- or the path of that row differs from the key, which then was absent.
+abbrev pub IsPassed : Bool → Setting → List ℕ → Down → Type 0
+IsPassed true c calm d = ⊥
+IsPassed false c calm d =
+    Reached c.shape calm d.base d.kind × ((at : ℕ) × (first_difference (path_in calm d.base d.kind) (key_bytes (key_of c.call)) ≡ Some at))
+
+-- What is so where the call has found nothing yet,
+abbrev pub KnowsStage : Bool → Setting → List ℕ → Stage → Type 0
+KnowsStage i c calm (Lock t first) = KnowsTarget c calm t
+KnowsStage i c calm (Exchange t v) = KnowsTarget c calm t
+KnowsStage i c calm (Between d kept) = IsBelow c calm d
+KnowsStage i c calm (Info d kept) = KnowsInfo i c calm d
+KnowsStage i c calm (Find p) = KnowsPlace i c calm p
+KnowsStage i c calm (FindKeys p count) = KnowsPlace i c calm p × (p.row.kind ≡ Sixteen) × (count ≡ slice_index calm (count_at Sixteen p.row.base))
+KnowsStage i c calm (FindMore p count first) =
+    KnowsPlace i c calm p × (p.row.kind ≡ Sixteen) × (count ≡ slice_index calm (count_at Sixteen p.row.base)) × (first ≡ slice_index calm (keys_at p.row.base))
+KnowsStage i c calm (FindCount p index) =
+    KnowsPlace i c calm p × (p.row.kind ≡ FortyEight) × (index ≡ slice_index calm (index_at p.row.base (byte_in c p.row))) × (slot_in c calm p.row ≡ None)
+KnowsStage i c calm (Slot p slot) = KnowsPlace i c calm p × (slot_in c calm p.row ≡ Some slot)
+KnowsStage i c calm (LetGo above p f) = IsOnWay c calm p.row × KnowsFinding i c calm p.row f × Reached c.shape calm above.base above.kind
+KnowsStage i c calm stage = ⊥
+
+abbrev pub IsOutcome : Reply → Option Outcome → Type 0
+IsOutcome r None = ⊥
+IsOutcome r (Some outcome) = r ≡ reply_for outcome
+
+-- and where it has found, at some moment, that it can be answered so.
+abbrev pub KnowsReply : Reply → Bool → Setting → List ℕ → Stage → Type 0
+KnowsReply r i c calm (Info d kept) = (r ≡ reply.None) × IsPassed i c calm d
+KnowsReply r i c calm (Unlock h outcome) = (h.above ≡ None) × IsOutcome r outcome × Reached c.shape calm h.row.base h.row.kind
+KnowsReply r i c calm (Over outcome) = r ≡ reply_for outcome
+KnowsReply r i c calm stage = ⊥
+
+abbrev pub KnowsAt : Option Reply → Bool → Setting → List ℕ → Stage → Type 0
+KnowsAt None i c calm stage = KnowsStage i c calm stage
+KnowsAt (Some r) i c calm stage = KnowsReply r i c calm stage
+
+-- What a call that has not begun its work knows: of calm by its stage, where `found` is the reply that it has found, if any, and of the rows that it holds.
+pub record KnowsWay (c : Setting) (calm words : List ℕ) (found : Option Reply) (stage : Stage) : Type 0 where
+  pub way : KnowsAt found (is_insert c.call) c calm stage
+  pub rows : Each (IsOwn calm words) (rows_held true (is_insert c.call) stage)

@@ -1,0 +1,167 @@
+-- What a call on a key of the optimistic tree knows at each stage at which it is not at work. It holds no row on its way: all that it knows of a row is so
+-- where the version that it has kept is still the row's.
+use Rattle.std.specs.Prelude.{◌≡◌, ℕ, ◌≤◌, Bool, true, false, List, slice_index, Option, Some, None}
+use Rattle.events.specs.declared.event.Reply.{Reply}
+use Rattle.events.specs.declared.event.Reply.TheVariants as reply
+use Rattle.art_rows.specs.declared.table.Shape.{Shape}
+use Rattle.art_rows.specs.declared.table.Kind.TheVariants.{Sixteen, FortyEight}
+use Rattle.art_rows.specs.declared.table.Child.{Child}
+use Rattle.art_rows.specs.declared.table.Child.TheVariants.{Row as ChildRow}
+use Rattle.art_rows.specs.Table.{info_at, keys_at, index_at, count_at}
+use Rattle.art_rows.specs.Words.{key_bytes, first_difference, child_of}
+use Rattle.art_steps.specs.Rows.{Setting, key_of, is_insert}
+use Rattle.art_stages.specs.declared.stage.Held.{Held}
+use Rattle.art_stages.specs.declared.stage.Keys.{Keys}
+use Rattle.art_stages.specs.declared.stage.Finding.{Finding}
+use Rattle.art_stages.specs.declared.stage.Finding.TheVariants.{Has, Lacks}
+use Rattle.art_stages.specs.declared.stage.Position.{Position}
+use Rattle.art_stages.specs.declared.stage.Down.{Down}
+use Rattle.art_stages.specs.declared.stage.Hold.{Hold}
+use Rattle.art_stages.specs.declared.stage.Taking.{Taking}
+use Rattle.art_stages.specs.declared.stage.Target.{Target}
+use Rattle.art_stages.specs.declared.stage.Target.TheVariants.{Root, Below, Taken}
+use Rattle.art_stages.specs.declared.stage.Stage.{Stage}
+use Rattle.art_stages.specs.declared.stage.Stage.TheVariants.{Wait, Between, Info, Find, FindKeys, FindMore}
+use Rattle.art_stages.specs.declared.stage.Stage.TheVariants.{FindCount, Slot, Check, CheckLast, Take, Unlock, Over}
+use Rattle.art_stages.specs.Stages.{byte_in, reply_for}
+use Rattle.art_core.specs.Meaning.{Reached, slot_of}
+use Rattle.art_core.specs.Forms.{path_in}
+use Rattle.art_serial.specs.trees.Trees.{SameRow, LeadsTo}
+use Rattle.art_versions.specs.versions.Holding.{Each, rows_kept}
+use Rattle.art_versions.specs.versions.Locking.{rows_held, all_of}
+use Rattle.art_schedules.specs.work.Works.{LacksByte}
+use Rattle.art_schedules.specs.effects.Begins.{BeginsWork}
+
+-- The key's way leads to the row, whose info the call has read, so that level, path and byte are those of the calm table.
+pub record IsOnWay (c : Setting) (calm : List ℕ) (n : Held) : Type 0 where
+  pub leads : LeadsTo c.shape calm (key_of c.call) n.base n.kind (byte_in c n)
+  pub info : slice_index calm (info_at n.base) ≡ n.info
+
+-- the slot for the key's byte, if the calm row has one
+abbrev pub slot_in : Setting → List ℕ → Held → Option ℕ
+slot_in c calm n = slot_of calm n.base n.kind (byte_in c n)
+
+-- The row has the slot for the key's byte, and in it this child.
+pub record HasChild (c : Setting) (calm : List ℕ) (n : Held) (slot : ℕ) (child : Child) : Type 0 where
+  pub at : slot_in c calm n ≡ Some slot
+  pub has : child_of c.shape (slice_index calm slot) ≡ child
+
+-- The key's way leads to the row, on whose byte of the key this child hangs, in this slot.
+abbrev pub Hangs : Setting → List ℕ → Held → ℕ → Child → Type 0
+Hangs c calm n slot child = IsOnWay c calm n × HasChild c calm n slot child
+
+-- the version that was kept is still the row's: it is neither locked nor obsolete, and calm has its words
+abbrev pub Stands : List ℕ → Held → Type 0
+Stands words n = slice_index words n.base ≡ n.kept
+
+-- the row below hangs on the key's byte of the row above, if that stands
+abbrev pub IsBelow : Setting → List ℕ → List ℕ → Down → Type 0
+IsBelow c calm words d = Stands words d.above → Hangs c calm d.above d.slot (ChildRow d.base d.kind)
+
+abbrev pub KnowsTarget : Setting → List ℕ → List ℕ → Target → Type 0
+KnowsTarget c calm words Root = Unit {0}
+KnowsTarget c calm words (Below d) = IsBelow c calm words d
+KnowsTarget c calm words (Taken t) = ⊥
+
+abbrev pub HangsBelow : Setting → List ℕ → List ℕ → Held → ℕ → Option Held → Type 0
+HangsBelow c calm words n slot None = Unit {0}
+HangsBelow c calm words n slot (Some above) = Stands words above → Hangs c calm above slot (ChildRow n.base n.kind)
+
+-- at a row: it is *led*, and so is the row above it
+abbrev pub IsLed : Setting → List ℕ → List ℕ → Held → Type 0
+IsLed c calm words n = Stands words n → IsOnWay c calm n
+
+abbrev pub KnowsPlace : Setting → List ℕ → List ℕ → Position → Type 0
+KnowsPlace c calm words p = IsLed c calm words p.row × HangsBelow c calm words p.row p.slot p.above
+
+-- What was read of a row that has not the byte: only an insert has to know it. The flag says that the call is an insert.
+abbrev pub KnowsKeys : Bool → Setting → List ℕ → Held → Keys → Type 0
+KnowsKeys true c calm n keys = LacksByte c n keys calm
+KnowsKeys false c calm n keys = slot_in c calm n ≡ None
+
+-- What FIND saw is so of the calm row.
+abbrev pub KnowsFinding : Bool → Setting → List ℕ → Held → Finding → Type 0
+KnowsFinding i c calm n (Has slot child) = HasChild c calm n slot child
+KnowsFinding i c calm n (Lacks keys) = KnowsKeys i c calm n keys
+
+-- Behind the check of the row above, the row below is reached, if it stands; where the call is no insert, its path differs nowhere from the key,
+abbrev pub PathFollows : Bool → Setting → List ℕ → Down → Type 0
+PathFollows true c words d = Unit {0}
+PathFollows false c words d = first_difference (path_in words d.base d.kind) (key_bytes (key_of c.call)) ≡ None
+
+-- or it does, and the key was absent at that check.
+abbrev pub PathDiffers : Bool → Setting → List ℕ → Down → Type 0
+PathDiffers true c words d = ⊥
+PathDiffers false c words d = (x : ℕ) × (first_difference (path_in words d.base d.kind) (key_bytes (key_of c.call)) ≡ Some x)
+
+abbrev pub IsReachedBelow : Setting → List ℕ → List ℕ → Down → ℕ → Type 0
+IsReachedBelow c calm words d kept = slice_index words d.base ≡ kept → Reached c.shape calm d.base d.kind
+
+-- Rows are taken: the rows that will be held, and those that are not taken yet.
+abbrev pub hold_taken : Held → Option Held → Option Held → Hold
+hold_taken row above None = record { row = row; above = above }
+hold_taken row above (Some below) = record { row = below; above = Some row }
+
+abbrev pub AllStand : List ℕ → Held → Option Held → Type 0
+AllStand words row None = Stands words row
+AllStand words row (Some below) = Stands words row × Stands words below
+
+-- each row that stands is reached; and where all of them stand, the work can begin
+abbrev pub IsReachedHere : Setting → List ℕ → List ℕ → Held → Type 0
+IsReachedHere c calm words n = Stands words n → Reached c.shape calm n.base n.kind
+
+abbrev pub KnowsTaking : Setting → List ℕ → List ℕ → Taking → Type 0
+KnowsTaking c calm words t =
+    IsReachedHere c calm words t.row × Each (IsReachedHere c calm words) (all_of t.below)
+    × (AllStand words t.row t.below → BeginsWork c calm (hold_taken t.row t.held t.below) t.work)
+
+-- where a row that was taken is given back, nothing has been done
+abbrev pub GivesBack : Hold → Option Rattle.art_stages.specs.declared.stage.Outcome.Outcome → Type 0
+GivesBack h None = h.above ≡ None
+GivesBack h (Some outcome) = ⊥
+
+-- What is so where the call has found nothing yet,
+abbrev pub KnowsStage : Bool → Setting → List ℕ → List ℕ → Stage → Type 0
+KnowsStage i c calm words (Wait t) = KnowsTarget c calm words t
+KnowsStage i c calm words (Between d kept) = IsBelow c calm words d
+KnowsStage i c calm words (Info d kept) = IsBelow c calm words d × IsReachedBelow c calm words d kept × PathFollows i c words d
+KnowsStage i c calm words (Find p) = KnowsPlace c calm words p
+KnowsStage i c calm words (FindKeys p count) =
+    KnowsPlace c calm words p × (p.row.kind ≡ Sixteen) × (Stands words p.row → count ≡ slice_index calm (count_at Sixteen p.row.base))
+KnowsStage i c calm words (FindMore p count first) =
+    KnowsPlace c calm words p × (p.row.kind ≡ Sixteen)
+    × (Stands words p.row → (count ≡ slice_index calm (count_at Sixteen p.row.base)) × (first ≡ slice_index calm (keys_at p.row.base)))
+KnowsStage i c calm words (FindCount p index) =
+    KnowsPlace c calm words p × (p.row.kind ≡ FortyEight)
+    × (Stands words p.row → (index ≡ slice_index calm (index_at p.row.base (byte_in c p.row))) × (slot_in c calm p.row ≡ None))
+KnowsStage i c calm words (Slot p slot) = KnowsPlace c calm words p × (Stands words p.row → slot_in c calm p.row ≡ Some slot)
+KnowsStage i c calm words (Check p f) = KnowsPlace c calm words p × (Stands words p.row → KnowsFinding i c calm p.row f)
+KnowsStage i c calm words (Take t) = KnowsTaking c calm words t
+KnowsStage i c calm words (Unlock h outcome) = GivesBack h outcome
+KnowsStage i c calm words stage = ⊥
+
+-- and where it has found, at some moment, that it can be answered so.
+abbrev pub KnowsReply : Reply → Bool → Setting → List ℕ → Stage → Type 0
+KnowsReply r i c words (Info d kept) = (r ≡ reply.None) × PathDiffers i c words d
+KnowsReply r i c words (CheckLast n) = r ≡ reply.None
+KnowsReply r i c words (Over outcome) = r ≡ reply_for outcome
+KnowsReply r i c words stage = ⊥
+
+abbrev pub KnowsAt : Option Reply → Bool → Setting → List ℕ → List ℕ → Stage → Type 0
+KnowsAt None i c calm words stage = KnowsStage i c calm words stage
+KnowsAt (Some r) i c calm words stage = KnowsReply r i c words stage
+
+-- a version that was kept is not above the row's
+abbrev pub IsPast : List ℕ → Held → Type 0
+IsPast words n = n.kept ≤ slice_index words n.base
+
+-- a row that the call holds and has not written to: it is reached, and behind its version the words are the calm ones
+abbrev pub IsOwn : Shape → List ℕ → List ℕ → Held → Type 0
+IsOwn s calm words n = SameRow calm words n.base n.kind × Reached s calm n.base n.kind
+
+-- What a call that has not begun its work knows: of calm by its stage, where `found` is the reply that it has found, if any; of the versions that it has
+-- kept; and of the rows that it holds.
+pub record KnowsWay (c : Setting) (calm words : List ℕ) (found : Option Reply) (stage : Stage) : Type 0 where
+  pub way : KnowsAt found (is_insert c.call) c calm words stage
+  pub kept : Each (IsPast words) (rows_kept false (is_insert c.call) stage)
+  pub rows : Each (IsOwn c.shape calm words) (rows_held false (is_insert c.call) stage)

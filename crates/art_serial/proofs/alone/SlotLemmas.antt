@@ -1,0 +1,212 @@
+-- The slots of a row: where they are, that two bytes have two, and that they depend on the row's words before its children alone.
+use Rattle.std.proofs.Common.{◌≡◌, ℕ, zero, suc, ◌+◌, ◌-◌, ◌/◌, ◌%◌, ◌<◌, ◌≤◌, ◌==◌, List, [], ◌∷◌, length, slice_index, map, Option, Some, None, option_map}
+use Rattle.std.proofs.Common.{Bool, true, false, if◌then◌else◌, refl, sym, ap, ◌∙◌, subst, arith, nat_le, eqb-true}
+use Rattle.std.proofs.lemmas.Option.{none-some, same_Some}
+use Rattle.events.specs.declared.event.Call.{Call}
+use Rattle.art_rows.specs.declared.table.Kind.{Kind}
+use Rattle.art_rows.specs.declared.table.Kind.TheVariants.{Four, Sixteen, FortyEight, Full}
+use Rattle.art_rows.specs.Table.{row_words, first_child, keys_at, more_keys_at, index_at, count_at, child_at}
+use Rattle.art_rows.specs.Words.{place_of, keys4_of, keys16_of, entries_of, entry_of, low_bytes, child_of, count_of}
+use Rattle.art_rows.proofs.ReaderLemmas.{most_of}
+use Rattle.art_rows.proofs.WriterLemmas.{length-keys16, length-keys4}
+use Rattle.art_steps.specs.Rows.{Setting, is_insert, Found, Has}
+use Rattle.art_core.specs.Meaning.{slot_of, entry_slot}
+use Rattle.art_core.specs.Forms.{HasForm}
+use Rattle.art_serial.specs.trees.Trees.{SameRow}
+use Rattle.art_serial.specs.alone.Finding.{keys_in, count_in, found_of, found_in}
+
+-- ---- where slots are
+
+-- the byte at the place of a byte
+place_byte : (x : ℕ) (ys : List ℕ) (i : ℕ) → place_of x ys ≡ Some i → (i < length ys) × (slice_index ys i ≡ x)
+place_byte x [] i h = absurd (none-some i h)
+place_byte x (y ∷ ys) i h = go (y == x) refl (λ k is. place_byte x ys k is) h
+  where
+    later : (o : Option ℕ) → ((k : ℕ) → o ≡ Some k → (k < length ys) × (slice_index ys k ≡ x)) → option_map (λ k. k + 1) o ≡ Some i
+        → (i < suc (length ys)) × (slice_index (y ∷ ys) i ≡ x)
+    later None low e = absurd (none-some i e)
+    later (Some k) low e =
+        let is : i ≡ suc k = omega (arith, same_Some (k + 1) i e) in
+        (omega (arith, (low k refl).0, is), ap (λ n. slice_index (y ∷ ys) n) is ∙ (low k refl).1)
+
+    go : (b : Bool) → (y == x) ≡ b → ((k : ℕ) → place_of x ys ≡ Some k → (k < length ys) × (slice_index ys k ≡ x))
+        → (if b then Some 0 else option_map (λ k. k + 1) (place_of x ys)) ≡ Some i → (i < suc (length ys)) × (slice_index (y ∷ ys) i ≡ x)
+    go true is low e =
+        let first : i ≡ 0 = sym (same_Some 0 i e) in
+        (omega (arith, first), ap (λ n. slice_index (y ∷ ys) n) first ∙ eqb-true y x is)
+    go false is low e = later (place_of x ys) low e
+
+-- an index entry is at most 48
+entry_most : (e : ℕ) → entry_of e ≤ 48
+entry_most e = go (nat_le e 48) refl
+  where
+    go : (b : Bool) → nat_le e 48 ≡ b → (if b then e else 0) ≤ 48
+    go true h = grind (arith, h)
+    go false h = omega arith
+
+entries_most : (ys : List ℕ) (i : ℕ) → slice_index (map entry_of ys) i ≤ 48
+entries_most [] i = omega arith
+entries_most (y ∷ ys) zero = entry_most y
+entries_most (y ∷ ys) (suc i) = entries_most ys i
+
+-- a child's word in the row
+pub record IsSlot (base : ℕ) (kind : Kind) (slot : ℕ) : Type 0 where
+  pub place : ℕ
+  pub is : slot ≡ base + place
+  pub low : first_child kind ≤ place
+  pub high : place < row_words kind
+
+-- the place of a slot
+placed : (base : ℕ) (kind : Kind) (o : Option ℕ) (slot : ℕ) → option_map (child_at kind base) o ≡ Some slot
+    → (i : ℕ) × (o ≡ Some i) × (slot ≡ base + first_child kind + i)
+placed base kind None slot e = absurd (none-some slot e)
+placed base kind (Some i) slot e = (i, refl, sym (same_Some (base + first_child kind + i) slot e))
+
+entry_placed : (base e slot : ℕ) (b : Bool) → (e == 0) ≡ b → e ≤ 48 → (if b then None else Some (child_at FortyEight base (e - 1))) ≡ Some slot
+    → IsSlot base FortyEight slot
+entry_placed base e slot true is most h = absurd (none-some slot h)
+entry_placed base e slot false is most h =
+    let same = same_Some (child_at FortyEight base (e - 1)) slot h in
+    record { place = 35 + (e - 1); is = omega (arith, same); low = omega arith; high = omega (arith, most) }
+
+-- the slot of a byte is a child's word in the row
+pub slot-is : (words : List ℕ) (base : ℕ) (kind : Kind) (x slot : ℕ) → x < 256 → slot_of words base kind x ≡ Some slot → IsSlot base kind slot
+slot-is words base Four x slot byte h =
+    let keys = keys4_of (slice_index words (keys_at base)) in
+    let (i, at, is) = placed base Four (place_of x keys) slot h in
+    record {
+      place = 3 + i;
+      is = omega (arith, is);
+      low = omega arith;
+      high = omega (arith, (place_byte x keys i at).0, few (slice_index words (keys_at base)));
+    }
+  where
+    few : (w : ℕ) → length (keys4_of w) ≤ 4
+    few w = grind (arith, length-keys4 w)
+slot-is words base Sixteen x slot byte h =
+    let count = slice_index words (count_at Sixteen base) in
+    let first = slice_index words (keys_at base) in
+    let second = slice_index words (more_keys_at base) in
+    let (i, at, is) = placed base Sixteen (place_of x (keys16_of count first second)) slot h in
+    record {
+      place = 5 + i;
+      is = omega (arith, is);
+      low = omega arith;
+      high = omega (arith, (place_byte x (keys16_of count first second) i at).0, length-keys16 count first second, most_of count);
+    }
+slot-is words base FortyEight x slot byte h =
+    let e = slice_index (entries_of (slice_index words (index_at base x))) (x % 8) in
+    entry_placed base e slot (e == 0) refl (entries_most (low_bytes 8 (slice_index words (index_at base x))) (x % 8)) h
+slot-is words base Full x slot byte h =
+    let same = same_Some (child_at Full base x) slot h in
+    record { place = 2 + x; is = omega (arith, same); low = omega arith; high = omega (arith, byte) }
+
+-- two bytes have two slots
+pub slot-once : (words : List ℕ) (base : ℕ) (kind : Kind) (x y slot : ℕ) → HasForm words base kind → x < 256 → y < 256
+    → slot_of words base kind x ≡ Some slot → slot_of words base kind y ≡ Some slot → x ≡ y
+slot-once words base Four x y slot form bx by h k =
+    let keys = keys4_of (slice_index words (keys_at base)) in
+    let (i, at, is) = placed base Four (place_of x keys) slot h in
+    let (j, at2, is2) = placed base Four (place_of y keys) slot k in
+    let same : i ≡ j = omega (arith, is, is2) in
+    sym (place_byte x keys i at).1 ∙ (ap (λ n. slice_index keys n) same ∙ (place_byte y keys j at2).1)
+slot-once words base Sixteen x y slot form bx by h k =
+    let keys = keys16_of (slice_index words (count_at Sixteen base)) (slice_index words (keys_at base)) (slice_index words (more_keys_at base)) in
+    let (i, at, is) = placed base Sixteen (place_of x keys) slot h in
+    let (j, at2, is2) = placed base Sixteen (place_of y keys) slot k in
+    let same : i ≡ j = omega (arith, is, is2) in
+    sym (place_byte x keys i at).1 ∙ (ap (λ n. slice_index keys n) same ∙ (place_byte y keys j at2).1)
+slot-once words base FortyEight x y slot form bx by h k = form.1 x y slot bx by h k
+slot-once words base Full x y slot form bx by h k =
+    omega (arith, same_Some (child_at Full base x) slot h, same_Some (child_at Full base y) slot k)
+
+-- ---- what the slots depend on
+
+-- the words of the row between its version and its children are the same
+abbrev pub SameKeys : List ℕ → List ℕ → ℕ → Kind → Type 0
+SameKeys words later base kind = (j : ℕ) → 1 ≤ j → j < first_child kind → slice_index later (base + j) ≡ slice_index words (base + j)
+
+pub row-keys : (words later : List ℕ) (base : ℕ) (kind : Kind) → SameRow words later base kind → SameKeys words later base kind
+row-keys words later base Four same j low high = same j low (omega (arith, high))
+row-keys words later base Sixteen same j low high = same j low (omega (arith, high))
+row-keys words later base FortyEight same j low high = same j low (omega (arith, high))
+row-keys words later base Full same j low high = same j low (omega (arith, high))
+
+module _ (words later : List ℕ) (base : ℕ) where
+  index_same : (x : ℕ) → x < 256 → SameKeys words later base FortyEight → slice_index later (index_at base x) ≡ slice_index words (index_at base x)
+  index_same x byte same =
+      let is : index_at base x ≡ base + (2 + x / 8) = omega arith in
+      ap (λ n. slice_index later n) is ∙ (same (2 + x / 8) (omega arith) (omega (arith, byte)) ∙ ap (λ n. slice_index words n) (sym is))
+
+  pub keys-same : (kind : Kind) (x : ℕ) → x < 256 → SameKeys words later base kind → keys_in later base kind x ≡ keys_in words base kind x
+  keys-same Four x byte same = ap keys4_of (same 2 (omega arith) (omega arith))
+  keys-same Sixteen x byte same =
+      ap (λ w. keys16_of w (slice_index later (keys_at base)) (slice_index later (more_keys_at base))) (same 4 (omega arith) (omega arith))
+      ∙ (ap (λ w. keys16_of (slice_index words (count_at Sixteen base)) w (slice_index later (more_keys_at base))) (same 2 (omega arith) (omega arith))
+      ∙ ap (λ w. keys16_of (slice_index words (count_at Sixteen base)) (slice_index words (keys_at base)) w) (same 3 (omega arith) (omega arith)))
+  keys-same FortyEight x byte same = ap entries_of (index_same x byte same)
+  keys-same Full x byte same = refl
+
+  pub slot-same : (kind : Kind) (x : ℕ) → x < 256 → SameKeys words later base kind → slot_of later base kind x ≡ slot_of words base kind x
+  slot-same Four x byte same = ap (λ keys. option_map (child_at Four base) (place_of x keys)) (keys-same Four x byte same)
+  slot-same Sixteen x byte same = ap (λ keys. option_map (child_at Sixteen base) (place_of x keys)) (keys-same Sixteen x byte same)
+  slot-same FortyEight x byte same = ap (λ keys. entry_slot base (slice_index keys (x % 8))) (keys-same FortyEight x byte same)
+  slot-same Full x byte same = refl
+
+  pub count-same : (call : Call) (kind : Kind) (x : ℕ) → x < 256 → SameKeys words later base kind
+      → count_in call later base kind x ≡ count_in call words base kind x
+  count-same call Four x byte same = ap length (keys-same Four x byte same)
+  count-same call Sixteen x byte same = ap length (keys-same Sixteen x byte same)
+  count-same call FortyEight x byte same = ap (λ w. if is_insert call then count_of 48 w else 0) (same 34 (omega arith) (omega arith))
+  count-same call Full x byte same = refl
+
+  -- the form of the row
+  pub form-same : (kind : Kind) → SameKeys words later base kind → HasForm words base kind → HasForm later base kind
+  form-same Four same (keys, word, rest, rising, small) = (keys, same 2 (omega arith) (omega arith) ∙ word, rest, rising, small)
+  form-same Sixteen same (keys, first, second, count, rest, rising, small) = (
+    keys,
+    same 2 (omega arith) (omega arith) ∙ first,
+    same 3 (omega arith) (omega arith) ∙ second,
+    same 4 (omega arith) (omega arith) ∙ count,
+    rest,
+    rising,
+    small,
+  )
+  form-same FortyEight same (few, once, each, below) =
+      let count : slice_index later (count_at FortyEight base) ≡ slice_index words (count_at FortyEight base) = same 34 (omega arith) (omega arith) in
+      let slot = λ (x : ℕ) (byte : x < 256). slot-same FortyEight x byte same in (
+        subst (λ n. n ≤ 48) (sym count) few,
+        λ x y e byte other here there. once x y e byte other (sym (slot x byte) ∙ here) (sym (slot y other) ∙ there),
+        λ i low.
+            let (x, byte, is) = each i (subst (λ n. i < n) count low) in
+            (x, byte, slot x byte ∙ is),
+        λ x i byte here. subst (λ n. i < n) (sym count) (below x i byte (sym (slot x byte) ∙ here)),
+      )
+  form-same Full same h = tt
+
+  -- what is found of a byte
+  pub found-same : (c : Setting) (kind : Kind) (x : ℕ) → x < 256 → SameRow words later base kind → found_in c later base kind x ≡ found_in c words base kind x
+  found-same c kind x byte same =
+      let keys = row-keys words later base kind same in
+      ap (λ o. found_of c.shape later (keys_in later base kind x) (count_in c.call later base kind x) o) (slot-same kind x byte keys)
+      ∙ (ap (λ n. found_of c.shape later (keys_in later base kind x) n (slot_of words base kind x)) (count-same c.call kind x byte keys)
+      ∙ (ap (λ ks. found_of c.shape later ks (count_in c.call words base kind x) (slot_of words base kind x)) (keys-same kind x byte keys)
+      ∙ go (slot_of words base kind x) refl))
+    where
+      go : (o : Option ℕ) → slot_of words base kind x ≡ o
+          → found_of c.shape later (keys_in words base kind x) (count_in c.call words base kind x) o
+          ≡ found_of c.shape words (keys_in words base kind x) (count_in c.call words base kind x) o
+      go None e = refl
+      go (Some slot) e =
+          let at = slot-is words base kind x slot byte e in
+          ap (λ w. found_of_word w) (ap (λ n. slice_index later n) at.is ∙ (same at.place (early kind at.low) at.high
+          ∙ ap (λ n. slice_index words n) (sym at.is)))
+        where
+          found_of_word : ℕ → Found
+          found_of_word w = Has slot (child_of c.shape w)
+
+          early : (k : Kind) → {j : ℕ} → first_child k ≤ j → 1 ≤ j
+          early Four h = omega (arith, h)
+          early Sixteen h = omega (arith, h)
+          early FortyEight h = omega (arith, h)
+          early Full h = omega (arith, h)

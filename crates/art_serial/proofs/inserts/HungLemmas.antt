@@ -1,0 +1,64 @@
+-- What comes of the change of one child's word in a row.
+use Rattle.std.proofs.Common.{◌≡◌, ℕ, ◌+◌, ◌<◌, ◌≤◌, List, slice_index, Option, Some, None, refl, sym, ap, ◌∙◌, arith}
+use Rattle.art_rows.specs.declared.table.Shape.{Shape}
+use Rattle.art_rows.specs.declared.table.Kind.{Kind}
+use Rattle.art_rows.specs.declared.table.Kind.TheVariants.{Four, Sixteen, FortyEight, Full}
+use Rattle.art_rows.specs.declared.table.Child.{Child}
+use Rattle.art_rows.specs.Table.{row_words, first_child}
+use Rattle.art_rows.specs.Words.{child_of}
+use Rattle.art_core.specs.Meaning.{Reached, child_in, slot_of}
+use Rattle.art_core.specs.Forms.{HasForm}
+use Rattle.art_serial.specs.trees.Trees.{IsAtRest, ChangesAt}
+use Rattle.art_serial.proofs.alone.PlaceLemmas.{sits-part}
+use Rattle.art_serial.proofs.alone.SlotLemmas.{IsSlot, slot-is, slot-once, slot-same, form-same, SameKeys}
+use Rattle.art_serial.proofs.alone.LikeLemmas.{row_words-some, sits}
+
+first-low : (kind : Kind) → 2 ≤ first_child kind
+first-low Four = omega arith
+first-low Sixteen = omega arith
+first-low FortyEight = omega arith
+first-low Full = omega arith
+
+keys-within : (kind : Kind) (j : ℕ) → j < first_child kind → j < row_words kind
+keys-within Four j h = omega (arith, h)
+keys-within Sixteen j h = omega (arith, h)
+keys-within FortyEight j h = omega (arith, h)
+keys-within Full j h = omega (arith, h)
+
+module _ (s : Shape) (n : ℕ) (words : List ℕ) (rest : IsAtRest s n words) (later : List ℕ) (base slot value x : ℕ) (kind : Kind)
+    (reached : Reached s words base kind) (byte : x < 256) (at : slot_of words base kind x ≡ Some slot)
+    (untouched : (b : ℕ) (k : Kind) → Reached s words b k → (j : ℕ) → 1 ≤ j → j < row_words k → (b + j ≡ slot → ⊥)
+    → slice_index later (b + j) ≡ slice_index words (b + j)) (now : slice_index later slot ≡ value) where
+  is-slot : IsSlot base kind slot
+  is-slot = slot-is words base kind x slot byte at
+
+  elsewhere : {b : ℕ} {k : Kind} → Reached s words b k → (j : ℕ) → j < row_words k → b + j ≡ slot → (b ≡ base) × (j ≡ is-slot.place)
+  elsewhere {b} {k} r j high e =
+      let (kinds, numbers, bases, places) = sits-part s b base j is-slot.place k kind (sits s n words rest r) (sits s n words rest reached) high is-slot.high
+      (e ∙ is-slot.is) in
+      (bases, places)
+
+  same-keys : SameKeys words later base kind
+  same-keys j low high =
+      untouched base kind reached j low (keys-within kind j high)
+      λ e. omega (arith, (elsewhere reached j (keys-within kind j high) e).1, is-slot.low, high)
+
+  pub word-changes : HasForm words base kind → (child : Child) → child_of s value ≡ child → ChangesAt s words later base kind x child
+  word-changes form child is = record {
+    others = λ b k r ne j low high. untouched b k r j low high λ e. ne (elsewhere r j high e).0;
+    info = untouched base kind reached 1 (omega arith) (row_words-some kind)
+        λ e. omega (arith, (elsewhere reached 1 (row_words-some kind) e).1, is-slot.low, first-low kind);
+    form = form-same words later base kind same-keys form;
+    other_bytes = λ y other ne. ap (λ o. child_in s later o) (slot-same words later base kind y other same-keys)
+        ∙ kept y other ne (slot_of words base kind y) refl;
+    here = ap (λ o. child_in s later o) (slot-same words later base kind x byte same-keys ∙ at) ∙ (ap (λ w. child_of s w) now ∙ is);
+  }
+    where
+      kept : (y : ℕ) → y < 256 → (y ≡ x → ⊥) → (o : Option ℕ) → slot_of words base kind y ≡ o → child_in s later o ≡ child_in s words o
+      kept y other ne None e = refl
+      kept y other ne (Some t) e =
+          let its = slot-is words base kind y t other e in
+          ap (λ w. child_of s w) (ap (λ i. slice_index later i) its.is ∙ (untouched base kind reached its.place
+          (omega (arith, its.low, first-low kind)) its.high
+          (λ is. ne (slot-once words base kind y x slot form other byte (e ∙ ap Some (its.is ∙ is)) at))
+          ∙ ap (λ i. slice_index words i) (sym its.is)))

@@ -1,0 +1,13 @@
+use Rattle.art_serial.specs.serial.Composition.{ComesTo, here, stamp, reset, call}
+use Rattle.art_serial.proofs.serial.KeptLemmas.{serial-keeps}
+use Rattle.art_serial.proofs.laws.serial.serial_schedules_compose.Goals as goal
+
+pub returns : goal.returns
+returns c = λ plan first schedule s made start run serial room may.
+    serial-keeps plan first schedule s (ComesTo plan.shape plan.variant made first start) made start run serial room (record {
+      stamps = λ n words m come. stamp come;
+      resets = λ n words m come. reset come;
+      calls = λ n words m c tree few come.
+          let a = may n words m c tree few come in
+          record { last = a.0; reply = a.1; runs = a.2; legal = a.3; keeps = call c a.1 tree few come a.2 a.3 };
+    }) here

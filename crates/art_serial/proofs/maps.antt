@@ -1,0 +1,4 @@
+pub mod LengthLemmas
+pub mod ClockLemmas
+pub mod SerialMapLemmas
+pub mod StartEndLemmas

@@ -1,0 +1,59 @@
+-- Index words of kind 48.
+use Rattle.std.proofs.Common.{◌≡◌, ℕ, ◌+◌, ◌-◌, ◌/◌, ◌%◌, ◌≤◌, List, [], ◌∷◌, length, map, refl, ap, sym, ◌∙◌}
+use Rattle.std.proofs.Common.{Bool, true, false, arith}
+use Rattle.std.specs.Prelude.{◌==◌, nat_le, if◌then◌else◌, slice_index, All, Some, None}
+use Rattle.std.proofs.lemmas.Option.{same_Some, none-some}
+use Rattle.std.proofs.lemmas.List.{length-map}
+use Rattle.std.proofs.lemmas.List.Elements.{All-nil, All-cons}
+use Rattle.art_rows.specs.declared.table.Kind.TheVariants.{FortyEight}
+use Rattle.art_rows.specs.Words.{entry_of, entries_of, low_bytes}
+use Rattle.art_rows.proofs.WriterLemmas.{length-low_bytes}
+use Rattle.art_core.specs.Meaning.{entry_slot, slot_of}
+use Rattle.art_serial.proofs.words.KeyLemmas.{number_is, number_is_not, other_number}
+
+pub length-entries : (w : ℕ) → length (entries_of w) ≡ 8
+length-entries w = length-map (low_bytes 8 w) entry_of ∙ length-low_bytes 8 w
+
+pub entries-most : (w : ℕ) → All (λ e. e ≤ 48) (entries_of w)
+entries-most w = all (low_bytes 8 w)
+  where
+    least : (b : Bool) (e : ℕ) → nat_le e 48 ≡ b → (if b then e else 0) ≤ 48
+    least true e h = grind (arith, h)
+    least false e h = omega arith
+
+    all : (bs : List ℕ) → All (λ e. e ≤ 48) (map entry_of bs)
+    all [] = All-nil (λ e. e ≤ 48)
+    all (b ∷ bs) = All-cons (λ e. e ≤ 48) (entry_of b) (map entry_of bs) (least (nat_le b 48) b refl) (all bs)
+
+-- the entry of a byte
+abbrev pub entry_in : List ℕ → ℕ → ℕ → ℕ
+entry_in words base y = slice_index (entries_of (slice_index words (base + 2 + y / 8))) (y % 8)
+
+pub slot-entry : (words : List ℕ) (base y i : ℕ) → entry_in words base y ≡ i + 1 → slot_of words base FortyEight y ≡ Some (base + 35 + i)
+slot-entry words base y i e =
+    ap (entry_slot base) e ∙ ap (λ b. if b then None else Some (base + 35 + (i + 1 - 1))) (other_number (i + 1) 0 (λ h. omega (arith, h)))
+    ∙ ap (λ k. Some (base + 35 + k)) (less_one i)
+  where
+    less_one : (i : ℕ) → i + 1 - 1 ≡ i
+    less_one i = omega arith
+
+-- the place of the child that an entry names
+pub record IsNamed (base e slot : ℕ) : Type 0 where
+  pub place : ℕ
+  pub entry : e ≡ place + 1
+  pub is : slot ≡ base + 35 + place
+
+pub entry-named : (base e slot : ℕ) → entry_slot base e ≡ Some slot → IsNamed base e slot
+entry-named base e slot h = go (e == 0) refl h
+  where
+    go : (b : Bool) → (e == 0) ≡ b → (if b then None else Some (base + 35 + (e - 1))) ≡ Some slot → IsNamed base e slot
+    go true t h = absurd (none-some slot h)
+    go false t h =
+        record { place = e - 1; entry = omega (arith, number_is_not e 0 t); is = sym (same_Some (base + 35 + (e - 1)) slot h) }
+
+pub entry-none : (base e : ℕ) → entry_slot base e ≡ None → e ≡ 0
+entry-none base e h = go (e == 0) refl h
+  where
+    go : (b : Bool) → (e == 0) ≡ b → (if b then None else Some (base + 35 + (e - 1))) ≡ None → e ≡ 0
+    go true t h = number_is e 0 t
+    go false t h = absurd (none-some (base + 35 + (e - 1)) (sym h))

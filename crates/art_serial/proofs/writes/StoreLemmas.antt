@@ -1,0 +1,72 @@
+-- Words after stores.
+use Rattle.std.proofs.Common.{◌^◌, ⊎_elim, arith, ◌≡◌, ℕ, ◌<◌, List, length, ap, ◌∙◌}
+use Rattle.std.specs.Prelude.{◌≢◌, slice_index, slice_set}
+use Rattle.std.proofs.lemmas.List.{length-set, get_or-set_same, get_or-set_other}
+use Rattle.std.proofs.lemmas.Bool.{cases_lt}
+use Rattle.std.proofs.lemmas.List.{get_or_past}
+use Rattle.std.proofs.lemmas.List.Elements.{All-get_or, All-set}
+use Rattle.art_rows.specs.declared.table.Shape.{Shape}
+use Rattle.art_rows.specs.declared.table.Child.{Child}
+use Rattle.art_rows.specs.Words.{child_of, child_word}
+use Rattle.art_steps.specs.Steps.{give}
+use Rattle.art_steps.specs.Rows.{Setting, load_child}
+use Rattle.art_steps.specs.Updates.{store_child, copy_child}
+use Rattle.art_serial.specs.alone.Alone.{Comes}
+use Rattle.art_serial.proofs.alone.AloneLemmas.{give-comes, bind-comes, load-comes, store-comes}
+use Rattle.art_serial.specs.words.Stored.{IsStored, IsShort}
+use Rattle.art_serial.specs.writes.Writes.{AreSmall}
+use Rattle.art_serial.proofs.words.WordLemmas.{child_back, child_again, child_below, again_below}
+
+pub stored-at : (words : List ℕ) (word value : ℕ) → word < length words → slice_index (slice_set words word value) word ≡ value
+stored-at words word value h = get_or-set_same words word value 0 h
+
+pub stored-other : (words : List ℕ) (word other value : ℕ) → other ≢ word → slice_index (slice_set words word value) other ≡ slice_index words other
+stored-other words word other value h = get_or-set_other words word other value 0 h
+
+pub stored-long : (words : List ℕ) (word value : ℕ) → length (slice_set words word value) ≡ length words
+stored-long words word value = length-set words word value
+
+-- the words with a child stored in a slot
+abbrev pub with_child : List ℕ → ℕ → Child → List ℕ
+with_child words slot child = slice_set words slot (child_word child)
+
+pub child-stored : (s : Shape) (words : List ℕ) (slot : ℕ) (child : Child) → slot < length words → IsStored s child
+    → child_of s (slice_index (with_child words slot child) slot) ≡ child
+child-stored s words slot child h k = ap (child_of s) (stored-at words slot (child_word child) h) ∙ child_back s child k
+
+pub store_child-comes : (slot : ℕ) (child : Child) (words : List ℕ) → Comes (store_child slot child) words tt (with_child words slot child)
+store_child-comes slot child words = store-comes slot (child_word child) words
+
+-- the words with the child of one slot in another one too
+abbrev pub with_copy : Shape → List ℕ → ℕ → ℕ → List ℕ
+with_copy s words from to = with_child words to (child_of s (slice_index words from))
+
+pub child-copied : (s : Shape) (words : List ℕ) (from to : ℕ) → to < length words
+    → child_of s (slice_index (with_copy s words from to) to) ≡ child_of s (slice_index words from)
+child-copied s words from to h =
+    ap (child_of s) (stored-at words to (child_word (child_of s (slice_index words from))) h) ∙ child_again s (slice_index words from)
+
+pub copy_child-comes : (c : Setting) (from to : ℕ) (words : List ℕ) → Comes (copy_child c from to) words tt (with_copy c.shape words from to)
+unfolding copy_child load_child
+copy_child-comes c from to words =
+    bind-comes {m = load_child c from} {f = λ child. store_child to child}
+    (bind-comes {f = λ w. give (child_of c.shape w)} (load-comes from words) (give-comes (child_of c.shape (slice_index words from)) words))
+    (store_child-comes to (child_of c.shape (slice_index words from)) words)
+
+-- words of 64 bits stay so
+
+pub small-at : (words : List ℕ) (word : ℕ) → AreSmall words → slice_index words word < 2 ^ 64
+small-at words word h = ⊎_elim (λ l. All-get_or (λ w. w < 2 ^ 64) words word 0 l h) (λ l. past (get_or_past words word 0 l)) (cases_lt word (length words))
+  where
+    past : slice_index words word ≡ 0 → slice_index words word < 2 ^ 64
+    past e = omega (arith, e)
+
+pub small-stored : (words : List ℕ) (word value : ℕ) → AreSmall words → value < 2 ^ 64 → AreSmall (slice_set words word value)
+small-stored words word value h l = All-set (λ w. w < 2 ^ 64) words word value l h
+
+pub small-child : (words : List ℕ) (slot : ℕ) (child : Child) → AreSmall words → IsShort child → AreSmall (with_child words slot child)
+small-child words slot child h short = small-stored words slot (child_word child) h (child_below child short)
+
+pub small-copy : (s : Shape) (words : List ℕ) (from to : ℕ) → AreSmall words → AreSmall (with_copy s words from to)
+small-copy s words from to h =
+    small-stored words to (child_word (child_of s (slice_index words from))) h (again_below s (slice_index words from) (small-at words from h))

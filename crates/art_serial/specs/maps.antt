@@ -1,0 +1,2 @@
+-- That serial schedules of a tree do what the map does.
+pub mod Ends

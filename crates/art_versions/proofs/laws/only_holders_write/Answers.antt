@@ -1,6 +1,0 @@
-use Rattle.std.proofs.Common.{refl}
-use Rattle.art_versions.proofs.RunLemmas.{written-at}
-use Rattle.art_versions.proofs.laws.only_holders_write.Goals as goal
-
-pub returns : goal.returns
-returns c = λ plan start words schedule p s t run full e. written-at plan.variant full plan start words schedule p s t run refl e

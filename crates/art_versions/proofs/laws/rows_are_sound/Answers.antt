@@ -1,6 +1,0 @@
-use Rattle.std.proofs.Common.{refl}
-use Rattle.art_versions.proofs.RunLemmas.{sound-at}
-use Rattle.art_versions.proofs.laws.rows_are_sound.Goals as goal
-
-pub returns : goal.returns
-returns c = λ plan start words schedule s run full. sound-at plan.variant full plan start words schedule s run refl

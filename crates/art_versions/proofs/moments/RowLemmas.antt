@@ -1,0 +1,64 @@
+-- The words of rows: lists that agree from one place to another have the same part there, and no row begins within another.
+use Rattle.std.proofs.Common.{◌≡◌, ℕ, zero, suc, ◌+◌, ◌<◌, ◌≤◌, List, [], ◌∷◌, length, take, drop, refl, ap, ◌∙◌, inl, inr, arith}
+use Rattle.std.specs.Prelude.{slice_index, Option, Some, None}
+use Rattle.std.proofs.lemmas.Bool.{cases_lt}
+use Rattle.art_serial.proofs.words.TableLemmas.{rows_apart}
+use Rattle.art_rows.specs.declared.table.Kind.{Kind}
+use Rattle.art_rows.specs.declared.table.Kind.TheVariants.{Four, Sixteen, FortyEight, Full}
+use Rattle.art_rows.specs.declared.table.Shape.{Shape}
+use Rattle.art_rows.specs.Table.{row_words, kind_at}
+
+take-same : (n : ℕ) (xs ys : List ℕ) → length xs ≡ length ys → ((k : ℕ) → k < n → slice_index xs k ≡ slice_index ys k) → take n xs ≡ take n ys
+take-same zero xs ys long same = refl
+take-same (suc n) [] [] long same = refl
+take-same (suc n) [] (y ∷ ys) long same = absurd (omega (arith, long))
+take-same (suc n) (x ∷ xs) [] long same = absurd (omega (arith, long))
+take-same (suc n) (x ∷ xs) (y ∷ ys) long same =
+    ap (λ z. z ∷ take n xs) (same 0 (omega arith))
+    ∙ ap (λ zs. y ∷ zs) (take-same n xs ys (omega (arith, long)) (λ k less. same (suc k) (omega (arith, less))))
+
+pub part-same : (base n : ℕ) (xs ys : List ℕ) → length xs ≡ length ys
+    → ((k : ℕ) → base ≤ k → k < base + n → slice_index xs k ≡ slice_index ys k) → take n (drop base xs) ≡ take n (drop base ys)
+part-same zero n xs ys long same = take-same n xs ys long (λ k less. same k (omega arith) (omega (arith, less)))
+part-same (suc base) n [] [] long same = refl
+part-same (suc base) n [] (y ∷ ys) long same = absurd (omega (arith, long))
+part-same (suc base) n (x ∷ xs) [] long same = absurd (omega (arith, long))
+part-same (suc base) n (x ∷ xs) (y ∷ ys) long same =
+    part-same base n xs ys (omega (arith, long)) (λ k low high. same (suc k) (omega (arith, low)) (omega (arith, high)))
+
+-- behind the end of a list there is no more of it
+take-beyond : (n : ℕ) (xs : List ℕ) → length xs ≤ n → take n xs ≡ xs
+take-beyond zero [] most = refl
+take-beyond (suc n) [] most = refl
+take-beyond zero (x ∷ xs) most = absurd (omega (arith, most))
+take-beyond (suc n) (x ∷ xs) most = ap (λ zs. x ∷ zs) (take-beyond n xs (omega (arith, most)))
+
+pub record Within (n : ℕ) (xs : List ℕ) : Type 0 where
+  pub length' : ℕ
+  pub most : length' ≤ length xs
+  pub same : take n xs ≡ take length' xs
+
+take-all : (xs : List ℕ) → take (length xs) xs ≡ xs
+take-all xs = take-beyond (length xs) xs (omega arith)
+
+pub taken-within : (n : ℕ) (xs : List ℕ) → Within n xs
+taken-within n xs = elim (cases_lt n (length xs)) [
+  | inl less ↦ record { length' = n; most = omega (arith, less); same = refl }
+  | inr more ↦ record { length' = length xs; most = omega arith; same = take-beyond n xs more ∙ Rattle.std.proofs.Common.sym (take-all xs) }
+]
+
+-- no row begins within another
+some-words : (kind : Kind) → 0 < row_words kind
+some-words Four = omega arith
+some-words Sixteen = omega arith
+some-words FortyEight = omega arith
+some-words Full = omega arith
+
+pub row-within : (s : Shape) (base word : ℕ) (kind : Kind) → kind_at s base ≡ Some kind → base < word → word < base + row_words kind → kind_at s word ≡ None
+row-within s base word kind row low high = go (kind_at s word) refl
+  where
+    go : (o : Option Kind) → kind_at s word ≡ o → o ≡ None
+    go None e = refl
+    go (Some other) e =
+        let same = rows_apart s base word kind other word row e (omega (arith, low)) high (omega arith) (omega (arith, some-words other)) in
+        absurd (omega (arith, low, same.0))

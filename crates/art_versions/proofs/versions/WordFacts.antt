@@ -1,0 +1,136 @@
+-- Facts on counts, places and child words.
+use Rattle.std.proofs.Common.{◌≡◌, ℕ, zero, suc, ◌+◌, ◌*◌, ◌-◌, ◌/◌, ◌%◌, ◌^◌, ◌<◌, ◌≤◌, [], length, refl, ap, sym, subst, ◌∙◌, Bool, true, false}
+use Rattle.std.proofs.Common.{arith}
+use Rattle.std.specs.Prelude.{nat_le, if◌then◌else◌, ◌==◌, slice_index, Some, None}
+use Rattle.std.proofs.lemmas.Option.{none-some, same_Some}
+use Rattle.events.specs.declared.event.Call.{Call}
+use Rattle.events.specs.declared.event.Call.TheVariants.{Get, Insert, Remove, Scan, Replace}
+use Rattle.art_rows.specs.declared.table.Kind.{Kind}
+use Rattle.art_rows.specs.declared.table.Kind.TheVariants.{Four, Sixteen, FortyEight, Full}
+use Rattle.art_rows.specs.declared.table.Shape.{Shape}
+use Rattle.art_rows.specs.declared.table.Child.{Child}
+use Rattle.art_rows.specs.declared.table.Child.TheVariants.{Empty, Row as ChildRow, Leaf}
+use Rattle.art_rows.specs.Table.{capacity, kind_at}
+use Rattle.art_rows.specs.Words.{is_locked, is_obsolete, keys4_of, keys16_of, count_of, entries_of, key_bytes, child_of, child_word, row_child}
+use Rattle.art_rows.specs.Words.{leaf_word, row_word, place_of}
+use Rattle.art_rows.proofs.WriterLemmas.{length-keys4, length-keys16}
+use Rattle.art_rows.proofs.ReaderLemmas.{most_of}
+use Rattle.art_serial.proofs.words.KeyLemmas.{place-within}
+use Rattle.art_steps.specs.Updates.{overwriting, new_leaf}
+use Rattle.art_steps.proofs.AccessLemmas.{entries-most}
+use Rattle.art_stages.specs.declared.stage.Keys.{Keys}
+use Rattle.art_stages.specs.Stages.{count_in, keys_among}
+use Rattle.art_versions.specs.versions.Holding.{OfRows, Each, IsNamed, IsVersion, child_rows}
+
+pub keys4-most : (w : ℕ) → length (keys4_of w) ≤ 4
+keys4-most w = omega (arith, length-keys4 w, few (nat_le (w % 256) 4) refl)
+  where
+    few : (b : Bool) → nat_le (w % 256) 4 ≡ b → (if b then w % 256 else 0) ≤ 4
+    few true e = grind (arith, e)
+    few false e = omega arith
+
+pub keys16-most : (count first second : ℕ) → length (keys16_of count first second) ≤ 16
+keys16-most count first second = omega (arith, length-keys16 count first second, most_of count)
+
+count48-most : (w : ℕ) → count_of 48 w ≤ 48
+count48-most w = grind arith
+
+pub count-most : (kind : Kind) (keys : Keys) → count_in kind keys ≤ capacity kind
+count-most Four keys = keys4-most keys.first
+count-most Sixteen keys = keys16-most keys.count keys.first keys.second
+count-most FortyEight keys = count48-most keys.count
+count-most Full keys = omega arith
+
+pub not-full : (a b : ℕ) → (a == b) ≡ false → a ≤ b → a < b
+not-full a b e l = grind arith
+
+pub full-not-less : (a b : ℕ) → (a == b) ≡ true → a < b → ⊥
+full-not-less a b e l = grind arith
+
+-- where a key stands among the keys of a row
+pub among-most : (kind : Kind) (keys : Keys) → length (keys_among kind keys) ≤ capacity kind
+among-most Four keys = keys4-most keys.first
+among-most Sixteen keys = keys16-most keys.count keys.first keys.second
+among-most FortyEight keys = omega arith
+among-most Full keys = omega arith
+
+pub place-fits : (kind : Kind) (keys : Keys) (x i : ℕ) → place_of x (keys_among kind keys) ≡ Some i → i < capacity kind
+place-fits kind keys x i e = omega (arith, (place-within x (keys_among kind keys) i e).0, among-most kind keys)
+
+pub entry-fits : (w k : ℕ) → slice_index (entries_of w) k - 1 < 48
+entry-fits w k = omega (arith, entries-most w k)
+
+pub key_byte-small : (key i : ℕ) → slice_index (key_bytes key) i < 256
+key_byte-small key zero = omega arith
+key_byte-small key (suc zero) = omega arith
+key_byte-small key (suc (suc zero)) = omega arith
+key_byte-small key (suc (suc (suc zero))) = omega arith
+key_byte-small key (suc (suc (suc (suc i)))) = omega arith
+
+-- a version that WAIT keeps
+pub free-version : (v : ℕ) → is_locked v ≡ false → is_obsolete v ≡ false → v % 4 ≡ 0
+free-version v l o = grind (arith, l, o)
+
+-- a version that a call keeps is one of a row that is not locked
+pub version-free : (l : Bool) (v : ℕ) → IsVersion l v → (v / 2) % 2 ≡ 0
+version-free true v e = grind (arith, e)
+version-free false v e = omega (arith, e)
+
+-- child words
+
+row-read : (base : ℕ) → ((4 * base + 1) % 4 ≡ 1) × ((4 * base + 1) / 4 ≡ base)
+row-read base = (omega arith, omega arith)
+
+leaf-read : (key value : ℕ) → (key * 2 ^ 32 + value * 4 + 2) % 4 ≡ 2
+leaf-read key value = omega arith
+
+module _ (s : Shape) where
+  leaf-rows : (w : ℕ) → w % 4 ≡ 2 → child_rows (child_of s w) ≡ []
+  leaf-rows w e = one (w % 4 == 1) refl
+    where
+      two : (b : Bool) → child_rows (if b then Leaf (w / 4294967296) (w % 4294967296 / 4) else Empty) ≡ []
+      two true = refl
+      two false = refl
+
+      one : (b : Bool) → (w % 4 == 1) ≡ b
+          → child_rows (if b then row_child (w / 4) (kind_at s (w / 4)) else (if w % 4 == 2 then Leaf (w / 4294967296) (w % 4294967296 / 4) else Empty)) ≡ []
+      one true f = absurd (grind (arith, f, e))
+      one false f = two (w % 4 == 2)
+
+  pub row-is : (base : ℕ) (kind : Kind) → kind_at s base ≡ Some kind → child_of s (row_word base) ≡ ChildRow base kind
+  row-is base kind e =
+      let r = row-read base in
+      ap (λ n. if n == 1 then row_child ((4 * base + 1) / 4) (kind_at s ((4 * base + 1) / 4)) else
+      (if n == 2 then Leaf ((4 * base + 1) / 4294967296) ((4 * base + 1) % 4294967296 / 4) else Empty)) r.0
+      ∙ (ap (λ n. row_child n (kind_at s n)) r.1 ∙ ap (row_child base) e)
+
+  module _ (P : OfRows) where
+    pub no-rows : (w : ℕ) → child_rows (child_of s w) ≡ [] → Each (IsNamed P) (child_rows (child_of s w))
+    no-rows w e = subst (Each (IsNamed P)) (sym e) tt
+
+    pub leaf-good : (key value : ℕ) → Each (IsNamed P) (child_rows (child_of s (leaf_word key value)))
+    leaf-good key value = no-rows (leaf_word key value) (leaf-rows (leaf_word key value) (leaf-read key value))
+
+    pub child-good : ((b : ℕ) (k : Kind) → P b k → kind_at s b ≡ Some k) → (child : Child) → Each (IsNamed P) (child_rows child)
+        → Each (IsNamed P) (child_rows (child_of s (child_word child)))
+    child-good is_row Empty h = tt
+    child-good is_row (ChildRow base kind) h = subst (λ c. Each (IsNamed P) (child_rows c)) (sym (row-is base kind (is_row base kind h.0))) h
+    child-good is_row (Leaf key value) h = leaf-good key value
+
+    pub new-leaf-rows : (call : Call) → Each (IsNamed P) (child_rows (new_leaf call))
+    new-leaf-rows (Insert k v) = tt
+    new-leaf-rows (Get k) = tt
+    new-leaf-rows (Remove k) = tt
+    new-leaf-rows (Scan a b) = tt
+    new-leaf-rows (Replace k old new) = tt
+
+    pub overwriting-good : (call : Call) (value word : ℕ) → overwriting call value ≡ Some word → Each (IsNamed P) (child_rows (child_of s word))
+    overwriting-good (Get k) value word e = absurd (none-some word e)
+    overwriting-good (Insert k v) value word e = absurd (none-some word e)
+    overwriting-good (Scan a b) value word e = absurd (none-some word e)
+    overwriting-good (Remove k) value word e = subst (λ w. Each (IsNamed P) (child_rows (child_of s w))) (same_Some 0 word e) tt
+    overwriting-good (Replace k old new) value word e = go (value == old) e
+      where
+        go : (b : Bool) → (if b then Some (leaf_word k new) else None) ≡ Some word → Each (IsNamed P) (child_rows (child_of s word))
+        go true f = subst (λ w. Each (IsNamed P) (child_rows (child_of s w))) (same_Some (leaf_word k new) word f) (leaf-good k new)
+        go false f = absurd (none-some word f)

@@ -1,0 +1,51 @@
+-- What an answered get has read and checked: a law of its steps alone, whatever words it got.
+use Rattle.std.specs.Prelude.{◌≡◌, ◌⊎◌, ℕ, ◌+◌, ◌<◌, ◌≤◌, List, ◌++◌, slice_index, Some}
+use Rattle.events.specs.declared.event.Call.{Call}
+use Rattle.events.specs.declared.event.Call.TheVariants.{Get}
+use Rattle.events.specs.declared.event.Reply.{Reply}
+use Rattle.art_rows.specs.declared.table.Kind.{Kind}
+use Rattle.art_rows.specs.Table.{row_words, root_base, info_at}
+use Rattle.art_steps.specs.declared.variant.Variant.TheVariants.{Optimistic}
+use Rattle.art_steps.specs.Steps.{Answers}
+use Rattle.art_steps.specs.Act.{act}
+use Rattle.art_core.specs.Core.{Plan}
+use Rattle.art_core.specs.Moments.{BeginsAttempt, Reads, Enters, Checks}
+use Rattle.art_versions.specs.moments.RowReplies.{row_reply}
+
+-- The info word by which a get goes at the row that it entered there: the one that it read behind that entry; and at the root, which it enters first and of which
+-- it reads none, the word of a root.
+abbrev pub GoesBy : Plan → Call → List ℕ → ℕ → ℕ → ℕ → Type 0
+GoesBy plan call attempt entry base info =
+    ((base ≡ root_base plan.shape) × (info ≡ 3) × ((i other : ℕ) (kind : Kind) → Enters plan call attempt i other kind → entry ≤ i))
+    ⊎ ((i : ℕ) × (entry ≤ i) × Reads plan call attempt i (info_at base) × (slice_index attempt i ≡ info))
+
+-- these words have what was read of the row behind that entry
+abbrev pub HasRead : Plan → Call → List ℕ → ℕ → ℕ → Kind → List ℕ → Type 0
+HasRead plan call attempt entry base kind words =
+    (i word : ℕ) → Reads plan call attempt i word → entry ≤ i → base < word → word < base + row_words kind → slice_index words word ≡ slice_index attempt i
+
+-- The attempt that answers: it checked the row that it entered last behind that entry, found the version with which it had entered, and read nothing more. Its reply
+-- is that of any words which have what it read of the row.
+pub record IsCheckedGet (plan : Plan) (key : ℕ) (got : List ℕ) (reply : Reply) : Type 0 where
+  pub earlier : List ℕ
+  pub attempt : List ℕ
+  pub all : got ≡ earlier ++ attempt
+  pub begins : BeginsAttempt plan (Get key) earlier
+  pub base : ℕ
+  pub kind : Kind
+  pub entry : ℕ
+  pub enters : Enters plan (Get key) attempt entry base kind
+  pub last : (i other : ℕ) (its_kind : Kind) → Enters plan (Get key) attempt i other its_kind → i ≤ entry
+  pub check : ℕ
+  pub checks : Checks plan (Get key) attempt check base
+  pub behind : entry < check
+  pub same : slice_index attempt check ≡ slice_index attempt entry
+  pub final : (i word : ℕ) → Reads plan (Get key) attempt i word → i ≤ check
+  pub info : ℕ
+  pub goes_by : GoesBy plan (Get key) attempt entry base info
+  pub replies : (words : List ℕ) → HasRead plan (Get key) attempt entry base kind words → row_reply plan.shape words base kind info key ≡ Some reply
+
+-- An answered get of the optimistic tree was checked, whatever words it got.
+abbrev pub AnsweredGetsAreChecked : Type 0
+AnsweredGetsAreChecked = (plan : Plan) (key : ℕ) (got : List ℕ) (reply : Reply) → plan.variant ≡ Optimistic → 1 ≤ plan.shape.rows256
+    → act plan.shape plan.variant (Get key) got ≡ Answers reply → IsCheckedGet plan key got reply

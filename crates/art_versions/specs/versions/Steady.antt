@@ -1,0 +1,27 @@
+-- A row whose version stays is a row that stands still.
+use Rattle.std.specs.Prelude.{◌≡◌, ℕ, ◌+◌, ◌<◌, ◌≤◌, true, false, List, slice_index}
+use Rattle.art_rows.specs.declared.table.Shape.{Shape}
+use Rattle.art_rows.specs.declared.table.Kind.{Kind}
+use Rattle.art_rows.specs.Table.{row_words, claims_of}
+use Rattle.art_rows.specs.Words.{is_locked, is_obsolete}
+use Rattle.art_steps.specs.declared.variant.Variant.{Variant}
+use Rattle.art_core.specs.Core.{State}
+use Rattle.art_versions.specs.versions.Versions.{IsSettled}
+
+-- the row's words are the same
+abbrev pub SameRow : List ℕ → List ℕ → ℕ → Kind → Type 0
+SameRow words later base kind = (word : ℕ) → base ≤ word → word < base + row_words kind → slice_index later word ≡ slice_index words word
+
+-- From the one state to a later one claims do not fall, each row that was settled stays so, its version does not fall, and where it is the same and unlocked, so are all words
+-- of the row.
+pub record IsSteady (variant : Variant) (shape : Shape) (s later : State) : Type 0 where
+  pub claims : (kind : Kind) → slice_index s.words (claims_of kind) ≤ slice_index later.words (claims_of kind)
+  pub settled : (base : ℕ) (kind : Kind) → IsSettled variant shape s base kind → IsSettled variant shape later base kind
+  pub rises : (base : ℕ) (kind : Kind) → IsSettled variant shape s base kind → slice_index s.words base ≤ slice_index later.words base
+  pub stands : (base : ℕ) (kind : Kind) → IsSettled variant shape s base kind → slice_index later.words base ≡ slice_index s.words base
+      → is_locked (slice_index s.words base) ≡ false → SameRow s.words later.words base kind
+
+-- a settled row that is obsolete has the same words
+abbrev pub ObsoleteStand : Variant → Shape → State → State → Type 0
+ObsoleteStand variant shape s later = (base : ℕ) (kind : Kind) → IsSettled variant shape s base kind → is_obsolete (slice_index s.words base) ≡ true
+    → SameRow s.words later.words base kind

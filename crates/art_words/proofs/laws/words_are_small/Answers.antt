@@ -1,6 +1,0 @@
-use Rattle.art_words.proofs.ByteLemmas.{keys4_below, keys16_below}
-use Rattle.art_words.proofs.WordLemmas.{entries_below, info_below, child_below, again_below}
-use Rattle.art_words.proofs.laws.words_are_small.Goals as goal
-
-pub returns : goal.returns
-returns c = record { keys4 = keys4_below; keys16 = keys16_below; entries = entries_below; info = info_below; child = child_below; again = again_below }
