@@ -1,5 +1,5 @@
 -- The history of an arena that closes after all processes did their scripts.
-use Rattle.std.proofs.Common.{◌≡◌, ℕ, ◌<◌, ◌⊎◌, inl, inr, ⊎_elim, false, List, [], ◌∷◌, ◌++◌, length, map, Some, refl, sym, ap, ◌∙◌, arith}
+use Rattle.std.proofs.Common.{◌≡◌, ℕ, ◌^◌, ◌<◌, ◌⊎◌, inl, inr, ⊎_elim, false, List, [], ◌∷◌, ◌++◌, length, map, Some, refl, sym, ap, ◌∙◌, arith}
 use Rattle.std.specs.Prelude.{All, filter_map, slice_get, slice_index_or}
 use Rattle.std.specs.List.{range_with_len}
 use Rattle.std.proofs.lemmas.List.{get_or-map, length-map}
@@ -28,7 +28,9 @@ use Rattle.running.specs.Passes.{shows, opened_for, setup_with}
 use Rattle.running.specs.declared.fault.ArenaClose.{ArenaClose}
 use Rattle.running.specs.declared.fault.ArenaClose.TheVariants as faults
 use Rattle.running.specs.Closing.{IsHistoryOf, HoldsAll, IsHandedBack}
-use Rattle.arena_drives.specs.ArenaDrives.{IsArenaDriveOf}
+use Rattle.arena_drives.specs.ArenaDrives.{IsArenaDriveOf, IsLimited}
+use Rattle.running.specs.Linearizable.{IsLinearizableIn}
+use Rattle.arena_drives.proofs.StepLemmas.{few-steps}
 use Rattle.arena_drives.specs.Passes.{HasAnsweredAll, HasStoppedIn, HasDone, HasDoneOwn, WantsMemory}
 
 -- the calls that are invoked in a log are those that its process began
@@ -58,7 +60,8 @@ numbered-at xs n k d numbers within =
 module _ (shape : Shape) (variant : Variant) (limit : ℕ) (scripts : List (List Call)) (v : View) (history : HistoryView)
     (gives : IsHistoryOf (setup_with shape variant (length scripts) (longest scripts)) v history)
     (own : HasOwnEvents (setup_with shape variant (length scripts) (longest scripts)) v history.events)
-    (done : All (HasDoneOwn limit scripts) v.processes) where
+    (done : All (HasDoneOwn limit scripts) v.processes) (small : limit < 2 ^ 32)
+    (order : IsLinearizableIn (setup_with shape variant (length scripts) (longest scripts)) v history) where
   many : length v.processes ≡ length scripts
   many = omega (arith, ap length own.numbers, length-map v.processes (λ (x : Numbered). x.0), length-range_with_len 0 (length scripts))
 
@@ -78,14 +81,19 @@ module _ (shape : Shape) (variant : Variant) (limit : ℕ) (scripts : List (List
       ended-in history.events p limit x.1 script (ap (λ n. events_of n history.events) (sym (number p (0, idle) within)) ∙ its)
       (did p (0, idle) script within at)
 
+  limited : All (λ x. IsLimited limit x.1) v.processes
+  limited k d within =
+      let script = slice_get-below scripts k (omega (arith, many, within)) in
+      (did k d script.0 within script.1).limited
+
   -- so the history is one of a drive
   pub drive-of : IsArenaDriveOf shape variant limit scripts history
   drive-of = record {
     view = v;
     gives = gives;
-    limited = λ k d within.
-        let script = slice_get-below scripts k (omega (arith, many, within)) in
-        (did k d script.0 within script.1).limited;
+    limited = limited;
+    linearizable = λ is. order is
+        (λ words. few-steps (setup_with shape variant (length scripts) (longest scripts)) limit v words small gives.within limited);
     processes = own.known;
     ended = ended;
   }

@@ -1,5 +1,6 @@
 mod RunLemmas
 mod ScriptLemmas
 mod PartLemmas
+mod StepLemmas
 mod JoinLemmas
 mod DriveLemmas

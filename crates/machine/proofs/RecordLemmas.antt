@@ -1,5 +1,5 @@
 -- The history of a machine is that of each state that it shows.
-use Rattle.std.proofs.Common.{◌≡◌, ℕ, suc, ◌+◌, List, [], ◌∷◌, ◌++◌, length, map, arith, refl, ap, sym, subst, ◌∙◌, ◌⊎◌}
+use Rattle.std.proofs.Common.{◌≡◌, ℕ, suc, ◌+◌, List, [], ◌∷◌, ◌++◌, length, map, arith, refl, ap, sym, subst, ◌∙◌, ◌⊎◌, ⊎_elim}
 use Rattle.std.specs.Prelude.{Some, slice_get, flat_map}
 use Rattle.std.proofs.Math.Logic.{∥∥₁_elim, ∥∥₁_map}
 use Rattle.std.proofs.Props.{props}
@@ -10,14 +10,14 @@ use Rattle.events.specs.Operations.{operations}
 use Rattle.events.specs.Starts.{IsStart}
 use Rattle.logs.specs.Logs.{events_by_stamp}
 use Rattle.map_object.specs.MapObject.{Contents}
-use Rattle.orders.specs.Orders.{IsLegal, after_calls}
+use Rattle.orders.specs.Orders.{IsLegal, after_calls, IsLinearizableHistory}
 use Rattle.art_rows.specs.declared.table.Shape.{Shape}
 use Rattle.art_steps.specs.declared.variant.Variant.{Variant}
 use Rattle.art_steps.specs.declared.variant.Variant.TheVariants.{Coupled, Optimistic}
 use Rattle.art_core.specs.declared.process.Process.{Process}
 use Rattle.art_core.specs.Core.{Plan, State, history_of}
 use Rattle.art_core.specs.Plans.{IsRun, IsSerial}
-use Rattle.art_core.specs.Claims.{SerialIsMap}
+use Rattle.art_core.specs.Claims.{SerialIsMap, CoupledIsLinearizable, OptimisticIsLinearizable}
 use Rattle.art_core.specs.Meaning.{Means, AllUnlocked}
 use Rattle.art_core.proofs.HistoryLemmas.{logs-are-history}
 use Rattle.machine.specs.declared.runner.Runner.{Runner}
@@ -25,6 +25,7 @@ use Rattle.machine.specs.declared.machines.Machine.{Machine}
 use Rattle.machine.specs.Fitting.{FitsProcess}
 use Rattle.machine.specs.Machines.{IsReached, Shows, start_of}
 use Rattle.machine.specs.Serial.{DoesTheMap}
+use Rattle.machine.specs.Linearizable.{IsLinearizableIn}
 use Rattle.machine.specs.UnderWay.{IsUnderWay}
 
 is-run : (shape : Shape) (variant : Variant) (start : Contents) (left : ℕ) (words : List ℕ) (runners : List Runner)
@@ -93,3 +94,14 @@ does-the-map serial m h is = ∥∥₁_map (reached m) go
               (subst (λ ws. Means r.plan.shape ws (after h)) r.shows.words
               (subst (λ (h : HistoryView). Means r.plan.shape r.state.words (after h)) (sym same) means)),
         )
+
+-- a history of a full tree is linearizable
+pub is-linearizable : CoupledIsLinearizable → OptimisticIsLinearizable → (m : Machine) (h : HistoryView)
+    → ((plan : Plan) (s : State) → Shows plan m s → h ≡ record { start = start_of m; events = history_of s }) → ∥ IsLinearizableIn m h ∥₁
+is-linearizable coupled optimistic m h is = ∥∥₁_map (reached m) go
+  where
+    go : IsReached m → IsLinearizableIn m h
+    go r full =
+        subst IsLinearizableHistory (sym (is r.plan r.state r.shows))
+        (⊎_elim (λ v. coupled r.plan (start_of m) r.first r.schedule r.state r.run (r.shows.variant ∙ v))
+        (λ v. optimistic r.plan (start_of m) r.first r.schedule r.state r.run (r.shows.variant ∙ v)) full)

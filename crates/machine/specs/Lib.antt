@@ -8,3 +8,4 @@ pub mod Opening
 pub mod Starting
 pub mod Serial
 pub mod ReadMoments
+pub mod Linearizable

@@ -1,6 +1,7 @@
 // What a machine has recorded.
 use crate::machines::Machine;
 use crate::runner::Runner;
+use art_schedules::{coupled_is_linearizable, optimistic_is_linearizable};
 use art_serial::serial_is_map;
 use art_versions::{answered_gets_have_moments, answered_scans_have_moments};
 use events::{Event, History, Memory};
@@ -13,12 +14,14 @@ impl Machine {
     ghost use Rattle.machine.specs.Machines.{Shows, start_of, IsReached};
     ghost use Rattle.machine.specs.ReadMoments.{GetsHaveMoments, ScansHaveMoments};
     ghost use Rattle.machine.specs.Serial.{DoesTheMap};
+    ghost use Rattle.machine.specs.Linearizable.{IsLinearizableIn};
 
     /// The history so far: the starting pairs, and all events by rising stamp. Open calls are pending, and calls that were
-    /// not begun are not in it. Where the tree is full and no call overlaps another, the history is legal from its starting
-    /// pairs on, no row is locked, and the words mean the pairs after it. Where the tree is the optimistic one, each scan that was
-    /// answered has a moment within it at which all that it read stands still, and at which it would read the same alone; so has
-    /// each get, for the last row that it read, which says its reply. `Err` is want of memory.
+    /// not begun are not in it. Where the tree is full, the history is linearizable, whatever turns were made and whoever
+    /// stopped; and where no call overlaps another, it is legal from its starting pairs on, no row is locked, and the words
+    /// mean the pairs after it. Where the tree is the optimistic one, each scan that was answered has a moment within it at
+    /// which all that it read stands still, and at which it would read the same alone; so has each get, for the last row that
+    /// it read, which says its reply. `Err` is want of memory.
     pub fn history(&self, alloc: Global) -> Result<History, Memory>
         ensures history { (plan : Plan) (s : State) → Shows plan self.now s → IfOk result (λ h. h
             ≡ record { start = start_of self.now; events = history_of s }) }
@@ -26,8 +29,11 @@ impl Machine {
         ensures serial { IfOk result (λ h. ∥ DoesTheMap self.now h ∥₁) }
         ensures moments { ScansHaveMoments self.now }
         ensures gets { GetsHaveMoments self.now }
+        ensures linearizable { IfOk result (λ h. ∥ IsLinearizableIn self.now h ∥₁) }
     {
         serial_is_map();
+        coupled_is_linearizable();
+        optimistic_is_linearizable();
         answered_scans_have_moments();
         answered_gets_have_moments();
         let stamped = all_events(alloc, &self.runners)?;

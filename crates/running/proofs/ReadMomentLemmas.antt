@@ -9,6 +9,12 @@ use Rattle.art_shared.specs.declared.view.Setup.{Setup}
 use Rattle.art_shared.specs.declared.view.View.{View}
 use Rattle.art_shared.specs.Ends.{plan_of, state_of, Ended}
 use Rattle.running.specs.ReadMoments.{ScansHaveMoments, GetsHaveMoments}
+use Rattle.running.specs.Linearizable.{IsLinearizableIn}
+use Rattle.std.proofs.Common.{◌≡◌, ⊎_elim, subst, sym}
+use Rattle.events.specs.HistoryView.{HistoryView, with_no_start}
+use Rattle.orders.specs.Orders.{IsLinearizableHistory}
+use Rattle.art_core.specs.Core.{history_of}
+use Rattle.art_core.specs.Claims.{CoupledIsLinearizable, OptimisticIsLinearizable}
 
 -- any schedule that gives them is a run
 given-run : (setup : Setup) (v : View) → Ended setup v → (words schedule : List ℕ)
@@ -25,3 +31,12 @@ scans-have-moments law setup v e is words schedule gives few =
 pub gets-have-moments : RunsHaveMomentsOfGets → (setup : Setup) (v : View) → Ended setup v → GetsHaveMoments setup v
 gets-have-moments law setup v e is words schedule gives few =
     law (plan_of setup v) [] (opening setup.shape) schedule (state_of words v) (given-run setup v e words schedule gives few) is
+
+-- the history of a full tree is linearizable
+pub is-linearizable : CoupledIsLinearizable → OptimisticIsLinearizable → (setup : Setup) (v : View) → (e : Ended setup v) → (h : HistoryView)
+    → h ≡ with_no_start (history_of (state_of e.words v)) → IsLinearizableIn setup v h
+is-linearizable coupled optimistic setup v e h same full few =
+    let run = given-run setup v e e.words e.schedule e.gives (few e.words) in
+    subst IsLinearizableHistory (sym same)
+    (⊎_elim (λ is. coupled (plan_of setup v) [] (opening setup.shape) e.schedule (state_of e.words v) run is)
+    (λ is. optimistic (plan_of setup v) [] (opening setup.shape) e.schedule (state_of e.words v) run is) full)

@@ -4,3 +4,4 @@ pub mod Steps
 pub mod Progressed
 pub mod Closing
 pub mod ReadMoments
+pub mod Linearizable

@@ -3,12 +3,14 @@ ghost use Rattle.std.specs.Prelude.{◌≡◌, flat_map, IfOk, IfErr, OnOk};
 ghost use Rattle.art_shared.specs.Ends.{HasOwnEvents};
 ghost use Rattle.running.specs.Passes.{shows, opened_for, IsPassOf};
 ghost use Rattle.running.specs.Closing.{HoldsAll, IsHistoryOf, IsHandedBack};
+ghost use Rattle.running.specs.Linearizable.{IsLinearizableIn};
 ghost use Rattle.running.specs.ReadMoments.{GetsHaveMoments, ScansHaveMoments};
 
 use crate::arena::Arena;
 use crate::fault::ArenaClose;
 use crate::pass::Pass;
 use crate::runner::Runner;
+use art_schedules::{coupled_is_linearizable, optimistic_is_linearizable};
 use art_versions::{answered_gets_have_moments, answered_scans_have_moments};
 use events::{Event, History, Memory};
 use logs::{append_log, history_by_stamp};
@@ -16,9 +18,10 @@ use std::alloc::Global;
 
 impl Arena {
     /// The history of all that the processes did: their events by rising stamp. Open calls are pending, and there are no
-    /// starting pairs. Else everything comes back. Where the tree is the optimistic one, each scan that was answered has a moment
-    /// within it at which all that it read stands still; so has each get, for the last row that it read, which says its reply. For
-    /// n events it takes time n log n.
+    /// starting pairs. Else everything comes back. Where the tree is full and fewer than 2^61 steps were made, the history is
+    /// linearizable, however the threads interleaved and whoever stopped. Where it is the optimistic one, each scan that was
+    /// answered has a moment within it at which all that it read stands still; so has each get, for the last row that it read,
+    /// which says its reply. For n events it takes time n log n.
     pub fn close(self, alloc: Global, pass: Pass) -> Result<History, ArenaClose>
         requires own { IsPassOf self pass }
         ensures history { IfOk result (IsHistoryOf (opened_for self) (shows pass)) }
@@ -26,6 +29,7 @@ impl Arena {
         ensures all { OnOk result (HoldsAll (opened_for self) (shows pass)) }
         ensures moments { OnOk result (ScansHaveMoments (opened_for self) (shows pass)) }
         ensures gets { OnOk result (GetsHaveMoments (opened_for self) (shows pass)) }
+        ensures linearizable { IfOk result (IsLinearizableIn (opened_for self) (shows pass)) }
         ensures refused { IfErr result (IsHandedBack self pass) }
     {
         if pass.runners.len() != usize::from(pass.setup.processes) {
@@ -49,11 +53,14 @@ impl Arena {
         ensures own_events { IfOk result (λ h. HasOwnEvents (opened_for self.now) (shows pass.old) h.events) }
         ensures moments { ScansHaveMoments (opened_for self.now) (shows pass.old) }
         ensures gets { GetsHaveMoments (opened_for self.now) (shows pass.old) }
+        ensures linearizable { IfOk result (IsLinearizableIn (opened_for self.now) (shows pass.old)) }
         ensures own { IsPassOf self.now pass.new }
         ensures unchanged { shows pass.new ≡ shows pass.old }
     {
         answered_scans_have_moments();
         answered_gets_have_moments();
+        coupled_is_linearizable();
+        optimistic_is_linearizable();
         self.core.look(&mut pass.place);
         let stamped = all_events(alloc, &pass.runners)?;
         history_by_stamp(alloc, Vec::new(alloc), stamped)

@@ -24,7 +24,7 @@ CallsAreLed shape scripts start words Scans =
 abbrev pub HaveScans : Shape → List (List Call) → Contents → List ℕ → Type 1
 HaveScans shape scripts start words = (Scans : OfScans) × ScansAreKept (the_plan shape scripts) start words Scans
 
--- What art_stories gives (`orders-of-ghosts`): where what fits each call is kept, each run is linearizable.
+-- What stories give (`orders-of-ghosts`): where what fits each call is kept, each run is linearizable.
 abbrev pub LedAreLinearizable : Type 1
 LedAreLinearizable = (shape : Shape) (scripts : List (List Call)) (start : Contents) (words : List ℕ) (Scans : OfScans)
     → CallsAreLed shape scripts start words Scans → (schedule : List ℕ) (s : State) → IsRun (the_plan shape scripts) start words schedule s

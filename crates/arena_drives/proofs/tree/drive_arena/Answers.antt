@@ -4,6 +4,7 @@ use Rattle.art_shared.specs.Ends.{HasOwnEvents}
 use Rattle.drives.specs.Drives.{longest}
 use Rattle.running.specs.Passes.{shows, opened_for, setup_with}
 use Rattle.running.specs.Closing.{HoldsAll, IsHistoryOf}
+use Rattle.running.specs.Linearizable.{IsLinearizableIn}
 use Rattle.arena_drives.specs.ArenaDrives.{IsArenaDriveOf}
 use Rattle.arena_drives.proofs.JoinLemmas.{AreDone, joined-done}
 use Rattle.arena_drives.proofs.DriveLemmas.{drive-of, memory-wanted}
@@ -46,4 +47,5 @@ returns-in-Ok g c =
     let h = c.in-Ok.history in
     subst (λ plan. IsArenaDriveOf c.args.shape c.args.variant c.args.limit plan h) c.scripts-scripts.ensures.same
     (drive-of c.args.shape c.args.variant c.args.limit scripts v h (subst (λ s. IsHistoryOf s v h) setup c.in-Ok.ensures.history)
-    (subst (λ s. HasOwnEvents s v h.events) setup c.in-Ok.ensures.own_events) (done g d).done)
+    (subst (λ s. HasOwnEvents s v h.events) setup c.in-Ok.ensures.own_events) (done g d).done (omega (arith, c.ranges.limit))
+    (subst (λ s. IsLinearizableIn s v h) setup c.in-Ok.ensures.linearizable))

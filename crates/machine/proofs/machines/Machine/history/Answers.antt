@@ -5,7 +5,7 @@ use Rattle.events.specs.HistoryView.{HistoryView}
 use Rattle.events.specs.Starts.{IsStart}
 use Rattle.logs.specs.Logs.{events_by_stamp}
 use Rattle.machine.specs.Machines.{start_of}
-use Rattle.machine.proofs.RecordLemmas.{reached, shown-history, recorded-history, recorded-start, does-the-map}
+use Rattle.machine.proofs.RecordLemmas.{reached, shown-history, recorded-history, recorded-start, does-the-map, is-linearizable}
 use Rattle.machine.proofs.ReadMomentLemmas.{scans-have-moments, gets-have-moments}
 use Rattle.machine.proofs.machines.Machine.history.Goals as goal
 
@@ -37,6 +37,15 @@ returns-clause-reached c = reached c.args.self.now
 pub returns-clause-serial : goal.returns-clause-serial
 returns-clause-serial c =
     IfOk-weaker c.history_by_stamp.result _ _ (λ (found : HistoryView) is. does-the-map c.serial_is_map.ensures c.args.self.now found
+    (λ plan s shows. is
+    ∙ ap (λ start. record { start = start; events = events_by_stamp c.in_ok-stamped.stamped.items }) (c.in_ok-start.ensures.items ∙ c.deref-2.ensures.value)
+    ∙ ap (λ events. record { start = start_of c.args.self.now; events = events })
+    (ap events_by_stamp (c.in_ok-stamped.ensures ∙ ap (flat_map (λ r. r.log.items)) c.deref.ensures.value)
+    ∙ sym (shown-history plan c.args.self.now s shows)))) c.history_by_stamp.ensures
+
+pub returns-clause-linearizable : goal.returns-clause-linearizable
+returns-clause-linearizable c =
+    IfOk-weaker c.history_by_stamp.result _ _ (λ (found : HistoryView) is. is-linearizable c.coupled_is_linearizable.ensures c.optimistic_is_linearizable.ensures c.args.self.now found
     (λ plan s shows. is
     ∙ ap (λ start. record { start = start; events = events_by_stamp c.in_ok-stamped.stamped.items }) (c.in_ok-start.ensures.items ∙ c.deref-2.ensures.value)
     ∙ ap (λ events. record { start = start_of c.args.self.now; events = events })

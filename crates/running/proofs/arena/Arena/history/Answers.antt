@@ -8,7 +8,8 @@ use Rattle.art_shared.specs.Ends.{HasOwnEvents}
 use Rattle.running.specs.Fitting.{Run}
 use Rattle.running.specs.Passes.{shows, opened_for}
 use Rattle.running.proofs.CloseLemmas.{logged-history}
-use Rattle.running.proofs.ReadMomentLemmas.{scans-have-moments, gets-have-moments}
+use Rattle.running.proofs.ReadMomentLemmas.{scans-have-moments, gets-have-moments, is-linearizable}
+use Rattle.running.specs.Linearizable.{IsLinearizableIn}
 use Rattle.running.proofs.arena.Arena.history.Goals as goal
 
 pub history_by_stamp-requires-clause-events : goal.history_by_stamp-requires-clause-events
@@ -51,3 +52,13 @@ returns-clause-gets c = gets-have-moments c.answered_gets_have_moments.ensures (
 
 pub returns-in_err-stamped-clause-gets : goal.returns-in_err-stamped-clause-gets
 returns-in_err-stamped-clause-gets c = gets-have-moments c.answered_gets_have_moments.ensures (opened_for c.args.self.now) (shows c.args.pass.now) (c.look.ensures.all c.requires.all)
+
+pub returns-clause-linearizable : goal.returns-clause-linearizable
+returns-clause-linearizable c =
+    let e = c.look.ensures.all c.requires.all in
+    let same = ap events_by_stamp (c.in_ok-stamped.ensures ∙ ap (flat_map (λ (r : Run). r.1.log.items)) c.deref.ensures.value)
+    ∙ sym (logged-history c.args.pass.now.setup e.words (shows c.args.pass.now) c.args.pass.now.runners.items c.requires.own.pass.fit) in
+    IfOk-weaker c.history_by_stamp.result _ _ (λ (found : HistoryView) is.
+    is-linearizable c.coupled_is_linearizable.ensures c.optimistic_is_linearizable.ensures (opened_for c.args.self.now) (shows c.args.pass.now) e found
+    (is ∙ (ap (λ start. record { start = start; events = events_by_stamp c.in_ok-stamped.stamped.items }) c.new.ensures.items ∙ ap with_no_start same)))
+    c.history_by_stamp.ensures
