@@ -1,13 +1,17 @@
 -- What the judge answers of the histories of the full trees.
 use Rattle.std.specs.Prelude.{◌≡◌, ◌⊎◌, ℕ, List}
+use Rattle.events.specs.HistoryView.{HistoryView}
 use Rattle.events.specs.Operations.{operations}
+use Rattle.history_text.specs.Texts.{Spells}
 use Rattle.map_object.specs.MapObject.{Contents}
+use Rattle.orders.specs.Orders.{IsLinearizableHistory}
 use Rattle.art_steps.specs.declared.variant.Variant.TheVariants.{Coupled, Optimistic}
 use Rattle.art_core.specs.Core.{Plan, State, history_of}
 use Rattle.art_core.specs.Plans.{IsRun}
 use Rattle.judge.specs.declared.verdict.Verdict.{Verdict}
 use Rattle.judge.specs.declared.verdict.Verdict.TheVariants.{No}
 use Rattle.judge.specs.Shown.{IsShown}
+use Rattle.judge.specs.Judged.{IsJudged}
 
 -- the verdict is a yes, or undecided
 abbrev pub IsNoRefutation : Verdict → Type 0
@@ -21,3 +25,9 @@ NeverRefuted =
     (plan : Plan) (start : Contents) (words schedule : List ℕ) (s : State) → IsRun plan start words schedule s
     → (plan.variant ≡ Coupled) ⊎ (plan.variant ≡ Optimistic) → (budget : ℕ) (verdict : Verdict) → IsShown start budget (operations (history_of s)) verdict
     → IsNoRefutation verdict
+
+-- No judgement of a text that spells a linearizable history refutes it.
+abbrev pub LinearizableTextsAreNeverRefuted : Type 0
+LinearizableTextsAreNeverRefuted =
+    (budget : ℕ) (text report : List ℕ) (history : HistoryView) (verdict : Verdict) → Spells text history → IsLinearizableHistory history
+    → IsJudged budget text verdict report → IsNoRefutation verdict

@@ -1,7 +1,8 @@
-// The law of verdicts on what full trees record: its function only carries its clause.
-ghost use Rattle.tree_verdicts.specs.Laws.{NeverRefuted};
+// Laws of verdicts on what full trees record: each function only carries its clause.
+ghost use Rattle.tree_verdicts.specs.Laws.{LinearizableTextsAreNeverRefuted, NeverRefuted};
 
 use art_schedules::{coupled_is_linearizable, optimistic_is_linearizable};
+use history_text::one_history;
 
 /// The judge answers Yes or Undecided, and never No, on the history of a full tree: whatever the schedule and the starting pairs,
 /// at any budget and with any number of workers.
@@ -10,4 +11,11 @@ pub fn never_refuted()
 {
     coupled_is_linearizable();
     optimistic_is_linearizable();
+}
+
+/// Nor does it on a text that spells a linearizable history, such as those that a drive of a full tree writes.
+pub fn linearizable_texts_are_never_refuted()
+    ensures { LinearizableTextsAreNeverRefuted }
+{
+    one_history();
 }

@@ -3,4 +3,4 @@
 
 mod laws;
 
-pub use laws::never_refuted;
+pub use laws::{linearizable_texts_are_never_refuted, never_refuted};
