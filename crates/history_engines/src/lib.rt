@@ -10,5 +10,5 @@ mod verdict;
 pub mod worked_texts;
 
 pub use check::{check_outcome, run_check};
-pub use location::{locate_outcome, run_locate};
-pub use verdict::{answer_of, judge_outcome, run_judge};
+pub use location::{locate_outcome, locate_outcome_alone, run_locate};
+pub use verdict::{answer_of, judge_outcome, judge_outcome_alone, run_judge};

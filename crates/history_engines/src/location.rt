@@ -1,16 +1,19 @@
 // `bench locate`: the event at which the history on the input goes wrong.
-ghost use Rattle.std.specs.Prelude.{◌≡◌, ◌<◌, ◌≤◌, Some};
-ghost use Rattle.history_engines.specs.Answers.{IsHistoryRefusal};
+ghost use Rattle.std.specs.Prelude.{◌≡◌, ℕ, ◌<◌, ◌≤◌, List, Some, IfOk};
+ghost use Rattle.events.specs.HistoryView.{HistoryView};
+ghost use Rattle.history_engines.specs.Answers.{IsHistoryRefusal, IsTextOf};
 ghost use Rattle.history_engines.specs.LocateAnswers.{answer_of_location, IsLocateAnswer};
 ghost use Rattle.history_engines.specs.LocateOutcomes.{IsLocateOutcome};
+ghost use Rattle.locating.specs.Locations.{IsLocated};
 ghost use Rattle.outcomes.specs.Ends.{change};
 ghost use Rattle.outcomes.specs.Outcomes.{IsTextOutcome};
 ghost use Rattle.outcomes.specs.Runs.{IsRun};
 ghost use Rattle.pool.specs.Limits.{worker_limit};
 ghost use Rattle.search.specs.Limits.{budget_limit};
 
+use events::Memory;
 use history_text::{MAX_TEXT, read_history};
-use locating::{Location, locate, location_line};
+use locating::{Location, locate, locate_alone, location_line};
 use outcomes::{Answer, Outcome, line_of, text_from, write_outcome};
 use pool::Gate;
 use std::alloc::Global;
@@ -61,11 +64,30 @@ pub fn locate_outcome<R: Threads + Sync, G: Gate + Sync>(
     requires workers { (1 ≤ workers) × (workers ≤ worker_limit) }
     ensures { IsTextOutcome (IsLocateAnswer budget) IsHistoryRefusal (Some text.now) result }
 {
-    let history = match read_history(alloc, text) {
-        Ok(history) => history,
-        Err(fault) => return Outcome::of_history_fault(alloc, &fault),
-    };
-    let Ok(location) = locate(rt, alloc, &history, budget, workers, gate) else {
+    match read_history(alloc, text) {
+        Ok(history) => outcome_of(alloc, locate(rt, alloc, &history, budget, workers, gate)),
+        Err(fault) => Outcome::of_history_fault(alloc, &fault),
+    }
+}
+
+/// The same as `locate_outcome`, found by one thread: it starts no thread and waits for nobody.
+pub fn locate_outcome_alone(alloc: Global, text: &[u8], budget: u32) -> Outcome
+    requires { (1 ≤ budget) × (budget ≤ budget_limit) }
+    ensures { IsTextOutcome (IsLocateAnswer budget) IsHistoryRefusal (Some text.now) result }
+{
+    match read_history(alloc, text) {
+        Ok(history) => outcome_of(alloc, locate_alone(alloc, &history, budget)),
+        Err(fault) => Outcome::of_history_fault(alloc, &fault),
+    }
+}
+
+/// How a location comes out, or want of memory for it.
+fn outcome_of(alloc: Global, located: Result<Location, Memory>) -> Outcome
+    ensures { (budget : ℕ) (text : List ℕ) (history : HistoryView) → IsTextOf text history
+        → IfOk located (IsLocated budget history)
+        → IsTextOutcome (IsLocateAnswer budget) IsHistoryRefusal (Some text) result }
+{
+    let Ok(location) = located else {
         return Outcome::Memory;
     };
     match location_line(alloc, &location) {

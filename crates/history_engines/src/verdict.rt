@@ -1,6 +1,7 @@
 // `bench judge`: whether the history on the input has an order at all.
-ghost use Rattle.std.specs.Prelude.{◌≡◌, ◌<◌, ◌≤◌, Some};
+ghost use Rattle.std.specs.Prelude.{◌≡◌, ℕ, ◌<◌, ◌≤◌, List, Some, IfOk, IfErr, string_bytes};
 ghost use Rattle.history_engines.specs.Answers.{IsHistoryRefusal, IsJudgeAnswer, answer_of};
+ghost use Rattle.judge.specs.Judged.{IsJudged, IsUnjudged};
 ghost use Rattle.outcomes.specs.Ends.{change};
 ghost use Rattle.history_engines.specs.Outcomes.{IsJudgeOutcome};
 ghost use Rattle.outcomes.specs.Outcomes.{IsTextOutcome};
@@ -9,7 +10,7 @@ ghost use Rattle.pool.specs.Limits.{worker_limit};
 ghost use Rattle.search.specs.Limits.{budget_limit};
 
 use history_text::MAX_TEXT;
-use judge::{JudgeFault, Verdict, judge_text};
+use judge::{JudgeFault, Verdict, judge_text, judge_text_alone};
 use outcomes::{Answer, Outcome, line_of, text_from, write_outcome};
 use pool::Gate;
 use std::alloc::Global;
@@ -61,7 +62,24 @@ pub fn judge_outcome<R: Threads + Sync, G: Gate + Sync>(
     requires workers { (1 ≤ workers) × (workers ≤ worker_limit) }
     ensures { IsTextOutcome (IsJudgeAnswer budget) IsHistoryRefusal (Some text.now) result }
 {
-    match judge_text(rt, alloc, text, budget, workers, gate) {
+    outcome_of(alloc, judge_text(rt, alloc, text, budget, workers, gate))
+}
+
+/// The same as `judge_outcome`, found by one thread: it starts no thread and waits for nobody.
+pub fn judge_outcome_alone(alloc: Global, text: &[u8], budget: u32) -> Outcome
+    requires { (1 ≤ budget) × (budget ≤ budget_limit) }
+    ensures { IsTextOutcome (IsJudgeAnswer budget) IsHistoryRefusal (Some text.now) result }
+{
+    outcome_of(alloc, judge_text_alone(alloc, text, budget))
+}
+
+/// How the judge's answer to a text comes out.
+fn outcome_of(alloc: Global, judged: Result<(Verdict, String), JudgeFault>) -> Outcome
+    ensures { (budget : ℕ) (text : List ℕ) → IfOk judged (λ answer. IsJudged budget text answer.0 (string_bytes answer.1))
+        → IfErr judged (IsUnjudged text)
+        → IsTextOutcome (IsJudgeAnswer budget) IsHistoryRefusal (Some text) result }
+{
+    match judged {
         Ok((verdict, report)) => Outcome::answered(answer_of(&verdict), line_of(report)),
         Err(JudgeFault::History(fault)) => Outcome::of_history_fault(alloc, &fault),
         Err(JudgeFault::Memory) => Outcome::Memory,

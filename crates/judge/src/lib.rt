@@ -18,6 +18,6 @@ pub use fault::JudgeFault;
 pub use laws::{finished_verdicts_agree, one_call_is_decided, one_exact_verdict, one_report};
 pub use reports::report;
 pub use search::MAX_BUDGET;
-pub use texts::judge_text;
+pub use texts::{judge_text, judge_text_alone};
 pub use verdict::Verdict;
 pub use workers::judge;

@@ -9,47 +9,10 @@ use Rattle.judge.specs.Shows.{ShowsYes, ShowsNo}
 use Rattle.prefixes.specs.Prefixes.{prefix_of}
 use Rattle.locating.specs.declared.bracket.Bracket.{Bracket}
 use Rattle.locating.specs.Locations.{IsUndecidedAt, HasNoneOrIsPast}
-use Rattle.locating.specs.Brackets.{IsKnown}
-
--- what was not found to have none is at most one more than there are events
-pub none_or_past-within : (history : HistoryView) (count : ℕ) → HasNoneOrIsPast history count → count ≤ length history.events + 1
-none_or_past-within history count h = ⊎_elim (λ past. omega arith) (λ none. omega (arith, none.0)) h
-
-pub after_yes : (budget : ℕ) (history part : HistoryView) (found : Bracket) (middle : ℕ) (order : List ℕ) → IsKnown budget history found → middle < found.cut
-    → part ≡ prefix_of history middle → ShowsYes part.start (operations part.events) order
-    → IsKnown budget history (record { yes = middle; cut = found.cut; no = found.no })
-after_yes budget history part found middle order known before is shows = record {
-  yes = subst IsLinearizableHistory is (order, shows.is_order);
-  no = known.no;
-  cut = known.cut;
-  below = before;
-  within = known.within;
-}
-
-pub after_no : (budget : ℕ) (history part : HistoryView) (found : Bracket) (middle : ℕ) (segment : SegmentView) → IsKnown budget history found
-    → found.yes < middle → middle < found.cut → part ≡ prefix_of history middle → ShowsNo part.start budget (operations part.events) segment
-    → IsKnown budget history (record { yes = found.yes; cut = middle; no = middle })
-after_no budget history part found middle segment known behind before is shows = record {
-  yes = known.yes;
-  no = inr (
-    omega (arith, before, known.within, none_or_past-within history found.no known.no),
-    subst (λ (h : HistoryView). IsLinearizableHistory h → ⊥) is shows.no_order,
-  );
-  cut = inl refl;
-  below = behind;
-  within = omega arith;
-}
-
-pub after_undecided : (budget : ℕ) (history part : HistoryView) (found : Bracket) (middle : ℕ) → IsKnown budget history found
-    → found.yes < middle → middle < found.cut → part ≡ prefix_of history middle → IsUndecidedAt budget part
-    → IsKnown budget history (record { yes = found.yes; cut = middle; no = found.no })
-after_undecided budget history part found middle known behind before is undecided = record {
-  yes = known.yes;
-  no = known.no;
-  cut = inr (subst (IsUndecidedAt budget) is undecided);
-  below = behind;
-  within = omega (arith, before, known.within);
-}
+use Rattle.judge.specs.declared.verdict.Verdict.{Verdict}
+use Rattle.judge.specs.Shown.{IsShown}
+use Rattle.judge.specs.Exact.{IsExactVerdict}
+use Rattle.locating.specs.Brackets.{IsKnown, IsVerdictOnFirst}
 
 -- where no number is left, the verdict behind the last yes was no
 pub next_has_none : (history : HistoryView) (found : Bracket) → HasNoneOrIsPast history found.no → found.no ≡ found.yes + 1 → found.yes ≢ length history.events
@@ -65,10 +28,39 @@ one_more_turn counter within =
     ap (λ (n : ℕ). 2 ^ n) next ∙ pow-succ' 2 (14 - (counter + 1))
 
 -- half of what was left is left, and the turns that are left suffice
-pub few_after_turn : (counter : ℕ) (before after : Bracket) → counter < 14 → before.cut ≤ before.yes + 2 ^ (14 - counter)
+few_after_turn : (counter : ℕ) (before after : Bracket) → counter < 14 → before.cut ≤ before.yes + 2 ^ (14 - counter)
     → 2 * (after.cut - after.yes) ≤ before.cut - before.yes + 1 → after.cut ≤ after.yes + 2 ^ (14 - (counter + 1))
 few_after_turn counter before after within few half = omega (arith, few, half, one_more_turn counter within)
 
 -- where nothing is left, they do
-pub few_without_turn : (found : Bracket) (turns : ℕ) → found.cut - found.yes ≤ 1 → found.cut ≤ found.yes + 2 ^ turns
+few_without_turn : (found : Bracket) (turns : ℕ) → found.cut - found.yes ≤ 1 → found.cut ≤ found.yes + 2 ^ turns
 few_without_turn found turns few = omega (arith, few, one-le-pow turns 2 (omega arith))
+
+-- a verdict on the history of the first events is one on the first events
+pub verdict-first : (budget : ℕ) (history part : HistoryView) (count : ℕ) (verdict : Verdict) → part ≡ prefix_of history count
+    → IsShown part.start budget (operations part.events) verdict → IsExactVerdict part.start budget (operations part.events) verdict
+    → IsVerdictOnFirst budget history count verdict
+verdict-first budget history part count verdict is shown exact = record {
+  shown = subst (λ (h : HistoryView). IsShown h.start budget (operations h.events) verdict) is shown;
+  exact = subst (λ (h : HistoryView). IsExactVerdict h.start budget (operations h.events) verdict) is exact;
+}
+
+-- what is known before so many turns, and that the turns that are left suffice
+pub record IsKnownBefore (budget : ℕ) (history : HistoryView) (turns : ℕ) (found : Bracket) : Type 0 where
+  pub known : IsKnown budget history found
+  pub few : found.cut ≤ found.yes + 2 ^ (14 - turns)
+
+pub known_at_first : (budget : ℕ) (history : HistoryView) (found : Bracket) → IsKnown budget history found → found.cut ≤ 2 ^ 14
+    → IsKnownBefore budget history 0 found
+known_at_first budget history found known few = record { known = known; few = omega arith }
+
+pub known_after_turn : (budget : ℕ) (history : HistoryView) (turns : ℕ) (before after : Bracket) → turns < 14 → IsKnownBefore budget history turns before
+    → IsKnown budget history after → 2 * (after.cut - after.yes) ≤ before.cut - before.yes + 1 → IsKnownBefore budget history (turns + 1) after
+known_after_turn budget history turns before after within before_is known half = record {
+  known = known;
+  few = few_after_turn turns before after within before_is.few half;
+}
+
+pub known_without_turn : (budget : ℕ) (history : HistoryView) (turns : ℕ) (found : Bracket) → IsKnownBefore budget history turns found
+    → found.cut - found.yes ≤ 1 → IsKnownBefore budget history (turns + 1) found
+known_without_turn budget history turns found before few = record { known = before.known; few = few_without_turn found (14 - (turns + 1)) few }

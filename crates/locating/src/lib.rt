@@ -10,6 +10,6 @@ mod halving;
 mod lines;
 mod location;
 
-pub use halving::{MAX_JUDGEMENTS, locate};
+pub use halving::{MAX_JUDGEMENTS, locate, locate_alone};
 pub use lines::location_line;
 pub use location::Location;

@@ -1,6 +1,10 @@
 // `bench draw`: a picture of the verdict on the history on the input.
-ghost use Rattle.std.specs.Prelude.{◌≡◌, ◌<◌, ◌≤◌, IfOk, Some, string_bytes};
-ghost use Rattle.history_engines.specs.Answers.{IsHistoryRefusal};
+ghost use Rattle.std.specs.Prelude.{◌≡◌, ℕ, ◌<◌, ◌≤◌, List, IfOk, Some, string_bytes};
+ghost use Rattle.events.specs.HistoryView.{HistoryView};
+ghost use Rattle.events.specs.Operations.{operations};
+ghost use Rattle.history_engines.specs.Answers.{IsHistoryRefusal, IsTextOf};
+ghost use Rattle.judge.specs.Exact.{IsExactVerdict};
+ghost use Rattle.judge.specs.Shown.{IsShown};
 ghost use Rattle.outcomes.specs.Ends.{change};
 ghost use Rattle.outcomes.specs.Outcomes.{IsTextOutcome};
 ghost use Rattle.outcomes.specs.Runs.{IsRun};
@@ -12,8 +16,8 @@ ghost use Rattle.search.specs.Limits.{budget_limit};
 use events::{History, Memory};
 use history_engines::answer_of;
 use history_text::{MAX_TEXT, read_history};
-use judge::{Verdict, judge};
-use locating::{Location, locate};
+use judge::{Verdict, judge, judge_alone};
+use locating::{Location, locate, locate_alone};
 use outcomes::{Answer, Outcome, line_of, text_from, write_outcome};
 use picture_text::svg;
 use pictures::{front_of, picture_of};
@@ -68,11 +72,30 @@ pub fn draw_outcome<R: Threads + Sync, G: Gate + Sync>(
     requires workers { (1 ≤ workers) × (workers ≤ worker_limit) }
     ensures { IsTextOutcome (IsDrawAnswer budget) IsHistoryRefusal (Some text.now) result }
 {
-    let history = match read_history(alloc, text) {
-        Ok(history) => history,
-        Err(fault) => return Outcome::of_history_fault(alloc, &fault),
-    };
-    match drawing_of(rt, alloc, &history, budget, workers, gate) {
+    match read_history(alloc, text) {
+        Ok(history) => outcome_of(drawing_of(rt, alloc, &history, budget, workers, gate)),
+        Err(fault) => Outcome::of_history_fault(alloc, &fault),
+    }
+}
+
+/// The same as `draw_outcome`, drawn by one thread: it starts no thread and waits for nobody.
+pub fn draw_outcome_alone(alloc: Global, text: &[u8], budget: u32) -> Outcome
+    requires { (1 ≤ budget) × (budget ≤ budget_limit) }
+    ensures { IsTextOutcome (IsDrawAnswer budget) IsHistoryRefusal (Some text.now) result }
+{
+    match read_history(alloc, text) {
+        Ok(history) => outcome_of(drawing_alone(alloc, &history, budget)),
+        Err(fault) => Outcome::of_history_fault(alloc, &fault),
+    }
+}
+
+/// How a drawing comes out, or want of memory for it.
+fn outcome_of(drawn: Result<(Answer, String), Memory>) -> Outcome
+    ensures { (budget : ℕ) (text : List ℕ) (history : HistoryView) → IsTextOf text history
+        → IfOk drawn (λ drawn. IsDrawing budget history drawn.0 (string_bytes drawn.1))
+        → IsTextOutcome (IsDrawAnswer budget) IsHistoryRefusal (Some text) result }
+{
+    match drawn {
         Ok((answer, drawing)) => Outcome::answered(answer, line_of(drawing)),
         Err(_) => Outcome::Memory,
     }
@@ -93,10 +116,37 @@ fn drawing_of<R: Threads + Sync, G: Gate + Sync>(
 {
     let verdict = judge(rt, alloc, history, budget, workers, gate)?;
     let wrong = wrong_event(rt, alloc, history, &verdict, budget, workers, gate)?;
-    let front = front_of(alloc, history, &verdict, budget)?;
-    let picture = picture_of(alloc, history, &verdict, wrong, &front)?;
+    drawing_with(alloc, history, budget, &verdict, wrong)
+}
+
+/// The same, where one thread judges.
+fn drawing_alone(alloc: Global, history: &History, budget: u32) -> Result<(Answer, String), Memory>
+    requires { (1 ≤ budget) × (budget ≤ budget_limit) }
+    ensures { IfOk result (λ drawn. IsDrawing budget history.now drawn.0 (string_bytes drawn.1)) }
+{
+    let verdict = judge_alone(alloc, history, budget)?;
+    let wrong = wrong_event_alone(alloc, history, &verdict, budget)?;
+    drawing_with(alloc, history, budget, &verdict, wrong)
+}
+
+/// The text of a picture of this verdict on a history, with this event marked as wrong, and the answer that it is.
+fn drawing_with(
+    alloc: Global,
+    history: &History,
+    budget: u32,
+    verdict: &Verdict,
+    wrong: Option<usize>,
+) -> Result<(Answer, String), Memory>
+    requires budget { (1 ≤ budget) × (budget ≤ budget_limit) }
+    requires shown { IsShown history.now.start budget (operations history.now.events) verdict.now }
+    requires exact { IsExactVerdict history.now.start budget (operations history.now.events) verdict.now }
+    requires wrong { IsWrongEvent budget history.now verdict.now wrong }
+    ensures { IfOk result (λ drawn. IsDrawing budget history.now drawn.0 (string_bytes drawn.1)) }
+{
+    let front = front_of(alloc, history, verdict, budget)?;
+    let picture = picture_of(alloc, history, verdict, wrong, &front)?;
     let drawing = svg(alloc, &picture)?;
-    Ok((answer_of(&verdict), drawing))
+    Ok((answer_of(verdict), drawing))
 }
 
 /// The event at which a history that the verdict refutes goes wrong, where the budget suffices to locate it.
@@ -115,6 +165,22 @@ fn wrong_event<R: Threads + Sync, G: Gate + Sync>(
 {
     match verdict {
         Verdict::No(_) => Ok(event_of(locate(rt, alloc, history, budget, workers, gate)?)),
+        Verdict::Yes(_) | Verdict::Undecided(_) => Ok(None),
+    }
+}
+
+/// The same, where one thread judges.
+fn wrong_event_alone(
+    alloc: Global,
+    history: &History,
+    verdict: &Verdict,
+    budget: u32,
+) -> Result<Option<usize>, Memory>
+    requires { (1 ≤ budget) × (budget ≤ budget_limit) }
+    ensures { IfOk result (IsWrongEvent budget history.now verdict.now) }
+{
+    match verdict {
+        Verdict::No(_) => Ok(event_of(locate_alone(alloc, history, budget)?)),
         Verdict::Yes(_) | Verdict::Undecided(_) => Ok(None),
     }
 }

@@ -7,7 +7,7 @@ use Rattle.outcomes.specs.declared.outcome.Outcome.TheVariants.{Answered, Memory
 use Rattle.history_engines.specs.Answers.{IsHistoryRefusal, IsJudgeAnswer, answer_of}
 use Rattle.outcomes.specs.Lines.{line}
 use Rattle.outcomes.specs.Outcomes.{IsTextOutcome}
-use Rattle.history_engines.proofs.verdict.judge_outcome.Goals as goal
+use Rattle.history_engines.proofs.verdict.outcome_of.Goals as goal
 
 -- a verdict that is answered with the line of its report is an outcome of the text
 IsTextOutcome-judged : {E : Type 0} (budget : ℕ) (text : List ℕ) (verdict : Verdict) (report : List ℕ) (answer : Answer) (full : Result (String Global) E)
@@ -21,6 +21,6 @@ IsTextOutcome-judged budget text verdict report answer (Err e) outcome judged is
     subst (IsTextOutcome (IsJudgeAnswer budget) IsHistoryRefusal (Some text)) (sym answered) tt
 
 pub returns-in-Ok : goal.returns-in-Ok
-returns-in-Ok g c =
-    IsTextOutcome-judged c.args.budget c.args.text.now c.in-Ok.verdict
-    (string_bytes c.in-Ok.report) c.answer_of.result c.line_of.result c.answered.result c.in-Ok.ensures.judged c.answer_of.ensures c.line_of.ensures c.answered.ensures
+returns-in-Ok c budget text judged refused =
+    IsTextOutcome-judged budget text c.in-Ok.verdict
+    (string_bytes c.in-Ok.report) c.answer_of.result c.line_of.result c.answered.result (rw c.in-Ok.is at judged) c.answer_of.ensures c.line_of.ensures c.answered.ensures

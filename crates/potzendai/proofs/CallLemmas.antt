@@ -1,0 +1,76 @@
+-- What is told is a call's, and what its status says of the text.
+use Rattle.std.proofs.Common.{◌≡◌, ℕ, List, length, inl, inr, refl, sym, ◌∙◌, ap, Some}
+use Rattle.events.specs.HistoryView.{HistoryView}
+use Rattle.events.specs.Operations.{operations}
+use Rattle.orders.specs.Orders.{IsLinearizableHistory}
+use Rattle.judge.specs.declared.verdict.Verdict.{Verdict}
+use Rattle.judge.specs.declared.verdict.Verdict.TheVariants as verdicts
+use Rattle.judge.specs.Shown.{IsShown}
+use Rattle.outcomes.specs.declared.outcome.Answer.TheVariants.{Yes, No, Undecided}
+use Rattle.outcomes.specs.declared.outcome.Outcome.{Outcome}
+use Rattle.outcomes.specs.declared.outcome.Outcome.TheVariants.{Answered, Refused, Memory, Words, Failed}
+use Rattle.outcomes.specs.Outcomes.{IsTextOutcome}
+use Rattle.outcomes.specs.Statuses.{words_status}
+use Rattle.history_engines.specs.Answers.{answer_of, IsHistoryRefusal, IsJudgeAnswer}
+use Rattle.potzendai.specs.Calls.{budget_line, IsBudget, IsCall, status_of, text_of, written}
+use Rattle.potzendai.specs.Verdicts.{SpellsLinearizable, SpellsUnlinearizable}
+
+-- an outcome is told
+pub IsCall-outcome : (IsOutcome : Outcome → Type 0) (budget : ℕ) (before after : List ℕ) (size status : ℕ) (outcome : Outcome)
+    → IsBudget budget → IsOutcome outcome → status ≡ status_of outcome → size ≡ length (text_of outcome) → after ≡ written (text_of outcome) before
+    → IsCall IsOutcome budget before after size status
+IsCall-outcome IsOutcome budget before after size status outcome within comes status_is size_is room = record {
+  text = text_of outcome;
+  told = inl (record { outcome = outcome; is_budget = within; comes = comes; status_is = status_is; text_is = refl });
+  size_is = size_is;
+  room = room;
+}
+
+-- that the budget is none is told
+pub IsCall-budget : (IsOutcome : Outcome → Type 0) (budget : ℕ) (before after : List ℕ) (size status : ℕ)
+    → (IsBudget budget → ⊥) → status ≡ words_status → size ≡ length budget_line → after ≡ written budget_line before
+    → IsCall IsOutcome budget before after size status
+IsCall-budget IsOutcome budget before after size status none status_is size_is room = record {
+  text = budget_line;
+  told = inr (record { is_none = none; status_is = status_is; text_is = refl });
+  size_is = size_is;
+  room = room;
+}
+
+order_of_yes : (budget : ℕ) (history : HistoryView) (verdict : Verdict) → Yes ≡ answer_of verdict
+    → IsShown history.start budget (operations history.events) verdict → IsLinearizableHistory history
+order_of_yes budget history (verdicts.Yes order) is shown = (order.items, shown.is_order)
+order_of_yes budget history (verdicts.No segment) is shown = cc
+order_of_yes budget history (verdicts.Undecided segment) is shown = cc
+
+none_of_no : (budget : ℕ) (history : HistoryView) (verdict : Verdict) → No ≡ answer_of verdict
+    → IsShown history.start budget (operations history.events) verdict → IsLinearizableHistory history → ⊥
+none_of_no budget history (verdicts.Yes order) is shown = cc
+none_of_no budget history (verdicts.No segment) is shown = shown.no_order
+none_of_no budget history (verdicts.Undecided segment) is shown = cc
+
+-- the status of yes is that of a history with an order
+pub yes_is_linearizable : (budget : ℕ) (text : List ℕ) (outcome : Outcome) → IsTextOutcome (IsJudgeAnswer budget) IsHistoryRefusal (Some text) outcome
+    → status_of outcome ≡ 0 → SpellsLinearizable text
+yes_is_linearizable budget text (Answered Yes bytes) comes is =
+    let judged = comes.judged in
+    (judged.history, record { spelled = judged.spelled; is_history = judged.is_history }, order_of_yes budget judged.history comes.verdict comes.answer_is judged.shown)
+yes_is_linearizable budget text (Answered No bytes) comes is = cc
+yes_is_linearizable budget text (Answered Undecided bytes) comes is = cc
+yes_is_linearizable budget text (Refused bytes) comes is = cc
+yes_is_linearizable budget text Memory comes is = cc
+yes_is_linearizable budget text (Words bytes) comes is = cc
+yes_is_linearizable budget text Failed comes is = cc
+
+-- the status of no is that of a history without
+pub no_is_unlinearizable : (budget : ℕ) (text : List ℕ) (outcome : Outcome) → IsTextOutcome (IsJudgeAnswer budget) IsHistoryRefusal (Some text) outcome
+    → status_of outcome ≡ 1 → SpellsUnlinearizable text
+no_is_unlinearizable budget text (Answered Yes bytes) comes is = cc
+no_is_unlinearizable budget text (Answered No bytes) comes is =
+    let judged = comes.judged in
+    (judged.history, record { spelled = judged.spelled; is_history = judged.is_history }, none_of_no budget judged.history comes.verdict comes.answer_is judged.shown)
+no_is_unlinearizable budget text (Answered Undecided bytes) comes is = cc
+no_is_unlinearizable budget text (Refused bytes) comes is = cc
+no_is_unlinearizable budget text Memory comes is = cc
+no_is_unlinearizable budget text (Words bytes) comes is = cc
+no_is_unlinearizable budget text Failed comes is = cc

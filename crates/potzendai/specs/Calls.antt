@@ -1,0 +1,58 @@
+-- What a call of the library leaves: in the room that the caller gave, as the length of the text, and as the status that is answered.
+use Rattle.std.specs.Prelude.{◌≡◌, ◌⊎◌, ℕ, ◌≤◌, List, [], ◌∷◌, ◌++◌, length, take, drop, min, codes, string_bytes}
+use Rattle.search.specs.Limits.{budget_limit}
+use Rattle.outcomes.specs.declared.outcome.Outcome.{Outcome}
+use Rattle.outcomes.specs.declared.outcome.Outcome.TheVariants.{Answered, Refused, Memory, Words, Failed}
+use Rattle.outcomes.specs.Lines.{line, memory_line, io_line}
+use Rattle.outcomes.specs.Statuses.{answer_status, refused_status, memory_status, words_status, failed_status}
+
+-- a search may have this budget
+abbrev pub IsBudget : ℕ → Type 0
+IsBudget budget = (1 ≤ budget) × (budget ≤ budget_limit)
+
+-- the status of an outcome, as the program ends with it
+abbrev pub status_of : Outcome → ℕ
+status_of (Answered answer bytes) = answer_status answer
+status_of (Refused bytes) = refused_status
+status_of Memory = memory_status
+status_of (Words bytes) = words_status
+status_of Failed = failed_status
+
+-- the text of an outcome, as the program writes it, to whichever end
+abbrev pub text_of : Outcome → List ℕ
+text_of (Answered answer bytes) = string_bytes bytes
+text_of (Refused bytes) = string_bytes bytes
+text_of Memory = memory_line
+text_of (Words bytes) = string_bytes bytes
+text_of Failed = io_line
+
+-- the text for a budget that no search may have
+abbrev pub budget_line : List ℕ
+budget_line = line (codes "budget: from 1 to 1000000")
+
+-- a room after a text was written into it: as much of the text as leaves place for one byte more, a zero byte, and the rest as it was
+abbrev pub written : List ℕ → List ℕ → List ℕ
+written text [] = []
+written text (byte ∷ rest) = take (min (length text) (length rest)) text ++ 0 ∷ drop (min (length text) (length rest)) rest
+
+-- a status and a text are those of an outcome that the call can have at the budget
+pub record IsToldOutcome (IsOutcome : Outcome → Type 0) (budget status : ℕ) (text : List ℕ) : Type 0 where
+  pub outcome : Outcome
+  pub is_budget : IsBudget budget
+  pub comes : IsOutcome outcome
+  pub status_is : status ≡ status_of outcome
+  pub text_is : text ≡ text_of outcome
+
+-- they tell that no search may have the budget
+pub record IsToldBudget (budget status : ℕ) (text : List ℕ) : Type 0 where
+  pub is_none : IsBudget budget → ⊥
+  pub status_is : status ≡ words_status
+  pub text_is : text ≡ budget_line
+
+-- a call that can have these outcomes tells one, or that the budget is none: this is the status, this the length of the text, and the room was this
+-- before and is that after it
+pub record IsCall (IsOutcome : Outcome → Type 0) (budget : ℕ) (before after : List ℕ) (size status : ℕ) : Type 0 where
+  pub text : List ℕ
+  pub told : IsToldOutcome IsOutcome budget status text ⊎ IsToldBudget budget status text
+  pub size_is : size ≡ length text
+  pub room : after ≡ written text before

@@ -1,0 +1,79 @@
+// The calls that are exported.
+ghost use Rattle.std.specs.Prelude.{◌≡◌, Some};
+ghost use Rattle.history_engines.specs.Answers.{IsHistoryRefusal, IsJudgeAnswer};
+ghost use Rattle.history_engines.specs.LocateAnswers.{IsLocateAnswer};
+ghost use Rattle.outcomes.specs.Outcomes.{IsTextOutcome};
+ghost use Rattle.picture_engines.specs.Drawings.{IsDrawAnswer};
+ghost use Rattle.potzendai.specs.Calls.{IsCall};
+ghost use Rattle.potzendai.specs.Verdicts.{SpellsLinearizable, SpellsUnlinearizable};
+
+use crate::told::{is_budget, tell, tell_budget};
+use history_engines::{judge_outcome_alone, locate_outcome_alone};
+use picture_engines::draw_outcome_alone;
+use std::alloc::Global;
+
+/// Judges the history that the text spells, by a search of at most `budget` configurations in each of its segments. The room
+/// is given the line that `bench judge` writes, with a zero byte behind it, as far as there is place, and `size` the length
+/// of the line. Answers the exit status of `bench judge`.
+#[unsafe(no_mangle)]
+pub extern "C" fn potzendai_judge(
+    alloc: Global,
+    text: &[u8],
+    budget: u32,
+    room: &mut [u8],
+    size: &mut usize,
+) -> u32
+    ensures call { IsCall (IsTextOutcome (IsJudgeAnswer budget) IsHistoryRefusal (Some text.now))
+        budget room.old room.new size.new result }
+
+    // What an answer of yes or no says of the history.
+    ensures yes { result ≡ 0 → SpellsLinearizable text.now }
+    ensures no { result ≡ 1 → SpellsUnlinearizable text.now }
+{
+    if is_budget(budget) {
+        let outcome = judge_outcome_alone(alloc, text, budget);
+        tell(&outcome, room, size)
+    } else {
+        tell_budget(room, size)
+    }
+}
+
+/// Finds the event at which the history that the text spells goes wrong, as `bench locate` does. Else as `potzendai_judge`.
+#[unsafe(no_mangle)]
+pub extern "C" fn potzendai_locate(
+    alloc: Global,
+    text: &[u8],
+    budget: u32,
+    room: &mut [u8],
+    size: &mut usize,
+) -> u32
+    ensures { IsCall (IsTextOutcome (IsLocateAnswer budget) IsHistoryRefusal (Some text.now))
+        budget room.old room.new size.new result }
+{
+    if is_budget(budget) {
+        let outcome = locate_outcome_alone(alloc, text, budget);
+        tell(&outcome, room, size)
+    } else {
+        tell_budget(room, size)
+    }
+}
+
+/// Draws the verdict on the history that the text spells, as `bench draw` does. Else as `potzendai_judge`.
+#[unsafe(no_mangle)]
+pub extern "C" fn potzendai_draw(
+    alloc: Global,
+    text: &[u8],
+    budget: u32,
+    room: &mut [u8],
+    size: &mut usize,
+) -> u32
+    ensures { IsCall (IsTextOutcome (IsDrawAnswer budget) IsHistoryRefusal (Some text.now))
+        budget room.old room.new size.new result }
+{
+    if is_budget(budget) {
+        let outcome = draw_outcome_alone(alloc, text, budget);
+        tell(&outcome, room, size)
+    } else {
+        tell_budget(room, size)
+    }
+}

@@ -1,0 +1,10 @@
+//! The library: a history's text is judged, the event at which it goes wrong is located, or its verdict is drawn, by calls
+//! that a program in C makes.
+//!
+//! A call starts no thread, waits for nobody, and keeps nothing. What it answers stands in room of the caller's.
+#![tactic(auto)]
+
+mod calls;
+mod told;
+
+pub use calls::{potzendai_draw, potzendai_judge, potzendai_locate};

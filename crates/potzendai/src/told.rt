@@ -1,0 +1,76 @@
+// What a call tells its caller.
+ghost use Rattle.std.specs.Prelude.{◌≡◌, ◌≤◌, ◌↔◌, IsTrue, length};
+ghost use Rattle.outcomes.specs.Statuses.{words_status};
+ghost use Rattle.potzendai.specs.Calls.{budget_line, IsBudget, status_of, text_of, written};
+
+use judge::MAX_BUDGET;
+use outcomes::{FAILED, MEMORY, Outcome, REFUSED, WORDS};
+
+/// Whether a search may have this budget.
+pub(crate) fn is_budget(budget: u32) -> bool
+    ensures { IsTrue result ↔ IsBudget budget }
+{
+    1 <= budget && budget <= MAX_BUDGET
+}
+
+/// Tells an outcome: its text goes into the room, its length into `size`, and its status is answered.
+pub(crate) fn tell(outcome: &Outcome, room: &mut [u8], size: &mut usize) -> u32
+    ensures status { result ≡ status_of outcome.now }
+    ensures size { size.new ≡ length (text_of outcome.now) }
+    ensures room { room.new ≡ written (text_of outcome.now) room.old }
+{
+    let text = text_of(outcome);
+    *size = text.len();
+    write(text, room);
+    u32::from(status_of(outcome))
+}
+
+/// Tells that the budget is none.
+pub(crate) fn tell_budget(room: &mut [u8], size: &mut usize) -> u32
+    ensures status { result ≡ words_status }
+    ensures size { size.new ≡ length budget_line }
+    ensures room { room.new ≡ written budget_line room.old }
+{
+    let text = b"budget: from 1 to 1000000\n";
+    *size = text.len();
+    write(text, room);
+    u32::from(WORDS)
+}
+
+/// The text of an outcome.
+fn text_of(outcome: &Outcome) -> &[u8]
+    ensures { result.now ≡ text_of outcome.now }
+{
+    match outcome {
+        Outcome::Answered { line, .. } => line.as_bytes(),
+        Outcome::Refused(line) => line.as_bytes(),
+        Outcome::Words(text) => text.as_bytes(),
+        Outcome::Memory => b"memory\n",
+        Outcome::Failed => b"io\n",
+    }
+}
+
+/// The status of an outcome.
+fn status_of(outcome: &Outcome) -> u8
+    ensures { result ≡ status_of outcome.now }
+{
+    match outcome {
+        Outcome::Answered { answer, .. } => answer.status(),
+        Outcome::Refused(_) => REFUSED,
+        Outcome::Words(_) => WORDS,
+        Outcome::Memory => MEMORY,
+        Outcome::Failed => FAILED,
+    }
+}
+
+/// Writes as much of the text as leaves place for one byte more, and a zero byte behind it.
+fn write(text: &[u8], room: &mut [u8])
+    ensures { room.new ≡ written text.now room.old }
+{
+    if room.is_empty() {
+        return;
+    }
+    let count = text.len().min(room.len() - 1);
+    room[..count].copy_from_slice(&text[..count]);
+    room[count] = 0;
+}

@@ -1,0 +1,46 @@
+"""Whether the library answers each example as the program does: the same status, and the same bytes, at several budgets. Run by
+tests/library.
+
+    tests/library_calls.py libpotzendai.so
+"""
+
+import os
+import subprocess
+import sys
+
+TOP = os.path.dirname(os.path.dirname(os.path.abspath(__file__)))
+sys.dont_write_bytecode = True
+sys.path.insert(0, os.path.join(TOP, "examples", "library"))
+from own_map import Potzendai  # noqa: E402
+
+
+def texts():
+    folder = os.path.join(TOP, "examples")
+    for name in sorted(os.listdir(folder)):
+        if name.endswith(".json"):
+            with open(os.path.join(folder, name), "rb") as text:
+                yield name, text.read()
+
+
+def main():
+    potzendai = Potzendai(os.path.abspath(sys.argv[1]))
+    program = os.path.join(TOP, "crates", "bench", "out", "bench")
+    passed = failed = 0
+    for name, text in [*texts(), ("no text", b""), ("no JSON", b"\xff{")]:
+        for word in ("judge", "locate", "draw"):
+            for budget in (1, 3, 100_000, 1_000_000):
+                ran = subprocess.run(
+                    [program, word, "--budget", str(budget)], input=text, capture_output=True, timeout=60, check=False
+                )
+                status, told = potzendai.call("potzendai_" + word, text, budget)
+                if (status, told) == (ran.returncode, (ran.stdout + ran.stderr).decode()):
+                    passed += 1
+                else:
+                    failed += 1
+                    print(name, word, budget, status, told[:200], ran)
+    print(f"{passed} passed, {failed} failed")
+    return 1 if failed else 0
+
+
+if __name__ == "__main__":
+    sys.exit(main())
