@@ -1,14 +1,12 @@
 -- What is known of a history after one verdict more.
-use Rattle.std.proofs.Common.{◌≡◌, ◌≢◌, ℕ, suc, ap, ◌∙◌, ◌+◌, ◌*◌, ◌-◌, ◌^◌, ◌<◌, ◌≤◌, List, length, inl, inr, ⊎_elim, subst, refl, arith}
+use Rattle.std.proofs.Common.{◌≡◌, ◌≢◌, ℕ, suc, ap, ◌∙◌, ◌+◌, ◌*◌, ◌-◌, ◌^◌, ◌<◌, ◌≤◌, length, ⊎_elim, subst, arith}
 use Rattle.std.proofs.Math.Nat.{pow-succ', one-le-pow}
 use Rattle.events.specs.HistoryView.{HistoryView}
 use Rattle.events.specs.Operations.{operations}
 use Rattle.orders.specs.Orders.{IsLinearizableHistory}
-use Rattle.segments.specs.SegmentView.{SegmentView}
-use Rattle.judge.specs.Shows.{ShowsYes, ShowsNo}
 use Rattle.prefixes.specs.Prefixes.{prefix_of}
 use Rattle.locating.specs.declared.bracket.Bracket.{Bracket}
-use Rattle.locating.specs.Locations.{IsUndecidedAt, HasNoneOrIsPast}
+use Rattle.locating.specs.Locations.{HasNoneOrIsPast}
 use Rattle.judge.specs.declared.verdict.Verdict.{Verdict}
 use Rattle.judge.specs.Shown.{IsShown}
 use Rattle.judge.specs.Exact.{IsExactVerdict}

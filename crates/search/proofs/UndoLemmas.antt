@@ -12,7 +12,7 @@ use Rattle.map_object.proofs.MapLemmas.{above_gap}
 use Rattle.search.specs.Undo.{restoring}
 
 -- pairs with the value of a key, or none, between those below it and those above
-abbrev with_value : ℕ → Option ℕ → Contents → Contents → Contents
+abbrev pub with_value : ℕ → Option ℕ → Contents → Contents → Contents
 with_value key None front back = front ++ back
 with_value key (Some value) front back = front ++ (key, value) ∷ back
 
@@ -27,7 +27,7 @@ with_value-cons pair key None front back = refl
 with_value-cons pair key (Some value) front back = refl
 
 -- pairs are those below a key, its own, and those above it
-joined : (m : Contents) (key : ℕ) → IsRising m → with_value key (value_at m key) (below key m) (above key m) ≡ m
+pub joined : (m : Contents) (key : ℕ) → IsRising m → with_value key (value_at m key) (below key m) (above key m) ≡ m
 joined [] key rising = refl
 joined ((k, value) ∷ m) key rising = by_cases (joined m key (AllPairs-tail (λ (a : ℕ × ℕ) (b : ℕ × ℕ). a.0 < b.0) (k, value) m rising)) (cases_order k key)
   where

@@ -16,6 +16,7 @@ mod walk;
 pub use found::Found;
 pub use laws::{least_order_and_count, least_order_by_fronts, one_exact_answer};
 pub use longest::longest_front;
+pub use undo::{take_call, undo_call};
 pub use walk::{Turn, Walk, search};
 
 /// The greatest budget of a search.

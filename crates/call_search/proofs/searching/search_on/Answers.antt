@@ -1,0 +1,33 @@
+use Rattle.std.proofs.Common.{List, ◌≡◌, ℕ, ◌<◌, ◌≤◌, ◌+◌, ◌-◌, length, ⊎_elim, arith}
+use Rattle.events.specs.declared.operation.Operation.{Operation}
+use Rattle.list_laws.proofs.Lists.{All-from_contains}
+use Rattle.map_object.specs.MapObject.{Contents}
+use Rattle.configurations.specs.Configurations.{IsReachable}
+use Rattle.call_search.specs.Standing.{HasMoved, rest_of}
+use Rattle.call_search.specs.declared.standing.Standing.{Standing}
+use Rattle.call_search.proofs.searching.search_on.Goals as goal
+
+-- a search that has moved has less to do: a configuration more is one fewer that the budget allows
+falls : (start : Contents) (calls : List Operation) (budget : ℕ) (old new : Standing) → length old.memo ≤ budget → HasMoved start calls old new
+    → rest_of budget (length calls) new < rest_of budget (length calls) old
+falls start calls budget old new within h = ⊎_elim
+    (λ tried. rw tried.0 (omega (arith, tried.1)))
+    (λ found.
+    let allowed : budget + 1 - length old.memo ≡ (budget + 1 - length new.memo) + 1 = omega (arith, found.0, within) in
+    rw allowed (omega (arith, found.1)))
+    h.progress
+
+pub returns-then-len-budget : goal.returns-then-len-budget
+returns-then-len-budget g c =
+    let w = c.loop-alloc.standing in
+    record {
+      reached = w.memo;
+      distinct = c.len.ensures.distinct;
+      each = All-from_contains (IsReachable g.start c.args.calls.now) w.memo c.loop-alloc.invariant.0.reached;
+      above = omega (arith, c.if-len-budget.true, c.len.ensures.len);
+    }
+
+pub loop-alloc-smaller : goal.loop-alloc-smaller
+loop-alloc-smaller g c =
+    falls g.start c.args.calls.now c.args.budget c.loop-alloc.standing c.make_step.new.standing
+    (omega (arith, c.if-len-budget.false, c.len.ensures.len)) (rw c.in-Made-2.is at c.in_ok-make_step.ensures)

@@ -1,0 +1,5 @@
+pub mod Replies
+pub mod Reads
+pub mod Found
+pub mod Earliest
+pub mod Standing

@@ -1,0 +1,31 @@
+-- Completed calls that leave the map as it is: they may go first.
+use Rattle.std.specs.Prelude.{◌≡◌, ◌↔◌, ℕ, true, List, [], ◌∷◌, ◌++◌, Some, slice_get, Contains}
+use Rattle.events.specs.declared.operation.Operation.{Operation}
+use Rattle.events.specs.Precedence.{is_completed}
+use Rattle.map_object.specs.MapObject.{Contents, IsRising}
+use Rattle.orders.specs.Orders.{IsLegalCall, after_call, after_calls, calls_at, IsOrder}
+use Rattle.configurations.specs.Fronts.{PrecedesAt}
+
+-- what is left has an order where these calls lead: they go on to an order of all calls
+abbrev pub HasOrderAfter : Contents → List Operation → List ℕ → Type 0
+HasOrderAfter start calls path = (tail : List ℕ) × IsOrder start calls (path ++ tail)
+
+-- the pairs after some calls
+abbrev pub pairs_after : Contents → List Operation → List ℕ → Contents
+pairs_after start calls path = after_calls start (calls_at calls path)
+
+-- a completed call that is left, that none which is left precedes, that does its reply where these calls lead, and leaves the pairs as they are there
+pub record IsReadNext (start : Contents) (calls : List Operation) (path : List ℕ) (n : ℕ) : Type 0 where
+  pub call : Operation
+  pub here : slice_get calls n ≡ Some call
+  pub completed : is_completed call ≡ true
+  pub new : Contains path n → ⊥
+  pub preceded : (m : ℕ) → PrecedesAt calls m n → Contains path m
+  pub legal : IsLegalCall (pairs_after start calls path) call.call call.response
+  pub leaves : after_call (pairs_after start calls path) call.call call.response ≡ pairs_after start calls path
+
+-- what is left has an order exactly where it has one that begins with such a call
+abbrev pub ReadsGoFirst : Type 0
+ReadsGoFirst =
+    (start : Contents) (calls : List Operation) (path : List ℕ) (n : ℕ) → IsRising start → IsReadNext start calls path n
+    → HasOrderAfter start calls path ↔ HasOrderAfter start calls (path ++ n ∷ [])

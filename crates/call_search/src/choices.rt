@@ -1,0 +1,143 @@
+// The calls that may come next.
+ghost use Rattle.std.specs.Prelude.{◌≡◌, ◌↔◌, ◌+◌, ◌<◌, ◌≤◌, ◌^◌, true, false, length, Some, slice_get, AllPairs, IfOk, MatchOption, IsTrue};
+ghost use Rattle.std.specs.Prelude.{IsSomeAnd, Contains, slice_index_or};
+ghost use Rattle.list_laws.specs.Lists.{has_number};
+ghost use Rattle.events.specs.Precedence.{NonePrecedesItself};
+ghost use Rattle.map_object.specs.MapObject.{Contents, IsRising};
+ghost use Rattle.orders.specs.Orders.{IsOrder};
+ghost use Rattle.configurations.proofs.FrontLemmas.{IsNext};
+ghost use Rattle.search.specs.Remaining.{IsEarliestAnswer};
+ghost use Rattle.call_search.specs.Earliest.{earlier_of};
+ghost use Rattle.call_search.specs.Standing.{places, StandsBare, AreChoices};
+
+use crate::reads::is_read;
+use crate::standing::Standing;
+use events::{Memory, Operation, Response};
+use orders::may_come_next;
+use std::alloc::Global;
+
+/// The calls that are to be tried where a search stands, the last one first: one read alone, where there is one, or else all
+/// calls that may come next. None where all completed calls are taken.
+pub(crate) fn choices(
+    alloc: Global,
+    calls: &[Operation],
+    standing: &Standing,
+) -> Result<Option<Vec<u32>>, Memory>
+    ghost start: { Contents }
+    requires few { length calls.now + 1 < 2 ^ 32 }
+    requires apart { NonePrecedesItself calls.now }
+    requires rising { AllPairs (λ a b. a.inv < b.inv) calls.now }
+    requires start_rises { IsRising start }
+    requires stands { StandsBare start calls.now standing.now }
+    ensures { IfOk result (λ found. MatchOption found (IsOrder start calls.now (places standing.now.levels.items))
+        (λ v. AreChoices start calls.now (places standing.now.levels.items) v.items × (length v.items ≤ length calls.now))) }
+{
+    let Some(answered) = earliest_answer(calls, standing) else {
+        return Ok(None);
+    };
+    let mut rest = next_calls(alloc, calls, standing, answered)?;
+    rest.reverse();
+    Ok(Some(rest))
+}
+
+/// One read that may come next, or else all calls that may, by rising place.
+fn next_calls(
+    alloc: Global,
+    calls: &[Operation],
+    standing: &Standing,
+    answered: usize,
+) -> Result<Vec<u32>, Memory>
+    ghost start: { Contents }
+    requires few { length calls.now + 1 < 2 ^ 32 }
+    requires apart { NonePrecedesItself calls.now }
+    requires rising { AllPairs (λ a b. a.inv < b.inv) calls.now }
+    requires start_rises { IsRising start }
+    requires stands { StandsBare start calls.now standing.now }
+    requires earliest { IsEarliestAnswer calls.now (places standing.now.levels.items) (Some answered) }
+    ensures choices { IfOk result (λ v. AreChoices start calls.now (places standing.now.levels.items) v.items) }
+    ensures few { IfOk result (λ v. length v.items ≤ length calls.now) }
+{
+    let mut next = Vec::new(alloc);
+    for place in standing.low..calls.len() {
+        let call = &calls[place];
+        if answered < call.inv {
+            return Ok(next);
+        }
+        if may_come(calls, standing, place, answered) {
+            if is_read(call) {
+                return Ok(Vec::from_slice(alloc, &[place as u32])?);
+            }
+            next.push(place as u32)?;
+        }
+    }
+    Ok(next)
+}
+
+/// Whether a call that was not invoked after the earliest answer may come next.
+fn may_come(calls: &[Operation], standing: &Standing, place: usize, answered: usize) -> bool
+    ghost start: { Contents }
+    requires stands { StandsBare start calls.now standing.now }
+    requires earliest { IsEarliestAnswer calls.now (places standing.now.levels.items) (Some answered) }
+    requires known { place < length calls.now }
+    requires early { IsSomeAnd (slice_get calls.now place) (λ a. a.inv ≤ answered) }
+    ensures next { result ≡ true → IsNext start calls.now (places standing.now.levels.items) place }
+    ensures not_next { result ≡ false → IsNext start calls.now (places standing.now.levels.items) place → ⊥ }
+{
+    if is_taken(standing, place) {
+        return false;
+    }
+    may_come_next(&standing.map, &calls[place])
+}
+
+/// Whether a call is taken.
+fn is_taken(standing: &Standing, place: usize) -> bool
+    requires known { place < length standing.now.taken.items }
+    requires marks { slice_index_or standing.now.taken.items place false ≡ has_number (places standing.now.levels.items) place }
+    ensures { IsTrue result ↔ Contains (places standing.now.levels.items) place }
+{
+    standing.taken[place]
+}
+
+/// The earliest answer of a call that is left.
+fn earliest_answer(calls: &[Operation], standing: &Standing) -> Option<usize>
+    ghost start: { Contents }
+    requires apart { NonePrecedesItself calls.now }
+    requires rising { AllPairs (λ a b. a.inv < b.inv) calls.now }
+    requires stands { StandsBare start calls.now standing.now }
+    ensures { IsEarliestAnswer calls.now (places standing.now.levels.items) result }
+{
+    let mut earliest = None;
+    for place in standing.low..calls.len() {
+        let call = &calls[place];
+        if is_behind(earliest, call.inv) {
+            return earliest;
+        }
+        if !is_taken(standing, place) {
+            earliest = earlier(earliest, &call.response);
+        }
+    }
+    earliest
+}
+
+/// Whether a place is behind an answer.
+fn is_behind(answered: Option<usize>, place: usize) -> bool
+    ensures { IsTrue result ↔ IsSomeAnd answered (λ answered. answered < place) }
+{
+    match answered {
+        Some(answered) => answered < place,
+        None => false,
+    }
+}
+
+/// The earlier of two answers, where there are any.
+fn earlier(earliest: Option<usize>, response: &Option<Response>) -> Option<usize>
+    ensures { result ≡ earlier_of earliest response.now }
+{
+    let Some(response) = response else {
+        return earliest;
+    };
+    match earliest {
+        Some(answered) if answered <= response.res => Some(answered),
+        _ => Some(response.res),
+    }
+}

@@ -1,0 +1,12 @@
+// What a search of calls found.
+
+/// What a search of calls found.
+#[derive(Debug, PartialEq, Eq, Drop)]
+pub enum Found {
+    /// An order of the calls, by their places in the list.
+    Order(Vec<u32>),
+    /// The calls have no order.
+    NoOrder,
+    /// More configurations were met than the budget.
+    Spent,
+}

@@ -1,0 +1,206 @@
+// Where a search stands, and its steps.
+ghost use Rattle.std.specs.Prelude.{◌≡◌, ◌+◌, ◌<◌, ◌≤◌, ◌^◌, length, [], AllPairs, IfOk, OnOk, Contains};
+ghost use Rattle.events.specs.Precedence.{NonePrecedesItself};
+ghost use Rattle.map_object.specs.MapObject.{Contents, IsRising};
+ghost use Rattle.orders.specs.Orders.{IsOrder, IsLinearizable};
+ghost use Rattle.call_search.specs.Standing.{places, Stands, StandsBare, IsNextOf, Closes, IsStep, IsPushed, IsTaken, IsLooked};
+
+use crate::choices::choices;
+use events::{Call, Memory, Operation};
+use map_object::SortedMap;
+use memo::{Config, Memo};
+use search::{take_call, undo_call};
+use std::alloc::Global;
+use std::mem;
+
+/// A call taken: by its place, with what undoes it on the map, the configuration before it, by its place in the memo, and the
+/// calls that are to be tried in its stead.
+#[derive(Drop)]
+pub struct Level {
+    pub place: u32,
+    pub undo: Option<Call>,
+    pub at: usize,
+    pub rest: Vec<u32>,
+}
+
+/// Where a search stands: the calls taken, those that are to be tried next, the last one first, the configuration that it stands
+/// at, the map there, the configurations visited, which calls are taken, and a place below which all are.
+#[derive(Drop)]
+pub struct Standing {
+    pub levels: Vec<Level>,
+    pub rest: Vec<u32>,
+    pub at: usize,
+    pub map: SortedMap,
+    pub memo: Memo,
+    pub taken: Vec<bool>,
+    pub low: usize,
+}
+
+/// What a step of a search came to.
+#[derive(Drop)]
+pub enum Progress {
+    /// A call was tried, or the search went back by one.
+    Made,
+    /// The calls taken are an order.
+    Order,
+    /// All is tried.
+    NoOrder,
+}
+
+/// Before any call, at the map that the calls begin with.
+pub(crate) fn open(alloc: Global, map: SortedMap, calls: &[Operation]) -> Result<Standing, Memory>
+    ensures stands { IfOk result (StandsBare map calls.now) }
+    ensures none { IfOk result (λ s. s.levels.items ≡ []) }
+    ensures one { IfOk result (λ s. length s.memo ≡ 1) }
+{
+    let mut memo = Memo::new(alloc);
+    let start = Config::start(alloc, &map)?;
+    if let Err((_config, memory)) = memo.visit(start) {
+        return Err(memory);
+    }
+    let mut taken = Vec::new(alloc);
+    taken.resize(calls.len(), false)?;
+    Ok(Standing {
+        levels: Vec::new(alloc),
+        rest: Vec::new(alloc),
+        at: 0,
+        map,
+        memo,
+        taken,
+        low: 0,
+    })
+}
+
+/// One step: the next call is tried, or the search goes back where there is none.
+pub(crate) fn make_step(
+    alloc: Global,
+    calls: &[Operation],
+    standing: &mut Standing,
+) -> Result<Progress, Memory>
+    ghost start: { Contents }
+    requires few { length calls.now + 1 < 2 ^ 32 }
+    requires apart { NonePrecedesItself calls.now }
+    requires rising { AllPairs (λ a b. a.inv < b.inv) calls.now }
+    requires start_rises { IsRising start }
+    requires stands { Stands start calls.now standing.old }
+    ensures { IfOk result (IsStep start calls.now standing.old standing.new) }
+{
+    let Some(place) = standing.rest.pop() else {
+        return go_back(alloc, calls, standing);
+    };
+    let new = take(alloc, calls, standing, place)?;
+    if new {
+        return look_on(alloc, calls, standing);
+    }
+    Ok(Progress::Made)
+}
+
+/// Takes a call, and says whether it leads to a new configuration; else it is put back.
+fn take(
+    alloc: Global,
+    calls: &[Operation],
+    standing: &mut Standing,
+    place: u32,
+) -> Result<bool, Memory>
+    ghost start: { Contents }
+    requires apart { NonePrecedesItself calls.now }
+    requires stands { StandsBare start calls.now standing.old }
+    requires next { IsNextOf start calls.now (places standing.old.levels.items) place standing.old.rest.items }
+    ensures { IfOk result (IsTaken start calls.now place standing.old standing.new) }
+{
+    let undo = take_call(alloc, &mut standing.map, &calls[place as usize])?;
+    let config = standing
+        .memo
+        .at(standing.at)
+        .with(alloc, place, &standing.map)?;
+    match standing.memo.visit(config) {
+        Ok(true) => {
+            push(alloc, standing, place, undo)?;
+            Ok(true)
+        }
+        Ok(false) => {
+            undo_call(alloc, &mut standing.map, undo)?;
+            Ok(false)
+        }
+        Err((_config, memory)) => Err(memory),
+    }
+}
+
+/// One call further, at the configuration that was visited last.
+fn push(
+    alloc: Global,
+    standing: &mut Standing,
+    place: u32,
+    undo: Option<Call>,
+) -> Result<(), Memory>
+    requires place { place < length standing.old.taken.items }
+    requires low { standing.old.low ≤ length standing.old.taken.items }
+    requires visited { 0 < length standing.old.memo }
+    ensures { OnOk result (IsPushed place undo standing.old standing.new) }
+{
+    let at = standing.at;
+    let rest = mem::replace(&mut standing.rest, Vec::new(alloc));
+    standing.levels.push(Level {
+        place,
+        undo,
+        at,
+        rest,
+    })?;
+    standing.at = standing.memo.len() - 1;
+    standing.taken[place as usize] = true;
+    while standing.low < standing.taken.len() && standing.taken[standing.low] {
+        standing.low += 1;
+    }
+    Ok(())
+}
+
+/// Looks which calls may come next where the search now stands.
+pub(crate) fn look_on(
+    alloc: Global,
+    calls: &[Operation],
+    standing: &mut Standing,
+) -> Result<Progress, Memory>
+    ghost start: { Contents }
+    requires few { length calls.now + 1 < 2 ^ 32 }
+    requires apart { NonePrecedesItself calls.now }
+    requires rising { AllPairs (λ a b. a.inv < b.inv) calls.now }
+    requires start_rises { IsRising start }
+    requires stands { StandsBare start calls.now standing.old }
+    ensures { IfOk result (IsLooked start calls.now standing.old standing.new) }
+{
+    match choices(alloc, calls, standing)? {
+        Some(rest) => {
+            standing.rest = rest;
+            Ok(Progress::Made)
+        }
+        None => Ok(Progress::Order),
+    }
+}
+
+/// Back by one call, where nothing is to be tried.
+fn go_back(alloc: Global, calls: &[Operation], standing: &mut Standing) -> Result<Progress, Memory>
+    ghost start: { Contents }
+    requires apart { NonePrecedesItself calls.now }
+    requires stands { StandsBare start calls.now standing.old }
+    requires past { Closes start calls.now (places standing.old.levels.items) [] }
+    requires tried { standing.old.rest.items ≡ [] }
+    ensures { IfOk result (IsStep start calls.now standing.old standing.new) }
+{
+    let Some(level) = standing.levels.pop() else {
+        return Ok(Progress::NoOrder);
+    };
+    let Level {
+        place,
+        undo,
+        at,
+        rest,
+    } = level;
+    undo_call(alloc, &mut standing.map, undo)?;
+    standing.at = at;
+    standing.rest = rest;
+    standing.taken[place as usize] = false;
+    if (place as usize) < standing.low {
+        standing.low = place as usize;
+    }
+    Ok(Progress::Made)
+}
