@@ -1,5 +1,6 @@
 /* The library's calls on the texts of the files named, each with each of its allocations refused in turn, in rooms of every
- * size, and by 64 threads at once. Linked with --wrap of malloc, realloc and free. Run by tests/library. */
+ * size, and by 64 threads at once, each with a stack of 256 KB. Linked with --wrap of malloc, realloc and free. Run by
+ * tests/library. */
 #include "potzendai.h"
 #include <assert.h>
 #include <pthread.h>
@@ -9,7 +10,7 @@
 #include <stdlib.h>
 #include <string.h>
 
-enum { THREADS = 64, ROOM = 1 << 20 };
+enum { THREADS = 64, ROOM = 1 << 20, LITTLE_STACK = 256 * 1024 };
 
 typedef uint32_t call(const char *, size_t, uint32_t, char *, size_t, size_t *);
 static call *const calls[] = {potzendai_judge, potzendai_locate, potzendai_draw};
@@ -122,7 +123,7 @@ static void *run(void *given)
     for (int i = 0; i < work->count; i++)
         for (int c = 0; c < 3; c++)
             assert(is_same(ask(calls[c], work->texts[i], room, ROOM, 0), work->wanted[i][c]));
-    free(room);
+    __real_free(room);
     return NULL;
 }
 
@@ -145,19 +146,24 @@ int main(int count, char **paths)
     for (int i = 0; i < count; i++) {
         texts[i] = text_of(paths[i + 1]);
         for (int c = 0; c < 3; c++) {
-            wanted[i][c] = ask(calls[c], texts[i], calloc(1, ROOM), ROOM, 0);
             held = 0;
+            wanted[i][c] = ask(calls[c], texts[i], calloc(1, ROOM), ROOM, 0);
+            assert(held == 0);
             all_refused += refuse_each(calls[c], texts[i], room, wanted[i][c]);
             fill_each(calls[c], texts[i], wanted[i][c]);
             ask_beyond(calls[c], texts[i]);
         }
     }
     pthread_t threads[THREADS];
+    pthread_attr_t little;
+    assert(pthread_attr_init(&little) == 0 && pthread_attr_setstacksize(&little, LITTLE_STACK) == 0);
     struct work work = {texts, wanted, count};
+    held = 0;
     for (int p = 0; p < THREADS; p++)
-        assert(pthread_create(&threads[p], NULL, run, &work) == 0);
+        assert(pthread_create(&threads[p], &little, run, &work) == 0);
     for (int p = 0; p < THREADS; p++)
         assert(pthread_join(threads[p], NULL) == 0);
+    assert(held == 0);
     printf("%d texts, %ld refused allocations, %d threads\n", count, all_refused, THREADS);
     assert(all_refused > 0);
     return 0;
