@@ -1,0 +1,3 @@
+pub mod LeftListLemmas
+mod GroupLemmas
+mod MarkLemmas

@@ -1,0 +1,4 @@
+pub mod Left
+pub mod Groups
+pub mod Settling
+pub mod Laws
