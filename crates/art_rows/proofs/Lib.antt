@@ -1,2 +1,4 @@
 pub mod ReaderLemmas
 pub mod WriterLemmas
+pub mod KindLemmas
+pub mod ByteLemmas

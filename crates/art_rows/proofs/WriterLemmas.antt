@@ -5,7 +5,7 @@ use Rattle.std.specs.Prelude.{min, nat_le, nat_lt, if◌then◌else◌}
 use Rattle.std.proofs.Math.Nat.{pow-suc, pow-le-pow_right}
 use Rattle.std.proofs.lemmas.Nat.{div_below}
 use Rattle.std.proofs.lemmas.Bool.{cases_lt}
-use Rattle.std.proofs.lemmas.List.{append-nil, length-take, length-append, length-drop}
+use Rattle.std.proofs.lemmas.List.{append-nil, length-take}
 use Rattle.art_rows.specs.Words.{packed, low_bytes, new_place, with_key, count_of, entry_of, keys4_of, keys16_of, keys4_word, keys16_word, more_keys16_word}
 use Rattle.art_rows.proofs.ReaderLemmas.{bytes_of, take_bytes, most_of}
 

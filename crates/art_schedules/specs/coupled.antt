@@ -7,5 +7,4 @@ pub mod Moments
 pub mod Good
 pub mod Walks
 pub mod Scanning
-pub mod Scanned
 pub mod Laws

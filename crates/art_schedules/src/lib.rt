@@ -60,7 +60,6 @@ pub use laws::coupled::held_rows_live;
 pub use laws::coupled::obsolete_rows_leave;
 pub use laws::coupled::others_leave_good;
 pub use laws::coupled::others_leave_ways;
-pub use laws::coupled::scans_come_alone;
 pub use laws::coupled::scans_know_trees;
 pub use laws::coupled::seekers_are_not_answered;
 pub use laws::coupled::walks_are_the_maps;

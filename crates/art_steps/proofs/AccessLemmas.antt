@@ -1,7 +1,7 @@
 -- Every access of every procedure is in the table.
-use Rattle.std.proofs.Common.{◌≡◌, ℕ, zero, suc, ◌+◌, ◌-◌, ◌*◌, ◌/◌, ◌%◌, ◌<◌, ◌≤◌, List, [], ◌∷◌, ◌++◌, length, length-take, refl, ap, subst, sym, arith, Bool}
+use Rattle.std.proofs.Common.{◌≡◌, ℕ, ◌+◌, ◌-◌, ◌*◌, ◌/◌, ◌%◌, ◌<◌, ◌≤◌, List, [], ◌∷◌, ◌++◌, length, refl, subst, sym, arith, Bool}
 use Rattle.std.proofs.Common.{true, false}
-use Rattle.std.specs.Prelude.{min, if◌then◌else◌, ◌==◌, ◌&&◌, nat_lt, nat_le, slice_index, Option, Some, None, option_map, map, filter}
+use Rattle.std.specs.Prelude.{min, ◌==◌, ◌&&◌, nat_lt, nat_le, slice_index, Option, Some, None, filter, if◌then◌else◌}
 use Rattle.std.proofs.lemmas.List.{length-append}
 use Rattle.std.proofs.lemmas.Bool.{false≢true}
 use Rattle.events.specs.declared.event.Call.{Call}
@@ -9,17 +9,17 @@ use Rattle.events.specs.declared.event.Call.TheVariants.{Get, Insert, Remove, Sc
 use Rattle.events.specs.declared.event.Reply.{Reply}
 use Rattle.events.specs.declared.event.Reply.TheVariants as reply
 use Rattle.art_steps.specs.declared.variant.Variant.{Variant}
-use Rattle.art_steps.specs.declared.access.Access.{Access}
-use Rattle.art_steps.specs.declared.access.Point.{Point}
 use Rattle.art_rows.specs.declared.table.Shape.{Shape}
 use Rattle.art_rows.specs.declared.table.Kind.{Kind}
 use Rattle.art_rows.specs.declared.table.Kind.TheVariants.{Four, Sixteen, FortyEight, Full}
 use Rattle.art_rows.specs.declared.table.Child.{Child}
 use Rattle.art_rows.specs.declared.table.Child.TheVariants.{Empty, Row as ChildRow, Leaf}
 use Rattle.art_rows.specs.Table.{capacity, rows_of, table_words, root_base, claims_of, info_at, keys_at, more_keys_at, index_at, count_at, child_at}
-use Rattle.art_rows.specs.Words.{key_bytes, low_bytes, is_locked, is_obsolete, locked_word, keys4_of, keys16_of, count_of, place_of, new_place, entry_of}
+use Rattle.art_rows.specs.Words.{is_locked, is_obsolete, locked_word, keys4_of, keys16_of, count_of, place_of, new_place}
 use Rattle.art_rows.specs.Words.{entries_of}
-use Rattle.art_steps.specs.Steps.{Asks, Answers, Part, from_start, ◌>>=◌, ◌>>◌, give, start_again, load, exchange, numbers, numbers_down}
+use Rattle.art_rows.proofs.ByteLemmas.{key_byte-small, keys4-few, place-within, entries-most, keys16-few}
+use Rattle.art_rows.proofs.WriterLemmas.{new_place-most}
+use Rattle.art_steps.specs.Steps.{Answers, Part, from_start, ◌>>=◌, ◌>>◌, give, start_again, load, exchange, numbers, numbers_down}
 use Rattle.art_steps.specs.Rows.{Setting, Row, Place, is_insert, locks, key_of, leaves_out_check, takes_unchecked, releases_early, lock_point, lock_again, lock}
 use Rattle.art_steps.specs.Rows.{unlock, unlock_obsolete, unlock_all, wait, check, check_of, take_row, Found, Has, Lacks, load_child, find_child, find_among}
 use Rattle.art_steps.specs.Rows.{find_indexed, find_in, find, byte_at, is_full, claim, row_of, path_differs_at, root_row}
@@ -36,6 +36,7 @@ use Rattle.art_steps.proofs.TableLemmas.{Inside, IsSmall, Stays, Within, Any, gi
 use Rattle.art_steps.proofs.TableLemmas.{load-within, load_at-within, exchange-within, add-within, store-within, store_at-within, first_at-within}
 use Rattle.art_steps.proofs.TableLemmas.{recursive-within, repeat-within, Each, each-within, over-within, numbers-each, numbers_down-each, IsIn, IsGood}
 use Rattle.art_steps.proofs.TableLemmas.{child_of-good, base_of-fits}
+use Rattle.art_steps.proofs.TurnLemmas.{answers-asks, answers-same}
 
 pub in-base : {s : Shape} {base : ℕ} {kind : Kind} → IsIn s base kind → Inside s base
 in-base {kind = Four} h = omega (arith, h.begins, h.fits)
@@ -121,50 +122,6 @@ unfolding find_child
 find_child-within c kind slot h =
     bind-within (load_at-within c.shape _ slot h) λ w _. give-within c.shape (IsGoodFound c.shape kind) _ (h, child_of-good c.shape w)
 
-place-length : (x : ℕ) (keys : List ℕ) (i : ℕ) → place_of x keys ≡ Some i → i < length keys
-place-length x [] i e = absurd (none_some e)
-  where
-    none_some : {y : ℕ} → ◌≡◌ {A = Option ℕ} None (Some y) → ⊥
-    none_some h = cc
-place-length x (y ∷ ys) i e = go (λ j p. place-length x ys j p) (y == x) (place_of x ys) refl e
-  where
-    some_same : {a b : ℕ} → ◌≡◌ {A = Option ℕ} (Some a) (Some b) → a ≡ b
-    some_same h = cc
-
-    none_some : {b : ℕ} → ◌≡◌ {A = Option ℕ} None (Some b) → ⊥
-    none_some h = cc
-
-    go : ((j : ℕ) → place_of x ys ≡ Some j → j < length ys) → (b : Bool) (o : Option ℕ) → place_of x ys ≡ o
-        → (if b then Some 0 else option_map (λ i. i + 1) o) ≡ Some i → i < suc (length ys)
-    go more true o p h = let z : 0 ≡ i = some_same h in omega arith
-    go more false None p h = absurd (none_some h)
-    go more false (Some j) p h = let z : j + 1 ≡ i = some_same h in let l : j < length ys = more j p in omega arith
-
-low_bytes-length : (n w : ℕ) → length (low_bytes n w) ≡ n
-low_bytes-length zero w = refl
-low_bytes-length (suc n) w = ap suc (low_bytes-length n (w / 256))
-
-keys4-length : (w : ℕ) → length (keys4_of w) ≤ 4
-keys4-length w = go (nat_le (w % 256) 4) refl
-  where
-    go : (b : Bool) → nat_le (w % 256) 4 ≡ b → length (if b then low_bytes (w % 256) (w / 256) else []) ≤ 4
-    go true e = rw low_bytes-length (grind arith)
-    go false e = omega arith
-
-keys16-length : (c a b : ℕ) → length (keys16_of c a b) ≤ 16
-keys16-length c a b = rw length-take (omega arith)
-
-mapped-most : (f : ℕ → ℕ) (m : ℕ) → ((y : ℕ) → f y ≤ m) → (xs : List ℕ) (k : ℕ) → slice_index (map f xs) k ≤ m
-mapped-most f m h [] k = omega arith
-mapped-most f m h (x ∷ xs) zero = h x
-mapped-most f m h (x ∷ xs) (suc k) = mapped-most f m h xs k
-
-entry-most : (e : ℕ) → entry_of e ≤ 48
-entry-most e = grind arith
-
-pub entries-most : (w k : ℕ) → slice_index (entries_of w) k ≤ 48
-entries-most w k = mapped-most entry_of 48 entry-most (low_bytes 8 w) k
-
 count-most : (m w : ℕ) → count_of m w ≤ m
 count-most m w = grind arith
 
@@ -182,14 +139,14 @@ find_in-within : (c : Setting) (base : ℕ) (kind : Kind) (level : ℕ) (path : 
     → Within c.shape (IsGoodFound c.shape kind) (find_in kind c (row base kind level path kept) x)
 unfolding find_in find_indexed row
 find_in-within c base Four level path kept x lx h = bind-within (load-within c.shape (keys_at base) (omega (arith, h.begins, h.fits))) λ w _.
-    find_among-within c (row base Four level path kept) (keys4_of w) (place_of x (keys4_of w)) h (refl, keys4-length w)
-    (λ i e. omega (arith, place-length x (keys4_of w) i e, keys4-length w))
+    find_among-within c (row base Four level path kept) (keys4_of w) (place_of x (keys4_of w)) h (refl, keys4-few w)
+    (λ i e. omega (arith, (place-within x (keys4_of w) i e).0, keys4-few w))
 find_in-within c base Sixteen level path kept x lx h =
     bind-within (load-within c.shape (count_at Sixteen base) (omega (arith, h.begins, h.fits))) λ count _.
     bind-within (load-within c.shape (keys_at base) (omega (arith, h.begins, h.fits))) λ a _.
     bind-within (load-within c.shape (more_keys_at base) (omega (arith, h.begins, h.fits))) λ b _.
-    find_among-within c (row base Sixteen level path kept) (keys16_of count a b) (place_of x (keys16_of count a b)) h (refl, keys16-length count a b)
-    (λ i e. omega (arith, place-length x (keys16_of count a b) i e, keys16-length count a b))
+    find_among-within c (row base Sixteen level path kept) (keys16_of count a b) (place_of x (keys16_of count a b)) h (refl, keys16-few count a b)
+    (λ i e. omega (arith, (place-within x (keys16_of count a b) i e).0, keys16-few count a b))
 find_in-within c base FortyEight level path kept x lx h =
     bind-within (load-within c.shape (index_at base x) (omega (arith, h.begins, h.fits, lx))) λ w _. indexed w
   where
@@ -210,16 +167,9 @@ find_in-within c base Full level path kept x lx h =
     bind-within (load-within c.shape (child_at Full base x) (omega (arith, h.begins, h.fits, lx))) λ w _. give-within c.shape (IsGoodFound c.shape Full) _
     (omega (arith, h.begins, h.fits, lx), child_of-good c.shape w)
 
-byte-most : (key level : ℕ) → slice_index (key_bytes key) level < 256
-byte-most key zero = omega arith
-byte-most key (suc zero) = omega arith
-byte-most key (suc (suc zero)) = omega arith
-byte-most key (suc (suc (suc zero))) = omega arith
-byte-most key (suc (suc (suc (suc level)))) = omega arith
-
 pub find-within : (c : Setting) (n : Row) → IsRow c.shape n → Within c.shape (IsGoodFound c.shape n.kind) (find c n)
 unfolding find row
-find-within c n h = find_in-within c n.base n.kind n.level n.path n.kept (byte_at c n.level) (byte-most (key_of c.call) n.level) h
+find-within c n h = find_in-within c n.base n.kind n.level n.path n.kept (byte_at c n.level) (key_byte-small (key_of c.call) n.level) h
 
 pub claim-within : (c : Setting) (held : List Row) (kind : Kind) → 5 ≤ table_words c.shape → Each (IsRow c.shape) held
     → Within c.shape (λ base. IsIn c.shape base kind) (claim c held kind)
@@ -257,14 +207,6 @@ pair_in-within c held slot d a few hs h = bind-within (pair-within c held d a _ 
 copy_child-within : (c : Setting) (from to : ℕ) → Inside c.shape from → Inside c.shape to → Within c.shape Any (copy_child c from to)
 unfolding copy_child
 copy_child-within c from to f t = bind-within (load_child-within c from f) λ child _. store-within c.shape to _ t
-
-new_place-most : (x : ℕ) (keys : List ℕ) → new_place x keys ≤ length keys
-new_place-most x [] = omega arith
-new_place-most x (y ∷ ys) = go (nat_lt y x) (new_place-most x ys)
-  where
-    go : (b : Bool) → new_place x ys ≤ length ys → (if b then suc (new_place x ys) else new_place x ys) ≤ suc (length ys)
-    go true h = omega arith
-    go false h = omega arith
 
 make_room-within : (c : Setting) (n : Row) (i count : ℕ) → IsRow c.shape n → i ≤ count → count < capacity n.kind → Within c.shape Any (make_room c n i count)
 unfolding make_room
@@ -305,7 +247,7 @@ put_in-within c base Full level path kept x keys count lx h g f = give-within c.
 pub put-within : (c : Setting) (n : Row) (keys : List ℕ) (count : ℕ) → IsRow c.shape n → IsGoodLacks n.kind keys count → is_full n count ≡ false
     → Within c.shape Any (put c n keys count)
 unfolding put row
-put-within c n keys count h g f = put_in-within c n.base n.kind n.level n.path n.kept (byte_at c n.level) keys count (byte-most (key_of c.call) n.level) h g f
+put-within c n keys count h g f = put_in-within c n.base n.kind n.level n.path n.kept (byte_at c n.level) keys count (key_byte-small (key_of c.call) n.level) h g f
 
 index-in : {s : Shape} {base : ℕ} → IsIn s base FortyEight → (j : ℕ) → j < 32 → Inside s (index_at base (8 * j))
 index-in h j l = omega (arith, h.begins, h.fits, l)
@@ -376,7 +318,7 @@ pub grow-within : (c : Setting) (above : List Row) (slot : ℕ) (n : Row) (keys 
 unfolding grow row
 grow-within c above slot n keys count few hs hl h g = bind-within (claim-within c (n ∷ above) (next_kind n.kind) few (h, hs)) λ base hb.
     then-within (store-within c.shape (info_at base) _ (in-info hb))
-    (then-within (fill-within c n.base n.kind n.level n.path n.kept base (byte_at c n.level) keys count (byte-most (key_of c.call) n.level) h hb g)
+    (then-within (fill-within c n.base n.kind n.level n.path n.kept base (byte_at c n.level) keys count (key_byte-small (key_of c.call) n.level) h hb g)
     (then-within (store-within c.shape slot _ hl)
     (then-within (unlock_obsolete-within c.shape n h) (unlock_all-within c.shape above hs))))
 
@@ -646,7 +588,7 @@ module _ (c : Setting) (lo hi : ℕ) (walk : Row → Walked → Part Walked)
       → Within c.shape (IsWalk c.shape) (walk_keys c lo hi walk n keys xs w)
   unfolding walk_keys
   walk_keys-within n keys xs w hn l h = over-within c.shape Any (IsWalk c.shape) _
-      (λ x v _ hv. walk_place-within n (place_of x keys) v hn (λ i e. omega (arith, place-length x keys i e, l)) hv) xs (anything xs) w h
+      (λ x v _ hv. walk_place-within n (place_of x keys) v hn (λ i e. omega (arith, (place-within x keys i e).0, l)) hv) xs (anything xs) w h
     where
       anything : (xs : List ℕ) → Each Any xs
       anything [] = tt
@@ -679,12 +621,12 @@ module _ (c : Setting) (lo hi : ℕ) (walk : Row → Walked → Part Walked)
       → Within c.shape (IsWalk c.shape) (walk_in c lo hi walk kind (row base kind level path kept) xs w)
   unfolding walk_in row
   walk_in-within base Four level path kept xs w hn b h = bind-within (load-within c.shape (keys_at base) (omega (arith, hn.begins, hn.fits))) λ keys _.
-      walk_keys-within (row base Four level path kept) (keys4_of keys) xs w hn (keys4-length keys) h
+      walk_keys-within (row base Four level path kept) (keys4_of keys) xs w hn (keys4-few keys) h
   walk_in-within base Sixteen level path kept xs w hn b h =
       bind-within (load-within c.shape (count_at Sixteen base) (omega (arith, hn.begins, hn.fits))) λ count _.
       bind-within (load-within c.shape (keys_at base) (omega (arith, hn.begins, hn.fits))) λ first _. bind-within
       (load-within c.shape (more_keys_at base) (omega (arith, hn.begins, hn.fits))) λ second _.
-      walk_keys-within (row base Sixteen level path kept) (keys16_of count first second) xs w hn (keys16-length count first second) h
+      walk_keys-within (row base Sixteen level path kept) (keys16_of count first second) xs w hn (keys16-few count first second) h
   walk_in-within base FortyEight level path kept xs w hn b h = over-within c.shape (λ j. j < 32) (IsWalk c.shape)
       (λ j. walk_index c lo hi walk (row base FortyEight level path kept) j (filter (λ x. x / 8 == j) xs))
       (λ j v lj hv. walk_index-within (row base FortyEight level path kept) base j (filter (λ x. x / 8 == j) xs) v refl hn lj hv) (numbers 0 32)
@@ -741,14 +683,8 @@ from_start-stays s m h = (repeat-within s IsSmall (λ self again after. m (self 
     (λ self k. record { rest = λ again after sa sb. h.rest (self again after) after (k.rest again after sa sb) sb })).rest
     (λ got. Answers reply.None) (λ r got. Answers r) (ended reply.None (omega arith)) (λ r small. ended r small)
   where
-    answers_asks : {r : Reply} {a : Access} {p : Option Point} → Answers r ≡ Asks a p → ⊥
-    answers_asks e = cc
-
-    answers_same : {q r : Reply} → Answers q ≡ Answers r → q ≡ r
-    answers_same e = cc
-
     ended : (r : Reply) → IsSmall r → Stays s (λ got. Answers r)
-    ended r small = record { at = λ got a p e. absurd (answers_asks e); says = λ got q e. subst IsSmall (answers_same e) small }
+    ended r small = record { at = λ got a p e. absurd (answers-asks e); says = λ got q e. subst IsSmall (answers-same e) small }
 
 -- Every access of every call is in the table, whatever words were got.
 pub act-stays : (shape : Shape) (variant : Variant) (call : Call) → 1 ≤ shape.rows256 → StaysInTable shape (act shape variant call)

@@ -1,8 +1,7 @@
 -- Every access is in the table, whatever words were got.
 use Rattle.std.proofs.Common.{◌≡◌, ℕ, zero, suc, ◌+◌, ◌-◌, ◌/◌, ◌%◌, ◌<◌, ◌≤◌, List, [], ◌∷◌, length, refl, ap, subst, arith, Bool, true, false}
-use Rattle.std.specs.Prelude.{min, if◌then◌else◌, ◌==◌, Option, Some, None}
+use Rattle.std.specs.Prelude.{min, ◌==◌, Option, Some, None, if◌then◌else◌}
 use Rattle.events.specs.declared.event.Reply.{Reply}
-use Rattle.events.specs.declared.event.Reply.TheVariants as reply
 use Rattle.events.specs.Histories.{pair_count}
 use Rattle.events.specs.Limits.{pair_limit}
 use Rattle.art_rows.specs.declared.table.Shape.{Shape}
@@ -17,6 +16,7 @@ use Rattle.art_steps.specs.declared.access.Point.{Point}
 use Rattle.art_steps.specs.Steps.{Turn, Asks, Answers, Rest, Part, ◌>>=◌, ◌>>◌, give, start_again, answer, access, load, load_at, store, store_at, exchange}
 use Rattle.art_steps.specs.Steps.{add, marked, first_at, calls_of, recursive, repeat, each, over, numbers, numbers_down}
 use Rattle.art_steps.specs.Fits.{word_of}
+use Rattle.art_steps.proofs.TurnLemmas.{asks-answers, answers-asks, asks-same, answers-same}
 
 -- a word of the table that is not the clock
 abbrev pub Inside : Shape → ℕ → Type 0
@@ -37,25 +37,16 @@ pub record Within {A : Type 0} (s : Shape) (P : A → Type 0) (m : Part A) : Typ
 abbrev pub Any : {A : Type 0} → A → Type 0
 Any x = Unit {0}
 
-asks_answers : {a : Access} {p : Option Point} {r : Reply} → Asks a p ≡ Answers r → ⊥
-asks_answers e = cc
-
-answers_same : {q r : Reply} → Answers q ≡ Answers r → q ≡ r
-answers_same e = cc
-
-asks_same : {a b : Access} {p q : Option Point} → Asks a p ≡ Asks b q → a ≡ b
-asks_same e = cc
-
 access-stays : (s : Shape) (a : Access) (p : Option Point) (after : ℕ → Rest) → Inside s (word_of a) → ((w : ℕ) → Stays s (after w))
     → Stays s (access a p after)
 access-stays s a p after h k = record { at = go; says = said }
   where
     said : (got : List ℕ) (r : Reply) → access a p after got ≡ Answers r → IsSmall r
-    said [] r e = absurd (asks_answers e)
+    said [] r e = absurd (asks-answers e)
     said (w ∷ got) r e = (k w).says got r e
 
     go : (got : List ℕ) (b : Access) (q : Option Point) → access a p after got ≡ Asks b q → Inside s (word_of b)
-    go [] b q e = rw (asks_same e) at h
+    go [] b q e = rw (asks-same e) at h
     go (w ∷ got) b q e = (k w).at got b q e
 
 pub give-within : {A : Type 0} (s : Shape) (P : A → Type 0) (a : A) → P a → Within s P (give a)
@@ -66,10 +57,7 @@ again-within s P = record { rest = λ again after sa sb. sa }
 
 pub answer-within : {A : Type 0} (s : Shape) (P : A → Type 0) (r : Reply) → IsSmall r → Within s P (answer r)
 answer-within s P r small =
-    record { rest = λ again after sa sb. record { at = λ got a p e. absurd (answers_asks e); says = λ got q e. subst IsSmall (answers_same e) small } }
-  where
-    answers_asks : {a : Access} {p : Option Point} → Answers r ≡ Asks a p → ⊥
-    answers_asks e = cc
+    record { rest = λ again after sa sb. record { at = λ got a p e. absurd (answers-asks e); says = λ got q e. subst IsSmall (answers-same e) small } }
 
 pub bind-within : {A B : Type 0} {s : Shape} {P : A → Type 0} {Q : B → Type 0} {m : Part A} {f : A → Part B} → Within s P m
     → ((x : A) → P x → Within s Q (f x)) → Within s Q (m >>= f)
@@ -109,14 +97,11 @@ first_at-within {A = A} {s = s} {m = m} p k =
     record { rest = λ again after sa sb. record { at = go again after (k.rest again after sa sb); says = said again after (k.rest again after sa sb) } }
   where
     unmark : (t : Turn) (a : Access) (q : Option Point) → marked p t ≡ Asks a q → (r : Option Point) × (t ≡ Asks a r)
-    unmark (Asks b r) a q e = (r, ap (λ x. Asks x r) (asks_same e))
-    unmark (Answers r) a q e = absurd (answers_asks e)
-      where
-        answers_asks : {a : Access} {p : Option Point} → Answers r ≡ Asks a p → ⊥
-        answers_asks e = cc
+    unmark (Asks b r) a q e = (r, ap (λ x. Asks x r) (asks-same e))
+    unmark (Answers r) a q e = absurd (answers-asks e)
 
     unmark_reply : (t : Turn) (r : Reply) → marked p t ≡ Answers r → t ≡ Answers r
-    unmark_reply (Asks b q) r e = absurd (asks_answers e)
+    unmark_reply (Asks b q) r e = absurd (asks-answers e)
     unmark_reply (Answers q) r e = e
 
     said : (again : Rest) (after : A → Rest) → Stays s (m again after) → (got : List ℕ) (r : Reply) → first_at p m again after got ≡ Answers r → IsSmall r
@@ -142,13 +127,10 @@ recursive-within {S} {A} s P I body h x i =
     all zero x i =
         record {
           rest = λ again after sa sb. record {
-            at = λ got a p e. absurd (answers_asks e);
-            says = λ got r e. subst IsSmall (answers_same e) (omega arith);
+            at = λ got a p e. absurd (answers-asks e);
+            says = λ got r e. subst IsSmall (answers-same e) (omega arith);
           };
         }
-      where
-        answers_asks : {a : Access} {p : Option Point} → Answers reply.None ≡ Asks a p → ⊥
-        answers_asks e = cc
     all (suc n) x i =
         record {
           rest = λ again after sa sb. record {

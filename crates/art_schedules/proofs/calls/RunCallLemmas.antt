@@ -1,9 +1,10 @@
 -- The calls of a run's history are those that its processes begin.
-use Rattle.std.proofs.Common.{◌≡◌, ℕ, suc, ◌+◌, ◌<◌, ◌≤◌, true, List, [], ◌∷◌, length, take, Option, Some, None, refl, sym, ap, ap₂, ◌∙◌, subst, ⊎_elim}
+use Rattle.std.proofs.Common.{◌≡◌, ℕ, suc, ◌+◌, ◌<◌, ◌≤◌, true, List, length, Option, Some, None, refl, sym, ap, ap₂, ◌∙◌, subst, ⊎_elim}
 use Rattle.std.proofs.Common.{arith}
 use Rattle.std.specs.Prelude.{option_map, slice_get, IfSome}
 use Rattle.std.proofs.lemmas.Bool.{cases_lt, cases_order, ltb-true}
 use Rattle.std.proofs.lemmas.Option.{same_Some, none-some, slice_get-map, slice_get_within}
+use Rattle.std.proofs.Math.Seq.{take-length}
 use Rattle.list_laws.proofs.Lists.{All-at, AllPairs-at, place_of-Contains}
 use Rattle.list_laws.proofs.NumberLemmas.{slice_get-below}
 use Rattle.events.specs.declared.event.Call.{Call}
@@ -29,10 +30,6 @@ use Rattle.art_schedules.proofs.calls.MomentLemmas.{LogsAt, begun-before, earlie
 use Rattle.art_schedules.proofs.calls.MomentLemmas.{responds-next}
 use Rattle.art_schedules.proofs.calls.MomentLemmas.{same-process, stage-after, stage-idle, stage-open, stage-rises}
 use Rattle.art_schedules.proofs.calls.TraceLemmas.{Dated, Traced, traced}
-
-take-whole : (xs : List ℕ) → take (length xs) xs ≡ xs
-take-whole [] = refl
-take-whole (x ∷ xs) = ap (λ zs. x ∷ zs) (take-whole xs)
 
 -- what a mapped item comes from
 mapped : {A B : Type 0} (f : A → B) (o : Option A) (y : B) → option_map f o ≡ Some y → (x : A) × (o ≡ Some x) × (f x ≡ y)
@@ -359,5 +356,5 @@ run-has-calls plan start words schedule s run =
     let long = start-length plan.shape plan.variant start words run.starts in
     let zeroed = start-clock plan.shape plan.variant start words run.starts in
     let end : At plan (opened_on plan words) schedule (length schedule) s =
-    subst (λ xs. Gives plan (opened_on plan words) xs s) (sym (take-whole schedule)) run.gives in
+    subst (λ xs. Gives plan (opened_on plan words) xs s) (sym (take-length schedule)) run.gives in
     calls-of-run plan words schedule s (traced plan words schedule s run.within long zeroed run.gives run.few_steps (length schedule) s end) end

@@ -1,6 +1,6 @@
 -- What calm_after makes of each word.
 use Rattle.std.proofs.Common.{◌≡◌, ℕ, zero, suc, ◌+◌, ◌*◌, ◌-◌, ◌/◌, ◌<◌, ◌≤◌, Bool, true, false, List, length, refl, ap, sym, subst, ◌∙◌, inl, inr, arith}
-use Rattle.std.specs.Prelude.{◌⊎◌, ◌||◌, ◌&&◌, nat_lt, if◌then◌else◌, map, slice_index, Option, Some, None}
+use Rattle.std.specs.Prelude.{◌⊎◌, ◌||◌, ◌&&◌, nat_lt, map, slice_index, Option, Some, None, if◌then◌else◌}
 use Rattle.std.proofs.lemmas.Bool.{cases_lt, cases_Bool, lt-ltb, ltb-true}
 use Rattle.std.proofs.lemmas.List.{get_or_past}
 use Rattle.art_rows.specs.declared.table.Shape.{Shape}
@@ -8,14 +8,10 @@ use Rattle.art_rows.specs.declared.table.Kind.{Kind}
 use Rattle.art_rows.specs.declared.table.Kind.TheVariants.{Four, Sixteen, FortyEight, Full}
 use Rattle.art_rows.specs.Table.{row_words, rows_of, table_words, base_of, kind_at}
 use Rattle.art_serial.proofs.words.TableLemmas.{kind_at-base_of, row_begins, row_ends, rows_apart}
+use Rattle.art_serial.proofs.writes.GrowSixteenLemmas.{entry-at}
 use Rattle.art_steps.specs.Steps.{numbers}
 use Rattle.art_versions.specs.versions.Steady.{SameRow}
 use Rattle.art_schedules.specs.calm.Calm.{is_busy, lies_at, lies_below, is_of_busy_row, calm_after}
-
-at-number : (f : ℕ → ℕ) (first n i : ℕ) → i < n → slice_index (map f (numbers first n)) i ≡ f (first + i)
-at-number f first zero i h = absurd (omega (arith, h))
-at-number f first (suc n) zero h = ap f (omega arith)
-at-number f first (suc n) (suc i) h = at-number f (first + 1) n i (omega (arith, h)) ∙ ap f (omega arith)
 
 as-many : (f : ℕ → ℕ) (first n : ℕ) → length (map f (numbers first n)) ≡ n
 as-many f first zero = refl
@@ -95,7 +91,7 @@ module _ (shape : Shape) (calm later : List ℕ) where
   after-at : (word : ℕ) → word < length later → slice_index (calm_after shape calm later) word ≡ chosen word (is_of_busy_row shape later word)
   unfolding calm_after
   after-at word h =
-      at-number (λ word. if is_of_busy_row shape later word then slice_index calm word else slice_index later word) 0 (length later) word h
+      entry-at (λ word. if is_of_busy_row shape later word then slice_index calm word else slice_index later word) 0 (length later) word h
       ∙ ap (λ x. chosen x (is_of_busy_row shape later x)) (omega arith)
 
   pub after-past : (word : ℕ) → length later ≤ word → slice_index (calm_after shape calm later) word ≡ slice_index later word

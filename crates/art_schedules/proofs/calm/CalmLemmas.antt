@@ -9,7 +9,10 @@ use Rattle.art_rows.specs.declared.table.Shape.{Shape}
 use Rattle.art_rows.specs.declared.table.Kind.{Kind}
 use Rattle.art_rows.specs.Table.{row_words, rows_of, table_words, claims_of, base_of, kind_at}
 use Rattle.art_rows.specs.Words.{is_locked, is_obsolete, released_word}
+use Rattle.art_rows.proofs.KindLemmas.{some-words, claims-few}
 use Rattle.art_serial.proofs.words.TableLemmas.{kind_at-base_of, row_begins, rows_apart}
+use Rattle.art_serial.proofs.trees.Descents.{small_at}
+use Rattle.art_serial.proofs.words.VersionLemmas.{even-free, taken-locked, obsolete_obsolete, obsolete_released}
 use Rattle.art_steps.specs.declared.variant.Variant.{Variant}
 use Rattle.art_steps.specs.declared.variant.Variant.TheVariants.{Optimistic}
 use Rattle.art_steps.specs.declared.access.Access.TheVariants.{Store}
@@ -26,19 +29,18 @@ use Rattle.art_versions.specs.versions.Steady.{SameRow, IsSteady}
 use Rattle.art_versions.specs.versions.Fresh.{FreshAreZero}
 use Rattle.art_versions.proofs.versions.KnownLemmas.{held-is-kept}
 use Rattle.art_versions.proofs.versions.ChangeLemmas.{good-more}
-use Rattle.art_versions.proofs.versions.MoveLemmas.{settled-row, some-words, claims-low, true-false}
+use Rattle.art_versions.proofs.versions.MoveLemmas.{settled-row, true-false}
 use Rattle.art_versions.proofs.versions.WordFacts.{version-free}
 use Rattle.art_versions.proofs.versions.RunLemmas.{AllIdle}
 use Rattle.art_schedules.specs.calm.Calm.{is_busy, calm_after, IsCalm}
 use Rattle.art_schedules.specs.calm.Changes.{AsksFor, HoldsThen, RowChange, RowsStay, RowWritten, RowFilled, RowTaken, RowReleased, IsOutside}
 use Rattle.art_schedules.specs.calm.Changes.{CalmChange, CalmStays, CalmFilled, CalmReleased, CalmStep}
 use Rattle.art_schedules.proofs.calm.AfterLemmas.{after-long, after-past, after-low, after-free, after-busy, after-either, IsOfRow, row-of-word}
-use Rattle.art_schedules.proofs.calm.SmallRunLemmas.{small-at}
 use Rattle.art_schedules.proofs.calm.ReachedLemmas.{reached-good}
 use Rattle.art_schedules.proofs.calm.VersionLemmas.{locked-busy, obsolete-busy, free-parts, free-busy, not-behind, held-locked, held-version, VersionChange}
 use Rattle.art_schedules.proofs.calm.VersionLemmas.{Stays}
 use Rattle.art_schedules.proofs.calm.VersionLemmas.{IsTaken, IsReleased}
-use Rattle.art_schedules.proofs.calm.VersionLemmas.{version-change, taken-locked, free-locked, released-free, obsolete-free, obsolete-set, released-same}
+use Rattle.art_schedules.proofs.calm.VersionLemmas.{version-change, released-free, obsolete-free}
 use Rattle.art_schedules.proofs.calm.VersionLemmas.{obsolete-stays, BusySettled}
 
 -- a version that is kept in the optimistic tree is not obsolete
@@ -112,7 +114,7 @@ module _ (variant : Variant) (shape : Shape) (n m : ℕ) (s later : State) (h : 
           (inr (ap is_obsolete same ∙ kept-live variant (IsSettled variant shape later) x kept known)) ∙ same)
       go (IsTaken v free was now settled) =
           let same : v ≡ x.kept = omega (arith, now, is) in
-          c.free x.base x.kind row (free-busy (slice_index s.words x.base) (ap is_locked was ∙ free-locked v free)
+          c.free x.base x.kind row (free-busy (slice_index s.words x.base) (ap is_locked was ∙ even-free v free)
           (ap is_obsolete (was ∙ same) ∙ kept-live variant (IsSettled variant shape later) x kept known)) x.base (omega arith)
           (omega (arith, some-words x.kind))
           ∙ (was ∙ same)
@@ -139,14 +141,14 @@ module _ (variant : Variant) (shape : Shape) (n m : ℕ) (s later : State) (h : 
   module _ (fresh : FreshAreZero shape later) (small : All (λ w. w < 2 ^ 64) later.words) where
     small-then : All (λ w. w < 2 ^ 64) after
     small-then = All-from_get_or (λ w. w < 2 ^ 64) after 0 (λ word within. elim (after-either shape calm later.words word) [
-      | inl e ↦ subst (λ w. w < 2 ^ 64) (sym e) (small-at calm word c.small)
-      | inr e ↦ subst (λ w. w < 2 ^ 64) (sym e) (small-at later.words word small)
+      | inl e ↦ subst (λ w. w < 2 ^ 64) (sym e) (small_at calm word c.small)
+      | inr e ↦ subst (λ w. w < 2 ^ 64) (sym e) (small_at later.words word small)
     ])
 
     fresh-then : (kind : Kind) (number word : ℕ) → slice_index after (claims_of kind) ≤ number → number < rows_of shape kind → base_of shape kind number ≤ word
         → word < base_of shape kind number + row_words kind → slice_index after word ≡ 0
     fresh-then kind number word past within low high =
-        let claims = after-low shape calm later.words (claims_of kind) (claims-low kind) in
+        let claims = after-low shape calm later.words (claims_of kind) (claims-few kind) in
         let before : slice_index later.words (claims_of kind) ≤ number = omega (arith, claims, past) in
         let row = kind_at-base_of shape kind number within in
         let none = fresh kind number before within (base_of shape kind number) (omega arith) (omega (arith, some-words kind)) in
@@ -260,17 +262,17 @@ module _ (variant : Variant) (shape : Shape) (n m : ℕ) (s later : State) (h : 
   calm-change settled (RowReleased x value asks rest with then kept written is others) = elim written [
     | inl w ↦ subst (λ v. (a : AsksFor variant shape s p (Store x.base v)) → IsWith x rest (held_by variant shape a.call a.process)
         → HoldsThen variant shape later p a.call rest → CalmChange variant shape s p later calm after) (sym w) (released (is ∙ w)) asks with then
-    | inr w ↦ CalmStays (all-stay x kept others (obsolete-busy (slice_index later.words x.base) (ap is_obsolete (is ∙ w) ∙ obsolete-set x.kept)))
+    | inr w ↦ CalmStays (all-stay x kept others (obsolete-busy (slice_index later.words x.base) (ap is_obsolete (is ∙ w) ∙ obsolete_obsolete x.kept)))
   ]
     where
       released : slice_index later.words x.base ≡ released_word x.kept → (a : AsksFor variant shape s p (Store x.base (released_word x.kept)))
           → IsWith x rest (held_by variant shape a.call a.process) → HoldsThen variant shape later p a.call rest → CalmChange variant shape s p later calm after
       released now a b d = elim (cases_Bool (is_obsolete x.kept)) [
         | inl gone ↦ CalmStays (all-stay x kept others
-            (obsolete-busy (slice_index later.words x.base) (ap is_obsolete now ∙ (released-same x.kept ∙ gone))))
+            (obsolete-busy (slice_index later.words x.base) (ap is_obsolete now ∙ (obsolete_released x.kept ∙ gone))))
         | inr alive ↦ CalmReleased x a rest b d kept alive
             (free-row x.base x.kind (its-row x kept others) (free-busy (slice_index later.words x.base)
-            (ap is_locked now ∙ released-free x.kept (version-free (locks variant) x.kept kept.0)) (ap is_obsolete now ∙ (released-same x.kept ∙ alive))))
+            (ap is_locked now ∙ released-free x.kept (version-free (locks variant) x.kept kept.0)) (ap is_obsolete now ∙ (obsolete_released x.kept ∙ alive))))
             (rest-stay x kept others)
       ]
 

@@ -1,14 +1,14 @@
 -- What each step of a full tree changes in the words of rows.
 use Rattle.std.proofs.Common.{◌≡◌, ◌≢◌, ℕ, ◌+◌, ◌^◌, ◌<◌, ◌≤◌, Bool, true, false, List, [], length, refl, ap, sym, subst, ◌∙◌, inl, inr, arith}
 use Rattle.std.proofs.Common.{eq-eqb, ne_eqb}
-use Rattle.std.specs.Prelude.{◌==◌, if◌then◌else◌, slice_get, slice_index, slice_set, Option, Some, None}
+use Rattle.std.specs.Prelude.{◌==◌, slice_get, slice_index, slice_set, Option, Some, None, if◌then◌else◌}
 use Rattle.std.proofs.lemmas.Bool.{cases_eq}
 use Rattle.std.proofs.lemmas.Option.{same_Some, none-some}
 use Rattle.events.specs.declared.event.Call.{Call}
-use Rattle.events.specs.declared.event.Reply.{Reply}
 use Rattle.art_rows.specs.declared.table.Shape.{Shape}
 use Rattle.art_rows.specs.Table.{claims_of}
 use Rattle.art_rows.specs.Words.{locked_word}
+use Rattle.art_rows.proofs.KindLemmas.{claims-few}
 use Rattle.art_steps.specs.declared.variant.Variant.{Variant}
 use Rattle.art_steps.specs.declared.access.Access.{Access}
 use Rattle.art_steps.specs.declared.access.Access.TheVariants.{Load, Store, Exchange, Add}
@@ -18,6 +18,7 @@ use Rattle.art_steps.specs.Rows.{Setting, locks}
 use Rattle.art_steps.specs.Act.{act}
 use Rattle.art_steps.specs.Fits.{word_of}
 use Rattle.art_steps.proofs.AccessLemmas.{act-stays}
+use Rattle.art_steps.proofs.TurnLemmas.{asks-same, asks-answers}
 use Rattle.art_stages.specs.declared.stage.Held.{Held}
 use Rattle.art_stages.specs.Calls.{CallAt, call_turn, call_after, call_begun}
 use Rattle.art_stages.specs.Stages.{setting}
@@ -26,28 +27,24 @@ use Rattle.art_core.specs.Accesses.{told}
 use Rattle.art_core.specs.Core.{Plan, State, Move, Invokes, Makes, Responds, after_move, moved, move_of, invocation, next_call, move_from, word_of_move}
 use Rattle.art_core.specs.Core.{new_word, step}
 use Rattle.art_core.proofs.HistoryLemmas.{is-moved}
+use Rattle.art_serial.proofs.writes.StoreLemmas.{stored-at}
+use Rattle.art_serial.proofs.serial.OrderlyLemmas.{set-here}
 use Rattle.art_versions.specs.versions.Holding.{OfRows, Named, IsKept, holds}
 use Rattle.art_versions.specs.versions.Effects.{Has, Does, Reads, Writes, Fills, Ends, Releases, Takes, Claims, Answered, IsAmong}
 use Rattle.art_versions.specs.versions.Versions.{stage_of, IsSettled, IsSound}
 use Rattle.art_versions.specs.versions.Laws.{IsFull}
 use Rattle.art_versions.proofs.versions.WordFacts.{version-free}
 use Rattle.art_versions.proofs.versions.KnownLemmas.{held-is-kept}
-use Rattle.art_versions.proofs.versions.ChangeLemmas.{index-same, index-other, set-same}
-use Rattle.art_versions.proofs.versions.MoveLemmas.{settled-row, claims-low}
+use Rattle.art_versions.proofs.versions.ChangeLemmas.{index-other}
+use Rattle.art_versions.proofs.versions.MoveLemmas.{settled-row}
 use Rattle.art_versions.proofs.versions.StepLemmas.{after-more, does, next-turn}
 use Rattle.art_schedules.specs.calm.Changes.{AsksFor, HoldsThen, RowChange, RowsStay, RowWritten, RowFilled, RowTaken, RowReleased}
-
-asks-same : {a b : Access} {m l : Option Point} → Asks a m ≡ Asks b l → a ≡ b
-asks-same e = cc
-
-asks-answers : {a : Access} {m : Option Point} {r : Reply} → Asks a m ≡ Answers r → ⊥
-asks-answers e = cc
 
 -- a word that is written as it was
 same-words : (words : List ℕ) (word x : ℕ) → word < length words → slice_index (slice_set words word (slice_index words word)) x ≡ slice_index words x
 same-words words word x h = elim (cases_eq x word) [
   | inl e ↦ ap (slice_index (slice_set words word (slice_index words word))) e
-      ∙ (index-same words word (slice_index words word) h ∙ ap (slice_index words) (sym e))
+      ∙ (stored-at words word (slice_index words word) h ∙ ap (slice_index words) (sym e))
   | inr d ↦ index-other words word (slice_index words word) x d
 ]
 
@@ -92,7 +89,7 @@ module _ (variant : Variant) (shape : Shape) (root : 1 ≤ shape.rows256) (n : �
 
     holds-then : (a : Access) (rows : List Held) → holds c (stage_of variant shape call (later a)) ≡ rows
         → HoldsThen variant shape (moved s p q (Makes a)) p call rows
-    holds-then a rows e = record { process = later a; is_open = record { own = set-same s.processes p q (later a) here; is_open = is-open }; holds = e }
+    holds-then a rows e = record { process = later a; is_open = record { own = set-here s.processes p q (later a) here; is_open = is-open }; holds = e }
 
     -- a row whose version it kept is none that it holds
     apart : (x y : Held) → IsKept (locks variant) P x → slice_index s.words x.base ≡ x.kept → IsAmong y (holds c place) → y.base ≢ x.base
@@ -105,24 +102,24 @@ module _ (variant : Variant) (shape : Shape) (root : 1 ≤ shape.rows256) (n : �
     access a mark e (Reads word at turn after) = subst (λ a. Changed (Makes a)) (asks-same (sym turn ∙ e))
         (RowsStay (λ x high. same-words s.words word x (in-table (Load word) at turn)))
     access a mark e (Writes x word value at turn among kept behind good after) = subst (λ a. Changed (Makes a)) (asks-same (sym turn ∙ e))
-        (RowWritten word value (asks-for (Store word value) at turn) x among kept behind (index-same s.words word value (in-table (Store word value) at turn))
+        (RowWritten word value (asks-for (Store word value) at turn) x among kept behind (stored-at s.words word value (in-table (Store word value) at turn))
         (λ other d. index-other s.words word value other d))
     access a mark e (Fills b k word value at turn filled behind row good after) = subst (λ a. Changed (Makes a)) (asks-same (sym turn ∙ e))
-        (RowFilled word value (asks-for (Store word value) at turn) b k filled row behind (index-same s.words word value (in-table (Store word value) at turn))
+        (RowFilled word value (asks-for (Store word value) at turn) b k filled row behind (stored-at s.words word value (in-table (Store word value) at turn))
         (λ other d. index-other s.words word value other d))
     access a mark e (Ends b k word value at turn filled behind row good after) = subst (λ a. Changed (Makes a)) (asks-same (sym turn ∙ e))
-        (RowFilled word value (asks-for (Store word value) at turn) b k filled row behind (index-same s.words word value (in-table (Store word value) at turn))
+        (RowFilled word value (asks-for (Store word value) at turn) b k filled row behind (stored-at s.words word value (in-table (Store word value) at turn))
         (λ other d. index-other s.words word value other d))
     access a mark e (Releases x rest value at turn hold none written kept after) = subst (λ a. Changed (Makes a)) (asks-same (sym turn ∙ e))
         (RowReleased x value (asks-for (Store x.base value) at turn) rest hold
         (holds-then (Store x.base value) rest (has-at P (Store x.base value) rest [] after).1) kept written
-        (index-same s.words x.base value (in-table (Store x.base value) at turn)) (λ other d. index-other s.words x.base value other d))
+        (stored-at s.words x.base value (in-table (Store x.base value) at turn)) (λ other d. index-other s.words x.base value other d))
     access a mark e (Takes x all at turn with none kept taken other) = subst (λ a. Changed (Makes a)) (asks-same (sym turn ∙ e))
         (elim (cases_eq (slice_index s.words x.base) x.kept) [
           | inl same ↦ RowTaken x (asks-for swap at turn) all with (holds-then swap all (has-at P swap all []
               (subst (λ w. Has P c (call_after c place w) all []) (sym same) (taken (λ y a. apart x y kept same a)))).1) kept same
               (found true (eq-eqb (slice_index s.words x.base) x.kept same) x.base
-              ∙ (index-same s.words x.base (locked_word x.kept) (in-table swap at turn) ∙ small same))
+              ∙ (stored-at s.words x.base (locked_word x.kept) (in-table swap at turn) ∙ small same))
               (λ y d. found true (eq-eqb (slice_index s.words x.base) x.kept same) y ∙ index-other s.words x.base (locked_word x.kept) y d)
           | inr differs ↦ RowsStay (λ y high. found false (ne_eqb (slice_index s.words x.base) x.kept differs) y
               ∙ same-words s.words x.base y (in-table swap at turn))
@@ -141,7 +138,7 @@ module _ (variant : Variant) (shape : Shape) (root : 1 ≤ shape.rows256) (n : �
         small : slice_index s.words x.base ≡ x.kept → locked_word x.kept ≡ x.kept + 2
         small same = omega (arith, same, h.versions x.base x.kind (settled-row variant shape s x.base x.kind kept.1), few)
     access a mark e (Claims kind at turn none claimed full) = subst (λ a. Changed (Makes a)) (asks-same (sym turn ∙ e))
-        (low-word (Makes (Add (claims_of kind))) (claims-low kind))
+        (low-word (Makes (Add (claims_of kind))) (claims-few kind))
     access a mark e (Answered reply turn none) = absurd (asks-answers (sym e ∙ turn))
 
   one-move : IsFull variant → (plan : Plan) → plan.shape ≡ shape → plan.variant ≡ variant → (o : Option Call) (m : Move) → q.call ≡ o

@@ -4,9 +4,9 @@ use Rattle.std.specs.Prelude.{slice_index, slice_set, Option, Some, None}
 use Rattle.std.proofs.lemmas.Option.{same_Some}
 use Rattle.map_object.specs.MapObject.{Contents}
 use Rattle.art_rows.specs.declared.table.Shape.{Shape}
-use Rattle.art_rows.specs.declared.table.Kind.{Kind}
-use Rattle.art_rows.specs.declared.table.Kind.TheVariants.{Four, Sixteen, FortyEight, Full}
+use Rattle.art_rows.specs.declared.table.Kind.TheVariants.{Full}
 use Rattle.art_rows.specs.Table.{opening, claims_of, root_base}
+use Rattle.art_rows.proofs.KindLemmas.{some-words, claims-some}
 use Rattle.art_serial.proofs.words.TableLemmas.{row_begins, rows_apart}
 use Rattle.art_steps.specs.declared.variant.Variant.{Variant}
 use Rattle.art_core.specs.Core.{Plan, State, opened, opened_on, step}
@@ -18,7 +18,7 @@ use Rattle.art_core.proofs.StartLemmas.{run-steps}
 use Rattle.art_versions.specs.versions.Versions.{IsSound}
 use Rattle.art_versions.specs.versions.Laws.{IsFull}
 use Rattle.art_versions.proofs.versions.ChangeLemmas.{index-other}
-use Rattle.art_versions.proofs.versions.MoveLemmas.{some-words, true-false, differ-from}
+use Rattle.art_versions.proofs.versions.MoveLemmas.{true-false, differ-from}
 use Rattle.art_versions.proofs.versions.StepLemmas.{one-step}
 use Rattle.art_versions.proofs.versions.RunLemmas.{AllIdle, start-sound, idle-idle, opening-sound, root-row, zeros}
 use Rattle.art_schedules.specs.calm.Calm.{is_busy}
@@ -53,12 +53,6 @@ opening-settled variant shape some s is base kind row busy = absurd (true-false 
 
     zero-version : slice_index s.words base ≡ 0
     zero-version = ap (λ w. slice_index w base) is ∙ zeros variant shape some base (differ-from base 4 (omega (arith, row_begins shape base kind row))) behind
-
-claims-some : (kind : Kind) → 0 < claims_of kind
-claims-some Four = omega arith
-claims-some Sixteen = omega arith
-claims-some FortyEight = omega arith
-claims-some Full = omega arith
 
 -- with the clock set back, and no process in a call
 reset-settled : (variant : Variant) (shape : Shape) (s t : State) → t.words ≡ slice_set s.words 0 0 → AllIdle t → BusySettled variant shape s

@@ -1,10 +1,8 @@
 -- The words of every run are below 2^64.
 use Rattle.std.proofs.Common.{◌≡◌, ℕ, ◌^◌, ◌<◌, Bool, true, false, List, [], ◌∷◌, length, refl, ap, sym, subst, ◌∙◌, inl, inr, arith}
-use Rattle.std.specs.Prelude.{◌==◌, IsTrue, if◌then◌else◌, slice_get, slice_index, slice_set, replicate, All, Option, Some, None}
-use Rattle.std.proofs.lemmas.Bool.{cases_lt}
+use Rattle.std.specs.Prelude.{◌==◌, IsTrue, slice_get, slice_index, slice_set, replicate, All, Option, Some, None, if◌then◌else◌}
 use Rattle.std.proofs.lemmas.Option.{same_Some, none-some}
-use Rattle.std.proofs.lemmas.List.{get_or_past}
-use Rattle.std.proofs.lemmas.List.Elements.{All-nil, All-cons, All-set, All-replicate, All-get_or}
+use Rattle.std.proofs.lemmas.List.Elements.{All-nil, All-cons, All-set, All-replicate}
 use Rattle.list_laws.proofs.Lists.{All-at}
 use Rattle.events.specs.declared.event.Call.{Call}
 use Rattle.events.specs.declared.event.Call.TheVariants.{Get, Insert, Remove, Scan, Replace}
@@ -33,22 +31,15 @@ use Rattle.art_core.specs.Runs.{run_on}
 use Rattle.art_core.specs.Starts.{start_plan, inserts}
 use Rattle.art_core.specs.Plans.{IsRun}
 use Rattle.art_core.proofs.HistoryLemmas.{nowhere, is-moved, changed-at}
+use Rattle.art_serial.proofs.trees.Descents.{small_at}
+use Rattle.art_serial.specs.writes.Writes.{AreSmall}
 use Rattle.art_versions.specs.versions.Versions.{IsOpen, stage_of}
 use Rattle.art_versions.proofs.versions.StepLemmas.{after-more, next-turn}
 use Rattle.art_versions.proofs.versions.RunLemmas.{idle-idle}
 use Rattle.art_schedules.proofs.calm.SmallStageLemmas.{SmallAt, SmallTurn, IsFine, call-after-small, call-turn-small, begun-small}
 
-abbrev AreSmall : List ℕ → Type 0
-AreSmall words = All (λ w. w < 2 ^ 64) words
-
 abbrev AreTreeCalls : List (List Call) → Type 0
 AreTreeCalls scripts = All (λ script. All (λ call. IsTrue (is_tree_call call)) script) scripts
-
-pub small-at : (words : List ℕ) (word : ℕ) → AreSmall words → slice_index words word < 2 ^ 64
-small-at words word all = elim (cases_lt word (length words)) [
-  | inl less ↦ All-get_or (λ w. w < 2 ^ 64) words word 0 less all
-  | inr more ↦ omega (arith, get_or_past words word 0 more)
-]
 
 -- Calls that a tree can do.
 
@@ -160,7 +151,7 @@ module _ (plan : Plan) (limits : IsWithinLimits plan.shape) (calls : AreTreeCall
         small-turn = call-turn-small (setting plan.shape plan.variant call) (fine call tree) (stage_of plan.variant plan.shape call q) (h.stages p call q opens)
 
         accesses : (a : Access) (mark : Option Point) → SmallTurn (Asks a mark) → Small (Makes a)
-        accesses a mark small = goes-on (Makes a) (changed-small a mark (slice_index s.words (word_of a)) (small-at s.words (word_of a) h.words) small)
+        accesses a mark small = goes-on (Makes a) (changed-small a mark (slice_index s.words (word_of a)) (small_at s.words (word_of a) h.words) small)
             (λ other i.
             let same = same_Some call other (sym e ∙ i) in
             subst
@@ -170,7 +161,7 @@ module _ (plan : Plan) (limits : IsWithinLimits plan.shape) (calls : AreTreeCall
               subst SmallAt (sym (after-more (setting plan.shape plan.variant call) (call_begun (setting plan.shape plan.variant call)) q.got
                   (told a (slice_index s.words (word_of a)))))
                   (call-after-small (setting plan.shape plan.variant call) (fine call tree) (stage_of plan.variant plan.shape call q)
-                  (told a (slice_index s.words (word_of a))) (told-small a (slice_index s.words (word_of a)) (small-at s.words (word_of a) h.words))
+                  (told a (slice_index s.words (word_of a))) (told-small a (slice_index s.words (word_of a)) (small_at s.words (word_of a) h.words))
                   (h.stages p call q opens)),
             ))
 

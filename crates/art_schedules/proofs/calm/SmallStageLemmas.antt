@@ -1,6 +1,6 @@
 -- What a call carries at its stage is below 2^64, and so is what it stores.
 use Rattle.std.proofs.Common.{◌≡◌, ℕ, zero, suc, ◌+◌, ◌*◌, ◌-◌, ◌%◌, ◌^◌, ◌<◌, ◌≤◌, Bool, true, false, [], ◌∷◌, ◌++◌, refl, ap, sym, subst, arith}
-use Rattle.std.specs.Prelude.{◌==◌, nat_lt, nat_le, if◌then◌else◌, map, set, slice_index, Option, Some, None}
+use Rattle.std.specs.Prelude.{◌==◌, nat_lt, nat_le, map, set, slice_index, Option, Some, None, if◌then◌else◌}
 use Rattle.std.proofs.lemmas.Bool.{ltb-true}
 use Rattle.std.proofs.lemmas.List.{length-append}
 use Rattle.events.specs.declared.event.Call.{Call}
@@ -12,7 +12,9 @@ use Rattle.art_rows.specs.declared.table.Child.TheVariants.{Empty, Row as ChildR
 use Rattle.art_rows.specs.Table.{rows_of, base_of, child_at, keys_at, more_keys_at}
 use Rattle.art_rows.specs.Words.{is_locked, is_obsolete, locked_word, released_word, obsolete_word, key_bytes, entries_of, place_of}
 use Rattle.art_rows.specs.Words.{child_of, child_word, row_word, keys4_word, keys16_word, more_keys16_word, entries_word, with_key}
+use Rattle.art_rows.proofs.ByteLemmas.{key_byte-small}
 use Rattle.art_serial.proofs.words.WordLemmas.{again_below}
+use Rattle.art_serial.proofs.inserts.SmallLemmas.{differs-before}
 use Rattle.art_steps.specs.declared.access.Access.TheVariants.{Store, Exchange as Swap}
 use Rattle.art_steps.specs.Steps.{Turn, Asks, numbers}
 use Rattle.art_steps.specs.Rows.{Setting, is_insert, is_full, locks, releases_early, leaves_out_check, takes_unchecked, key_of, path_differs_at}
@@ -54,8 +56,8 @@ use Rattle.art_stages.specs.Automaton.{after_with, turn_at, between_turn, find_t
 use Rattle.art_stages.specs.Automaton.{grow_count_turn, store_of}
 use Rattle.art_stages.specs.Scans.{Walk, at, scan_turn, keys_turn, release_turn}
 use Rattle.art_stages.specs.Calls.{CallAt, OnKey, OnScan, call_turn, call_after, begun_as}
-use Rattle.art_versions.proofs.versions.WordFacts.{key_byte-small, count-most}
-use Rattle.art_schedules.proofs.calm.SmallWordLemmas.{path-byte, grown-info, pair-info, differs-before, differ-level, two-keys, keys4-with, keys-few}
+use Rattle.art_versions.proofs.versions.WordFacts.{count-most}
+use Rattle.art_schedules.proofs.calm.SmallWordLemmas.{path-byte, grown-info, pair-info, differ-level, two-keys, keys4-with, keys-few}
 use Rattle.art_schedules.proofs.calm.SmallWordLemmas.{keys16-with}
 use Rattle.art_schedules.proofs.calm.SmallWordLemmas.{entries-with, entries-new}
 

@@ -1,7 +1,6 @@
 -- The words that calls store are below 2^64.
-use Rattle.std.proofs.Common.{◌≡◌, ℕ, zero, suc, ◌+◌, ◌/◌, ◌%◌, ◌^◌, ◌<◌, ◌≤◌, Bool, true, false, List, [], ◌∷◌, ◌++◌, length, take, refl, ap, arith}
-use Rattle.std.specs.Prelude.{◌==◌, nat_le, if◌then◌else◌, map, set, slice_index, unwrap_or, option_map, Option, Some, None}
-use Rattle.std.proofs.lemmas.Option.{same_Some, none-some}
+use Rattle.std.proofs.Common.{◌≡◌, ℕ, zero, suc, ◌/◌, ◌%◌, ◌^◌, ◌<◌, ◌≤◌, Bool, true, false, List, [], ◌∷◌, ◌++◌, length, take, refl, arith}
+use Rattle.std.specs.Prelude.{◌==◌, nat_le, map, set, slice_index, unwrap_or, Option, Some, None, if◌then◌else◌}
 use Rattle.std.proofs.lemmas.List.{length-set, length-map}
 use Rattle.std.proofs.lemmas.List.Elements.{All-nil, All-cons, All-take, All-append, All-set}
 use Rattle.art_rows.specs.declared.table.Kind.{Kind}
@@ -9,25 +8,20 @@ use Rattle.art_rows.specs.declared.table.Kind.TheVariants.{Four, Sixteen, FortyE
 use Rattle.art_rows.specs.Words.{packed, low_bytes, key_bytes, first_difference, Info, kind_code, info_word, info_of, keys4_of, keys16_of, entry_of}
 use Rattle.art_rows.specs.Words.{entries_of, count_of}
 use Rattle.art_rows.specs.Words.{keys4_word, keys16_word, more_keys16_word, entries_word, place_of, with_key}
+use Rattle.art_rows.proofs.ByteLemmas.{entries-most, key_byte-small, place-within, low_byte-small}
+use Rattle.art_rows.proofs.KindLemmas.{code-few}
+use Rattle.art_rows.proofs.WriterLemmas.{length-low_bytes}
 use Rattle.art_serial.proofs.words.ByteLemmas.{AreBytes, packed-most, keys16_below}
-use Rattle.art_serial.proofs.words.KeyLemmas.{place-within, All-with_key, length-with_key}
+use Rattle.art_serial.proofs.words.KeyLemmas.{All-with_key, length-with_key}
+use Rattle.art_serial.proofs.writes.GrowSixteenLemmas.{length-numbers, entry-absent, entry-some}
+use Rattle.art_serial.proofs.inserts.SmallLemmas.{differs-before}
 use Rattle.art_steps.specs.Steps.{numbers}
 use Rattle.art_steps.specs.Updates.{new_entry, keys_differ_at}
-use Rattle.art_steps.proofs.AccessLemmas.{entries-most}
 use Rattle.art_stages.specs.declared.stage.Keys.{Keys as KeyWords}
 use Rattle.art_stages.specs.Stages.{keys_in}
-use Rattle.art_versions.proofs.versions.WordFacts.{key_byte-small, among-most}
+use Rattle.art_versions.proofs.versions.WordFacts.{among-most}
 
 -- Bytes.
-
-low-byte : (n w i : ℕ) → slice_index (low_bytes n w) i < 256
-low-byte zero w i = omega arith
-low-byte (suc n) w zero = omega arith
-low-byte (suc n) w (suc i) = low-byte n (w / 256) i
-
-low-long : (n w : ℕ) → length (low_bytes n w) ≡ n
-low-long zero w = refl
-low-long (suc n) w = ap suc (low-long n (w / 256))
 
 -- bytes by their places are all the bytes
 by-place : (xs : List ℕ) → ((i : ℕ) → slice_index xs i < 256) → AreBytes xs
@@ -35,7 +29,7 @@ by-place [] h = All-nil (λ x. x < 256)
 by-place (x ∷ xs) h = All-cons (λ x. x < 256) x xs (h 0) (by-place xs (λ i. h (suc i)))
 
 low-bytes : (n w : ℕ) → AreBytes (low_bytes n w)
-low-bytes n w = by-place (low_bytes n w) (low-byte n w)
+low-bytes n w = by-place (low_bytes n w) (low_byte-small n w)
 
 key-bytes : (key : ℕ) → AreBytes (key_bytes key)
 key-bytes key = by-place (key_bytes key) (key_byte-small key)
@@ -49,7 +43,7 @@ path-byte kind info i = go (info % 4 == kind_code kind)
     chosen b = if b then record { level = (info / 4) % 4; path = low_bytes ((info / 4) % 4) (info / 256) } else record { level = 0; path = [] }
 
     go : (b : Bool) → slice_index (chosen b).path i < 256
-    go true = low-byte ((info / 4) % 4) (info / 256) i
+    go true = low_byte-small ((info / 4) % 4) (info / 256) i
     go false = omega arith
 
 level-few : (kind : Kind) (info : ℕ) → (info_of kind info).level ≤ 3
@@ -69,14 +63,8 @@ path-few kind info = go (info % 4 == kind_code kind)
     chosen b = if b then record { level = (info / 4) % 4; path = low_bytes ((info / 4) % 4) (info / 256) } else record { level = 0; path = [] }
 
     go : (b : Bool) → length (chosen b).path ≤ 4
-    go true = omega (arith, low-long ((info / 4) % 4) (info / 256))
+    go true = omega (arith, length-low_bytes ((info / 4) % 4) (info / 256))
     go false = omega arith
-
-code-few : (kind : Kind) → kind_code kind < 4
-code-few Four = omega arith
-code-few Sixteen = omega arith
-code-few FortyEight = omega arith
-code-few Full = omega arith
 
 info-small : (kind : Kind) (level : ℕ) (path : List ℕ) → level ≤ 3 → length path ≤ 4 → AreBytes path → info_word kind level path < 2 ^ 64
 info-small kind level path few long bytes =
@@ -102,17 +90,6 @@ pair-info level key few =
     info-small Four level (take level (key_bytes key)) few (taken-long level key) (All-take (λ x. x < 256) level (key_bytes key) (key-bytes key))
 
 -- Where lists differ first.
-
-pub differs-before : (xs ys : List ℕ) (d : ℕ) → first_difference xs ys ≡ Some d → d < length ys
-differs-before [] ys d e = absurd (none-some d e)
-differs-before (x ∷ xs) [] d e = absurd (none-some d e)
-differs-before (x ∷ xs) (y ∷ ys) d e = go (x == y) (first_difference xs ys) refl (λ i f. differs-before xs ys i f) e
-  where
-    go : (b : Bool) (o : Option ℕ) → first_difference xs ys ≡ o → ((i : ℕ) → first_difference xs ys ≡ Some i → i < length ys)
-        → (if b then option_map (λ i. i + 1) o else Some 0) ≡ Some d → d < suc (length ys)
-    go true None f later g = absurd (none-some d g)
-    go true (Some i) f later g = let is : i + 1 ≡ d = same_Some (i + 1) d g in omega (arith, is, later i f)
-    go false o f later g = let is : 0 ≡ d = same_Some 0 d g in omega (arith, is)
 
 pub differ-level : (a b : ℕ) → keys_differ_at a b ≤ 3
 differ-level a b = go (first_difference (key_bytes a) (key_bytes b)) refl
@@ -155,7 +132,7 @@ keys-bytes Full keys = All-nil (λ x. x < 256)
 pub keys-few : (kind : Kind) (keys : KeyWords) → length (keys_in kind keys) ≤ 16
 keys-few Four keys = omega (arith, among-most Four keys)
 keys-few Sixteen keys = among-most Sixteen keys
-keys-few FortyEight keys = omega (arith, length-map (low_bytes 8 keys.first) entry_of, low-long 8 keys.first)
+keys-few FortyEight keys = omega (arith, length-map (low_bytes 8 keys.first) entry_of, length-low_bytes 8 keys.first)
 keys-few Full keys = omega arith
 
 pub keys16-with : (kind : Kind) (keys : KeyWords) (x : ℕ) → x < 256
@@ -168,13 +145,7 @@ keys16-with kind keys x byte =
 pub entries-with : (w i e : ℕ) → e < 256 → entries_word (set (entries_of w) i e) < 2 ^ 64
 entries-with w i e few =
     packed-most 8 (set (entries_of w) i e) (All-set (λ x. x < 256) (entries_of w) i e few (by-place (entries_of w) (λ k. omega (arith, entries-most w k))))
-    (omega (arith, length-set (entries_of w) i e, length-map (low_bytes 8 w) entry_of, low-long 8 w))
-
-entry-some : (keys : List ℕ) (y i : ℕ) → place_of y keys ≡ Some i → new_entry keys y ≡ i + 1
-entry-some keys y i e = rw e
-
-entry-absent : (keys : List ℕ) (y : ℕ) → place_of y keys ≡ None → new_entry keys y ≡ 0
-entry-absent keys y e = rw e
+    (omega (arith, length-set (entries_of w) i e, length-map (low_bytes 8 w) entry_of, length-low_bytes 8 w))
 
 entry-bytes : (keys ys : List ℕ) → length keys ≤ 48 → AreBytes (map (new_entry keys) ys)
 entry-bytes keys [] few = All-nil (λ x. x < 256)
@@ -185,11 +156,7 @@ entry-bytes keys (y ∷ ys) few =
     go None e = omega (arith, entry-absent keys y e)
     go (Some i) e = omega (arith, entry-some keys y i e, (place-within y keys i e).0, few)
 
-numbers-long : (first n : ℕ) → length (numbers first n) ≡ n
-numbers-long first zero = refl
-numbers-long first (suc n) = ap suc (numbers-long (first + 1) n)
-
 pub entries-new : (keys : List ℕ) (first : ℕ) → length keys ≤ 48 → entries_word (map (new_entry keys) (numbers first 8)) < 2 ^ 64
 entries-new keys first few =
     packed-most 8 (map (new_entry keys) (numbers first 8)) (entry-bytes keys (numbers first 8) few)
-    (omega (arith, length-map (numbers first 8) (new_entry keys), numbers-long first 8))
+    (omega (arith, length-map (numbers first 8) (new_entry keys), length-numbers first 8))

@@ -14,6 +14,7 @@ use Rattle.art_steps.specs.declared.access.Access.TheVariants.{Store}
 use Rattle.art_steps.specs.declared.access.Point.{Point}
 use Rattle.art_steps.specs.Steps.{Turn, Asks}
 use Rattle.art_steps.specs.Rows.{locks}
+use Rattle.art_steps.proofs.TurnLemmas.{asks-same}
 use Rattle.art_stages.specs.declared.stage.Held.{Held}
 use Rattle.art_stages.specs.Calls.{call_turn}
 use Rattle.art_stages.specs.Stages.{setting}
@@ -27,9 +28,6 @@ use Rattle.art_versions.proofs.versions.MoveLemmas.{settled-row}
 use Rattle.art_schedules.specs.calm.Changes.{AsksFor, IsOutside, CalmChange, CalmStays, CalmFilled, CalmReleased, CalmStep}
 use Rattle.art_schedules.proofs.calm.VersionLemmas.{not-behind}
 use Rattle.art_schedules.proofs.calm.CalmLemmas.{claimed-row}
-
-same-store : {a b : Access} {m l : Option Point} → Asks a m ≡ Asks b l → a ≡ b
-same-store e = cc
 
 same-word : {word other value v : ℕ} → Store word value ≡ Store other v → word ≡ other
 same-word e = cc
@@ -71,7 +69,7 @@ module _ (variant : Variant) (shape : Shape) (n : ℕ) (s : State) (h : IsSound 
 
   module _ (word value : ℕ) (mark : Option Point) (stores : turn ≡ Asks (Store word value) mark) where
     its-word : (other v : ℕ) (asks : AsksFor variant shape s p (Store other v)) → word ≡ other
-    its-word other v asks = same-word (same-store (sym stores ∙ its-turn (Store other v) asks))
+    its-word other v asks = same-word (asks-same (sym stores ∙ its-turn (Store other v) asks))
 
     -- it stores behind the version of a row that it holds
     pub with-written : (x : Held) → IsAmong x (held_by variant shape call q) → IsBehindVersion x.base x.kind word → Stays

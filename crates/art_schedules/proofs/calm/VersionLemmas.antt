@@ -1,6 +1,6 @@
 -- Versions in a step: what becomes of busy rows.
 use Rattle.std.proofs.Common.{◌≡◌, ◌≢◌, ℕ, ◌+◌, ◌/◌, ◌%◌, true, false, ap, sym, subst, ◌∙◌, inl, inr, arith}
-use Rattle.std.proofs.Common.{eq-eqb, ne_eqb}
+use Rattle.std.proofs.Common.{ne_eqb}
 use Rattle.std.specs.Prelude.{◌⊎◌, ◌==◌, slice_index, Some}
 use Rattle.std.proofs.lemmas.Bool.{cases_eq, or_from, or_left, or_right, or_parts}
 use Rattle.std.proofs.lemmas.Option.{same_Some}
@@ -8,7 +8,9 @@ use Rattle.art_rows.specs.declared.table.Shape.{Shape}
 use Rattle.art_rows.specs.declared.table.Kind.{Kind}
 use Rattle.art_rows.specs.Table.{kind_at}
 use Rattle.art_rows.specs.Words.{is_locked, is_obsolete, released_word, obsolete_word}
+use Rattle.art_rows.proofs.KindLemmas.{some-words}
 use Rattle.art_serial.proofs.words.TableLemmas.{row_begins, rows_apart}
+use Rattle.art_serial.proofs.words.VersionLemmas.{taken-locked, obsolete_obsolete, obsolete_released}
 use Rattle.art_steps.specs.declared.variant.Variant.{Variant}
 use Rattle.art_steps.specs.Rows.{locks}
 use Rattle.art_stages.specs.declared.stage.Held.{Held}
@@ -19,7 +21,7 @@ use Rattle.art_versions.specs.versions.Effects.{IsBehindVersion}
 use Rattle.art_versions.specs.versions.Versions.{IsHeld, stage_of, held_by, IsSettled, IsSound}
 use Rattle.art_versions.specs.versions.Steady.{IsSteady}
 use Rattle.art_versions.proofs.versions.KnownLemmas.{held-is-kept}
-use Rattle.art_versions.proofs.versions.MoveLemmas.{settled-row, some-words, not-locked}
+use Rattle.art_versions.proofs.versions.MoveLemmas.{settled-row}
 use Rattle.art_versions.proofs.versions.WordFacts.{version-free}
 use Rattle.art_versions.proofs.versions.WithLemmas.{with-here}
 use Rattle.art_schedules.specs.calm.Calm.{is_busy}
@@ -54,7 +56,7 @@ module _ (variant : Variant) (shape : Shape) (n : ℕ) (s : State) (h : IsSound 
   held-version base x = ap (slice_index s.words) (sym x.is) ∙ h.locked x.holder x.call x.process x.is_open x.row x.among
 
   pub held-locked : (base : ℕ) → IsHeld variant shape s base → is_locked (slice_index s.words base) ≡ true
-  held-locked base x = ap is_locked (held-version base x) ∙ not-locked x.row.kept (version-free (locks variant) x.row.kept (held-kept base x).0)
+  held-locked base x = ap is_locked (held-version base x) ∙ taken-locked x.row.kept (version-free (locks variant) x.row.kept (held-kept base x).0)
 
   pub locked-settled : (base : ℕ) (kind : Kind) → kind_at shape base ≡ Some kind → is_locked (slice_index s.words base) ≡ true
       → IsSettled variant shape s base kind
@@ -103,12 +105,6 @@ module _ (variant : Variant) (shape : Shape) (n : ℕ) (s : State) (h : IsSound 
 
 -- Versions as numbers.
 
-pub taken-locked : (v : ℕ) → (v / 2) % 2 ≡ 0 → is_locked (v + 2) ≡ true
-taken-locked v e = not-locked v e
-
-pub free-locked : (v : ℕ) → (v / 2) % 2 ≡ 0 → is_locked v ≡ false
-free-locked v e = ne_eqb ((v / 2) % 2) 1 (λ f. omega (arith, e, f))
-
 pub unmarked-free : (v : ℕ) → v % 4 ≡ 0 → is_busy v ≡ false
 unmarked-free v e = free-busy v (ne_eqb ((v / 2) % 2) 1 (λ f. omega (arith, e, f))) (ne_eqb (v % 2) 1 (λ f. omega (arith, e, f)))
 
@@ -117,15 +113,6 @@ released-free v e = ne_eqb ((released_word v / 2) % 2) 1 (λ f. omega (arith, e,
 
 pub obsolete-free : (v : ℕ) → (v / 2) % 2 ≡ 0 → is_locked (obsolete_word v) ≡ false
 obsolete-free v e = ne_eqb ((obsolete_word v / 2) % 2) 1 (λ f. omega (arith, e, f))
-
-pub obsolete-set : (v : ℕ) → is_obsolete (obsolete_word v) ≡ true
-obsolete-set v = eq-eqb (obsolete_word v % 2) 1 (omega arith)
-
-pub released-same : (v : ℕ) → is_obsolete (released_word v) ≡ is_obsolete v
-released-same v = ap (λ m. m == 1) (parity v)
-  where
-    parity : (v : ℕ) → released_word v % 2 ≡ v % 2
-    parity v = omega arith
 
 pub locked-same : (v : ℕ) → is_obsolete (v + 2) ≡ is_obsolete v
 locked-same v = ap (λ m. m == 1) (parity v)
@@ -139,8 +126,8 @@ pub obsolete-stays : (variant : Variant) (shape : Shape) (s later : State) (base
 obsolete-stays variant shape s later base kind (Stays e) gone = ap is_obsolete e ∙ gone
 obsolete-stays variant shape s later base kind (IsTaken v free was is settled) gone = ap is_obsolete is ∙ (locked-same v ∙ (ap is_obsolete (sym was) ∙ gone))
 obsolete-stays variant shape s later base kind (IsReleased v free was (inl e) settled) gone =
-    ap is_obsolete e ∙ (released-same v ∙ (sym (locked-same v) ∙ (ap is_obsolete (sym was) ∙ gone)))
-obsolete-stays variant shape s later base kind (IsReleased v free was (inr e) settled) gone = ap is_obsolete e ∙ obsolete-set v
+    ap is_obsolete e ∙ (obsolete_released v ∙ (sym (locked-same v) ∙ (ap is_obsolete (sym was) ∙ gone)))
+obsolete-stays variant shape s later base kind (IsReleased v free was (inr e) settled) gone = ap is_obsolete e ∙ obsolete_obsolete v
 
 -- busy rows are settled
 abbrev pub BusySettled : Variant → Shape → State → Type 0

@@ -10,19 +10,22 @@ use Rattle.art_rows.specs.declared.table.Child.{Child}
 use Rattle.art_rows.specs.declared.table.Child.TheVariants.{Empty, Row, Leaf}
 use Rattle.art_rows.specs.Table.{rows_of, claims_of, base_of, info_at}
 use Rattle.art_rows.specs.Words.{key_bytes, is_obsolete}
+use Rattle.art_rows.proofs.KindLemmas.{two-words}
+use Rattle.art_rows.proofs.ByteLemmas.{key_byte-small}
 use Rattle.art_core.specs.Meaning.{Reached, Means, child_on}
-use Rattle.art_core.specs.Forms.{IsTree, level_in}
-use Rattle.art_serial.specs.trees.Trees.{IsAtRest, SameRow, SameTree, LeadsTo, HasRows, IsPair, Parts, HasRowMore, IsGrown, HasRowInPlace}
+use Rattle.art_core.specs.Forms.{IsTree}
+use Rattle.art_serial.specs.trees.Trees.{IsAtRest, SameRow, SameTree, HasRows, IsPair, Parts, HasRowMore, IsGrown, HasRowInPlace}
 use Rattle.art_serial.specs.trees.Trees.{SameTreesAreOne, LeavesArePut, LeavesAreRemoved, PairsAreHung, GrownRowsAreHung}
 use Rattle.art_versions.specs.versions.Versions.{IsClaimed}
 use Rattle.art_serial.proofs.alone.PlaceLemmas.{kind_at-sits}
 use Rattle.art_serial.proofs.alone.SlotLemmas.{row-keys, form-same}
-use Rattle.art_serial.proofs.alone.LikeLemmas.{row_words-some, sits}
-use Rattle.art_serial.proofs.alone.WayLemmas.{key_byte-small}
+use Rattle.art_serial.proofs.alone.LikeLemmas.{sits}
 use Rattle.art_serial.proofs.inserts.OutcomeLemmas.{child-same}
 use Rattle.art_serial.proofs.inserts.SmallLemmas.{path_byte-small}
+use Rattle.art_serial.proofs.trees.Changes.{way_byte}
 use Rattle.art_schedules.specs.changes.Rows.{OneRow, IsFilled}
 use Rattle.art_schedules.specs.changes.Effects.{Keeps, Fills, PutsLeaf, RemovesLeaf, HangsPair, HangsGrown, IsPutOn, IsRemovedFrom, IsPairHung, IsGrownHung}
+use Rattle.art_schedules.specs.changes.Effects.{Effect, HasEffect, IsGone}
 use Rattle.art_schedules.specs.changes.Follows.{HasFewClaims, Follows, NoBase, NoRow, KeepsTree}
 use Rattle.art_schedules.specs.changes.Laws.{EffectsFollow}
 use Rattle.art_schedules.proofs.changes.FollowLemmas.{follows-by, kept-trees-follow}
@@ -33,10 +36,6 @@ pub parted-small : (words : List ℕ) (key d a : ℕ) (child : Child) → Parts 
 parted-small words key d a Empty h = absurd h
 parted-small words key d a (Leaf k v) h = subst (λ z. z < 256) (sym h.1) (key_byte-small k d)
 parted-small words key d a (Row b kind) h = subst (λ z. z < 256) (sym h.1) (path_byte-small words b kind d)
-
--- the byte of a way
-pub way-small : (s : Shape) (words : List ℕ) (key base : ℕ) (kind : Kind) (x : ℕ) → LeadsTo s words key base kind x → x < 256
-way-small s words key base kind x leads = subst (λ z. z < 256) (sym leads.byte) (key_byte-small key (level_in words base kind))
 
 module _ (s : Shape) (n claims : ℕ) (calm later : List ℕ) (m : Contents) (rest : IsAtRest s n calm) (means : Means s calm m) (few : HasFewClaims claims later)
     (base : ℕ) (kind : Kind) (one : OneRow s calm later base kind) where
@@ -178,9 +177,9 @@ module _ (s : Shape) (n claims : ℕ) (calm later : List ℕ) (m : Contents) (re
     later-grown = record {
       new = is.grown.new;
       form = form-same calm later row larger (row-keys calm later row larger grown-same) is.grown.form;
-      info = grown-same 1 (omega arith) (row_words-some larger) ∙ is.grown.info;
+      info = grown-same 1 (omega arith) (two-words larger) ∙ is.grown.info;
       absent = is.grown.absent;
-      leaf = child-same s calm later row larger y (way-small s calm key full full_kind y is.leads) grown-same ∙ is.grown.leaf;
+      leaf = child-same s calm later row larger y (way_byte s calm key full full_kind y is.leads) grown-same ∙ is.grown.leaf;
       rest = λ z small ne. child-same s calm later row larger z small grown-same ∙ is.grown.rest z small ne;
     }
 
@@ -215,3 +214,13 @@ module _ (trees : SameTreesAreOne) (puts : LeavesArePut) (removes : LeavesAreRem
       pair-follows s n claims calm later m rest means few base kind one pairs x key value row d a is
   effects-follow s n claims calm later m (HangsGrown base kind x key value full full_kind y row larger) rest means one few is =
       grown-follows s n claims calm later m rest means few base kind one grown x key value full full_kind y row larger is
+
+-- a row that goes by an effect was one of the tree
+pub gone-reached : (shape : Shape) (calm later : List ℕ) (e : Effect) → HasEffect shape calm later e → (b : ℕ) → IsGone e b → (k : Kind) × Reached shape calm b k
+gone-reached shape calm later (Keeps base kind) h b g = absurd g
+gone-reached shape calm later (Fills base kind) h b g = absurd g
+gone-reached shape calm later (PutsLeaf base kind x key value) h b g = absurd g
+gone-reached shape calm later (RemovesLeaf base kind x key) h b g = absurd g
+gone-reached shape calm later (HangsPair base kind x key value fresh d a) h b g = absurd g
+gone-reached shape calm later (HangsGrown base kind x key value full full_kind y fresh larger) h b g =
+    (full_kind, subst (λ i. Reached shape calm i full_kind) (sym g) h.leads.reached)

@@ -1,26 +1,19 @@
 -- Where the infos of rows stay, so do the ways that lead to them; and trees whose rows say the same.
-use Rattle.std.proofs.Common.{◌≡◌, ◌⊎◌, inl, inr, ℕ, ◌+◌, ◌<◌, ◌≤◌, List, take, slice_index, refl, sym, ap, ◌∙◌, subst, arith}
+use Rattle.std.proofs.Common.{◌≡◌, ◌⊎◌, inl, inr, ℕ, ◌+◌, ◌<◌, ◌≤◌, List, slice_index, refl, sym, ap, ◌∙◌, arith}
 use Rattle.std.specs.Prelude.{◌↔◌}
 use Rattle.map_object.specs.MapObject.{Contents}
 use Rattle.art_rows.specs.declared.table.Shape.{Shape}
 use Rattle.art_rows.specs.declared.table.Kind.{Kind}
 use Rattle.art_rows.specs.Table.{claims_of, rows_of, base_of, info_at}
-use Rattle.art_rows.specs.Words.{key_bytes, info_of, is_locked, is_obsolete}
+use Rattle.art_rows.specs.Words.{info_of, is_locked, is_obsolete}
+use Rattle.art_rows.proofs.KindLemmas.{two-words}
 use Rattle.art_core.specs.Meaning.{Reached, Means}
 use Rattle.art_serial.specs.trees.Trees.{IsAtRest, LeadsTo, HasRows, SameTreesAreOne}
 use Rattle.art_serial.proofs.alone.PlaceLemmas.{Sits, sits-inside, kind_at-sits}
-use Rattle.art_serial.proofs.alone.LikeLemmas.{row_words-some, sits}
+use Rattle.art_serial.proofs.alone.LikeLemmas.{sits}
+use Rattle.art_serial.proofs.trees.Changes.{way_later}
 use Rattle.art_schedules.specs.changes.Follows.{Follows, NoBase, NoRow}
 use Rattle.art_schedules.specs.changes.Laws.{KeptTreesFollow, LowWordsKeep}
-
--- the way leads to a row that is reached with the same info
-pub way-moves : (s : Shape) (words later : List ℕ) (key base : ℕ) (kind : Kind) (x : ℕ) → LeadsTo s words key base kind x → Reached s later base kind
-    → slice_index later (info_at base) ≡ slice_index words (info_at base) → LeadsTo s later key base kind x
-way-moves s words later key base kind x leads reached same = record {
-  reached = reached;
-  path = subst (λ w. take (info_of kind w).level (key_bytes key) ≡ (info_of kind w).path) (sym same) leads.path;
-  byte = subst (λ w. x ≡ slice_index (key_bytes key) (info_of kind w).level) (sym same) leads.byte;
-}
 
 -- a tree at rest of these rows, with their infos, follows
 pub follows-by : (s : Shape) (n : ℕ) (calm later : List ℕ) (pairs : Contents) (gone : ℕ → Type 0) (fresh : ℕ → Kind → Type 0) → IsAtRest s n later
@@ -34,13 +27,13 @@ follows-by s n calm later pairs gone fresh rests means rows infos = record {
   level = λ b k r. ap (λ w. (info_of k w).level) (infos b k r);
   path = λ b k r. ap (λ w. (info_of k w).path) (infos b k r);
   ways = λ key b k x leads not.
-      way-moves s calm later key b k x leads ((rows b k).1 (inl (leads.reached, not))) (infos b k leads.reached);
+      way_later s calm later key b k x leads ((rows b k).1 (inl (leads.reached, not))) (infos b k leads.reached);
   ways_before = λ key b k x leads. before key b k x leads ((rows b k).0 leads.reached);
 }
   where
     before : (key b : ℕ) (k : Kind) (x : ℕ) → LeadsTo s later key b k x → (Reached s calm b k × (gone b → ⊥)) ⊎ fresh b k
         → LeadsTo s calm key b k x ⊎ fresh b k
-    before key b k x leads (inl (r, not)) = inl (way-moves s later calm key b k x leads r (sym (infos b k r)))
+    before key b k x leads (inl (r, not)) = inl (way_later s later calm key b k x leads r (sym (infos b k r)))
     before key b k x leads (inr new) = inr new
 
 -- ---- trees whose rows say the same
@@ -49,7 +42,7 @@ pub kept-trees-follow : SameTreesAreOne → KeptTreesFollow
 kept-trees-follow trees s n claims calm later m rest means keeps few =
     follows-by s claims calm later m NoBase NoRow rests hung.means
     (λ b k. (λ r. inl ((hung.rows b k).0 r, λ h. h), λ e. back b k e))
-    (λ b k r. keeps.same b k r 1 (omega arith) (row_words-some k))
+    (λ b k r. keeps.same b k r 1 (omega arith) (two-words k))
   where
     hung : HasRows s calm later m
     hung = trees s calm later m rest.tree means keeps.same
@@ -90,4 +83,4 @@ low-words-keep s n calm later rest long small claims same = record {
 }
   where
     behind : (b : ℕ) (k : Kind) → Sits s b k → 5 ≤ b
-    behind b k x = (sits-inside s b 0 k x (omega (arith, row_words-some k))).0
+    behind b k x = (sits-inside s b 0 k x (omega (arith, two-words k))).0

@@ -7,13 +7,14 @@ use Rattle.art_rows.specs.declared.table.Kind.{Kind}
 use Rattle.art_rows.specs.declared.table.Child.{Child}
 use Rattle.art_rows.specs.Table.{row_words, rows_of, claims_of, base_of, info_at, kind_at}
 use Rattle.art_rows.specs.Words.{is_locked, is_obsolete, child_of}
+use Rattle.art_rows.proofs.KindLemmas.{two-words}
 use Rattle.art_core.specs.Meaning.{Reached}
 use Rattle.art_serial.specs.trees.Trees.{IsAtRest, SameRow, ChangesAt}
 use Rattle.art_serial.specs.trees.Children.{ChildrenAreRead}
 use Rattle.art_versions.specs.versions.Versions.{IsClaimed}
 use Rattle.art_versions.specs.versions.Steady as steady
 use Rattle.art_serial.proofs.alone.PlaceLemmas.{Sits, sits-part, sits-inside, sits-kind_at, kind_at-sits}
-use Rattle.art_serial.proofs.alone.LikeLemmas.{row_words-some, sits}
+use Rattle.art_serial.proofs.alone.LikeLemmas.{sits}
 use Rattle.art_serial.proofs.inserts.OutcomeLemmas.{split}
 use Rattle.art_serial.proofs.inserts.HungLemmas.{word-changes}
 use Rattle.art_schedules.specs.changes.Rows.{OneRow, HasNewChild}
@@ -34,7 +35,7 @@ offset b l word from to = (word - b, omega (arith, from, to), omega (arith, from
 -- rows of one base are of one kind
 pub same-kind : (s : Shape) (a b : ℕ) (k l : Kind) → Sits s a k → Sits s b l → a ≡ b → k ≡ l
 same-kind s a b k l x y same =
-    (sits-part s a b 0 0 k l x y (omega (arith, row_words-some k)) (omega (arith, row_words-some l)) (ap (λ i. i + 0) same)).0
+    (sits-part s a b 0 0 k l x y (omega (arith, two-words k)) (omega (arith, two-words l)) (ap (λ i. i + 0) same)).0
 
 module _ (s : Shape) (n : ℕ) (calm later : List ℕ) (rest : IsAtRest s n calm) (base : ℕ) (kind : Kind) (one : OneRow s calm later base kind) where
   pub other-row : (b : ℕ) (k : Kind) → Sits s b k → b ≢ base → SameRow calm later b k
@@ -44,7 +45,7 @@ module _ (s : Shape) (n : ℕ) (calm later : List ℕ) (rest : IsAtRest s n calm
   other-version b k x ne =
       let none : b + 0 ≡ b = omega arith in
       ap (λ w. slice_index later w) (sym none)
-      ∙ (one.others b k 0 (sits-kind_at s b k x) ne (omega (arith, row_words-some k)) ∙ ap (λ w. slice_index calm w) none)
+      ∙ (one.others b k 0 (sits-kind_at s b k x) ne (omega (arith, two-words k)) ∙ ap (λ w. slice_index calm w) none)
 
   pub reached-sits : (b : ℕ) (k : Kind) → Reached s calm b k → Sits s b k
   reached-sits b k r = sits s n calm rest r
@@ -73,7 +74,7 @@ module _ (s : Shape) (n : ℕ) (calm later : List ℕ) (rest : IsAtRest s n calm
   fresh own k number word above low from to = ⊎_elim
       (λ here.
       let (kinds, numbers, bases, places) = sits-part s (base_of s k number) base 0 0 k kind (record { number = number; low = low; is = refl })
-      (claimed-sits s later base kind own) (omega (arith, row_words-some k)) (omega (arith, row_words-some kind)) (ap (λ i. i + 0) here) in
+      (claimed-sits s later base kind own) (omega (arith, two-words k)) (omega (arith, two-words kind)) (ap (λ i. i + 0) here) in
       absurd (omega (arith, above, numbers, subst (λ q. own.number < slice_index later (claims_of q)) (sym kinds) own.claimed)))
       (λ apart.
       let (j, high, is) = offset (base_of s k number) (row_words k) word from to in
@@ -87,7 +88,7 @@ module _ (s : Shape) (n : ℕ) (calm later : List ℕ) (rest : IsAtRest s n calm
       → slice_index later (info_at b) ≡ slice_index calm (info_at b)
   infos own b k r = ⊎_elim
       (λ here. subst (λ b. slice_index later (info_at b) ≡ slice_index calm (info_at b)) (sym here) own)
-      (λ apart. other-row b k (reached-sits b k r) apart 1 (omega arith) (row_words-some k)) (cases_eq b base)
+      (λ apart. other-row b k (reached-sits b k r) apart 1 (omega arith) (two-words k)) (cases_eq b base)
 
   -- nothing else of the tree has changed
   pub changes : (x : ℕ) (child : Child) → HasNewChild s calm later base kind x child → ChangesAt s calm later base kind x child

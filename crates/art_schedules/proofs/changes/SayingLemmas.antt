@@ -4,11 +4,11 @@ use Rattle.map_object.specs.MapObject.{value_at}
 use Rattle.art_rows.specs.declared.table.Child.{Child}
 use Rattle.art_rows.specs.declared.table.Child.TheVariants.{Empty, Row, Leaf}
 use Rattle.art_rows.specs.Words.{key_bytes, info_of}
+use Rattle.art_rows.proofs.KindLemmas.{two-words}
 use Rattle.art_core.specs.Meaning.{child_on}
 use Rattle.art_core.specs.Forms.{path_in}
 use Rattle.art_serial.specs.trees.Trees.{WaysLeadToValues}
 use Rattle.art_serial.proofs.alone.SlotLemmas.{row-keys, slot-same, form-same}
-use Rattle.art_serial.proofs.alone.LikeLemmas.{row_words-some}
 use Rattle.art_serial.proofs.alone.WayLemmas.{same-beginning, level-most}
 use Rattle.art_serial.proofs.inserts.OutcomeLemmas.{child-same}
 use Rattle.art_schedules.specs.changes.Sayings.{IsSaidBy}
@@ -25,9 +25,9 @@ ways-say-values ways s n words m key base kind x o rest means leads said = go (c
 
 pub same-rows-say-the-same : SameRowsSayTheSame
 same-rows-say-the-same s words later base kind same = record {
-  info = same 1 (omega arith) (row_words-some kind);
-  level = ap (λ w. (info_of kind w).level) (same 1 (omega arith) (row_words-some kind));
-  path = ap (λ w. (info_of kind w).path) (same 1 (omega arith) (row_words-some kind));
+  info = same 1 (omega arith) (two-words kind);
+  level = ap (λ w. (info_of kind w).level) (same 1 (omega arith) (two-words kind));
+  path = ap (λ w. (info_of kind w).path) (same 1 (omega arith) (two-words kind));
   slot = λ x byte. slot-same words later base kind x byte (row-keys words later base kind same);
   child = λ x byte. child-same s words later base kind x byte same;
   form = form-same words later base kind (row-keys words later base kind same);

@@ -4,14 +4,15 @@ use Rattle.art_rows.specs.declared.table.Child.TheVariants.{Empty, Row, Leaf}
 use Rattle.art_core.specs.Meaning.{child_on}
 use Rattle.art_serial.specs.trees.Children.{ChildrenAreRead}
 use Rattle.art_serial.proofs.alone.PlaceLemmas.{sits-kind_at}
+use Rattle.art_serial.proofs.trees.Changes.{way_byte}
 use Rattle.art_schedules.specs.changes.Worked.{StoredLeavesArePut, StoredZerosRemove, WrittenLeavesArePut, WrittenPairsAreHung, WrittenRowsAreHung}
 use Rattle.art_schedules.proofs.changes.RowLemmas.{claimed-sits, slots-are-written}
-use Rattle.art_schedules.proofs.changes.EffectLemmas.{way-small, parted-small}
+use Rattle.art_schedules.proofs.changes.EffectLemmas.{parted-small}
 use Rattle.art_schedules.proofs.changes.WrittenLemmas.{children-are-of-rows, puts-are-children, pairs-are-fresh, copies-are-fresh}
 
 pub stored-leaves-are-put : ChildrenAreRead → StoredLeavesArePut
 stored-leaves-are-put read s n calm later base kind x slot key value rest one leads free low few has =
-    let byte = way-small s calm key base kind x leads in
+    let byte = way_byte s calm key base kind x leads in
     record {
       leads = leads;
       free = free;
@@ -22,7 +23,7 @@ pub stored-zeros-remove : ChildrenAreRead → StoredZerosRemove
 stored-zeros-remove read s n calm later base kind x slot key rest one leads free has = record {
   leads = leads;
   free = free;
-  row = slots-are-written read s n calm later base kind x slot Empty rest leads.reached one (way-small s calm key base kind x leads) has.at has.others tt
+  row = slots-are-written read s n calm later base kind x slot Empty rest leads.reached one (way_byte s calm key base kind x leads) has.at has.others tt
       has.here;
 }
 
@@ -31,7 +32,7 @@ written-leaves-are-put s calm later words written base kind x key value leads fr
   leads = leads;
   free = free;
   row = children-are-of-rows s words written calm later base kind x (Leaf key value) (puts-are-children s words written base kind x (Leaf key value) has)
-      before after (way-small s calm key base kind x leads);
+      before after (way_byte s calm key base kind x leads);
 }
 
 pub written-pairs-are-hung : ChildrenAreRead → WrittenPairsAreHung
@@ -41,7 +42,7 @@ written-pairs-are-hung read s n calm later written base kind x slot key value fr
   pair = pairs-are-fresh s written calm key value fresh d a (child_on s calm base kind x) pair same
       (parted-small calm key d a (child_on s calm base kind x) parts) new;
   filled = filled;
-  row = slots-are-written read s n calm later base kind x slot (Row fresh Four) rest leads.reached one (way-small s calm key base kind x leads) slotted.at
+  row = slots-are-written read s n calm later base kind x slot (Row fresh Four) rest leads.reached one (way_byte s calm key base kind x leads) slotted.at
       slotted.others (sits-kind_at s fresh Four (claimed-sits s later fresh Four filled.claimed)) slotted.here;
 }
 
@@ -51,9 +52,9 @@ written-rows-are-hung read s n calm later words written base kind x slot key val
       above = above;
       hangs = hangs;
       leads = leads;
-      grown = copies-are-fresh s words written calm key value full full_kind y fresh larger copy before same (way-small s calm key full full_kind y leads) empty
+      grown = copies-are-fresh s words written calm key value full full_kind y fresh larger copy before same (way_byte s calm key full full_kind y leads) empty
           new;
       filled = filled;
-      row = slots-are-written read s n calm later base kind x slot (Row fresh larger) rest above.reached one (way-small s calm key base kind x above) slotted.at
+      row = slots-are-written read s n calm later base kind x slot (Row fresh larger) rest above.reached one (way_byte s calm key base kind x above) slotted.at
           slotted.others (sits-kind_at s fresh larger (claimed-sits s later fresh larger filled.claimed)) slotted.here;
     }

@@ -1,25 +1,22 @@
 -- What a call writes in rows that it holds or fills, as a change of a calm table.
 use Rattle.std.proofs.Common.{◌≡◌, ◌⊎◌, inl, inr, ℕ, ◌+◌, ◌<◌, ◌≤◌, slice_index, slice_set, refl, sym, ap, ◌∙◌, subst, arith}
 use Rattle.std.proofs.lemmas.List.{get_or-set_same, get_or-set_other}
-use Rattle.art_rows.specs.declared.table.Kind.{Kind}
 use Rattle.art_rows.specs.declared.table.Kind.TheVariants.{Four}
-use Rattle.art_rows.specs.Table.{row_words, first_child}
+use Rattle.art_rows.specs.Table.{row_words}
 use Rattle.art_rows.specs.Words.{key_bytes}
+use Rattle.art_rows.proofs.KindLemmas.{claims-few, two-words, first-some}
+use Rattle.art_rows.proofs.ByteLemmas.{key_byte-small}
 use Rattle.art_core.specs.Meaning.{Reached}
 use Rattle.art_serial.specs.writes.Writes.{IsOutside}
-use Rattle.art_serial.proofs.alone.PlaceLemmas.{Sits, sits-part, sits-inside, claims-low}
+use Rattle.art_serial.proofs.alone.PlaceLemmas.{Sits, sits-part, sits-inside}
 use Rattle.art_serial.proofs.alone.SlotLemmas.{IsSlot, slot-is, row-keys, form-same}
-use Rattle.art_serial.proofs.alone.LikeLemmas.{row_words-some, sits}
-use Rattle.art_serial.proofs.alone.WayLemmas.{key_byte-small}
+use Rattle.art_serial.proofs.alone.LikeLemmas.{sits}
 use Rattle.art_serial.proofs.inserts.OutcomeLemmas.{split, child-same}
 use Rattle.art_schedules.specs.changes.Written.{StoresAreSlots, HungRowsAreSlots, ChildrenAreOfRows, PutsAreChildren, PairsAreFresh, CopiesAreFresh}
 use Rattle.art_schedules.specs.changes.Written.{WrittenPairsAreRows, WrittenRowsAreCopies}
 use Rattle.art_schedules.proofs.changes.RowLemmas.{claimed-sits}
 
 -- ---- a child in a row that is held
-
-first-some : (k : Kind) → 1 ≤ first_child k
-first-some k = grind arith
 
 pub stores-are-slots : StoresAreSlots
 stores-are-slots words calm later base kind x slot word byte at inside before after = record {
@@ -62,7 +59,7 @@ hung-rows-are-slots s n words written calm later base kind x slot fresh larger r
 pub children-are-of-rows : ChildrenAreOfRows
 children-are-of-rows s words written calm later base kind x child new before after byte = record {
   form = form-same written later base kind (row-keys written later base kind after) new.form;
-  info = after 1 (omega arith) (row_words-some kind) ∙ (new.info ∙ sym (before 1 (omega arith) (row_words-some kind)));
+  info = after 1 (omega arith) (two-words kind) ∙ (new.info ∙ sym (before 1 (omega arith) (two-words kind)));
   others = λ y small ne. child-same s written later base kind y small after
       ∙ (new.others y small ne ∙ sym (child-same s words calm base kind y small before));
   here = child-same s written later base kind x byte after ∙ new.here;
@@ -93,7 +90,7 @@ pub copies-are-fresh : CopiesAreFresh
 copies-are-fresh s words written calm key value full kind y fresh larger copy before after byte empty new = record {
   new = new;
   form = form-same written calm fresh larger (row-keys written calm fresh larger after) copy.form;
-  info = after 1 (omega arith) (row_words-some larger) ∙ copy.info;
+  info = after 1 (omega arith) (two-words larger) ∙ copy.info;
   absent = empty;
   leaf = child-same s written calm fresh larger y byte after ∙ copy.put;
   rest = λ z small ne. child-same s written calm fresh larger z small after
@@ -109,7 +106,7 @@ written-pairs-are-rows s words written fresh slot level path a b has = (
     second = has.second;
     others = λ y small na nb. has.others y na nb;
   },
-  record { same = λ word late ne out. has.same word (λ is. omega (arith, late, is, claims-low Four)) ne out; hangs = has.hangs },
+  record { same = λ word late ne out. has.same word (λ is. omega (arith, late, is, claims-few Four)) ne out; hangs = has.hangs },
 )
 
 pub written-rows-are-copies : WrittenRowsAreCopies

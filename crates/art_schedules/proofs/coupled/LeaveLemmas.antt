@@ -13,11 +13,12 @@ use Rattle.art_rows.specs.Table.{kind_at}
 use Rattle.art_rows.specs.Words.{is_locked, is_obsolete, locked_word, released_word, obsolete_word}
 use Rattle.art_serial.proofs.words.TableLemmas.{row_begins}
 use Rattle.art_steps.specs.declared.variant.Variant.TheVariants.{Coupled}
-use Rattle.art_steps.specs.declared.access.Access.{Access}
-use Rattle.art_steps.specs.declared.access.Access.TheVariants.{Load, Store, Exchange as Swap, Add}
+use Rattle.art_steps.specs.declared.access.Access.TheVariants.{Store, Exchange as Swap}
 use Rattle.art_steps.specs.declared.access.Point.{Point}
 use Rattle.art_steps.specs.declared.access.Point.TheVariants as point
-use Rattle.art_steps.specs.Steps.{Asks, Answers}
+use Rattle.art_steps.specs.Steps.{Asks}
+use Rattle.art_steps.proofs.TurnLemmas.{store-word, load-store, add-store, exchange-store, add-exchange, load-exchange, store-exchange, answers-asks}
+use Rattle.art_steps.proofs.TurnLemmas.{stores-same}
 use Rattle.art_stages.specs.declared.stage.Held.{Held}
 use Rattle.art_stages.specs.declared.stage.Hold.{Hold}
 use Rattle.art_stages.specs.declared.stage.Stage.{Stage}
@@ -33,6 +34,7 @@ use Rattle.art_core.specs.declared.process.Process.{Process}
 use Rattle.art_core.specs.Core.{Plan, State, step}
 use Rattle.art_core.specs.Meaning.{Reached, child_on}
 use Rattle.art_serial.proofs.inserts.OutcomeLemmas.{child-same}
+use Rattle.art_serial.proofs.words.VersionLemmas.{taken-locked, obsolete_released}
 use Rattle.art_versions.specs.versions.Holding.{Knows, holds}
 use Rattle.art_versions.specs.versions.Locking.{all_of, lock_of, locks_of, rows_of_hold}
 use Rattle.art_versions.specs.versions.Effects.{IsAmong}
@@ -42,7 +44,7 @@ use Rattle.art_versions.proofs.versions.MoveLemmas.{settled-row}
 use Rattle.art_versions.proofs.versions.WordFacts.{version-free}
 use Rattle.art_schedules.specs.calm.Calm.{calm_of}
 use Rattle.art_schedules.specs.calm.Changes.{AsksFor, RowChange, RowsStay, RowWritten, RowFilled, RowTaken, RowReleased}
-use Rattle.art_schedules.proofs.calm.VersionLemmas.{not-behind, locked-same, released-same, released-free, obsolete-free, taken-locked}
+use Rattle.art_schedules.proofs.calm.VersionLemmas.{not-behind, locked-same, released-free, obsolete-free}
 use Rattle.art_schedules.proofs.calm.CalmLemmas.{claimed-row}
 use Rattle.art_schedules.specs.changes.Effects.{Effect}
 use Rattle.art_schedules.specs.changes.Courses.{IsGoneBy, IsFreshBy}
@@ -60,43 +62,13 @@ use Rattle.art_schedules.proofs.coupled.MadeLemmas.{Facts, facts, made, others-o
 use Rattle.art_schedules.proofs.coupled.RowLemmas.{kept-row, held-calm, held-live, its-turn}
 use Rattle.art_schedules.proofs.coupled.MoveLemmas.{reached-kind, live-taken}
 
-asks-same : {a b : Access} {m l : Option Point} → Asks a m ≡ Asks b l → a ≡ b
-asks-same e = cc
-
-store-word : {word value other v : ℕ} {m l : Option Point} → Asks (Store word value) m ≡ Asks (Store other v) l → word ≡ other
-store-word e = cc
-
-store-value : {word value other v : ℕ} {m l : Option Point} → Asks (Store word value) m ≡ Asks (Store other v) l → value ≡ v
-store-value e = cc
-
-load-store : {word other v : ℕ} {m l : Option Point} → Asks (Load word) m ≡ Asks (Store other v) l → ⊥
-load-store e = cc
-
-swap-store : {word v w other x : ℕ} {m l : Option Point} → Asks (Swap word v w) m ≡ Asks (Store other x) l → ⊥
-swap-store e = cc
-
-add-store : {word other x : ℕ} {m l : Option Point} → Asks (Add word) m ≡ Asks (Store other x) l → ⊥
-add-store e = cc
-
-add-swap : {word other x y : ℕ} {m l : Option Point} → Asks (Add word) m ≡ Asks (Swap other x y) l → ⊥
-add-swap e = cc
-
-load-swap : {word other x y : ℕ} {m l : Option Point} → Asks (Load word) m ≡ Asks (Swap other x y) l → ⊥
-load-swap e = cc
-
-store-swap : {word v other x y : ℕ} {m l : Option Point} → Asks (Store word v) m ≡ Asks (Swap other x y) l → ⊥
-store-swap e = cc
-
-answer-asks : {r : _} {a : Access} {m : Option Point} → Answers r ≡ Asks a m → ⊥
-answer-asks e = cc
-
 -- where a row is locked, nothing is stored
 lock-stores : (shape : Shape) (call : Call) (x : CallAt) (word value : ℕ) (mark : Option Point)
     → call_turn (setting shape Coupled call) x ≡ Asks (Store word value) mark
     → is_lock x ≡ false
 lock-stores shape call (OnKey (Lock t true)) word value mark e = absurd (load-store e)
 lock-stores shape call (OnKey (Lock t false)) word value mark e = absurd (load-store e)
-lock-stores shape call (OnKey (Exchange t v)) word value mark e = absurd (swap-store e)
+lock-stores shape call (OnKey (Exchange t v)) word value mark e = absurd (exchange-store e)
 lock-stores shape call (OnKey stage) word value mark e = refl
 lock-stores shape call (OnScan low high x) word value mark e = go x.step e
   where
@@ -104,7 +76,7 @@ lock-stores shape call (OnScan low high x) word value mark e = go x.step e
         → is_lock (OnScan low high (at step x.walk)) ≡ false
     go (scan.Lock entry true) e = absurd (load-store e)
     go (scan.Lock entry false) e = absurd (load-store e)
-    go (scan.Exchange entry v) e = absurd (swap-store e)
+    go (scan.Exchange entry v) e = absurd (exchange-store e)
     go step e = refl
 
 -- What a call that stores the version of a row is at: one of the stages that release a row that it holds, or the one that makes a row obsolete.
@@ -114,17 +86,17 @@ data Releases (shape : Shape) (call : Call) (x : CallAt) (base value : ℕ) : Ty
 
 releases-at : (shape : Shape) (call : Call) (x : CallAt) (base value : ℕ) (mark : Option Point) → may_release x ≡ true
     → call_turn (setting shape Coupled call) x ≡ Asks (Store base value) mark → Releases shape call x base value
-releases-at shape call (OnKey (Between d kept)) base value mark e turn = ByUnlock d.above (inr (inl refl)) (sym (store-value turn))
-releases-at shape call (OnKey (LetGo above p f)) base value mark e turn = ByUnlock above (inr (inl refl)) (sym (store-value turn))
+releases-at shape call (OnKey (Between d kept)) base value mark e turn = ByUnlock d.above (inr (inl refl)) (sym (stores-same turn).1)
+releases-at shape call (OnKey (LetGo above p f)) base value mark e turn = ByUnlock above (inr (inl refl)) (sym (stores-same turn).1)
 releases-at shape call (OnKey (Obsolete h)) base value mark e turn = ByObsolete h refl (sym (store-word turn))
-releases-at shape call (OnKey (Unlock h outcome)) base value mark e turn = ByUnlock h.row (inl refl) (sym (store-value turn))
+releases-at shape call (OnKey (Unlock h outcome)) base value mark e turn = ByUnlock h.row (inl refl) (sym (stores-same turn).1)
 releases-at shape call (OnKey stage) base value mark e turn = absurd (false≢true e)
 releases-at shape call (OnScan low high x) base value mark e turn = go x.step e turn
   where
     go : (step : ScanStep) → may_release (OnScan low high (at step x.walk)) ≡ true
         → scan_turn (setting shape Coupled call) (at step x.walk) ≡ Asks (Store base value) mark
         → Releases shape call (OnScan low high (at step x.walk)) base value
-    go (scan.Release n) e turn = ByUnlock n (inl refl) (sym (store-value turn))
+    go (scan.Release n) e turn = ByUnlock n (inl refl) (sym (stores-same turn).1)
     go step e turn = absurd (false≢true e)
 
 -- Where a row comes from that is held behind a step of process p: it was held before, from the same version, or p takes it in the step.
@@ -226,7 +198,7 @@ module _ (shape : Shape) (root : 1 ≤ shape.rows256) (s t : State) (p : ℕ) (f
 
             by : Releases shape asks.call x y.base value → base ≡ y.base → is_obsolete value ≡ true → MadeBy base kind
             by (ByUnlock n among same) e dead =
-                absurd (false≢true (sym (ap is_obsolete same ∙ (released-same n.kept ∙ live p asks.call asks.process asks.is_open (lock_of n) among)) ∙ dead))
+                absurd (false≢true (sym (ap is_obsolete same ∙ (obsolete_released n.kept ∙ live p asks.call asks.process asks.is_open (lock_of n) among)) ∙ dead))
             by (ByObsolete h is same) e dead = record {
               call = asks.call;
               hold = h;
@@ -249,7 +221,7 @@ module _ (shape : Shape) (root : 1 ≤ shape.rows256) (s t : State) (p : ℕ) (f
                     (store-word (sym asks.turn ∙ turn)))
                 touched (ClaimsRow k mark turn may) = absurd (add-store (sym turn ∙ asks.turn))
                 touched (ReleasesHeld row v mark turn among may) = by (releases-at shape asks.call x y.base value asks.mark may asks.turn) e dead
-                touched (Replies r turn) = absurd (answer-asks (sym turn ∙ asks.turn))
+                touched (Replies r turn) = absurd (answers-asks (sym turn ∙ asks.turn))
 
 module _ (plan : Plan) (start : Contents) (words schedule : List ℕ) (p : ℕ) (s t : State) (claims : ℕ) (m : Contents)
     (h : IsStepOf plan start words schedule p s t claims m) where
@@ -403,11 +375,11 @@ work-takes-live plan start words schedule p s t claims m call stage h at w x ask
         ∙ its-turn plan.shape s t p words _ _ known call at.process at.is_open (Swap x.base x.kept (locked_word x.kept)) asks
 
     none : TouchesOwn (setting plan.shape Coupled call) (OnKey stage) → ⊥
-    none (LoadsHeld word mark e held) = load-swap (sym e ∙ turn)
-    none (StoresOwn word v mark e own) = store-swap (sym e ∙ turn)
-    none (ClaimsRow k mark e may) = add-swap (sym e ∙ turn)
-    none (ReleasesHeld row v mark e among may) = store-swap (sym e ∙ turn)
-    none (Replies r e) = answer-asks (sym e ∙ turn)
+    none (LoadsHeld word mark e held) = load-exchange (sym e ∙ turn)
+    none (StoresOwn word v mark e own) = store-exchange (sym e ∙ turn)
+    none (ClaimsRow k mark e may) = add-exchange (sym e ∙ turn)
+    none (ReleasesHeld row v mark e among may) = store-exchange (sym e ∙ turn)
+    none (Replies r e) = answers-asks (sym e ∙ turn)
 
 pub held-live-then : HeldRowsLive
 held-live-then plan start words schedule p s t claims m h live takes =

@@ -17,9 +17,10 @@ use Rattle.art_core.specs.declared.process.Process.{Process}
 use Rattle.art_core.specs.Accesses.{changed, told}
 use Rattle.art_core.specs.Core.{Plan, State, Makes, after_move, moved, move_of, move_from, next_move, step}
 use Rattle.art_core.proofs.HistoryLemmas.{is-moved}
+use Rattle.art_serial.proofs.serial.OrderlyLemmas.{set-here}
 use Rattle.art_versions.specs.versions.Versions.{IsOpen, IsSound, stage_of}
 use Rattle.art_versions.specs.versions.Steady.{IsSteady}
-use Rattle.art_versions.proofs.versions.ChangeLemmas.{set-same, set-other}
+use Rattle.art_versions.proofs.versions.ChangeLemmas.{set-other}
 use Rattle.art_versions.proofs.versions.StepLemmas.{after-more, next-turn}
 use Rattle.art_schedules.specs.calm.Calm.{calm_of, IsCalm}
 use Rattle.art_schedules.specs.calm.Changes.{CalmStep}
@@ -69,7 +70,7 @@ pub made : (plan : Plan) (p : ℕ) (s t : State) (call : Call) (q : Process) (a 
 made plan p s t call q a mark coupled e o turn =
     subst (λ u. IsMade plan.shape s u p call q a) (sym is) (record {
       process = after_move p (Makes a) (slice_index s.words (word_of a)) q;
-      is_open = record { own = set-same s.processes p q _ o.own; is_open = o.is_open };
+      is_open = record { own = set-here s.processes p q _ o.own; is_open = o.is_open };
       at = after-more (setting plan.shape Coupled call) (call_begun (setting plan.shape Coupled call)) q.got (told a (slice_index s.words (word_of a)));
       words = refl;
     })

@@ -14,6 +14,8 @@ use Rattle.art_rows.specs.declared.table.Kind.TheVariants.{Four, Sixteen, FortyE
 use Rattle.art_rows.specs.declared.table.Child.TheVariants.{Row as ChildRow}
 use Rattle.art_rows.specs.Table.{table_words, kind_at, root_base, claims_of}
 use Rattle.art_rows.specs.Words.{is_locked, is_obsolete, locked_word, released_word}
+use Rattle.art_rows.proofs.KindLemmas.{some-words, claims-few}
+use Rattle.art_rows.proofs.ByteLemmas.{key_byte-small}
 use Rattle.art_steps.specs.declared.variant.Variant.TheVariants.{Coupled}
 use Rattle.art_steps.specs.declared.access.Access.{Access}
 use Rattle.art_steps.specs.declared.access.Access.TheVariants.{Load, Store, Exchange as Swap}
@@ -21,6 +23,8 @@ use Rattle.art_steps.specs.declared.access.Point.{Point}
 use Rattle.art_steps.specs.Steps.{Asks, Answers}
 use Rattle.art_steps.specs.Fits.{word_of}
 use Rattle.art_steps.specs.Rows.{Setting, key_of, is_insert, is_scan, locks}
+use Rattle.art_steps.proofs.TurnLemmas.{asks-same, load-exchange, store-exchange, load-store, exchange-store, exchange-word, exchanges-same, store-word}
+use Rattle.art_steps.proofs.TurnLemmas.{answers-asks}
 use Rattle.art_stages.specs.declared.stage.Held.{Held}
 use Rattle.art_stages.specs.declared.stage.Keys.{Keys}
 use Rattle.art_stages.specs.declared.stage.Hold.{Hold}
@@ -44,14 +48,13 @@ use Rattle.art_serial.specs.trees.Trees.{IsAtRest, SameRow, WaysLeadToValues, Le
 use Rattle.art_serial.proofs.alone.PlaceLemmas.{sits-kind_at, kind_at-sits, sits-inside}
 use Rattle.art_serial.proofs.alone.LikeLemmas.{sits}
 use Rattle.art_serial.proofs.alone.WayLemmas.{leads-root}
+use Rattle.art_serial.proofs.writes.StoreLemmas.{stored-at}
 use Rattle.art_versions.specs.versions.Holding.{Each, Fits, Knows, KnowsKey, holds, fills, row_filled}
 use Rattle.art_versions.specs.versions.Locking.{all_of, held_at_place, lock_of, locks_of, rows_held, rows_of_hold}
 use Rattle.art_versions.specs.versions.Effects.{IsAmong}
 use Rattle.art_versions.specs.versions.Versions.{IsOpen, IsSettled, stage_of, held_by, filled_by}
-use Rattle.art_versions.proofs.versions.ChangeLemmas.{index-same}
-use Rattle.art_versions.proofs.versions.KnownLemmas.{held-is-kept}
-use Rattle.art_versions.proofs.versions.MoveLemmas.{settled-row, no-items, claims-low, some-words}
-use Rattle.art_versions.proofs.versions.WordFacts.{key_byte-small}
+use Rattle.art_versions.proofs.versions.KnownLemmas.{held-is-kept, among-each, each-among}
+use Rattle.art_versions.proofs.versions.MoveLemmas.{settled-row, no-items}
 use Rattle.art_schedules.specs.calm.Calm.{calm_of}
 use Rattle.art_schedules.proofs.calm.VersionLemmas.{free-busy}
 use Rattle.art_schedules.specs.changes.Courses.{IsGoneBy}
@@ -69,58 +72,18 @@ use Rattle.art_schedules.proofs.coupled.OwnLemmas.{ways-go-on, findings-stay}
 use Rattle.art_schedules.proofs.coupled.StayLemmas.{begins-still, own-still, ways-are-kept}
 use Rattle.art_schedules.proofs.coupled.MadeLemmas.{Facts, facts, IsMade, made, others-open}
 use Rattle.art_schedules.proofs.coupled.RowLemmas.{kept-row, others-same, held-calm, held-live, its-turn, own-same, keeps-without, keeps-released}
+use Rattle.art_schedules.proofs.work.LockedLemmas.{among-lock}
 
 -- ---- accesses and stages
 
-same-access : {a b : Access} {m l : Option Point} → Asks a m ≡ Asks b l → a ≡ b
-same-access e = cc
-
-load-swap : {word other v w : ℕ} {m l : Option Point} → Asks (Load word) m ≡ Asks (Swap other v w) l → ⊥
-load-swap e = cc
-
-store-swap : {word value other v w : ℕ} {m l : Option Point} → Asks (Store word value) m ≡ Asks (Swap other v w) l → ⊥
-store-swap e = cc
-
-load-store : {word other v : ℕ} {m l : Option Point} → Asks (Load word) m ≡ Asks (Store other v) l → ⊥
-load-store e = cc
-
-swap-store : {word v w other x : ℕ} {m l : Option Point} → Asks (Swap word v w) m ≡ Asks (Store other x) l → ⊥
-swap-store e = cc
-
-swap-word : {word v w other x y : ℕ} {m l : Option Point} → Asks (Swap word v w) m ≡ Asks (Swap other x y) l → word ≡ other
-swap-word e = cc
-
-swap-version : {word v w other x y : ℕ} {m l : Option Point} → Asks (Swap word v w) m ≡ Asks (Swap other x y) l → v ≡ x
-swap-version e = cc
-
-store-word : {word value other v : ℕ} {m l : Option Point} → Asks (Store word value) m ≡ Asks (Store other v) l → word ≡ other
-store-word e = cc
-
-answer-asks : {r : Reply} {a : Access} {m : Option Point} → Answers r ≡ Asks a m → ⊥
-answer-asks e = cc
-
 -- a row is within the table
-row-inside : (shape : Shape) (base : ℕ) (kind : Kind) → kind_at shape base ≡ Some kind → base < table_words shape
+pub row-inside : (shape : Shape) (base : ℕ) (kind : Kind) → kind_at shape base ≡ Some kind → base < table_words shape
 row-inside shape base kind row =
     let x = (sits-inside shape base 0 kind (kind_at-sits shape base kind row) (omega (arith, some-words kind))).1 in
     omega (arith, x)
 
 exchange-unlock : {t : Target} {v : ℕ} {h : Hold} {o : _} → OnKey (Unlock h o) ≡ OnKey (Exchange t v) → ⊥
 exchange-unlock e = cc
-
-each-of : (P : Held → Type 0) (hs : List Held) → ((h : Held) → IsAmong h hs → P h) → Each P hs
-each-of P [] f = tt
-each-of P (h ∷ hs) f = (f h (inl refl), each-of P hs (λ x a. f x (inr a)))
-
-each-at : (P : Held → Type 0) (h : Held) (hs : List Held) → IsAmong h hs → Each P hs → P h
-each-at P h [] a e = absurd a
-each-at P h (x ∷ hs) (inl same) e = subst P (sym same) e.0
-each-at P h (x ∷ hs) (inr a) e = each-at P h hs a e.1
-
-among-lock : (h : Held) (hs : List Held) → IsAmong h hs → IsAmong (lock_of h) (locks_of hs)
-among-lock h [] a = a
-among-lock h (x ∷ hs) (inl e) = inl (ap lock_of e)
-among-lock h (x ∷ hs) (inr a) = inr (among-lock h hs a)
 
 -- at its first stage work holds its rows
 moves-hold : (i : Bool) (h : Hold) (keys : Keys) (n : ℕ) → rows_held true i (moves_at h keys n) ≡ rows_of_hold h
@@ -133,7 +96,7 @@ puts-hold i Sixteen c h keys = moves-hold i h keys (count_in Sixteen keys - plac
 puts-hold i FortyEight c h keys = refl
 puts-hold i Full c h keys = refl
 
-works-hold : (i : Bool) (c : Setting) (h : Hold) (work : Work) → rows_held true i (work_at c h work) ≡ rows_of_hold h
+pub works-hold : (i : Bool) (c : Setting) (h : Hold) (work : Work) → rows_held true i (work_at c h work) ≡ rows_of_hold h
 works-hold i c h (work.Write slot word value) = refl
 works-hold i c h (work.Pair p) = refl
 works-hold i c h (work.Put keys) = puts-hold i h.row.kind c h keys
@@ -219,12 +182,12 @@ row-swapped : (o : Option Reply) (c : Setting) → locks c.variant ≡ true → 
 row-swapped o c l i calm stage k word v w mark e = go (knows-does o c l i calm stage k)
   where
     go : Does c i stage → (kind : Kind) × Reached c.shape calm word kind
-    go (DoesLoad other m x) = absurd (load-swap (sym x ∙ e))
-    go (DoesRelease h m among x) = absurd (store-swap (sym x ∙ e))
-    go (DoesAnswer reply x) = absurd (answer-asks (sym x ∙ e))
+    go (DoesLoad other m x) = absurd (load-exchange (sym x ∙ e))
+    go (DoesRelease h m among x) = absurd (store-exchange (sym x ∙ e))
+    go (DoesAnswer reply x) = absurd (answers-asks (sym x ∙ e))
     go (DoesSwap t u x) =
         let (kind, reached) = target-reached c calm t (target-of o i c calm t u (subst (KnowsAt o i c calm) x k)) in
-        (kind, subst (λ b. Reached c.shape calm b kind) (swap-word (ap (turn_at c) (sym x) ∙ e)) reached)
+        (kind, subst (λ b. Reached c.shape calm b kind) (exchange-word (ap (turn_at c) (sym x) ∙ e)) reached)
 
 -- ---- what a call on its way takes is not obsolete
 
@@ -301,22 +264,22 @@ module _ (shape : Shape) (s t : State) (p : ℕ) (first calm after : List ℕ) (
     live-taken found stage at k word v m e is = go (knows-does found c refl (is_insert call) calm stage k)
       where
         go : Does c (is_insert call) stage → is_obsolete v ≡ false
-        go (DoesLoad other l x) = absurd (load-swap (sym x ∙ e))
-        go (DoesRelease h l among x) = absurd (store-swap (sym x ∙ e))
-        go (DoesAnswer reply x) = absurd (answer-asks (sym x ∙ e))
+        go (DoesLoad other l x) = absurd (load-exchange (sym x ∙ e))
+        go (DoesRelease h l among x) = absurd (store-exchange (sym x ∙ e))
+        go (DoesAnswer reply x) = absurd (answers-asks (sym x ∙ e))
         go (DoesSwap t u x) =
             let its = ap (turn_at c) (sym x) ∙ e in
-            let version : u ≡ v = swap-version its in
+            let version : u ≡ v = (exchanges-same its).1 in
             let target = target-of found (is_insert call) c calm t u (subst (KnowsAt found (is_insert call) c calm) x k) in
             let row = target-reached c calm t target in
             ap is_obsolete (sym version) ∙ (takes-row t u (at ∙ ap OnKey x) target (subst (Fits true (is_insert call) c) x (knows-key stage at).fits).2
-            (ap (slice_index s.words) (swap-word its) ∙ (is ∙ sym version)) row.0 row.1).1
+            (ap (slice_index s.words) (exchange-word its) ∙ (is ∙ sym version)) row.0 row.1).1
 
     gets-at : (found : Option Reply) (stage : Stage) (a : Access) (mark : Option Point) → stage_of Coupled shape call q ≡ OnKey stage
         → KnowsAt found (is_insert call) c calm stage → turn_at c stage ≡ Asks a mark → Gets c calm s.words stage (told a (slice_index s.words (word_of a)))
     gets-at found stage a mark at k turn = record {
-      loads = λ word m e. ap (λ x. told x (slice_index s.words (word_of x))) (same-access (sym turn ∙ e));
-      takes = λ word v m e is kind r. takes word v m e (sym (ap (λ x. told x (slice_index s.words (word_of x))) (same-access (sym turn ∙ e))) ∙ is) kind r;
+      loads = λ word m e. ap (λ x. told x (slice_index s.words (word_of x))) (asks-same (sym turn ∙ e));
+      takes = λ word v m e is kind r. takes word v m e (sym (ap (λ x. told x (slice_index s.words (word_of x))) (asks-same (sym turn ∙ e))) ∙ is) kind r;
     }
       where
         takes : (word v : ℕ) (m : Option Point) → turn_at c stage ≡ Asks (Swap word v (locked_word v)) m → slice_index s.words word ≡ v → (kind : Kind)
@@ -324,13 +287,13 @@ module _ (shape : Shape) (s t : State) (p : ℕ) (first calm after : List ℕ) (
         takes word v m e is kind r = go (knows-does found c refl (is_insert call) calm stage k)
           where
             go : Does c (is_insert call) stage → SameRow calm s.words word kind × (is_obsolete v ≡ false)
-            go (DoesLoad other l x) = absurd (load-swap (sym x ∙ e))
-            go (DoesRelease h l among x) = absurd (store-swap (sym x ∙ e))
-            go (DoesAnswer reply x) = absurd (answer-asks (sym x ∙ e))
+            go (DoesLoad other l x) = absurd (load-exchange (sym x ∙ e))
+            go (DoesRelease h l among x) = absurd (store-exchange (sym x ∙ e))
+            go (DoesAnswer reply x) = absurd (answers-asks (sym x ∙ e))
             go (DoesSwap t u x) =
                 let its = ap (turn_at c) (sym x) ∙ e in
-                let word-is : target_base c t ≡ word = swap-word its in
-                let version : u ≡ v = swap-version its in
+                let word-is : target_base c t ≡ word = exchange-word its in
+                let version : u ≡ v = (exchanges-same its).1 in
                 let unlocked = (subst (Fits true (is_insert call) c) x (knows-key stage at).fits).2 in
                 let target = target-of found (is_insert call) c calm t u (subst (KnowsAt found (is_insert call) c calm) x k) in
                 let row = takes-row t u (at ∙ ap OnKey x) target unlocked
@@ -362,8 +325,8 @@ module _ (shape : Shape) (s t : State) (p : ℕ) (first calm after : List ℕ) (
 
             go : Does c (is_insert call) stage → (y : Held) × IsAmong y (held_by Coupled shape call q) × (word ≡ y.base)
             go (DoesLoad other l x) = absurd (load-store (sym x ∙ here))
-            go (DoesSwap t u x) = absurd (swap-store (ap (turn_at c) (sym x) ∙ here))
-            go (DoesAnswer reply x) = absurd (answer-asks (sym x ∙ here))
+            go (DoesSwap t u x) = absurd (exchange-store (ap (turn_at c) (sym x) ∙ here))
+            go (DoesAnswer reply x) = absurd (answers-asks (sym x ∙ here))
             go (DoesRelease h l among x) = (lock_of h, its-held stage at h among, store-word (sym here ∙ x))
 
     tree-stays : (found : Option Reply) (stage : Stage) (a : Access) (mark : Option Point) → stage_of Coupled shape call q ≡ OnKey stage
@@ -379,20 +342,20 @@ module _ (shape : Shape) (s t : State) (p : ℕ) (first calm after : List ℕ) (
 
         go : Does c (is_insert call) stage → KeepsTree shape calm after
         go (DoesLoad other l x) = without (λ word value m e. load-store (sym x ∙ e))
-        go (DoesSwap t u x) = without (λ word value m e. swap-store (ap (turn_at c) (sym x) ∙ e))
-        go (DoesAnswer reply x) = without (λ word value m e. answer-asks (sym x ∙ e))
+        go (DoesSwap t u x) = without (λ word value m e. exchange-store (ap (turn_at c) (sym x) ∙ e))
+        go (DoesAnswer reply x) = without (λ word value m e. answers-asks (sym x ∙ e))
         go (DoesRelease h l among x) =
-            let own = each-at (IsOwn calm s.words) h (rows_held true (is_insert call) stage) among k.rows in
+            let own = among-each (IsOwn calm s.words) h (rows_held true (is_insert call) stage) among k.rows in
             let held-here = its-held stage at h among in
             let settled = kept-row shape s t p first calm after f p call q o (lock_of h) held-here in
             let row = settled-row Coupled shape s h.base h.kind settled in
-            let access : a ≡ Store h.base (released_word h.kept) = same-access (sym turn ∙ x) in
+            let access : a ≡ Store h.base (released_word h.kept) = asks-same (sym turn ∙ x) in
             let inside : h.base < length s.words = omega (arith, row-inside shape h.base h.kind row, f.sound.long) in
             keeps-released shape s t p first calm after f call q o claims rest small (lock_of h) held-here (record { same = own.same; live = own.live })
             (words-stay found stage at k.way h.base h.kind row)
             (ap (λ ws. slice_index ws h.base) words
             ∙ (ap (λ b. slice_index (slice_set s.words (word_of b) (changed b (slice_index s.words (word_of b)))) h.base) access
-            ∙ index-same s.words h.base (released_word h.kept) inside))
+            ∙ stored-at s.words h.base (released_word h.kept) inside))
             l (here ∙ x)
 
 -- ---- behind the step
@@ -417,7 +380,7 @@ stage-asks c l i calm stage k = absurd k
 few-claims : (shape : Shape) (s t : State) (p : ℕ) (first calm after : List ℕ) (f : Facts shape s t p first calm after) → HasFewClaims (f.count + 2) after
 few-claims shape s t p first calm after f kind =
     let few = f.behind.claims kind in
-    omega (arith, few, f.then.low (claims_of kind) (claims-low kind))
+    omega (arith, few, f.then.low (claims_of kind) (claims-few kind))
 
 module _ (plan : Plan) (start : Contents) (words schedule : List ℕ) (p : ℕ) (s t : State) (claims : ℕ) (m : Contents)
     (h : IsStepOf plan start words schedule p s t claims m) where
@@ -434,7 +397,7 @@ module _ (plan : Plan) (start : Contents) (words schedule : List ℕ) (p : ℕ) 
   rows-still : (call : Call) (r : ℕ) (effect : Option Effect) (next : Stage) (x : IsAtStage plan.shape t r call next)
       → ((h : Held) → IsAmong (lock_of h) (held_by Coupled plan.shape call x.process) → SameRow s.words t.words h.base h.kind × (IsGoneBy effect h.base → ⊥))
       → Each (IsStill calm s.words after t.words effect) (rows_held true (is_insert call) next)
-  rows-still call r effect next x same = each-of _ (rows_held true (is_insert call) next) (λ h a.
+  rows-still call r effect next x same = each-among _ (rows_held true (is_insert call) next) (λ h a.
       let among = subst (λ y. IsAmong (lock_of h) (holds (setting plan.shape Coupled call) y)) (sym x.at)
       (among-lock h (rows_held true (is_insert call) next) a) in
       let y = same h among in
@@ -535,11 +498,11 @@ others-leave-ways plan start words schedule p s t claims m r call stage found n 
     next = record { process = at.process; is_open = others-open plan p r s t call at.process h.made apart at.is_open; at = at.at }
 
     live : (x : Held) → IsAmong x (rows_held true (is_insert call) stage) → is_obsolete x.kept ≡ false
-    live x a = (each-at _ x (rows_held true (is_insert call) stage) a k.rows).live
+    live x a = (among-each _ x (rows_held true (is_insert call) stage) a k.rows).live
 
     still : Each (IsStill (calm_of plan words schedule) s.words (calm_of plan words (schedule ++ p ∷ [])) t.words effect) (rows_held true (is_insert call)
         stage)
-    still = each-of _ (rows_held true (is_insert call) stage) (λ x a.
+    still = each-among _ (rows_held true (is_insert call) stage) (λ x a.
         let among = subst (λ y. IsAmong (lock_of x) (holds (setting plan.shape Coupled call) y)) (sym at.at)
         (among-lock x (rows_held true (is_insert call) stage) a) in
         record {
@@ -569,7 +532,7 @@ found-is-answered shape call table words stage reply answer k turn = go stage k.
 pub seekers-are-not-answered : SeekersAreNotAnswered
 seekers-are-not-answered shape call table words stage reply k turn =
     let (a, mark, asks) = stage-asks (setting shape Coupled call) refl (is_insert call) table stage k.way in
-    answer-asks (sym turn ∙ asks)
+    answers-asks (sym turn ∙ asks)
 
 -- ---- the rows that a call on its way takes and holds are reached
 

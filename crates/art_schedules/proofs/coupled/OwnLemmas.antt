@@ -1,6 +1,6 @@
 -- A step of a call that knows its way.
-use Rattle.std.proofs.Common.{◌≡◌, ◌≢◌, inl, inr, ℕ, zero, suc, ◌+◌, ◌-◌, ◌%◌, ◌<◌, ◌≤◌, ◌==◌, List, [], ◌∷◌, length, take, slice_index, Option, Some, None}
-use Rattle.std.proofs.Common.{Bool, true, false, if◌then◌else◌, refl, sym, ap, ◌∙◌, subst, arith, eqb-true, eq-eqb, option_map}
+use Rattle.std.proofs.Common.{◌≡◌, ◌≢◌, inl, inr, ℕ, ◌+◌, ◌-◌, ◌%◌, ◌<◌, ◌==◌, List, ◌∷◌, length, slice_index, Option, Some, None}
+use Rattle.std.proofs.Common.{Bool, true, false, refl, sym, ap, ◌∙◌, subst, arith, eqb-true, option_map, if◌then◌else◌}
 use Rattle.std.proofs.lemmas.Bool.{false≢true, eqb-false}
 use Rattle.std.proofs.lemmas.Option.{none-some}
 use Rattle.events.specs.declared.event.Call.{Call}
@@ -13,8 +13,10 @@ use Rattle.art_rows.specs.declared.table.Kind.{Kind}
 use Rattle.art_rows.specs.declared.table.Kind.TheVariants.{Four, Sixteen, FortyEight, Full}
 use Rattle.art_rows.specs.declared.table.Child.{Child}
 use Rattle.art_rows.specs.declared.table.Child.TheVariants.{Empty, Row as ChildRow, Leaf}
-use Rattle.art_rows.specs.Table.{capacity, row_words, root_base, info_at, keys_at, more_keys_at, index_at, count_at, child_at}
+use Rattle.art_rows.specs.Table.{capacity, root_base, info_at, keys_at, more_keys_at, index_at, count_at, child_at}
 use Rattle.art_rows.specs.Words.{is_locked, key_bytes, first_difference, keys4_of, keys16_of, place_of, entries_of, child_of, child_word, count_of}
+use Rattle.art_rows.proofs.KindLemmas.{seven-words}
+use Rattle.art_rows.proofs.ByteLemmas.{key_byte-small}
 use Rattle.art_steps.specs.declared.variant.Variant.TheVariants.{Coupled}
 use Rattle.art_steps.specs.TreeCalls.{is_tree_call}
 use Rattle.art_steps.specs.Rows.{Setting, key_of, is_insert, is_scan, path_differs_at}
@@ -43,11 +45,12 @@ use Rattle.art_serial.proofs.alone.DifferLemmas.{keys-differ}
 use Rattle.art_serial.proofs.alone.SeekLemmas.{absent-after, seek-reply}
 use Rattle.art_serial.proofs.inserts.InsertEndLemmas.{first-differs}
 use Rattle.art_serial.proofs.inserts.SmallLemmas.{path_byte-small}
+use Rattle.art_serial.proofs.trees.Bytes.{never_differs}
 use Rattle.art_versions.specs.versions.Holding.{Each, Fits, IsUnder, HasRoom, FitsPlace}
 use Rattle.art_versions.specs.versions.Locking.{all_of, rows_held, held_at_place, rows_of_target}
 use Rattle.art_versions.specs.versions.Effects.{IsBehindVersion}
 use Rattle.art_versions.proofs.versions.KeyLemmas.{slot-behind}
-use Rattle.art_versions.proofs.versions.WordFacts.{not-full, full-not-less, count-most, key_byte-small}
+use Rattle.art_versions.proofs.versions.WordFacts.{not-full, full-not-less, count-most}
 use Rattle.art_schedules.specs.work.Works.{IsInsert, LacksByte}
 use Rattle.art_schedules.specs.coupled.Begins.{IsOnWay, HasChild, Hangs}
 use Rattle.art_schedules.specs.coupled.Knows.{IsOwn, IsBelow, HangsBelow, KnowsTarget, KnowsPlace, KnowsKeys, KnowsFinding, KnowsInfo, KnowsStage, KnowsAt}
@@ -64,19 +67,6 @@ pub own-word : (calm words : List ℕ) (n : Held) → IsOwn calm words n → (wo
 own-word calm words n own word behind =
     let is : n.base + (word - n.base) ≡ word = omega (arith, behind.0) in
     sym (ap (slice_index words) is) ∙ (own.same (word - n.base) (omega (arith, behind.0)) (omega (arith, behind.0, behind.1)) ∙ ap (slice_index calm) is)
-
-five-words : (kind : Kind) → 7 ≤ row_words kind
-five-words Four = omega arith
-five-words Sixteen = omega arith
-five-words FortyEight = omega arith
-five-words Full = omega arith
-
-never-differs : (n : ℕ) (bytes : List ℕ) → first_difference (take n bytes) bytes ≡ None
-never-differs zero bytes = refl
-never-differs (suc n) [] = refl
-never-differs (suc n) (b ∷ bytes) =
-    ap (λ t. if t then option_map (λ d. d + 1) (first_difference (take n bytes) bytes) else Some 0) (eq-eqb b b refl)
-    ∙ ap (λ o. option_map (λ d. d + 1) o) (never-differs n bytes)
 
 insert-of : (call : Call) → is_tree_call call ≡ true → is_insert call ≡ true → IsInsert call
 insert-of (Insert key value) tree e = record { key = key; value = value; is = refl; small = grind (arith, tree) }
@@ -505,7 +495,7 @@ module _ (shape : Shape) (call : Call) (tree : is_tree_call call ≡ true) (key-
     where
       go : (o : Option ℕ) → path_differs_at c (row_at (row-below d kept)) ≡ o → To (below_at true false c d (row-below d kept) o)
       go None f = GoesOn (knows false e None _ (record { leads = k; info = refl }) (record { same = own.0.same; live = own.0.live }, tt))
-      go (Some x) f = absurd (none-some x (sym (never-differs (level_in calm d.base d.kind) (key_bytes (key_of call)))
+      go (Some x) f = absurd (none-some x (sym (never_differs (level_in calm d.base d.kind) (key_bytes (key_of call)))
           ∙ (ap (λ xs. first_difference xs (key_bytes (key_of call))) k.path ∙ f)))
   arrives true e d kept k own = go (path_differs_at c (row_at (row-below d kept))) refl
     where
@@ -590,7 +580,7 @@ module _ (shape : Shape) (call : Call) (tree : is_tree_call call ≡ true) (key-
   next i e (Info d kept) w k own fits got =
       subst (λ v. To (below_at true i c d (held d.base d.kind v kept) (path_differs_at c (row_at (held d.base d.kind v kept)))))
       (sym (got.loads (info_at d.base) None refl
-      ∙ own-word calm words (held d.base d.kind 0 kept) (below-own d kept i own) (info_at d.base) (omega arith, omega (arith, five-words d.kind))))
+      ∙ own-word calm words (held d.base d.kind 0 kept) (below-own d kept i own) (info_at d.base) (omega arith, omega (arith, seven-words d.kind))))
       (arrives i e d kept k own)
   next i e (Find p) w k own fits got = finds i e p.row.base p.row.kind p.row.info p.row.kept p.above p.slot w k own fits got
   next i e (FindKeys p count) w k own fits got = GoesOn (knows i e None _ (
@@ -598,12 +588,12 @@ module _ (shape : Shape) (call : Call) (tree : is_tree_call call ≡ true) (key-
     k.1,
     k.2,
     got.loads (keys_at p.row.base) None refl
-        ∙ own-word calm words p.row (first-own i p own) (keys_at p.row.base) (omega arith, omega (arith, five-words p.row.kind)),
+        ∙ own-word calm words p.row (first-own i p own) (keys_at p.row.base) (omega arith, omega (arith, seven-words p.row.kind)),
   ) own)
   next i e (FindMore p count first) w k own fits got =
       more i e p.row.base p.row.kind p.row.info p.row.kept p.above p.slot count first w k.1 k.0 k.2 k.3
       (got.loads (more_keys_at p.row.base) None refl
-      ∙ own-word calm words p.row (first-own i p own) (more_keys_at p.row.base) (omega arith, omega (arith, five-words p.row.kind))) own fits
+      ∙ own-word calm words p.row (first-own i p own) (more_keys_at p.row.base) (omega arith, omega (arith, seven-words p.row.kind))) own fits
   next i e (FindCount p index) w k own fits got =
       counted i e p.row.base p.row.kind p.row.info p.row.kept p.above p.slot index w k.1 k.0 k.2 k.3 own fits got
   next i e (Slot p slot) w k own fits got = child-read i e p slot w k.0 k.1 own fits got
@@ -630,7 +620,7 @@ module _ (shape : Shape) (call : Call) (calm words : List ℕ) (r : Reply) where
   answers false (Info d kept) w (k, own) got = subst (λ v. Knows false (below_at true false here d (held d.base d.kind v kept)
       (path_differs_at here (row_at (held d.base d.kind v kept)))))
       (sym (got.loads (info_at d.base) None refl
-      ∙ own-word calm words (held d.base d.kind 0 kept) own.0 (info_at d.base) (omega arith, omega (arith, five-words d.kind))))
+      ∙ own-word calm words (held d.base d.kind 0 kept) own.0 (info_at d.base) (omega arith, omega (arith, seven-words d.kind))))
       (go (path_differs_at here (row_at (row-below))) k.1.1.1)
     where
       row-below : Held

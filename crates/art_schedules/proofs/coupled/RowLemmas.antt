@@ -8,6 +8,7 @@ use Rattle.art_rows.specs.declared.table.Shape.{Shape}
 use Rattle.art_rows.specs.declared.table.Kind.{Kind}
 use Rattle.art_rows.specs.Table.{kind_at, row_words, claims_of}
 use Rattle.art_rows.specs.Words.{is_obsolete, released_word}
+use Rattle.art_rows.proofs.KindLemmas.{some-words, claims-few}
 use Rattle.art_serial.proofs.words.TableLemmas.{rows_apart, row_begins}
 use Rattle.art_steps.specs.declared.variant.Variant.TheVariants.{Coupled}
 use Rattle.art_steps.specs.declared.access.Access.{Access}
@@ -23,14 +24,15 @@ use Rattle.art_core.specs.Meaning.{Reached}
 use Rattle.art_serial.specs.trees.Trees.{IsAtRest, SameRow}
 use Rattle.art_serial.proofs.alone.PlaceLemmas.{sits-kind_at}
 use Rattle.art_serial.proofs.alone.LikeLemmas.{sits}
+use Rattle.art_serial.proofs.words.VersionLemmas.{obsolete_released}
 use Rattle.art_versions.specs.versions.Effects.{IsAmong, IsBehindVersion}
 use Rattle.art_versions.specs.versions.Versions.{IsOpen, IsSettled, stage_of, held_by, filled_by}
 use Rattle.art_versions.proofs.versions.KnownLemmas.{held-is-kept}
-use Rattle.art_versions.proofs.versions.MoveLemmas.{settled-row, claims-low, some-words}
+use Rattle.art_versions.proofs.versions.MoveLemmas.{settled-row}
 use Rattle.art_versions.proofs.versions.WordFacts.{version-free}
 use Rattle.art_schedules.specs.calm.Calm.{is_busy}
 use Rattle.art_schedules.specs.calm.Changes.{AsksFor, RowChange, RowsStay, RowWritten, RowFilled, RowTaken, RowReleased, IsOutside}
-use Rattle.art_schedules.proofs.calm.VersionLemmas.{not-behind, free-busy, released-free, released-same, locked-same}
+use Rattle.art_schedules.proofs.calm.VersionLemmas.{not-behind, free-busy, released-free, locked-same}
 use Rattle.art_schedules.proofs.calm.UseLemmas.{without-store, with-released}
 use Rattle.art_schedules.specs.changes.Follows.{KeepsTree}
 use Rattle.art_schedules.proofs.changes.FollowLemmas.{low-words-keep}
@@ -146,7 +148,7 @@ module _ (shape : Shape) (s t : State) (p : ℕ) (first calm after : List ℕ) (
     claims-rise : (kind : Kind) → slice_index calm (claims_of kind) ≤ slice_index after (claims_of kind)
     claims-rise kind =
         let rise = f.steady.claims kind in
-        omega (arith, rise, f.before.low (claims_of kind) (claims-low kind), f.then.low (claims_of kind) (claims-low kind))
+        omega (arith, rise, f.before.low (claims_of kind) (claims-few kind), f.then.low (claims_of kind) (claims-few kind))
 
     pub keeps-without : (n : ℕ) → IsAtRest shape n calm → All (λ w. w < 2 ^ 64) after
         → ((word value : ℕ) (mark : Option Point) → turn ≡ Asks (Store word value) mark → ⊥) → KeepsTree shape calm after
@@ -178,7 +180,7 @@ module _ (shape : Shape) (s t : State) (p : ℕ) (first calm after : List ℕ) (
             (f.sound.knows p call q o) x a).0
 
         free : is_busy (slice_index t.words x.base) ≡ false
-        free = ap is_busy is ∙ free-busy (released_word x.kept) (released-free x.kept free-kept) (released-same x.kept ∙ own.live)
+        free = ap is_busy is ∙ free-busy (released_word x.kept) (released-free x.kept free-kept) (obsolete_released x.kept ∙ own.live)
 
         -- calm has the row's words, which it had before
         here : SameRow calm after x.base x.kind
@@ -212,7 +214,7 @@ module _ (shape : Shape) (s t : State) (p : ℕ) (first calm after : List ℕ) (
         lives : (base : ℕ) (kind : Kind) → Reached shape calm base kind → (base ≡ x.base) ⊎ (base ≢ x.base) → is_obsolete (slice_index after base) ≡ false
         lives base kind r (inl e) =
             ap (λ b. is_obsolete (slice_index after b)) e
-            ∙ (ap is_obsolete (f.then.free x.base x.kind row free x.base (omega arith) (omega (arith, some-words x.kind)) ∙ is) ∙ (released-same x.kept ∙
+            ∙ (ap is_obsolete (f.then.free x.base x.kind row free x.base (omega arith) (omega (arith, some-words x.kind)) ∙ is) ∙ (obsolete_released x.kept ∙
             own.live))
         lives base kind r (inr d) =
             let its = reached-row base kind r in

@@ -5,11 +5,13 @@ use Rattle.std.proofs.lemmas.Option.{none-some, same_Some}
 use Rattle.map_object.specs.MapObject.{Contents}
 use Rattle.events.specs.declared.event.Reply.{Reply}
 use Rattle.art_rows.specs.declared.table.Kind.{Kind}
-use Rattle.art_rows.specs.declared.table.Kind.TheVariants.{Four, Sixteen, FortyEight, Full}
+use Rattle.art_rows.specs.declared.table.Kind.TheVariants.{FortyEight}
 use Rattle.art_rows.specs.declared.table.Child.{Child}
 use Rattle.art_rows.specs.declared.table.Child.TheVariants.{Empty, Row as ChildRow, Leaf}
-use Rattle.art_rows.specs.Table.{row_words, first_child, index_at}
+use Rattle.art_rows.specs.Table.{row_words, index_at}
 use Rattle.art_rows.specs.Words.{key_bytes, first_difference, child_of}
+use Rattle.art_rows.proofs.KindLemmas.{first-some, seven-words}
+use Rattle.art_rows.proofs.ByteLemmas.{key_byte-small}
 use Rattle.art_steps.specs.declared.variant.Variant.TheVariants.{Coupled}
 use Rattle.art_steps.specs.Rows.{Setting, key_of, is_insert}
 use Rattle.art_stages.specs.declared.stage.Held.{Held}
@@ -31,7 +33,6 @@ use Rattle.art_serial.specs.trees.Trees.{SameRow, LeadsTo, Parts}
 use Rattle.art_serial.proofs.alone.SlotLemmas.{slot-is, row-keys, slot-same, keys-same, count-same, form-same}
 use Rattle.art_versions.specs.versions.Holding.{Each}
 use Rattle.art_versions.specs.versions.Locking.{rows_held, held_at_place, rows_of_target, rows_of_hold, all_of}
-use Rattle.art_versions.proofs.versions.WordFacts.{key_byte-small}
 use Rattle.art_schedules.specs.work.Works.{LacksByte}
 use Rattle.art_schedules.specs.changes.Courses.{IsGoneBy}
 use Rattle.art_schedules.specs.changes.Follows.{Follows}
@@ -39,18 +40,6 @@ use Rattle.art_schedules.specs.coupled.Begins.{IsOnWay, HasChild, Hangs, upper_o
 use Rattle.art_schedules.specs.coupled.Knows.{IsOwn, HangsBelow, KnowsTarget, KnowsPlace, KnowsFinding, KnowsInfo, IsPassed, KnowsStage, KnowsReply, KnowsAt}
 use Rattle.art_schedules.specs.coupled.Knows.{slot_in}
 use Rattle.art_schedules.specs.coupled.Stays.{IsStill, WaysAreKept}
-
-first-some : (kind : Kind) → 1 ≤ first_child kind
-first-some Four = omega arith
-first-some Sixteen = omega arith
-first-some FortyEight = omega arith
-first-some Full = omega arith
-
-seven-words : (kind : Kind) → 7 ≤ row_words kind
-seven-words Four = omega arith
-seven-words Sixteen = omega arith
-seven-words FortyEight = omega arith
-seven-words Full = omega arith
 
 -- the word of a row at another place
 placed-word : (calm after : List ℕ) (base : ℕ) (kind : Kind) (word j : ℕ) → SameRow calm after base kind → word ≡ base + j → 1 ≤ j → j < row_words kind

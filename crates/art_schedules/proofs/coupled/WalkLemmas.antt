@@ -3,7 +3,7 @@ use Rattle.std.proofs.Common.{◌≡◌, ◌≢◌, ◌⊎◌, inl, inr, ℕ, ze
 use Rattle.std.specs.Prelude.{Option, Some}
 use Rattle.std.proofs.lemmas.Bool.{cases_eq, cases_lt}
 use Rattle.std.proofs.lemmas.List.{length-set}
-use Rattle.art_versions.proofs.versions.ChangeLemmas.{index-same, index-other}
+use Rattle.art_versions.proofs.versions.ChangeLemmas.{index-other}
 use Rattle.events.specs.declared.event.Call.TheVariants.{Scan}
 use Rattle.events.specs.declared.event.Reply.{Reply}
 use Rattle.events.specs.declared.event.Reply.TheVariants as reply
@@ -30,6 +30,7 @@ use Rattle.art_core.specs.Accesses.{changed, told, got_by, words_after}
 use Rattle.art_serial.specs.alone.Alone.{RunsAlone, ends, goes}
 use Rattle.art_serial.proofs.alone.AloneLemmas.{same-runs}
 use Rattle.art_serial.specs.walks.Walks.{ScansAreTheMaps}
+use Rattle.art_serial.proofs.writes.StoreLemmas.{stored-at}
 use Rattle.art_schedules.specs.work.Solo.{Suits}
 use Rattle.art_schedules.proofs.work.SoloLemmas.{suits-on, runs-behind}
 use Rattle.art_schedules.specs.coupled.Walks.{Alone, here, further, IsWalked, SameOn, WalksAreTheMaps, WalksStay}
@@ -49,8 +50,8 @@ set-word words later word v x long same = go (cases_eq x word) (cases_lt word (l
     go : (x ≡ word) ⊎ (x ≢ word) → (word < length words) ⊎ (length words ≤ word)
         → slice_index (slice_set later word v) x ≡ slice_index (slice_set words word v) x
     go (inl e) (inl within) =
-        ap (slice_index (slice_set later word v)) e ∙ (index-same later word v (omega (arith, within, long))
-        ∙ (sym (index-same words word v within) ∙ ap (slice_index (slice_set words word v)) (sym e)))
+        ap (slice_index (slice_set later word v)) e ∙ (stored-at later word v (omega (arith, within, long))
+        ∙ (sym (stored-at words word v within) ∙ ap (slice_index (slice_set words word v)) (sym e)))
     go (inl e) (inr past) =
         ap (λ xs. slice_index xs x) (past-set later word v (omega (arith, past, long))) ∙ (same ∙ ap (λ xs. slice_index xs x) (sym (past-set words word v
         past)))

@@ -28,6 +28,7 @@ use Rattle.list_laws.proofs.Lists.{All-at}
 use Rattle.art_versions.specs.versions.Holding.{holds}
 use Rattle.art_versions.specs.versions.Effects.{IsAmong}
 use Rattle.art_versions.specs.versions.Versions.{stage_of}
+use Rattle.art_versions.proofs.versions.KnownLemmas.{same-call}
 use Rattle.art_schedules.specs.calm.Calm.{calm_of}
 use Rattle.art_schedules.specs.stories.Stories.{Status, Before, HasReply, Tale}
 use Rattle.art_schedules.specs.stories.Fitting.{IsToldStep, GoesOn, AllFit, IsLedOn, IsAnswered, OwnStep, Stays, BeginsCall, MakesAccess, AnswersCall}
@@ -41,7 +42,7 @@ use Rattle.art_schedules.specs.coupled_runs.CoupledFits.{CoupledFits}
 use Rattle.art_schedules.specs.coupled_runs.KeptScans.{ScansAreKept}
 use Rattle.art_schedules.proofs.coupled_runs.PartLaws.{LawsOfParts}
 use Rattle.art_schedules.specs.coupled_runs.Linear.{the_plan, CallsAreLed, HaveScans, LedAreLinearizable}
-use Rattle.art_schedules.proofs.coupled_runs.StageLemmas.{set-here, set-other, same-call, same-stage}
+use Rattle.art_schedules.proofs.coupled_runs.StageLemmas.{set-here, set-other, same-stage}
 use Rattle.art_schedules.proofs.coupled_runs.LedLemmas as led
 use Rattle.art_schedules.proofs.coupled_runs.OwnLemmas.{own-step}
 

@@ -1,14 +1,14 @@
 -- What fits each call of the coupled tree is kept by each step of a run.
-use Rattle.std.proofs.Common.{◌≡◌, ◌≢◌, ℕ, ◌+◌, ◌<◌, true, false, List, [], ◌∷◌, ◌++◌, length, refl, sym, ap, subst, ◌∙◌, inl, ⊎_elim, arith}
+use Rattle.std.proofs.Common.{◌≡◌, ◌≢◌, ℕ, ◌+◌, true, false, List, [], ◌∷◌, ◌++◌, length, refl, sym, ap, subst, ◌∙◌, inl, ⊎_elim, arith}
 use Rattle.std.specs.Prelude.{slice_index, Option, Some, None}
 use Rattle.std.proofs.lemmas.Option.{same_Some, none-some}
 use Rattle.events.specs.declared.event.Call.{Call}
 use Rattle.map_object.specs.MapObject.{Contents}
 use Rattle.art_rows.specs.declared.table.Shape.{Shape}
 use Rattle.art_rows.specs.declared.table.Kind.{Kind}
-use Rattle.art_rows.specs.declared.table.Kind.TheVariants.{Four, Sixteen, FortyEight, Full}
 use Rattle.art_rows.specs.Table.{claims_of}
 use Rattle.art_rows.specs.Words.{is_obsolete, locked_word}
+use Rattle.art_rows.proofs.KindLemmas.{claims-few}
 use Rattle.art_steps.specs.declared.variant.Variant.TheVariants.{Coupled}
 use Rattle.art_steps.specs.declared.access.Access.TheVariants.{Exchange as Swap}
 use Rattle.art_steps.specs.declared.access.Point.{Point}
@@ -24,6 +24,7 @@ use Rattle.art_core.specs.declared.process.Process.{Process}
 use Rattle.art_core.specs.Core.{Plan, State}
 use Rattle.art_versions.specs.versions.Holding.{Named}
 use Rattle.art_versions.specs.versions.Versions.{IsOpen, IsClaimed, stage_of}
+use Rattle.art_versions.proofs.versions.KnownLemmas.{same-call}
 use Rattle.art_schedules.specs.calm.Calm.{calm_of}
 use Rattle.art_schedules.specs.calm.Changes.{AsksFor}
 use Rattle.art_schedules.proofs.calm.CalmLemmas.{claimed-row}
@@ -41,7 +42,8 @@ use Rattle.art_schedules.specs.coupled_runs.CoupledFits.{IsFit, Seeks, Works, Fi
 use Rattle.art_schedules.specs.coupled_runs.KeptScans.{ScansAreKept}
 use Rattle.art_schedules.proofs.coupled_runs.PartLaws.{LawsOfParts}
 use Rattle.art_schedules.specs.coupled_runs.Linear.{the_plan}
-use Rattle.art_schedules.proofs.coupled_runs.StageLemmas.{set-cases, set-here, set-other, same-call, same-stage, on-key, gone-reached}
+use Rattle.art_schedules.proofs.coupled_runs.StageLemmas.{set-cases, set-here, set-other, same-stage, on-key}
+use Rattle.art_schedules.proofs.changes.EffectLemmas.{gone-reached}
 
 -- the fresh row behind a step: as before, or none, or one that was claimed in it
 pub data FreshBehind (shape : Shape) (s t : State) (before fresh : Option Named) : Type 0 where
@@ -49,12 +51,6 @@ pub data FreshBehind (shape : Shape) (s t : State) (before fresh : Option Named)
   NoFresh : fresh ≡ None → FreshBehind shape s t before fresh
   NewFresh : (row : Named) → fresh ≡ Some row → (IsClaimed shape s.words row.0 row.1 → ⊥) → IsClaimed shape t.words row.0 row.1
       → FreshBehind shape s t before fresh
-
-pub few-kinds : (k : Kind) → claims_of k < 5
-few-kinds Four = omega arith
-few-kinds Sixteen = omega arith
-few-kinds FortyEight = omega arith
-few-kinds Full = omega arith
 
 module _ (laws : LawsOfParts) (shape : Shape) (scripts : List (List Call)) (start : Contents) (words : List ℕ) (Scans : OfScans)
     (scans : ScansAreKept (the_plan shape scripts) start words Scans) where
@@ -94,7 +90,7 @@ module _ (laws : LawsOfParts) (shape : Shape) (scripts : List (List Call)) (star
     fact = facts plan start words schedule p s t told.claims m is-step
 
     few : HasFewClaims (fact.count + 2) after
-    few k = let e = told.calm_behind.low (claims_of k) (few-kinds k) in let l = fact.behind.claims k in omega (arith, e, l)
+    few k = let e = told.calm_behind.low (claims_of k) (claims-few k) in let l = fact.behind.claims k in omega (arith, e, l)
 
     pub keeps-makes : KeepsTree shape calm after → Makes Coupled shape s p calm after m None
     keeps-makes k = record {

@@ -29,6 +29,7 @@ use Rattle.art_versions.specs.versions.Holding.{Each, Knows, holds}
 use Rattle.art_versions.specs.versions.Locking.{all_of, lock_of, locks_of, rows_of_hold}
 use Rattle.art_versions.specs.versions.Effects.{IsAmong}
 use Rattle.art_versions.specs.versions.Versions.{IsOpen, stage_of, held_by}
+use Rattle.art_versions.proofs.versions.KnownLemmas.{each-map}
 use Rattle.art_schedules.specs.calm.Calm.{calm_of}
 use Rattle.art_schedules.specs.work.Works.{RowsOf}
 use Rattle.art_schedules.proofs.work.OwnLemmas.{rows-known}
@@ -48,10 +49,11 @@ use Rattle.art_schedules.specs.coupled_runs.CoupledFits.{IsFit, Seeks, Works, Fi
 use Rattle.art_schedules.proofs.coupled_runs.PartLaws.{LawsOfParts}
 use Rattle.art_schedules.specs.coupled_runs.KeptScans.{ScanStep, ScansAreKept}
 use Rattle.art_schedules.specs.coupled_runs.Linear.{the_plan}
-use Rattle.art_schedules.proofs.coupled_runs.StageLemmas.{set-here, same-stage, work-rows, work-claimed, key-scan}
+use Rattle.art_schedules.proofs.coupled_runs.StageLemmas.{set-here, same-stage, work-claimed, key-scan}
 use Rattle.art_schedules.proofs.coupled_runs.BridgeLemmas.{begins-bridge}
 use Rattle.art_schedules.proofs.coupled_runs.MarkBridgeLemmas.{makes-leave, fresh-is}
 use Rattle.art_schedules.proofs.coupled_runs.LedLemmas as led
+use Rattle.art_schedules.proofs.coupled.MoveLemmas.{works-hold}
 
 -- an end takes no row
 end-swaps : (shape : Shape) (real calm : List ℕ) (call : Call) (reply : Reply) (stage : Stage) → AtEnd (setting shape Coupled call) real calm reply stage
@@ -72,10 +74,6 @@ end-keeps shape real calm call reply h (Leaving o k e at rows same) = cc
 
 obsolete-named : (stage : Stage) (h : Hold) → stage ≡ Obsolete h → obsolete_by stage ≡ None → ⊥
 obsolete-named stage h e n = none-some h.row.base (sym n ∙ ap obsolete_by e)
-
-each-map : {P Q : Held → Type 0} → ((x : Held) → P x → Q x) → (xs : List Held) → Each P xs → Each Q xs
-each-map f [] e = tt
-each-map f (x ∷ xs) e = (f x e.0, each-map f xs e.1)
 
 module _ (laws : LawsOfParts) (shape : Shape) (scripts : List (List Call)) (start : Contents) (words : List ℕ) (Scans : OfScans)
     (scans : ScansAreKept (the_plan shape scripts) start words Scans)
@@ -187,7 +185,7 @@ module _ (laws : LawsOfParts) (shape : Shape) (scripts : List (List Call)) (star
                 (led.fact laws shape scripts start words Scans scans schedule tale p s t g told world all).behind made.behind)
 
             rows : held_by Coupled shape call later ≡ locks_of (rows_of_hold h)
-            rows = ap (holds (setting shape Coupled call)) (there ∙ ap OnKey f) ∙ ap locks_of (work-rows (is_insert call) (setting shape Coupled call) h w)
+            rows = ap (holds (setting shape Coupled call)) (there ∙ ap OnKey f) ∙ ap locks_of (works-hold (is_insert call) (setting shape Coupled call) h w)
 
             in-tree : (x : Held) → IsAmong (lock_of x) (locks_of (rows_of_hold h)) → IsInTree (setting shape Coupled call) after x
             in-tree x among =

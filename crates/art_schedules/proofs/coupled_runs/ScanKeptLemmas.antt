@@ -10,6 +10,7 @@ use Rattle.map_object.specs.MapObject.{Contents, reply_to}
 use Rattle.art_rows.specs.declared.table.Shape.{Shape}
 use Rattle.art_rows.specs.Table.{claims_of}
 use Rattle.art_rows.specs.Words.{is_obsolete}
+use Rattle.art_rows.proofs.KindLemmas.{claims-few}
 use Rattle.art_steps.specs.declared.variant.Variant.TheVariants.{Coupled}
 use Rattle.art_steps.specs.declared.access.Access.{Access}
 use Rattle.art_steps.specs.Steps.{Answers}
@@ -24,7 +25,6 @@ use Rattle.art_core.specs.Core.{Plan, State, begun, opened_on}
 use Rattle.art_versions.specs.versions.Effects.{IsAmong}
 use Rattle.art_versions.specs.versions.Holding.{holds}
 use Rattle.art_versions.specs.versions.Versions.{IsOpen, stage_of}
-use Rattle.art_versions.proofs.versions.MoveLemmas.{claims-low}
 use Rattle.art_schedules.specs.calm.Calm.{calm_of}
 use Rattle.art_schedules.proofs.calm.VersionLemmas.{locked-same}
 use Rattle.art_schedules.specs.changes.Effects.{Effect}
@@ -110,7 +110,7 @@ module _ (laws : LawsOfParts) (shape : Shape) (scripts : List (List Call)) (star
 
       follows : KeepsTree shape here there → Follows shape (fact.count + 2) here there m NoBase NoRow
       follows keeps = laws.kept_trees_follow shape told.claims (fact.count + 2) here there m told.rests told.means keeps (λ kind.
-          let most = fact.behind.claims kind in omega (arith, most, fact.then.low (claims_of kind) (claims-low kind)))
+          let most = fact.behind.claims kind in omega (arith, most, fact.then.low (claims_of kind) (claims-few kind)))
 
       -- ---- its own step
 

@@ -1,28 +1,22 @@
 -- Small facts of stages, of ghosts, and of calls that are open.
-use Rattle.std.proofs.Common.{◌≡◌, ◌≢◌, ◌⊎◌, ℕ, zero, suc, Bool, true, List, refl, sym, ap, subst, ◌∙◌, inl, inr, ⊎_elim}
-use Rattle.std.specs.Prelude.{if◌then◌else◌, Option, Some}
+use Rattle.std.proofs.Common.{◌≡◌, ◌≢◌, ◌⊎◌, ℕ, List, refl, sym, ap, subst, ◌∙◌, inl, inr, ⊎_elim}
+use Rattle.std.specs.Prelude.{Option, Some, if◌then◌else◌}
 use Rattle.std.proofs.lemmas.Bool.Decides.{eqb_tells}
 use Rattle.std.proofs.lemmas.Option.{same_Some, none-some}
 use Rattle.events.specs.declared.event.Call.{Call}
 use Rattle.art_rows.specs.declared.table.Shape.{Shape}
-use Rattle.art_rows.specs.declared.table.Kind.{Kind}
-use Rattle.art_rows.specs.declared.table.Kind.TheVariants.{Four, Sixteen, FortyEight, Full}
+use Rattle.art_rows.specs.declared.table.Kind.TheVariants.{Four}
 use Rattle.art_steps.specs.declared.variant.Variant.TheVariants.{Coupled}
 use Rattle.art_steps.specs.Rows.{Setting}
-use Rattle.art_stages.specs.declared.stage.Hold.{Hold}
 use Rattle.art_stages.specs.declared.stage.Stage.{Stage}
-use Rattle.art_stages.specs.declared.stage.Work.{Work}
-use Rattle.art_stages.specs.declared.stage.Work.TheVariants as work
-use Rattle.art_stages.specs.Automaton.{work_at, moves_at, put_at}
 use Rattle.art_stages.specs.Calls.{OnKey, OnScan}
 use Rattle.art_stages.specs.Scans.{ScanAt}
 use Rattle.art_core.specs.declared.process.Process.{Process}
 use Rattle.art_core.specs.Core.{State}
-use Rattle.art_core.specs.Meaning.{Reached}
 use Rattle.art_versions.specs.versions.Holding.{Named}
-use Rattle.art_versions.specs.versions.Locking.{rows_held, rows_of_hold}
 use Rattle.art_versions.specs.versions.Versions.{IsOpen, IsClaimed, stage_of}
-use Rattle.art_schedules.specs.changes.Effects.{Effect, Keeps, Fills, PutsLeaf, RemovesLeaf, HangsPair, HangsGrown, HasEffect, IsGone}
+use Rattle.art_versions.proofs.versions.KnownLemmas.{same-process, same-call}
+use Rattle.art_schedules.specs.changes.Effects.{Effect, Keeps, Fills, PutsLeaf, RemovesLeaf, HangsPair, HangsGrown}
 use Rattle.art_schedules.specs.effects.AtWork.{AtWork, Claiming, Going, Hanging, IsPending, fresh_of, HasNew}
 use Rattle.art_schedules.specs.coupled_runs.CoupledFits.{set_at}
 
@@ -35,14 +29,6 @@ set-here f p a = ⊎_elim (λ x. x.1) (λ x. absurd (x.0 refl)) (set-cases f p a
 pub set-other : {A : Type 0} (f : ℕ → A) (p : ℕ) (a : A) (r : ℕ) → r ≢ p → set_at f p a r ≡ f r
 set-other f p a r apart = ⊎_elim (λ x. absurd (apart x.0)) (λ x. x.1) (set-cases f p a r)
 
--- two open calls of a process are one
-pub same-process : (s : State) (p : ℕ) (call other : Call) (q w : Process) → IsOpen s p call q → IsOpen s p other w → q ≡ w
-same-process s p call other q w o x = same_Some q w (sym o.own ∙ x.own)
-
-pub same-call : (s : State) (p : ℕ) (call other : Call) (q w : Process) → IsOpen s p call q → IsOpen s p other w → call ≡ other
-same-call s p call other q w o x =
-    same_Some call other (sym o.is_open ∙ (ap (λ (y : Process). y.call) (same-process s p call other q w o x) ∙ x.is_open))
-
 pub same-stage : (shape : Shape) (s : State) (p : ℕ) (call other : Call) (q w : Process) → IsOpen s p call q → IsOpen s p other w
     → stage_of Coupled shape call q ≡ stage_of Coupled shape other w
 same-stage shape s p call other q w o x =
@@ -53,34 +39,6 @@ on-key e = cc
 
 pub key-scan : {a : Stage} {low high : ℕ} {b : ScanAt} → OnKey a ≡ OnScan low high b → ⊥
 key-scan e = cc
-
--- where work begins, the rows of the hold are held
-pub work-rows : (i : Bool) (c : Setting) (h : Hold) (w : Work) → rows_held true i (work_at c h w) ≡ rows_of_hold h
-work-rows i c h (work.Write slot word reply) = refl
-work-rows i c h (work.Pair p) = refl
-work-rows i c h (work.Grow slot keys) = refl
-work-rows i c h (work.Put keys) = puts h.row.kind
-  where
-    moves : (n : ℕ) → rows_held true i (moves_at h keys n) ≡ rows_of_hold h
-    moves zero = refl
-    moves (suc n) = refl
-
-    puts : (kind : Kind) → rows_held true i (put_at kind c h keys) ≡ rows_of_hold h
-    puts Four = moves _
-    puts Sixteen = moves _
-    puts FortyEight = refl
-    puts Full = refl
-
--- a row that goes by an effect was one of the tree
-pub gone-reached : (shape : Shape) (calm later : List ℕ) (e : Effect) → HasEffect shape calm later e → (b : ℕ) → IsGone e b
-    → (k : Kind) × Reached shape calm b k
-gone-reached shape calm later (Keeps base kind) h b g = absurd g
-gone-reached shape calm later (Fills base kind) h b g = absurd g
-gone-reached shape calm later (PutsLeaf base kind x key value) h b g = absurd g
-gone-reached shape calm later (RemovesLeaf base kind x key) h b g = absurd g
-gone-reached shape calm later (HangsPair base kind x key value fresh d a) h b g = absurd g
-gone-reached shape calm later (HangsGrown base kind x key value full full_kind y fresh larger) h b g =
-    (full_kind, subst (λ i. Reached shape calm i full_kind) (sym g) h.leads.reached)
 
 -- the fresh row of a call at work was claimed
 pub work-claimed : (c : Setting) (real calm : List ℕ) (fresh : Option Named) (stage : Stage) → AtWork c real calm fresh stage → (row : Named) → fresh ≡ Some row

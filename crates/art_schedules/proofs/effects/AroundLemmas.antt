@@ -20,6 +20,7 @@ use Rattle.art_core.specs.declared.process.Process.{Process}
 use Rattle.art_core.specs.Accesses.{told, got_by, words_after}
 use Rattle.art_core.specs.Core.{Plan, State, Move, Makes, opened_on, after_move, moved, move_of, move_from}
 use Rattle.art_core.proofs.HistoryLemmas.{IsMoved, is-moved}
+use Rattle.art_serial.proofs.serial.OrderlyLemmas.{set-here}
 use Rattle.art_versions.specs.versions.Holding.{IsKept}
 use Rattle.art_versions.specs.versions.Effects.{IsAmong}
 use Rattle.art_versions.specs.versions.Versions.{IsOpen, IsSettled, IsSound, stage_of, held_by}
@@ -27,7 +28,7 @@ use Rattle.art_versions.specs.versions.Steady.{IsSteady, SameRow}
 use Rattle.art_versions.specs.versions.Writers.{WritesOwn, IsHeldBy, IsTakenBy, IsFilledBy}
 use Rattle.art_versions.specs.versions.Fresh.{FreshAreZero}
 use Rattle.art_versions.specs.versions.Laws.{IsFull}
-use Rattle.art_versions.proofs.versions.ChangeLemmas.{set-same, set-other}
+use Rattle.art_versions.proofs.versions.ChangeLemmas.{set-other}
 use Rattle.art_versions.proofs.versions.FreshLemmas.{fresh-at}
 use Rattle.art_versions.proofs.versions.KnownLemmas.{held-is-kept}
 use Rattle.art_versions.proofs.versions.MoveLemmas.{settled-row}
@@ -92,7 +93,7 @@ pub own-access : (plan : Plan) (p : ℕ) (s t : State) → IsMoved plan s p t �
 own-access plan p s t m call q o a mark turn = record {
   process = after_move p (Makes a) (slice_index s.words (word_of a)) q;
   is_open = record {
-    own = ap (λ (u : State). slice_get u.processes p) is ∙ set-same s.processes p q (after_move p (Makes a) (slice_index s.words (word_of a)) q) o.own;
+    own = ap (λ (u : State). slice_get u.processes p) is ∙ set-here s.processes p q (after_move p (Makes a) (slice_index s.words (word_of a)) q) o.own;
     is_open = o.is_open;
   };
   at = after-more (setting plan.shape plan.variant call) (call_begun (setting plan.shape plan.variant call)) q.got (told a (slice_index s.words (word_of a)));

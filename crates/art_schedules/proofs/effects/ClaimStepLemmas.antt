@@ -1,6 +1,6 @@
 -- A call at work while it claims its row.
 use Rattle.std.proofs.Common.{◌≡◌, inl, inr, ℕ, ◌+◌, ◌%◌, ◌^◌, ◌<◌, ◌≤◌, List, [], ◌∷◌, slice_index, true, refl, sym, ap, ◌∙◌, subst, arith}
-use Rattle.std.specs.Prelude.{nat_lt, if◌then◌else◌, Some, None}
+use Rattle.std.specs.Prelude.{nat_lt, Some, None, if◌then◌else◌}
 use Rattle.std.proofs.lemmas.Bool.{cases_lt, lt-ltb, le-ltb}
 use Rattle.events.specs.declared.event.Call.{Call}
 use Rattle.map_object.specs.MapObject.{Contents}
@@ -9,12 +9,14 @@ use Rattle.art_rows.specs.declared.table.Kind.{Kind}
 use Rattle.art_rows.specs.declared.table.Kind.TheVariants.{Four}
 use Rattle.art_rows.specs.Table.{rows_of, claims_of, base_of}
 use Rattle.art_rows.specs.Words.{is_obsolete}
+use Rattle.art_rows.proofs.KindLemmas.{some-words, claims-few}
 use Rattle.art_serial.proofs.words.TableLemmas.{row_begins, kind_at-base_of, base_of-once}
 use Rattle.art_steps.specs.declared.variant.Variant.{Variant}
 use Rattle.art_steps.specs.declared.access.Access.TheVariants.{Add}
 use Rattle.art_steps.specs.Steps.{Asks}
 use Rattle.art_steps.specs.Rows.{Setting}
 use Rattle.art_steps.specs.Updates.{next_kind}
+use Rattle.art_steps.proofs.TurnLemmas.{store-add}
 use Rattle.art_stages.specs.declared.stage.Held.{Held}
 use Rattle.art_stages.specs.declared.stage.Hold.{Hold}
 use Rattle.art_stages.specs.declared.stage.PairWord.TheVariants as pair_word
@@ -31,11 +33,12 @@ use Rattle.art_core.specs.Core.{Plan, State}
 use Rattle.art_core.specs.Meaning.{Means}
 use Rattle.art_serial.specs.trees.Trees.{IsAtRest}
 use Rattle.art_serial.specs.trees.Children.{ChildrenAreRead}
+use Rattle.art_serial.proofs.writes.StoreLemmas.{stored-at}
 use Rattle.art_versions.specs.versions.Locking.{rows_of_hold}
 use Rattle.art_versions.specs.versions.Holding.{Each, Knows}
 use Rattle.art_versions.specs.versions.Versions.{IsOpen, IsClaimed, stage_of}
-use Rattle.art_versions.proofs.versions.ChangeLemmas.{index-same, index-other}
-use Rattle.art_versions.proofs.versions.MoveLemmas.{settled-row, some-words, claims-low, true-false}
+use Rattle.art_versions.proofs.versions.ChangeLemmas.{index-other}
+use Rattle.art_versions.proofs.versions.MoveLemmas.{settled-row, true-false}
 use Rattle.art_schedules.proofs.calm.UseLemmas.{without-store}
 use Rattle.art_schedules.specs.changes.Courses.{IsGoneBy, IsFreshBy}
 use Rattle.art_schedules.specs.changes.Laws.{EffectsFollow, KeptTreesFollow}
@@ -43,7 +46,6 @@ use Rattle.art_schedules.specs.changes.Written.{IsUnreached}
 use Rattle.art_schedules.specs.work.Solo.{IsUnused, Solo, here, further, claims}
 use Rattle.art_schedules.specs.work.Works.{RowsOf}
 use Rattle.art_schedules.proofs.work.OwnLemmas.{rows-known}
-use Rattle.art_schedules.proofs.work.SoloLemmas.{store_add}
 use Rattle.art_schedules.specs.effects.Begins.{BeginsWork}
 use Rattle.art_schedules.specs.effects.AtWork.{IsInTree, IsSame, IsClaiming, claims_row, hold_at, FillsAt, AtWork, Going, Leaving}
 use Rattle.art_schedules.specs.effects.Outcomes.{Makes, IsAt, Works, IsRefused}
@@ -110,15 +112,15 @@ module _ (read : ChildrenAreRead) (trees : KeptTreesFollow) (effects : EffectsFo
     own = own-access plan p s t x.move call q o (Add (claims_of kind)) None asks
 
     stays : (word : ℕ) → 5 ≤ word → slice_index after word ≡ slice_index calm word
-    stays = without-store variant shape x.count s x.before p t calm after x.changes call q o (λ word value mark e. store_add (sym e ∙ asks))
+    stays = without-store variant shape x.count s x.before p t calm after x.changes call q o (λ word value mark e. store-add (sym e ∙ asks))
 
     real-word : (word : ℕ) → 5 ≤ word → slice_index t.words word ≡ slice_index s.words word
     real-word word low = ap (λ ws. slice_index ws word) own.words
-        ∙ index-other s.words (claims_of kind) ((number + 1) % 2 ^ 64) word (λ e. omega (arith, e, low, claims-low kind))
+        ∙ index-other s.words (claims_of kind) ((number + 1) % 2 ^ 64) word (λ e. omega (arith, e, low, claims-few kind))
 
     real-count : slice_index t.words (claims_of kind) ≡ number + 1
     real-count = ap (λ ws. slice_index ws (claims_of kind)) own.words
-        ∙ (index-same s.words (claims_of kind) ((number + 1) % 2 ^ 64) (omega (arith, x.before.long, claims-low kind))
+        ∙ (stored-at s.words (claims_of kind) ((number + 1) % 2 ^ 64) (omega (arith, x.before.long, claims-few kind))
         ∙ small (x.before.claims kind) x.few)
       where
         small : number ≤ x.count + 1 → x.count < 2 ^ 62 → (number + 1) % 2 ^ 64 ≡ number + 1
@@ -142,7 +144,7 @@ module _ (read : ChildrenAreRead) (trees : KeptTreesFollow) (effects : EffectsFo
 
     -- the row of the number was not claimed
     calm-number : slice_index calm (claims_of kind) ≡ number
-    calm-number = x.calm_before.low (claims_of kind) (claims-low kind)
+    calm-number = x.calm_before.low (claims_of kind) (claims-few kind)
 
     unused : IsUnused shape calm kind number
     unused within word low high = x.calm_before.fresh kind number word (omega (arith, calm-number)) within low high
@@ -162,7 +164,7 @@ module _ (read : ChildrenAreRead) (trees : KeptTreesFollow) (effects : EffectsFo
     none-obsolete : obsolete_by stage ≡ None
     none-obsolete = elim (obsolete-or stage) [
       | inl none ↦ none
-      | inr at ↦ absurd (store_add (sym (ap (turn_at c) at.1) ∙ (ap (turn_at c) is ∙ turn)))
+      | inr at ↦ absurd (store-add (sym (ap (turn_at c) at.1) ∙ (ap (turn_at c) is ∙ turn)))
     ]
 
     pub claim-step : WorkerStep plan s p t calm after m call stage None None

@@ -9,6 +9,7 @@ use Rattle.art_rows.specs.declared.table.Kind.{Kind}
 use Rattle.art_rows.specs.declared.table.Kind.TheVariants.{Four}
 use Rattle.art_rows.specs.Table.{row_words, base_of, table_words, kind_at}
 use Rattle.art_rows.specs.Words.{is_obsolete, key_bytes, info_word, row_word}
+use Rattle.art_rows.proofs.KindLemmas.{some-words}
 use Rattle.art_serial.proofs.words.TableLemmas.{row_begins, rows_apart}
 use Rattle.art_steps.specs.declared.variant.Variant.{Variant}
 use Rattle.art_steps.specs.declared.access.Access.{Access}
@@ -17,13 +18,13 @@ use Rattle.art_steps.specs.declared.access.Point.{Point}
 use Rattle.art_steps.specs.Steps.{Asks}
 use Rattle.art_steps.specs.Rows.{Setting, key_of}
 use Rattle.art_steps.specs.Updates.{next_kind, new_leaf}
+use Rattle.art_steps.proofs.TurnLemmas.{stores-same, load-store}
 use Rattle.art_stages.specs.declared.stage.Held.{Held}
 use Rattle.art_stages.specs.declared.stage.Hold.{Hold}
 use Rattle.art_stages.specs.declared.stage.Growing.{Growing}
 use Rattle.art_stages.specs.declared.stage.Pair.{Pair}
 use Rattle.art_stages.specs.declared.stage.PairWord.{PairWord}
 use Rattle.art_stages.specs.declared.stage.PairWord.TheVariants as pair_word
-use Rattle.art_stages.specs.declared.stage.Outcome.{Outcome}
 use Rattle.art_stages.specs.declared.stage.Outcome.TheVariants.{Value, Refused}
 use Rattle.art_stages.specs.declared.stage.Work.{Work}
 use Rattle.art_stages.specs.declared.stage.Work.TheVariants as work
@@ -38,20 +39,21 @@ use Rattle.art_core.specs.Meaning.{Reached, Means}
 use Rattle.art_serial.specs.trees.Trees.{IsAtRest, SameRow, LeadsTo}
 use Rattle.art_serial.specs.trees.Children.{ChildrenAreRead}
 use Rattle.art_serial.proofs.alone.AloneLemmas.{load-same}
-use Rattle.art_serial.proofs.writes.StoreLemmas.{stored-long}
+use Rattle.art_serial.proofs.writes.StoreLemmas.{stored-long, stored-at}
+use Rattle.art_serial.proofs.trees.Changes.{way_byte}
 use Rattle.art_versions.specs.versions.Locking.{lock_of, locks_of, all_of, rows_of_hold}
 use Rattle.art_versions.specs.versions.Holding.{Named, Each, Knows, KnowsKey, holds, fills}
 use Rattle.art_versions.specs.versions.Effects.{IsAmong, IsBehindVersion}
 use Rattle.art_versions.specs.versions.Versions.{IsOpen, AreDistinct, stage_of, filled_by}
-use Rattle.art_versions.proofs.versions.ChangeLemmas.{index-same, index-other}
-use Rattle.art_versions.proofs.versions.MoveLemmas.{some-words, settled-row, true-false}
+use Rattle.art_versions.proofs.versions.ChangeLemmas.{index-other}
+use Rattle.art_versions.proofs.versions.MoveLemmas.{settled-row, true-false}
+use Rattle.art_versions.proofs.versions.LowLemmas.{first-item}
 use Rattle.art_schedules.specs.calm.Calm.{is_busy}
 use Rattle.art_schedules.proofs.calm.CalmLemmas.{claimed-row}
 use Rattle.art_schedules.proofs.calm.UseLemmas.{without-store, with-written, with-filled}
 use Rattle.art_schedules.proofs.calm.VersionLemmas.{free-busy}
 use Rattle.art_schedules.specs.changes.Courses.{IsGoneBy, IsFreshBy}
 use Rattle.art_schedules.specs.changes.Laws.{EffectsFollow, KeptTreesFollow}
-use Rattle.art_schedules.proofs.changes.EffectLemmas.{way-small}
 use Rattle.art_schedules.proofs.changes.RowLemmas.{steady-row}
 use Rattle.art_schedules.specs.work.Solo.{Solo, further, loads, stores}
 use Rattle.art_schedules.specs.work.Own.{IsHeldWord, IsFilledWord, TouchesOwn, LoadsHeld, StoresOwn, ClaimsRow, ReleasesHeld, Replies, may_release}
@@ -60,7 +62,6 @@ use Rattle.art_schedules.specs.work.Laws.{WorkIsDone}
 use Rattle.art_schedules.proofs.work.EndLemmas.{end-releases}
 use Rattle.art_schedules.proofs.work.GoingLemmas.{alike-set}
 use Rattle.art_schedules.proofs.work.OwnLemmas.{IsAllowed, allowed, rows-known}
-use Rattle.art_schedules.proofs.work.SoloLemmas.{load_store, store_store}
 use Rattle.art_schedules.proofs.work.TouchLemmas.{work-own}
 use Rattle.art_schedules.proofs.work.WorkLemmas.{AtWork as InWork, at-work, holds-work, next-work, writes, pairs}
 use Rattle.art_schedules.proofs.work.WorkLemmas.{put_loads, put_stores, put_leaf, put_keys, put_more, put_count}
@@ -74,7 +75,7 @@ use Rattle.art_schedules.specs.effects.Marks.{IsMarked, WorkerStep}
 use Rattle.art_schedules.proofs.effects.BeginLemmas.{no-scan}
 use Rattle.art_schedules.proofs.effects.AroundLemmas.{Around, OwnAccess, own-access}
 use Rattle.art_schedules.proofs.effects.KeptLemmas.{begins-kept, inside-kept, unreached-kept, fits-kept}
-use Rattle.art_schedules.proofs.effects.MarkLemmas.{unmarked, place-unmarked}
+use Rattle.art_schedules.proofs.effects.MarkLemmas.{unmarked, place-unmarked, obsolete-unlock}
 use Rattle.art_schedules.proofs.effects.OtherLemmas.{each-with, each-of}
 use Rattle.art_schedules.proofs.effects.ReleaseLemmas.{kept-by-words, kept-filled}
 use Rattle.art_schedules.proofs.effects.StageLemmas.{place-work, work-place, grow-fills, grow-hold, grow-next, writes-fill, writes-next}
@@ -84,14 +85,8 @@ use Rattle.art_schedules.proofs.effects.HangLemmas.{slot-inside, write-hangs, pu
 no-items : {row : Named} → ◌≡◌ {A = List Named} [] (row ∷ []) → ⊥
 no-items e = cc
 
-one-item : {row other : Named} → ◌≡◌ {A = List Named} (row ∷ []) (other ∷ []) → row ≡ other
-one-item e = cc
-
 refused-value : {h : Hold} {o : Option ℕ} → Unlock h (Some (Value o)) ≡ Unlock h (Some Refused) → ⊥
 refused-value e = cc
-
-obsolete-unlock : {h g : Hold} {o : Option Outcome} → Obsolete h ≡ Unlock g o → ⊥
-obsolete-unlock e = cc
 
 -- a word of a row that is held
 word-same : (words later : List ℕ) (rows : List Held) → Each (IsSame words later) rows → (row : Held) → IsAmong row (locks_of rows) → (word : ℕ)
@@ -136,11 +131,11 @@ fills-new : (h : Hold) (work : Work) (b : ℕ) (l : Kind) (stage : Stage) → Fi
     → ◌≡◌ {A = Named} (d, i) (b, l)
 fills-new h (work.Write slot word old) b l stage none d i f = absurd none
 fills-new h (work.Pair p) b l stage (is, inl (word, e)) d i f =
-    one-item (sym f ∙ (ap (λ z. fills (OnKey z)) e ∙ ap (λ z. (b, z) ∷ []) (sym is)))
+    first-item (sym f ∙ (ap (λ z. fills (OnKey z)) e ∙ ap (λ z. (b, z) ∷ []) (sym is)))
 fills-new h (work.Pair p) b l stage (is, inr e) d i f = absurd (no-items (sym (ap (λ z. fills (OnKey z)) e) ∙ f))
 fills-new h (work.Put keys) b l stage none d i f = absurd none
 fills-new h (work.Grow slot keys) b l stage (is, growing) d i f = elim (grow-fills stage (record { hold = h; slot = slot; keys = keys; base = b }) growing) [
-  | inl own ↦ one-item (sym f ∙ (own ∙ ap (λ z. (b, z) ∷ []) (sym is)))
+  | inl own ↦ first-item (sym f ∙ (own ∙ ap (λ z. (b, z) ∷ []) (sym is)))
   | inr hang ↦ absurd (no-items (sym (ap (λ z. fills (OnKey z)) hang) ∙ f))
 ]
 
@@ -269,7 +264,7 @@ module _ (read : ChildrenAreRead) (trees : KeptTreesFollow) (effects : EffectsFo
       let asks = asks-now (Load word) mark turn in
       let own : OwnAccess plan p s t call q (Load word) = own-access plan p s t x.move call q o (Load word) mark asks in
       let real : t.words ≡ s.words = own.words ∙ load-same word s.words in
-      let stays = without-store variant shape x.count s x.before p t calm after x.changes call q o (λ w value mk e. load_store (sym asks ∙ e)) in
+      let stays = without-store variant shape x.count s x.before p t calm after x.changes call q o (λ w value mk e. load-store (sym asks ∙ e)) in
       let told = word-same g.words s.words rows g.same held.row (subst (IsAmong held.row) is-holds held.among) word held.behind in
       record {
         made = made-stays stays;
@@ -281,7 +276,7 @@ module _ (read : ChildrenAreRead) (trees : KeptTreesFollow) (effects : EffectsFo
         same = each-with (IsSame g.words s.words) (IsSame g.words t.words) rows
             (λ row among same j low high. ap (λ ws. slice_index ws (row.base + j)) real ∙ same j low high) g.same;
         new = λ b l new. new-stays stays g.words b l new (λ j low high. refl) (ap (λ ws. slice_index ws b) real);
-        wrote = λ w value mk e inside. absurd (load_store (sym turn ∙ e));
+        wrote = λ w value mk e inside. absurd (load-store (sym turn ∙ e));
         process = own.process;
         is_open = own.is_open;
         stage_at = own.at ∙ ap (λ z. call_after c z (slice_index s.words word)) at;
@@ -318,8 +313,8 @@ module _ (read : ChildrenAreRead) (trees : KeptTreesFollow) (effects : EffectsFo
       same = same-now;
       new = new;
       wrote = λ w v mk e inside.
-          let one = store_store (sym turn ∙ e) in
-          ap (slice_index now) (sym one.0) ∙ (index-same g.words word value (omega (arith, one.0, inside)) ∙ one.1);
+          let one = stores-same (sym turn ∙ e) in
+          ap (slice_index now) (sym one.0) ∙ (stored-at g.words word value (omega (arith, one.0, inside)) ∙ one.1);
       process = own.process;
       is_open = own.is_open;
       stage_at = own.at ∙ ap (λ z. call_after c z 0) at;
@@ -469,7 +464,7 @@ module _ (read : ChildrenAreRead) (trees : KeptTreesFollow) (effects : EffectsFo
       is-done : IsDone c g.hold g.work g.first next mv.words
       is-done = done c g.hold g.work g.first mv.words next x.full (no-scan c calm g.hold g.work g.begins) x.root (omega (arith, g.first_long)) g.knows
           (fits-kept c g.hold g.work calm g.first g.begins.byte
-          (way-small shape calm (key_of call) (upper_row g.hold).base (upper_row g.hold).kind g.begins.byte g.begins.leads) before g.begins.finds
+          (way_byte shape calm (key_of call) (upper_row g.hold).base (upper_row g.hold).kind g.begins.byte g.begins.leads) before g.begins.finds
           g.begins.words)
           mv.solo release
 
@@ -505,7 +500,7 @@ module _ (read : ChildrenAreRead) (trees : KeptTreesFollow) (effects : EffectsFo
           up = upper_row g.hold
 
           small : b.byte < 256
-          small = way-small shape after (key_of call) up.base up.kind b.byte b.leads
+          small = way_byte shape after (key_of call) up.base up.kind b.byte b.leads
 
           inside : pair.slot < length g.words
           inside =
@@ -546,7 +541,7 @@ module _ (read : ChildrenAreRead) (trees : KeptTreesFollow) (effects : EffectsFo
           up = upper_row g.hold
 
           small : b.byte < 256
-          small = way-small shape after (key_of call) up.base up.kind b.byte b.leads
+          small = way_byte shape after (key_of call) up.base up.kind b.byte b.leads
 
           inside : slot < length g.words
           inside =

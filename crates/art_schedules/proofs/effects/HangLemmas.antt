@@ -1,7 +1,7 @@
 -- What the work left at its first release is what its last release will do to calm's tree.
 use Rattle.std.proofs.Common.{◌≡◌, ◌≢◌, inl, inr, ℕ, ◌+◌, ◌^◌, ◌<◌, ◌≤◌, List, ◌++◌, length, slice_index, true, refl, sym, ap, ◌∙◌, subst, arith}
 use Rattle.std.proofs.Common.{eq-eqb, ne_eqb}
-use Rattle.std.specs.Prelude.{if◌then◌else◌, nat_lt, ◌&&◌, take, slice_set, Option, Some, None}
+use Rattle.std.specs.Prelude.{nat_lt, ◌&&◌, take, slice_set, Option, Some, None, if◌then◌else◌}
 use Rattle.std.proofs.lemmas.Bool.{cases_lt, cases_eq, and_parts, ltb-true, false≢true}
 use Rattle.std.proofs.lemmas.Option.{same_Some, none-some}
 use Rattle.events.specs.declared.event.Call.{Call}
@@ -12,8 +12,10 @@ use Rattle.art_rows.specs.declared.table.Kind.{Kind}
 use Rattle.art_rows.specs.declared.table.Kind.TheVariants.{Four}
 use Rattle.art_rows.specs.declared.table.Child.{Child}
 use Rattle.art_rows.specs.declared.table.Child.TheVariants.{Empty, Row, Leaf}
-use Rattle.art_rows.specs.Table.{row_words, table_words, first_child, info_at, kind_at}
+use Rattle.art_rows.specs.Table.{row_words, table_words, info_at, kind_at}
 use Rattle.art_rows.specs.Words.{key_bytes, child_of, child_word, leaf_word, row_word, info_word, info_of}
+use Rattle.art_rows.proofs.KindLemmas.{first-some}
+use Rattle.art_rows.proofs.ByteLemmas.{key_byte-small}
 use Rattle.art_serial.proofs.words.TableLemmas.{row_ends, rows_apart, kind_at-base_of}
 use Rattle.art_steps.specs.TreeCalls.{is_tree_call}
 use Rattle.art_steps.specs.Rows.{Setting, key_of, is_insert, byte_at}
@@ -32,22 +34,18 @@ use Rattle.art_serial.specs.trees.Trees.{IsAtRest, SameRow, LeadsTo, Parts}
 use Rattle.art_serial.proofs.alone.PlaceLemmas.{sits-kind_at}
 use Rattle.art_serial.proofs.alone.LikeLemmas.{sits}
 use Rattle.art_serial.proofs.alone.SlotLemmas.{IsSlot, slot-is, row-keys, form-same}
-use Rattle.art_serial.proofs.alone.WayLemmas.{key_byte-small}
 use Rattle.art_serial.proofs.inserts.OutcomeLemmas.{child-same}
 use Rattle.art_serial.specs.writes.Writes.{HasPut, IsOutside}
+use Rattle.art_serial.proofs.trees.Changes.{way_byte}
 use Rattle.art_versions.specs.versions.Locking.{rows_of_hold}
 use Rattle.art_versions.specs.versions.Holding.{Each}
 use Rattle.art_schedules.specs.changes.Effects.{Effect, PutsLeaf, RemovesLeaf, HangsPair, HangsGrown, IsGone}
 use Rattle.art_schedules.specs.changes.Written.{HasSlot}
-use Rattle.art_schedules.proofs.changes.EffectLemmas.{way-small}
 use Rattle.art_schedules.proofs.changes.WrittenLemmas.{stores-are-slots, hung-rows-are-slots, children-are-of-rows, puts-are-children}
 use Rattle.art_schedules.specs.work.Works.{IsInsert, PairHangs, GrownHangs}
 use Rattle.art_schedules.specs.effects.Begins.{upper_of, upper_row, IsOverwritten}
 use Rattle.art_schedules.specs.effects.AtWork.{IsInTree, IsSame, IsOld, IsReady, IsEffectOf, IsReleasing, Last, Lower, Gone, IsHanging}
 use Rattle.art_schedules.proofs.effects.KeptLemmas.{upper-each, info-kept}
-
-first-some : (kind : Kind) → 1 ≤ first_child kind
-first-some kind = grind arith
 
 module _ (c : Setting) (n : ℕ) (real after first words : List ℕ) (rest : IsAtRest c.shape n after) (h : Hold) (at : Stage)
     (long : length first ≡ table_words c.shape) (rows : Each (IsInTree c after) (rows_of_hold h)) (was : Each (IsSame first after) (rows_of_hold h))
@@ -87,7 +85,7 @@ module _ (c : Setting) (n : ℕ) (real after first words : List ℕ) (rest : IsA
       (over : IsOverwritten c word old (child_on s after h.row.base h.row.kind byte)) (is : at ≡ Unlock h (Some (Value old)))
       (stored : words ≡ slice_set first slot word) where
     small : byte < 256
-    small = way-small s after key h.row.base h.row.kind byte leads
+    small = way_byte s after key h.row.base h.row.kind byte leads
 
     has : HasSlot after real h.row.base h.row.kind byte slot word
     has = stores-are-slots first after real h.row.base h.row.kind byte slot word small has_slot
@@ -215,7 +213,7 @@ module _ (c : Setting) (n : ℕ) (real after first words : List ℕ) (rest : IsA
       (others : (word : ℕ) → word ≢ slot → IsOutside fresh kind word → slice_index words word ≡ slice_index first word)
       (hangs : slice_index words slot ≡ row_word fresh) where
     up-small : byte < 256
-    up-small = way-small s after key up.base up.kind byte leads
+    up-small = way_byte s after key up.base up.kind byte leads
 
     fresh-kind : kind_at s fresh ≡ Some kind
     fresh-kind = ap (kind_at s) ready.claimed.is ∙ kind_at-base_of s kind ready.claimed.number ready.claimed.within

@@ -1,5 +1,5 @@
 -- What calm says of held rows, and of the ways to them, is kept by each step that leaves these rows as they are.
-use Rattle.std.proofs.Common.{◌≡◌, inl, inr, ℕ, ◌<◌, ◌≤◌, List, ◌∷◌, slice_index, refl, sym, ap, ◌∙◌, subst, arith}
+use Rattle.std.proofs.Common.{◌≡◌, inl, inr, ℕ, ◌<◌, List, ◌∷◌, slice_index, refl, sym, ap, ◌∙◌, subst, arith}
 use Rattle.std.specs.Prelude.{Option, Some, None}
 use Rattle.map_object.specs.MapObject.{Contents}
 use Rattle.art_rows.specs.declared.table.Shape.{Shape}
@@ -7,8 +7,10 @@ use Rattle.art_rows.specs.declared.table.Kind.{Kind}
 use Rattle.art_rows.specs.declared.table.Kind.TheVariants.{Four}
 use Rattle.art_rows.specs.declared.table.Child.{Child}
 use Rattle.art_rows.specs.declared.table.Child.TheVariants.{Empty, Row, Leaf}
-use Rattle.art_rows.specs.Table.{first_child, info_at}
+use Rattle.art_rows.specs.Table.{info_at}
 use Rattle.art_rows.specs.Words.{key_bytes, first_difference, child_of, info_word, row_word, leaf_word}
+use Rattle.art_rows.proofs.KindLemmas.{two-words, first-some}
+use Rattle.art_rows.proofs.ByteLemmas.{key_byte-small}
 use Rattle.art_steps.specs.Rows.{Setting, key_of}
 use Rattle.art_stages.specs.declared.stage.Held.{Held}
 use Rattle.art_stages.specs.declared.stage.Keys.{Keys}
@@ -20,22 +22,18 @@ use Rattle.art_core.specs.Meaning.{Reached, below, slot_of, child_in, child_on}
 use Rattle.art_core.specs.Forms.{level_in, path_in}
 use Rattle.art_serial.specs.trees.Trees.{SameRow, LeadsTo, Parts}
 use Rattle.art_serial.proofs.alone.SlotLemmas.{IsSlot, slot-is, row-keys, slot-same, keys-same, count-same, form-same}
-use Rattle.art_serial.proofs.alone.LikeLemmas.{row_words-some}
-use Rattle.art_serial.proofs.alone.WayLemmas.{key_byte-small}
 use Rattle.art_serial.proofs.inserts.OutcomeLemmas.{child-same}
+use Rattle.art_serial.proofs.trees.Changes.{way_byte}
 use Rattle.art_versions.specs.versions.Locking.{all_of, rows_of_hold}
 use Rattle.art_versions.specs.versions.Holding.{Each, Named}
 use Rattle.art_schedules.specs.changes.Effects.{Effect, Keeps, Fills, PutsLeaf, RemovesLeaf, HangsPair, HangsGrown, base_of_effect, kind_of_effect, IsGone}
 use Rattle.art_schedules.specs.changes.Follows.{Follows}
 use Rattle.art_schedules.specs.changes.Written.{HasSlot}
-use Rattle.art_schedules.proofs.changes.EffectLemmas.{parted-small, way-small}
+use Rattle.art_schedules.proofs.changes.EffectLemmas.{parted-small}
 use Rattle.art_schedules.proofs.changes.WrittenLemmas.{children-are-of-rows}
 use Rattle.art_schedules.specs.work.Works.{LacksByte, FitsWords}
 use Rattle.art_schedules.specs.effects.Begins.{upper_of, upper_row, IsOverwritten, FindsSlot, BeginsWork}
 use Rattle.art_schedules.specs.effects.AtWork.{IsInTree, IsSame, IsOld, IsReady, fresh_of, IsPending}
-
-first-some : (k : Kind) → 1 ≤ first_child k
-first-some k = grind arith
 
 -- what is so of each row is so of the upper one
 pub upper-each : (P : Held → Type 0) (h : Hold) → Each P (rows_of_hold h) → P (upper_row h)
@@ -66,7 +64,7 @@ lacks-kept c n seen words later same lacks =
 
 pub info-kept : (words later : List ℕ) (base : ℕ) (kind : Kind) → SameRow words later base kind
     → slice_index later (info_at base) ≡ slice_index words (info_at base)
-info-kept words later base kind same = same 1 (omega arith) (row_words-some kind)
+info-kept words later base kind same = same 1 (omega arith) (two-words kind)
 
 -- The work fits other words of the same rows.
 pub fits-kept : (c : Setting) (h : Hold) (work : Work) (words later : List ℕ) (x : ℕ) → x < 256 → Each (IsSame words later) (rows_of_hold h)
@@ -106,7 +104,7 @@ module _ (s : Shape) (n : ℕ) (calm after : List ℕ) (pairs : Contents) (gone 
   parts-kept key d a base kind x Empty leads is parts = parts
   parts-kept key d a base kind x (Leaf k value) leads is parts = parts
   parts-kept key d a base kind x (Row b k) leads is parts =
-      let path = f.path b k (below leads.reached x (way-small s calm key base kind x leads) is) in
+      let path = f.path b k (below leads.reached x (way_byte s calm key base kind x leads) is) in
       (ap (λ p. first_difference p (key_bytes key)) path ∙ parts.0, parts.1 ∙ ap (λ p. slice_index p d) (sym path))
 
 -- Where work begins.
@@ -120,14 +118,14 @@ module _ (c : Setting) (n : ℕ) (calm after : List ℕ) (pairs : Contents) (gon
       → Each (IsSame calm after) (rows_of_hold h) → Each (λ row. gone row.base → ⊥) (rows_of_hold h) → FitsWords c h work calm → FindsSlot c calm h work x
       → FindsSlot c after h work x
   finds-kept h (work.Write slot word old) x leads same stay fits (alone, slot_is, over) =
-      let byte = way-small c.shape calm (key_of c.call) (upper_row h).base (upper_row h).kind x leads in (
+      let byte = way_byte c.shape calm (key_of c.call) (upper_row h).base (upper_row h).kind x leads in (
         alone,
         slot-same calm after h.row.base h.row.kind x byte (row-keys calm after h.row.base h.row.kind same.0) ∙ slot_is,
         subst (IsOverwritten c word old) (sym (child-same c.shape calm after h.row.base h.row.kind x byte same.0)) over,
       )
   finds-kept h (work.Pair p) x leads same stay fits (slot_is, parts) =
       let upper = upper_row h in
-      let byte = way-small c.shape calm (key_of c.call) upper.base upper.kind x leads in
+      let byte = way_byte c.shape calm (key_of c.call) upper.base upper.kind x leads in
       let child : child_on c.shape calm upper.base upper.kind x ≡ p.child =
       ap (λ o. child_in c.shape calm o) slot_is ∙ fits.1 in (
         slot-same calm after upper.base upper.kind x byte (row-keys calm after upper.base upper.kind (upper-each (IsSame calm after) h same)) ∙ slot_is,
@@ -136,7 +134,7 @@ module _ (c : Setting) (n : ℕ) (calm after : List ℕ) (pairs : Contents) (gon
   finds-kept h (work.Put keys) x leads same stay fits (alone, info) = (alone, info-kept calm after h.row.base h.row.kind same.0 ∙ info)
   finds-kept h (work.Grow slot keys) x leads same stay fits (above, slot_is, own, info) =
       let upper = upper_row h in
-      let byte = way-small c.shape calm (key_of c.call) upper.base upper.kind x leads in (
+      let byte = way_byte c.shape calm (key_of c.call) upper.base upper.kind x leads in (
         above,
         slot-same calm after upper.base upper.kind x byte (row-keys calm after upper.base upper.kind (upper-each (IsSame calm after) h same)) ∙ slot_is,
         f.ways (key_of c.call) h.row.base h.row.kind (byte_in c h.row) own stay.0,
@@ -147,7 +145,7 @@ module _ (c : Setting) (n : ℕ) (calm after : List ℕ) (pairs : Contents) (gon
       → BeginsWork c calm h work → BeginsWork c after h work
   begins-kept h work same stay b =
       let upper = upper_row h in
-      let byte = way-small c.shape calm (key_of c.call) upper.base upper.kind b.byte b.leads in
+      let byte = way_byte c.shape calm (key_of c.call) upper.base upper.kind b.byte b.leads in
       record {
         call = b.call;
         words = fits-kept c h work calm after b.byte byte same b.finds b.words;
@@ -190,7 +188,7 @@ module _ (c : Setting) (n : ℕ) (calm after : List ℕ) (pairs : Contents) (gon
   pending-kept real later (Keeps base kind) old none same own stays new goes = none
   pending-kept real later (Fills base kind) old none same own stays new goes = none
   pending-kept real later (PutsLeaf base kind x key value) old (leads, was, row) same own stays new goes =
-      let byte = way-small c.shape calm key base kind x leads in (
+      let byte = way_byte c.shape calm key base kind x leads in (
         f.ways key base kind x leads stays,
         old-kept key base kind x old byte same was,
         elim row [
@@ -203,13 +201,13 @@ module _ (c : Setting) (n : ℕ) (calm after : List ℕ) (pairs : Contents) (gon
         ],
       )
   pending-kept real later (RemovesLeaf base kind x key) old (leads, was, slot) same own stays new goes =
-      let byte = way-small c.shape calm key base kind x leads in (
+      let byte = way_byte c.shape calm key base kind x leads in (
         f.ways key base kind x leads stays,
         old-kept key base kind x old byte same was,
         (slot.0, slot-kept real later base kind x slot.0 0 byte same own slot.1),
       )
   pending-kept real later (HangsPair base kind x key value row d a) old (leads, none, parts, slot, ready, pair) same own stays new goes =
-      let byte = way-small c.shape calm key base kind x leads in
+      let byte = way_byte c.shape calm key base kind x leads in
       let child = child-same c.shape calm after base kind x byte same in
       let keys = row-keys calm after row Four new.1 in
       let on : (y : ℕ) → y < 256 → child_on c.shape after row Four y ≡ child_on c.shape calm row Four y =
@@ -231,8 +229,8 @@ module _ (c : Setting) (n : ℕ) (calm after : List ℕ) (pairs : Contents) (gon
   pending-kept real later (HangsGrown base kind x key value full full_kind y row larger) old
       (above, none, hangs, leads, empty, slot, ready, copy) same own stays
       new goes =
-      let byte = way-small c.shape calm key base kind x above in
-      let small_y = way-small c.shape calm key full full_kind y leads in
+      let byte = way_byte c.shape calm key base kind x above in
+      let small_y = way_byte c.shape calm key full full_kind y leads in
       let kept = goes full full_kind leads.reached refl in
       let on : (z : ℕ) → z < 256 → child_on c.shape after row larger z ≡ child_on c.shape calm row larger z =
       λ z small. child-same c.shape calm after row larger z small new.1 in (

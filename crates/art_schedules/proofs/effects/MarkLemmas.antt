@@ -1,18 +1,16 @@
 -- Marks of calls at work, and what such a call asks for.
 use Rattle.std.proofs.Common.{◌≡◌, ◌⊎◌, inl, inr, ℕ, List, [], ◌∷◌, ◌++◌, Bool, true, false, refl, sym, ap, ◌∙◌, subst}
-use Rattle.std.specs.Prelude.{◌==◌, if◌then◌else◌, Option, Some, None}
+use Rattle.std.specs.Prelude.{◌==◌, Option, Some, None, if◌then◌else◌}
 use Rattle.std.proofs.lemmas.Bool.{false≢true}
 use Rattle.std.proofs.lemmas.Option.{none-some}
-use Rattle.events.specs.declared.event.Reply.{Reply}
 use Rattle.art_rows.specs.declared.table.Kind.{Kind}
 use Rattle.art_rows.specs.declared.table.Kind.TheVariants.{Four, Sixteen, FortyEight, Full}
 use Rattle.art_rows.specs.declared.table.Child.TheVariants.{Row}
 use Rattle.art_serial.proofs.words.TableLemmas.{base_of-once}
-use Rattle.art_steps.specs.declared.access.Access.{Access}
 use Rattle.art_steps.specs.declared.access.Access.TheVariants.{Exchange as Swap}
-use Rattle.art_steps.specs.declared.access.Point.{Point}
 use Rattle.art_steps.specs.Steps.{Turn, Asks, Answers}
 use Rattle.art_steps.specs.Rows.{Setting}
+use Rattle.art_steps.proofs.TurnLemmas.{answers-asks}
 use Rattle.art_stages.specs.declared.stage.Held.{Held}
 use Rattle.art_stages.specs.declared.stage.Hold.{Hold}
 use Rattle.art_stages.specs.declared.stage.Pair.{Pair}
@@ -27,16 +25,16 @@ use Rattle.art_stages.specs.declared.stage.Work.TheVariants as work
 use Rattle.art_stages.specs.declared.stage.Stage.{Stage}
 use Rattle.art_stages.specs.declared.stage.Stage.TheVariants.{Lock, Exchange, Wait, Leave, Between, Info, Find, FindKeys, FindMore, FindCount, Slot}
 use Rattle.art_stages.specs.declared.stage.Stage.TheVariants.{Check, CheckLast, LetGo, Take, StorePair, PutKeys, GrowLeaf, GrowKeys, GrowCount}
-use Rattle.art_stages.specs.declared.stage.Stage.TheVariants.{Obsolete, Unlock, Over}
+use Rattle.art_stages.specs.declared.stage.Stage.TheVariants.{Obsolete, Over, Unlock}
 use Rattle.art_stages.specs.Stages.{setting}
 use Rattle.art_stages.specs.Automaton.{turn_at, work_at, store_of, pair_turn, put_keys_turn, grow_leaf_turn, grow_keys_turn, grow_count_turn}
 use Rattle.art_core.specs.Meaning.{Reached, child_on}
 use Rattle.art_serial.specs.trees.Trees.{IsAtRest}
+use Rattle.art_serial.proofs.trees.Changes.{way_byte}
 use Rattle.art_versions.specs.versions.Holding.{Named}
 use Rattle.art_versions.proofs.versions.MoveLemmas.{true-false}
 use Rattle.art_schedules.specs.calm.Calm.{calm_of}
 use Rattle.art_schedules.specs.changes.Effects.{Effect, Keeps, Fills, PutsLeaf, RemovesLeaf, HangsPair, HangsGrown, base_of_effect, kind_of_effect, IsGone}
-use Rattle.art_schedules.proofs.changes.EffectLemmas.{way-small}
 use Rattle.art_schedules.specs.work.Own.{is_work}
 use Rattle.art_schedules.proofs.work.OwnLemmas.{is_over}
 use Rattle.art_schedules.proofs.work.WorkLemmas.{at-work}
@@ -73,9 +71,6 @@ place-unmarked stage h place = elim (obsolete-or stage) [
 
 -- ---- the row that is made obsolete
 
-obsolete-unlock : {h g : Hold} {o : Option Outcome} → Obsolete h ≡ Unlock g o → ⊥
-obsolete-unlock e = cc
-
 obsolete-same : {h g : Hold} → Obsolete h ≡ Obsolete g → h ≡ g
 obsolete-same e = cc
 
@@ -104,12 +99,15 @@ module _ (c : Setting) (n : ℕ) (real calm : List ℕ) (rest : IsAtRest c.shape
         above = row;
         is = refl;
         byte = x;
-        is_byte = way-small c.shape calm key base kind x above;
+        is_byte = way_byte c.shape calm key base kind x above;
         reached = subst (λ b. Reached c.shape calm b row.kind) is-base (subst (Reached c.shape calm base) is-kind above.reached);
         hangs = ap (λ b. child_on c.shape calm b row.kind x) (sym is-base)
             ∙ (ap (λ l. child_on c.shape calm base l x) (sym is-kind)
             ∙ (hangs ∙ (ap (λ z. Row z full_kind) (sym is) ∙ ap (Row lower.base) kinds)));
       }
+
+pub obsolete-unlock : {h g : Hold} {o : Option Outcome} → Obsolete h ≡ Unlock g o → ⊥
+obsolete-unlock e = cc
 
 pub obsolete-hangs : ObsoleteRowsHang
 obsolete-hangs c n real calm fresh h rest (Claiming none g) = absurd (no-claim c h g.hold g.work g.claims g.at)
@@ -217,9 +215,6 @@ only-work c real calm fresh stage work = (
 )
 
 -- ---- at the end
-
-answers-asks : {r : Reply} {a : Access} {mark : Option Point} → Answers r ≡ Asks a mark → ⊥
-answers-asks e = cc
 
 pub enders-go-on : LeaversStep → EndersGoOn
 enders-go-on leaves plan start words schedule p s t n m last rest means call stage reply a mark is end turn =

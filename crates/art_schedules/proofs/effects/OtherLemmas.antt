@@ -12,6 +12,7 @@ use Rattle.art_rows.specs.declared.table.Kind.TheVariants.{Four, Sixteen, FortyE
 use Rattle.art_rows.specs.declared.table.Child.TheVariants.{Row}
 use Rattle.art_rows.specs.Table.{row_words, kind_at}
 use Rattle.art_rows.specs.Words.{child_of, row_word, is_obsolete}
+use Rattle.art_rows.proofs.KindLemmas.{some-words}
 use Rattle.art_serial.proofs.words.TableLemmas.{row_begins, rows_apart}
 use Rattle.art_steps.specs.declared.variant.Variant.{Variant}
 use Rattle.art_steps.specs.Rows.{Setting}
@@ -33,12 +34,13 @@ use Rattle.art_serial.specs.trees.Trees.{IsAtRest, SameRow}
 use Rattle.art_serial.specs.trees.Children.{ChildrenAreRead}
 use Rattle.art_serial.proofs.alone.SlotLemmas as slots
 use Rattle.art_serial.proofs.alone.SlotLemmas.{slot-is}
+use Rattle.art_serial.proofs.trees.Changes.{way_byte}
 use Rattle.art_versions.specs.versions.Locking.{lock_of, locks_of, rows_of_hold}
 use Rattle.art_versions.specs.versions.Holding.{Named, Each, IsNamed, IsSlot, Knows, child_rows, holds, fills}
 use Rattle.art_versions.specs.versions.Effects.{IsAmong, IsBehindVersion}
 use Rattle.art_versions.specs.versions.Versions.{IsOpen, IsClaimed, IsSettled, stage_of, held_by, filled_by}
 use Rattle.art_versions.specs.versions.Steady as steady
-use Rattle.art_versions.proofs.versions.MoveLemmas.{settled-row, some-words, true-false}
+use Rattle.art_versions.proofs.versions.MoveLemmas.{settled-row, true-false}
 use Rattle.art_versions.proofs.versions.WithLemmas.{with-here}
 use Rattle.art_schedules.specs.calm.Calm.{calm_of}
 use Rattle.art_schedules.specs.calm.Changes.{CalmChange, CalmStays, CalmFilled, CalmReleased}
@@ -48,7 +50,6 @@ use Rattle.art_schedules.proofs.calm.VersionLemmas.{locked-same, obsolete-busy}
 use Rattle.art_schedules.specs.changes.Effects.{Effect, Keeps, Fills, PutsLeaf, RemovesLeaf, HangsPair, HangsGrown, base_of_effect, kind_of_effect, IsGone}
 use Rattle.art_schedules.specs.changes.Courses.{IsGoneBy, IsFreshBy}
 use Rattle.art_schedules.specs.changes.Written.{IsUnreached}
-use Rattle.art_schedules.proofs.changes.EffectLemmas.{way-small}
 use Rattle.art_schedules.proofs.changes.RowLemmas.{steady-row}
 use Rattle.art_schedules.proofs.work.WorkLemmas.{holds-work}
 use Rattle.art_schedules.specs.effects.AtWork.{IsInTree, IsSame, IsClaiming, claims_row, FillsAt, HasNew, IsGoing}
@@ -145,7 +146,7 @@ module _ (read : ChildrenAreRead) (plan : Plan) (p : ℕ) (s t : State) (calm af
           let its : child_on shape calm b2 k2 x2 ≡ Row b l =
           by.has.hangs ∙ (ap (λ z. Row z full_kind) (sym gone) ∙ ap (Row b) kinds) in
           let one = rest.tree.once base b2 y x2 b kind k2 l reached by.has.above.reached small
-          (way-small shape calm key b2 k2 x2 by.has.above) hangs its in
+          (way_byte shape calm key b2 k2 x2 by.has.above) hangs its in
           let taken = by.held in
           ne (x.before.apart r taken.0.holder call taken.0.call w taken.0.process o taken.0.is_open (lock_of row) taken.0.row among taken.0.among
           (sym is ∙ (one.0 ∙ sym taken.0.is)) ∙ taken.1)
@@ -359,11 +360,11 @@ module _ (read : ChildrenAreRead) (plan : Plan) (p : ℕ) (s t : State) (calm af
     pending-new (HangsPair base kind y key value b d a) old row (leads, none, parts, slot, ready, pair) other =
         let its = claimed-row shape s.words b Four ready.claimed in
         new-stays b Four ready
-        (inr (settled-slot base kind y slot.0 b Four row (way-small shape calm key base kind y leads) slot.1.at slot.1.here its)) other
+        (inr (settled-slot base kind y slot.0 b Four row (way_byte shape calm key base kind y leads) slot.1.at slot.1.here its)) other
     pending-new (HangsGrown base kind y key value full full_kind z b larger) old row (above, none, hangs, leads, empty, slot, ready, copy) other =
         let its = claimed-row shape s.words b larger ready.claimed in
         new-stays b larger ready
-        (inr (settled-slot base kind y slot.0 b larger row (way-small shape calm key base kind y above) slot.1.at slot.1.here its)) other
+        (inr (settled-slot base kind y slot.0 b larger row (way_byte shape calm key base kind y above) slot.1.at slot.1.here its)) other
 
     -- a row that goes by the effect hangs in the row that changes
     pending-gone : (row : Held) → HoldsRow row → (e : Effect) (old : Option ℕ) → base_of_effect e ≡ row.base → IsPending c s.words calm e old → (b : ℕ)
@@ -378,7 +379,7 @@ module _ (read : ChildrenAreRead) (plan : Plan) (p : ℕ) (s t : State) (calm af
           full_kind,
           ap (kind_at shape) gone ∙ settled-row variant shape s full full_kind (x.calm_before.reached full full_kind leads.reached),
           subst (λ z. IsGoneBy effect z → ⊥) (sym gone)
-              (gone-once row among base kind y full full_kind is above.reached (way-small shape calm key base kind y above) hangs),
+              (gone-once row among base kind y full full_kind is above.reached (way_byte shape calm key base kind y above) hangs),
         )
 
     releasing-holds : (row : Held) (e : Effect) (out : Outcome) → IsReleasing c s.words calm row e out stage → HoldsRow row

@@ -13,14 +13,14 @@ use Rattle.art_rows.specs.Table.{row_words, kind_at}
 use Rattle.art_rows.specs.Words.{is_obsolete, released_word, obsolete_word}
 use Rattle.art_serial.proofs.words.TableLemmas.{rows_apart, row_begins, base_of-once}
 use Rattle.art_rows.specs.declared.table.Child.TheVariants.{Row}
-use Rattle.art_schedules.proofs.changes.EffectLemmas.{way-small}
+use Rattle.art_rows.proofs.KindLemmas.{some-words}
 use Rattle.art_steps.specs.declared.variant.Variant.{Variant}
-use Rattle.art_steps.specs.declared.access.Access.{Access}
 use Rattle.art_steps.specs.declared.access.Access.TheVariants.{Store}
 use Rattle.art_steps.specs.declared.access.Point.{Point}
 use Rattle.art_steps.specs.declared.access.Point.TheVariants as point
-use Rattle.art_steps.specs.Steps.{Asks, Answers}
+use Rattle.art_steps.specs.Steps.{Asks}
 use Rattle.art_steps.specs.Rows.{Setting, locks}
+use Rattle.art_steps.proofs.TurnLemmas.{answers-asks}
 use Rattle.art_stages.specs.declared.stage.Held.{Held}
 use Rattle.art_stages.specs.declared.stage.Hold.{Hold}
 use Rattle.art_stages.specs.declared.stage.Outcome.{Outcome}
@@ -35,11 +35,12 @@ use Rattle.art_core.specs.Core.{Plan, State}
 use Rattle.art_core.specs.Meaning.{Reached, Means, below, child_on}
 use Rattle.art_serial.specs.trees.Trees.{IsAtRest, SameRow}
 use Rattle.art_serial.specs.trees.Children.{ChildrenAreRead}
+use Rattle.art_serial.proofs.trees.Changes.{way_byte}
 use Rattle.art_versions.specs.versions.Locking.{lock_of, locks_of, rows_of_hold}
 use Rattle.art_versions.specs.versions.Holding.{Named, Each, holds}
 use Rattle.art_versions.specs.versions.Effects.{IsAmong}
 use Rattle.art_versions.specs.versions.Versions.{IsOpen, AreDistinct, stage_of, held_by}
-use Rattle.art_versions.proofs.versions.MoveLemmas.{settled-row, some-words}
+use Rattle.art_versions.proofs.versions.MoveLemmas.{settled-row}
 use Rattle.art_schedules.proofs.calm.CalmLemmas.{claimed-row}
 use Rattle.art_schedules.proofs.calm.UseLemmas.{without-store}
 use Rattle.art_schedules.specs.changes.Effects.{Effect, Keeps, Fills, PutsLeaf, RemovesLeaf, HangsPair, HangsGrown, base_of_effect, kind_of_effect, IsGone}
@@ -57,9 +58,6 @@ use Rattle.art_schedules.proofs.effects.ReleaseLemmas.{kept-by-words, its-row, o
 use Rattle.art_schedules.proofs.effects.ReleaseLemmas.{obsolete-same}
 use Rattle.art_schedules.proofs.effects.ReleaseLemmas.{kept-obsolete}
 use Rattle.art_schedules.proofs.effects.ReplyLemmas.{does-so, value-not-refused}
-
-answers-asks : {r : Reply} {a : Access} {mark : Option Point} → Answers r ≡ Asks a mark → ⊥
-answers-asks e = cc
 
 module _ (read : ChildrenAreRead) (trees : KeptTreesFollow) (effects : EffectsFollow) (says : WaysSayValues) (plan : Plan) (p : ℕ) (s t : State)
     (calm after : List ℕ) (x : Around plan p s t calm after) (k : ℕ) (rest : IsAtRest plan.shape k calm) (m : Contents) (means : Means plan.shape calm m)
@@ -356,5 +354,5 @@ holds-above c real calm n stage fresh rest g b gone a y above l reached small ha
         let mine = rest.claimed full full_kind leads.reached in
         let its = rest.claimed b l (below reached y small hangs) in
         let kinds = (base_of-once c.shape full_kind l mine.0 its.0 mine.2 its.2 (sym mine.3 ∙ (sym is ∙ its.3))).0 in
-        (rest.tree.once base a x y b kind above l upper.reached reached (way-small c.shape calm key base kind x upper) small
+        (rest.tree.once base a x y b kind above l upper.reached reached (way_byte c.shape calm key base kind x upper) small
         (own ∙ (ap (λ z. Row z full_kind) (sym is) ∙ ap (Row b) kinds)) hangs).0

@@ -8,8 +8,9 @@ use Rattle.art_rows.specs.declared.table.Shape.{Shape}
 use Rattle.art_rows.specs.declared.table.Kind.{Kind}
 use Rattle.art_rows.specs.declared.table.Kind.TheVariants.{Four}
 use Rattle.art_rows.specs.declared.table.Child.TheVariants.{Leaf}
-use Rattle.art_rows.specs.Table.{row_words, first_child, claims_of, kind_at}
+use Rattle.art_rows.specs.Table.{row_words, claims_of, kind_at}
 use Rattle.art_rows.specs.Words.{is_obsolete, released_word, obsolete_word, row_word, leaf_word}
+use Rattle.art_rows.proofs.KindLemmas.{some-words, claims-few, first-some}
 use Rattle.art_serial.proofs.words.TableLemmas.{row_ends}
 use Rattle.art_steps.specs.declared.variant.Variant.{Variant}
 use Rattle.art_steps.specs.declared.access.Access.TheVariants.{Store}
@@ -27,25 +28,27 @@ use Rattle.art_core.specs.Meaning.{Means}
 use Rattle.art_serial.specs.trees.Trees.{IsAtRest, SameRow, IsFree}
 use Rattle.art_serial.specs.trees.Children.{ChildrenAreRead}
 use Rattle.art_serial.proofs.alone.SlotLemmas.{IsSlot, slot-is}
+use Rattle.art_serial.proofs.writes.StoreLemmas.{stored-at}
+use Rattle.art_serial.proofs.words.VersionLemmas.{obsolete_obsolete, obsolete_released}
+use Rattle.art_serial.proofs.trees.Changes.{way_byte}
 use Rattle.art_versions.specs.versions.Locking.{lock_of}
 use Rattle.art_versions.specs.versions.Holding.{IsKept}
 use Rattle.art_versions.specs.versions.Effects.{IsAmong, IsBehindVersion}
 use Rattle.art_versions.specs.versions.Versions.{IsOpen, IsClaimed, IsSettled, stage_of, held_by}
 use Rattle.art_versions.specs.versions.Steady as steady
-use Rattle.art_versions.proofs.versions.ChangeLemmas.{index-same, index-other}
+use Rattle.art_versions.proofs.versions.ChangeLemmas.{index-other}
 use Rattle.art_versions.proofs.versions.KnownLemmas.{held-is-kept}
-use Rattle.art_versions.proofs.versions.MoveLemmas.{settled-row, some-words, claims-low}
+use Rattle.art_versions.proofs.versions.MoveLemmas.{settled-row}
 use Rattle.art_versions.proofs.versions.WordFacts.{version-free}
 use Rattle.art_schedules.specs.calm.Calm.{is_busy}
 use Rattle.art_schedules.proofs.calm.UseLemmas.{with-released}
-use Rattle.art_schedules.proofs.calm.VersionLemmas.{free-busy, free-parts, released-free, released-same, obsolete-set, obsolete-busy}
+use Rattle.art_schedules.proofs.calm.VersionLemmas.{free-busy, free-parts, released-free, obsolete-busy}
 use Rattle.art_schedules.specs.changes.Rows.{OneRow, SameOutside, HasNewChild}
 use Rattle.art_schedules.specs.changes.Effects.{Effect, Keeps, Fills, PutsLeaf, RemovesLeaf, HangsPair, HangsGrown, base_of_effect, kind_of_effect, IsGone}
 use Rattle.art_schedules.specs.changes.Effects.{HasEffect}
 use Rattle.art_schedules.specs.changes.Follows.{HasFewClaims}
 use Rattle.art_schedules.specs.changes.Laws.{EffectsFollow, KeptTreesFollow}
 use Rattle.art_schedules.specs.changes.Written.{HasSlot, IsUnreached}
-use Rattle.art_schedules.proofs.changes.EffectLemmas.{way-small}
 use Rattle.art_schedules.proofs.changes.FollowLemmas.{low-words-keep}
 use Rattle.art_schedules.proofs.changes.RowLemmas.{rows-are-by-words, steady-row}
 use Rattle.art_schedules.proofs.changes.WorkedLemmas.{stored-leaves-are-put, stored-zeros-remove, written-pairs-are-hung, written-rows-are-hung}
@@ -53,9 +56,6 @@ use Rattle.art_schedules.proofs.changes.WrittenLemmas.{children-are-of-rows}
 use Rattle.art_schedules.specs.effects.AtWork.{IsSame, IsOld, IsStored, IsPending}
 use Rattle.art_schedules.specs.effects.Outcomes.{Makes}
 use Rattle.art_schedules.proofs.effects.AroundLemmas.{Around, OwnAccess, own-access}
-
-first-some : (kind : Kind) → 1 ≤ first_child kind
-first-some kind = grind arith
 
 -- the slot in words that say the same of its row
 slot-later : (calm real later : List ℕ) (base : ℕ) (kind : Kind) (y slot word : ℕ) → y < 256 → SameRow real later base kind
@@ -83,7 +83,7 @@ pending-effect read c n real calm after (Fills base kind) old rest one same clai
 pending-effect read c n real calm after (PutsLeaf base kind y key value) old rest one same claims (leads, was, row) = go row
   where
     small : y < 256
-    small = way-small c.shape calm key base kind y leads
+    small = way_byte c.shape calm key base kind y leads
 
     go : (HasNewChild c.shape calm real base kind y (Leaf key value)) ⊎ IsStored calm real base kind y key value
         → HasEffect c.shape calm after (PutsLeaf base kind y key value)
@@ -97,15 +97,15 @@ pending-effect read c n real calm after (PutsLeaf base kind y key value) old res
         (slot-later calm real after base kind y stored.slot (leaf_word key value) small same stored.has)
 pending-effect read c n real calm after (RemovesLeaf base kind y key) old rest one same claims (leads, was, slot) =
     stored-zeros-remove read c.shape n calm after base kind y slot.0 key rest one leads (old-free c calm key base kind y old was)
-    (slot-later calm real after base kind y slot.0 0 (way-small c.shape calm key base kind y leads) same slot.1)
+    (slot-later calm real after base kind y slot.0 0 (way_byte c.shape calm key base kind y leads) same slot.1)
 pending-effect read c n real calm after (HangsPair base kind y key value fresh d a) old rest one same claims (leads, none, parts, slot, ready, pair) =
     written-pairs-are-hung read c.shape n calm after calm base kind y slot.0 key value fresh d a rest one leads parts
-    (slot-later calm real after base kind y slot.0 (row_word fresh) (way-small c.shape calm key base kind y leads) same slot.1) pair (λ j low high. refl)
+    (slot-later calm real after base kind y slot.0 (row_word fresh) (way_byte c.shape calm key base kind y leads) same slot.1) pair (λ j low high. refl)
     ready.unreached (record { claimed = claims fresh Four ready.claimed; live = ready.live })
 pending-effect read c n real calm after (HangsGrown base kind y key value full full_kind z fresh larger) old rest one same claims
     (above, none, hangs, leads, empty, slot, ready, copy) =
     written-rows-are-hung read c.shape n calm after calm calm base kind y slot.0 key value full full_kind z fresh larger rest one above hangs leads empty
-    (slot-later calm real after base kind y slot.0 (row_word fresh) (way-small c.shape calm key base kind y above) same slot.1) copy (λ j low high. refl)
+    (slot-later calm real after base kind y slot.0 (row_word fresh) (way_byte c.shape calm key base kind y above) same slot.1) copy (λ j low high. refl)
     (λ j low high. refl) ready.unreached (record { claimed = claims fresh larger ready.claimed; live = ready.live })
 
 module _ (read : ChildrenAreRead) (trees : KeptTreesFollow) (effects : EffectsFollow) (plan : Plan) (p : ℕ) (s t : State) (calm after : List ℕ)
@@ -117,13 +117,13 @@ module _ (read : ChildrenAreRead) (trees : KeptTreesFollow) (effects : EffectsFo
   shape = plan.shape
 
   few-claims : HasFewClaims (x.count + 2) after
-  few-claims kind = omega (arith, x.calm_behind.low (claims_of kind) (claims-low kind), x.behind.claims kind)
+  few-claims kind = omega (arith, x.calm_behind.low (claims_of kind) (claims-few kind), x.behind.claims kind)
 
   claims-rise : (kind : Kind) → slice_index calm (claims_of kind) ≤ slice_index after (claims_of kind)
   claims-rise kind = omega (
     arith,
-    x.calm_behind.low (claims_of kind) (claims-low kind),
-    x.calm_before.low (claims_of kind) (claims-low kind),
+    x.calm_behind.low (claims_of kind) (claims-few kind),
+    x.calm_before.low (claims_of kind) (claims-few kind),
     x.steady.claims kind,
   )
 
@@ -131,7 +131,7 @@ module _ (read : ChildrenAreRead) (trees : KeptTreesFollow) (effects : EffectsFo
   pub claimed-then : (b : ℕ) (l : Kind) → IsClaimed shape s.words b l → IsClaimed shape after b l
   claimed-then b l claimed = record {
     number = claimed.number;
-    claimed = omega (arith, claimed.claimed, x.steady.claims l, x.calm_behind.low (claims_of l) (claims-low l));
+    claimed = omega (arith, claimed.claimed, x.steady.claims l, x.calm_behind.low (claims_of l) (claims-few l));
     within = claimed.within;
     is = claimed.is;
   }
@@ -196,7 +196,7 @@ module _ (read : ChildrenAreRead) (trees : KeptTreesFollow) (effects : EffectsFo
       own = own-access plan p s t x.move call q o (Store row.base value) mark asks
 
       at-base : slice_index t.words row.base ≡ value
-      at-base = ap (λ ws. slice_index ws row.base) own.words ∙ index-same s.words row.base value in-table
+      at-base = ap (λ ws. slice_index ws row.base) own.words ∙ stored-at s.words row.base value in-table
 
       pub elsewhere : (word : ℕ) → word ≢ row.base → slice_index t.words word ≡ slice_index s.words word
       elsewhere word ne = ap (λ ws. slice_index ws word) own.words ∙ index-other s.words row.base value word ne
@@ -214,7 +214,7 @@ module _ (read : ChildrenAreRead) (trees : KeptTreesFollow) (effects : EffectsFo
       value = released_word row.kept
 
       free : is_busy (slice_index t.words row.base) ≡ false
-      free = ap is_busy (at-base value mark turn) ∙ free-busy value (released-free row.kept free-version) (released-same row.kept ∙ live)
+      free = ap is_busy (at-base value mark turn) ∙ free-busy value (released-free row.kept free-version) (obsolete_released row.kept ∙ live)
 
       after-row : steady.SameRow t.words after row.base row.kind
       after-row = x.calm_behind.free row.base row.kind its-row free
@@ -256,7 +256,7 @@ module _ (read : ChildrenAreRead) (trees : KeptTreesFollow) (effects : EffectsFo
     -- as obsolete
     module _ (mark : Option Point) (turn : turn_at c stage ≡ Asks (Store row.base (obsolete_word row.kept)) mark) where
       pub is-obsolete : is_obsolete (slice_index t.words row.base) ≡ true
-      is-obsolete = ap is_obsolete (at-base (obsolete_word row.kept) mark turn) ∙ obsolete-set row.kept
+      is-obsolete = ap is_obsolete (at-base (obsolete_word row.kept) mark turn) ∙ obsolete_obsolete row.kept
 
       pub obsolete-same : (word : ℕ) → 5 ≤ word → slice_index after word ≡ slice_index calm word
       obsolete-same word low = elim (cases_lt word row.base) [

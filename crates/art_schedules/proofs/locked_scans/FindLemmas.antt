@@ -4,6 +4,7 @@ use Rattle.events.specs.declared.event.Call.TheVariants.{Scan}
 use Rattle.events.specs.declared.event.Reply.TheVariants as reply
 use Rattle.art_steps.specs.declared.variant.Variant.TheVariants.{Coupled}
 use Rattle.art_steps.specs.Steps.{Answers}
+use Rattle.art_steps.proofs.TurnLemmas.{asks-answers, answers-same}
 use Rattle.art_stages.specs.declared.stage.ScanStep.{ScanStep}
 use Rattle.art_stages.specs.declared.stage.ScanStep.TheVariants.{Release, Over}
 use Rattle.art_stages.specs.Stages.{setting}
@@ -12,7 +13,6 @@ use Rattle.art_stages.specs.Calls.{OnScan, call_begun}
 use Rattle.art_schedules.specs.coupled.Walks.{Alone, here, IsWalked, WalksAreTheMaps}
 use Rattle.art_schedules.specs.locked_scans.Walking.{unwaited, rows_at}
 use Rattle.art_schedules.specs.locked_scans.Laws.{ScansBegin, WalkedScansFind, FoundScansAnswer}
-use Rattle.art_schedules.proofs.locked_scans.TurnLemmas.{asks-answers, same-reply}
 
 pub scans-begin : ScansBegin
 scans-begin shape low high calm words long = (refl, record { now = calm; alone = here; long = long; same = λ word of. absurd of.1; own = tt })
@@ -38,5 +38,5 @@ found-scans-answer shape low high calm words r answer x k e = go x.step x.walk k
     go : (step : ScanStep) (w : Walk) → IsWalked step → r ≡ reply.Pairs w.pairs
         → scan_turn (setting shape Coupled (Scan low high)) (at step w) ≡ Answers answer → answer ≡ r
     go (Release n) w walked is e = absurd (asks-answers e)
-    go Over w walked is e = sym (same-reply e) ∙ sym is
+    go Over w walked is e = sym (answers-same e) ∙ sym is
     go step w walked is e = absurd walked

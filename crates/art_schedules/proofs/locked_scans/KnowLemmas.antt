@@ -1,5 +1,5 @@
 -- What a scan knows of the calm tree, behind a step.
-use Rattle.std.proofs.Common.{◌≡◌, inl, inr, ℕ, ◌+◌, ◌-◌, ◌≤◌, List, [], ◌∷◌, ◌++◌, slice_index, refl, sym, ap, ◌∙◌, subst, true, false, arith}
+use Rattle.std.proofs.Common.{◌≡◌, ℕ, ◌+◌, ◌≤◌, List, [], ◌∷◌, ◌++◌, slice_index, refl, sym, ap, ◌∙◌, subst, true, false, arith}
 use Rattle.std.specs.Prelude.{Option, Some, None}
 use Rattle.std.proofs.lemmas.Bool.{false≢true}
 use Rattle.std.proofs.lemmas.Option.{same_Some}
@@ -9,6 +9,7 @@ use Rattle.art_rows.specs.declared.table.Shape.{Shape}
 use Rattle.art_rows.specs.declared.table.Kind.{Kind}
 use Rattle.art_rows.specs.declared.table.Kind.TheVariants.{Four, Sixteen, FortyEight, Full}
 use Rattle.art_rows.specs.Table.{kind_at, claims_of}
+use Rattle.art_rows.proofs.KindLemmas.{claims-few}
 use Rattle.art_steps.specs.declared.variant.Variant.TheVariants.{Coupled}
 use Rattle.art_steps.specs.declared.access.Access.{Access}
 use Rattle.art_steps.specs.declared.access.Access.TheVariants.{Load}
@@ -16,6 +17,7 @@ use Rattle.art_steps.specs.declared.access.Point.{Point}
 use Rattle.art_steps.specs.Steps.{Asks}
 use Rattle.art_steps.specs.Fits.{word_of}
 use Rattle.art_steps.specs.Rows.{Setting}
+use Rattle.art_steps.proofs.TurnLemmas.{asks-answers, asks-same}
 use Rattle.art_stages.specs.declared.stage.Held.{Held}
 use Rattle.art_stages.specs.declared.stage.ScanStep.{ScanStep}
 use Rattle.art_stages.specs.declared.stage.ScanStep.TheVariants.{Lock, Exchange, Wait, Info, Keys, FirstKeys, SecondKeys, Index, Child as LoadChild, Release}
@@ -28,10 +30,10 @@ use Rattle.art_core.specs.Core.{Plan, State}
 use Rattle.art_serial.specs.trees.Trees.{IsAtRest, SameRow}
 use Rattle.art_versions.specs.versions.Holding.{holds}
 use Rattle.art_versions.specs.versions.Locking.{lock_of, locks_of, scan_locked}
-use Rattle.art_versions.specs.versions.Effects.{IsAmong, IsBehindVersion}
+use Rattle.art_versions.specs.versions.Effects.{IsAmong}
 use Rattle.art_versions.specs.versions.Versions.{IsSettled, stage_of}
-use Rattle.art_versions.proofs.versions.KnownLemmas.{among-each, held-is-kept}
-use Rattle.art_versions.proofs.versions.MoveLemmas.{settled-row, claims-low}
+use Rattle.art_versions.proofs.versions.KnownLemmas.{among-each, held-is-kept, among-front}
+use Rattle.art_versions.proofs.versions.MoveLemmas.{settled-row}
 use Rattle.art_schedules.specs.calm.Calm.{calm_of}
 use Rattle.art_schedules.specs.changes.Effects.{Effect}
 use Rattle.art_schedules.specs.changes.Courses.{IsGoneBy, IsFreshBy}
@@ -49,27 +51,19 @@ use Rattle.art_schedules.proofs.coupled.ScanLemmas.{scans-know-trees}
 use Rattle.art_schedules.proofs.coupled.TreeLemmas.{scans-keep-trees}
 use Rattle.art_schedules.specs.locked_scans.Walking.{rows_at, HasWalked, IsAtScan, ScanGoes, ScanComes}
 use Rattle.art_schedules.specs.locked_scans.Laws.{ScansComeOn, OthersLeaveTrees, WalkingScansAsk}
-use Rattle.art_schedules.proofs.locked_scans.TurnLemmas.{asks-answers, asks-same}
 use Rattle.art_schedules.proofs.locked_scans.PlainLemmas.{IsRead}
 use Rattle.art_schedules.proofs.locked_scans.RunLemmas.{calm-on}
 use Rattle.art_schedules.proofs.locked_scans.OwnLemmas.{held-word, next-on, behind-at, scans-go-on}
-use Rattle.art_schedules.proofs.locked_scans.TreeLemmas.{among-lock, scans-take-live}
+use Rattle.art_schedules.proofs.locked_scans.TreeLemmas.{scans-take-live}
+use Rattle.art_schedules.proofs.work.LockedLemmas.{lock-last, among-lock}
+use Rattle.art_schedules.proofs.coupled.OwnLemmas.{own-word}
 
 same-scan : {low high : ℕ} {x y : ScanAt} → OnScan low high x ≡ OnScan low high y → x ≡ y
 same-scan e = cc
 
-among-left : (h : Held) (hs more : List Held) → IsAmong h hs → IsAmong h (hs ++ more)
-among-left h [] more a = absurd a
-among-left h (x ∷ hs) more (inl e) = inl e
-among-left h (x ∷ hs) more (inr a) = inr (among-left h hs more a)
-
-among-last : (hs : List Held) (h : Held) → IsAmong (lock_of h) (locks_of (hs ++ h ∷ []))
-among-last [] h = inl refl
-among-last (x ∷ hs) h = inr (among-last hs h)
-
 -- the rows of a walk are held
 walk-among : (step : ScanStep) (w : Walk) → (IsWalked step → ⊥) → (h : Held) → IsAmong h w.rows → IsAmong (lock_of h) (locks_of (scan_locked step w))
-walk-among (Info base kind kept) w open-yet h a = among-lock h (w.rows ++ held base kind 0 kept ∷ []) (among-left h w.rows (held base kind 0 kept ∷ []) a)
+walk-among (Info base kind kept) w open-yet h a = among-lock h (w.rows ++ held base kind 0 kept ∷ []) (among-front h w.rows (held base kind 0 kept ∷ []) a)
 walk-among (Release n) w open-yet h a = absurd (open-yet tt)
 walk-among Over w open-yet h a = absurd (open-yet tt)
 walk-among (Lock entry first) w open-yet h a = among-lock h w.rows a
@@ -85,7 +79,7 @@ walk-among (LoadChild g slot) w open-yet h a = among-lock h w.rows a
 info-among : (step : ScanStep) (w : Walk) (base : ℕ) (kind : Kind) (kept : ℕ) → step ≡ Info base kind kept
     → IsAmong (lock_of (held base kind 0 kept)) (locks_of (scan_locked step w))
 info-among step w base kind kept e =
-    subst (λ z. IsAmong (held base kind 0 kept) (locks_of (scan_locked z w))) (sym e) (among-last w.rows (held base kind 0 kept))
+    subst (λ z. IsAmong (held base kind 0 kept) (locks_of (scan_locked z w))) (sym e) (lock-last w.rows (held base kind 0 kept))
 
 -- ---- the rows that are held stay
 
@@ -153,12 +147,6 @@ is-read shape calm low high (Release n) w open-yet e k = absurd (open-yet tt)
 is-read shape calm low high Over w open-yet e k = absurd (open-yet tt)
 is-read shape calm low high step w open-yet e k = tt
 
-own-word : (calm words : List ℕ) (n : Held) → IsOwn calm words n → (word : ℕ) → IsBehindVersion n.base n.kind word
-    → slice_index words word ≡ slice_index calm word
-own-word calm words n own word behind =
-    let is : n.base + (word - n.base) ≡ word = omega (arith, behind.0) in
-    sym (ap (slice_index words) is) ∙ (own.same (word - n.base) (omega (arith, behind.0)) (omega (arith, behind.0, behind.1)) ∙ ap (slice_index calm) is)
-
 -- a process is at one stage
 one-stage : (shape : Shape) (t : State) (p low high : ℕ) (x y : ScanAt) → IsAtScan shape t p low high x → IsAtScan shape t p low high y → x ≡ y
 one-stage shape t p low high x y a b =
@@ -201,7 +189,7 @@ module _ (trees : KeptTreesFollow) (plan : Plan) (start : Contents) (words sched
   few : (kind : Kind) → slice_index after (claims_of kind) ≤ f.count + 2
   few kind =
       let few = f.behind.claims kind in
-      omega (arith, few, f.then.low (claims_of kind) (claims-low kind))
+      omega (arith, few, f.then.low (claims_of kind) (claims-few kind))
 
   tree-behind : (IsWalked next.step → ⊥) → KnowsTree plan.shape after next
   tree-behind later =

@@ -1,6 +1,6 @@
 -- A step of a scan, in a run.
 use Rattle.std.proofs.Common.{◌≡◌, ◌≢◌, inl, inr, ℕ, ◌+◌, ◌<◌, ◌≤◌, ◌==◌, List, [], ◌∷◌, ◌++◌, length, slice_index, refl, sym, ap, ◌∙◌, subst}
-use Rattle.std.proofs.Common.{Bool, true, false, if◌then◌else◌, eqb-true, arith}
+use Rattle.std.proofs.Common.{Bool, true, false, eqb-true, arith, if◌then◌else◌}
 use Rattle.std.specs.Prelude.{Option, Some, None}
 use Rattle.std.proofs.lemmas.Bool.{false≢true}
 use Rattle.events.specs.declared.event.Call.{Call}
@@ -11,8 +11,9 @@ use Rattle.map_object.specs.MapObject.{Contents}
 use Rattle.art_rows.specs.declared.table.Shape.{Shape}
 use Rattle.art_rows.specs.declared.table.Kind.{Kind}
 use Rattle.art_rows.specs.declared.table.Kind.TheVariants.{Four, Sixteen, FortyEight, Full}
-use Rattle.art_rows.specs.Table.{kind_at, row_words, table_words}
+use Rattle.art_rows.specs.Table.{kind_at, row_words}
 use Rattle.art_rows.specs.Words.{is_locked, is_obsolete, locked_word, released_word}
+use Rattle.art_rows.proofs.KindLemmas.{some-words}
 use Rattle.art_serial.proofs.words.TableLemmas.{rows_apart}
 use Rattle.art_steps.specs.declared.variant.Variant.TheVariants.{Coupled}
 use Rattle.art_steps.specs.declared.access.Access.{Access}
@@ -22,6 +23,8 @@ use Rattle.art_steps.specs.declared.access.Point.TheVariants as point
 use Rattle.art_steps.specs.Steps.{Asks}
 use Rattle.art_steps.specs.Fits.{word_of}
 use Rattle.art_steps.specs.Rows.{Setting}
+use Rattle.art_steps.proofs.TurnLemmas.{load-store, load-add, store-word, asks-answers, load-word, load-exchange, exchange-store, exchange-add, exchange-word}
+use Rattle.art_steps.proofs.TurnLemmas.{exchanges-same}
 use Rattle.art_stages.specs.declared.stage.Held.{Held}
 use Rattle.art_stages.specs.declared.stage.Entry.{Entry}
 use Rattle.art_stages.specs.declared.stage.ScanStep.{ScanStep}
@@ -34,19 +37,19 @@ use Rattle.art_core.specs.Accesses.{told, words_after}
 use Rattle.art_core.specs.Core.{Plan, State}
 use Rattle.art_serial.specs.trees.Trees.{SameRow}
 use Rattle.art_serial.proofs.alone.AloneLemmas.{load-same}
-use Rattle.art_serial.proofs.alone.PlaceLemmas.{kind_at-sits, sits-inside}
+use Rattle.art_serial.proofs.writes.StoreLemmas.{stored-at}
+use Rattle.art_serial.proofs.words.VersionLemmas.{taken-locked}
 use Rattle.art_versions.specs.versions.Holding.{Each, Knows, holds, fills, IsKept}
 use Rattle.art_versions.specs.versions.Locking.{lock_of, locks_of}
 use Rattle.art_versions.specs.versions.Effects.{IsAmong, IsWith, Does, Reads, Writes, Fills, Ends, Releases, Takes, Claims, Answered}
 use Rattle.art_versions.specs.versions.Versions.{IsSettled, held_by, filled_by}
-use Rattle.art_versions.proofs.versions.ChangeLemmas.{index-same}
-use Rattle.art_versions.proofs.versions.KnownLemmas.{among-each, held-is-kept}
-use Rattle.art_versions.proofs.versions.MoveLemmas.{settled-row, no-items, some-words}
+use Rattle.art_versions.proofs.versions.KnownLemmas.{among-each, held-is-kept, each-among}
+use Rattle.art_versions.proofs.versions.MoveLemmas.{settled-row, no-items}
 use Rattle.art_versions.proofs.versions.ScanLemmas.{coupled-scan-does}
 use Rattle.art_versions.proofs.versions.WithLemmas.{with-here, with-more, with-split}
 use Rattle.art_versions.proofs.versions.WordFacts.{version-free}
 use Rattle.art_schedules.specs.calm.Calm.{is_busy, calm_of}
-use Rattle.art_schedules.proofs.calm.VersionLemmas.{free-busy, taken-locked}
+use Rattle.art_schedules.proofs.calm.VersionLemmas.{free-busy}
 use Rattle.art_schedules.specs.changes.Follows.{KeepsTree}
 use Rattle.art_schedules.proofs.changes.RowLemmas.{steady-row}
 use Rattle.art_schedules.specs.work.Own.{TouchesOwn, LoadsHeld, StoresOwn, ClaimsRow, ReleasesHeld, Replies, IsHeldWord, ReadsHeld, is_lock}
@@ -62,20 +65,10 @@ use Rattle.art_schedules.proofs.coupled.RowLemmas.{kept-row, own-same, keeps-wit
 use Rattle.art_schedules.proofs.coupled.StayLemmas.{own-still}
 use Rattle.art_schedules.specs.locked_scans.Walking.{unwaited, rows_at, HasWalked, HasFound, IsAtScan, ScanGoes, ScanStays}
 use Rattle.art_schedules.specs.locked_scans.Laws.{ScansGoOn, FoundScansStay}
-use Rattle.art_schedules.proofs.locked_scans.TurnLemmas.{load-load, load-store, load-swap, load-add, store-word, swap-store, swap-add, swap-word, swap-version}
-use Rattle.art_schedules.proofs.locked_scans.TurnLemmas.{asks-answers}
 use Rattle.art_schedules.proofs.locked_scans.AloneLemmas.{failed-keeps, alone-more, alone-outside, follows}
 use Rattle.art_schedules.proofs.locked_scans.PlainLemmas.{IsRead, plain-unwaited, entered, reads-plain}
 use Rattle.art_schedules.proofs.locked_scans.RunLemmas.{rows-own, carry, calm-on}
-
-row-inside : (shape : Shape) (base : ℕ) (kind : Kind) → kind_at shape base ≡ Some kind → base < table_words shape
-row-inside shape base kind row =
-    let x = (sits-inside shape base 0 kind (kind_at-sits shape base kind row) (omega (arith, some-words kind))).1 in
-    omega (arith, x)
-
-each-of : (P : Held → Type 0) (hs : List Held) → ((h : Held) → IsAmong h hs → P h) → Each P hs
-each-of P [] f = tt
-each-of P (h ∷ hs) f = (f h (inl refl), each-of P hs (λ x a. f x (inr a)))
+use Rattle.art_schedules.proofs.coupled.MoveLemmas.{row-inside}
 
 module _ (shape : Shape) (low high : ℕ) where
   abbrev c : Setting
@@ -235,7 +228,7 @@ module _ (plan : Plan) (start : Contents) (words schedule : List ℕ) (p : ℕ) 
             (subst ReadsHeld here.at (reads-held shape call here.process.got)) (reads-free shape low high step w read))
           where
             go : TouchesOwn its (OnScan low high x) → IsHeldWord its (OnScan low high x) word
-            go (LoadsHeld other l e own) = subst (IsHeldWord its (OnScan low high x)) (load-load (sym e ∙ turns)) own
+            go (LoadsHeld other l e own) = subst (IsHeldWord its (OnScan low high x)) (load-word (sym e ∙ turns)) own
             go (StoresOwn other v l e own) = absurd (load-store (sym turns ∙ e))
             go (ClaimsRow k l e may) = absurd (load-add (sym turns ∙ e))
             go (ReleasesHeld row v l e among may) = absurd (load-store (sym turns ∙ e))
@@ -247,7 +240,7 @@ module _ (plan : Plan) (start : Contents) (words schedule : List ℕ) (p : ℕ) 
           where
             go : Does Settled its (OnScan low high x) → rows_at shape low high next ≡ mine
             go (Reads other l e has) =
-                let is : other ≡ word = load-load (sym e ∙ turns) in
+                let is : other ≡ word = load-word (sym e ∙ turns) in
                 let value : slice_index s.words other ≡ got = ap (slice_index s.words) is ∙ sym (ap (λ b. told b (slice_index s.words (word_of b))) load) in
                 subst (λ v. holds its (call_after its (OnScan low high x) v) ≡ holds its (OnScan low high x)) value
                 (has (slice_index s.words other) (f.sound.children other)).1
@@ -255,7 +248,7 @@ module _ (plan : Plan) (start : Contents) (words schedule : List ℕ) (p : ℕ) 
             go (Fills b k other v l e filled behind sits good has) = absurd (load-store (sym turns ∙ e))
             go (Ends b k other v l e filled behind sits good has) = absurd (load-store (sym turns ∙ e))
             go (Releases y rest v l e with none says kept has) = absurd (load-store (sym turns ∙ e))
-            go (Takes y all l e with none kept on off) = absurd (load-swap (sym turns ∙ e))
+            go (Takes y all l e with none kept on off) = absurd (load-exchange (sym turns ∙ e))
             go (Claims k l e none less past) = absurd (load-add (sym turns ∙ e))
             go (Answered r e none) = absurd (asks-answers (sym turns ∙ e))
 
@@ -398,7 +391,7 @@ module _ (plan : Plan) (start : Contents) (words schedule : List ℕ) (p : ℕ) 
               )
 
           own-then : Each (IsOwn calm t.words) all
-          own-then = each-of (IsOwn calm t.words) all (λ z a. elim (with-split y old all z with a) [
+          own-then = each-among (IsOwn calm t.words) all (λ z a. elim (with-split y old all z with a) [
             | inl e ↦ subst (IsOwn calm t.words) (sym e) (record {
               same = λ j low-end high-end. stay y row j low-end high-end
                   ∙ sym (steady-row s.words calm y.base y.kind (f.before.free y.base y.kind row free) j low-end high-end);
@@ -409,7 +402,7 @@ module _ (plan : Plan) (start : Contents) (words schedule : List ℕ) (p : ℕ) 
           ])
             where
               stay : (z : Held) → kind_at shape z.base ≡ Some z.kind → SameRow s.words t.words z.base z.kind
-              stay z e = words-same (Exchange entry v) w here swap None refl (λ word value l f. absurd (swap-store f)) z.base z.kind e
+              stay z e = words-same (Exchange entry v) w here swap None refl (λ word value l f. absurd (exchange-store f)) z.base z.kind e
 
           taken : rows_at shape low high last ≡ all → HasWalked shape low high calm t.words last
           taken holding =
@@ -426,23 +419,23 @@ module _ (plan : Plan) (start : Contents) (words schedule : List ℕ) (p : ℕ) 
             turn = refl
 
             go : Does Settled its (OnScan low high (at (Exchange entry v) w)) → HasWalked shape low high calm t.words last
-            go (Reads other l e has) = absurd (load-swap (sym e ∙ turn))
-            go (Writes y other u l e among kept behind good has) = absurd (swap-store (sym turn ∙ e))
-            go (Fills b k other u l e filled behind sits good has) = absurd (swap-store (sym turn ∙ e))
-            go (Ends b k other u l e filled behind sits good has) = absurd (swap-store (sym turn ∙ e))
-            go (Releases y rest u l e with none says kept has) = absurd (swap-store (sym turn ∙ e))
-            go (Claims k l e none less past) = absurd (swap-add (sym turn ∙ e))
+            go (Reads other l e has) = absurd (load-exchange (sym e ∙ turn))
+            go (Writes y other u l e among kept behind good has) = absurd (exchange-store (sym turn ∙ e))
+            go (Fills b k other u l e filled behind sits good has) = absurd (exchange-store (sym turn ∙ e))
+            go (Ends b k other u l e filled behind sits good has) = absurd (exchange-store (sym turn ∙ e))
+            go (Releases y rest u l e with none says kept has) = absurd (exchange-store (sym turn ∙ e))
+            go (Claims k l e none less past) = absurd (exchange-add (sym turn ∙ e))
             go (Answered r e none) = absurd (asks-answers (sym turn ∙ e))
             go (Takes y all l e with none kept on off) =
-                let based : y.base ≡ base = sym (swap-word (sym turn ∙ e)) in
-                let version : y.kept ≡ v = sym (swap-version (sym turn ∙ e)) in
+                let based : y.base ≡ base = sym (exchange-word (sym turn ∙ e)) in
+                let version : y.kept ≡ v = sym (exchanges-same (sym turn ∙ e)).1 in
                 taken y all based version with kept
                 (sym (ap (λ z. rows_at shape low high z) to-last)
                 ∙ (ap (λ u. holds its (call_after its (OnScan low high (at (Exchange entry v) w)) u)) (is ∙ sym version)
                 ∙ (on (λ z a. apart y all based version with kept z a)).1))
 
       exchanges : ScanGoes shape low high t p calm after
-      exchanges = goes (Exchange entry v) w here swap None refl (λ other u l e. swap-store e) (go (slice_index s.words base == v) refl)
+      exchanges = goes (Exchange entry v) w here swap None refl (λ other u l e. exchange-store e) (go (slice_index s.words base == v) refl)
         where
           go : (b : Bool) → (slice_index s.words base == v) ≡ b → HasWalked shape low high calm t.words
               (if slice_index s.words base == v then entry_at its low high entry w v else at (Lock entry false) w)
@@ -518,7 +511,7 @@ module _ (plan : Plan) (start : Contents) (words schedule : List ℕ) (p : ℕ) 
 
       wrote : slice_index t.words n.base ≡ released_word n.kept
       wrote = ap (λ ws. slice_index ws n.base) (access (Release n) w here (Store n.base (released_word n.kept)) (Some point.Unlock) refl).words
-          ∙ index-same s.words n.base (released_word n.kept) (omega (arith, row-inside shape n.base n.kind row, f.sound.long))
+          ∙ stored-at s.words n.base (released_word n.kept) (omega (arith, row-inside shape n.base n.kind row, f.sound.long))
 
       on-calm : (y : Held) → IsAmong y (locks_of w.rows) → SameRow calm after y.base y.kind
       on-calm y a j from to =

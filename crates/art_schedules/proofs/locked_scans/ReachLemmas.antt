@@ -11,6 +11,7 @@ use Rattle.art_steps.specs.declared.access.Access.TheVariants.{Exchange as Swap}
 use Rattle.art_steps.specs.declared.access.Point.{Point}
 use Rattle.art_steps.specs.Steps.{Asks}
 use Rattle.art_steps.specs.Rows.{Setting}
+use Rattle.art_steps.proofs.TurnLemmas.{asks-answers, load-exchange, store-exchange, exchange-word}
 use Rattle.art_stages.specs.declared.stage.Held.{Held}
 use Rattle.art_stages.specs.declared.stage.Entry.{Entry}
 use Rattle.art_stages.specs.declared.stage.Entry.TheVariants.{Root, Below}
@@ -27,7 +28,6 @@ use Rattle.art_schedules.specs.coupled.Walks.{IsWalked}
 use Rattle.art_schedules.proofs.coupled.MadeLemmas.{facts}
 use Rattle.art_schedules.proofs.coupled.RowLemmas.{its-turn}
 use Rattle.art_schedules.specs.locked_scans.Laws.{ScansTakeReached}
-use Rattle.art_schedules.proofs.locked_scans.TurnLemmas.{load-swap, store-swap, swap-word, asks-answers}
 use Rattle.art_schedules.proofs.locked_scans.TreeLemmas.{keys-swap}
 
 module _ (shape : Shape) (calm : List ℕ) (low high : ℕ) where
@@ -41,19 +41,19 @@ module _ (shape : Shape) (calm : List ℕ) (low high : ℕ) where
   -- the row that it takes
   taken-reached : (step : ScanStep) (w : Walk) → ((IsWalked step → ⊥) → KnowsTree shape calm (at step w)) → (base v to : ℕ) (l : Option Point)
       → scan_turn c (at step w) ≡ Asks (Swap base v to) l → (kind : Kind) × Reached shape calm base kind
-  taken-reached (Lock entry true) w k base v to l e = absurd (load-swap e)
-  taken-reached (Lock entry false) w k base v to l e = absurd (load-swap e)
+  taken-reached (Lock entry true) w k base v to l e = absurd (load-exchange e)
+  taken-reached (Lock entry false) w k base v to l e = absurd (load-exchange e)
   taken-reached (Exchange entry u) w k base v to l e =
       let x = entry-reached w.rows entry (k (λ n. n)).step in
-      (x.0, subst (λ b. Reached shape calm b x.0) (swap-word e) x.1)
-  taken-reached (Wait entry) w k base v to l e = absurd (load-swap e)
-  taken-reached (Info b kind kept) w k base v to l e = absurd (load-swap e)
+      (x.0, subst (λ b. Reached shape calm b x.0) (exchange-word e) x.1)
+  taken-reached (Wait entry) w k base v to l e = absurd (load-exchange e)
+  taken-reached (Info b kind kept) w k base v to l e = absurd (load-exchange e)
   taken-reached (Keys n) w k base v to l e = absurd (keys-swap n.kind n base v to l e)
-  taken-reached (FirstKeys n count) w k base v to l e = absurd (load-swap e)
-  taken-reached (SecondKeys n count first) w k base v to l e = absurd (load-swap e)
-  taken-reached (Index n j i) w k base v to l e = absurd (load-swap e)
-  taken-reached (LoadChild g slot) w k base v to l e = absurd (load-swap e)
-  taken-reached (Release n) w k base v to l e = absurd (store-swap e)
+  taken-reached (FirstKeys n count) w k base v to l e = absurd (load-exchange e)
+  taken-reached (SecondKeys n count first) w k base v to l e = absurd (load-exchange e)
+  taken-reached (Index n j i) w k base v to l e = absurd (load-exchange e)
+  taken-reached (LoadChild g slot) w k base v to l e = absurd (load-exchange e)
+  taken-reached (Release n) w k base v to l e = absurd (store-exchange e)
   taken-reached Over w k base v to l e = absurd (asks-answers (sym e))
 
 pub scans-take-reached : ScansTakeReached

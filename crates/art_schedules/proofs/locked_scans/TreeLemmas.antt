@@ -1,5 +1,5 @@
 -- A scan that knows the calm tree, in a run.
-use Rattle.std.proofs.Common.{◌≡◌, inl, inr, ℕ, List, [], ◌∷◌, ◌++◌, slice_index, refl, sym, ap, ◌∙◌, subst, true, false, arith}
+use Rattle.std.proofs.Common.{◌≡◌, inl, ℕ, List, [], ◌∷◌, ◌++◌, slice_index, refl, sym, ap, ◌∙◌, subst, true, false, arith}
 use Rattle.std.specs.Prelude.{slice_get, Option}
 use Rattle.std.proofs.lemmas.Bool.{false_from_ne_true}
 use Rattle.std.proofs.lemmas.Option.{same_Some}
@@ -14,6 +14,7 @@ use Rattle.art_steps.specs.declared.access.Access.TheVariants.{Exchange as Swap}
 use Rattle.art_steps.specs.declared.access.Point.{Point}
 use Rattle.art_steps.specs.Steps.{Asks}
 use Rattle.art_steps.specs.Rows.{Setting}
+use Rattle.art_steps.proofs.TurnLemmas.{asks-answers, load-exchange, store-exchange, exchange-word}
 use Rattle.art_stages.specs.declared.stage.Held.{Held}
 use Rattle.art_stages.specs.declared.stage.Entry.{Entry}
 use Rattle.art_stages.specs.declared.stage.Entry.TheVariants.{Root, Below}
@@ -29,7 +30,7 @@ use Rattle.art_core.specs.Meaning.{root, below}
 use Rattle.art_serial.specs.trees.Trees.{IsAtRest}
 use Rattle.art_serial.proofs.alone.WayLemmas.{leads-root}
 use Rattle.art_versions.specs.versions.Holding.{holds}
-use Rattle.art_versions.specs.versions.Locking.{lock_of, locks_of}
+use Rattle.art_versions.specs.versions.Locking.{lock_of}
 use Rattle.art_versions.specs.versions.Effects.{IsAmong}
 use Rattle.art_versions.specs.versions.Versions.{stage_of, held_by}
 use Rattle.art_schedules.specs.calm.Calm.{calm_of}
@@ -40,21 +41,16 @@ use Rattle.art_schedules.proofs.coupled.MadeLemmas.{Facts, facts}
 use Rattle.art_schedules.proofs.coupled.RowLemmas.{its-turn}
 use Rattle.art_schedules.specs.locked_scans.Walking.{IsAtScan}
 use Rattle.art_schedules.specs.locked_scans.Laws.{ScansTakeLive}
-use Rattle.art_schedules.proofs.locked_scans.TurnLemmas.{load-swap, store-swap, swap-word, asks-answers}
+use Rattle.art_schedules.proofs.work.LockedLemmas.{among-lock}
 
 key-scan : {stage : Stage} {low high : ℕ} {x : ScanAt} → OnKey stage ≡ OnScan low high x → ⊥
 key-scan e = cc
 
-pub among-lock : (h : Held) (hs : List Held) → IsAmong h hs → IsAmong (lock_of h) (locks_of hs)
-among-lock h [] a = a
-among-lock h (x ∷ hs) (inl e) = inl (ap lock_of e)
-among-lock h (x ∷ hs) (inr a) = inr (among-lock h hs a)
-
 pub keys-swap : (kind : Kind) (n : Held) (word v w : ℕ) (l : Option Point) → keys_turn kind n ≡ Asks (Swap word v w) l → ⊥
-keys-swap Four n word v w l e = load-swap e
-keys-swap Sixteen n word v w l e = load-swap e
-keys-swap FortyEight n word v w l e = load-swap e
-keys-swap Full n word v w l e = load-swap e
+keys-swap Four n word v w l e = load-exchange e
+keys-swap Sixteen n word v w l e = load-exchange e
+keys-swap FortyEight n word v w l e = load-exchange e
+keys-swap Full n word v w l e = load-exchange e
 
 module _ (shape : Shape) (s t : State) (p : ℕ) (first calm after : List ℕ) (f : Facts shape s t p first calm after) (claims : ℕ)
     (rest : IsAtRest shape claims calm) (leaving : ℕ → Option ℕ) (leave : ObsoleteLeave shape s calm leaving) (low high : ℕ) where
@@ -98,18 +94,18 @@ module _ (shape : Shape) (s t : State) (p : ℕ) (first calm after : List ℕ) (
     live-step : (step : ScanStep) → IsAtScan shape s p low high (at step w) → ((IsWalked step → ⊥) → KnowsTree shape calm (at step w)) → (h : Held)
         (l : Option Point)
         → scan_turn its (at step w) ≡ Asks (Swap h.base h.kept (locked_word h.kept)) l → slice_index s.words h.base ≡ h.kept → is_obsolete h.kept ≡ true → ⊥
-    live-step (Lock entry true) here k h l e is dead = load-swap e
-    live-step (Lock entry false) here k h l e is dead = load-swap e
+    live-step (Lock entry true) here k h l e is dead = load-exchange e
+    live-step (Lock entry false) here k h l e is dead = load-exchange e
     live-step (Exchange entry u) here k h l e is dead =
-        dead-entry u entry here (k (λ walked. walked)).step (ap (λ b. is_obsolete (slice_index s.words b)) (swap-word e) ∙ (ap is_obsolete is ∙ dead))
-    live-step (Wait entry) here k h l e is dead = load-swap e
-    live-step (Info base kind kept) here k h l e is dead = load-swap e
+        dead-entry u entry here (k (λ walked. walked)).step (ap (λ b. is_obsolete (slice_index s.words b)) (exchange-word e) ∙ (ap is_obsolete is ∙ dead))
+    live-step (Wait entry) here k h l e is dead = load-exchange e
+    live-step (Info base kind kept) here k h l e is dead = load-exchange e
     live-step (Keys n) here k h l e is dead = keys-swap n.kind n h.base h.kept (locked_word h.kept) l e
-    live-step (FirstKeys n count) here k h l e is dead = load-swap e
-    live-step (SecondKeys n count one) here k h l e is dead = load-swap e
-    live-step (Index n j i) here k h l e is dead = load-swap e
-    live-step (LoadChild g slot) here k h l e is dead = load-swap e
-    live-step (Release n) here k h l e is dead = store-swap e
+    live-step (FirstKeys n count) here k h l e is dead = load-exchange e
+    live-step (SecondKeys n count one) here k h l e is dead = load-exchange e
+    live-step (Index n j i) here k h l e is dead = load-exchange e
+    live-step (LoadChild g slot) here k h l e is dead = load-exchange e
+    live-step (Release n) here k h l e is dead = store-exchange e
     live-step Over here k h l e is dead = asks-answers (sym e)
 
 pub scans-take-live : ScansTakeLive

@@ -1,6 +1,6 @@
 -- No call of the optimistic tree stores the info word of a row that is settled: the info words of calm are those of the table.
-use Rattle.std.proofs.Common.{◌≡◌, ◌≢◌, ◌⊎◌, inl, inr, ℕ, ◌+◌, ◌*◌, ◌<◌, ◌≤◌, ◌==◌, List, [], ◌∷◌, slice_index, Bool, true, false, if◌then◌else◌}
-use Rattle.std.proofs.Common.{refl, sym, ap, ◌∙◌, subst, arith}
+use Rattle.std.proofs.Common.{◌≡◌, ◌≢◌, ◌⊎◌, inl, inr, ℕ, ◌+◌, ◌*◌, ◌<◌, ◌≤◌, ◌==◌, List, [], ◌∷◌, slice_index, Bool, true, false}
+use Rattle.std.proofs.Common.{refl, sym, ap, ◌∙◌, subst, arith, if◌then◌else◌}
 use Rattle.std.specs.Prelude.{nat_lt, Option, Some, None}
 use Rattle.std.proofs.lemmas.Bool.{cases_eq}
 use Rattle.events.specs.declared.event.Call.{Call}
@@ -9,13 +9,16 @@ use Rattle.art_rows.specs.declared.table.Kind.{Kind}
 use Rattle.art_rows.specs.declared.table.Kind.TheVariants.{Four, Sixteen, FortyEight, Full}
 use Rattle.art_rows.specs.Table.{capacity, row_words, kind_at, info_at, keys_at, more_keys_at, index_at, count_at, child_at}
 use Rattle.art_rows.proofs.WriterLemmas.{new_place-most}
+use Rattle.art_rows.proofs.KindLemmas.{seven-words}
+use Rattle.art_rows.proofs.ByteLemmas.{key_byte-small, keys4-few}
 use Rattle.art_serial.proofs.words.TableLemmas.{rows_apart, row_begins}
 use Rattle.art_steps.specs.declared.variant.Variant.TheVariants.{Optimistic}
-use Rattle.art_steps.specs.declared.access.Access.TheVariants.{Load, Store, Exchange as Swap, Add}
+use Rattle.art_steps.specs.declared.access.Access.TheVariants.{Store}
 use Rattle.art_steps.specs.declared.access.Point.{Point}
-use Rattle.art_steps.specs.Steps.{Asks, Answers}
-use Rattle.art_steps.specs.Rows.{Setting, is_insert}
+use Rattle.art_steps.specs.Steps.{Asks}
+use Rattle.art_steps.specs.Rows.{Setting}
 use Rattle.art_steps.specs.Updates.{next_kind}
+use Rattle.art_steps.proofs.TurnLemmas.{store-word, load-store, exchange-store, add-store, answers-asks}
 use Rattle.art_stages.specs.declared.stage.Held.{Held}
 use Rattle.art_stages.specs.declared.stage.Keys.{Keys}
 use Rattle.art_stages.specs.declared.stage.Hold.{Hold}
@@ -40,34 +43,12 @@ use Rattle.art_versions.specs.versions.Effects.{IsAmong}
 use Rattle.art_versions.specs.versions.Versions.{IsOpen, IsSettled, IsSound, stage_of}
 use Rattle.art_versions.proofs.versions.KeyLemmas.{slot-behind}
 use Rattle.art_versions.proofs.versions.MoveLemmas.{settled-row}
-use Rattle.art_versions.proofs.versions.WordFacts.{key_byte-small, keys4-most}
 use Rattle.art_schedules.specs.calm.Calm.{is_busy, IsCalm, calm_of}
 use Rattle.art_schedules.specs.calm.Changes.{RowChange, RowsStay, RowWritten, RowFilled, RowTaken, RowReleased, CalmStep}
 use Rattle.art_schedules.proofs.calm.VersionLemmas.{version-change, VersionChange, Stays, IsTaken, IsReleased}
 use Rattle.art_schedules.proofs.calm.InductionLemmas.{run-begins, last-step, step-of-run}
 use Rattle.art_schedules.proofs.calm.RunLemmas.{along-calm, calm-at}
 use Rattle.art_schedules.specs.optimistic.Laws.{InfosStayInRuns, CalmAgrees}
-
-store-same : {x v w u : ℕ} {m l : Option Point} → Asks (Store x v) m ≡ Asks (Store w u) l → x ≡ w
-store-same e = cc
-
-load-store : {x w u : ℕ} {m l : Option Point} → Asks (Load x) m ≡ Asks (Store w u) l → ⊥
-load-store e = cc
-
-swap-store : {x v y w u : ℕ} {m l : Option Point} → Asks (Swap x v y) m ≡ Asks (Store w u) l → ⊥
-swap-store e = cc
-
-add-store : {x w u : ℕ} {m l : Option Point} → Asks (Add x) m ≡ Asks (Store w u) l → ⊥
-add-store e = cc
-
-answers-store : {r : Rattle.events.specs.declared.event.Reply.Reply} {w u : ℕ} {l : Option Point} → Answers r ≡ Asks (Store w u) l → ⊥
-answers-store e = cc
-
-some-words : (kind : Kind) → 7 ≤ row_words kind
-some-words Four = omega arith
-some-words Sixteen = omega arith
-some-words FortyEight = omega arith
-some-words Full = omega arith
 
 -- the word is one of a row, and not its info
 record IsAway (shape : Shape) (word : ℕ) : Type 0 where
@@ -98,7 +79,7 @@ module _ (shape : Shape) (call : Call) (P : OfRows) (is-row : (b : ℕ) (k : Kin
       apart Full h e = omega (arith, h.2, e)
 
   away-base : (h : Held) → IsKept false P h → IsAway shape h.base
-  away-base h kept = away h.base h.kind h.base (is-row h.base h.kind kept.1) (omega arith) (omega (arith, some-words h.kind)) (λ e. omega (arith, e))
+  away-base h kept = away h.base h.kind h.base (is-row h.base h.kind kept.1) (omega arith) (omega (arith, seven-words h.kind)) (λ e. omega (arith, e))
 
   -- the word is no info, or it is that of the row that is filled
   abbrev Aims : List Named → ℕ → Type 0
@@ -115,56 +96,56 @@ module _ (shape : Shape) (call : Call) (P : OfRows) (is-row : (b : ℕ) (k : Kin
 
   pair : (p : Pair) (base : ℕ) (which : PairWord) (word value : ℕ) (mark : Option Point) → kind_at shape base ≡ Some Four
       → pair_turn c p base which ≡ Asks (Store word value) mark → Aims ((base, Four) ∷ []) word
-  pair p base pair_word.Info word value mark row e = inr (base, Four, refl, sym (store-same e))
-  pair p base pair_word.Keys word value mark row e = inl (to (keys_at base) word (store-same e) (away base Four _ row (omega arith) (omega arith)
+  pair p base pair_word.Info word value mark row e = inr (base, Four, refl, sym (store-word e))
+  pair p base pair_word.Keys word value mark row e = inl (to (keys_at base) word (store-word e) (away base Four _ row (omega arith) (omega arith)
       (λ f. omega (arith, f))))
-  pair p base pair_word.Lesser word value mark row e = inl (to (child_at Four base 0) word (store-same e) (away base Four _ row (omega arith)
+  pair p base pair_word.Lesser word value mark row e = inl (to (child_at Four base 0) word (store-word e) (away base Four _ row (omega arith)
       (omega arith) (λ f. omega (arith, f))))
-  pair p base pair_word.Greater word value mark row e = inl (to (child_at Four base 1) word (store-same e) (away base Four _ row (omega arith)
+  pair p base pair_word.Greater word value mark row e = inl (to (child_at Four base 1) word (store-word e) (away base Four _ row (omega arith)
       (omega arith) (λ f. omega (arith, f))))
 
   put-keys : (kind : Kind) (h : Hold) (keys : Keys) (word value : ℕ) (mark : Option Point) → kind_at shape h.row.base ≡ Some kind
       → put_keys_turn kind c h keys ≡ Asks (Store word value) mark → IsAway shape word
-  put-keys Four h keys word value mark row e = to (keys_at h.row.base) word (store-same e) (away h.row.base Four _ row (omega arith) (omega arith)
+  put-keys Four h keys word value mark row e = to (keys_at h.row.base) word (store-word e) (away h.row.base Four _ row (omega arith) (omega arith)
       (λ f. omega (arith, f)))
-  put-keys Sixteen h keys word value mark row e = to (keys_at h.row.base) word (store-same e) (away h.row.base Sixteen _ row (omega arith) (omega arith)
+  put-keys Sixteen h keys word value mark row e = to (keys_at h.row.base) word (store-word e) (away h.row.base Sixteen _ row (omega arith) (omega arith)
       (λ f. omega (arith, f)))
   put-keys FortyEight h keys word value mark row e =
       let small = key_byte-small (Rattle.art_steps.specs.Rows.key_of call) (row_at h.row).level in
-      to (index_at h.row.base (byte_in c h.row)) word (store-same e) (away h.row.base FortyEight _ row (omega arith) (omega (arith, small)) (λ f. omega
+      to (index_at h.row.base (byte_in c h.row)) word (store-word e) (away h.row.base FortyEight _ row (omega arith) (omega (arith, small)) (λ f. omega
       (arith, f)))
-  put-keys Full h keys word value mark row e = to h.row.base word (store-same e) (away h.row.base Full _ row (omega arith) (omega arith) (λ f. omega
+  put-keys Full h keys word value mark row e = to h.row.base word (store-word e) (away h.row.base Full _ row (omega arith) (omega arith) (λ f. omega
       (arith, f)))
 
   grown : (kind : Kind) (g : Growing) (place left word value : ℕ) (mark : Option Point) → kind_at shape g.base ≡ Some (next_kind kind) → IsCopied kind
       → place + left < capacity kind → Asks (Store (new_child_at kind c g place) value) None ≡ Asks (Store word value) mark → IsAway shape word
   grown Four g place left word value mark row copied less e =
-      to (new_child_at Four c g place) word (store-same e) (away-slot g.base Sixteen _ row (_, moved (nat_lt place (place_in c g.hold g.keys)) less, refl))
+      to (new_child_at Four c g place) word (store-word e) (away-slot g.base Sixteen _ row (_, moved (nat_lt place (place_in c g.hold g.keys)) less, refl))
     where
       moved : (b : Bool) → place + left < 4 → (if b then place else place + 1) < 16
       moved true h = omega (arith, h)
       moved false h = omega (arith, h)
   grown Sixteen g place left word value mark row copied less e =
-      to (child_at FortyEight g.base place) word (store-same e) (away-slot g.base FortyEight _ row (place, omega (arith, less), refl))
+      to (child_at FortyEight g.base place) word (store-word e) (away-slot g.base FortyEight _ row (place, omega (arith, less), refl))
   grown FortyEight g place left word value mark row copied less e = absurd copied
   grown Full g place left word value mark row copied less e = absurd copied
 
   grown-leaf : (kind : Kind) (g : Growing) (word value : ℕ) (mark : Option Point) → g.hold.row.kind ≡ kind → kind_at shape g.base ≡ Some (next_kind kind)
       → grow_leaf_turn kind c g ≡ Asks (Store word value) mark → IsAway shape word
   grown-leaf Four g word value mark is row e =
-      let few = keys4-most g.keys.first in
+      let few = keys4-few g.keys.first in
       let most = new_place-most (byte_in c g.hold.row) (keys_in Four g.keys) in
       let place : place_in c g.hold g.keys ≡ Rattle.art_rows.specs.Words.new_place (byte_in c g.hold.row) (keys_in Four g.keys) =
       ap (λ k. Rattle.art_rows.specs.Words.new_place (byte_in c g.hold.row) (keys_in k g.keys)) is in
-      to (child_at Sixteen g.base (place_in c g.hold g.keys)) word (store-same e)
+      to (child_at Sixteen g.base (place_in c g.hold g.keys)) word (store-word e)
       (away-slot g.base Sixteen _ row (place_in c g.hold g.keys, omega (arith, few, most, place), refl))
   grown-leaf Sixteen g word value mark is row e =
-      to (child_at FortyEight g.base 16) word (store-same e) (away-slot g.base FortyEight _ row (16, omega arith, refl))
+      to (child_at FortyEight g.base 16) word (store-word e) (away-slot g.base FortyEight _ row (16, omega arith, refl))
   grown-leaf FortyEight g word value mark is row e =
-      to (child_at Full g.base (byte_in c g.hold.row)) word (store-same e)
+      to (child_at Full g.base (byte_in c g.hold.row)) word (store-word e)
       (away-slot g.base Full _ row (byte_in c g.hold.row, key_byte-small (Rattle.art_steps.specs.Rows.key_of call) (row_at g.hold.row).level, refl))
   grown-leaf Full g word value mark is row e =
-      to (child_at Full g.base (byte_in c g.hold.row)) word (store-same e)
+      to (child_at Full g.base (byte_in c g.hold.row)) word (store-word e)
       (away-slot g.base Full _ row (byte_in c g.hold.row, key_byte-small (Rattle.art_steps.specs.Rows.key_of call) (row_at g.hold.row).level, refl))
 
   grown-keys : (kind : Kind) (g : Growing) (place left word value : ℕ) (mark : Option Point) → kind_at shape g.base ≡ Some (next_kind kind) → IsCopied kind
@@ -176,19 +157,19 @@ module _ (shape : Shape) (call : Call) (P : OfRows) (is-row : (b : ℕ) (k : Kin
           else Asks (Store (more_keys_at g.base) (Rattle.art_rows.specs.Words.more_keys16_word
           (Rattle.art_stages.specs.Stages.keys_after c g.hold g.keys))) None)
           ≡ Asks (Store word value) mark → IsAway shape word
-      go true e = to (keys_at g.base) word (store-same e) (away g.base Sixteen _ row (omega arith) (omega arith) (λ f. omega (arith, f)))
-      go false e = to (more_keys_at g.base) word (store-same e) (away g.base Sixteen _ row (omega arith) (omega arith) (λ f. omega (arith, f)))
+      go true e = to (keys_at g.base) word (store-word e) (away g.base Sixteen _ row (omega arith) (omega arith) (λ f. omega (arith, f)))
+      go false e = to (more_keys_at g.base) word (store-word e) (away g.base Sixteen _ row (omega arith) (omega arith) (λ f. omega (arith, f)))
   grown-keys Sixteen g place left word value mark row copied less e =
-      to (index_at g.base (8 * place)) word (store-same e) (away g.base FortyEight _ row (omega arith) (omega (arith, less)) (λ f. omega (arith, f)))
+      to (index_at g.base (8 * place)) word (store-word e) (away g.base FortyEight _ row (omega arith) (omega (arith, less)) (λ f. omega (arith, f)))
   grown-keys FortyEight g place left word value mark row copied less e = absurd copied
   grown-keys Full g place left word value mark row copied less e = absurd copied
 
   grown-count : (kind : Kind) (g : Growing) (word value : ℕ) (mark : Option Point) → kind_at shape g.base ≡ Some (next_kind kind) → IsCopied kind
       → grow_count_turn kind g ≡ Asks (Store word value) mark → IsAway shape word
   grown-count Four g word value mark row copied e =
-      to (count_at Sixteen g.base) word (store-same e) (away g.base Sixteen _ row (omega arith) (omega arith) (λ f. omega (arith, f)))
+      to (count_at Sixteen g.base) word (store-word e) (away g.base Sixteen _ row (omega arith) (omega arith) (λ f. omega (arith, f)))
   grown-count Sixteen g word value mark row copied e =
-      to (count_at FortyEight g.base) word (store-same e) (away g.base FortyEight _ row (omega arith) (omega arith) (λ f. omega (arith, f)))
+      to (count_at FortyEight g.base) word (store-word e) (away g.base FortyEight _ row (omega arith) (omega arith) (λ f. omega (arith, f)))
   grown-count FortyEight g word value mark row copied e = absurd copied
   grown-count Full g word value mark row copied e = absurd copied
 
@@ -201,14 +182,14 @@ module _ (shape : Shape) (call : Call) (P : OfRows) (is-row : (b : ℕ) (k : Kin
       → (info_at h.base < count_at kind h.base) → (count_at kind h.base < h.base + row_words kind)
       → Asks (Store (count_at h.kind h.base) v) None ≡ Asks (Store word value) mark → IsAway shape word
   counts h kind is row word value mark v low high e =
-      to (count_at h.kind h.base) word (store-same e)
+      to (count_at h.kind h.base) word (store-word e)
       (subst (λ x. IsAway shape x) (ap (λ k. count_at k h.base) (sym is))
       (away h.base kind (count_at kind h.base) (row ∙ ap Some is) (omega (arith, low)) high (λ f. omega (arith, f, low))))
 
   aims : (stage : Stage) → KnowsKey P c stage → (word value : ℕ) (mark : Option Point) → turn_at c stage ≡ Asks (Store word value) mark
       → Aims (row_filled stage) word
   aims (Lock t first) k word value mark e = absurd k.fits.0
-  aims (Exchange t v) k word value mark e = absurd (swap-store e)
+  aims (Exchange t v) k word value mark e = absurd (exchange-store e)
   aims (Wait t) k word value mark e = absurd (load-store e)
   aims (Leave d) k word value mark e = absurd k.fits
   aims (Between d kept) k word value mark e = absurd (load-store e)
@@ -221,25 +202,25 @@ module _ (shape : Shape) (call : Call) (P : OfRows) (is-row : (b : ℕ) (k : Kin
   aims (Check p f) k word value mark e = absurd (load-store e)
   aims (CheckLast n) k word value mark e = absurd (load-store e)
   aims (LetGo above p f) k word value mark e = absurd k.fits
-  aims (Take t) k word value mark e = absurd (swap-store e)
+  aims (Take t) k word value mark e = absurd (exchange-store e)
   aims (Write h slot v reply) k word value mark e =
-      inl (to slot word (store-same e) (away-slot h.row.base h.row.kind slot (is-row h.row.base h.row.kind k.kept.0.1) k.fits))
+      inl (to slot word (store-word e) (away-slot h.row.base h.row.kind slot (is-row h.row.base h.row.kind k.kept.0.1) k.fits))
   aims (ClaimPair h p) k word value mark e = absurd (add-store e)
   aims (StorePair h p base which) k word value mark e = pair p base which word value mark k.filled.0 e
   aims (PutLoad h keys left) k word value mark e = absurd (load-store e)
-  aims (PutStore h keys left v) k word value mark e = inl (to _ word (store-same e)
+  aims (PutStore h keys left v) k word value mark e = inl (to _ word (store-word e)
       (away-slot h.row.base h.row.kind _ (is-row h.row.base h.row.kind k.kept.0.1) (place_in c h keys + left + 1, k.fits.1, refl)))
-  aims (PutLeaf h keys) k word value mark e = inl (to _ word (store-same e)
+  aims (PutLeaf h keys) k word value mark e = inl (to _ word (store-word e)
       (away-slot h.row.base h.row.kind _ (is-row h.row.base h.row.kind k.kept.0.1) (leaf_place h.row.kind c h keys, k.fits.1, refl)))
   aims (PutKeys h keys) k word value mark e = inl (put-keys h.row.kind h keys word value mark (is-row h.row.base h.row.kind k.kept.0.1) e)
-  aims (PutMore h keys) k word value mark e = inl (to (more_keys_at h.row.base) word (store-same e)
+  aims (PutMore h keys) k word value mark e = inl (to (more_keys_at h.row.base) word (store-word e)
       (away h.row.base Sixteen _ (is-row h.row.base h.row.kind k.kept.0.1 ∙ ap Some k.fits) (omega arith) (omega arith) (λ f. omega (arith, f))))
   aims (PutCount h keys) k word value mark e = inl (elim k.fits [
     | inl is ↦ counts h.row Sixteen is (is-row h.row.base h.row.kind k.kept.0.1) word value mark _ (omega arith) (omega arith) e
     | inr is ↦ counts h.row FortyEight is (is-row h.row.base h.row.kind k.kept.0.1) word value mark _ (omega arith) (omega arith) e
   ])
   aims (ClaimGrow h slot keys) k word value mark e = absurd (add-store e)
-  aims (GrowInfo g) k word value mark e = inr (g.base, next_kind g.hold.row.kind, refl, sym (store-same e))
+  aims (GrowInfo g) k word value mark e = inr (g.base, next_kind g.hold.row.kind, refl, sym (store-word e))
   aims (GrowLoad g place left) k word value mark e = absurd (load-store e)
   aims (GrowStore g place left v) k word value mark e =
       inl (grown g.hold.row.kind g place left word v mark k.filled.0 k.fits.1 k.fits.2 (restored e))
@@ -249,16 +230,16 @@ module _ (shape : Shape) (call : Call) (P : OfRows) (is-row : (b : ℕ) (k : Kin
       restored e = cc
   aims (SpreadIndex g place left) k word value mark e = absurd (load-store e)
   aims (SpreadLoad s entry left) k word value mark e = absurd (load-store e)
-  aims (SpreadStore s entry left v) k word value mark e = inl (to _ word (store-same e)
+  aims (SpreadStore s entry left v) k word value mark e = inl (to _ word (store-word e)
       (away-slot s.growing.base Full _ (k.filled.0 ∙ ap (λ x. Some (next_kind x)) k.fits.1)
       (8 * s.place + entry, omega (arith, k.fits.2, k.fits.3), refl)))
   aims (GrowLeaf g) k word value mark e = inl (grown-leaf g.hold.row.kind g word value mark refl k.filled.0 e)
   aims (GrowKeys g place left) k word value mark e = inl (grown-keys g.hold.row.kind g place left word value mark k.filled.0 k.fits.1 k.fits.2 e)
   aims (GrowCount g) k word value mark e = inl (grown-count g.hold.row.kind g word value mark k.filled.0 k.fits.1 e)
-  aims (Hang g) k word value mark e = inl (to g.slot word (store-same e) (hung g.hold.above g.slot k.fits k.kept.1))
-  aims (Obsolete h) k word value mark e = inl (to h.row.base word (store-same e) (away-base h.row k.kept.0))
-  aims (Unlock h outcome) k word value mark e = inl (to h.row.base word (store-same e) (away-base h.row k.kept.0))
-  aims (Over outcome) k word value mark e = absurd (answers-store e)
+  aims (Hang g) k word value mark e = inl (to g.slot word (store-word e) (hung g.hold.above g.slot k.fits k.kept.1))
+  aims (Obsolete h) k word value mark e = inl (to h.row.base word (store-word e) (away-base h.row k.kept.0))
+  aims (Unlock h outcome) k word value mark e = inl (to h.row.base word (store-word e) (away-base h.row k.kept.0))
+  aims (Over outcome) k word value mark e = absurd (answers-asks e)
 
   -- of a call that holds a row
   at-aims : (at : CallAt) → Knows P c at → (h : Held) → IsAmong h (holds c at) → (word value : ℕ) (mark : Option Point)
@@ -275,7 +256,7 @@ module _ (shape : Shape) (n : ℕ) (s : State) (sound : IsSound Optimistic shape
   info-row : (base : ℕ) (kind : Kind) (b : ℕ) (k : Kind) (word : ℕ) → kind_at shape base ≡ Some kind → kind_at shape b ≡ Some k → b ≤ word
       → word < b + row_words k → info_at base ≡ word → b ≡ base
   info-row base kind b k word row other from within is =
-      (rows_apart shape b base k kind word other row from within (omega (arith, is)) (omega (arith, is, some-words kind))).0
+      (rows_apart shape b base k kind word other row from within (omega (arith, is)) (omega (arith, is, seven-words kind))).0
 
   -- the row is not the one that a process fills
   unfilled : (base : ℕ) (kind : Kind) → IsSettled Optimistic shape s base kind → (p : ℕ) (call : Call) (q : Process) → IsOpen s p call q → (b : ℕ) (k : Kind)
@@ -304,12 +285,12 @@ module _ (shape : Shape) (n : ℕ) (s : State) (sound : IsSound Optimistic shape
   info-stays (RowTaken h asks rows with held-then kept was is others) base kind settled = others (info_at base) (λ e.
       let same = info-row base kind h.base h.kind h.base (settled-row Optimistic shape s base kind settled)
       (settled-row Optimistic shape s h.base h.kind kept.1)
-      (omega arith) (omega (arith, some-words h.kind)) e in
+      (omega arith) (omega (arith, seven-words h.kind)) e in
       omega (arith, e, same))
   info-stays (RowReleased h value asks rest with held-then kept written is others) base kind settled = others (info_at base) (λ e.
       let same = info-row base kind h.base h.kind h.base (settled-row Optimistic shape s base kind settled)
       (settled-row Optimistic shape s h.base h.kind kept.1)
-      (omega arith) (omega (arith, some-words h.kind)) e in
+      (omega arith) (omega (arith, seven-words h.kind)) e in
       omega (arith, e, same))
 
   -- calm's info words are the present ones, of settled rows
@@ -329,10 +310,10 @@ module _ (shape : Shape) (n : ℕ) (s : State) (sound : IsSound Optimistic shape
       was busy (IsReleased v free is later x) = x
 
       go : (b : Bool) → is_busy (slice_index t.words base) ≡ b → slice_index after (info_at base) ≡ slice_index t.words (info_at base)
-      go false e = behind.free base kind row e (info_at base) (omega arith) (omega (arith, some-words kind))
+      go false e = behind.free base kind row e (info_at base) (omega arith) (omega (arith, seven-words kind))
       go true e =
           let x = was e (version-change Optimistic shape n s sound p t base kind row made.rows) in
-          made.busy base kind row e (info_at base) (omega arith) (omega (arith, some-words kind)) ∙ (here base kind x ∙ sym (info-stays made.rows base kind x))
+          made.busy base kind row e (info_at base) (omega arith) (omega (arith, seven-words kind)) ∙ (here base kind x ∙ sym (info-stays made.rows base kind x))
 
 -- ---- runs
 

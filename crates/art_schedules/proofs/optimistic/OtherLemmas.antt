@@ -5,7 +5,6 @@ use Rattle.std.specs.Prelude.{Option, Some}
 use Rattle.std.proofs.lemmas.Bool.{cases_eq, false≢true}
 use Rattle.events.specs.declared.event.Call.{Call}
 use Rattle.art_rows.specs.declared.table.Shape.{Shape}
-use Rattle.art_rows.specs.Table.{row_words}
 use Rattle.art_rows.specs.Words.{is_obsolete}
 use Rattle.art_steps.specs.declared.variant.Variant.TheVariants.{Optimistic}
 use Rattle.art_steps.specs.Rows.{is_insert}
@@ -17,7 +16,7 @@ use Rattle.art_core.specs.declared.process.Process.{Process}
 use Rattle.art_core.specs.Core.{State, opened_on}
 use Rattle.art_serial.specs.trees.Trees.{SameRow}
 use Rattle.art_versions.specs.versions.Holding.{Each, IsKept, Knows, holds}
-use Rattle.art_versions.specs.versions.Locking.{lock_of, locks_of, rows_held}
+use Rattle.art_versions.specs.versions.Locking.{lock_of, rows_held}
 use Rattle.art_versions.specs.versions.Effects.{IsAmong}
 use Rattle.art_versions.specs.versions.Versions.{IsOpen, IsHeld, IsSettled, IsSound, stage_of, held_by}
 use Rattle.art_versions.specs.versions.Writers.{WritesOwn, MayWrite}
@@ -35,11 +34,7 @@ use Rattle.art_schedules.specs.optimistic.Laws.{IsStill}
 use Rattle.art_schedules.specs.optimistic.Steps.{OtherStepsKeepWays}
 use Rattle.art_schedules.proofs.optimistic.InfoLemmas.{infos-stay, calm-agrees}
 use Rattle.art_schedules.proofs.optimistic.StayLemmas.{ways-are-kept}
-
--- what is so of each lock is so of each row
-each-of : (Q : Held → Type 0) (hs : List Held) → ((h : Held) → IsAmong (lock_of h) (locks_of hs) → Q h) → Each Q hs
-each-of Q [] f = tt
-each-of Q (h ∷ hs) f = (f h (inl refl), each-of Q hs (λ x among. f x (inr among)))
+use Rattle.art_schedules.proofs.effects.OtherLemmas.{each-of}
 
 taken-live : (v : ℕ) → v % 4 ≡ 0 → is_obsolete (v + 2) ≡ false
 taken-live v e = ne_eqb ((v + 2) % 2) 1 (λ f. omega (arith, e, f))

@@ -1,6 +1,6 @@
 -- A step of a call that knows its way.
 use Rattle.std.proofs.Common.{◌≡◌, ◌≢◌, ◌⊎◌, inl, inr, ℕ, ◌+◌, ◌-◌, ◌%◌, ◌<◌, ◌≤◌, ◌==◌, List, [], ◌∷◌, ◌++◌, length, slice_index, Option, Some, None}
-use Rattle.std.proofs.Common.{Bool, true, false, if◌then◌else◌, refl, sym, ap, ◌∙◌, subst, arith, eqb-true, option_map}
+use Rattle.std.proofs.Common.{Bool, true, false, refl, sym, ap, ◌∙◌, subst, arith, eqb-true, option_map, if◌then◌else◌}
 use Rattle.std.specs.Prelude.{nat_le}
 use Rattle.std.proofs.lemmas.Bool.{false≢true, eqb-false}
 use Rattle.std.proofs.lemmas.Option.{none-some}
@@ -17,6 +17,8 @@ use Rattle.art_rows.specs.declared.table.Child.TheVariants.{Empty, Row as ChildR
 use Rattle.art_rows.specs.Table.{capacity, row_words, root_base, info_at, keys_at, more_keys_at, index_at, count_at, child_at}
 use Rattle.art_rows.specs.Words.{is_locked, is_obsolete, key_bytes, first_difference, info_of, keys4_of}
 use Rattle.art_rows.specs.Words.{keys16_of, place_of, entries_of, child_of, child_word, count_of}
+use Rattle.art_rows.proofs.KindLemmas.{seven-words}
+use Rattle.art_rows.proofs.ByteLemmas.{key_byte-small}
 use Rattle.art_steps.specs.declared.variant.Variant.TheVariants.{Optimistic}
 use Rattle.art_steps.specs.TreeCalls.{is_tree_call}
 use Rattle.art_steps.specs.Rows.{Setting, key_of, is_insert, is_scan, path_differs_at}
@@ -52,7 +54,7 @@ use Rattle.art_versions.specs.versions.Holding.{Each, Fits, IsKept, IsUnder, Fit
 use Rattle.art_versions.specs.versions.Locking.{all_of, rows_held}
 use Rattle.art_versions.specs.versions.Effects.{IsBehindVersion}
 use Rattle.art_versions.proofs.versions.KeyLemmas.{slot-behind}
-use Rattle.art_versions.proofs.versions.WordFacts.{not-full, count-most, key_byte-small}
+use Rattle.art_versions.proofs.versions.WordFacts.{not-full, count-most}
 use Rattle.art_schedules.specs.calm.Calm.{is_busy}
 use Rattle.art_schedules.proofs.changes.SayingLemmas.{ways-are-paths}
 use Rattle.art_schedules.specs.work.Works.{RowsOf, IsInsert, LacksByte}
@@ -65,12 +67,6 @@ use Rattle.art_schedules.specs.optimistic.Laws.{WaysBegin, WaysGoOn, FindingsSta
 use Rattle.art_schedules.proofs.calm.VersionLemmas.{unmarked-free}
 
 -- ---- words, bytes and calls
-
-five-words : (kind : Kind) → 7 ≤ row_words kind
-five-words Four = omega arith
-five-words Sixteen = omega arith
-five-words FortyEight = omega arith
-five-words Full = omega arith
 
 insert-of : (call : Call) → is_tree_call call ≡ true → is_insert call ≡ true → IsInsert call
 insert-of (Insert key value) tree e = record { key = key; value = value; is = refl; small = grind (arith, tree) }
@@ -642,11 +638,11 @@ module _ (shape : Shape) (call : Call) (tree : is_tree_call call ≡ true) (key-
   next i e (FindKeys p count) w k kept fits past own got = GoesOn (knows i e None _ (
     k.0,
     k.1,
-    λ st. (k.2 st, calm-word p.row kept.0 (keys_at p.row.base) w (omega arith, omega (arith, five-words p.row.kind)) (got _ _ refl) st),
+    λ st. (k.2 st, calm-word p.row kept.0 (keys_at p.row.base) w (omega arith, omega (arith, seven-words p.row.kind)) (got _ _ refl) st),
   ) past tt)
   next i e (FindMore p count first) w k kept fits past own got =
       more i e p.row.base p.row.kind p.row.info p.row.kept p.above p.slot count first w k.1 (at-row p k.0 kept.0 past) k.2
-      (calm-word p.row kept.0 (more_keys_at p.row.base) w (omega arith, omega (arith, five-words p.row.kind)) (got _ _ refl))
+      (calm-word p.row kept.0 (more_keys_at p.row.base) w (omega arith, omega (arith, seven-words p.row.kind)) (got _ _ refl))
   next i e (FindCount p index) w k kept fits past own got =
       counted i e p.row.base p.row.kind p.row.info p.row.kept p.above p.slot index w k.1 (at-row p k.0 kept.0 past) k.2 got
   next i e (Slot p slot) w k kept fits past own got =

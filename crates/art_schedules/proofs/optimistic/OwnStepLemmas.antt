@@ -1,6 +1,6 @@
 -- A step of the call's own, in a run.
 use Rattle.std.proofs.Common.{◌≡◌, ◌≢◌, ◌⊎◌, inl, inr, ℕ, ◌+◌, ◌<◌, ◌≤◌, ◌==◌, List, [], ◌∷◌, ◌++◌, slice_index, slice_set}
-use Rattle.std.proofs.Common.{Bool, true, false, if◌then◌else◌, refl, sym, ap, ◌∙◌, subst, arith, eq-eqb, ne_eqb}
+use Rattle.std.proofs.Common.{Bool, true, false, refl, sym, ap, ◌∙◌, subst, arith, eq-eqb, ne_eqb, if◌then◌else◌}
 use Rattle.std.specs.Prelude.{slice_get, Option, Some, None}
 use Rattle.std.proofs.lemmas.Bool.{cases_eq, cases_lt}
 use Rattle.std.proofs.lemmas.List.{set-get_or}
@@ -14,6 +14,7 @@ use Rattle.art_rows.specs.declared.table.Kind.{Kind}
 use Rattle.art_rows.specs.declared.table.Kind.TheVariants.{Four, Sixteen, FortyEight, Full}
 use Rattle.art_rows.specs.Table.{row_words, kind_at, claims_of}
 use Rattle.art_rows.specs.Words.{is_locked, is_obsolete, locked_word, released_word}
+use Rattle.art_rows.proofs.KindLemmas.{some-words, claims-few}
 use Rattle.art_serial.proofs.words.TableLemmas.{rows_apart, row_begins, row_ends}
 use Rattle.art_steps.specs.declared.variant.Variant.TheVariants.{Optimistic}
 use Rattle.art_steps.specs.declared.access.Access.{Access}
@@ -25,6 +26,7 @@ use Rattle.art_steps.specs.TreeCalls.{is_tree_call}
 use Rattle.art_steps.specs.Rows.{Setting, is_insert, is_scan}
 use Rattle.art_steps.specs.Act.{act}
 use Rattle.art_steps.specs.Fits.{word_of}
+use Rattle.art_steps.proofs.TurnLemmas.{asks-same, load-store, exchange-store}
 use Rattle.art_stages.specs.declared.stage.Held.{Held}
 use Rattle.art_stages.specs.declared.stage.Hold.{Hold}
 use Rattle.art_stages.specs.declared.stage.Taking.{Taking}
@@ -42,13 +44,16 @@ use Rattle.art_core.specs.Plans.{IsRun}
 use Rattle.art_core.specs.Meaning.{Reached, Means}
 use Rattle.art_core.proofs.HistoryLemmas.{is-moved}
 use Rattle.art_serial.specs.trees.Trees.{IsAtRest, SameRow, WaysLeadToValues, LeavesAreSmall}
+use Rattle.art_serial.proofs.writes.StoreLemmas.{stored-at}
+use Rattle.art_serial.proofs.serial.OrderlyLemmas.{set-here}
+use Rattle.art_serial.proofs.words.VersionLemmas.{obsolete_released}
 use Rattle.art_versions.specs.versions.Effects.{IsAmong}
 use Rattle.art_versions.specs.versions.Holding.{Each, IsKept, Fits, FitsTaking, Knows, KnowsKey, holds, rows_kept}
 use Rattle.art_versions.specs.versions.Locking.{lock_of, all_of, rows_held}
 use Rattle.art_versions.specs.versions.Versions.{IsOpen, IsSettled, stage_of, held_by}
-use Rattle.art_versions.proofs.versions.ChangeLemmas.{index-same, index-other, set-same}
+use Rattle.art_versions.proofs.versions.ChangeLemmas.{index-other}
 use Rattle.art_versions.proofs.versions.KnownLemmas.{knows-more}
-use Rattle.art_versions.proofs.versions.MoveLemmas.{settled-row, claims-low, some-words}
+use Rattle.art_versions.proofs.versions.MoveLemmas.{settled-row}
 use Rattle.art_versions.proofs.versions.StepLemmas.{after-more, next-turn}
 use Rattle.art_versions.proofs.versions.WordFacts.{version-free}
 use Rattle.art_schedules.specs.calm.Calm.{is_busy, calm_of, IsCalm}
@@ -56,7 +61,7 @@ use Rattle.art_schedules.specs.calm.Changes.{CalmStep, IsOutside}
 use Rattle.art_schedules.proofs.calm.InductionLemmas.{run-begins, last-step, step-of-run}
 use Rattle.art_schedules.proofs.calm.RunLemmas.{step-at, calm-at}
 use Rattle.art_schedules.proofs.calm.UseLemmas.{without-store, with-released}
-use Rattle.art_schedules.proofs.calm.VersionLemmas.{free-busy, free-parts, released-free, released-same, not-behind}
+use Rattle.art_schedules.proofs.calm.VersionLemmas.{free-busy, free-parts, released-free, not-behind}
 use Rattle.art_schedules.specs.changes.Follows.{KeepsTree}
 use Rattle.art_schedules.specs.work.Works.{RowsOf}
 use Rattle.art_schedules.specs.effects.Begins.{BeginsWork}
@@ -66,15 +71,6 @@ use Rattle.art_schedules.specs.optimistic.Steps.{IsAtStage, StepsOn, OwnStepsGoO
 use Rattle.art_schedules.proofs.calm.VersionLemmas.{unmarked-free}
 use Rattle.art_schedules.proofs.optimistic.InfoLemmas.{calm-agrees}
 use Rattle.art_schedules.proofs.optimistic.OwnLemmas.{ways-go-on, findings-stay}
-
-asks-same : {a b : Access} {m l : Option Point} → Asks a m ≡ Asks b l → a ≡ b
-asks-same e = cc
-
-load-store : {x w u : ℕ} {m l : Option Point} → Asks (Load x) m ≡ Asks (Store w u) l → ⊥
-load-store e = cc
-
-swap-store : {x v y w u : ℕ} {m l : Option Point} → Asks (Swap x v y) m ≡ Asks (Store w u) l → ⊥
-swap-store e = cc
 
 -- ---- the access of a step
 
@@ -115,7 +111,7 @@ makes plan s t p call q stage a mark v e at turn = record {
     later = after_move p (Makes a) (slice_index s.words (word_of a)) q
 
     own : slice_get t.processes p ≡ Some later
-    own = ap (λ u. slice_get u.processes p) now ∙ set-same s.processes p q later at.0.own
+    own = ap (λ u. slice_get u.processes p) now ∙ set-here s.processes p q later at.0.own
 
     there : stage_of Optimistic plan.shape call later ≡ OnKey (stage_after c stage (got_by a s.words))
     there = after-more c (call_begun c) q.got (told a (slice_index s.words (word_of a))) ∙ ap (λ x. call_after c x (got_by a s.words)) at.1
@@ -315,7 +311,7 @@ module _ (plan : Plan) (start : Contents) (first schedule : List ℕ) (p : ℕ) 
         other-word word d = ap (λ l. slice_index l word) did.words ∙ index-other s.words x.row.base _ word d
 
         calm-is : after ≡ calm
-        calm-is = calm-same call q at.0 (λ w u l f. swap-store (sym (its-turn _ _ turn) ∙ f))
+        calm-is = calm-same call q at.0 (λ w u l f. exchange-store (sym (its-turn _ _ turn) ∙ f))
             (λ w small. other-word w (λ f. omega (arith, f, small, high)))
 
         -- it was not as it had been
@@ -329,7 +325,7 @@ module _ (plan : Plan) (start : Contents) (first schedule : List ℕ) (p : ℕ) 
           unfolding words-if
           locked =
               ap (λ l. slice_index l x.row.base) (did.words ∙ ap words-if (eq-eqb value x.row.kept st))
-              ∙ index-same s.words x.row.base (locked_word x.row.kept)
+              ∙ stored-at s.words x.row.base (locked_word x.row.kept)
               (omega (arith, row_ends shape x.row.base x.row.kind row-at, made.before.long, some-words x.row.kind))
 
           free : is_busy x.row.kept ≡ false
@@ -433,14 +429,14 @@ module _ (plan : Plan) (start : Contents) (first schedule : List ℕ) (p : ℕ) 
 
         version : slice_index t.words h.row.base ≡ released_word h.row.kept
         version = ap (λ l. slice_index l h.row.base) did-go.words
-            ∙ index-same s.words h.row.base (released_word h.row.kept)
+            ∙ stored-at s.words h.row.base (released_word h.row.kept)
             (omega (arith, row_ends shape h.row.base h.row.kind here, made.before.long, some-words h.row.kind))
 
         no-lock : is_locked (released_word h.row.kept) ≡ false
         no-lock = released-free h.row.kept (version-free false h.row.kept kept-row.0)
 
         alive : is_obsolete (released_word h.row.kept) ≡ false
-        alive = released-same h.row.kept ∙ (free-parts h.row.kept (unmarked-free h.row.kept kept-row.0)).1
+        alive = obsolete_released h.row.kept ∙ (free-parts h.row.kept (unmarked-free h.row.kept kept-row.0)).1
 
         calm-row : (word : ℕ) → h.row.base ≤ word → word < h.row.base + row_words h.row.kind → slice_index after word ≡ slice_index t.words word
         calm-row word low less =
@@ -504,7 +500,7 @@ module _ (plan : Plan) (start : Contents) (first schedule : List ℕ) (p : ℕ) 
           steps-on _ did-go (record {
             long = is-calm.long ∙ sym was-calm.long;
             small = is-calm.small;
-            claims = λ kind. omega (arith, low-same (claims_of kind) (claims-low kind));
+            claims = λ kind. omega (arith, low-same (claims_of kind) (claims-few kind));
             same = same-tree;
             unlocked = is-calm.unlocked;
             live = live;

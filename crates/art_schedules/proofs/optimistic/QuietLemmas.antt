@@ -1,15 +1,14 @@
 -- Steps without a store.
 use Rattle.std.proofs.Common.{◌≡◌, ℕ, ◌≤◌, List, [], ◌∷◌, ◌++◌, slice_index, refl, sym, ◌∙◌, arith, false, true}
-use Rattle.std.specs.Prelude.{Option}
-use Rattle.events.specs.declared.event.Reply.{Reply}
 use Rattle.art_rows.specs.declared.table.Kind.{Kind}
 use Rattle.art_rows.specs.declared.table.Kind.TheVariants.{Four, Sixteen, FortyEight, Full}
 use Rattle.art_rows.specs.Table.{claims_of}
 use Rattle.art_rows.specs.Words.{released_word}
+use Rattle.art_rows.proofs.KindLemmas.{claims-few}
 use Rattle.art_steps.specs.declared.variant.Variant.TheVariants.{Optimistic}
-use Rattle.art_steps.specs.declared.access.Access.TheVariants.{Load, Store, Exchange as Swap}
-use Rattle.art_steps.specs.declared.access.Point.{Point}
-use Rattle.art_steps.specs.Steps.{Asks, Answers}
+use Rattle.art_steps.specs.declared.access.Access.TheVariants.{Store}
+use Rattle.art_steps.specs.Steps.{Asks}
+use Rattle.art_steps.proofs.TurnLemmas.{load-store, exchange-store, answers-asks}
 use Rattle.art_stages.specs.declared.stage.Held.{Held}
 use Rattle.art_stages.specs.declared.stage.ScanStep.{ScanStep}
 use Rattle.art_stages.specs.declared.stage.ScanStep.TheVariants.{Lock, Exchange, Wait, Info, Keys}
@@ -17,22 +16,12 @@ use Rattle.art_stages.specs.declared.stage.ScanStep.TheVariants.{FirstKeys, Seco
 use Rattle.art_stages.specs.Stages.{setting}
 use Rattle.art_stages.specs.Scans.{Walk, at, scan_turn, keys_turn}
 use Rattle.art_core.specs.Core.{opened_on}
-use Rattle.art_versions.proofs.versions.MoveLemmas.{claims-low}
 use Rattle.art_schedules.specs.calm.Calm.{calm_of, IsCalm}
 use Rattle.art_schedules.specs.calm.Changes.{CalmChange, CalmStays, CalmFilled, CalmReleased}
 use Rattle.art_schedules.proofs.calm.InductionLemmas.{run-begins, last-step, step-of-run}
 use Rattle.art_schedules.proofs.calm.RunLemmas.{step-at, calm-at}
 use Rattle.art_schedules.proofs.changes.FollowLemmas.{low-words-keep}
 use Rattle.art_schedules.specs.optimistic.Steps.{QuietStepsKeepTrees, ScansStoreNothing}
-
-load-store : {x w u : ℕ} {m l : Option Point} → Asks (Load x) m ≡ Asks (Store w u) l → ⊥
-load-store e = cc
-
-swap-store : {x v y w u : ℕ} {m l : Option Point} → Asks (Swap x v y) m ≡ Asks (Store w u) l → ⊥
-swap-store e = cc
-
-answers-store : {r : Reply} {w u : ℕ} {l : Option Point} → Answers r ≡ Asks (Store w u) l → ⊥
-answers-store e = cc
 
 pub scans-store-nothing : ScansStoreNothing
 scans-store-nothing shape call low high scan word value mark e = go scan.step scan.walk e
@@ -46,7 +35,7 @@ scans-store-nothing shape call low high scan word value mark e = go scan.step sc
     go : (step : ScanStep) (w : Walk) → scan_turn (setting shape Optimistic call) (at step w) ≡ Asks (Store word value) mark → ⊥
     go (Lock entry true) w e = load-store e
     go (Lock entry false) w e = load-store e
-    go (Exchange entry v) w e = swap-store e
+    go (Exchange entry v) w e = exchange-store e
     go (Wait entry) w e = load-store e
     go (Info base kind kept) w e = load-store e
     go (Keys n) w e = keys n.kind n e
@@ -55,12 +44,12 @@ scans-store-nothing shape call low high scan word value mark e = go scan.step sc
     go (Index n j m) w e = load-store e
     go (LoadChild f slot) w e = load-store e
     go (Release n) w e = load-store e
-    go Over w e = answers-store e
+    go Over w e = answers-asks e
 
 pub quiet-steps-keep-trees : QuietStepsKeepTrees
 quiet-steps-keep-trees plan start words schedule p s t run full e quiet n rest =
     low-words-keep plan.shape n calm after rest (there.long ∙ sym here.long) there.small
-    (λ kind. omega (arith, here.low (claims_of kind) (claims-low kind), there.low (claims_of kind) (claims-low kind), made.steady.claims kind))
+    (λ kind. omega (arith, here.low (claims_of kind) (claims-few kind), there.low (claims_of kind) (claims-few kind), made.steady.claims kind))
     (stays change.change)
   where
     calm : List ℕ

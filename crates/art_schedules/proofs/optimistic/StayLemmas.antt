@@ -7,11 +7,13 @@ use Rattle.events.specs.declared.event.Call.{Call}
 use Rattle.events.specs.declared.event.Reply.{Reply}
 use Rattle.art_rows.specs.declared.table.Shape.{Shape}
 use Rattle.art_rows.specs.declared.table.Kind.{Kind}
-use Rattle.art_rows.specs.declared.table.Kind.TheVariants.{Four, Sixteen, FortyEight, Full}
+use Rattle.art_rows.specs.declared.table.Kind.TheVariants.{FortyEight}
 use Rattle.art_rows.specs.declared.table.Child.{Child}
 use Rattle.art_rows.specs.declared.table.Child.TheVariants.{Empty, Row as ChildRow, Leaf}
-use Rattle.art_rows.specs.Table.{row_words, first_child, kind_at, index_at}
+use Rattle.art_rows.specs.Table.{row_words, kind_at, index_at}
 use Rattle.art_rows.specs.Words.{key_bytes, first_difference, info_of, child_of, is_obsolete}
+use Rattle.art_rows.proofs.KindLemmas.{first-some, seven-words}
+use Rattle.art_rows.proofs.ByteLemmas.{key_byte-small}
 use Rattle.art_steps.specs.declared.variant.Variant.TheVariants.{Optimistic}
 use Rattle.art_steps.specs.Rows.{Setting, key_of, is_insert}
 use Rattle.art_stages.specs.declared.stage.Held.{Held}
@@ -33,19 +35,18 @@ use Rattle.art_core.specs.Meaning.{Reached, below, slot_of, child_on, child_in}
 use Rattle.art_core.specs.Forms.{path_in}
 use Rattle.art_serial.specs.trees.Trees.{SameRow, LeadsTo, Parts}
 use Rattle.art_serial.proofs.alone.SlotLemmas.{slot-is, row-keys, slot-same, keys-same, count-same, form-same}
+use Rattle.art_serial.proofs.trees.Changes.{way_byte}
 use Rattle.art_versions.specs.versions.Holding.{Each, IsKept, rows_kept}
 use Rattle.art_versions.specs.versions.Locking.{rows_held, all_of}
 use Rattle.art_versions.specs.versions.Versions.{IsSettled}
 use Rattle.art_versions.specs.versions.Steady.{IsSteady}
 use Rattle.art_versions.proofs.versions.MoveLemmas.{settled-row}
-use Rattle.art_versions.proofs.versions.WordFacts.{key_byte-small}
 use Rattle.art_schedules.specs.calm.Calm.{is_busy}
 use Rattle.art_schedules.proofs.calm.VersionLemmas.{free-parts}
 use Rattle.art_schedules.specs.work.Works.{LacksByte}
 use Rattle.art_schedules.specs.changes.Courses.{IsGoneBy, IsFreshBy}
 use Rattle.art_schedules.specs.changes.Effects.{Effect}
 use Rattle.art_schedules.specs.changes.Follows.{Follows}
-use Rattle.art_schedules.proofs.changes.EffectLemmas.{way-small}
 use Rattle.art_schedules.proofs.changes.SayingLemmas.{same-rows-say-the-same}
 use Rattle.art_schedules.specs.effects.Begins.{BeginsWork, IsOverwritten, upper_of}
 use Rattle.art_schedules.specs.optimistic.Knows.{IsOnWay, HasChild, Hangs, Stands, IsBelow, HangsBelow, KnowsPlace, KnowsFinding, KnowsStage}
@@ -54,18 +55,6 @@ use Rattle.art_schedules.specs.optimistic.Knows.{PathFollows, PathDiffers, IsRea
 use Rattle.art_schedules.specs.optimistic.Goes.{Agrees}
 use Rattle.art_schedules.specs.optimistic.Laws.{IsStill, InfosStay, WaysAreKept}
 use Rattle.art_schedules.proofs.calm.VersionLemmas.{unmarked-free}
-
-first-some : (kind : Kind) → 1 ≤ first_child kind
-first-some Four = omega arith
-first-some Sixteen = omega arith
-first-some FortyEight = omega arith
-first-some Full = omega arith
-
-seven-words : (kind : Kind) → 7 ≤ row_words kind
-seven-words Four = omega arith
-seven-words Sixteen = omega arith
-seven-words FortyEight = omega arith
-seven-words Full = omega arith
 
 -- the word of a row at another place
 placed-word : (calm after : List ℕ) (base : ℕ) (kind : Kind) (word j : ℕ) → SameRow calm after base kind → word ≡ base + j → 1 ≤ j → j < row_words kind
@@ -157,7 +146,7 @@ module _ (c : Setting) (n : ℕ) (calm after : List ℕ) (pairs : Contents) (gon
       stays = upper-still row above still
 
       small : b.byte < 256
-      small = way-small c.shape calm (key_of c.call) upper.base upper.kind b.byte b.leads
+      small = way_byte c.shape calm (key_of c.call) upper.base upper.kind b.byte b.leads
 
       leads : LeadsTo c.shape after (key_of c.call) upper.base upper.kind b.byte
       leads = follows.ways (key_of c.call) upper.base upper.kind b.byte b.leads stays.1

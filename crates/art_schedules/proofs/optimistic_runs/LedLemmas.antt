@@ -20,10 +20,11 @@ use Rattle.art_versions.specs.versions.Effects.{IsAmong}
 use Rattle.art_versions.specs.versions.Holding.{Named, holds}
 use Rattle.art_versions.specs.versions.Locking.{rows_held}
 use Rattle.art_versions.specs.versions.Versions.{IsOpen, IsClaimed, stage_of}
+use Rattle.art_versions.proofs.versions.KnownLemmas.{each-map}
 use Rattle.art_schedules.specs.calm.Calm.{calm_of}
 use Rattle.art_schedules.proofs.calm.CalmLemmas.{claimed-row}
 use Rattle.art_schedules.proofs.calm.InductionLemmas.{IsStep, step-of-run}
-use Rattle.art_schedules.specs.changes.Effects.{Effect, Keeps, Fills, PutsLeaf, RemovesLeaf, HangsPair, HangsGrown, HasEffect, IsGone}
+use Rattle.art_schedules.specs.changes.Effects.{Effect}
 use Rattle.art_schedules.specs.changes.Courses.{IsGoneBy}
 use Rattle.art_schedules.specs.changes.Follows.{KeepsTree}
 use Rattle.art_schedules.specs.stories.Stories.{Status, Tale}
@@ -34,7 +35,8 @@ use Rattle.art_schedules.specs.effects.AtWork.{AtWork, fresh_of}
 use Rattle.art_schedules.specs.effects.Outcomes.{IsLastStep, Makes, HoldsReached, IsOther, AreApart, pairs_by}
 use Rattle.art_schedules.specs.optimistic_runs.OptimisticFits.{Ghosts, set_at, IsWorld, IsFit, Seeks, Works, Finds, Ends, Walks, OptimisticFits, the_plan}
 use Rattle.art_schedules.proofs.optimistic_runs.PartLaws.{LawsOfParts}
-use Rattle.art_schedules.proofs.optimistic_runs.SmallLemmas.{set-cases, set-other, among-locks, each-map, apart-none, apart-by}
+use Rattle.art_schedules.proofs.optimistic_runs.SmallLemmas.{set-cases, set-other, among-locks, apart-none, apart-by}
+use Rattle.art_schedules.proofs.changes.EffectLemmas.{gone-reached}
 
 -- the fresh row behind a step: as before, or none, or one that was claimed in it
 pub data FreshBehind (shape : Shape) (s t : State) (before fresh : Option Named) : Type 0 where
@@ -42,16 +44,6 @@ pub data FreshBehind (shape : Shape) (s t : State) (before fresh : Option Named)
   NoFresh : fresh ≡ None → FreshBehind shape s t before fresh
   NewFresh : (row : Named) → fresh ≡ Some row → ((kind : Kind) → IsClaimed shape s.words row.0 kind → ⊥) → IsClaimed shape t.words row.0 row.1
       → FreshBehind shape s t before fresh
-
--- a row that goes by an effect was one of the tree
-gone-reached : (shape : Shape) (calm later : List ℕ) (e : Effect) → HasEffect shape calm later e → (b : ℕ) → IsGone e b → (k : Kind) × Reached shape calm b k
-gone-reached shape calm later (Keeps base kind) h b g = absurd g
-gone-reached shape calm later (Fills base kind) h b g = absurd g
-gone-reached shape calm later (PutsLeaf base kind x key value) h b g = absurd g
-gone-reached shape calm later (RemovesLeaf base kind x key) h b g = absurd g
-gone-reached shape calm later (HangsPair base kind x key value fresh d a) h b g = absurd g
-gone-reached shape calm later (HangsGrown base kind x key value full full_kind y fresh larger) h b g =
-    (full_kind, subst (λ i. Reached shape calm i full_kind) (sym g) h.leads.reached)
 
 -- the fresh row of the effect, or none, is this one
 abbrev pub IsFreshOf : Option Effect → Option Named → Type 0

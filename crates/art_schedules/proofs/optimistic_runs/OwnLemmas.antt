@@ -29,6 +29,7 @@ use Rattle.art_core.specs.Core.{Plan, State, begun, opened_on}
 use Rattle.art_versions.specs.versions.Holding.{Named, Each, Knows, IsKept}
 use Rattle.art_versions.specs.versions.Locking.{rows_of_hold}
 use Rattle.art_versions.specs.versions.Versions.{IsOpen, IsClaimed, stage_of}
+use Rattle.art_versions.proofs.versions.KnownLemmas.{each-map}
 use Rattle.art_schedules.specs.calm.Calm.{calm_of}
 use Rattle.art_schedules.proofs.calm.CalmLemmas.{kept-live}
 use Rattle.art_schedules.specs.work.Works.{RowsOf}
@@ -43,10 +44,10 @@ use Rattle.art_schedules.specs.optimistic.Steps.{StepsOn, IsQuiet}
 use Rattle.art_schedules.specs.effects.Begins.{BeginsWork}
 use Rattle.art_schedules.specs.effects.AtWork.{AtWork, AtEnd}
 use Rattle.art_schedules.specs.effects.Outcomes as outcomes
-use Rattle.art_schedules.specs.effects.Outcomes.{Makes, IsAt, WorkStep, EndStep}
+use Rattle.art_schedules.specs.effects.Outcomes.{Makes, WorkStep, EndStep}
 use Rattle.art_schedules.specs.optimistic_runs.OptimisticFits.{Ghosts, set_at, IsWorld, IsFit, Seeks, Works, Finds, Ends, Walks, OptimisticFits, the_plan}
 use Rattle.art_schedules.proofs.optimistic_runs.PartLaws.{LawsOfParts}
-use Rattle.art_schedules.proofs.optimistic_runs.SmallLemmas.{set-here, same-stage, work-kept, each-map, each-both}
+use Rattle.art_schedules.proofs.optimistic_runs.SmallLemmas.{set-here, same-stage, work-kept, each-both}
 use Rattle.art_schedules.proofs.optimistic_runs.LedLemmas as led
 
 over-asks : (shape : Shape) (call : Call) (o : Outcome) (a : Access) (mark : Option Point) → turn_at (setting shape Optimistic call) (Over o) ≡ Asks a mark → ⊥

@@ -1,8 +1,7 @@
 -- Small facts of stages, of ghosts, of rows that are held, and of calls that are open.
 use Rattle.std.proofs.Common.{◌≡◌, ◌≢◌, ◌⊎◌, ℕ, zero, suc, Bool, false, List, [], ◌∷◌, refl, sym, ap, subst, ◌∙◌, inl, inr, ⊎_elim}
-use Rattle.std.specs.Prelude.{if◌then◌else◌, Option, Some, None}
+use Rattle.std.specs.Prelude.{Option, Some, None, if◌then◌else◌}
 use Rattle.std.proofs.lemmas.Bool.Decides.{eqb_tells}
-use Rattle.std.proofs.lemmas.Option.{same_Some}
 use Rattle.events.specs.declared.event.Call.{Call}
 use Rattle.art_rows.specs.declared.table.Shape.{Shape}
 use Rattle.art_rows.specs.declared.table.Kind.{Kind}
@@ -23,6 +22,7 @@ use Rattle.art_versions.specs.versions.Effects.{IsAmong}
 use Rattle.art_versions.specs.versions.Holding.{Named, Each, rows_kept}
 use Rattle.art_versions.specs.versions.Locking.{locks_of, rows_of_hold}
 use Rattle.art_versions.specs.versions.Versions.{IsOpen, stage_of}
+use Rattle.art_versions.proofs.versions.KnownLemmas.{same-process, same-call}
 use Rattle.art_schedules.specs.effects.Outcomes.{AreApart}
 use Rattle.art_schedules.specs.optimistic_runs.OptimisticFits.{Ghosts, set_at}
 
@@ -34,14 +34,6 @@ set-here f p a = ⊎_elim (λ x. x.1) (λ x. absurd (x.0 refl)) (set-cases f p a
 
 pub set-other : (f : Ghosts) (p : ℕ) (a : Option Named) (r : ℕ) → r ≢ p → set_at f p a r ≡ f r
 set-other f p a r apart = ⊎_elim (λ x. absurd (apart x.0)) (λ x. x.1) (set-cases f p a r)
-
--- two open calls of a process are one
-pub same-process : (s : State) (p : ℕ) (call other : Call) (q w : Process) → IsOpen s p call q → IsOpen s p other w → q ≡ w
-same-process s p call other q w o x = same_Some q w (sym o.own ∙ x.own)
-
-pub same-call : (s : State) (p : ℕ) (call other : Call) (q w : Process) → IsOpen s p call q → IsOpen s p other w → call ≡ other
-same-call s p call other q w o x =
-    same_Some call other (sym o.is_open ∙ (ap (λ (y : Process). y.call) (same-process s p call other q w o x) ∙ x.is_open))
 
 pub same-stage : (shape : Shape) (s : State) (p : ℕ) (call other : Call) (q w : Process) → IsOpen s p call q → IsOpen s p other w
     → stage_of Optimistic shape call q ≡ stage_of Optimistic shape other w
@@ -74,10 +66,6 @@ pub among-locks : (P : ℕ → Kind → Type 0) (rows : List Held) → Each (λ 
 among-locks P [] each h a = absurd a
 among-locks P (x ∷ xs) each h (inl same) = subst (λ (y : Held). P y.base y.kind) (sym same) each.0
 among-locks P (x ∷ xs) each h (inr a) = among-locks P xs each.1 h a
-
-pub each-map : {P Q : Held → Type 0} → ((x : Held) → P x → Q x) → (xs : List Held) → Each P xs → Each Q xs
-each-map f [] e = tt
-each-map f (x ∷ xs) e = (f x e.0, each-map f xs e.1)
 
 pub each-both : (P Q : Held → Type 0) → (xs : List Held) → Each P xs → Each Q xs → Each (λ x. P x × Q x) xs
 each-both P Q [] e f = tt

@@ -4,7 +4,7 @@ use Rattle.std.proofs.Common.{inl, inr, arith, append_assoc}
 use Rattle.std.specs.Prelude.{slice_index, Option, Some}
 use Rattle.std.proofs.lemmas.List.{length-append, append-nil, set-get_or}
 use Rattle.std.proofs.lemmas.Bool.{cases_lt}
-use Rattle.std.proofs.lemmas.Option.{same_Some, none-some}
+use Rattle.std.proofs.Math.Seq.{take-length}
 use Rattle.events.specs.declared.event.Call.{Call}
 use Rattle.events.specs.declared.event.Call.TheVariants.{Scan}
 use Rattle.events.specs.declared.event.Reply.{Reply}
@@ -16,9 +16,10 @@ use Rattle.art_steps.specs.declared.variant.Variant.TheVariants.{Optimistic}
 use Rattle.art_steps.specs.declared.access.Access.{Access}
 use Rattle.art_steps.specs.declared.access.Access.TheVariants.{Load}
 use Rattle.art_steps.specs.declared.access.Point.{Point}
-use Rattle.art_steps.specs.Steps.{Turn, Asks, Answers, reply_of}
+use Rattle.art_steps.specs.Steps.{Turn, Asks, Answers}
 use Rattle.art_steps.specs.Rows.{Setting}
 use Rattle.art_steps.specs.Act.{act}
+use Rattle.art_steps.proofs.TurnLemmas.{asks-same, answers-asks, answers-same}
 use Rattle.art_stages.specs.declared.stage.ScanStep.{ScanStep}
 use Rattle.art_stages.specs.declared.stage.ScanStep.TheVariants.{Lock, Exchange, Wait, Info, Keys, FirstKeys, SecondKeys, Index, Child as LoadChild}
 use Rattle.art_stages.specs.declared.stage.ScanStep.TheVariants.{Release, Over}
@@ -33,35 +34,13 @@ use Rattle.art_serial.proofs.alone.AloneLemmas.{same-runs}
 use Rattle.art_versions.specs.versions.Steady.{SameRow}
 use Rattle.art_schedules.specs.calm.Calm.{is_busy}
 use Rattle.art_schedules.proofs.calm.VersionLemmas.{unmarked-free}
-use Rattle.art_versions.proofs.moments.TimeLemmas.{take-more, take-whole, index-more, index-last}
+use Rattle.art_versions.proofs.moments.TimeLemmas.{take-more, index-more, index-last}
 use Rattle.art_versions.proofs.moments.AttemptLemmas.{stage}
 use Rattle.art_versions.proofs.moments.StandsLemmas.{Stands}
-use Rattle.art_versions.proofs.moments.ScanLemmas.{all-fold, all-append, AllStand, at-end, attempted}
-use Rattle.art_versions.proofs.moments.ValidLemmas.{turn-is, validated, some-words}
+use Rattle.art_versions.proofs.moments.ScanLemmas.{all-fold, all-append, at-end, attempted}
+use Rattle.art_versions.proofs.moments.ValidLemmas.{turn-is, validated}
 use Rattle.art_versions.proofs.moments.AloneLemmas.{answers-alone}
-
-load-is : {a : Access} {m : Option Point} {w : ℕ} {l : Option Point} → Asks a m ≡ Asks (Load w) l → a ≡ Load w
-load-is e = cc
-
-no-load : {r : Reply} {w : ℕ} {l : Option Point} → Answers r ≡ Asks (Load w) l → ⊥
-no-load e = cc
-
-same-reply : {r q : Reply} → Answers r ≡ Answers q → r ≡ q
-same-reply e = cc
-
-take-behind : (xs ys : List ℕ) (i : ℕ) → take (length xs + i) (xs ++ ys) ≡ xs ++ take i ys
-take-behind [] ys i = ap (λ k. take k ys) (omega arith)
-take-behind (x ∷ xs) ys i = ap (λ k. take k (x ∷ (xs ++ ys))) (plus (length xs)) ∙ ap (λ zs. x ∷ zs) (take-behind xs ys i)
-  where
-    plus : (n : ℕ) → suc n + i ≡ suc (n + i)
-    plus n = omega arith
-
-index-behind : (xs ys : List ℕ) (i : ℕ) → slice_index (xs ++ ys) (length xs + i) ≡ slice_index ys i
-index-behind [] ys i = ap (slice_index ys) (omega arith)
-index-behind (x ∷ xs) ys i = ap (slice_index (x ∷ (xs ++ ys))) (plus (length xs)) ∙ index-behind xs ys i
-  where
-    plus : (n : ℕ) → suc n + i ≡ suc (n + i)
-    plus n = omega arith
+use Rattle.art_versions.proofs.moments.MomentLemmas.{index-behind, take-behind}
 
 module _ (plan : Plan) (call : Call) (words : List ℕ) where
   abbrev turn-of : List ℕ → Turn
@@ -87,8 +66,8 @@ module _ (plan : Plan) (call : Call) (words : List ℕ) where
         | inr new ↦
             let is : i ≡ length before = omega (arith, new, less, length-append before (got_by a words ∷ [])) in
             let whole : take i (before ++ got_by a words ∷ []) ≡ before =
-            ap (λ k. take k (before ++ got_by a words ∷ [])) is ∙ (take-more (length before) before (got_by a words) (omega arith) ∙ take-whole before) in
-            let same : a ≡ Load word = load-is (sym f ∙ (ap turn-of (sym whole) ∙ e)) in
+            ap (λ k. take k (before ++ got_by a words ∷ [])) is ∙ (take-more (length before) before (got_by a words) (omega arith) ∙ take-length before) in
+            let same : a ≡ Load word = asks-same (sym f ∙ (ap turn-of (sym whole) ∙ e)) in
             ap (slice_index (before ++ got_by a words ∷ [])) is ∙ (index-last before (got_by a words) ∙ ap (λ x. got_by x words) same)
       ]
 
@@ -215,12 +194,8 @@ module _ (plan : Plan) (lo hi : ℕ) (v : plan.variant ≡ Optimistic) (some : 1
   unrefused got reply e f = go (loads-or-answers got)
     where
       go : LoadsOrAnswers got → ⊥
-      go (LoadsWord word mark g) = no-load (sym e ∙ g)
-      go (AnswersPairs pairs g) = other (sym (same-reply (sym e ∙ g)) ∙ f)
+      go (LoadsWord word mark g) = answers-asks (sym e ∙ g)
+      go (AnswersPairs pairs g) = other (sym (answers-same (sym e ∙ g)) ∙ f)
         where
           other : replies.Pairs pairs ≡ replies.Refused → ⊥
           other e = cc
-
-pub answers-of : (t : Turn) (r : Reply) → reply_of t ≡ Some r → t ≡ Answers r
-answers-of (Asks a m) r e = absurd (none-some r e)
-answers-of (Answers x) r e = ap (λ y. Answers y) (same_Some x r e)

@@ -13,7 +13,7 @@ use Rattle.map_object.specs.MapObject.{Contents, Does, reply_to}
 use Rattle.art_steps.specs.Act.{act}
 use Rattle.art_core.specs.Core.{Plan, State, begun, history_of, known_reply, opened_on}
 use Rattle.art_core.specs.Runs.{At}
-use Rattle.art_versions.proofs.moments.MomentLemmas.{scan-has-moment}
+use Rattle.art_versions.proofs.moments.MomentLemmas.{scan-has-moment, answers-of}
 use Rattle.art_serial.proofs.alone.AloneLemmas.{runs-once}
 use Rattle.art_schedules.specs.calls.RunCalls.{IsIn, HasCalls}
 use Rattle.art_schedules.specs.calls.Laws.{FrontsHaveMoments, MomentsEndRuns, RunsHaveCalls}
@@ -22,7 +22,7 @@ use Rattle.art_schedules.specs.calm.Calm.{calm_of}
 use Rattle.art_schedules.proofs.calm.RunLemmas.{calm-at}
 use Rattle.art_schedules.specs.scan_points.ScanPoints.{AnsweredScansHavePoints}
 use Rattle.art_schedules.proofs.scan_points.CheckLemmas.{has-more}
-use Rattle.art_schedules.proofs.scan_points.AloneLemmas.{moves, runs, unrefused, answers-of}
+use Rattle.art_schedules.proofs.scan_points.AloneLemmas.{moves, runs, unrefused}
 
 -- at two moments a process is in the same call, where it is the last of as many that it has begun
 one-call : (plan : Plan) (first : State) (schedule : List ℕ) (s : State) → HasCalls plan first schedule s

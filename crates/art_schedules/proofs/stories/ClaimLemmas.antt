@@ -1,9 +1,8 @@
 -- What is claimed of every schedule, from what is led on by each step of the runs of a tree.
-use Rattle.std.proofs.Common.{◌≡◌, IsTrue, List, ℕ, inl, inr}
-use Rattle.std.specs.Prelude.{All}
+use Rattle.std.proofs.Common.{◌≡◌, List, ℕ, inr}
 use Rattle.map_object.specs.MapObject.{Contents}
-use Rattle.art_steps.specs.declared.variant.Variant.TheVariants.{Coupled, Optimistic}
-use Rattle.art_core.specs.Claims.{CoupledIsLinearizable, OptimisticIsLinearizable, OptimisticIsLinearizableWithoutScans, is_scan_free}
+use Rattle.art_steps.specs.declared.variant.Variant.TheVariants.{Optimistic}
+use Rattle.art_core.specs.Claims.{OptimisticIsLinearizable}
 use Rattle.art_core.specs.Core.{Plan, State}
 use Rattle.art_core.specs.Plans.{IsRun}
 use Rattle.art_schedules.specs.changes.Laws.{KeptTreesFollow}
@@ -16,21 +15,8 @@ module _ (starts : StartsAreAtRest) (trees : KeptTreesFollow) (orders : StoriesG
   abbrev pub IsLed : Plan → Contents → List ℕ → Type 0
   IsLed plan start words = AreLed plan start words Ghost (World plan start words) (Fits plan start words)
 
-  pub coupled-from-ghosts : ((plan : Plan) (start : Contents) (words schedule : List ℕ) (s : State) → IsRun plan start words schedule s
-      → plan.variant ≡ Coupled → IsLed plan start words) → CoupledIsLinearizable
-  coupled-from-ghosts led plan start words schedule s run is =
-      orders-of-ghosts starts trees plan (inl is) start words Ghost (World plan start words) (Fits plan start words) (led plan start words schedule s run is)
-      orders schedule s run
-
   pub optimistic-from-ghosts : ((plan : Plan) (start : Contents) (words schedule : List ℕ) (s : State) → IsRun plan start words schedule s
       → plan.variant ≡ Optimistic → IsLed plan start words) → OptimisticIsLinearizable
   optimistic-from-ghosts led plan start words schedule s run is =
       orders-of-ghosts starts trees plan (inr is) start words Ghost (World plan start words) (Fits plan start words) (led plan start words schedule s run is)
       orders schedule s run
-
-  pub scan-free-from-ghosts : ((plan : Plan) (start : Contents) (words schedule : List ℕ) (s : State) → IsRun plan start words schedule s
-      → plan.variant ≡ Optimistic → All (λ script. All (λ call. IsTrue (is_scan_free call)) script) plan.scripts → IsLed plan start words)
-      → OptimisticIsLinearizableWithoutScans
-  scan-free-from-ghosts led plan start words schedule s run is free =
-      orders-of-ghosts starts trees plan (inr is) start words Ghost (World plan start words) (Fits plan start words)
-      (led plan start words schedule s run is free) orders schedule s run

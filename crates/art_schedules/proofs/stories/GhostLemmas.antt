@@ -20,6 +20,7 @@ use Rattle.art_steps.specs.declared.access.Access.{Access}
 use Rattle.art_steps.specs.declared.access.Point.{Point}
 use Rattle.art_steps.specs.Steps.{Turn, Asks, Answers, reply_of}
 use Rattle.art_steps.specs.Act.{act}
+use Rattle.art_steps.proofs.TurnLemmas.{asks-answers}
 use Rattle.art_stages.specs.Calls.{call_turn, call_begun}
 use Rattle.art_stages.specs.Stages.{setting}
 use Rattle.art_core.specs.declared.process.Process.{Process}
@@ -33,9 +34,10 @@ use Rattle.art_schedules.specs.calls.Effects.{IsInCallAt}
 use Rattle.art_schedules.proofs.calls.MomentLemmas.{invokes-next, responds-next}
 use Rattle.art_core.specs.Meaning.{Means}
 use Rattle.art_serial.specs.trees.Trees.{IsAtRest}
+use Rattle.art_serial.proofs.serial.OrderlyLemmas.{set-here}
 use Rattle.art_versions.specs.versions.Laws.{IsFull}
 use Rattle.art_versions.specs.versions.Versions.{IsOpen, stage_of}
-use Rattle.art_versions.proofs.versions.ChangeLemmas.{index-other, set-same}
+use Rattle.art_versions.proofs.versions.ChangeLemmas.{index-other}
 use Rattle.art_versions.proofs.versions.RunLemmas.{idle-idle}
 use Rattle.art_versions.proofs.versions.StepLemmas.{after-more, next-turn}
 use Rattle.art_schedules.specs.calm.Calm.{calm_of}
@@ -61,9 +63,6 @@ answers-known plan got call reply known = go (act plan.shape plan.variant call g
     go : (turn : Turn) → act plan.shape plan.variant call got ≡ turn → reply_of turn ≡ Some reply → act plan.shape plan.variant call got ≡ Answers reply
     go (Asks a mark) e f = absurd (none-some reply f)
     go (Answers other) e f = e ∙ ap Answers (same_Some other reply f)
-
-asks-answers : {a : Access} {mark : Option Point} {reply : Reply} → Asks a mark ≡ Answers reply → ⊥
-asks-answers e = cc
 
 -- a process that makes an access has an open call that asks for it
 makes-next : (plan : Plan) (p : ℕ) (w : Process) (a : Access) → next_move plan p w ≡ Some (Makes a)
@@ -284,7 +283,7 @@ module _ (starts : StartsAreAtRest) (trees : KeptTreesFollow) (plan : Plan) (ful
         → slice_get t.processes p ≡ Some (after_move p move (slice_index s.words (word_of_move move)) w)
     behind-at w own move is =
         let q = after_move p move (slice_index s.words (word_of_move move)) w in
-        subst (λ x. slice_get x.processes p ≡ Some q) (sym is) (set-same s.processes p w q own)
+        subst (λ x. slice_get x.processes p ≡ Some q) (sym is) (set-here s.processes p w q own)
 
     -- the process has one open call
     one-process : (w q : Process) (call : Call) → slice_get s.processes p ≡ Some w → IsOpen s p call q → w ≡ q

@@ -1,11 +1,12 @@
 -- How calm's tree goes on in a step of a run of which something is told.
-use Rattle.std.proofs.Common.{◌≡◌, ℕ, ◌+◌, ◌<◌, ◌≤◌, List, length, refl, sym, ◌∙◌, arith}
+use Rattle.std.proofs.Common.{◌≡◌, ℕ, ◌+◌, ◌≤◌, List, length, refl, sym, ◌∙◌, arith}
 use Rattle.std.specs.Prelude.{true, slice_index, Some, None}
 use Rattle.map_object.specs.MapObject.{Contents}
 use Rattle.art_rows.specs.declared.table.Kind.{Kind}
 use Rattle.art_rows.specs.declared.table.Kind.TheVariants.{Four, Sixteen, FortyEight, Full}
 use Rattle.art_rows.specs.Table.{claims_of, kind_at}
 use Rattle.art_rows.specs.Words.{is_obsolete}
+use Rattle.art_rows.proofs.KindLemmas.{claims-few}
 use Rattle.art_core.specs.Core.{Plan, State}
 use Rattle.art_versions.specs.versions.Laws.{IsFull}
 use Rattle.art_schedules.proofs.calm.InductionLemmas.{step-of-run}
@@ -27,19 +28,13 @@ few-claims words Sixteen = omega arith
 few-claims words FortyEight = omega arith
 few-claims words Full = omega arith
 
-low : (k : Kind) → claims_of k < 5
-low Four = omega arith
-low Sixteen = omega arith
-low FortyEight = omega arith
-low Full = omega arith
-
 module _ (plan : Plan) (full : IsFull plan.variant) (start : Contents) (words schedule : List ℕ) (tale : Tale) (p : ℕ) (s t : State) (calm after : List ℕ)
     (told : IsToldStep plan start words schedule tale p s t calm after) where
   -- claims do not fall, in calm as in the words
   pub claims-rise : (k : Kind) → slice_index calm (claims_of k) ≤ slice_index after (claims_of k)
   claims-rise k =
       let steady = (step-of-run plan.variant full plan start words schedule p s t told.before refl told.made).steady in
-      omega (arith, steady.claims k, told.calm_before.low (claims_of k) (low k), told.calm_behind.low (claims_of k) (low k))
+      omega (arith, steady.claims k, told.calm_before.low (claims_of k) (claims-few k), told.calm_behind.low (claims_of k) (claims-few k))
 
   pub same-length : length after ≡ length calm
   same-length = told.calm_behind.long ∙ sym told.calm_before.long

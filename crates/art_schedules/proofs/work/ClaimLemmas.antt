@@ -1,19 +1,20 @@
 -- Work that begins with a claim.
 use Rattle.std.proofs.Common.{◌≡◌, ℕ, ◌+◌, ◌%◌, ◌^◌, ◌<◌, ◌≤◌, List, ◌∷◌, length, refl, ap, sym, subst, ◌∙◌, Bool, true, false, inl, inr, arith}
-use Rattle.std.specs.Prelude.{◌≢◌, ◌⊎◌, nat_lt, if◌then◌else◌, slice_index, slice_set, Option, Some, None}
+use Rattle.std.specs.Prelude.{◌≢◌, ◌⊎◌, nat_lt, slice_index, slice_set, Option, Some, None, if◌then◌else◌}
 use Rattle.std.proofs.lemmas.Bool.{cases_lt}
 use Rattle.events.specs.declared.event.Reply.{Reply}
 use Rattle.art_rows.specs.declared.table.Shape.{Shape}
 use Rattle.art_rows.specs.declared.table.Kind.{Kind}
-use Rattle.art_rows.specs.declared.table.Kind.TheVariants.{Four, Sixteen, FortyEight, Full}
 use Rattle.art_rows.specs.declared.table.Child.{Child}
 use Rattle.art_rows.specs.declared.table.Child.TheVariants.{Empty}
 use Rattle.art_rows.specs.Table.{row_words, rows_of, table_words, claims_of, base_of, kind_at}
 use Rattle.art_rows.specs.Words.{child_of}
+use Rattle.art_rows.proofs.KindLemmas.{claims-once, claims-few}
 use Rattle.art_steps.specs.declared.access.Access.TheVariants.{Add}
 use Rattle.art_steps.specs.declared.access.Point.{Point}
 use Rattle.art_steps.specs.Steps.{Asks}
 use Rattle.art_steps.specs.Rows.{Setting, is_scan}
+use Rattle.art_steps.proofs.TurnLemmas.{load-add, store-add, add-word}
 use Rattle.art_stages.specs.declared.stage.Held.{Held}
 use Rattle.art_stages.specs.declared.stage.Hold.{Hold}
 use Rattle.art_stages.specs.declared.stage.Outcome.TheVariants.{Refused}
@@ -33,44 +34,17 @@ use Rattle.art_versions.specs.versions.Laws.{IsFull}
 use Rattle.art_versions.proofs.versions.KeyLemmas.{slot-behind}
 use Rattle.art_schedules.specs.work.Solo.{IsUnused, Step, loads, stores, claims, Solo, here, further}
 use Rattle.art_schedules.specs.work.Works.{RowsOf, IsRelease, IsRefusal}
-use Rattle.art_schedules.proofs.work.SoloLemmas.{load_add, store_add, runs-behind, solos-keep}
+use Rattle.art_schedules.proofs.work.SoloLemmas.{runs-behind, solos-keep}
 use Rattle.art_schedules.proofs.work.WorkLemmas.{IsPlain, behind-plain, is_release, Next, IsEnd}
 use Rattle.art_schedules.proofs.work.GoingLemmas.{IsBehind, Going, IsAlong, going-first, going-ends, along-on, at-end, behind-on}
 use Rattle.art_schedules.proofs.work.EndLemmas.{releases, behind-no, end-releases, at-release}
 
-pub add_add : {v w : ℕ} {p q : Option Point} → Asks (Add v) p ≡ Asks (Add w) q → v ≡ w
-add_add e = cc
-
-pub kind-of : (k l : Kind) → claims_of k ≡ claims_of l → k ≡ l
-kind-of Four Four e = refl
-kind-of Four Sixteen e = absurd (omega (arith, e))
-kind-of Four FortyEight e = absurd (omega (arith, e))
-kind-of Four Full e = absurd (omega (arith, e))
-kind-of Sixteen Four e = absurd (omega (arith, e))
-kind-of Sixteen Sixteen e = refl
-kind-of Sixteen FortyEight e = absurd (omega (arith, e))
-kind-of Sixteen Full e = absurd (omega (arith, e))
-kind-of FortyEight Four e = absurd (omega (arith, e))
-kind-of FortyEight Sixteen e = absurd (omega (arith, e))
-kind-of FortyEight FortyEight e = refl
-kind-of FortyEight Full e = absurd (omega (arith, e))
-kind-of Full Four e = absurd (omega (arith, e))
-kind-of Full Sixteen e = absurd (omega (arith, e))
-kind-of Full FortyEight e = absurd (omega (arith, e))
-kind-of Full Full e = refl
-
-pub claims-low : (kind : Kind) → claims_of kind < 5
-claims-low Four = omega arith
-claims-low Sixteen = omega arith
-claims-low FortyEight = omega arith
-claims-low Full = omega arith
-
 pub step-claim : (c : Setting) {at next : CallAt} {words later : List ℕ} (kind : Kind) (mark : Option Point) → call_turn c at ≡ Asks (Add (claims_of kind)) mark
     → Step c at words next later → (number : ℕ) × (next ≡ call_after c at number) × (later ≡ words) × IsUnused c.shape words kind number
-step-claim c kind mark asks (loads w m h) = absurd (load_add (sym h ∙ asks))
-step-claim c kind mark asks (stores w v m h) = absurd (store_add (sym h ∙ asks))
+step-claim c kind mark asks (loads w m h) = absurd (load-add (sym h ∙ asks))
+step-claim c kind mark asks (stores w v m h) = absurd (store-add (sym h ∙ asks))
 step-claim c {words = words} kind mark asks (claims k n m h u) =
-    (n, refl, refl, subst (λ k. IsUnused c.shape words k n) (kind-of k kind (add_add (sym h ∙ asks))) u)
+    (n, refl, refl, subst (λ k. IsUnused c.shape words k n) (claims-once k kind (add-word (sym h ∙ asks))) u)
 
 key-same : {a b : Stage} → OnKey a ≡ OnKey b → a ≡ b
 key-same e = cc
@@ -87,11 +61,11 @@ with_more words kind number = slice_set (with_number words kind number) (claims_
 
 module _ (s : Shape) (words : List ℕ) (kind : Kind) (number : ℕ) where
   pub number-other : (word : ℕ) → 5 ≤ word → slice_index (with_number words kind number) word ≡ slice_index words word
-  number-other word l = stored-other words (claims_of kind) word number (λ e. omega (arith, e, l, claims-low kind))
+  number-other word l = stored-other words (claims_of kind) word number (λ e. omega (arith, e, l, claims-few kind))
 
   pub more-other : (word : ℕ) → 5 ≤ word → slice_index (with_more words kind number) word ≡ slice_index words word
   more-other word l =
-      stored-other (with_number words kind number) (claims_of kind) word ((number + 1) % 2 ^ 64) (λ e. omega (arith, e, l, claims-low kind))
+      stored-other (with_number words kind number) (claims_of kind) word ((number + 1) % 2 ^ 64) (λ e. omega (arith, e, l, claims-few kind))
       ∙ number-other word l
 
   pub more-long : length (with_more words kind number) ≡ length words
@@ -219,7 +193,7 @@ module _ (c : Setting) (full : IsFull c.variant) (some : 1 ≤ c.shape.rows256) 
       → RunsAlone (rest_in c claim) (with_number w0 kind number) last reply → RunsAlone (rest_in c (a1 number)) (more number) last reply
   claim-runs number room long last reply run =
       let told : slice_index (with_number w0 kind number) (claims_of kind) ≡ number = stored-at w0 (claims_of kind) number (omega
-      (arith, long, claims-low kind)) in
+      (arith, long, claims-few kind)) in
       subst (λ x. RunsAlone (rest_in c x) (more number) last reply)
       (after number ∙ ap (λ x. if x then a1 number else Unlock h (Some Refused)) (less number (rows_of c.shape kind) room))
       (runs-behind c (OnKey claim) key (Add (claims_of kind)) None asks (with_number w0 kind number) number (more number) last reply told

@@ -11,6 +11,7 @@ use Rattle.art_steps.specs.Steps.{Rest, ◌>>◌, give, store}
 use Rattle.art_steps.specs.Rows.{Setting, is_scan, unlock_all, row_of}
 use Rattle.art_steps.specs.Updates.{new_leaf, put, put_in, make_room}
 use Rattle.art_steps.specs.Act.{act}
+use Rattle.art_steps.proofs.TurnLemmas.{stores-same, load-store}
 use Rattle.art_stages.specs.declared.stage.Held.{Held}
 use Rattle.art_stages.specs.declared.stage.Keys.{Keys}
 use Rattle.art_stages.specs.declared.stage.Hold.{Hold}
@@ -37,7 +38,6 @@ use Rattle.art_versions.proofs.versions.KnownLemmas.{held-is-kept}
 use Rattle.art_versions.specs.versions.Laws.{IsFull}
 use Rattle.art_schedules.specs.work.Solo.{Solo, here}
 use Rattle.art_schedules.specs.work.Works.{RowsOf, FitsWords, IsRelease, IsDoneBy}
-use Rattle.art_schedules.proofs.work.SoloLemmas.{store_store, load_store}
 use Rattle.art_schedules.proofs.work.WorkLemmas.{IsPlain, behind-plain, Next, writes, put_leaf, moves-next, holds-next, Acts, Loading, Storing, acts}
 use Rattle.art_schedules.proofs.work.GoingLemmas.{IsAlong, going-first, going-ends, solo-along}
 use Rattle.art_schedules.proofs.work.EndLemmas.{comes-run, finish-comes, none-outcome, value-outcome, words-by, end-releases, at-release, unlock-end}
@@ -67,8 +67,8 @@ module _ (c : Setting) (full : IsFull c.variant) (some : 1 ≤ c.shape.rows256) 
   write-plain slot word value k = go (acts c full some (writes slot word value) k)
     where
       go : Acts c (Write h slot word value) → IsPlain c.shape slot
-      go (Loading w mark asks plain knows) = absurd (load_store (sym asks))
-      go (Storing w v mark asks plain knows) = subst (IsPlain c.shape) (sym (store_store asks).0) plain
+      go (Loading w mark asks plain knows) = absurd (load-store (sym asks))
+      go (Storing w v mark asks plain knows) = subst (IsPlain c.shape) (sym (stores-same asks).0) plain
 
   pub write-done : (slot word : ℕ) (value : Option ℕ) (w0 words : List ℕ) (at : Stage) → KnowsKey (RowsOf c.shape) c (Write h slot word value)
       → Solo c (OnKey (Write h slot word value)) w0 (OnKey at) words → IsRelease h at → IsDoneBy c h (work.Write slot word value) 0 w0 at words

@@ -5,11 +5,13 @@ use Rattle.std.proofs.lemmas.Bool.{cases_lt}
 use Rattle.art_rows.specs.declared.table.Shape.{Shape}
 use Rattle.art_rows.specs.declared.table.Kind.{Kind}
 use Rattle.art_rows.specs.Table.{row_words, rows_of, claims_of, base_of}
+use Rattle.art_rows.proofs.KindLemmas.{claims-once, claims-few}
 use Rattle.art_steps.specs.declared.access.Access.{Access}
 use Rattle.art_steps.specs.declared.access.Access.TheVariants.{Load, Store, Exchange, Add}
 use Rattle.art_steps.specs.declared.access.Point.{Point}
 use Rattle.art_steps.specs.Steps.{Asks}
 use Rattle.art_steps.specs.Rows.{Setting}
+use Rattle.art_steps.proofs.TurnLemmas.{load-exchange, store-exchange, add-exchange, load-store, load-add, store-add, asks-same, asks-answers, add-word}
 use Rattle.art_stages.specs.declared.stage.Held.{Held}
 use Rattle.art_stages.specs.Calls.{CallAt, call_turn, call_after}
 use Rattle.art_core.specs.Accesses.{got_by, words_after}
@@ -25,20 +27,9 @@ use Rattle.art_schedules.specs.work.Solo.{IsUnused, loads, stores, claims, Solo,
 use Rattle.art_schedules.specs.work.Own.{IsHeldWord, IsFilledWord, TouchesOwn, LoadsHeld, StoresOwn, ClaimsRow, ReleasesHeld, Replies}
 use Rattle.art_schedules.specs.work.Works.{RowsOf}
 use Rattle.art_schedules.specs.work.Follow.{AgreesOn, CanFollow, Followed}
-use Rattle.art_schedules.proofs.work.SoloLemmas.{load_store, load_add, store_add, asks_same, asks_answers}
 use Rattle.art_schedules.proofs.work.OwnLemmas.{rows-do}
 use Rattle.art_schedules.proofs.work.WorkLemmas.{all-good}
 use Rattle.art_schedules.proofs.work.GoingLemmas.{alike-set}
-use Rattle.art_schedules.proofs.work.ClaimLemmas.{kind-of, add_add, claims-low}
-
-load_exchange : {v w x y : ℕ} {p q : Option Point} → Asks (Load v) p ≡ Asks (Exchange w x y) q → ⊥
-load_exchange e = cc
-
-store_exchange : {v u w x y : ℕ} {p q : Option Point} → Asks (Store v u) p ≡ Asks (Exchange w x y) q → ⊥
-store_exchange e = cc
-
-add_exchange : {v w x y : ℕ} {p q : Option Point} → Asks (Add v) p ≡ Asks (Exchange w x y) q → ⊥
-add_exchange e = cc
 
 nothing : {x : Named} → [] ≡ x ∷ [] → ⊥
 nothing e = cc
@@ -60,25 +51,25 @@ module _ (c : Setting) (full : IsFull c.variant) (some : 1 ≤ c.shape.rows256) 
 
   load-fewer : (word : ℕ) (mark : Option Point) → call_turn c at ≡ Asks (Load word) mark → Does (RowsOf s) c at → (value : ℕ) → IsFewer (call_after c at value)
   load-fewer word mark asks (Reads w m e after) value = let has = after value (all-good s w value) in same-fewer (call_after c at value) has.1 has.2
-  load-fewer word mark asks (Writes h w v m e among kept behind good after) value = absurd (load_store (sym asks ∙ e))
-  load-fewer word mark asks (Fills b k w v m e filled behind row good after) value = absurd (load_store (sym asks ∙ e))
-  load-fewer word mark asks (Ends b k w v m e filled behind row good after) value = absurd (load_store (sym asks ∙ e))
-  load-fewer word mark asks (Releases h rest v m e with none is kept after) value = absurd (load_store (sym asks ∙ e))
-  load-fewer word mark asks (Takes h all m e with none kept after other) value = absurd (load_exchange (sym asks ∙ e))
-  load-fewer word mark asks (Claims kind m e none after other) value = absurd (load_add (sym asks ∙ e))
-  load-fewer word mark asks (Answered r e none) value = absurd (asks_answers (sym asks ∙ e))
+  load-fewer word mark asks (Writes h w v m e among kept behind good after) value = absurd (load-store (sym asks ∙ e))
+  load-fewer word mark asks (Fills b k w v m e filled behind row good after) value = absurd (load-store (sym asks ∙ e))
+  load-fewer word mark asks (Ends b k w v m e filled behind row good after) value = absurd (load-store (sym asks ∙ e))
+  load-fewer word mark asks (Releases h rest v m e with none is kept after) value = absurd (load-store (sym asks ∙ e))
+  load-fewer word mark asks (Takes h all m e with none kept after other) value = absurd (load-exchange (sym asks ∙ e))
+  load-fewer word mark asks (Claims kind m e none after other) value = absurd (load-add (sym asks ∙ e))
+  load-fewer word mark asks (Answered r e none) value = absurd (asks-answers (sym asks ∙ e))
 
   store-fewer : (word value : ℕ) (mark : Option Point) → call_turn c at ≡ Asks (Store word value) mark → Does (RowsOf s) c at → IsFewer (call_after c at 0)
-  store-fewer word value mark asks (Reads w m e after) = absurd (load_store (sym e ∙ asks))
+  store-fewer word value mark asks (Reads w m e after) = absurd (load-store (sym e ∙ asks))
   store-fewer word value mark asks (Writes h w v m e among kept behind good after) = same-fewer (call_after c at 0) after.1 after.2
   store-fewer word value mark asks (Fills b k w v m e filled behind row good after) = same-fewer (call_after c at 0) after.1 after.2
   store-fewer word value mark asks (Ends b k w v m e filled behind row good after) =
       (λ x a. subst (IsAmong x) after.1 a, λ base kind g. absurd (nothing (sym after.2 ∙ g)))
   store-fewer word value mark asks (Releases h rest v m e with none is kept after) =
       (λ x a. with-more h rest (holds c at) x with (subst (IsAmong x) after.1 a), λ base kind g. absurd (nothing (sym after.2 ∙ g)))
-  store-fewer word value mark asks (Takes h all m e with none kept after other) = absurd (store_exchange (sym asks ∙ e))
-  store-fewer word value mark asks (Claims kind m e none after other) = absurd (store_add (sym asks ∙ e))
-  store-fewer word value mark asks (Answered r e none) = absurd (asks_answers (sym asks ∙ e))
+  store-fewer word value mark asks (Takes h all m e with none kept after other) = absurd (store-exchange (sym asks ∙ e))
+  store-fewer word value mark asks (Claims kind m e none after other) = absurd (store-add (sym asks ∙ e))
+  store-fewer word value mark asks (Answered r e none) = absurd (asks-answers (sym asks ∙ e))
 
   -- a claim: the rows that are held are the same, and the row of the number is filled, if there is one
   abbrev IsClaimed : Kind → ℕ → Type 0
@@ -87,28 +78,28 @@ module _ (c : Setting) (full : IsFull c.variant) (some : 1 ≤ c.shape.rows256) 
 
   claim-fills : (kind : Kind) (mark : Option Point) → call_turn c at ≡ Asks (Add (claims_of kind)) mark → Does (RowsOf s) c at → (number : ℕ)
       → IsClaimed kind number
-  claim-fills kind mark asks (Reads w m e after) number = absurd (load_add (sym e ∙ asks))
-  claim-fills kind mark asks (Writes h w v m e among kept behind good after) number = absurd (store_add (sym e ∙ asks))
-  claim-fills kind mark asks (Fills b k w v m e filled behind row good after) number = absurd (store_add (sym e ∙ asks))
-  claim-fills kind mark asks (Ends b k w v m e filled behind row good after) number = absurd (store_add (sym e ∙ asks))
-  claim-fills kind mark asks (Releases h rest v m e with none is kept after) number = absurd (store_add (sym e ∙ asks))
-  claim-fills kind mark asks (Takes h all m e with none kept after other) number = absurd (add_exchange (sym asks ∙ e))
+  claim-fills kind mark asks (Reads w m e after) number = absurd (load-add (sym e ∙ asks))
+  claim-fills kind mark asks (Writes h w v m e among kept behind good after) number = absurd (store-add (sym e ∙ asks))
+  claim-fills kind mark asks (Fills b k w v m e filled behind row good after) number = absurd (store-add (sym e ∙ asks))
+  claim-fills kind mark asks (Ends b k w v m e filled behind row good after) number = absurd (store-add (sym e ∙ asks))
+  claim-fills kind mark asks (Releases h rest v m e with none is kept after) number = absurd (store-add (sym e ∙ asks))
+  claim-fills kind mark asks (Takes h all m e with none kept after other) number = absurd (add-exchange (sym asks ∙ e))
   claim-fills kind mark asks (Claims k m e none after other) number =
-      subst (λ x. IsClaimed x number) (kind-of k kind (add_add (sym e ∙ asks))) (elim (cases_lt number (rows_of s k)) [
+      subst (λ x. IsClaimed x number) (claims-once k kind (add-word (sym e ∙ asks))) (elim (cases_lt number (rows_of s k)) [
         | inl l ↦ let has = after number l in (has.1, inr (l, has.2))
         | inr l ↦ let has = other number l in (has.1, inl has.2)
       ])
-  claim-fills kind mark asks (Answered r e none) number = absurd (asks_answers (sym asks ∙ e))
+  claim-fills kind mark asks (Answered r e none) number = absurd (asks-answers (sym asks ∙ e))
 
   claim-alone : (kind : Kind) (mark : Option Point) → call_turn c at ≡ Asks (Add (claims_of kind)) mark → Does (RowsOf s) c at → fills at ≡ []
-  claim-alone kind mark asks (Reads w m e after) = absurd (load_add (sym e ∙ asks))
-  claim-alone kind mark asks (Writes h w v m e among kept behind good after) = absurd (store_add (sym e ∙ asks))
-  claim-alone kind mark asks (Fills b k w v m e filled behind row good after) = absurd (store_add (sym e ∙ asks))
-  claim-alone kind mark asks (Ends b k w v m e filled behind row good after) = absurd (store_add (sym e ∙ asks))
+  claim-alone kind mark asks (Reads w m e after) = absurd (load-add (sym e ∙ asks))
+  claim-alone kind mark asks (Writes h w v m e among kept behind good after) = absurd (store-add (sym e ∙ asks))
+  claim-alone kind mark asks (Fills b k w v m e filled behind row good after) = absurd (store-add (sym e ∙ asks))
+  claim-alone kind mark asks (Ends b k w v m e filled behind row good after) = absurd (store-add (sym e ∙ asks))
   claim-alone kind mark asks (Releases h rest v m e with none is kept after) = none
   claim-alone kind mark asks (Takes h all m e with none kept after other) = none
   claim-alone kind mark asks (Claims k m e none after other) = none
-  claim-alone kind mark asks (Answered r e none) = absurd (asks_answers (sym asks ∙ e))
+  claim-alone kind mark asks (Answered r e none) = absurd (asks-answers (sym asks ∙ e))
 
   doing : Does (RowsOf s) c at
   doing = rows-do c.variant full s c.call some at knows
@@ -135,7 +126,7 @@ module _ (c : Setting) (full : IsFull c.variant) (some : 1 ≤ c.shape.rows256) 
         → IsClaimed kind number → AgreesOn c (call_after c at number) words (words_after (Add (claims_of kind)) real)
     claim-agrees kind number told mine its claimed word (inl h) =
         let held : IsHeldWord c at word = record { row = h.row; among = subst (IsAmong h.row) claimed.0 h.among; behind = h.behind } in
-        stored-other real (claims_of kind) word _ (λ e. omega (arith, e, held-high word held, claims-low kind)) ∙ agrees word (inl held)
+        stored-other real (claims_of kind) word _ (λ e. omega (arith, e, held-high word held, claims-few kind)) ∙ agrees word (inl held)
     claim-agrees kind number told mine its claimed word (inr f) = go claimed.1
       where
         go : (fills (call_after c at number) ≡ []) ⊎ ((number < rows_of s kind) × (fills (call_after c at number) ≡ (base_of s kind number, kind) ∷ []))
@@ -149,13 +140,13 @@ module _ (c : Setting) (full : IsFull c.variant) (some : 1 ≤ c.shape.rows256) 
             let low : base_of s kind number ≤ word = omega (arith, base, f.behind.0) in
             let high : word < base_of s kind number + row_words kind = omega (arith, base, size, f.behind.1) in
             let begins = row_begins s (base_of s kind number) kind (kind_at-base_of s kind number e.0) in
-            stored-other real (claims_of kind) word _ (λ g. omega (arith, g, low, begins, claims-low kind))
+            stored-other real (claims_of kind) word _ (λ g. omega (arith, g, low, begins, claims-few kind))
             ∙ (its e.0 word low high ∙ sym (mine e.0 word low high))
 
     -- where a claim is made no row is filled
     claim-before : (kind : Kind) → fills at ≡ [] → AgreesOn c at words (words_after (Add (claims_of kind)) real)
     claim-before kind none word (inl h) =
-        stored-other real (claims_of kind) word _ (λ e. omega (arith, e, held-high word h, claims-low kind)) ∙ agrees word (inl h)
+        stored-other real (claims_of kind) word _ (λ e. omega (arith, e, held-high word h, claims-few kind)) ∙ agrees word (inl h)
     claim-before kind none word (inr f) = absurd (nothing (sym none ∙ f.filled))
 
     pub follows : (a : Access) (mark : Option Point) → call_turn c at ≡ Asks a mark → CanFollow c at words real a → Follows a
@@ -196,11 +187,11 @@ pub own-follows : (c : Setting) (at : CallAt) (words real : List ℕ) (a : Acces
     → ((kind : Kind) → a ≡ Add (claims_of kind)
     → IsUnused c.shape words kind (slice_index real (claims_of kind)) × IsUnused c.shape real kind (slice_index real (claims_of kind)))
     → CanFollow c at words real a
-own-follows c at words real a mark (LoadsHeld word m e held) asks unused = subst (CanFollow c at words real) (asks_same (sym e ∙ asks)) held
-own-follows c at words real a mark (StoresOwn word value m e own) asks unused = subst (CanFollow c at words real) (asks_same (sym e ∙ asks)) tt
+own-follows c at words real a mark (LoadsHeld word m e held) asks unused = subst (CanFollow c at words real) (asks-same (sym e ∙ asks)) held
+own-follows c at words real a mark (StoresOwn word value m e own) asks unused = subst (CanFollow c at words real) (asks-same (sym e ∙ asks)) tt
 own-follows c at words real a mark (ClaimsRow kind m e may) asks unused =
-    let is : Add (claims_of kind) ≡ a = asks_same (sym e ∙ asks) in
+    let is : Add (claims_of kind) ≡ a = asks-same (sym e ∙ asks) in
     let fresh = unused kind (sym is) in
     subst (CanFollow c at words real) is (kind, refl, fresh.0, fresh.1)
-own-follows c at words real a mark (ReleasesHeld row value m e among releases) asks unused = subst (CanFollow c at words real) (asks_same (sym e ∙ asks)) tt
-own-follows c at words real a mark (Replies reply e) asks unused = absurd (asks_answers (sym asks ∙ e))
+own-follows c at words real a mark (ReleasesHeld row value m e among releases) asks unused = subst (CanFollow c at words real) (asks-same (sym e ∙ asks)) tt
+own-follows c at words real a mark (Replies reply e) asks unused = absurd (asks-answers (sym asks ∙ e))

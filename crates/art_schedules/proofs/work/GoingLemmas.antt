@@ -8,10 +8,11 @@ use Rattle.art_rows.specs.declared.table.Shape.{Shape}
 use Rattle.art_rows.specs.Table.{kind_at}
 use Rattle.art_rows.specs.Words.{released_word}
 use Rattle.art_steps.specs.declared.access.Access.{Access}
-use Rattle.art_steps.specs.declared.access.Access.TheVariants.{Load, Store, Add}
+use Rattle.art_steps.specs.declared.access.Access.TheVariants.{Load, Store}
 use Rattle.art_steps.specs.declared.access.Point.{Point}
 use Rattle.art_steps.specs.Steps.{Rest, Asks, Answers}
 use Rattle.art_steps.specs.Rows.{Setting, Row, is_scan, locks}
+use Rattle.art_steps.proofs.TurnLemmas.{asks-answers, load-word, stores-same, load-store, load-add, store-add, asks-same}
 use Rattle.art_stages.specs.declared.stage.Held.{Held}
 use Rattle.art_stages.specs.declared.stage.Hold.{Hold}
 use Rattle.art_stages.specs.declared.stage.Outcome.{Outcome}
@@ -20,7 +21,7 @@ use Rattle.art_stages.specs.declared.stage.Stage.TheVariants.{Obsolete, Unlock, 
 use Rattle.art_stages.specs.Stages.{reply_for, rest_in}
 use Rattle.art_stages.specs.Automaton.{turn_at, stage_after, hold_alone, release_at, no_value}
 use Rattle.art_stages.specs.Calls.{CallAt, OnKey, call_turn, call_after}
-use Rattle.art_serial.specs.alone.Alone.{RunsAlone, Comes}
+use Rattle.art_serial.specs.alone.Alone.{RunsAlone}
 use Rattle.art_serial.specs.alone.Alone as alone
 use Rattle.art_serial.proofs.alone.AloneLemmas.{load-same}
 use Rattle.art_serial.proofs.alone.RowRunLemmas.{with_unlocked}
@@ -29,7 +30,7 @@ use Rattle.art_versions.specs.versions.Holding.{KnowsKey}
 use Rattle.art_versions.specs.versions.Laws.{IsFull}
 use Rattle.art_schedules.specs.work.Solo.{Step, loads, stores, claims, Solo, further}
 use Rattle.art_schedules.specs.work.Works.{RowsOf}
-use Rattle.art_schedules.proofs.work.SoloLemmas.{load_load, store_store, load_store, load_add, store_add, asks_same, asks_answers, runs-before, solos-keep}
+use Rattle.art_schedules.proofs.work.SoloLemmas.{runs-before, solos-keep}
 use Rattle.art_stages.proofs.StepLemmas.{goes_on}
 use Rattle.art_stages.proofs.BehindLemmas.{call_next}
 use Rattle.art_core.specs.Accesses.{got_by, words_after}
@@ -37,34 +38,25 @@ use Rattle.art_schedules.proofs.work.WorkLemmas.{IsPlain, AtWork, IsEnd, Next, n
 
 -- ---- a step, by what the stage asks
 
-load_none : {word : ℕ} {mark : Option Point} {r : Reply} → Asks (Load word) mark ≡ Answers r → ⊥
-load_none e = cc
-
-store_none : {word value : ℕ} {mark : Option Point} {r : Reply} → Asks (Store word value) mark ≡ Answers r → ⊥
-store_none e = cc
-
-add_none : {word : ℕ} {mark : Option Point} {r : Reply} → Asks (Add word) mark ≡ Answers r → ⊥
-add_none e = cc
-
 module _ (c : Setting) {at : CallAt} {words : List ℕ} where
   pub step-load : {next : CallAt} {later : List ℕ} (word : ℕ) (mark : Option Point) → call_turn c at ≡ Asks (Load word) mark → Step c at words next later
       → (next ≡ call_after c at (slice_index words word)) × (later ≡ words)
-  step-load word mark asks (loads w m h) = (ap (λ w. call_after c at (slice_index words w)) (load_load (sym h ∙ asks)), refl)
-  step-load word mark asks (stores w v m h) = absurd (load_store (sym (sym h ∙ asks)))
-  step-load word mark asks (claims k n m h u) = absurd (load_add (sym (sym h ∙ asks)))
+  step-load word mark asks (loads w m h) = (ap (λ w. call_after c at (slice_index words w)) (load-word (sym h ∙ asks)), refl)
+  step-load word mark asks (stores w v m h) = absurd (load-store (sym (sym h ∙ asks)))
+  step-load word mark asks (claims k n m h u) = absurd (load-add (sym (sym h ∙ asks)))
 
   pub step-store : {next : CallAt} {later : List ℕ} (word value : ℕ) (mark : Option Point) → call_turn c at ≡ Asks (Store word value) mark
       → Step c at words next later
       → (next ≡ call_after c at 0) × (later ≡ slice_set words word value)
-  step-store word value mark asks (loads w m h) = absurd (load_store (sym h ∙ asks))
+  step-store word value mark asks (loads w m h) = absurd (load-store (sym h ∙ asks))
   step-store word value mark asks (stores w v m h) =
-      let same = store_store (sym h ∙ asks) in (refl, ap (λ w. slice_set words w v) same.0 ∙ ap (slice_set words word) same.1)
-  step-store word value mark asks (claims k n m h u) = absurd (store_add (sym (sym h ∙ asks)))
+      let same = stores-same (sym h ∙ asks) in (refl, ap (λ w. slice_set words w v) same.0 ∙ ap (slice_set words word) same.1)
+  step-store word value mark asks (claims k n m h u) = absurd (store-add (sym (sym h ∙ asks)))
 
   pub step-none : {next : CallAt} {later : List ℕ} (r : Reply) → call_turn c at ≡ Answers r → Step c at words next later → ⊥
-  step-none r asks (loads w m h) = load_none (sym h ∙ asks)
-  step-none r asks (stores w v m h) = store_none (sym h ∙ asks)
-  step-none r asks (claims k n m h u) = add_none (sym h ∙ asks)
+  step-none r asks (loads w m h) = asks-answers (sym h ∙ asks)
+  step-none r asks (stores w v m h) = asks-answers (sym h ∙ asks)
+  step-none r asks (claims k n m h u) = asks-answers (sym h ∙ asks)
 
 -- ---- words
 
@@ -234,7 +226,7 @@ module _ (c : Setting) (full : IsFull c.variant) (some : 1 ≤ c.shape.rows256) 
         (acts c full some work g.knows)
       where
         asked : {a : Access} {mark : Option Point} → turn_at c stage ≡ Asks a mark → ⊥
-        asked f = asks_answers (sym f ∙ (sym (call_next c (OnKey stage)) ∙ (sym (same []) ∙ e)))
+        asked f = asks-answers (sym f ∙ (sym (call_next c (OnKey stage)) ∙ (sym (same []) ∙ e)))
 
         go : Acts c stage → Comes-to at0 start
         go (Loading word mark asks plain knows) = absurd (asked asks)
@@ -243,7 +235,7 @@ module _ (c : Setting) (full : IsFull c.variant) (some : 1 ≤ c.shape.rows256) 
         go (λ stage words solo g same is next. going-ends run stage words solo g same is next) (acts c full some work g.knows)
       where
         asked : {x : Access} {mark : Option Point} → turn_at c stage ≡ Asks x mark → a ≡ x
-        asked f = asks_same (sym e ∙ (same [] ∙ (call_next c (OnKey stage) ∙ f)))
+        asked f = asks-same (sym e ∙ (same [] ∙ (call_next c (OnKey stage) ∙ f)))
 
         on : (x : Access) (got : ℕ) → a ≡ x → got_by x g.now ≡ got → (more : List ℕ) → rest (got_by a ws ∷ more) ≡ rest_in c (stage_after c stage got) more
         on x got f told more =

@@ -7,6 +7,7 @@ use Rattle.art_rows.specs.declared.table.Kind.TheVariants.{Four, Sixteen, FortyE
 use Rattle.art_rows.specs.declared.table.Child.TheVariants.{Empty, Row as ChildRow}
 use Rattle.art_rows.specs.Table.{row_words, rows_of, table_words, claims_of, base_of, info_at, kind_at}
 use Rattle.art_rows.specs.Words.{info_word, row_word, released_word, obsolete_word}
+use Rattle.art_rows.proofs.KindLemmas.{two-words}
 use Rattle.art_steps.specs.Steps.{◌>>◌, give}
 use Rattle.art_steps.specs.Rows.{Setting, Row, is_scan, locks}
 use Rattle.art_steps.specs.Updates.{grow, new_leaf, next_kind}
@@ -47,12 +48,6 @@ unlocked-same (n ∷ rows) words = unlocked-same rows (slice_set words n.base (r
 
 empty-row : {base : ℕ} {kind : Kind} → ChildRow base kind ≡ Empty → ⊥
 empty-row e = cc
-
-two-words : (kind : Kind) → 2 ≤ row_words kind
-two-words Four = omega arith
-two-words Sixteen = omega arith
-two-words FortyEight = omega arith
-two-words Full = omega arith
 
 module _ (c : Setting) (full : IsFull c.variant) (some : 1 ≤ c.shape.rows256) (key : is_scan c.call ≡ false) (h : Hold) (slot : ℕ) (keys : Keys) (w0 : List ℕ)
     (long : table_words c.shape ≤ length w0) (knows : KnowsKey (RowsOf c.shape) c (ClaimGrow h slot keys)) (found : FitsWords c h

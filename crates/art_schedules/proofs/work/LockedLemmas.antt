@@ -7,7 +7,9 @@ use Rattle.events.specs.declared.event.Call.{Call}
 use Rattle.art_rows.specs.declared.table.Shape.{Shape}
 use Rattle.art_rows.specs.declared.table.Kind.{Kind}
 use Rattle.art_rows.specs.declared.table.Kind.TheVariants.{Four, Sixteen, FortyEight, Full}
-use Rattle.art_rows.specs.Table.{row_words, kind_at, info_at, keys_at, more_keys_at, index_at, count_at, child_at}
+use Rattle.art_rows.specs.Table.{kind_at, info_at, keys_at, more_keys_at, index_at, count_at, child_at}
+use Rattle.art_rows.proofs.KindLemmas.{seven-words}
+use Rattle.art_rows.proofs.ByteLemmas.{key_byte-small}
 use Rattle.art_steps.specs.declared.variant.Variant.TheVariants.{Coupled}
 use Rattle.art_steps.specs.Rows.{Setting, is_insert, key_of}
 use Rattle.art_stages.specs.declared.stage.Held.{Held}
@@ -26,22 +28,15 @@ use Rattle.art_versions.specs.versions.Holding.{Each, IsKept, Knows, KnowsKey, K
 use Rattle.art_versions.specs.versions.Effects.{IsAmong, IsBehindVersion}
 use Rattle.art_versions.proofs.versions.KeyLemmas.{slot-behind}
 use Rattle.art_versions.proofs.versions.KnownLemmas.{among-each}
-use Rattle.art_versions.proofs.versions.WordFacts.{key_byte-small}
 use Rattle.art_schedules.specs.work.Own.{IsHeldWord, TouchesOwn, LoadsHeld, ReleasesHeld, Replies, is_lock, IsWalked, ReadsHeld}
 use Rattle.art_schedules.specs.work.Works.{RowsOf}
 use Rattle.art_schedules.proofs.work.TouchLemmas.{work-own}
 
-five-words : (kind : Kind) → 7 ≤ row_words kind
-five-words Four = omega arith
-five-words Sixteen = omega arith
-five-words FortyEight = omega arith
-five-words Full = omega arith
+pub lock-last : (rows : List Held) (n : Held) → IsAmong (lock_of n) (locks_of (rows ++ n ∷ []))
+lock-last [] n = inl refl
+lock-last (x ∷ rows) n = inr (lock-last rows n)
 
-among-last : (rows : List Held) (n : Held) → IsAmong (lock_of n) (locks_of (rows ++ n ∷ []))
-among-last [] n = inl refl
-among-last (x ∷ rows) n = inr (among-last rows n)
-
-among-lock : (row : Held) (rows : List Held) → IsAmong row rows → IsAmong (lock_of row) (locks_of rows)
+pub among-lock : (row : Held) (rows : List Held) → IsAmong row rows → IsAmong (lock_of row) (locks_of rows)
 among-lock row [] a = a
 among-lock row (x ∷ rows) (inl e) = inl (ap lock_of e)
 among-lock row (x ∷ rows) (inr a) = inr (among-lock row rows a)
@@ -87,18 +82,18 @@ module _ (shape : Shape) (call : Call) (some : 1 ≤ shape.rows256) where
   key-own (Info d kept) k r e = LoadsHeld (info_at d.base) None refl (record {
     row = held d.base d.kind 0 kept;
     among = below-among (is_insert call) d kept;
-    behind = (omega arith, omega (arith, five-words d.kind));
+    behind = (omega arith, omega (arith, seven-words d.kind));
   })
   key-own (Find p) k r e = find-own p.row.base p.row.kind p.row.info p.row.kept p.above p.slot
   key-own (FindKeys p count) k r e = LoadsHeld (keys_at p.row.base) None refl (record {
     row = lock_of p.row;
     among = place-among (is_insert call) p;
-    behind = (omega arith, omega (arith, five-words p.row.kind));
+    behind = (omega arith, omega (arith, seven-words p.row.kind));
   })
   key-own (FindMore p count first) k r e = LoadsHeld (more_keys_at p.row.base) None refl (record {
     row = lock_of p.row;
     among = place-among (is_insert call) p;
-    behind = (omega arith, omega (arith, five-words p.row.kind));
+    behind = (omega arith, omega (arith, seven-words p.row.kind));
   })
   key-own (FindCount p index) k r e = LoadsHeld (count_at FortyEight p.row.base) None refl (record {
     row = lock_of p.row;
@@ -146,14 +141,14 @@ module _ (shape : Shape) (call : Call) (some : 1 ≤ shape.rows256) where
     scan-own (scan.Wait entry) k r e = absurd k.fits
     scan-own (scan.Info base kind kept) k r e = LoadsHeld (info_at base) None refl (record {
       row = held base kind 0 kept;
-      among = among-last w.rows (held base kind 0 kept);
-      behind = (omega arith, omega (arith, five-words kind));
+      among = lock-last w.rows (held base kind 0 kept);
+      behind = (omega arith, omega (arith, seven-words kind));
     })
     scan-own (scan.Keys n) k r e = keys-own n.base n.kind n.info n.kept k r.0
     scan-own (scan.FirstKeys n count) k r e = LoadsHeld (keys_at n.base) None refl
-        (walked-word (scan.FirstKeys n count) n (keys_at n.base) refl r.0 k.kept k.known.0 (omega arith, omega (arith, five-words n.kind)))
+        (walked-word (scan.FirstKeys n count) n (keys_at n.base) refl r.0 k.kept k.known.0 (omega arith, omega (arith, seven-words n.kind)))
     scan-own (scan.SecondKeys n count first) k r e = LoadsHeld (more_keys_at n.base) None refl
-        (walked-word (scan.SecondKeys n count first) n (more_keys_at n.base) refl r.0 k.kept k.known.0 (omega arith, omega (arith, five-words n.kind)))
+        (walked-word (scan.SecondKeys n count first) n (more_keys_at n.base) refl r.0 k.kept k.known.0 (omega arith, omega (arith, seven-words n.kind)))
     scan-own (scan.Index n index words) k r e = LoadsHeld (index_at n.base (8 * index)) None refl
         (walked-word (scan.Index n index words) n (index_at n.base (8 * index)) refl r.0 k.kept k.known.0
         (subst (λ kind. IsBehindVersion n.base kind (index_at n.base (8 * index))) (sym k.fits.0) (omega (arith, k.fits.1), omega (arith, k.fits.1))))

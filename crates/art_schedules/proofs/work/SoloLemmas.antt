@@ -6,8 +6,9 @@ use Rattle.art_rows.specs.Table.{claims_of}
 use Rattle.art_steps.specs.declared.access.Access.{Access}
 use Rattle.art_steps.specs.declared.access.Access.TheVariants.{Load, Store, Add}
 use Rattle.art_steps.specs.declared.access.Point.{Point}
-use Rattle.art_steps.specs.Steps.{Rest, Asks, Answers}
+use Rattle.art_steps.specs.Steps.{Rest, Asks}
 use Rattle.art_steps.specs.Rows.{Setting}
+use Rattle.art_steps.proofs.TurnLemmas.{load-word, stores-same, load-store, load-add, store-add, asks-same, asks-answers}
 use Rattle.art_stages.specs.Calls.{CallAt, OnKey, OnScan, rest_at, call_turn, call_after}
 use Rattle.art_stages.proofs.StepLemmas.{goes_on}
 use Rattle.art_stages.proofs.ScanLemmas.{scan_goes_on}
@@ -15,25 +16,12 @@ use Rattle.art_stages.proofs.BehindLemmas.{call_next}
 use Rattle.art_core.specs.Accesses.{got_by, words_after}
 use Rattle.art_serial.specs.alone.Alone.{RunsAlone, ends, goes}
 use Rattle.art_serial.proofs.alone.AloneLemmas.{same-runs, load-same}
+use Rattle.art_serial.proofs.alone.DifferLemmas.{heads, tails}
+use Rattle.art_versions.proofs.versions.ByteLemmas.{no-head}
 use Rattle.art_schedules.specs.work.Solo.{Step, loads, stores, claims, Solo, here, further, number_in, numbers_of, made_of, words_alone, TellsSame, TellAll}
 use Rattle.art_schedules.specs.work.Solo.{Suits}
 
 -- ---- one step
-
-pub load_load : {v w : ℕ} {p q : Option Point} → Asks (Load v) p ≡ Asks (Load w) q → v ≡ w
-load_load e = cc
-
-pub store_store : {v w x y : ℕ} {p q : Option Point} → Asks (Store v x) p ≡ Asks (Store w y) q → (v ≡ w) × (x ≡ y)
-store_store e = (cc, cc)
-
-pub load_store : {v w y : ℕ} {p q : Option Point} → Asks (Load v) p ≡ Asks (Store w y) q → ⊥
-load_store e = cc
-
-pub load_add : {v w : ℕ} {p q : Option Point} → Asks (Load v) p ≡ Asks (Add w) q → ⊥
-load_add e = cc
-
-pub store_add : {v w y : ℕ} {p q : Option Point} → Asks (Store v y) p ≡ Asks (Add w) q → ⊥
-store_add e = cc
 
 abbrev turns : (c : Setting) {a b : CallAt} → a ≡ b → call_turn c a ≡ call_turn c b
 turns c e = ap (call_turn c) e
@@ -41,34 +29,25 @@ turns c e = ap (call_turn c) e
 step-once : (c : Setting) {a b one two : CallAt} {v w x y : List ℕ} → a ≡ b → v ≡ w → (s : Step c a v one x) (t : Step c b w two y)
     → number_in s ≡ number_in t → (one ≡ two) × (x ≡ y)
 step-once c {a = a} {b = b} {v = v} {w = w} e f (loads i m h) (loads j n k) g =
-    let same = load_load (sym h ∙ (turns c e ∙ k)) in
+    let same = load-word (sym h ∙ (turns c e ∙ k)) in
     (ap (λ p. call_after c p (slice_index v i)) e ∙ ap (call_after c b) (ap (λ ws. slice_index ws i) f ∙ ap (slice_index w) same), f)
 step-once c {a = a} {b = b} {v = v} {w = w} e f (stores i r m h) (stores j q n k) g =
-    let same = store_store (sym h ∙ (turns c e ∙ k)) in
+    let same = stores-same (sym h ∙ (turns c e ∙ k)) in
     (ap (λ p. call_after c p 0) e, ap (λ ws. slice_set ws i r) f ∙ (ap (λ x. slice_set w x r) same.0 ∙ ap (slice_set w j) same.1))
 step-once c {a = a} {b = b} e f (claims i r m h u) (claims j q n k z) g = (ap (λ p. call_after c p r) e ∙ ap (call_after c b) g, f)
-step-once c e f (loads i m h) (stores j q n k) g = absurd (load_store (sym h ∙ (turns c e ∙ k)))
-step-once c e f (loads i m h) (claims j q n k z) g = absurd (load_add (sym h ∙ (turns c e ∙ k)))
-step-once c e f (stores i r m h) (loads j n k) g = absurd (load_store (sym (sym h ∙ (turns c e ∙ k))))
-step-once c e f (stores i r m h) (claims j q n k z) g = absurd (store_add (sym h ∙ (turns c e ∙ k)))
-step-once c e f (claims i r m h u) (loads j n k) g = absurd (load_add (sym (sym h ∙ (turns c e ∙ k))))
-step-once c e f (claims i r m h u) (stores j q n k) g = absurd (store_add (sym (sym h ∙ (turns c e ∙ k))))
-
-first_same : {x y : ℕ} {xs ys : List ℕ} → x ∷ xs ≡ y ∷ ys → x ≡ y
-first_same e = cc
-
-rest_same : {x y : ℕ} {xs ys : List ℕ} → x ∷ xs ≡ y ∷ ys → xs ≡ ys
-rest_same e = cc
-
-none_some : {x : ℕ} {xs : List ℕ} → [] ≡ x ∷ xs → ⊥
-none_some e = cc
+step-once c e f (loads i m h) (stores j q n k) g = absurd (load-store (sym h ∙ (turns c e ∙ k)))
+step-once c e f (loads i m h) (claims j q n k z) g = absurd (load-add (sym h ∙ (turns c e ∙ k)))
+step-once c e f (stores i r m h) (loads j n k) g = absurd (load-store (sym (sym h ∙ (turns c e ∙ k))))
+step-once c e f (stores i r m h) (claims j q n k z) g = absurd (store-add (sym h ∙ (turns c e ∙ k)))
+step-once c e f (claims i r m h u) (loads j n k) g = absurd (load-add (sym (sym h ∙ (turns c e ∙ k))))
+step-once c e f (claims i r m h u) (stores j q n k) g = absurd (store-add (sym (sym h ∙ (turns c e ∙ k))))
 
 pub solos-one : (c : Setting) {at0 : CallAt} {w0 : List ℕ} {one two : CallAt} {words later : List ℕ} (s : Solo c at0 w0 one words) (t : Solo c at0 w0 two later)
     → numbers_of s ≡ numbers_of t → (one ≡ two) × (words ≡ later)
 solos-one c here here e = (refl, refl)
-solos-one c here (further t step) e = absurd (none_some e)
-solos-one c (further s step) here e = absurd (none_some (sym e))
-solos-one c (further s one) (further t two) e = let before = solos-one c s t (rest_same e) in step-once c before.0 before.1 one two (first_same e)
+solos-one c here (further t step) e = absurd (no-head e)
+solos-one c (further s step) here e = absurd (no-head (sym e))
+solos-one c (further s one) (further t two) e = let before = solos-one c s t (tails e) in step-once c before.0 before.1 one two (heads e)
 
 pub solos-on : (c : Setting) {at0 : CallAt} {w0 : List ℕ} {one : CallAt} {words : List ℕ} {two : CallAt} {later : List ℕ} → Solo c at0 w0 one words
     → Solo c one words two later → Solo c at0 w0 two later
@@ -92,19 +71,13 @@ pub suits-on : (c : Setting) (at : CallAt) (w : ℕ) → Suits c at → Suits c 
 suits-on c (OnKey stage) w s = s
 suits-on c (OnScan low high scan) w s = s
 
-pub asks_same : {a b : Access} {p q : Option Point} → Asks a p ≡ Asks b q → a ≡ b
-asks_same e = cc
-
-pub asks_answers : {a : Access} {p : Option Point} {r : Reply} → Asks a p ≡ Answers r → ⊥
-asks_answers e = cc
-
 -- a run that begins with this access
 pub run-behind : {rest : Rest} {words last : List ℕ} {reply : Reply} (a : Access) (mark : Option Point) → rest [] ≡ Asks a mark
     → RunsAlone rest words last reply
     → RunsAlone (λ more. rest (got_by a words ∷ more)) (words_after a words) last reply
-run-behind a mark asks (ends h) = absurd (asks_answers (sym asks ∙ h))
+run-behind a mark asks (ends h) = absurd (asks-answers (sym asks ∙ h))
 run-behind {rest = rest} {words = words} {last = last} {reply = reply} a mark asks (goes b p h r) =
-    subst (λ (x : Access). RunsAlone (λ more. rest (got_by x words ∷ more)) (words_after x words) last reply) (asks_same (sym h ∙ asks)) r
+    subst (λ (x : Access). RunsAlone (λ more. rest (got_by x words ∷ more)) (words_after x words) last reply) (asks-same (sym h ∙ asks)) r
 
 -- an access, and what is left behind it
 module _ (c : Setting) (at : CallAt) (suits : Suits c at) (a : Access) (mark : Option Point) (asks : call_turn c at ≡ Asks a mark) (words : List ℕ) (got : ℕ)

@@ -1,7 +1,6 @@
 -- A scan that locks what it reads holds each row that it reads, or that is on its way.
 use Rattle.std.proofs.Common.{◌≡◌, ℕ, zero, suc, ◌+◌, List, [], ◌∷◌, ◌++◌, map, refl, Bool, true, false, inl, inr}
-use Rattle.std.proofs.Common.{eqb-true}
-use Rattle.std.specs.Prelude.{◌==◌, filter, if◌then◌else◌, Option, Some, None}
+use Rattle.std.specs.Prelude.{◌==◌, filter, Option, Some, None, if◌then◌else◌}
 use Rattle.events.specs.declared.event.Call.{Call}
 use Rattle.events.specs.declared.event.Call.TheVariants.{Get, Insert, Remove, Scan, Replace}
 use Rattle.art_rows.specs.declared.table.Shape.{Shape}
@@ -30,6 +29,7 @@ use Rattle.art_stages.specs.Calls.{CallAt, OnKey, OnScan, call_after, begun_as, 
 use Rattle.art_versions.specs.versions.Holding.{Each}
 use Rattle.art_versions.specs.versions.Effects.{IsAmong}
 use Rattle.art_versions.proofs.versions.KeyLemmas.{each-weaker}
+use Rattle.art_versions.proofs.versions.KnownLemmas.{among-last, found-row}
 use Rattle.art_schedules.specs.work.Own.{IsWalked, ReadsWalked, ReadsHeld}
 use Rattle.art_schedules.proofs.work.ReadLemmas.{key-reads}
 
@@ -43,31 +43,10 @@ pick : (b : Bool) (x y : ScanAt) → Good x → Good y → Good (if b then x els
 pick true x y g h = g
 pick false x y g h = h
 
--- a row that is met again
-met-again : (base : ℕ) (rows : List Held) → has_row base (map row_at rows) ≡ true → (row : Held) × IsAmong row rows × (row.base ≡ base)
-met-again base [] e = absurd (differ e)
-  where
-    differ : false ≡ true → ⊥
-    differ e = cc
-met-again base (x ∷ rows) e = go (λ h. met-again base rows h) (x.base == base) refl e
-  where
-    found : (row : Held) × IsAmong row rows × (row.base ≡ base) → (row : Held) × IsAmong row (x ∷ rows) × (row.base ≡ base)
-    found r = (r.0, inr r.1, r.2)
-
-    go : (has_row base (map row_at rows) ≡ true → (row : Held) × IsAmong row rows × (row.base ≡ base))
-        → (b : Bool) → (x.base == base) ≡ b → (if b then true else has_row base (map row_at rows)) ≡ true
-        → (row : Held) × IsAmong row (x ∷ rows) × (row.base ≡ base)
-    go again true f h = (x, inl refl, eqb-true x.base base f)
-    go again false f h = found (again h)
-
 among-more : (row n : Held) (rows : List Held) → IsAmong row rows → IsAmong row (rows ++ n ∷ [])
 among-more row n [] a = absurd a
 among-more row n (x ∷ rows) (inl e) = inl e
 among-more row n (x ∷ rows) (inr a) = inr (among-more row n rows a)
-
-among-new : (n : Held) (rows : List Held) → IsAmong n (rows ++ n ∷ [])
-among-new n [] = inl refl
-among-new n (x ∷ rows) = inr (among-new n rows)
 
 module _ (shape : Shape) (call : Call) (lo hi : ℕ) where
   abbrev c : Setting
@@ -136,8 +115,8 @@ module _ (shape : Shape) (call : Call) (lo hi : ℕ) where
       more = record { rows = w.rows ++ n ∷ []; pairs = w.pairs; way = w.way }
 
       go : (b : Bool) → has_row n.base (map row_at w.rows) ≡ b → Good (visit_list c lo hi n (if b then w else more) (bytes_of lo hi (row_at n)))
-      go true e = listed-good n w (bytes_of lo hi (row_at n)) (met-again n.base w.rows e) ways
-      go false e = listed-good n more (bytes_of lo hi (row_at n)) (n, among-new n w.rows, refl)
+      go true e = listed-good n w (bytes_of lo hi (row_at n)) (found-row n.base w.rows e) ways
+      go false e = listed-good n more (bytes_of lo hi (row_at n)) (n, among-last n w.rows, refl)
           (each-weaker (λ (f : Frame). IsWalked f.row w.rows) (λ (f : Frame). IsWalked f.row (w.rows ++ n ∷ []))
           (λ f x. (x.0, among-more x.0 n w.rows x.1, x.2)) w.way ways)
 

@@ -1,6 +1,6 @@
 -- The stages of work between its claim and its first release: what comes next, and what is touched there.
 use Rattle.std.proofs.Common.{◌≡◌, ℕ, zero, suc, ◌+◌, ◌<◌, ◌≤◌, List, [], ◌∷◌, length, refl, ap, sym, subst, ◌∙◌, Bool, true, false, inl, inr, arith}
-use Rattle.std.specs.Prelude.{◌≢◌, ◌⊎◌, ◌==◌, if◌then◌else◌, slice_index, Option, Some, None}
+use Rattle.std.specs.Prelude.{◌≢◌, ◌⊎◌, ◌==◌, slice_index, Option, Some, None, if◌then◌else◌}
 use Rattle.std.proofs.lemmas.Option.{none-some}
 use Rattle.std.proofs.lemmas.Bool.{cases_lt}
 use Rattle.art_rows.specs.declared.table.Shape.{Shape}
@@ -8,8 +8,9 @@ use Rattle.art_rows.specs.declared.table.Kind.{Kind}
 use Rattle.art_rows.specs.declared.table.Kind.TheVariants.{Four, Sixteen, FortyEight, Full}
 use Rattle.art_rows.specs.declared.table.Child.{Child}
 use Rattle.art_rows.specs.declared.table.Child.TheVariants.{Empty, Row as ChildRow, Leaf}
-use Rattle.art_rows.specs.Table.{row_words, kind_at}
+use Rattle.art_rows.specs.Table.{kind_at}
 use Rattle.art_rows.specs.Words.{entries_of, child_of}
+use Rattle.art_rows.proofs.KindLemmas.{two-words}
 use Rattle.art_steps.specs.declared.access.Access.TheVariants.{Load, Store}
 use Rattle.art_steps.specs.declared.access.Point.{Point}
 use Rattle.art_steps.specs.Steps.{Asks}
@@ -50,17 +51,11 @@ pub record IsPlain (s : Shape) (word : ℕ) : Type 0 where
   pub behind : 5 ≤ word
   pub bare : (base : ℕ) (kind : Kind) → kind_at s base ≡ Some kind → word ≢ base
 
-some-words : (kind : Kind) → 2 ≤ row_words kind
-some-words Four = omega arith
-some-words Sixteen = omega arith
-some-words FortyEight = omega arith
-some-words Full = omega arith
-
 pub behind-plain : (s : Shape) (b : ℕ) (k : Kind) (word : ℕ) → kind_at s b ≡ Some k → IsBehindVersion b k word → IsPlain s word
 behind-plain s b k word row at = record {
   behind = omega (arith, row_begins s b k row, at.0);
   bare = λ base kind e is.
-      let same = rows_apart s base b kind k word e row (omega (arith, is)) (omega (arith, is, some-words kind)) (omega (arith, at.0)) at.1 in
+      let same = rows_apart s base b kind k word e row (omega (arith, is)) (omega (arith, is, two-words kind)) (omega (arith, at.0)) at.1 in
       omega (arith, same.0, is, at.0);
 }
 

@@ -10,7 +10,7 @@ use Rattle.art_rows.specs.Words.{is_obsolete}
 use Rattle.art_steps.specs.declared.access.Access.{Access}
 use Rattle.art_steps.specs.declared.access.Point.{Point}
 use Rattle.art_steps.specs.Steps.{Turn, Asks, Answers}
-use Rattle.art_stages.specs.Calls.{CallAt, call_turn, call_after, call_begun}
+use Rattle.art_stages.specs.Calls.{call_turn, call_after, call_begun}
 use Rattle.art_stages.specs.Stages.{setting}
 use Rattle.art_core.specs.declared.process.Process.{Process}
 use Rattle.art_core.specs.Accesses.{got_by, words_after}
@@ -119,64 +119,9 @@ pub record AnswersCall (plan : Plan) (s : State) (p : ℕ) (t : State) (call : C
   pub idle : later.call ≡ None
   pub words : (word : ℕ) → word ≢ 0 → slice_index t.words word ≡ slice_index s.words word
 
--- ---- what fits each call by itself
-
 -- each open call has a status that fits
 abbrev pub AllFit : (List ℕ → State → List ℕ → ℕ → Call → Process → Status → Type 0) → List ℕ → State → List ℕ → Type 0
 AllFit Fits schedule s calm = (p : ℕ) (call : Call) (q : Process) → IsOpen s p call q → (status : Status) × Fits schedule s calm p call q status
-
--- What fits is kept: by the step that begins a call, by an access of the call, by each step of another process; and what fits a call that is answered has the
--- reply. That the tree stays in steps that begin and answer calls is given, and not asked.
-pub record AreKept (plan : Plan) (start : Contents) (words : List ℕ) (Fits : List ℕ → State → List ℕ → ℕ → Call → Process → Status → Type 0) : Type 0 where
-  pub begins : (schedule : List ℕ) (tale : Tale) (p : ℕ) (s t : State) (calm after : List ℕ)
-      → IsToldStep plan start words schedule tale p s t calm after → AllFit Fits schedule s calm
-      → (call : Call) (q later : Process) → BeginsCall plan s p t call q later
-      → GoesOn plan.shape t calm after (tale.pairs (length schedule)) None
-      → Fits (schedule ++ p ∷ []) t after p call later Before
-  pub own : (schedule : List ℕ) (tale : Tale) (p : ℕ) (s t : State) (calm after : List ℕ)
-      → IsToldStep plan start words schedule tale p s t calm after → AllFit Fits schedule s calm
-      → (call : Call) (q later : Process) (a : Access) (status : Status) → MakesAccess plan s p t call q later a → Fits schedule s calm p call q status
-      → OwnStep plan words schedule tale p t calm after call q status (λ effect next. Fits (schedule ++ p ∷ []) t after p call later next)
-  pub other : (schedule : List ℕ) (tale : Tale) (p : ℕ) (s t : State) (calm after : List ℕ)
-      → IsToldStep plan start words schedule tale p s t calm after → AllFit Fits schedule s calm
-      → (effect : Option Effect) → GoesOn plan.shape t calm after (tale.pairs (length schedule)) effect
-      → (r : ℕ) (call : Call) (q : Process) (status : Status) → r ≢ p → IsOpen s r call q → IsOpen t r call q → Fits schedule s calm r call q status
-      → Fits (schedule ++ p ∷ []) t after r call q status
-  pub answers : (schedule : List ℕ) (tale : Tale) (p : ℕ) (s t : State) (calm after : List ℕ)
-      → IsToldStep plan start words schedule tale p s t calm after → AllFit Fits schedule s calm
-      → (call : Call) (q : Process) (status : Status) (reply : Reply) → AnswersCall plan s p t call q reply → Fits schedule s calm p call q status
-      → IsAnswered plan words schedule tale p call q status reply
-
--- The same of the words, calm, the call, its stage and its status alone.
-abbrev pub OfStage : Type 1
-OfStage = List ℕ → List ℕ → Call → CallAt → Status → Type 0
-
--- what is so of each open call
-abbrev pub OfEachStage : Plan → OfStage → List ℕ → State → List ℕ → ℕ → Call → Process → Status → Type 0
-OfEachStage plan Knows schedule s calm p call q status = Knows s.words calm call (stage_of plan.variant plan.shape call q) status
-
-pub record StagesAreKept (plan : Plan) (start : Contents) (words : List ℕ) (Knows : OfStage) : Type 0 where
-  pub begins : (schedule : List ℕ) (tale : Tale) (p : ℕ) (s t : State) (calm after : List ℕ)
-      → IsToldStep plan start words schedule tale p s t calm after → AllFit (OfEachStage plan Knows) schedule s calm
-      → (call : Call) (q later : Process) → BeginsCall plan s p t call q later → GoesOn plan.shape t calm after (tale.pairs (length schedule)) None
-      → Knows t.words after call (call_begun (setting plan.shape plan.variant call)) Before
-  pub own : (schedule : List ℕ) (tale : Tale) (p : ℕ) (s t : State) (calm after : List ℕ)
-      → IsToldStep plan start words schedule tale p s t calm after → AllFit (OfEachStage plan Knows) schedule s calm
-      → (call : Call) (q later : Process) (a : Access) (status : Status) → MakesAccess plan s p t call q later a
-      → Knows s.words calm call (stage_of plan.variant plan.shape call q) status
-      → OwnStep plan words schedule tale p t calm after call q status
-      (λ effect next. Knows t.words after call
-      (call_after (setting plan.shape plan.variant call) (stage_of plan.variant plan.shape call q) (got_by a s.words)) next)
-  pub other : (schedule : List ℕ) (tale : Tale) (p : ℕ) (s t : State) (calm after : List ℕ)
-      → IsToldStep plan start words schedule tale p s t calm after → AllFit (OfEachStage plan Knows) schedule s calm
-      → (effect : Option Effect) → GoesOn plan.shape t calm after (tale.pairs (length schedule)) effect
-      → (r : ℕ) (call : Call) (q : Process) (status : Status) → r ≢ p → IsOpen s r call q → IsOpen t r call q
-      → Knows s.words calm call (stage_of plan.variant plan.shape call q) status → Knows t.words after call (stage_of plan.variant plan.shape call q) status
-  pub answers : (schedule : List ℕ) (tale : Tale) (p : ℕ) (s t : State) (calm after : List ℕ)
-      → IsToldStep plan start words schedule tale p s t calm after → AllFit (OfEachStage plan Knows) schedule s calm
-      → (call : Call) (q : Process) (status : Status) (reply : Reply) → AnswersCall plan s p t call q reply
-      → Knows s.words calm call (stage_of plan.variant plan.shape call q) status
-      → IsAnswered plan words schedule tale p call q status reply
 
 -- ---- what fits all calls together: a ghost, which the steps change, something of the whole state, and of each call, with the ghost
 

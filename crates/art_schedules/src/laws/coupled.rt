@@ -3,7 +3,6 @@ ghost use Rattle.art_schedules.specs.coupled.Laws.{HeldRowsLive, ObsoleteRowsLea
 ghost use Rattle.art_schedules.specs.coupled.Laws.{CallsBegin, CallsGoOn, CallsStay, FindingsStay, FoundIsAnswered, OthersLeaveWays, WaysGoOn};
 ghost use Rattle.art_schedules.specs.coupled.Good.{GoodRowsStay, OthersLeaveGood, SeekersAreNotAnswered, WaysTakeReached};
 ghost use Rattle.art_schedules.specs.coupled.Stays.{WaysAreKept};
-ghost use Rattle.art_schedules.specs.coupled.Scanned.{ScansComeAlone};
 ghost use Rattle.art_schedules.specs.coupled.Scanning.{ScansKeepTrees, ScansKnowTrees};
 ghost use Rattle.art_schedules.specs.coupled.Walks.{WalksAreTheMaps, WalksStay};
 
@@ -117,9 +116,4 @@ pub fn walks_are_the_maps()
 pub fn scans_know_trees()
     ensures own { ScansKnowTrees }
     ensures others { ScansKeepTrees }
-{}
-
-/// A step of a scan that holds what it reads: alone on calm it comes to the next stage too.
-pub fn scans_come_alone()
-    ensures { ScansComeAlone }
 {}

@@ -1,6 +1,6 @@
 -- Parts that run alone: one rule for each way to make a part.
 use Rattle.std.proofs.Common.{◌≡◌, ℕ, ◌+◌, ◌%◌, ◌^◌, List, [], ◌∷◌, refl, ap, sym, subst, Bool, true, false, ◌∙◌, arith}
-use Rattle.std.specs.Prelude.{Option, Some, slice_index, slice_set, if◌then◌else◌, ◌==◌}
+use Rattle.std.specs.Prelude.{Option, Some, slice_index, slice_set, ◌==◌, if◌then◌else◌}
 use Rattle.std.proofs.lemmas.List.{set-get_or}
 use Rattle.std.proofs.Common.{eq-eqb}
 use Rattle.events.specs.declared.event.Call.{Call}
@@ -11,10 +11,11 @@ use Rattle.art_steps.specs.declared.variant.Variant.{Variant}
 use Rattle.art_steps.specs.declared.access.Access.{Access}
 use Rattle.art_steps.specs.declared.access.Access.TheVariants.{Load, Exchange}
 use Rattle.art_steps.specs.declared.access.Point.{Point}
-use Rattle.art_steps.specs.Steps.{Rest, Part, Asks, Answers, ◌>>=◌, ◌>>◌, give, answer, access, load, load_at, store, store_at, exchange, exchange_at, add}
+use Rattle.art_steps.specs.Steps.{Rest, Part, Answers, ◌>>=◌, ◌>>◌, give, answer, access, load, load_at, store, store_at, exchange, exchange_at, add}
 use Rattle.art_steps.specs.Steps.{marked, first_at, each, over}
 use Rattle.art_steps.specs.Act.{procedure, act}
 use Rattle.art_steps.proofs.GuardLemmas.{act-body}
+use Rattle.art_steps.proofs.TurnLemmas.{asks-same, answers-same, asks-answers}
 use Rattle.art_core.specs.Accesses.{got_by, words_after}
 use Rattle.art_serial.specs.alone.Alone.{RunsAlone, ends, goes, accesses, Comes, Ends}
 
@@ -38,34 +39,25 @@ same-accesses r e (ends h) = refl
 same-accesses r e (goes {words = words} a p h k) =
     ap (λ n. 1 + n) (same-accesses (λ got. r (got_by a words ∷ got)) (λ got. e (got_by a words ∷ got)) k)
 
-asks_same : {a b : Access} {p q : Option Point} → Asks a p ≡ Asks b q → a ≡ b
-asks_same e = cc
-
-answers_same : {q r : Reply} → Answers q ≡ Answers r → q ≡ r
-answers_same e = cc
-
-asks_answers : {a : Access} {p : Option Point} {r : Reply} → Asks a p ≡ Answers r → ⊥
-asks_answers e = cc
-
 -- a call that runs alone comes to one end only
 pub runs-once : {rest : Rest} {words last last2 : List ℕ} {reply reply2 : Reply} → RunsAlone rest words last reply → RunsAlone rest words last2 reply2
     → (last ≡ last2) × (reply ≡ reply2)
-runs-once (ends h) (ends k) = (refl, answers_same (sym h ∙ k))
-runs-once (ends h) (goes a p k r) = absurd (asks_answers (sym k ∙ h))
-runs-once (goes a p h r) (ends k) = absurd (asks_answers (sym h ∙ k))
+runs-once (ends h) (ends k) = (refl, answers-same (sym h ∙ k))
+runs-once (ends h) (goes a p k r) = absurd (asks-answers (sym k ∙ h))
+runs-once (goes a p h r) (ends k) = absurd (asks-answers (sym h ∙ k))
 runs-once {rest = rest} {words = words} {last2 = last2} {reply2 = reply2} (goes a p h r) (goes b q k s) =
-    runs-once r (subst (λ (x : Access). RunsAlone (λ got. rest (got_by x words ∷ got)) (words_after x words) last2 reply2) (asks_same (sym k ∙ h)) s)
+    runs-once r (subst (λ (x : Access). RunsAlone (λ got. rest (got_by x words ∷ got)) (words_after x words) last2 reply2) (asks-same (sym k ∙ h)) s)
 
 -- by as many accesses
 pub accesses-once : {rest : Rest} {words last last2 : List ℕ} {reply reply2 : Reply} (r : RunsAlone rest words last reply)
     (s : RunsAlone rest words last2 reply2) → accesses r ≡ accesses s
 accesses-once (ends h) (ends k) = refl
-accesses-once (ends h) (goes a p k r) = absurd (asks_answers (sym k ∙ h))
-accesses-once (goes a p h r) (ends k) = absurd (asks_answers (sym h ∙ k))
+accesses-once (ends h) (goes a p k r) = absurd (asks-answers (sym k ∙ h))
+accesses-once (goes a p h r) (ends k) = absurd (asks-answers (sym h ∙ k))
 accesses-once {rest = rest} {words = words} {last2 = last2} {reply2 = reply2} (goes a p h r) (goes b q k s) =
     ap (λ n. 1 + n) (accesses-once r (subst (λ (x : Access). RunsAlone (λ got. rest (got_by x words ∷ got)) (words_after x words) last2 reply2)
-    (asks_same (sym k ∙ h)) s)
-    ∙ moved (λ (x : Access) got. rest (got_by x words ∷ got)) (λ x. words_after x words) (asks_same (sym k ∙ h)) s)
+    (asks-same (sym k ∙ h)) s)
+    ∙ moved (λ (x : Access) got. rest (got_by x words ∷ got)) (λ x. words_after x words) (asks-same (sym k ∙ h)) s)
 
 -- one access, then what comes after it
 pub access-runs : {a : Access} {p : Option Point} {after : ℕ → Rest} {words later last : List ℕ} {got : ℕ} {reply : Reply}

@@ -8,6 +8,8 @@ use Rattle.art_rows.specs.declared.table.Child.{Child}
 use Rattle.art_rows.specs.declared.table.Child.TheVariants.{Empty, Row as ChildRow, Leaf}
 use Rattle.art_rows.specs.Table.{root_base, info_at}
 use Rattle.art_rows.specs.Words.{is_locked, is_obsolete, locked_word, released_word, key_bytes, first_difference, info_of, child_of}
+use Rattle.art_rows.proofs.KindLemmas.{two-words}
+use Rattle.art_rows.proofs.ByteLemmas.{key_byte-small}
 use Rattle.art_steps.specs.Steps.{Part, ◌>>=◌, load}
 use Rattle.art_steps.specs.Rows.{Setting, Row, Place, key_of, byte_at, row_of, root_row, path_differs_at, lock, find, Has, Lacks}
 use Rattle.art_steps.specs.Coupled.{insert_below, insert_at, insert_from, insert}
@@ -23,8 +25,8 @@ use Rattle.art_serial.proofs.alone.RowRunLemmas.{with_lock, lock-comes, with_unl
 use Rattle.art_serial.proofs.alone.FindingLemmas.{find-comes}
 use Rattle.art_serial.proofs.alone.SlotLemmas.{found-same}
 use Rattle.art_serial.proofs.alone.VersionLemmas.{locked-live, released-live, released-free, locked-small, released-small}
-use Rattle.art_serial.proofs.alone.LikeLemmas.{Like, IsVersion, Nothing, row_words-some, like-start, like-version, like-row, like-free, like-live}
-use Rattle.art_serial.proofs.alone.WayLemmas.{level-most, key_byte-small, leads-root, leads-below, below-other}
+use Rattle.art_serial.proofs.alone.LikeLemmas.{Like, IsVersion, Nothing, like-start, like-version, like-row, like-free, like-live}
+use Rattle.art_serial.proofs.alone.WayLemmas.{level-most, leads-root, leads-below, below-other}
 
 -- one of the rows has this base
 abbrev pub HasBase : List Row → ℕ → Type 0
@@ -165,7 +167,7 @@ module _ (c : Setting) (n : ℕ) (words : List ℕ) (rest : IsAtRest c.shape n w
           (λ no_one. absurd (no_one (inl refl))) (λ w h ne. inr (inl h))
 
       info : slice_index held (info_at m) ≡ slice_index words (info_at m)
-      info = like-row c.shape n words rest two reached 1 (omega arith) (row_words-some k)
+      info = like-row c.shape n words rest two reached 1 (omega arith) (two-words k)
 
       found : Row
       found = row_of m k (slice_index words (info_at m)) v

@@ -1,6 +1,6 @@
 -- A get, a remove or a replace under lock coupling, run alone on a table at rest, goes its key's way.
 use Rattle.std.proofs.Common.{◌≡◌, ◌⊎◌, inl, inr, ℕ, zero, suc, ◌+◌, ◌<◌, ◌≤◌, ◌==◌, List, slice_index, slice_set, Option, Some, None}
-use Rattle.std.proofs.Common.{Bool, true, false, if◌then◌else◌, refl, sym, ap, subst, arith, eqb-true}
+use Rattle.std.proofs.Common.{Bool, true, false, refl, sym, ap, subst, arith, eqb-true, if◌then◌else◌}
 use Rattle.std.proofs.lemmas.Bool.{eqb-false}
 use Rattle.events.specs.declared.event.Reply.TheVariants as reply
 use Rattle.art_rows.specs.declared.table.Kind.{Kind}
@@ -9,6 +9,8 @@ use Rattle.art_rows.specs.declared.table.Child.{Child}
 use Rattle.art_rows.specs.declared.table.Child.TheVariants.{Empty, Row as ChildRow, Leaf}
 use Rattle.art_rows.specs.Table.{root_base, info_at}
 use Rattle.art_rows.specs.Words.{is_locked, is_obsolete, locked_word, released_word, key_bytes, child_of}
+use Rattle.art_rows.proofs.KindLemmas.{two-words}
+use Rattle.art_rows.proofs.ByteLemmas.{key_byte-small}
 use Rattle.art_steps.specs.Steps.{Part, ◌>>=◌, ◌>>◌, give, load}
 use Rattle.art_steps.specs.Rows.{Setting, Row, key_of, byte_at, releases_early, row_of, root_row, path_differs_at, lock, unlock, find, Has, Lacks}
 use Rattle.art_steps.specs.Updates.{overwriting}
@@ -24,8 +26,8 @@ use Rattle.art_serial.proofs.alone.RowRunLemmas.{with_lock, lock-comes, unlock-c
 use Rattle.art_serial.proofs.alone.FindingLemmas.{find-comes}
 use Rattle.art_serial.proofs.alone.SlotLemmas.{slot-is, found-same}
 use Rattle.art_serial.proofs.alone.VersionLemmas.{locked-live, released-live, released-free, locked-small, released-small}
-use Rattle.art_serial.proofs.alone.LikeLemmas.{Like, Nothing, row_words-some, like-start, like-version, like-slot, like-row, like-free, like-live}
-use Rattle.art_serial.proofs.alone.WayLemmas.{level-most, key_byte-small, leads-root, leads-below, below-other, Writes, EndsAt, WritesWords, Seeks}
+use Rattle.art_serial.proofs.alone.LikeLemmas.{Like, Nothing, like-start, like-version, like-slot, like-row, like-free, like-live}
+use Rattle.art_serial.proofs.alone.WayLemmas.{level-most, leads-root, leads-below, below-other, Writes, EndsAt, WritesWords, Seeks}
 
 module _ (c : Setting) (n : ℕ) (words : List ℕ) (rest : IsAtRest c.shape n words) (small : WritesWords c.call) where
   abbrev key : ℕ
@@ -148,7 +150,7 @@ module _ (c : Setting) (n : ℕ) (words : List ℕ) (rest : IsAtRest c.shape n w
       → Comes (load (info_at m) >>= λ info. give (row_of m k info v)) now (row_of m k (slice_index words (info_at m)) v) now
   info-comes {now} {held} {m} {k} v like reached =
       subst (λ (w : ℕ). Comes (load (info_at m) >>= λ info. give (row_of m k info v)) now (row_of m k w v) now)
-      (like-row c.shape n words rest like reached 1 (omega arith) (row_words-some k))
+      (like-row c.shape n words rest like reached 1 (omega arith) (two-words k))
       (bind-comes {f = λ info. give (row_of m k info v)} (load-comes (info_at m) now) (give-comes (row_of m k (slice_index now (info_at m)) v) now))
 
   down : (r : Row) (now : List ℕ) (a : IsAt r now) (m : ℕ) (k : Kind) → child_on c.shape words r.base r.kind (byte_at c r.level) ≡ ChildRow m k

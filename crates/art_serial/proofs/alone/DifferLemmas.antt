@@ -1,6 +1,6 @@
 -- Where a key parts from what hangs on its way: behind the level of the row.
-use Rattle.std.proofs.Common.{◌≡◌, ◌≢◌, ℕ, zero, suc, ◌+◌, ◌/◌, ◌%◌, ◌<◌, List, [], ◌∷◌, ◌++◌, length, take, slice_index, Option, Some, None, option_map}
-use Rattle.std.proofs.Common.{if◌then◌else◌, refl, sym, ap, ◌∙◌, subst, arith, eq-eqb}
+use Rattle.std.proofs.Common.{◌≡◌, ◌≢◌, ℕ, zero, suc, ◌+◌, ◌/◌, ◌%◌, ◌<◌, List, [], ◌∷◌, ◌++◌, take, slice_index, Option, Some, None, option_map}
+use Rattle.std.proofs.Common.{refl, sym, ap, ◌∙◌, subst, arith, eq-eqb, if◌then◌else◌}
 use Rattle.std.specs.Prelude.{unwrap_or}
 use Rattle.std.proofs.lemmas.Option.{none-some, same_Some}
 use Rattle.art_rows.specs.declared.table.Shape.{Shape}
@@ -12,11 +12,12 @@ use Rattle.art_core.specs.Meaning.{child_on}
 use Rattle.art_core.specs.Forms.{level_in, path_in}
 use Rattle.art_serial.specs.trees.Trees.{IsAtRest, LeadsTo}
 use Rattle.art_serial.proofs.alone.WayLemmas.{level-most, same-beginning}
+use Rattle.art_serial.proofs.trees.Bytes.{next_of}
 
-heads : {x y : ℕ} {xs ys : List ℕ} → x ∷ xs ≡ y ∷ ys → x ≡ y
+pub heads : {x y : ℕ} {xs ys : List ℕ} → x ∷ xs ≡ y ∷ ys → x ≡ y
 heads e = cc
 
-tails : {x y : ℕ} {xs ys : List ℕ} → x ∷ xs ≡ y ∷ ys → xs ≡ ys
+pub tails : {x y : ℕ} {xs ys : List ℕ} → x ∷ xs ≡ y ∷ ys → xs ≡ ys
 tails e = cc
 
 cons-none : {x : ℕ} {xs : List ℕ} → x ∷ xs ≡ [] → ⊥
@@ -44,12 +45,6 @@ parts-behind (suc l) (x ∷ xs) (y ∷ ys) d same e =
     deeper None more e = absurd (none-some d e)
     deeper (Some i) more e = omega (arith, same_Some (i + 1) d e, more i refl)
 
--- a beginning and the byte behind it
-pub take-more : (l : ℕ) (ys : List ℕ) → l < length ys → take (suc l) ys ≡ take l ys ++ slice_index ys l ∷ []
-take-more l [] h = absurd (omega (arith, h))
-take-more zero (y ∷ ys) h = refl
-take-more (suc l) (y ∷ ys) h = ap (λ zs. y ∷ zs) (take-more l ys (omega (arith, h)))
-
 -- keys of 32 bits that are not the same differ in a byte
 pub keys-differ : (k key : ℕ) → k < 4294967296 → key < 4294967296 → k ≢ key
     → first_difference (key_bytes k) (key_bytes key) ≡ Some (keys_differ_at k key)
@@ -74,7 +69,7 @@ module _ (s : Shape) (n : ℕ) (words : List ℕ) (rest : IsAtRest s n words) wh
   way-bytes {key} {base} {x} {kind} leads =
       let long : level_in words base kind < 4 = omega (arith, level-most words base kind) in
       let suc_is : level_in words base kind + 1 ≡ suc (level_in words base kind) = omega arith in
-      ap (λ i. take i (key_bytes key)) suc_is ∙ (take-more (level_in words base kind) (key_bytes key) long
+      ap (λ i. take i (key_bytes key)) suc_is ∙ (next_of (level_in words base kind) (key_bytes key) long
       ∙ (ap (λ zs. zs ++ slice_index (key_bytes key) (level_in words base kind) ∷ []) leads.path
       ∙ ap (λ i. path_in words base kind ++ i ∷ []) (sym leads.byte)))
 

@@ -10,6 +10,7 @@ use Rattle.art_rows.specs.declared.table.Kind.{Kind}
 use Rattle.art_rows.specs.declared.table.Child.{Child}
 use Rattle.art_rows.specs.declared.table.Child.TheVariants.{Empty, Row as ChildRow, Leaf}
 use Rattle.art_rows.specs.Words.{is_locked, is_obsolete, locked_word, released_word, child_word, leaf_word}
+use Rattle.art_rows.proofs.ByteLemmas.{key_byte-small}
 use Rattle.art_steps.specs.Steps.{Part, ◌>>=◌, ◌>>◌, give}
 use Rattle.art_steps.specs.Rows.{Setting, Row, Place, key_of, byte_at, unlock, unlock_all, Has}
 use Rattle.art_steps.specs.Updates.{new_leaf, store_child, insert_in}
@@ -23,7 +24,6 @@ use Rattle.art_serial.proofs.alone.RowRunLemmas.{unlock-comes, with_unlocked, un
 use Rattle.art_serial.proofs.alone.SlotLemmas.{slot-is}
 use Rattle.art_serial.proofs.alone.VersionLemmas.{locked-live, released-live, released-free, locked-small, released-small}
 use Rattle.art_serial.proofs.alone.LikeLemmas.{Like, Nothing, like-start, like-version, like-slot, like-free, like-live}
-use Rattle.art_serial.proofs.alone.WayLemmas.{key_byte-small}
 use Rattle.art_serial.proofs.alone.CoupledInsertLemmas as held
 use Rattle.art_serial.proofs.alone.OptimisticInsertLemmas as kept
 use Rattle.art_serial.proofs.alone.SeekLemmas.{leaf-read}

@@ -6,14 +6,14 @@ use Rattle.std.proofs.lemmas.List.{length-set, get_or-set_same, get_or-set_other
 use Rattle.std.proofs.lemmas.List.Elements.{All-set}
 use Rattle.art_rows.specs.declared.table.Shape.{Shape}
 use Rattle.art_rows.specs.declared.table.Kind.{Kind}
-use Rattle.art_rows.specs.declared.table.Kind.TheVariants.{Four, Sixteen, FortyEight, Full}
 use Rattle.art_rows.specs.declared.table.Child.{Child}
-use Rattle.art_rows.specs.Table.{row_words, table_words, claims_of, first_child}
+use Rattle.art_rows.specs.Table.{row_words, table_words, claims_of}
 use Rattle.art_rows.specs.Words.{is_locked, is_obsolete, child_of}
+use Rattle.art_rows.proofs.KindLemmas.{claims-few, first-two, two-words, keys-within}
 use Rattle.art_core.specs.Meaning.{Reached, child_in, slot_of}
 use Rattle.art_core.specs.Forms.{HasForm}
 use Rattle.art_serial.specs.trees.Trees.{IsAtRest, SameRow, ChangesAt}
-use Rattle.art_serial.proofs.alone.PlaceLemmas.{Sits, sits-part, sits-inside, claims-low, sits-kind_at}
+use Rattle.art_serial.proofs.alone.PlaceLemmas.{Sits, sits-part, sits-inside, sits-kind_at}
 use Rattle.art_serial.proofs.alone.SlotLemmas.{IsSlot, slot-is, slot-once, slot-same, form-same, SameKeys}
 
 -- the word is the version of a row that is reached: of a live one, which is unlocked unless it is held
@@ -32,24 +32,6 @@ pub record Like (s : Shape) (words target now : List ℕ) (held : ℕ → Type 0
 -- nothing is held
 abbrev pub Nothing : ℕ → Type 0
 Nothing w = ⊥
-
-first_child-low : (kind : Kind) → 2 ≤ first_child kind
-first_child-low Four = omega arith
-first_child-low Sixteen = omega arith
-first_child-low FortyEight = omega arith
-first_child-low Full = omega arith
-
-pub row_words-some : (kind : Kind) → 1 < row_words kind
-row_words-some Four = omega arith
-row_words-some Sixteen = omega arith
-row_words-some FortyEight = omega arith
-row_words-some Full = omega arith
-
-keys-within : (kind : Kind) (j : ℕ) → j < first_child kind → j < row_words kind
-keys-within Four j h = omega (arith, h)
-keys-within Sixteen j h = omega (arith, h)
-keys-within FortyEight j h = omega (arith, h)
-keys-within Full j h = omega (arith, h)
 
 module _ (s : Shape) (n : ℕ) (words : List ℕ) (rest : IsAtRest s n words) where
   pub sits : {base : ℕ} {kind : Kind} → Reached s words base kind → Sits s base kind
@@ -74,7 +56,7 @@ module _ (s : Shape) (n : ℕ) (words : List ℕ) (rest : IsAtRest s n words) wh
       inside = omega (arith, (sits-inside s base 0 kind (sits reached) (row_words-more kind)).1, like.long)
         where
           row_words-more : (k : Kind) → 0 < row_words k
-          row_words-more k = omega (arith, row_words-some k)
+          row_words-more k = omega (arith, two-words k)
 
       here : slice_index (slice_set now base new) base ≡ new
       here = get_or-set_same now base new 0 inside
@@ -110,7 +92,7 @@ module _ (s : Shape) (n : ℕ) (words : List ℕ) (rest : IsAtRest s n words) wh
       go (inl e) = e
       go (inr v) =
           let (kinds, numbers, bases, places) = sits-part s base (base + j) j 0 kind v.kind (sits reached) (sits v.reached) high
-          (omega (arith, row_words-some v.kind)) (omega arith) in
+          (omega (arith, two-words v.kind)) (omega arith) in
           absurd (omega (arith, places, low))
 
   -- a child's word is set
@@ -155,7 +137,7 @@ module _ (s : Shape) (n : ℕ) (words : List ℕ) (rest : IsAtRest s n words) wh
   pub like-claims : {target now : List ℕ} {held : ℕ → Type 0} → Like s words target now held → (kind : Kind)
       → slice_index now (claims_of kind) ≡ slice_index target (claims_of kind)
   like-claims like kind = like-elsewhere like (claims_of kind) λ k r.
-      omega (arith, (sits-inside s (claims_of kind) 0 k (sits r) (omega (arith, row_words-some k))).0, claims-low kind)
+      omega (arith, (sits-inside s (claims_of kind) 0 k (sits r) (omega (arith, two-words k))).0, claims-few kind)
 
   pub like-row : {now : List ℕ} {held : ℕ → Type 0} {base : ℕ} {kind : Kind} → Like s words words now held → Reached s words base kind
       → SameRow words now base kind
@@ -200,8 +182,8 @@ module _ (s : Shape) (n : ℕ) (words : List ℕ) (rest : IsAtRest s n words) wh
     pub slot-changes : HasForm words base kind → (child : Child) → child_of s value ≡ child → ChangesAt s words later base kind x child
     slot-changes form child is = record {
       others = λ b k r ne j low high. untouched r j low high λ e. ne (elsewhere r j high e).0;
-      info = untouched reached 1 (omega arith) (row_words-some kind)
-          λ e. omega (arith, (elsewhere reached 1 (row_words-some kind) e).1, is-slot.low, first_child-low kind);
+      info = untouched reached 1 (omega arith) (two-words kind)
+          λ e. omega (arith, (elsewhere reached 1 (two-words kind) e).1, is-slot.low, first-two kind);
       form = form-same words later base kind same-keys form;
       other_bytes = λ y other ne. ap (λ o. child_in s later o) (slot-same words later base kind y other same-keys)
           ∙ kept y other ne (slot_of words base kind y) refl;
@@ -209,7 +191,7 @@ module _ (s : Shape) (n : ℕ) (words : List ℕ) (rest : IsAtRest s n words) wh
     }
       where
         early : 1 ≤ is-slot.place
-        early = omega (arith, is-slot.low, first_child-low kind)
+        early = omega (arith, is-slot.low, first-two kind)
 
         inside : slot < length words
         inside = omega (arith, (sits-inside s base is-slot.place kind (sits reached) is-slot.high).1, is-slot.is, rest.long)
@@ -223,6 +205,6 @@ module _ (s : Shape) (n : ℕ) (words : List ℕ) (rest : IsAtRest s n words) wh
         kept y other ne (Some t) e =
             let its = slot-is words base kind y t other e in
             ap (λ w. child_of s w) (ap (λ i. slice_index later i) its.is ∙ (untouched reached its.place
-            (omega (arith, its.low, first_child-low kind)) its.high
+            (omega (arith, its.low, first-two kind)) its.high
             (λ is. ne (slot-once words base kind y x slot form other byte (e ∙ ap Some (its.is ∙ is)) at))
             ∙ ap (λ i. slice_index words i) (sym its.is)))

@@ -8,6 +8,7 @@ use Rattle.art_rows.specs.declared.table.Child.{Child}
 use Rattle.art_rows.specs.declared.table.Child.TheVariants.{Empty, Row as ChildRow, Leaf}
 use Rattle.art_rows.specs.Table.{root_base, info_at}
 use Rattle.art_rows.specs.Words.{is_locked, is_obsolete, locked_word, key_bytes, first_difference, info_of, child_of}
+use Rattle.art_rows.proofs.ByteLemmas.{key_byte-small}
 use Rattle.art_steps.specs.Steps.{Part, ◌>>=◌, ◌>>◌, give, load}
 use Rattle.art_steps.specs.Rows.{Setting, Row, Place, key_of, byte_at, row_of, root_row, path_differs_at, check_of, Has, Lacks}
 use Rattle.art_steps.specs.Optimistic.{step_down, insert_below, insert_at, insert_from, insert}
@@ -23,7 +24,7 @@ use Rattle.art_serial.proofs.alone.RowRunLemmas.{wait-comes, check_of-comes}
 use Rattle.art_serial.proofs.alone.FindingLemmas.{find-comes}
 use Rattle.art_serial.proofs.alone.VersionLemmas.{locked-live, locked-small}
 use Rattle.art_serial.proofs.alone.LikeLemmas.{Like, Nothing, like-start, like-version, like-free, like-live}
-use Rattle.art_serial.proofs.alone.WayLemmas.{level-most, key_byte-small, leads-root, leads-below}
+use Rattle.art_serial.proofs.alone.WayLemmas.{level-most, leads-root, leads-below}
 
 module _ (c : Setting) (n : ℕ) (words : List ℕ) (rest : IsAtRest c.shape n words) where
   abbrev key : ℕ

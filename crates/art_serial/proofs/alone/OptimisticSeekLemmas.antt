@@ -1,6 +1,6 @@
 -- A get, a remove or a replace under optimistic lock coupling, run alone on a table at rest, goes its key's way.
 use Rattle.std.proofs.Common.{◌≡◌, inl, inr, ℕ, zero, suc, ◌+◌, ◌<◌, ◌≤◌, ◌==◌, List, [], slice_index, slice_set, Option, Some, None}
-use Rattle.std.proofs.Common.{Bool, true, false, if◌then◌else◌, refl, sym, ap, ◌∙◌, subst, arith, eqb-true}
+use Rattle.std.proofs.Common.{Bool, true, false, refl, sym, ap, ◌∙◌, subst, arith, eqb-true, if◌then◌else◌}
 use Rattle.std.proofs.lemmas.Bool.{eqb-false}
 use Rattle.events.specs.declared.event.Reply.TheVariants as reply
 use Rattle.art_rows.specs.declared.table.Kind.{Kind}
@@ -9,6 +9,7 @@ use Rattle.art_rows.specs.declared.table.Child.{Child}
 use Rattle.art_rows.specs.declared.table.Child.TheVariants.{Empty, Row as ChildRow, Leaf}
 use Rattle.art_rows.specs.Table.{root_base, info_at}
 use Rattle.art_rows.specs.Words.{is_locked, is_obsolete, locked_word, released_word, key_bytes, child_of}
+use Rattle.art_rows.proofs.ByteLemmas.{key_byte-small}
 use Rattle.art_steps.specs.Steps.{◌>>=◌, ◌>>◌, give, load, store}
 use Rattle.art_steps.specs.Rows.{Setting, Row, key_of, byte_at, row_of, root_row, path_differs_at, check_of, unlock, Has, Lacks}
 use Rattle.art_steps.specs.Updates.{overwriting}
@@ -25,7 +26,7 @@ use Rattle.art_serial.proofs.alone.FindingLemmas.{find-comes}
 use Rattle.art_serial.proofs.alone.SlotLemmas.{slot-is}
 use Rattle.art_serial.proofs.alone.VersionLemmas.{locked-live, released-live, released-free, locked-small, released-small}
 use Rattle.art_serial.proofs.alone.LikeLemmas.{Like, Nothing, like-start, like-version, like-slot, like-free, like-live}
-use Rattle.art_serial.proofs.alone.WayLemmas.{level-most, key_byte-small, leads-root, leads-below, Writes, EndsAt, WritesWords, Seeks}
+use Rattle.art_serial.proofs.alone.WayLemmas.{level-most, leads-root, leads-below, Writes, EndsAt, WritesWords, Seeks}
 
 module _ (c : Setting) (n : ℕ) (words : List ℕ) (rest : IsAtRest c.shape n words) (small : WritesWords c.call) where
   abbrev key : ℕ

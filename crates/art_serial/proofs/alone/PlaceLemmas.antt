@@ -1,9 +1,10 @@
 -- Rows of a table lie apart from one another and from the words before them.
-use Rattle.std.proofs.Common.{◌≡◌, ℕ, ◌+◌, ◌-◌, ◌*◌, ◌/◌, ◌<◌, ◌≤◌, Option, Some, None, Bool, true, false, if◌then◌else◌, refl, sym, ap, ◌∙◌, subst, arith}
+use Rattle.std.proofs.Common.{◌≡◌, ℕ, ◌+◌, ◌-◌, ◌*◌, ◌/◌, ◌<◌, ◌≤◌, Option, Some, None, Bool, true, false, refl, sym, ap, ◌∙◌, subst, arith, if◌then◌else◌}
 use Rattle.art_rows.specs.declared.table.Shape.{Shape}
 use Rattle.art_rows.specs.declared.table.Kind.{Kind}
 use Rattle.art_rows.specs.declared.table.Kind.TheVariants.{Four, Sixteen, FortyEight, Full}
-use Rattle.art_rows.specs.Table.{row_words, rows_of, table_words, claims_of, base_of, is_base_of, kind_at}
+use Rattle.art_rows.specs.Table.{row_words, rows_of, table_words, base_of, is_base_of, kind_at}
+use Rattle.art_serial.proofs.words.TableLemmas.{is_base}
 
 -- the base is that of a row of the kind, with this number
 pub record Sits (s : Shape) (base : ℕ) (kind : Kind) : Type 0 where
@@ -54,12 +55,6 @@ sits-inside s base i kind x li = subst (λ b. (5 ≤ b) × (b + i < table_words 
     go FortyEight n ln l = (omega arith, omega (arith, ln, l))
     go Full n ln l = (omega arith, omega (arith, ln, l))
 
-pub claims-low : (kind : Kind) → claims_of kind < 5
-claims-low Four = omega arith
-claims-low Sixteen = omega arith
-claims-low FortyEight = omega arith
-claims-low Full = omega arith
-
 -- ---- a base with a kind is a row's
 
 is_base-sits : (s : Shape) (kind : Kind) (base : ℕ) → is_base_of s kind base ≡ true → Sits s base kind
@@ -102,14 +97,8 @@ kind_at-sits s base kind e = four (is_base_of s Four base) refl e
 
 -- ---- and a row's base has its kind
 
-base-is : (s : Shape) (kind : Kind) (number : ℕ) → number < rows_of s kind → is_base_of s kind (base_of s kind number) ≡ true
-base-is s Four number low = grind arith
-base-is s Sixteen number low = grind arith
-base-is s FortyEight number low = grind arith
-base-is s Full number low = grind arith
-
 pub sits-kind_at : (s : Shape) (base : ℕ) (kind : Kind) → Sits s base kind → kind_at s base ≡ Some kind
-sits-kind_at s base kind x = go kind x (ap (λ b. is_base_of s kind b) x.is ∙ base-is s kind x.number x.low)
+sits-kind_at s base kind x = go kind x (ap (λ b. is_base_of s kind b) x.is ∙ is_base s kind x.number x.low)
   where
     other : (k l : Kind) → (k ≡ l → ⊥) → Sits s base l → (b : Bool) → is_base_of s k base ≡ b → is_base_of s k base ≡ false
     other k l apart y true e = absurd (apart (sits-part s base base 0 0 k l (is_base-sits s k base e) y (some_words k) (some_words l) refl).0)

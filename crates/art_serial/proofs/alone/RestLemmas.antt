@@ -8,11 +8,12 @@ use Rattle.art_rows.specs.declared.table.Shape.{Shape}
 use Rattle.art_rows.specs.declared.table.Kind.{Kind}
 use Rattle.art_rows.specs.Table.{table_words, row_words, rows_of, claims_of, base_of, kind_at, first_child}
 use Rattle.art_rows.specs.Words.{is_locked, is_obsolete}
+use Rattle.art_rows.proofs.KindLemmas.{claims-few, two-words}
 use Rattle.art_core.specs.Meaning.{Reached}
 use Rattle.art_serial.specs.trees.Trees.{IsAtRest, HasRows}
-use Rattle.art_serial.proofs.alone.PlaceLemmas.{Sits, sits-part, sits-inside, claims-low, kind_at-sits}
+use Rattle.art_serial.proofs.alone.PlaceLemmas.{Sits, sits-part, sits-inside, kind_at-sits}
 use Rattle.art_serial.proofs.alone.SlotLemmas.{IsSlot}
-use Rattle.art_serial.proofs.alone.LikeLemmas.{Like, IsVersion, Nothing, row_words-some, sits}
+use Rattle.art_serial.proofs.alone.LikeLemmas.{Like, IsVersion, Nothing, sits}
 
 module _ (s : Shape) (n : ℕ) (words : List ℕ) (rest : IsAtRest s n words) where
   -- a word inside of a row that was reached, but its version
@@ -66,11 +67,11 @@ module _ (s : Shape) (n : ℕ) (words : List ℕ) (rest : IsAtRest s n words) wh
     -- a row's base is not inside of a row
     base-out : (b : ℕ) (k : Kind) → Sits s b k → IsInside b → ⊥
     base-out b k x (c, l, j, r, low, high, is) =
-        let (kinds, numbers, bases, places) = sits-part s b c 0 j k l x (sits s n words rest r) (omega (arith, row_words-some k)) high (omega (arith, is)) in
+        let (kinds, numbers, bases, places) = sits-part s b c 0 j k l x (sits s n words rest r) (omega (arith, two-words k)) high (omega (arith, is)) in
         omega (arith, places, low)
 
     behind-claims : (k l : Kind) (b : ℕ) → Reached s words b l → claims_of k < b
-    behind-claims k l b r = omega (arith, (sits-inside s b 0 l (sits s n words rest r) (omega (arith, row_words-some l))).0, claims-low k)
+    behind-claims k l b r = omega (arith, (sits-inside s b 0 l (sits s n words rest r) (omega (arith, two-words l))).0, claims-few k)
 
     same-claims : (k : Kind) → slice_index later (claims_of k) ≡ slice_index words (claims_of k)
     same-claims k = go (settled (claims_of k) (λ (b, l, j, r, low, high, is). omega (arith, behind-claims k l b r, is)))
@@ -96,7 +97,7 @@ module _ (s : Shape) (n : ℕ) (words : List ℕ) (rest : IsAtRest s n words) wh
           let old : slice_index words (claims_of k) ≤ number = subst (λ c. c ≤ number) (same-claims k) above in
           let few : i < row_words k = omega (arith, to, is) in
           fresh w (rest.fresh k number w old low from to)
-          (λ l r. unclaimed-apart k l number w i 0 old low few r (omega (arith, row_words-some l)) (omega (arith, is)))
+          (λ l r. unclaimed-apart k l number w i 0 old low few r (omega (arith, two-words l)) (omega (arith, is)))
           (settled w (λ (b, l, j, r, one, high, at). unclaimed-apart k l number b i j old low few r high (omega (arith, is, at))));
     }
       where

@@ -2,15 +2,15 @@
 use Rattle.std.proofs.Common.{◌≡◌, ◌⊎◌, inl, inr, ℕ, ◌+◌, ◌-◌, ◌<◌, ◌≤◌, List, length, slice_index, All, Some, false, refl, sym, ap, ◌∙◌, subst, arith}
 use Rattle.art_rows.specs.declared.table.Shape.{Shape}
 use Rattle.art_rows.specs.declared.table.Kind.{Kind}
-use Rattle.art_rows.specs.declared.table.Kind.TheVariants.{Four, Sixteen, FortyEight, Full}
 use Rattle.art_rows.specs.Table.{row_words, rows_of, table_words, claims_of, base_of, kind_at}
 use Rattle.art_rows.specs.Words.{is_locked, is_obsolete}
+use Rattle.art_rows.proofs.KindLemmas.{claims-few, two-words, claims-once}
 use Rattle.art_core.specs.Meaning.{Reached}
 use Rattle.art_core.specs.Forms.{IsTree}
 use Rattle.art_serial.specs.trees.Trees.{IsAtRest}
-use Rattle.art_serial.proofs.alone.PlaceLemmas.{Sits, sits-part, sits-inside, claims-low, kind_at-sits}
+use Rattle.art_serial.proofs.alone.PlaceLemmas.{Sits, sits-part, sits-inside, kind_at-sits}
 use Rattle.art_serial.proofs.alone.RestLemmas.{unclaimed-apart}
-use Rattle.art_serial.proofs.alone.LikeLemmas.{Like, row_words-some, sits, like-elsewhere}
+use Rattle.art_serial.proofs.alone.LikeLemmas.{Like, sits, like-elsewhere}
 
 -- the row that the next claim of a kind gives
 abbrev pub next_base : Shape → List ℕ → Kind → ℕ
@@ -35,42 +35,24 @@ pub record HasClaimed (s : Shape) (words later : List ℕ) (kind : Kind) : Type 
   pub rows : (b : ℕ) (k : Kind) → Reached s later b k → Reached s words b k ⊎ ((b ≡ next_base s words kind) × (k ≡ kind))
   pub live : (b : ℕ) (k : Kind) → Reached s later b k → Reached s words b k → is_obsolete (slice_index later b) ≡ false
 
-claims-once : (k l : Kind) → claims_of k ≡ claims_of l → k ≡ l
-claims-once Four Four e = refl
-claims-once Four Sixteen e = absurd (omega (arith, e))
-claims-once Four FortyEight e = absurd (omega (arith, e))
-claims-once Four Full e = absurd (omega (arith, e))
-claims-once Sixteen Four e = absurd (omega (arith, e))
-claims-once Sixteen Sixteen e = refl
-claims-once Sixteen FortyEight e = absurd (omega (arith, e))
-claims-once Sixteen Full e = absurd (omega (arith, e))
-claims-once FortyEight Four e = absurd (omega (arith, e))
-claims-once FortyEight Sixteen e = absurd (omega (arith, e))
-claims-once FortyEight FortyEight e = refl
-claims-once FortyEight Full e = absurd (omega (arith, e))
-claims-once Full Four e = absurd (omega (arith, e))
-claims-once Full Sixteen e = absurd (omega (arith, e))
-claims-once Full FortyEight e = absurd (omega (arith, e))
-claims-once Full Full e = refl
-
 module _ (s : Shape) (n : ℕ) (words : List ℕ) (rest : IsAtRest s n words) where
   -- a row that was not claimed stands on words that differ from others by versions of rows that are reached
   pub like-unclaimed : {target now : List ℕ} {held : ℕ → Type 0} → Like s words target now held → (k : Kind) (number i : ℕ)
       → slice_index words (claims_of k) ≤ number → number < rows_of s k → i < row_words k
       → slice_index now (base_of s k number + i) ≡ slice_index target (base_of s k number + i)
   like-unclaimed like k number i above low li = like-elsewhere s n words rest like (base_of s k number + i) λ l r.
-      unclaimed-apart s n words rest k l number (base_of s k number + i) i 0 above low li r (omega (arith, row_words-some l)) (omega arith)
+      unclaimed-apart s n words rest k l number (base_of s k number + i) i 0 above low li r (omega (arith, two-words l)) (omega arith)
 
   module _ (later : List ℕ) (kind : Kind) (h : HasClaimed s words later kind) where
     abbrev fresh-sits : Sits s (next_base s words kind) kind
     fresh-sits = record { number = slice_index words (claims_of kind); low = h.low; is = refl }
 
     first-word : (k : Kind) → 0 < row_words k
-    first-word k = omega (arith, row_words-some k)
+    first-word k = omega (arith, two-words k)
 
     -- a row's base is behind the counts of claims, and neither inside of a row nor inside of the new one
     behind : (k l : Kind) (b : ℕ) → Sits s b l → claims_of k < b
-    behind k l b x = omega (arith, (sits-inside s b 0 l x (first-word l)).0, claims-low k)
+    behind k l b x = omega (arith, (sits-inside s b 0 l x (first-word l)).0, claims-few k)
 
     not-inside : {b c j : ℕ} {k l : Kind} → Sits s b k → Sits s c l → 1 ≤ j → j < row_words l → b ≡ c + j → ⊥
     not-inside {b} {c} {j} {k} {l} x y low high is =

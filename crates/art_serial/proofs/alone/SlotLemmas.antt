@@ -1,14 +1,15 @@
 -- The slots of a row: where they are, that two bytes have two, and that they depend on the row's words before its children alone.
-use Rattle.std.proofs.Common.{◌≡◌, ℕ, zero, suc, ◌+◌, ◌-◌, ◌/◌, ◌%◌, ◌<◌, ◌≤◌, ◌==◌, List, [], ◌∷◌, length, slice_index, map, Option, Some, None, option_map}
-use Rattle.std.proofs.Common.{Bool, true, false, if◌then◌else◌, refl, sym, ap, ◌∙◌, subst, arith, nat_le, eqb-true}
+use Rattle.std.proofs.Common.{◌≡◌, ℕ, ◌+◌, ◌-◌, ◌/◌, ◌%◌, ◌<◌, ◌≤◌, ◌==◌, List, length, slice_index, Option, Some, None, option_map}
+use Rattle.std.proofs.Common.{Bool, true, false, refl, sym, ap, ◌∙◌, subst, arith, if◌then◌else◌}
 use Rattle.std.proofs.lemmas.Option.{none-some, same_Some}
 use Rattle.events.specs.declared.event.Call.{Call}
 use Rattle.art_rows.specs.declared.table.Kind.{Kind}
 use Rattle.art_rows.specs.declared.table.Kind.TheVariants.{Four, Sixteen, FortyEight, Full}
 use Rattle.art_rows.specs.Table.{row_words, first_child, keys_at, more_keys_at, index_at, count_at, child_at}
-use Rattle.art_rows.specs.Words.{place_of, keys4_of, keys16_of, entries_of, entry_of, low_bytes, child_of, count_of}
+use Rattle.art_rows.specs.Words.{place_of, keys4_of, keys16_of, entries_of, low_bytes, child_of, count_of}
 use Rattle.art_rows.proofs.ReaderLemmas.{most_of}
 use Rattle.art_rows.proofs.WriterLemmas.{length-keys16, length-keys4}
+use Rattle.art_rows.proofs.ByteLemmas.{entry_list-most, place-within}
 use Rattle.art_steps.specs.Rows.{Setting, is_insert, Found, Has}
 use Rattle.art_core.specs.Meaning.{slot_of, entry_slot}
 use Rattle.art_core.specs.Forms.{HasForm}
@@ -16,38 +17,6 @@ use Rattle.art_serial.specs.trees.Trees.{SameRow}
 use Rattle.art_serial.specs.alone.Finding.{keys_in, count_in, found_of, found_in}
 
 -- ---- where slots are
-
--- the byte at the place of a byte
-place_byte : (x : ℕ) (ys : List ℕ) (i : ℕ) → place_of x ys ≡ Some i → (i < length ys) × (slice_index ys i ≡ x)
-place_byte x [] i h = absurd (none-some i h)
-place_byte x (y ∷ ys) i h = go (y == x) refl (λ k is. place_byte x ys k is) h
-  where
-    later : (o : Option ℕ) → ((k : ℕ) → o ≡ Some k → (k < length ys) × (slice_index ys k ≡ x)) → option_map (λ k. k + 1) o ≡ Some i
-        → (i < suc (length ys)) × (slice_index (y ∷ ys) i ≡ x)
-    later None low e = absurd (none-some i e)
-    later (Some k) low e =
-        let is : i ≡ suc k = omega (arith, same_Some (k + 1) i e) in
-        (omega (arith, (low k refl).0, is), ap (λ n. slice_index (y ∷ ys) n) is ∙ (low k refl).1)
-
-    go : (b : Bool) → (y == x) ≡ b → ((k : ℕ) → place_of x ys ≡ Some k → (k < length ys) × (slice_index ys k ≡ x))
-        → (if b then Some 0 else option_map (λ k. k + 1) (place_of x ys)) ≡ Some i → (i < suc (length ys)) × (slice_index (y ∷ ys) i ≡ x)
-    go true is low e =
-        let first : i ≡ 0 = sym (same_Some 0 i e) in
-        (omega (arith, first), ap (λ n. slice_index (y ∷ ys) n) first ∙ eqb-true y x is)
-    go false is low e = later (place_of x ys) low e
-
--- an index entry is at most 48
-entry_most : (e : ℕ) → entry_of e ≤ 48
-entry_most e = go (nat_le e 48) refl
-  where
-    go : (b : Bool) → nat_le e 48 ≡ b → (if b then e else 0) ≤ 48
-    go true h = grind (arith, h)
-    go false h = omega arith
-
-entries_most : (ys : List ℕ) (i : ℕ) → slice_index (map entry_of ys) i ≤ 48
-entries_most [] i = omega arith
-entries_most (y ∷ ys) zero = entry_most y
-entries_most (y ∷ ys) (suc i) = entries_most ys i
 
 -- a child's word in the row
 pub record IsSlot (base : ℕ) (kind : Kind) (slot : ℕ) : Type 0 where
@@ -78,7 +47,7 @@ slot-is words base Four x slot byte h =
       place = 3 + i;
       is = omega (arith, is);
       low = omega arith;
-      high = omega (arith, (place_byte x keys i at).0, few (slice_index words (keys_at base)));
+      high = omega (arith, (place-within x keys i at).0, few (slice_index words (keys_at base)));
     }
   where
     few : (w : ℕ) → length (keys4_of w) ≤ 4
@@ -92,11 +61,11 @@ slot-is words base Sixteen x slot byte h =
       place = 5 + i;
       is = omega (arith, is);
       low = omega arith;
-      high = omega (arith, (place_byte x (keys16_of count first second) i at).0, length-keys16 count first second, most_of count);
+      high = omega (arith, (place-within x (keys16_of count first second) i at).0, length-keys16 count first second, most_of count);
     }
 slot-is words base FortyEight x slot byte h =
     let e = slice_index (entries_of (slice_index words (index_at base x))) (x % 8) in
-    entry_placed base e slot (e == 0) refl (entries_most (low_bytes 8 (slice_index words (index_at base x))) (x % 8)) h
+    entry_placed base e slot (e == 0) refl (entry_list-most (low_bytes 8 (slice_index words (index_at base x))) (x % 8)) h
 slot-is words base Full x slot byte h =
     let same = same_Some (child_at Full base x) slot h in
     record { place = 2 + x; is = omega (arith, same); low = omega arith; high = omega (arith, byte) }
@@ -109,13 +78,13 @@ slot-once words base Four x y slot form bx by h k =
     let (i, at, is) = placed base Four (place_of x keys) slot h in
     let (j, at2, is2) = placed base Four (place_of y keys) slot k in
     let same : i ≡ j = omega (arith, is, is2) in
-    sym (place_byte x keys i at).1 ∙ (ap (λ n. slice_index keys n) same ∙ (place_byte y keys j at2).1)
+    sym (place-within x keys i at).1 ∙ (ap (λ n. slice_index keys n) same ∙ (place-within y keys j at2).1)
 slot-once words base Sixteen x y slot form bx by h k =
     let keys = keys16_of (slice_index words (count_at Sixteen base)) (slice_index words (keys_at base)) (slice_index words (more_keys_at base)) in
     let (i, at, is) = placed base Sixteen (place_of x keys) slot h in
     let (j, at2, is2) = placed base Sixteen (place_of y keys) slot k in
     let same : i ≡ j = omega (arith, is, is2) in
-    sym (place_byte x keys i at).1 ∙ (ap (λ n. slice_index keys n) same ∙ (place_byte y keys j at2).1)
+    sym (place-within x keys i at).1 ∙ (ap (λ n. slice_index keys n) same ∙ (place-within y keys j at2).1)
 slot-once words base FortyEight x y slot form bx by h k = form.1 x y slot bx by h k
 slot-once words base Full x y slot form bx by h k =
     omega (arith, same_Some (child_at Full base x) slot h, same_Some (child_at Full base y) slot k)

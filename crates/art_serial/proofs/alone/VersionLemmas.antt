@@ -1,18 +1,13 @@
 -- What a version says after it was locked and released.
-use Rattle.std.proofs.Common.{◌≡◌, ℕ, ◌/◌, ◌%◌, ◌<◌, false, arith}
+use Rattle.std.proofs.Common.{◌≡◌, ℕ, ◌%◌, ◌<◌, false, arith}
 use Rattle.art_rows.specs.Words.{is_locked, is_obsolete, locked_word, released_word}
+use Rattle.art_serial.proofs.words.VersionLemmas.{free-even, even-free}
 
 live-even : (v : ℕ) → is_obsolete v ≡ false → v % 2 ≡ 0
 live-even v h = grind (arith, h)
 
 even-live : (v : ℕ) → v % 2 ≡ 0 → is_obsolete v ≡ false
 even-live v h = grind (arith, h)
-
-free-even : (v : ℕ) → is_locked v ≡ false → (v / 2) % 2 ≡ 0
-free-even v h = grind (arith, h)
-
-even-free : (v : ℕ) → (v / 2) % 2 ≡ 0 → is_locked v ≡ false
-even-free v h = grind (arith, h)
 
 pub locked-live : (v : ℕ) → is_obsolete v ≡ false → is_obsolete (locked_word v) ≡ false
 locked-live v h = let e = live-even v h in even-live (locked_word v) (omega (arith, e))

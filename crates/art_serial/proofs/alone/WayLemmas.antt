@@ -1,6 +1,6 @@
 -- The way of a key down a tree at rest, and what a get, a remove or a replace does at its end.
-use Rattle.std.proofs.Common.{◌≡◌, ◌≢◌, ◌⊎◌, ℕ, zero, suc, ◌+◌, ◌/◌, ◌%◌, ◌<◌, ◌≤◌, ◌==◌, List, [], ◌∷◌, length, take, slice_index, slice_set, Option, Some}
-use Rattle.std.proofs.Common.{None, Bool, true, false, if◌then◌else◌, refl, sym, ap, ◌∙◌, arith, eqb-true, option_map}
+use Rattle.std.proofs.Common.{◌≡◌, ◌≢◌, ◌⊎◌, ℕ, suc, ◌+◌, ◌/◌, ◌%◌, ◌<◌, ◌≤◌, ◌==◌, List, [], ◌∷◌, length, take, slice_index, slice_set, Option, Some}
+use Rattle.std.proofs.Common.{None, Bool, true, false, refl, sym, ap, ◌∙◌, arith, eqb-true, option_map, if◌then◌else◌}
 use Rattle.std.proofs.lemmas.Option.{none-some}
 use Rattle.events.specs.declared.event.Call.{Call}
 use Rattle.events.specs.declared.event.Reply.{Reply}
@@ -12,6 +12,7 @@ use Rattle.art_rows.specs.declared.table.Child.{Child}
 use Rattle.art_rows.specs.declared.table.Child.TheVariants.{Empty, Row as ChildRow, Leaf}
 use Rattle.art_rows.specs.Table.{root_base, info_at}
 use Rattle.art_rows.specs.Words.{key_bytes, first_difference, Info, info_of, kind_code, low_bytes}
+use Rattle.art_rows.proofs.KindLemmas.{two-words}
 use Rattle.art_steps.specs.Rows.{key_of}
 use Rattle.art_steps.specs.Updates.{overwriting}
 use Rattle.art_core.specs.Meaning.{Reached, root, below, child_on, slot_of}
@@ -20,7 +21,7 @@ use Rattle.art_serial.specs.trees.Trees.{IsAtRest, LeadsTo}
 use Rattle.art_steps.specs.Steps.{Part}
 use Rattle.art_serial.specs.alone.Alone.{Comes}
 use Rattle.art_serial.proofs.alone.PlaceLemmas.{sits-part}
-use Rattle.art_serial.proofs.alone.LikeLemmas.{Like, Nothing, row_words-some, sits}
+use Rattle.art_serial.proofs.alone.LikeLemmas.{Like, Nothing, sits}
 
 -- ---- levels and bytes
 
@@ -36,13 +37,6 @@ level-most words base kind = go kind (slice_index words (info_at base))
 
     go : (k : Kind) (w : ℕ) → (info_of k w).level ≤ 3
     go k w = by_test w (w % 4 == kind_code k)
-
-pub key_byte-small : (key i : ℕ) → slice_index (key_bytes key) i < 256
-key_byte-small key zero = omega arith
-key_byte-small key (suc zero) = omega arith
-key_byte-small key (suc (suc zero)) = omega arith
-key_byte-small key (suc (suc (suc zero))) = omega arith
-key_byte-small key (suc (suc (suc (suc i)))) = omega arith
 
 -- a path that differs nowhere from a longer key is its beginning
 pub same-beginning : (xs ys : List ℕ) → first_difference xs ys ≡ None → length xs ≤ length ys → take (length xs) ys ≡ xs
@@ -92,7 +86,7 @@ module _ (s : Shape) (n : ℕ) (words : List ℕ) (rest : IsAtRest s n words) wh
   pub below-other : {base x m : ℕ} {kind k : Kind} → Reached s words base kind → x < 256 → child_on s words base kind x ≡ ChildRow m k → m ≡ base → ⊥
   below-other {base} {x} {m} {kind} {k} reached byte e is =
       let kinds : k ≡ kind = (sits-part s m base 0 0 k kind (sits s n words rest (below reached x byte e)) (sits s n words rest reached)
-      (omega (arith, row_words-some k)) (omega (arith, row_words-some kind)) (ap (λ i. i + 0) is)).0 in
+      (omega (arith, two-words k)) (omega (arith, two-words kind)) (ap (λ i. i + 0) is)).0 in
       let same : level_in words m k ≡ level_in words base kind = ap (λ q. level_in words m q) kinds ∙ ap (λ b. level_in words b kind) is in
       omega (arith, (rest.tree.row base m x kind k reached byte e).0, same)
 

@@ -1,6 +1,6 @@
 -- An insert under lock coupling, run alone on a table at rest, goes its key's way and does what it does on the map, or is refused.
 use Rattle.std.proofs.Common.{◌≡◌, ◌≢◌, ◌⊎◌, inl, inr, ℕ, zero, suc, ◌+◌, ◌*◌, ◌<◌, ◌≤◌, ◌==◌, List, [], ◌∷◌, length, slice_index, Option, Some, None}
-use Rattle.std.proofs.Common.{Bool, true, false, if◌then◌else◌, refl, sym, ap, ◌∙◌, subst, arith, eqb-true, nat_le}
+use Rattle.std.proofs.Common.{Bool, true, false, refl, sym, ap, ◌∙◌, subst, arith, eqb-true, if◌then◌else◌}
 use Rattle.std.proofs.lemmas.Bool.{eqb-false}
 use Rattle.events.specs.declared.event.Call.TheVariants.{Insert}
 use Rattle.events.specs.declared.event.Reply.{Reply}
@@ -13,6 +13,8 @@ use Rattle.art_rows.specs.declared.table.Child.{Child}
 use Rattle.art_rows.specs.declared.table.Child.TheVariants.{Empty, Row as ChildRow, Leaf}
 use Rattle.art_rows.specs.Table.{root_base, info_at, capacity, table_words}
 use Rattle.art_rows.specs.Words.{is_locked, is_obsolete, locked_word, released_word, key_bytes, child_of, info_of, first_difference}
+use Rattle.art_rows.proofs.KindLemmas.{two-words}
+use Rattle.art_rows.proofs.ByteLemmas.{key_byte-small}
 use Rattle.art_steps.specs.declared.variant.Variant.{Variant}
 use Rattle.art_steps.specs.Steps.{Part, ◌>>=◌, ◌>>◌, give, load}
 use Rattle.art_steps.specs.Rows.{Setting, Row, Place, byte_at, row_of, root_row, path_differs_at, lock, unlock, unlock_all, find, Has, Lacks}
@@ -24,13 +26,13 @@ use Rattle.art_core.specs.Forms.{level_in, path_in}
 use Rattle.art_serial.specs.trees.Trees.{IsAtRest, LeadsTo}
 use Rattle.art_serial.specs.alone.Alone.{Comes, Ends}
 use Rattle.art_serial.specs.alone.Finding.{keys_in, count_in, found_of}
-use Rattle.art_serial.proofs.alone.AloneLemmas.{give-comes, bind-comes, ends-bind, then-comes, ends-then, same-comes, same-ends, load-comes}
+use Rattle.art_serial.proofs.alone.AloneLemmas.{give-comes, bind-comes, ends-bind, then-comes, ends-then, load-comes}
 use Rattle.art_serial.proofs.alone.RowRunLemmas.{unlock-comes, unlock_all-comes, lock-comes, with_lock, with_unlocked}
 use Rattle.art_serial.proofs.alone.FindingLemmas.{find-comes}
-use Rattle.art_serial.proofs.alone.LikeLemmas.{Nothing, row_words-some, sits, like-start, like-free, like-live}
+use Rattle.art_serial.proofs.alone.LikeLemmas.{Nothing, sits, like-start, like-free, like-live}
 use Rattle.art_serial.proofs.alone.VersionLemmas.{locked-live, released-live, released-free, released-small, locked-small}
 use Rattle.art_serial.proofs.alone.SlotLemmas.{found-same}
-use Rattle.art_serial.proofs.alone.WayLemmas.{level-most, key_byte-small, leads-root, leads-below, below-other}
+use Rattle.art_serial.proofs.alone.WayLemmas.{level-most, leads-root, leads-below, below-other}
 use Rattle.art_serial.proofs.alone.PlaceLemmas.{sits-kind_at, sits-inside}
 use Rattle.art_serial.proofs.inserts.NearLemmas.{Near, Version, near-like, near-version, near-live, near-row, Among, IsHeld}
 use Rattle.art_serial.proofs.inserts.OutcomeLemmas.{Outcome}
@@ -43,9 +45,6 @@ use Rattle.art_serial.proofs.inserts.ShortLemmas.{unlock_all-short}
 use Rattle.art_serial.proofs.inserts.ShortLemmas.{find-short, pair_in-short, put-short, grow-short, lock-few}
 use Rattle.art_serial.proofs.inserts.InsertEndLemmas.{Given, Inserts, ended, within, after-part, same-part, ends-in, first-differs}
 use Rattle.art_serial.proofs.inserts.LevelLemmas.{count-most}
-
-not-le : (a b : ℕ) → b < a → nat_le a b ≡ false
-not-le a b h = grind (arith, h)
 
 less : (a b : ℕ) → a ≤ b → a ≢ b → a < b
 less a b h e = grind (arith, h, e)
@@ -192,7 +191,7 @@ module _ (g : Given) (s : Shape) (variant : Variant) (n : ℕ) (words : List ℕ
 
   -- a row is within 2^61 words
   row-bound : (b : ℕ) (k : Kind) → Reached s words b k → b < 2305843009213693952
-  row-bound b k q = omega (arith, bounded, (sits-inside s b 0 k (sits s n words rest q) (omega (arith, row_words-some k))).1)
+  row-bound b k q = omega (arith, bounded, (sits-inside s b 0 k (sits s n words rest q) (omega (arith, two-words k))).1)
 
   beside : (r q : Row) (a : IsAt r) → IsHeld s n words rest q → (now : List ℕ) → Holding (q ∷ r ∷ []) now → (slot b : ℕ) (k : Kind) (d : ℕ)
       → slot_of words r.base r.kind (byte_at c r.level) ≡ Some slot → child_on s words r.base r.kind (byte_at c r.level) ≡ ChildRow b k
@@ -291,7 +290,7 @@ module _ (g : Given) (s : Shape) (variant : Variant) (n : ℕ) (words : List ℕ
 
       info-comes : Comes (load (info_at b)) (with_lock (with_unlocked rows now) b) (slice_index words (info_at b)) (with_lock (with_unlocked rows now) b)
       info-comes = subst (λ w. Comes (load (info_at b)) (with_lock (with_unlocked rows now) b) w (with_lock (with_unlocked rows now) b))
-          (near-row s n words rest two reached 1 (omega arith) (row_words-some k)) (load-comes (info_at b) (with_lock (with_unlocked rows now) b))
+          (near-row s n words rest two reached 1 (omega arith) (two-words k)) (load-comes (info_at b) (with_lock (with_unlocked rows now) b))
 
       lower : level_in words r.base r.kind < level_in words b k
       lower = (rest.tree.row r.base b (byte_at c r.level) r.kind k a.leads.reached (byte r) on).0

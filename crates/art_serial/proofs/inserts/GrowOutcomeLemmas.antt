@@ -11,8 +11,9 @@ use Rattle.map_object.specs.MapObject.{Contents, value_at, value_reply, put}
 use Rattle.art_rows.specs.declared.table.Shape.{Shape}
 use Rattle.art_rows.specs.declared.table.Kind.{Kind}
 use Rattle.art_rows.specs.declared.table.Child.TheVariants.{Row as ChildRow, Leaf}
-use Rattle.art_rows.specs.Table.{row_words, rows_of, table_words, claims_of, base_of, first_child, info_at, capacity}
+use Rattle.art_rows.specs.Table.{row_words, rows_of, table_words, claims_of, base_of, info_at, capacity}
 use Rattle.art_rows.specs.Words.{row_word, info_word, is_obsolete, obsolete_word}
+use Rattle.art_rows.proofs.KindLemmas.{claims-few, two-words, first-some}
 use Rattle.art_steps.specs.declared.variant.Variant.{Variant}
 use Rattle.art_steps.specs.Rows.{Setting, Row, byte_at, unlock_obsolete, unlock_all}
 use Rattle.art_steps.specs.Steps.{Part, ◌>>◌, store}
@@ -27,9 +28,9 @@ use Rattle.art_serial.specs.alone.Alone.{Comes, Ends}
 use Rattle.art_serial.specs.alone.Finding.{keys_in, count_in}
 use Rattle.art_serial.proofs.alone.AloneLemmas.{ends-bind, bind-comes, then-comes, store-comes}
 use Rattle.art_serial.proofs.alone.RowRunLemmas.{with_unlocked, with_claim, claim-ends, claim-comes, unlock_obsolete-comes, unlock_all-comes}
-use Rattle.art_serial.proofs.alone.PlaceLemmas.{Sits, sits-part, sits-inside, sits-kind_at, claims-low}
+use Rattle.art_serial.proofs.alone.PlaceLemmas.{Sits, sits-part, sits-inside, sits-kind_at}
 use Rattle.art_serial.proofs.alone.SlotLemmas.{IsSlot, slot-is, form-same, row-keys, slot-same, keys-same, count-same}
-use Rattle.art_serial.proofs.alone.LikeLemmas.{Nothing, row_words-some, sits}
+use Rattle.art_serial.proofs.alone.LikeLemmas.{Nothing, sits}
 use Rattle.art_serial.proofs.alone.WayLemmas.{below-other, level-most}
 use Rattle.art_serial.specs.inserts.Settled.{IsInside, IsNew, IsNewRow}
 use Rattle.art_serial.proofs.inserts.NearLemmas.{Near, near-out, near-plain, near-live, near-behind, near-version, near-unlocked, Among, IsHeld, unlocked-other}
@@ -38,18 +39,13 @@ use Rattle.art_serial.proofs.inserts.OutcomeLemmas.{split, child-same, no-row, C
 use Rattle.art_serial.proofs.inserts.HungLemmas.{word-changes}
 use Rattle.art_serial.proofs.inserts.SmallLemmas.{bytes-small, path_byte-small}
 use Rattle.art_serial.proofs.inserts.SettledLemmas.{settled-words-rest}
-
-less : (a b : ℕ) → nat_lt a b ≡ true → a < b
-less a b e = grind (arith, e)
+use Rattle.art_serial.proofs.words.KeyLemmas.{is_less}
 
 obsolete-small : (v : ℕ) → obsolete_word v < 18446744073709551616
 obsolete-small v = omega arith
 
 some-more : (i : ℕ) → (i ≡ 0 → ⊥) → 1 ≤ i
 some-more i h = grind (arith, h)
-
-first-some : (k : Kind) → 1 ≤ first_child k
-first-some k = grind arith
 
 module _ (trees : SameTreesAreOne) (hangs : GrownRowsAreHung) (written : RowsAreFilled) (read : WordsAreReadBack) (versions : VersionsSay)
     (sized : WordsAreSmall) (s : Shape)
@@ -88,7 +84,7 @@ module _ (trees : SameTreesAreOne) (hangs : GrownRowsAreHung) (written : RowsAre
     number = slice_index now (claims_of larger)
 
     was : slice_index now (claims_of larger) ≡ slice_index words (claims_of larger)
-    was = near-plain s n words rest (claims_of larger) near (no-row s n words rest (claims_of larger) (claims-low larger)) (λ o. o)
+    was = near-plain s n words rest (claims_of larger) near (no-row s n words rest (claims_of larger) (claims-few larger)) (λ o. o)
 
     full : nat_lt number (rows_of s larger) ≡ false → Grows (grow c (a ∷ []) slot r keys count) now
     unfolding grow
@@ -138,12 +134,12 @@ module _ (trees : SameTreesAreOne) (hangs : GrownRowsAreHung) (written : RowsAre
       Out = Claimed s n words rest larger Extra
 
       not-written : (b : ℕ) (k : Kind) → Reached s words b k → (j : ℕ) → j < row_words k → (b + j ≡ slot → ⊥) → Out (b + j) → ⊥
-      not-written b k q j high ne (inl is) = omega (arith, (sits-inside s b j k (sits s n words rest q) high).0, is, claims-low larger)
+      not-written b k q j high ne (inl is) = omega (arith, (sits-inside s b j k (sits s n words rest q) high).0, is, claims-few larger)
       not-written b k q j high ne (inr (inl is)) = ne is
       not-written b k q j high ne (inr (inr (i, one, li, is))) = row-apart b j i k q high li is
 
       base-plain : (b : ℕ) (k : Kind) → Reached s words b k → b + 0 ≡ slot → ⊥
-      base-plain b k q e = omega (arith, (slot-elsewhere b 0 k q (omega (arith, row_words-some k)) e).1, early)
+      base-plain b k q e = omega (arith, (slot-elsewhere b 0 k q (omega (arith, two-words k)) e).1, early)
 
       -- one of the words is set
       set-changed : (v : List ℕ) (p q : ℕ) → Out p → (w : ℕ) → (b : Bool) → (w == p) ≡ b → (slice_index (slice_set v p q) w ≡ slice_index v w) ⊎ Out w
@@ -160,7 +156,7 @@ module _ (trees : SameTreesAreOne) (hangs : GrownRowsAreHung) (written : RowsAre
       begun = slice_set claimed (info_at row) info
 
       info-out : Out (info_at row)
-      info-out = inr (inr (1, omega arith, row_words-some larger, refl))
+      info-out = inr (inr (1, omega arith, two-words larger, refl))
 
       info-small : info < 18446744073709551616
       info-small =
@@ -169,7 +165,7 @@ module _ (trees : SameTreesAreOne) (hangs : GrownRowsAreHung) (written : RowsAre
           (subst (λ p. All (λ x. x < 256) p) (sym path) (bytes-small (path_in words r.base r.kind) (λ i. path_byte-small words r.base r.kind i)))
 
       row-small : row < 2305843009213693952
-      row-small = omega (arith, bounded, (sits-inside s row 0 larger row-sits (omega (arith, row_words-some larger))).1)
+      row-small = omega (arith, bounded, (sits-inside s row 0 larger row-sits (omega (arith, two-words larger))).1)
 
       near1 : Near s n words rest Out (Among s n words rest (r ∷ a ∷ [])) Nothing claimed
       near1 = near-out s n words rest near (length-set now (claims_of larger) ((number + 1) % 18446744073709551616))
@@ -191,7 +187,7 @@ module _ (trees : SameTreesAreOne) (hangs : GrownRowsAreHung) (written : RowsAre
       fresh-zero w from to =
           get_or-set_other claimed (info_at row) w info 0 (λ is. omega (arith, is, from))
           ∙ (get_or-set_other now (claims_of larger) w ((number + 1) % 18446744073709551616) 0
-          (λ is. omega (arith, is, from, claims-low larger, (sits-inside s row 0 larger row-sits (omega (arith, row_words-some larger))).0))
+          (λ is. omega (arith, is, from, claims-few larger, (sits-inside s row 0 larger row-sits (omega (arith, two-words larger))).0))
           ∙ (near-plain s n words rest w near plain (λ o. o) ∙ rest.fresh larger number w (omega (arith, was)) low (omega (arith, from)) to))
         where
           plain : (k : Kind) → Sits s w k → ⊥
@@ -208,18 +204,18 @@ module _ (trees : SameTreesAreOne) (hangs : GrownRowsAreHung) (written : RowsAre
               → IsApart r.base r.kind row larger
           below lt (inl l) = absurd (omega (arith, l, lt))
           below lt (inr (inl l)) = inl l
-          below lt (inr (inr (j, lj, e))) = absurd (row-apart r.base j 0 r.kind leads.reached lj (omega (arith, row_words-some larger)) (omega (arith, e)))
+          below lt (inr (inr (j, lj, e))) = absurd (row-apart r.base j 0 r.kind leads.reached lj (omega (arith, two-words larger)) (omega (arith, e)))
 
           go : (r.base < row) ⊎ ((row + row_words larger ≤ r.base) ⊎ ((j : ℕ) × (j < row_words larger) × (r.base ≡ row + j)))
               → IsApart r.base r.kind row larger
           go (inl l) = below l (split row r.base (row_words r.kind))
           go (inr (inl l)) = inr l
-          go (inr (inr (j, lj, e))) = absurd (row-apart r.base 0 j r.kind leads.reached (omega (arith, row_words-some r.kind)) lj (omega (arith, e)))
+          go (inr (inr (j, lj, e))) = absurd (row-apart r.base 0 j r.kind leads.reached (omega (arith, two-words r.kind)) lj (omega (arith, e)))
 
       run : (after : List ℕ) × Comes (fill r.kind c r row x (keys_in begun r.base r.kind x) (count_in (Insert key value) begun r.base r.kind x)) begun tt after
           × HasGrown s begun after r.base r.kind row larger x (Leaf key value)
       run = written c r row begun x key value refl value_small
-          (row-ends (row_words larger) (row_words-some larger) (λ j h. (sits-inside s row j larger row-sits h).1)) rows-apart fresh-zero
+          (row-ends (row_words larger) (two-words larger) (λ j h. (sits-inside s row j larger row-sits h).1)) rows-apart fresh-zero
           (form-same words begun r.base r.kind (row-keys words begun r.base r.kind same) (rest.tree.form r.base r.kind leads.reached)) byte
           (slot-same words begun r.base r.kind x byte (row-keys words begun r.base r.kind same) ∙ none)
           (count-same words begun r.base (Insert key value) r.kind x byte (row-keys words begun r.base r.kind same) ∙ all)
@@ -303,11 +299,11 @@ module _ (trees : SameTreesAreOne) (hangs : GrownRowsAreHung) (written : RowsAre
 
       more : slice_index later (claims_of larger) ≡ slice_index words (claims_of larger) + 1
       more =
-          after-fill (claims_of larger) (no-row s n words rest (claims_of larger) (claims-low larger))
+          after-fill (claims_of larger) (no-row s n words rest (claims_of larger) (claims-few larger))
           (λ is. omega (
             arith,
             is,
-            claims-low larger,
+            claims-few larger,
             (sits-inside s a.base is-slot.place a.kind
                 (sits s n words rest above.reached) is-slot.high).0,
             is-slot.is,
@@ -315,11 +311,11 @@ module _ (trees : SameTreesAreOne) (hangs : GrownRowsAreHung) (written : RowsAre
           ∙ (has.beside (claims_of larger) (inl (omega (arith, low-claims)))
           ∙ (get_or-set_other claimed (info_at row) (claims_of larger) info 0 (λ is. omega (arith, is, low-claims))
           ∙ (get_or-set_same now (claims_of larger) ((number + 1) % 18446744073709551616) 0
-          (omega (arith, low-claims, (sits-inside s row 0 larger row-sits (omega (arith, row_words-some larger))).1, near.long))
+          (omega (arith, low-claims, (sits-inside s row 0 larger row-sits (omega (arith, two-words larger))).1, near.long))
           ∙ omega (arith, was, rest.claims larger, few))))
         where
           low-claims : claims_of larger < row
-          low-claims = omega (arith, claims-low larger, (sits-inside s row 0 larger row-sits (omega (arith, row_words-some larger))).0)
+          low-claims = omega (arith, claims-few larger, (sits-inside s row 0 larger row-sits (omega (arith, two-words larger))).0)
 
       new : IsNewRow s words later row larger
       new = (number, omega (arith, was), omega (arith, was, more), low, refl)
@@ -330,14 +326,14 @@ module _ (trees : SameTreesAreOne) (hangs : GrownRowsAreHung) (written : RowsAre
 
       info-now : slice_index later (info_at row) ≡ info_word larger (level_in words r.base r.kind) (path_in words r.base r.kind)
       info-now =
-          same-fresh 1 (omega arith) (row_words-some larger) ∙ (has.beside (info_at row) (inl (omega arith))
+          same-fresh 1 (omega arith) (two-words larger) ∙ (has.beside (info_at row) (inl (omega arith))
           ∙ (get_or-set_same claimed (info_at row) info 0
-          (omega (arith, (sits-inside s row 1 larger row-sits (row_words-some larger)).1, near1.long))
+          (omega (arith, (sits-inside s row 1 larger row-sits (two-words larger)).1, near1.long))
           ∙ (ap (λ l. info_word larger l r.path) level ∙ ap (λ p. info_word larger (level_in words r.base r.kind) p) path)))
 
       is-grown : IsGrown s words later key value r.base r.kind row larger x
       is-grown = record {
-        new = λ k q. row-apart row 0 0 k q (omega (arith, row_words-some k)) (omega (arith, row_words-some larger)) refl;
+        new = λ k q. row-apart row 0 0 k q (omega (arith, two-words k)) (omega (arith, two-words larger)) refl;
         form = form-same filled later row larger (row-keys filled later row larger same-fresh) has.form;
         info = info-now;
         absent = ap (λ o. child_in s words o) none;
@@ -365,7 +361,7 @@ module _ (trees : SameTreesAreOne) (hangs : GrownRowsAreHung) (written : RowsAre
       old-or-new b k (inl (q, ne)) = inl (
         q,
         near-live s n words rest near6 q ne
-            (λ o. not-written b k q 0 (omega (arith, row_words-some k)) (base-plain b k q) (subst (λ w. Out w) (omega arith) o)),
+            (λ o. not-written b k q 0 (omega (arith, two-words k)) (base-plain b k q) (subst (λ w. Out w) (omega arith) o)),
       )
       old-or-new b k (inr (is, kinds)) = inr (subst (λ b. IsNewRow s words later b k) (sym is) (subst (λ k. IsNewRow s words later row k) (sym kinds) new))
 
@@ -398,5 +394,5 @@ module _ (trees : SameTreesAreOne) (hangs : GrownRowsAreHung) (written : RowsAre
     grows = go (nat_lt number (rows_of s larger)) refl
       where
         go : (b : Bool) → nat_lt number (rows_of s larger) ≡ b → Grows (grow c (a ∷ []) slot r keys count) now
-        go true e = grown (less number (rows_of s larger) e) e
+        go true e = grown (is_less number (rows_of s larger) e) e
         go false e = full e

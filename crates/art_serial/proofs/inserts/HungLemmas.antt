@@ -2,28 +2,16 @@
 use Rattle.std.proofs.Common.{◌≡◌, ℕ, ◌+◌, ◌<◌, ◌≤◌, List, slice_index, Option, Some, None, refl, sym, ap, ◌∙◌, arith}
 use Rattle.art_rows.specs.declared.table.Shape.{Shape}
 use Rattle.art_rows.specs.declared.table.Kind.{Kind}
-use Rattle.art_rows.specs.declared.table.Kind.TheVariants.{Four, Sixteen, FortyEight, Full}
 use Rattle.art_rows.specs.declared.table.Child.{Child}
-use Rattle.art_rows.specs.Table.{row_words, first_child}
+use Rattle.art_rows.specs.Table.{row_words}
 use Rattle.art_rows.specs.Words.{child_of}
+use Rattle.art_rows.proofs.KindLemmas.{two-words, first-two, keys-within}
 use Rattle.art_core.specs.Meaning.{Reached, child_in, slot_of}
 use Rattle.art_core.specs.Forms.{HasForm}
 use Rattle.art_serial.specs.trees.Trees.{IsAtRest, ChangesAt}
 use Rattle.art_serial.proofs.alone.PlaceLemmas.{sits-part}
 use Rattle.art_serial.proofs.alone.SlotLemmas.{IsSlot, slot-is, slot-once, slot-same, form-same, SameKeys}
-use Rattle.art_serial.proofs.alone.LikeLemmas.{row_words-some, sits}
-
-first-low : (kind : Kind) → 2 ≤ first_child kind
-first-low Four = omega arith
-first-low Sixteen = omega arith
-first-low FortyEight = omega arith
-first-low Full = omega arith
-
-keys-within : (kind : Kind) (j : ℕ) → j < first_child kind → j < row_words kind
-keys-within Four j h = omega (arith, h)
-keys-within Sixteen j h = omega (arith, h)
-keys-within FortyEight j h = omega (arith, h)
-keys-within Full j h = omega (arith, h)
+use Rattle.art_serial.proofs.alone.LikeLemmas.{sits}
 
 module _ (s : Shape) (n : ℕ) (words : List ℕ) (rest : IsAtRest s n words) (later : List ℕ) (base slot value x : ℕ) (kind : Kind)
     (reached : Reached s words base kind) (byte : x < 256) (at : slot_of words base kind x ≡ Some slot)
@@ -46,8 +34,8 @@ module _ (s : Shape) (n : ℕ) (words : List ℕ) (rest : IsAtRest s n words) (l
   pub word-changes : HasForm words base kind → (child : Child) → child_of s value ≡ child → ChangesAt s words later base kind x child
   word-changes form child is = record {
     others = λ b k r ne j low high. untouched b k r j low high λ e. ne (elsewhere r j high e).0;
-    info = untouched base kind reached 1 (omega arith) (row_words-some kind)
-        λ e. omega (arith, (elsewhere reached 1 (row_words-some kind) e).1, is-slot.low, first-low kind);
+    info = untouched base kind reached 1 (omega arith) (two-words kind)
+        λ e. omega (arith, (elsewhere reached 1 (two-words kind) e).1, is-slot.low, first-two kind);
     form = form-same words later base kind same-keys form;
     other_bytes = λ y other ne. ap (λ o. child_in s later o) (slot-same words later base kind y other same-keys)
         ∙ kept y other ne (slot_of words base kind y) refl;
@@ -59,6 +47,6 @@ module _ (s : Shape) (n : ℕ) (words : List ℕ) (rest : IsAtRest s n words) (l
       kept y other ne (Some t) e =
           let its = slot-is words base kind y t other e in
           ap (λ w. child_of s w) (ap (λ i. slice_index later i) its.is ∙ (untouched base kind reached its.place
-          (omega (arith, its.low, first-low kind)) its.high
+          (omega (arith, its.low, first-two kind)) its.high
           (λ is. ne (slot-once words base kind y x slot form other byte (e ∙ ap Some (its.is ∙ is)) at))
           ∙ ap (λ i. slice_index words i) (sym its.is)))

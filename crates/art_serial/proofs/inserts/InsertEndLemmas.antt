@@ -1,7 +1,7 @@
 -- The ends of an insert's way, at a row that is held, whichever way it went there.
 use Rattle.std.proofs.Common.{◌≡◌, ◌≢◌, ◌⊎◌, inl, inr, ℕ, suc, ◌+◌}
 use Rattle.std.proofs.Common.{◌<◌, ◌≤◌, ◌==◌, List, [], ◌∷◌, slice_index, slice_set, Bool, true, false, Option, Some}
-use Rattle.std.proofs.Common.{None, if◌then◌else◌, refl, sym, ap, ◌∙◌, subst, arith, eqb-true, option_map}
+use Rattle.std.proofs.Common.{None, refl, sym, ap, ◌∙◌, subst, arith, eqb-true, option_map, if◌then◌else◌}
 use Rattle.std.specs.Prelude.{unwrap_or}
 use Rattle.std.proofs.lemmas.Bool.{eqb-false}
 use Rattle.std.proofs.lemmas.Option.{none-some, same_Some}
@@ -15,6 +15,7 @@ use Rattle.art_rows.specs.declared.table.Child.{Child}
 use Rattle.art_rows.specs.declared.table.Child.TheVariants.{Empty, Row as ChildRow, Leaf}
 use Rattle.art_rows.specs.Table.{table_words}
 use Rattle.art_rows.specs.Words.{key_bytes, first_difference, leaf_word, child_of}
+use Rattle.art_rows.proofs.ByteLemmas.{key_byte-small}
 use Rattle.art_steps.specs.declared.variant.Variant.{Variant}
 use Rattle.art_steps.specs.Rows.{Setting, Row, unlock}
 use Rattle.art_steps.specs.Steps.{Rest, Part, ◌>>=◌, ◌>>◌, give, store}
@@ -29,7 +30,6 @@ use Rattle.art_serial.specs.alone.Alone.{Comes, Ends}
 use Rattle.art_serial.proofs.alone.AloneLemmas.{give-comes, bind-comes, bind-ends, then-comes, store-comes, ends-bind, ends-then, same-comes, same-ends}
 use Rattle.art_serial.proofs.alone.RowRunLemmas.{with_unlocked, unlock-comes}
 use Rattle.art_serial.proofs.alone.LikeLemmas.{Nothing}
-use Rattle.art_serial.proofs.alone.WayLemmas.{key_byte-small}
 use Rattle.art_serial.proofs.inserts.NearLemmas.{Near, Among, IsHeld}
 use Rattle.art_serial.proofs.inserts.OutcomeLemmas.{Outcome}
 use Rattle.art_serial.proofs.inserts.ShortLemmas.{Short, steps_of, short-few, short-more, give-short, bind-short, then-short, store-short, unlock-short}

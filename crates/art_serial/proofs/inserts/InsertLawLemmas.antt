@@ -1,7 +1,6 @@
 -- An insert that runs alone on a table at rest does what it does on the map, or is refused.
 use Rattle.std.proofs.Common.{◌≡◌, ◌⊎◌, inl, inr, ℕ, ◌<◌, ◌≤◌, List, Bool, true, false, refl, ap, arith, if◌then◌else◌}
 use Rattle.events.specs.declared.event.Call.TheVariants.{Insert}
-use Rattle.events.specs.declared.event.Reply.{Reply}
 use Rattle.map_object.specs.MapObject.{Contents}
 use Rattle.art_rows.specs.declared.table.Shape.{Shape}
 use Rattle.art_rows.specs.Table.{table_words, IsWithinLimits}
@@ -9,7 +8,7 @@ use Rattle.art_steps.specs.declared.variant.Variant.{Variant}
 use Rattle.art_steps.specs.Rows.{Setting, locks}
 use Rattle.art_steps.specs.Coupled as coupled
 use Rattle.art_steps.specs.Optimistic as optimistic
-use Rattle.art_steps.specs.Act.{procedure, act}
+use Rattle.art_steps.specs.Act.{procedure}
 use Rattle.art_steps.specs.TreeCalls.{is_tree_call}
 use Rattle.art_core.specs.Meaning.{Means}
 use Rattle.art_serial.specs.trees.Trees.{IsAtRest}

@@ -1,7 +1,7 @@
 -- Where a key parts from a child's keys is below the row's level, and a row has no more keys than its kind can have.
-use Rattle.std.proofs.Common.{◌≡◌, ℕ, zero, suc, ◌+◌, ◌<◌, ◌≤◌, ◌==◌, List, [], ◌∷◌}
-use Rattle.std.proofs.Common.{◌++◌, length, take, slice_index, Bool, true, false, Option, Some, None, nat_le}
-use Rattle.std.proofs.Common.{if◌then◌else◌, refl, ap, ◌∙◌, arith, option_map}
+use Rattle.std.proofs.Common.{◌≡◌, ℕ, zero, suc, ◌+◌, ◌≤◌, ◌==◌, List, [], ◌∷◌}
+use Rattle.std.proofs.Common.{length, take, slice_index, Bool, true, false, Option, Some, None, nat_le}
+use Rattle.std.proofs.Common.{refl, arith, option_map, if◌then◌else◌}
 use Rattle.std.proofs.lemmas.Bool.{eqb-false}
 use Rattle.std.proofs.lemmas.Option.{none-some, same_Some}
 use Rattle.events.specs.declared.event.Call.{Call}
@@ -37,18 +37,6 @@ differ-behind (suc k) (x ∷ xs) (y ∷ ys) d same long e = go (x == y) refl (λ
         → (if b then option_map (λ i. i + 1) (first_difference xs ys) else Some 0) ≡ Some d → suc k ≤ d
     go true is rest f = later (first_difference xs ys) refl rest f
     go false is rest f = absurd (eqb-false x y is (heads same))
-
--- a beginning and the member behind it
-take_suc : (l : ℕ) (ys : List ℕ) → l < length ys → take (suc l) ys ≡ take l ys ++ slice_index ys l ∷ []
-take_suc l [] h = absurd (omega (arith, h))
-take_suc zero (y ∷ ys) h = refl
-take_suc (suc l) (y ∷ ys) h = ap (λ zs. y ∷ zs) (take_suc l ys (omega (arith, h)))
-
-pub take-more : (l : ℕ) (ys : List ℕ) → l < length ys → take (l + 1) ys ≡ take l ys ++ slice_index ys l ∷ []
-take-more l ys h = ap (λ i. take i ys) (plus l) ∙ take_suc l ys h
-  where
-    plus : (i : ℕ) → i + 1 ≡ suc i
-    plus i = omega arith
 
 -- a row has no more keys than its kind can have
 pub count-most : (call : Call) (words : List ℕ) (base : ℕ) (kind : Kind) (x : ℕ) → count_in call words base kind x ≤ capacity kind

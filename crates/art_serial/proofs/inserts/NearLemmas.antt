@@ -9,11 +9,12 @@ use Rattle.art_rows.specs.declared.table.Shape.{Shape}
 use Rattle.art_rows.specs.declared.table.Kind.{Kind}
 use Rattle.art_rows.specs.Table.{row_words, table_words}
 use Rattle.art_rows.specs.Words.{is_locked, is_obsolete, released_word}
+use Rattle.art_rows.proofs.KindLemmas.{two-words}
 use Rattle.art_steps.specs.Rows.{Row}
 use Rattle.art_core.specs.Meaning.{Reached}
 use Rattle.art_serial.specs.trees.Trees.{IsAtRest, SameRow}
 use Rattle.art_serial.proofs.alone.PlaceLemmas.{Sits, sits-part, sits-inside}
-use Rattle.art_serial.proofs.alone.LikeLemmas.{Like, IsVersion, Nothing, row_words-some, sits}
+use Rattle.art_serial.proofs.alone.LikeLemmas.{Like, IsVersion, Nothing, sits}
 use Rattle.art_serial.proofs.alone.RowRunLemmas.{with_unlocked}
 use Rattle.art_serial.proofs.alone.VersionLemmas.{released-live, released-free, released-small}
 
@@ -72,7 +73,7 @@ module _ (s : Shape) (n : ℕ) (words : List ℕ) (rest : IsAtRest s n words) wh
   }
     where
       inside : base < length now
-      inside = omega (arith, (sits-inside s base 0 kind (sits s n words rest reached) (omega (arith, row_words-some kind))).1, near.long)
+      inside = omega (arith, (sits-inside s base 0 kind (sits s n words rest reached) (omega (arith, two-words kind))).1, near.long)
 
       here : slice_index (slice_set now base new) base ≡ new
       here = get_or-set_same now base new 0 inside
@@ -110,7 +111,7 @@ module _ (s : Shape) (n : ℕ) (words : List ℕ) (rest : IsAtRest s n words) wh
       go (inr (inr o)) = absurd (ne o)
       go (inr (inl v)) =
           let (kinds, numbers, bases, places) = sits-part s base (base + j) j 0 kind v.kind (sits s n words rest reached) (sits s n words rest v.reached) high
-          (omega (arith, row_words-some v.kind)) (omega arith) in
+          (omega (arith, two-words v.kind)) (omega arith) in
           absurd (omega (arith, places, low))
 
   pub near-row : {held dead : ℕ → Type 0} {now : List ℕ} {base : ℕ} {kind : Kind} → Near Nothing held dead now → Reached s words base kind
@@ -184,7 +185,7 @@ module _ (s : Shape) (n : ℕ) (words : List ℕ) (rest : IsAtRest s n words) wh
   -- a word behind a row's version is no row's base
   pub behind-plain : (base j : ℕ) (kind : Kind) → Sits s base kind → 1 ≤ j → j < row_words kind → (k : Kind) → Sits s (base + j) k → ⊥
   behind-plain base j kind x low high k y =
-      let (kinds, numbers, bases, places) = sits-part s base (base + j) j 0 kind k x y high (omega (arith, row_words-some k)) (omega arith) in
+      let (kinds, numbers, bases, places) = sits-part s base (base + j) j 0 kind k x y high (omega (arith, two-words k)) (omega arith) in
       omega (arith, places, low)
 
   pub unlocked-row : (rows : List Row) (now : List ℕ) → AreHeld rows → (base : ℕ) (kind : Kind) → Sits s base kind

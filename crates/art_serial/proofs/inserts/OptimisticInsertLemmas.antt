@@ -1,7 +1,7 @@
 -- An insert under optimistic lock coupling, run alone on a table at rest, goes its key's way and does what it does on the map, or is refused.
 use Rattle.std.proofs.Common.{◌≡◌, ◌≢◌, ◌⊎◌, inl, inr, ℕ, zero, suc, ◌+◌, ◌*◌, ◌<◌, ◌≤◌, ◌==◌, List, [], ◌∷◌, ◌++◌, take, length, slice_index, slice_set}
 use Rattle.std.proofs.Common.{Option, Some, None}
-use Rattle.std.proofs.Common.{Bool, true, false, if◌then◌else◌, refl, sym, ap, ◌∙◌, subst, arith, eqb-true, nat_le}
+use Rattle.std.proofs.Common.{Bool, true, false, refl, sym, ap, ◌∙◌, subst, arith, eqb-true, if◌then◌else◌}
 use Rattle.std.specs.Prelude.{unwrap_or}
 use Rattle.std.proofs.lemmas.Bool.{eqb-false}
 use Rattle.std.proofs.lemmas.List.{get_or-set_other}
@@ -16,9 +16,11 @@ use Rattle.art_rows.specs.declared.table.Child.{Child}
 use Rattle.art_rows.specs.declared.table.Child.TheVariants.{Empty, Row as ChildRow, Leaf}
 use Rattle.art_rows.specs.Table.{root_base, info_at, capacity, table_words}
 use Rattle.art_rows.specs.Words.{is_locked, is_obsolete, locked_word, key_bytes, child_of, info_of, first_difference}
+use Rattle.art_rows.proofs.KindLemmas.{two-words}
+use Rattle.art_rows.proofs.ByteLemmas.{key_byte-small}
 use Rattle.art_steps.specs.declared.variant.Variant.{Variant}
 use Rattle.art_steps.specs.Steps.{Part, ◌>>=◌, ◌>>◌, give, start_again, load}
-use Rattle.art_steps.specs.Rows.{Setting, Row, Place, byte_at, row_of, root_row, path_differs_at, check_of, take_row, unlock, find, Has, Lacks}
+use Rattle.art_steps.specs.Rows.{Setting, Row, Place, byte_at, row_of, root_row, path_differs_at, check_of, take_row, unlock, Has, Lacks}
 use Rattle.art_steps.specs.Updates.{keys_differ_at, put, grow, insert_in, insert_beside}
 use Rattle.art_steps.specs.Optimistic.{step_down, below_level, insert_below, take_above, insert_leaf, insert_at, insert_from, insert}
 use Rattle.art_steps.proofs.GuardLemmas.{insert_from_optimistic-body}
@@ -27,13 +29,13 @@ use Rattle.art_core.specs.Forms.{level_in, path_in}
 use Rattle.art_serial.specs.trees.Trees.{IsAtRest, LeadsTo}
 use Rattle.art_serial.specs.alone.Alone.{Comes, Ends}
 use Rattle.art_serial.specs.alone.Finding.{keys_in, count_in, found_of}
-use Rattle.art_serial.proofs.alone.AloneLemmas.{give-comes, bind-comes, then-comes, ends-then, same-comes}
-use Rattle.art_serial.proofs.alone.AloneLemmas.{same-ends, load-comes, if_false-comes, if_false-ends, over-comes, over_none-comes}
+use Rattle.art_serial.proofs.alone.AloneLemmas.{give-comes, bind-comes, then-comes, ends-then}
+use Rattle.art_serial.proofs.alone.AloneLemmas.{load-comes, over-comes, over_none-comes}
 use Rattle.art_serial.proofs.alone.RowRunLemmas.{unlock-comes, wait-comes, check_of-comes, take_row-comes, with_unlocked}
 use Rattle.art_serial.proofs.alone.FindingLemmas.{find-comes}
-use Rattle.art_serial.proofs.alone.LikeLemmas.{Like, Nothing, sits, like-start, like-free, like-live, row_words-some}
+use Rattle.art_serial.proofs.alone.LikeLemmas.{Like, Nothing, sits, like-start, like-free, like-live}
 use Rattle.art_serial.proofs.alone.VersionLemmas.{locked-live, locked-small}
-use Rattle.art_serial.proofs.alone.WayLemmas.{level-most, key_byte-small, leads-root, leads-below, below-other}
+use Rattle.art_serial.proofs.alone.WayLemmas.{level-most, leads-root, leads-below, below-other}
 use Rattle.art_serial.proofs.alone.PlaceLemmas.{sits-kind_at, sits-inside}
 use Rattle.art_serial.proofs.inserts.NearLemmas.{Near, near-like, near-version, Among, IsHeld}
 use Rattle.art_serial.proofs.inserts.OutcomeLemmas.{Outcome}
@@ -43,10 +45,9 @@ use Rattle.art_serial.proofs.inserts.SmallLemmas.{path_byte-small}
 use Rattle.art_serial.proofs.inserts.ShortLemmas.{Short, short-comes, give-short, then-short, unlock-short, check_of-short, find-short, put-short, grow-short}
 use Rattle.art_serial.proofs.inserts.ShortLemmas.{bind-few, as-few, wait-few, take_row-few}
 use Rattle.art_serial.proofs.inserts.InsertEndLemmas.{Given, Inserts, ended, within, after-part, same-part, pair-in, ends-in, first-differs}
-use Rattle.art_serial.proofs.inserts.LevelLemmas.{differ-behind, take-more, count-most}
-
-not-le : (a b : ℕ) → b < a → nat_le a b ≡ false
-not-le a b h = grind (arith, h)
+use Rattle.art_serial.proofs.inserts.LevelLemmas.{differ-behind, count-most}
+use Rattle.art_serial.proofs.trees.Bytes.{one_more}
+use Rattle.art_serial.proofs.words.ByteLemmas.{not_less_equal}
 
 less : (a b : ℕ) → a ≤ b → a ≢ b → a < b
 less a b h e = grind (arith, h, e)
@@ -230,7 +231,7 @@ module _ (g : Given) (s : Shape) (variant : Variant) (n : ℕ) (words : List ℕ
   -- the key begins as the keys below the row's byte
   alike : (r : Row) → IsAt r → take (level_in words r.base r.kind + 1) (key_bytes key) ≡ path_in words r.base r.kind ++ byte_at c r.level ∷ []
   alike r a =
-      take-more (level_in words r.base r.kind) (key_bytes key) (omega (arith, level-most words r.base r.kind))
+      one_more (level_in words r.base r.kind) (key_bytes key) (omega (arith, level-most words r.base r.kind))
       ∙ (ap (λ p. p ++ slice_index (key_bytes key) (level_in words r.base r.kind) ∷ []) a.leads.path
       ∙ ap (λ x. path_in words r.base r.kind ++ x ∷ []) (sym a.leads.byte))
 
@@ -239,7 +240,7 @@ module _ (g : Given) (s : Shape) (variant : Variant) (n : ℕ) (words : List ℕ
       → Does k (below_level r d part) now
   below-part r a d part now more i =
       same-part g s variant n words rest few bounded m means key value key_small value_small
-      (λ again after got. ap (λ (b : Bool). (if b then start_again else part) again after got) (not-le d r.level (omega (arith, more, a.level)))) i
+      (λ again after got. ap (λ (b : Bool). (if b then start_again else part) again after got) (not_less_equal d r.level (omega (arith, more, a.level)))) i
 
   -- ---- the row below
 
@@ -262,7 +263,7 @@ module _ (g : Given) (s : Shape) (variant : Variant) (n : ℕ) (words : List ℕ
 
   -- a row is within 2^61 words
   row-bound : (b : ℕ) (k : Kind) → Reached s words b k → b < 2305843009213693952
-  row-bound b k q = omega (arith, bounded, (sits-inside s b 0 k (sits s n words rest q) (omega (arith, row_words-some k))).1)
+  row-bound b k q = omega (arith, bounded, (sits-inside s b 0 k (sits s n words rest q) (omega (arith, two-words k))).1)
 
   beside : (r : Row) (a : IsAt r) (slot b : ℕ) (k : Kind) (info v d : ℕ) → slot_of words r.base r.kind (byte_at c r.level) ≡ Some slot
       → child_on s words r.base r.kind (byte_at c r.level) ≡ ChildRow b k → info ≡ slice_index words (info_at b)

@@ -12,12 +12,13 @@ use Rattle.art_rows.specs.declared.table.Shape.{Shape}
 use Rattle.art_rows.specs.declared.table.Kind.{Kind}
 use Rattle.art_rows.specs.Table.{row_words, claims_of, first_child}
 use Rattle.art_rows.specs.Words.{child_of}
+use Rattle.art_rows.proofs.KindLemmas.{claims-few, two-words}
 use Rattle.art_steps.specs.Rows.{Row}
 use Rattle.art_core.specs.Meaning.{Reached, Means, slot_of, child_in, child_on}
 use Rattle.art_serial.specs.trees.Trees.{IsAtRest, SameRow, SameTreesAreOne, HasRows}
-use Rattle.art_serial.proofs.alone.PlaceLemmas.{Sits, sits-inside, claims-low}
+use Rattle.art_serial.proofs.alone.PlaceLemmas.{Sits, sits-inside}
 use Rattle.art_serial.proofs.alone.SlotLemmas.{slot-is, slot-same, row-keys}
-use Rattle.art_serial.proofs.alone.LikeLemmas.{Nothing, row_words-some, sits}
+use Rattle.art_serial.proofs.alone.LikeLemmas.{Nothing, sits}
 use Rattle.art_serial.proofs.alone.RowRunLemmas.{with_unlocked, with_claim}
 use Rattle.art_serial.specs.inserts.Settled.{IsInside, IsNew, IsReleased, IsSettled}
 use Rattle.art_serial.proofs.inserts.NearLemmas.{Near, Version, near-out, near-plain, near-live, near-behind, near-unlocked, Among, AreHeld, unlocked-other}
@@ -61,7 +62,7 @@ child-same s words later base kind x byte same =
 module _ (s : Shape) (n : ℕ) (words : List ℕ) (rest : IsAtRest s n words) where
   -- no row stands before word 5
   pub no-row : (w : ℕ) → w < 5 → (kind : Kind) → Sits s w kind → ⊥
-  no-row w low kind x = omega (arith, low, (sits-inside s w 0 kind x (omega (arith, row_words-some kind))).0)
+  no-row w low kind x = omega (arith, low, (sits-inside s w 0 kind x (omega (arith, two-words kind))).0)
 
   inside-high : (w : ℕ) → IsInside s words w → 5 ≤ w
   inside-high w (b, k, j, r, low, high, is) = omega (arith, (sits-inside s b j k (sits s n words rest r) high).0, is)
@@ -86,8 +87,8 @@ module _ (s : Shape) (n : ℕ) (words : List ℕ) (rest : IsAtRest s n words) wh
   }
     where
       same : (k : Kind) → slice_index later (claims_of k) ≡ slice_index words (claims_of k)
-      same k = near-plain s n words rest (claims_of k) near (no-row (claims_of k) (claims-low k))
-          (λ e. omega (arith, inside-high (claims_of k) (within (claims_of k) e), claims-low k))
+      same k = near-plain s n words rest (claims_of k) near (no-row (claims_of k) (claims-few k))
+          (λ e. omega (arith, inside-high (claims_of k) (within (claims_of k) e), claims-few k))
 
       go : (w : ℕ) → (slice_index later w ≡ slice_index words w) ⊎ (Version s n words rest later Nothing dead w ⊎ extra w)
           → (slice_index later w ≡ slice_index words w) ⊎ (IsReleased s words later w ⊎ (IsInside s words w ⊎ IsNew s words later w))
@@ -113,7 +114,7 @@ module _ (s : Shape) (n : ℕ) (words : List ℕ) (rest : IsAtRest s n words) wh
 
       refuse : (k : Kind) → (claims_of k ≡ claims_of kind → ⊥) → Claimed kind extra (claims_of k) → ⊥
       refuse k ne (inl is) = ne is
-      refuse k ne (inr e) = omega (arith, late (claims_of k) (within (claims_of k) e), claims-low k)
+      refuse k ne (inr e) = omega (arith, late (claims_of k) (within (claims_of k) e), claims-few k)
 
       bounds : (k : Kind) (b : Bool) → (claims_of k == claims_of kind) ≡ b
           → (slice_index words (claims_of k) ≤ slice_index later (claims_of k)) × (slice_index later (claims_of k) ≤ slice_index words (claims_of k) + 1)
@@ -124,7 +125,7 @@ module _ (s : Shape) (n : ℕ) (words : List ℕ) (rest : IsAtRest s n words) wh
           (omega (arith, count), omega (arith, count))
       bounds k false e =
           let count : slice_index later (claims_of k) ≡ slice_index words (claims_of k)
-          = near-plain s n words rest (claims_of k) near (no-row (claims_of k) (claims-low k))
+          = near-plain s n words rest (claims_of k) near (no-row (claims_of k) (claims-few k))
           (refuse k (eqb-false (claims_of k) (claims_of kind) e)) in
           (omega (arith, count), omega (arith, count))
 
@@ -132,7 +133,7 @@ module _ (s : Shape) (n : ℕ) (words : List ℕ) (rest : IsAtRest s n words) wh
           → (slice_index later w ≡ slice_index words w) ⊎ (IsReleased s words later w ⊎ (IsInside s words w ⊎ IsNew s words later w))
       go w high (inl e) = inl e
       go w high (inr (inl v)) = inr (inl (v.kind, v.reached, v.free (λ h. h)))
-      go w high (inr (inr (inl is))) = absurd (omega (arith, high, is, claims-low kind))
+      go w high (inr (inr (inl is))) = absurd (omega (arith, high, is, claims-few kind))
       go w high (inr (inr (inr e))) = inr (inr (within w e))
 
   module _ (m : Contents) (means : Means s words m) (key value : ℕ) where
@@ -171,21 +172,21 @@ module _ (s : Shape) (n : ℕ) (words : List ℕ) (rest : IsAtRest s n words) wh
         near3 = near-unlocked s n words rest rows held near2
 
         inside : claims_of kind < length now
-        inside = omega (arith, claims-low kind, near.long)
+        inside = omega (arith, claims-few kind, near.long)
 
         was : slice_index now (claims_of kind) ≡ slice_index words (claims_of kind)
-        was = near-plain s n words rest (claims_of kind) near (no-row (claims_of kind) (claims-low kind)) (λ o. o)
+        was = near-plain s n words rest (claims_of kind) near (no-row (claims_of kind) (claims-few kind)) (λ o. o)
 
         count : slice_index later (claims_of kind) ≡ slice_index words (claims_of kind) + 1
-        count = unlocked-other s n words rest rows (with_claim now kind) held (claims_of kind) (no-row (claims_of kind) (claims-low kind))
+        count = unlocked-other s n words rest rows (with_claim now kind) held (claims_of kind) (no-row (claims_of kind) (claims-few kind))
             ∙ (get_or-set_same now (claims_of kind) new 0 inside ∙ omega (arith, was, rest.claims kind, few))
 
         out-base : (b : ℕ) (k : Kind) → Reached s words b k → Claimed kind Nothing b → ⊥
-        out-base b k r (inl is) = no-row b (omega (arith, is, claims-low kind)) k (sits s n words rest r)
+        out-base b k r (inl is) = no-row b (omega (arith, is, claims-few kind)) k (sits s n words rest r)
         out-base b k r (inr o) = o
 
         out-behind : (b j : ℕ) (k : Kind) → Reached s words b k → j < row_words k → Claimed kind Nothing (b + j) → ⊥
-        out-behind b j k r high (inl is) = omega (arith, (sits-inside s b j k (sits s n words rest r) high).0, is, claims-low kind)
+        out-behind b j k r high (inl is) = omega (arith, (sits-inside s b j k (sits s n words rest r) high).0, is, claims-few kind)
         out-behind b j k r high (inr o) = o
 
         hung : HasRows s words later m

@@ -12,6 +12,8 @@ use Rattle.art_rows.specs.declared.table.Child.{Child}
 use Rattle.art_rows.specs.declared.table.Child.TheVariants.{Row as ChildRow, Leaf}
 use Rattle.art_rows.specs.Table.{row_words, rows_of, table_words, claims_of, base_of, first_child}
 use Rattle.art_rows.specs.Words.{key_bytes, row_word, is_obsolete}
+use Rattle.art_rows.proofs.KindLemmas.{claims-few, two-words}
+use Rattle.art_rows.proofs.ByteLemmas.{key_byte-small}
 use Rattle.art_steps.specs.declared.variant.Variant.{Variant}
 use Rattle.art_steps.specs.Rows.{Setting, Row, byte_at}
 use Rattle.art_steps.specs.Steps.{Part, store}
@@ -26,10 +28,9 @@ use Rattle.art_serial.specs.writes.Laws as writes
 use Rattle.art_serial.specs.alone.Alone.{Comes, Ends}
 use Rattle.art_serial.proofs.alone.AloneLemmas.{ends-bind}
 use Rattle.art_serial.proofs.alone.RowRunLemmas.{with_unlocked, with_claim, claim-ends}
-use Rattle.art_serial.proofs.alone.PlaceLemmas.{Sits, sits-part, sits-inside, sits-kind_at, claims-low}
+use Rattle.art_serial.proofs.alone.PlaceLemmas.{Sits, sits-part, sits-inside, sits-kind_at}
 use Rattle.art_serial.proofs.alone.SlotLemmas.{IsSlot, slot-is, form-same, row-keys}
-use Rattle.art_serial.proofs.alone.LikeLemmas.{Nothing, row_words-some, sits}
-use Rattle.art_serial.proofs.alone.WayLemmas.{key_byte-small}
+use Rattle.art_serial.proofs.alone.LikeLemmas.{Nothing, sits}
 use Rattle.art_serial.specs.inserts.Settled.{IsInside, IsNew, IsNewRow}
 use Rattle.art_serial.proofs.inserts.NearLemmas.{Near, near-out, near-plain, near-live, near-behind}
 use Rattle.art_serial.proofs.inserts.NearLemmas.{near-unlocked, Among, AreHeld, unlocked-other, unlocked-row, behind-plain}
@@ -37,9 +38,7 @@ use Rattle.art_serial.proofs.inserts.OutcomeLemmas.{split, child-same, no-row, C
 use Rattle.art_serial.proofs.inserts.HungLemmas.{word-changes}
 use Rattle.art_serial.proofs.inserts.SmallLemmas.{parts-level, taken-long, taken-bytes, bytes-small}
 use Rattle.art_serial.proofs.inserts.SettledLemmas.{settled-words-rest}
-
-less : (a b : ℕ) → nat_lt a b ≡ true → a < b
-less a b e = grind (arith, e)
+use Rattle.art_serial.proofs.words.KeyLemmas.{is_less}
 
 module _ (trees : SameTreesAreOne) (hangs : PairsAreHung) (written : writes.PairsAreWritten) (read : WordsAreReadBack) (sized : WordsAreSmall) (s : Shape)
     (variant : Variant)
@@ -64,7 +63,7 @@ module _ (trees : SameTreesAreOne) (hangs : PairsAreHung) (written : writes.Pair
     old = record { byte = a; child = child }
 
     was : slice_index now (claims_of Four) ≡ slice_index words (claims_of Four)
-    was = near-plain s n words rest (claims_of Four) near (no-row s n words rest (claims_of Four) (claims-low Four)) (λ o. o)
+    was = near-plain s n words rest (claims_of Four) near (no-row s n words rest (claims_of Four) (claims-few Four)) (λ o. o)
 
     pair-ends : (new : Under) → nat_lt (slice_index now (claims_of Four)) (rows_of s Four) ≡ false
         → Ends (pair c rows d old new) now reply.Refused (with_unlocked rows (with_claim now Four))
@@ -173,7 +172,7 @@ module _ (trees : SameTreesAreOne) (hangs : PairsAreHung) (written : writes.Pair
       near3 = near-unlocked s n words rest rows held near2
 
       count : slice_index later (claims_of Four) ≡ slice_index words (claims_of Four) + 1
-      count = unlocked-other s n words rest rows after held (claims_of Four) (no-row s n words rest (claims_of Four) (claims-low Four))
+      count = unlocked-other s n words rest rows after held (claims_of Four) (no-row s n words rest (claims_of Four) (claims-few Four))
           ∙ (has.claimed ∙ omega (arith, was, rest.claims Four, few))
 
       new : IsNewRow s words later row Four
@@ -192,7 +191,7 @@ module _ (trees : SameTreesAreOne) (hangs : PairsAreHung) (written : writes.Pair
       base-plain : (b : ℕ) (k : Kind) → Reached s words b k → b + 0 ≡ slot → ⊥
       base-plain b k r e =
           let (kinds, numbers, bases, places) = sits-part s b base 0 is-slot.place k kind (sits s n words rest r) (sits s n words rest leads.reached)
-          (omega (arith, row_words-some k)) is-slot.high (e ∙ is-slot.is) in
+          (omega (arith, two-words k)) is-slot.high (e ∙ is-slot.is) in
           omega (arith, places, early)
 
       slot-plain : (k : Kind) → Sits s slot k → ⊥
@@ -204,7 +203,7 @@ module _ (trees : SameTreesAreOne) (hangs : PairsAreHung) (written : writes.Pair
 
       is-pair : IsPair s words later key value row d a (slice_index (key_bytes key) d) (child_on s words base kind x)
       is-pair = record {
-        new = λ k r. row-apart row 0 0 k r (omega (arith, row_words-some k)) (omega arith) refl;
+        new = λ k r. row-apart row 0 0 k r (omega (arith, two-words k)) (omega arith) refl;
         form = form-same after later row Four (row-keys after later row Four same-fresh) has.form;
         info = same-fresh 1 (omega arith) (omega arith) ∙ has.info;
         byte = refl;
@@ -229,7 +228,7 @@ module _ (trees : SameTreesAreOne) (hangs : PairsAreHung) (written : writes.Pair
       old-or-new b k (inl r) = inl (
         r,
         near-live s n words rest near3 r (λ h. h)
-            (λ o. not-written b k r 0 (omega (arith, row_words-some k)) (base-plain b k r) (subst (λ w. Claimed s n words rest Four Extra w) (omega arith) o)),
+            (λ o. not-written b k r 0 (omega (arith, two-words k)) (base-plain b k r) (subst (λ w. Claimed s n words rest Four Extra w) (omega arith) o)),
       )
       old-or-new b k (inr (is, kinds)) = inr (subst (λ b. IsNewRow s words later b k) (sym is) (subst (λ k. IsNewRow s words later row k) (sym kinds) new))
 
@@ -252,5 +251,5 @@ module _ (trees : SameTreesAreOne) (hangs : PairsAreHung) (written : writes.Pair
     hangs-pair = go (nat_lt (slice_index now (claims_of Four)) (rows_of s Four)) refl
       where
         go : (b : Bool) → nat_lt (slice_index now (claims_of Four)) (rows_of s Four) ≡ b → Hangs (pair_in c rows slot d old) rows now
-        go true e = hung (less (slice_index now (claims_of Four)) (rows_of s Four) e)
+        go true e = hung (is_less (slice_index now (claims_of Four)) (rows_of s Four) e)
         go false e = full e

@@ -11,8 +11,9 @@ use Rattle.map_object.specs.MapObject.{Contents, value_at, value_reply, put}
 use Rattle.art_rows.specs.declared.table.Shape.{Shape}
 use Rattle.art_rows.specs.declared.table.Kind.{Kind}
 use Rattle.art_rows.specs.declared.table.Child.TheVariants.{Leaf}
-use Rattle.art_rows.specs.Table.{row_words, table_words, first_child, capacity}
+use Rattle.art_rows.specs.Table.{row_words, table_words, capacity}
 use Rattle.art_rows.specs.Words.{leaf_word}
+use Rattle.art_rows.proofs.KindLemmas.{two-words, first-some}
 use Rattle.art_steps.specs.declared.variant.Variant.{Variant}
 use Rattle.art_steps.specs.Rows.{Setting, Row}
 use Rattle.art_steps.specs.Updates.{put_in}
@@ -26,16 +27,13 @@ use Rattle.art_serial.specs.alone.Finding.{keys_in, count_in}
 use Rattle.art_serial.proofs.alone.RowRunLemmas.{with_unlocked}
 use Rattle.art_serial.proofs.alone.PlaceLemmas.{Sits, sits-part, sits-inside}
 use Rattle.art_serial.proofs.alone.SlotLemmas.{IsSlot, slot-is, form-same, row-keys, slot-same, keys-same, count-same}
-use Rattle.art_serial.proofs.alone.LikeLemmas.{Nothing, row_words-some, sits}
+use Rattle.art_serial.proofs.alone.LikeLemmas.{Nothing, sits}
 use Rattle.art_serial.specs.inserts.Settled.{IsInside}
 use Rattle.art_serial.proofs.inserts.NearLemmas.{Near, near-out, near-live, near-row, near-behind}
 use Rattle.art_serial.proofs.inserts.NearLemmas.{near-unlocked, Among, IsHeld, unlocked-other, unlocked-row, behind-plain}
 use Rattle.art_serial.proofs.inserts.OutcomeLemmas.{split, child-same, settle-plain, Outcome}
 use Rattle.art_serial.proofs.inserts.HungLemmas.{word-changes}
 use Rattle.art_serial.proofs.inserts.SettledLemmas.{settled-words-rest}
-
-first-some : (k : Kind) → 1 ≤ first_child k
-first-some k = grind arith
 
 module _ (puts : LeavesArePut) (written : writes.PutsWriteLeaves) (read : WordsAreReadBack) (s : Shape) (variant : Variant)
     (n : ℕ) (words : List ℕ) (rest : IsAtRest s n words) (m : Contents) (means : Means s words m) (key value : ℕ) (key_small : key < 4294967296)
@@ -51,7 +49,7 @@ module _ (puts : LeavesArePut) (written : writes.PutsWriteLeaves) (read : WordsA
       plain : (b : ℕ) (k : Kind) → Reached s words b k → extra b → ⊥
       plain b k r e =
           let (b2, l, j, r2, low, high, is) = within b e in
-          let (kinds, numbers, bases, places) = sits-part s b b2 0 j k l (sits s n words rest r) (sits s n words rest r2) (omega (arith, row_words-some k)) high
+          let (kinds, numbers, bases, places) = sits-part s b b2 0 j k l (sits s n words rest r) (sits s n words rest r2) (omega (arith, two-words k)) high
           (omega (arith, is)) in
           omega (arith, places, low)
 
@@ -120,7 +118,7 @@ module _ (puts : LeavesArePut) (written : writes.PutsWriteLeaves) (read : WordsA
       keys = keys-same words now r.base r.kind x byte (row-keys words now r.base r.kind same)
 
       fits : r.base + row_words r.kind ≤ length now
-      fits = go (row_words r.kind) (row_words-some r.kind) (λ j h. (sits-inside s r.base j r.kind (sits s n words rest leads.reached) h).1)
+      fits = go (row_words r.kind) (two-words r.kind) (λ j h. (sits-inside s r.base j r.kind (sits s n words rest leads.reached) h).1)
         where
           go : (k : ℕ) → 1 < k → ((j : ℕ) → j < k → r.base + j < table_words s) → r.base + k ≤ length now
           go k some h = let last = h (pred k) (omega (arith, some)) in omega (arith, last, near.long, some)
@@ -172,7 +170,7 @@ module _ (puts : LeavesArePut) (written : writes.PutsWriteLeaves) (read : WordsA
       put-changes = record {
         others = λ b k q ne j low high. near-behind s n words rest put-near q j low high
             (λ (i, two, li, e). ne (sits-part s b r.base j i k r.kind (sits s n words rest q) (sits s n words rest leads.reached) high li e).2);
-        info = near-behind s n words rest put-near leads.reached 1 (omega arith) (row_words-some r.kind) (λ (i, two, li, e). omega (arith, two, e));
+        info = near-behind s n words rest put-near leads.reached 1 (omega arith) (two-words r.kind) (λ (i, two, li, e). omega (arith, two, e));
         form = form-same after put_later r.base r.kind (row-keys after put_later r.base r.kind same-after) has-put.form;
         other_bytes = λ y yb ne. child-same s after put_later r.base r.kind y yb same-after ∙ (has-put.others y yb ne
             ∙ child-same s words now r.base r.kind y yb same);

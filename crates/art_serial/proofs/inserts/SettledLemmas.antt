@@ -4,11 +4,12 @@ use Rattle.art_rows.specs.declared.table.Shape.{Shape}
 use Rattle.art_rows.specs.declared.table.Kind.{Kind}
 use Rattle.art_rows.specs.Table.{row_words, rows_of, claims_of, base_of, kind_at}
 use Rattle.art_rows.specs.Words.{is_locked, is_obsolete}
+use Rattle.art_rows.proofs.KindLemmas.{two-words}
 use Rattle.art_core.specs.Meaning.{Reached}
 use Rattle.art_core.specs.Forms.{IsTree}
 use Rattle.art_serial.specs.trees.Trees.{IsAtRest}
 use Rattle.art_serial.proofs.alone.PlaceLemmas.{Sits, sits-part, sits-inside, kind_at-sits}
-use Rattle.art_serial.proofs.alone.LikeLemmas.{row_words-some, sits}
+use Rattle.art_serial.proofs.alone.LikeLemmas.{sits}
 use Rattle.art_serial.specs.inserts.Settled.{IsInside, IsNewRow, IsNew, IsReleased, IsSettled, HasOldOrNewRows}
 use Rattle.art_serial.specs.inserts.Laws.{SettledWordsRest}
 
@@ -22,12 +23,12 @@ module _ (s : Shape) (n : ℕ) (words later : List ℕ) (rest : IsAtRest s n wor
   new-sits (number, low, high, inside, is) = record { number = number; low = inside; is = is }
 
   behind : (b : ℕ) (k : Kind) → Sits s b k → 5 ≤ b
-  behind b k x = (sits-inside s b 0 k x (omega (arith, row_words-some k))).0
+  behind b k x = (sits-inside s b 0 k x (omega (arith, two-words k))).0
 
   -- no row's base is inside of a row
   base-outside : (b c j : ℕ) (k l : Kind) → Sits s b k → Sits s c l → 1 ≤ j → j < row_words l → b ≡ c + j → ⊥
   base-outside b c j k l x y low high is =
-      let (kinds, numbers, bases, places) = sits-part s b c 0 j k l x y (omega (arith, row_words-some k)) high (omega (arith, is)) in
+      let (kinds, numbers, bases, places) = sits-part s b c 0 j k l x y (omega (arith, two-words k)) high (omega (arith, is)) in
       omega (arith, places, low)
 
   -- a row's version: as it was, or released
@@ -62,11 +63,11 @@ module _ (s : Shape) (n : ℕ) (words later : List ℕ) (rest : IsAtRest s n wor
   new-version b k (number, low, high, inside, is) = go (version b k (new-sits (number, low, high, inside, is)))
     where
       some : 0 < row_words k
-      some = omega (arith, row_words-some k)
+      some = omega (arith, two-words k)
 
       go : (slice_index later b ≡ slice_index words b) ⊎ IsReleased s words later b → slice_index later b ≡ 0
       go (inl e) = e ∙ rest.fresh k number b low inside (omega (arith, is)) (omega (arith, is, some))
-      go (inr (l, r, free)) = absurd (apart k l number b 0 0 low inside some r (omega (arith, row_words-some l)) (omega (arith, is)))
+      go (inr (l, r, free)) = absurd (apart k l number b 0 0 low inside some r (omega (arith, two-words l)) (omega (arith, is)))
 
   offset : (a w : ℕ) → a ≤ w → (i : ℕ) × (w ≡ a + i)
   offset a w h = (w - a, omega (arith, h))
@@ -87,7 +88,7 @@ module _ (s : Shape) (n : ℕ) (words later : List ℕ) (rest : IsAtRest s n wor
       go (inl e) = e ∙ rest.fresh k number w above_before low from to
       go (inr (inl (l, r, free))) =
           let (i, at) = offset (base_of s k number) w from in
-          absurd (apart k l number w i 0 above_before low (omega (arith, to, at)) r (omega (arith, row_words-some l)) (omega (arith, at)))
+          absurd (apart k l number w i 0 above_before low (omega (arith, to, at)) r (omega (arith, two-words l)) (omega (arith, at)))
       go (inr (inr (inl (b, l, j, r, one, high, is)))) =
           let (i, at) = offset (base_of s k number) w from in
           absurd (apart k l number b i j above_before low (omega (arith, to, at)) r high (sym at ∙ is))

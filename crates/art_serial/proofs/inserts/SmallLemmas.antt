@@ -1,6 +1,6 @@
 -- Bytes of keys and paths, and how far keys part.
 use Rattle.std.proofs.Common.{◌≡◌, ℕ, zero, suc, ◌+◌, ◌/◌, ◌%◌, ◌<◌, ◌≤◌, ◌==◌, List, [], ◌∷◌, length, take, slice_index, All, Bool, true, false}
-use Rattle.std.proofs.Common.{Option, Some, None, if◌then◌else◌, refl, arith, option_map}
+use Rattle.std.proofs.Common.{Option, Some, None, refl, arith, option_map, if◌then◌else◌}
 use Rattle.std.proofs.lemmas.Option.{none-some, same_Some}
 use Rattle.std.proofs.lemmas.List.Elements.{All-nil, All-cons, All-head, All-tail}
 use Rattle.art_rows.specs.declared.table.Kind.{Kind}
@@ -8,13 +8,9 @@ use Rattle.art_rows.specs.declared.table.Child.{Child}
 use Rattle.art_rows.specs.declared.table.Child.TheVariants.{Empty, Row as ChildRow, Leaf}
 use Rattle.art_rows.specs.Table.{info_at}
 use Rattle.art_rows.specs.Words.{key_bytes, first_difference, kind_code, low_bytes, Info, info_of}
+use Rattle.art_rows.proofs.ByteLemmas.{low_byte-small}
 use Rattle.art_core.specs.Forms.{path_in}
 use Rattle.art_serial.specs.trees.Trees.{Parts}
-
-low-byte : (k w i : ℕ) → slice_index (low_bytes k w) i < 256
-low-byte zero w i = omega arith
-low-byte (suc k) w zero = omega arith
-low-byte (suc k) w (suc i) = low-byte k (w / 256) i
 
 pub path_byte-small : (words : List ℕ) (base : ℕ) (kind : Kind) (i : ℕ) → slice_index (path_in words base kind) i < 256
 path_byte-small words base kind i = go kind (slice_index words (info_at base))
@@ -23,7 +19,7 @@ path_byte-small words base kind i = go kind (slice_index words (info_at base))
     info_by b level path = if b then record { level = level; path = path } else record { level = 0; path = [] }
 
     by_test : (w : ℕ) (b : Bool) → slice_index (info_by b ((w / 4) % 4) (low_bytes ((w / 4) % 4) (w / 256))).path i < 256
-    by_test w true = low-byte ((w / 4) % 4) (w / 256) i
+    by_test w true = low_byte-small ((w / 4) % 4) (w / 256) i
     by_test w false = omega arith
 
     go : (k : Kind) (w : ℕ) → slice_index (info_of k w).path i < 256
@@ -41,7 +37,7 @@ taken-bytes (suc d) (x ∷ xs) h =
     All-cons (λ x. x < 256) x (take d xs) (All-head (λ x. x < 256) x xs h) (taken-bytes d xs (All-tail (λ x. x < 256) x xs h))
 
 -- lists differ first before the end of either
-differs-before : (xs ys : List ℕ) (d : ℕ) → first_difference xs ys ≡ Some d → d < length ys
+pub differs-before : (xs ys : List ℕ) (d : ℕ) → first_difference xs ys ≡ Some d → d < length ys
 differs-before [] ys d e = absurd (none-some d e)
 differs-before (x ∷ xs) [] d e = absurd (none-some d e)
 differs-before (x ∷ xs) (y ∷ ys) d e = go (x == y) (first_difference xs ys) refl (λ i f. differs-before xs ys i f) e

@@ -5,13 +5,13 @@ use Rattle.std.proofs.lemmas.List.Elements.{All-set}
 use Rattle.map_object.specs.MapObject.{Contents}
 use Rattle.art_rows.specs.declared.table.Shape.{Shape}
 use Rattle.art_rows.specs.declared.table.Kind.{Kind}
-use Rattle.art_rows.specs.declared.table.Kind.TheVariants.{Four, Sixteen, FortyEight, Full}
 use Rattle.art_rows.specs.Table.{clock, claims_of, base_of}
 use Rattle.art_rows.specs.Words.{is_locked, is_obsolete}
+use Rattle.art_rows.proofs.KindLemmas.{two-words, claims-some}
 use Rattle.art_core.specs.Meaning.{Means}
 use Rattle.art_serial.specs.trees.Trees.{IsAtRest, HasRows, SameTreesAreOne}
 use Rattle.art_serial.proofs.alone.PlaceLemmas.{Sits, sits-inside, kind_at-sits}
-use Rattle.art_serial.proofs.alone.LikeLemmas.{row_words-some, sits}
+use Rattle.art_serial.proofs.alone.LikeLemmas.{sits}
 
 -- more claims may have been made
 pub rest-more : (s : Shape) (n k : ℕ) (words : List ℕ) → n ≤ k → IsAtRest s n words → IsAtRest s k words
@@ -26,12 +26,6 @@ rest-more s n k words le rest = record {
   fresh = rest.fresh;
 }
 
-claims-behind : (kind : Kind) → 0 < claims_of kind
-claims-behind Four = omega arith
-claims-behind Sixteen = omega arith
-claims-behind FortyEight = omega arith
-claims-behind Full = omega arith
-
 module _ (s : Shape) (n : ℕ) (words : List ℕ) (rest : IsAtRest s n words) (value : ℕ) where
   abbrev pub set : List ℕ
   set = slice_set words clock value
@@ -41,7 +35,7 @@ module _ (s : Shape) (n : ℕ) (words : List ℕ) (rest : IsAtRest s n words) (v
   same w behind = get_or-set_other words clock w value 0 (λ is. omega (arith, is, behind))
 
   row-behind : (base : ℕ) (kind : Kind) → Sits s base kind → 0 < base
-  row-behind base kind x = omega (arith, (sits-inside s base 0 kind x (omega (arith, row_words-some kind))).0)
+  row-behind base kind x = omega (arith, (sits-inside s base 0 kind x (omega (arith, two-words kind))).0)
 
   pub set-rows : SameTreesAreOne → (m : Contents) → Means s words m → HasRows s words set m
   set-rows same-trees m means = same-trees s words set m rest.tree means (λ base kind reached j low high.
@@ -66,4 +60,4 @@ module _ (s : Shape) (n : ℕ) (words : List ℕ) (rest : IsAtRest s n words) (v
   }
     where
       same-claims : (kind : Kind) → slice_index set (claims_of kind) ≡ slice_index words (claims_of kind)
-      same-claims kind = same (claims_of kind) (claims-behind kind)
+      same-claims kind = same (claims_of kind) (claims-some kind)

@@ -62,7 +62,7 @@ module _ (plan : Plan) (first : List ℕ) where
   abbrev pub IsOrderly : State → Type 0
   IsOrderly s = IsSerialSoFar (logged s.processes) → IsAtRest s ⊎ HasOneInCall s
 
-set-here : {A : Type 0} (xs : List A) (p : ℕ) (x y : A) → slice_get xs p ≡ Some x → slice_get (slice_set xs p y) p ≡ Some y
+pub set-here : {A : Type 0} (xs : List A) (p : ℕ) (x y : A) → slice_get xs p ≡ Some x → slice_get (slice_set xs p y) p ≡ Some y
 set-here [] p x y h = absurd (none-some x h)
 set-here (z ∷ zs) zero x y h = refl
 set-here (z ∷ zs) (suc p) x y h = set-here zs p x y h

@@ -1,12 +1,12 @@
 -- Beginnings of the bytes of a key.
-use Rattle.std.proofs.Common.{◌≡◌, ℕ, zero, suc, ◌+◌, ◌<◌, ◌≤◌, ◌==◌, Bool, true, false, if◌then◌else◌}
+use Rattle.std.proofs.Common.{◌≡◌, ℕ, zero, suc, ◌+◌, ◌<◌, ◌≤◌, ◌==◌, Bool, true, false}
 use Rattle.std.proofs.Common.{List, [], ◌∷◌, ◌++◌, length, take, slice_index}
-use Rattle.std.proofs.Common.{Option, Some, None, option_map, refl, sym, ap, ap₂, ◌∙◌, subst, arith, eq-eqb, ⊎_elim}
+use Rattle.std.proofs.Common.{Option, Some, None, option_map, refl, sym, ap, ap₂, ◌∙◌, subst, arith, eq-eqb, ⊎_elim, if◌then◌else◌}
 use Rattle.std.specs.Prelude.{◌≢◌, ◌⊎◌}
 use Rattle.std.proofs.lemmas.Bool.{cases_lt}
 use Rattle.std.proofs.lemmas.Bool.Decides.{eqb_tells}
 use Rattle.std.proofs.lemmas.Option.{none-some, same_Some}
-use Rattle.art_rows.specs.Words.{key_bytes, first_difference}
+use Rattle.art_rows.specs.Words.{first_difference}
 
 tails : (x y : ℕ) (xs ys : List ℕ) → x ∷ xs ≡ y ∷ ys → xs ≡ ys
 tails x y xs ys h = cc
@@ -33,7 +33,7 @@ path_and_byte bytes path level x long low h =
     more : suc (length path) ≡ level + 1
     more = omega (arith, long)
 
-next_of : (level : ℕ) (bytes : List ℕ) → level < length bytes → take (suc level) bytes ≡ take level bytes ++ slice_index bytes level ∷ []
+pub next_of : (level : ℕ) (bytes : List ℕ) → level < length bytes → take (suc level) bytes ≡ take level bytes ++ slice_index bytes level ∷ []
 next_of level [] low = absurd (omega arith)
 next_of zero (b ∷ bytes) low = refl
 next_of (suc level) (b ∷ bytes) low = ap (λ zs. b ∷ zs) (next_of level bytes (omega arith))
@@ -108,14 +108,6 @@ parts_at (x ∷ xs) (y ∷ ys) d h = go (x == y) refl (λ k is. parts_at xs ys k
       before = refl;
       apart = λ same. grind (arith, is, eq-eqb x y same);
     })
-
--- a byte of a key
-pub byte_small : (key i : ℕ) → slice_index (key_bytes key) i < 256
-byte_small key zero = omega arith
-byte_small key (suc zero) = omega arith
-byte_small key (suc (suc zero)) = omega arith
-byte_small key (suc (suc (suc zero))) = omega arith
-byte_small key (suc (suc (suc (suc i)))) = omega arith
 
 -- lists that begin alike part behind that
 pub deeper : (xs ys : List ℕ) (level d : ℕ) → PartsAt xs ys d → take (level + 1) xs ≡ take (level + 1) ys → level < d

@@ -8,11 +8,12 @@ use Rattle.art_rows.specs.declared.table.Kind.TheVariants.{Four, Sixteen, FortyE
 use Rattle.art_rows.specs.declared.table.Child.{Child}
 use Rattle.art_rows.specs.Table.{info_at}
 use Rattle.art_rows.specs.Words.{key_bytes, kind_code, packed, info_of}
+use Rattle.art_rows.proofs.ByteLemmas.{key_byte-small}
 use Rattle.art_core.specs.Meaning.{Reached, child_on}
 use Rattle.art_core.specs.Forms.{HasForm, IsTree, level_in, path_in}
 use Rattle.art_serial.specs.trees.Trees.{LeadsTo, ChangesAt}
 use Rattle.art_serial.proofs.trees.InfoWords.{level_small}
-use Rattle.art_serial.proofs.trees.Bytes.{one_more, byte_small}
+use Rattle.art_serial.proofs.trees.Bytes.{one_more}
 use Rattle.art_serial.proofs.trees.Infos.{LeafMayHang}
 use Rattle.art_serial.proofs.trees.SameRows.{child_same, form_same, info_same}
 
@@ -42,7 +43,7 @@ one_kind s words tree b k j here there =
 
 -- the byte of a way is a byte
 pub way_byte : (s : Shape) (words : List ℕ) (key base : ℕ) (kind : Kind) (x : ℕ) → LeadsTo s words key base kind x → x < 256
-way_byte s words key base kind x leads = subst (λ y. y < 256) (sym leads.byte) (byte_small key (level_in words base kind))
+way_byte s words key base kind x leads = subst (λ y. y < 256) (sym leads.byte) (key_byte-small key (level_in words base kind))
 
 -- the key's leaf may hang where its way leads to
 pub way_leaf : (s : Shape) (words : List ℕ) (key base : ℕ) (kind : Kind) (x : ℕ) → LeadsTo s words key base kind x

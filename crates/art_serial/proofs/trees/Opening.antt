@@ -1,6 +1,6 @@
 -- The table as it is opened.
-use Rattle.std.proofs.Common.{◌≡◌, ℕ, zero, suc, ◌+◌, ◌-◌, ◌/◌, ◌%◌, ◌^◌, ◌<◌, ◌≤◌, ◌==◌, ◌&&◌, nat_le, nat_lt, Bool, true, false, if◌then◌else◌, Some, None}
-use Rattle.std.proofs.Common.{List, [], length, replicate, slice_index, slice_set, refl, sym, ap, ap₂, subst, subst₂, ◌∙◌, arith}
+use Rattle.std.proofs.Common.{◌≡◌, ℕ, zero, suc, ◌+◌, ◌-◌, ◌/◌, ◌%◌, ◌^◌, ◌<◌, ◌≤◌, ◌==◌, ◌&&◌, nat_le, nat_lt, Bool, true, false, Some, None}
+use Rattle.std.proofs.Common.{List, [], length, replicate, slice_index, slice_set, refl, sym, ap, ap₂, subst, subst₂, ◌∙◌, arith, if◌then◌else◌}
 use Rattle.std.specs.Prelude.{◌≢◌}
 use Rattle.std.proofs.lemmas.Bool.{and_parts}
 use Rattle.std.proofs.lemmas.Bool.Decides.{nat_tests}
@@ -20,10 +20,10 @@ use Rattle.art_serial.specs.trees.Trees.{IsAtRest, TablesOpenAtRest}
 use Rattle.art_serial.proofs.trees.Infos.{IsInfo}
 use Rattle.art_serial.proofs.trees.Ways.{empty-leaf, empty-row}
 
-zeros : (n i : ℕ) → slice_index (replicate n 0) i ≡ 0
-zeros zero i = refl
-zeros (suc n) zero = refl
-zeros (suc n) (suc i) = zeros n i
+pub only-zeros : (n i : ℕ) → slice_index (replicate n 0) i ≡ 0
+only-zeros zero i = refl
+only-zeros (suc n) zero = refl
+only-zeros (suc n) (suc i) = only-zeros n i
 
 -- a row's base is none of the first words
 module _ (s : Shape) (base : ℕ) where
@@ -68,7 +68,7 @@ module _ (s : Shape) (has_root : 1 ≤ s.rows256) where
   word_zero : (i : ℕ) → i ≢ 4 → i ≢ info_at (root_base s) → slice_index words i ≡ 0
   word_zero i not_claims not_info =
       get_or-set_other claimed (info_at (root_base s)) i 3 0 not_info
-      ∙ (get_or-set_other blank 4 i 1 0 not_claims ∙ zeros (table_words s) i)
+      ∙ (get_or-set_other blank 4 i 1 0 not_claims ∙ only-zeros (table_words s) i)
 
   long_blank : length blank ≡ table_words s
   long_blank = length-replicate {A = ℕ} (table_words s) 0

@@ -11,10 +11,11 @@ use Rattle.art_rows.specs.declared.table.Child.{Child}
 use Rattle.art_rows.specs.declared.table.Child.TheVariants.{Empty, Row, Leaf}
 use Rattle.art_rows.specs.Table.{info_at, root_base}
 use Rattle.art_rows.specs.Words.{key_bytes, info_of, info_word}
+use Rattle.art_rows.proofs.ByteLemmas.{key_byte-small}
 use Rattle.art_core.specs.Meaning.{Reached, root, below, Hangs, child_on}
 use Rattle.art_core.specs.Forms.{HasForm, IsTree, level_in, path_in}
 use Rattle.art_serial.specs.trees.Trees.{LeadsTo, ChangesAt, IsPair, Parts, HasRowMore, PairsAreHung}
-use Rattle.art_serial.proofs.trees.Bytes.{PartsAt, parts_at, deeper, parted_byte, one_more, take_less, byte_small}
+use Rattle.art_serial.proofs.trees.Bytes.{PartsAt, parts_at, deeper, parted_byte, one_more, take_less}
 use Rattle.art_serial.proofs.trees.InfoWords.{level_back, path_back, bytes_of_key, bytes_before, byte_at, path_bytes}
 use Rattle.art_serial.proofs.trees.Infos.{IsInfo, MayHang, LeafMayHang}
 use Rattle.art_serial.proofs.trees.Ways.{empty-leaf, empty-row, row-leaf, same_base, same_kind, same_key}
@@ -45,7 +46,7 @@ module _ (s : Shape) (words : List ℕ) (key base : ℕ) (kind : Kind) (x d a b 
   behind (Leaf k v) on parts =
       behind_list (key_bytes k) (parts_at (key_bytes k) (key_bytes key) d parts.0)
       (tree.leaf base x k v kind leads.reached (way_byte s words key base kind x leads) on) parts.1
-      (subst (λ z. z < 256) (sym parts.1) (byte_small k d))
+      (subst (λ z. z < 256) (sym parts.1) (key_byte-small k d))
   behind (Row c j) on parts =
       behind_list (path_in words c j) (parts_at (path_in words c j) (key_bytes key) d parts.0)
       (tree.row base c x kind j leads.reached (way_byte s words key base kind x leads) on).1 parts.1
@@ -64,7 +65,7 @@ module _ (s : Shape) (words later : List ℕ) (key value base : ℕ) (kind : Kin
   way_small = way_byte s words key base kind x leads
 
   b_small : b < 256
-  b_small = subst (λ z. z < 256) (sym pair.byte) (byte_small key d)
+  b_small = subst (λ z. z < 256) (sym pair.byte) (key_byte-small key d)
 
   spot : (c : ℕ) (j : Kind) (y : ℕ) → Reached s words c j → y < 256 → IsPlace base kind x c j y ⊎ (child_on s later c j y ≡ child_on s words c j y)
   spot = elsewhere s words later base kind x (Row row Four) tree leads.reached change

@@ -1,6 +1,6 @@
 -- A row of kind 4 or 16 takes one child more.
-use Rattle.std.proofs.Common.{◌≡◌, ℕ, ◌+◌, ◌<◌, ◌≤◌, Bool, true, false, if◌then◌else◌, nat_lt, List, length, slice_index, All, Option, Some, None, option_map}
-use Rattle.std.proofs.Common.{refl, sym, ap, subst, ◌∙◌, arith}
+use Rattle.std.proofs.Common.{◌≡◌, ℕ, ◌+◌, ◌<◌, ◌≤◌, Bool, true, false, nat_lt, List, length, slice_index, All, Option, Some, None, option_map}
+use Rattle.std.proofs.Common.{refl, sym, ap, subst, ◌∙◌, arith, if◌then◌else◌}
 use Rattle.std.specs.Prelude.{◌≢◌}
 use Rattle.std.specs.List.Sorted.{IsStrictlyIncreasing}
 use Rattle.art_rows.specs.declared.table.Shape.{Shape}
@@ -9,6 +9,7 @@ use Rattle.art_rows.specs.declared.table.Kind.TheVariants.{Four, Sixteen}
 use Rattle.art_rows.specs.declared.table.Child.{Child}
 use Rattle.art_rows.specs.Table.{keys_at, more_keys_at, count_at, child_at}
 use Rattle.art_rows.specs.Words.{child_of, keys4_of, keys16_of, keys16_word, place_of, new_place, with_key}
+use Rattle.art_rows.proofs.ByteLemmas.{place-within}
 use Rattle.art_core.specs.Meaning.{slot_of, child_in, child_on}
 use Rattle.art_core.specs.Forms.{HasForm}
 use Rattle.art_serial.specs.trees.Trees.{ChangesAt}
@@ -16,7 +17,6 @@ use Rattle.art_serial.specs.trees.Keys.{IsPutIn}
 use Rattle.art_serial.specs.trees.Puts.{HasRoomFor, FourTakesOneMore, SixteenTakesOneMore}
 use Rattle.art_serial.proofs.trees.PutKeys.{keys-are-put-in}
 use Rattle.art_serial.proofs.trees.RowKeys.{keys-of-four, keys-of-sixteen, all_bytes, read_four, read_sixteen}
-use Rattle.art_serial.proofs.trees.RowSlots.{place_within}
 
 -- a row whose slots are said by the places of its keys
 abbrev SlotsByKeys : List ℕ → ℕ → Kind → List ℕ → Type 0
@@ -45,7 +45,7 @@ module _ (s : Shape) (words later : List ℕ) (base : ℕ) (kind : Kind) (x : �
           ∙ sym (ap (λ p. child_in s words p) (slots y ∙ ap (λ p. option_map (λ i. child_at kind base i) p) e))
       go (Some i) e =
           ap (λ p. child_in s later p) (after y ∙ ap (λ p. option_map (λ i. child_at kind base i) p) (put.others y i apart e))
-          ∙ (kept i (place_within y keys i e)
+          ∙ (kept i (place-within y keys i e).0
           ∙ sym (ap (λ p. child_in s words p) (slots y ∙ ap (λ p. option_map (λ i. child_at kind base i) p) e)))
 
   child_here : child_on s later base kind x ≡ child

@@ -3,7 +3,7 @@ use Rattle.std.proofs.Common.{◌≡◌, ℕ, ◌+◌, ◌/◌, ◌%◌, ◌<◌
 use Rattle.std.proofs.Common.{refl, sym, ap, ◌∙◌, subst, arith}
 use Rattle.art_rows.specs.declared.table.Kind.{Kind}
 use Rattle.art_rows.specs.declared.table.Kind.TheVariants.{Four, Sixteen, FortyEight, Full}
-use Rattle.art_rows.specs.Table.{row_words, info_at, keys_at, more_keys_at, index_at, count_at, child_at, first_child}
+use Rattle.art_rows.specs.Table.{info_at, keys_at, more_keys_at, index_at, count_at, child_at, first_child}
 use Rattle.art_rows.specs.Words.{place_of, keys4_of, keys16_of, entries_of}
 use Rattle.art_core.specs.Meaning.{slot_of, entry_slot}
 use Rattle.art_core.specs.Forms.{HasForm}
@@ -60,9 +60,3 @@ module _ (words later : List ℕ) (base : ℕ) where
         λ x i byte here. subst (λ n. i < n) (sym count) (below x i byte (sym (slot x byte) ∙ here)),
       )
   head_form Full same h = tt
-
-pub first_low : (kind : Kind) → first_child kind ≤ row_words kind
-first_low Four = omega arith
-first_low Sixteen = omega arith
-first_low FortyEight = omega arith
-first_low Full = omega arith

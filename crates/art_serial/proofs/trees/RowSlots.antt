@@ -1,43 +1,17 @@
 -- Where the slot of a byte stands in its row, and that two bytes have two.
-use Rattle.std.proofs.Common.{◌≡◌, ℕ, zero, suc, ◌+◌, ◌-◌, ◌%◌, ◌<◌, ◌≤◌, ◌==◌, List, [], ◌∷◌, length, slice_index, map, Option, Some, None, option_map}
-use Rattle.std.proofs.Common.{Bool, true, false, if◌then◌else◌, refl, sym, ap, ◌∙◌, subst, arith, nat_le}
+use Rattle.std.proofs.Common.{◌≡◌, ℕ, suc, ◌+◌, ◌-◌, ◌%◌, ◌<◌, ◌≤◌, ◌==◌, List, [], ◌∷◌, length, slice_index, Option, Some, None, option_map}
+use Rattle.std.proofs.Common.{Bool, true, false, refl, sym, ap, ◌∙◌, subst, arith, if◌then◌else◌}
 use Rattle.std.proofs.lemmas.Option.{none-some, same_Some}
 use Rattle.art_rows.specs.declared.table.Kind.{Kind}
 use Rattle.art_rows.specs.declared.table.Kind.TheVariants.{Four, Sixteen, FortyEight, Full}
 use Rattle.art_rows.specs.Table.{row_words, keys_at, more_keys_at, index_at, count_at, child_at, first_child}
-use Rattle.art_rows.specs.Words.{place_of, keys4_of, keys16_of, entries_of, entry_of, low_bytes}
+use Rattle.art_rows.specs.Words.{place_of, keys4_of, keys16_of, entries_of, low_bytes}
 use Rattle.art_rows.proofs.ReaderLemmas.{most_of}
 use Rattle.art_rows.proofs.WriterLemmas.{length-keys16, length-keys4}
+use Rattle.art_rows.proofs.ByteLemmas.{entry_list-most, place-within}
 use Rattle.art_core.specs.Meaning.{slot_of}
 use Rattle.art_core.specs.Forms.{HasForm}
 use Rattle.std.proofs.lemmas.Bool.{eqb-true}
-
--- a place is one of the list
-pub place_within : (x : ℕ) (ys : List ℕ) (i : ℕ) → place_of x ys ≡ Some i → i < length ys
-place_within x [] i h = absurd (none-some i h)
-place_within x (y ∷ ys) i h = go (y == x) (λ k is. place_within x ys k is) h
-  where
-    later : (o : Option ℕ) → ((k : ℕ) → o ≡ Some k → k < length ys) → option_map (λ k. k + 1) o ≡ Some i → i < suc (length ys)
-    later None low e = absurd (none-some i e)
-    later (Some k) low e = omega (arith, low k refl, same_Some (k + 1) i e)
-
-    go : (b : Bool) → ((k : ℕ) → place_of x ys ≡ Some k → k < length ys)
-        → (if b then Some 0 else option_map (λ k. k + 1) (place_of x ys)) ≡ Some i → i < suc (length ys)
-    go true low e = omega (arith, same_Some 0 i e)
-    go false low e = later (place_of x ys) low e
-
--- an index entry is at most 48
-entry_most : (e : ℕ) → entry_of e ≤ 48
-entry_most e = go (nat_le e 48) refl
-  where
-    go : (b : Bool) → nat_le e 48 ≡ b → (if b then e else 0) ≤ 48
-    go true h = grind (arith, h)
-    go false h = omega arith
-
-entries_most : (ys : List ℕ) (i : ℕ) → slice_index (map entry_of ys) i ≤ 48
-entries_most [] i = omega arith
-entries_most (y ∷ ys) zero = entry_most y
-entries_most (y ∷ ys) (suc i) = entries_most ys i
 
 -- a word of the row behind its version
 abbrev pub IsWithin : ℕ → Kind → ℕ → Type 0
@@ -63,7 +37,7 @@ entry_within base e slot false is most h =
 pub slot_inside : (words : List ℕ) (base : ℕ) (kind : Kind) (x slot : ℕ) → x < 256 → slot_of words base kind x ≡ Some slot → IsWithin base kind slot
 slot_inside words base Four x slot byte h =
     slot_within base Four 3 4 (place_of x (keys4_of (slice_index words (keys_at base)))) slot (omega arith) (omega arith)
-    (λ i is. omega (arith, place_within x (keys4_of (slice_index words (keys_at base))) i is, few (slice_index words (keys_at base)))) h
+    (λ i is. omega (arith, (place-within x (keys4_of (slice_index words (keys_at base))) i is).0, few (slice_index words (keys_at base)))) h
   where
     few : (w : ℕ) → length (keys4_of w) ≤ 4
     few w = grind (arith, length-keys4 w)
@@ -72,10 +46,10 @@ slot_inside words base Sixteen x slot byte h =
     let first = slice_index words (keys_at base) in
     let second = slice_index words (more_keys_at base) in
     slot_within base Sixteen 5 16 (place_of x (keys16_of count first second)) slot (omega arith) (omega arith)
-    (λ i is. omega (arith, place_within x (keys16_of count first second) i is, length-keys16 count first second, most_of count)) h
+    (λ i is. omega (arith, (place-within x (keys16_of count first second) i is).0, length-keys16 count first second, most_of count)) h
 slot_inside words base FortyEight x slot byte h =
     let e = slice_index (entries_of (slice_index words (index_at base x))) (x % 8) in
-    entry_within base e slot (e == 0) refl (entries_most (low_bytes 8 (slice_index words (index_at base x))) (x % 8)) h
+    entry_within base e slot (e == 0) refl (entry_list-most (low_bytes 8 (slice_index words (index_at base x))) (x % 8)) h
 slot_inside words base Full x slot byte h =
     let same = same_Some (child_at Full base x) slot h in
     (2 + x, omega (arith, same), omega arith, omega (arith, byte))

@@ -5,16 +5,17 @@ use Rattle.art_rows.specs.declared.table.Shape.{Shape}
 use Rattle.art_rows.specs.declared.table.Kind.{Kind}
 use Rattle.art_rows.specs.Table.{info_at}
 use Rattle.art_rows.specs.Words.{child_of}
+use Rattle.art_rows.proofs.KindLemmas.{first-within}
 use Rattle.art_core.specs.Meaning.{slot_of, child_in, child_on}
 use Rattle.art_core.specs.Forms.{HasForm}
 use Rattle.art_serial.specs.trees.Trees.{SameRow}
-use Rattle.art_serial.proofs.trees.RowHeads.{SameHead, head_info, head_slot, head_form, first_low}
+use Rattle.art_serial.proofs.trees.RowHeads.{SameHead, head_info, head_slot, head_form}
 use Rattle.art_serial.proofs.trees.RowSlots.{slot_inside}
 
 module _ (words later : List ℕ) (base : ℕ) where
   -- the words before the children
   head_of : (kind : Kind) → SameRow words later base kind → SameHead words later base kind
-  head_of kind same j low high = same j low (omega (arith, high, first_low kind))
+  head_of kind same j low high = same j low (omega (arith, high, first-within kind))
 
   pub info_same : (kind : Kind) → SameRow words later base kind → slice_index later (info_at base) ≡ slice_index words (info_at base)
   info_same kind same = head_info words later base kind (head_of kind same)

@@ -6,12 +6,13 @@ use Rattle.art_rows.specs.declared.table.Shape.{Shape}
 use Rattle.art_rows.specs.declared.table.Kind.{Kind}
 use Rattle.art_rows.specs.Table.{first_child}
 use Rattle.art_rows.specs.Words.{child_of}
+use Rattle.art_rows.proofs.KindLemmas.{first-within}
 use Rattle.art_core.specs.Meaning.{Reached, slot_of, child_in, child_on}
 use Rattle.art_serial.specs.trees.Trees.{IsAtRest, SameRow}
 use Rattle.art_serial.specs.trees.Stores.{HasOneWord, SlotsAreStored}
 use Rattle.art_serial.proofs.trees.RowsApart.{words_apart}
 use Rattle.art_serial.proofs.trees.RowSlots.{IsWithin, slot_inside, one_slot, child_slot}
-use Rattle.art_serial.proofs.trees.RowHeads.{head_info, head_slot, head_form, first_low}
+use Rattle.art_serial.proofs.trees.RowHeads.{head_info, head_slot, head_form}
 
 module _ (s : Shape) (n : ℕ) (words later : List ℕ) (base : ℕ) (kind : Kind) (x slot w : ℕ) (rest : IsAtRest s n words) (reached : Reached s words base kind)
     (byte : x < 256) (has_slot : slot_of words base kind x ≡ Some slot) (one : HasOneWord s words later slot w) where
@@ -31,7 +32,7 @@ module _ (s : Shape) (n : ℕ) (words later : List ℕ) (base : ℕ) (kind : Kin
   head_same : (j : ℕ) → 1 ≤ j → j < first_child kind → slice_index later (base + j) ≡ slice_index words (base + j)
   head_same j low high =
       let (i, is) = child_slot words base kind x slot has_slot in
-      one.others base kind j reached low (omega (arith, high, first_low kind)) (λ same. omega (arith, same, is, high))
+      one.others base kind j reached low (omega (arith, high, first-within kind)) (λ same. omega (arith, same, is, high))
 
   -- and its other slots
   other_child : (y : ℕ) → y < 256 → y ≢ x → child_on s later base kind y ≡ child_on s words base kind y

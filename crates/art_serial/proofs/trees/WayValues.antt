@@ -3,10 +3,11 @@ use Rattle.std.proofs.Common.{◌≡◌, ℕ, ◌<◌, Some, take, sym, ap, ap�
 use Rattle.art_rows.specs.declared.table.Kind.{Kind}
 use Rattle.art_rows.specs.declared.table.Child.TheVariants.{Row, Leaf}
 use Rattle.art_rows.specs.Words.{key_bytes, first_difference}
+use Rattle.art_rows.proofs.ByteLemmas.{key_byte-small}
 use Rattle.art_core.specs.Meaning.{Hangs}
 use Rattle.art_core.specs.Forms.{level_in, path_in}
 use Rattle.art_serial.specs.trees.Trees.{LeadsTo, WaysLeadToValues}
-use Rattle.art_serial.proofs.trees.Bytes.{begins_not, byte_small}
+use Rattle.art_serial.proofs.trees.Bytes.{begins_not}
 use Rattle.art_serial.proofs.trees.MapValues.{value_of, no_value}
 use Rattle.art_serial.proofs.trees.Ways.{found_at, empty-leaf, empty-row, row-leaf, same_base, same_kind, same_key}
 
@@ -41,4 +42,4 @@ ways-lead-to-values s words m key base kind x tree means leads =
         begins_not (level_in words c j) d (path_in words b k) (key_bytes key) (path ∙ begins)
 
     byte_of : LeadsTo s words key base kind x → x < 256
-    byte_of leads = subst (λ y. y < 256) (sym leads.byte) (byte_small key (level_in words base kind))
+    byte_of leads = subst (λ y. y < 256) (sym leads.byte) (key_byte-small key (level_in words base kind))

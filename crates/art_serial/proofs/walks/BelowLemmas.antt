@@ -1,7 +1,7 @@
 -- The pairs below a row: whose keys they have, how they rise, and that all that hangs is among them.
 use Rattle.std.proofs.Common.{◌≡◌, ℕ, zero, suc, ◌+◌, ◌/◌, ◌%◌, ◌^◌, ◌<◌, ◌≤◌, List, [], ◌∷◌, ◌++◌, refl, sym, ap, ◌∙◌, subst, arith, ⊎_elim, take-take, Bool}
 use Rattle.std.proofs.Common.{true, false}
-use Rattle.std.specs.Prelude.{◌==◌, if◌then◌else◌, Option, Some, None, All, Contains, length, take, slice_index}
+use Rattle.std.specs.Prelude.{◌==◌, Option, Some, None, All, Contains, length, take, slice_index, if◌then◌else◌}
 use Rattle.map_object.specs.MapObject.{Contents}
 use Rattle.art_rows.specs.declared.table.Shape.{Shape}
 use Rattle.art_rows.specs.declared.table.Kind.{Kind}
@@ -15,10 +15,10 @@ use Rattle.art_core.specs.Forms.{IsTree, level_in, path_in}
 use Rattle.list_laws.proofs.Lists.{Contains-nil, Contains-cases}
 use Rattle.std.proofs.lemmas.Bool.{false≢true}
 use Rattle.std.proofs.lemmas.List.{take-append-le}
-use Rattle.std.proofs.lemmas.List.Elements.{All-head, All-tail}
 use Rattle.art_serial.proofs.walks.FlatLemmas.{Contains-from_flat_map}
 use Rattle.art_serial.proofs.walks.NumberLemmas.{Contains-from_numbers}
 use Rattle.art_serial.proofs.walks.KeyLemmas.{BeginsWith}
+use Rattle.art_serial.proofs.trees.Descents.{small_at}
 
 abbrev pub is_leaf : Child → Bool
 is_leaf (Leaf k v) = true
@@ -27,12 +27,6 @@ is_leaf child = false
 abbrev pub leaf_key : Child → ℕ
 leaf_key (Leaf k v) = k
 leaf_key child = 0
-
--- a word that is not there is 0
-small-at : (words : List ℕ) (i : ℕ) → All (λ w. w < 2 ^ 64) words → slice_index words i < 2 ^ 64
-small-at [] i h = omega arith
-small-at (w ∷ words) zero h = All-head (λ w. w < 2 ^ 64) w words h
-small-at (w ∷ words) (suc i) h = small-at words i (All-tail (λ w. w < 2 ^ 64) w words h)
 
 -- the key of a leaf word
 leaf_of-small : (s : Shape) (w k v : ℕ) → w < 2 ^ 64 → child_of s w ≡ Leaf k v → k < 2 ^ 32
@@ -51,7 +45,7 @@ leaf-small s words small base kind x k v e = go (slot_of words base kind x) e
   where
     go : (slot : Option ℕ) → child_in s words slot ≡ Leaf k v → k < 2 ^ 32
     go None e = absurd (false≢true (ap is_leaf e))
-    go (Some slot) e = leaf_of-small s (slice_index words slot) k v (small-at words slot small) e
+    go (Some slot) e = leaf_of-small s (slice_index words slot) k v (small_at words slot small) e
 
 module _ (s : Shape) (words : List ℕ) (tree : IsTree s words) where
   -- the pairs under a byte of a row, by what a row below lists

@@ -1,6 +1,6 @@
 -- A scan that runs alone walks the child of a byte.
 use Rattle.std.proofs.Common.{◌≡◌, ℕ, suc, ◌+◌, ◌<◌, ◌≤◌, ◌==◌, List, [], ◌∷◌, ◌++◌, length, take, slice_index, All, refl, sym, ap, ◌∙◌, subst, arith}
-use Rattle.std.proofs.Common.{Bool, true, false, if◌then◌else◌, eqb-true, take-take}
+use Rattle.std.proofs.Common.{Bool, true, false, eqb-true, take-take, if◌then◌else◌}
 use Rattle.std.specs.Prelude.{◌&&◌, nat_le, nat_lt}
 use Rattle.std.proofs.lemmas.Option.{same_Some}
 use Rattle.std.proofs.lemmas.Bool.{false≢true}
@@ -12,6 +12,7 @@ use Rattle.art_rows.specs.declared.table.Kind.{Kind}
 use Rattle.art_rows.specs.declared.table.Child.{Child}
 use Rattle.art_rows.specs.declared.table.Child.TheVariants.{Empty, Row as ChildRow, Leaf}
 use Rattle.art_rows.specs.Table.{info_at, kind_at}
+use Rattle.art_rows.proofs.KindLemmas.{two-words}
 use Rattle.events.specs.Limits.{pair_limit}
 use Rattle.art_steps.specs.Steps.{Part, ◌>>=◌, give, load}
 use Rattle.art_steps.specs.Rows.{Setting, Row, row_of, locks}
@@ -22,7 +23,7 @@ use Rattle.art_serial.specs.trees.Trees.{IsAtRest}
 use Rattle.art_serial.specs.alone.Alone.{Comes}
 use Rattle.art_serial.proofs.alone.AloneLemmas.{give-comes, bind-comes, load-comes}
 use Rattle.art_serial.proofs.alone.PlaceLemmas.{sits-kind_at}
-use Rattle.art_serial.proofs.alone.LikeLemmas.{row_words-some, like-row, sits}
+use Rattle.art_serial.proofs.alone.LikeLemmas.{like-row, sits}
 use Rattle.art_serial.proofs.walks.EnterLemmas.{Walking, Stands, enters}
 
 module _ (c : Setting) (n : ℕ) (words : List ℕ) (rest : IsAtRest c.shape n words) (low high : ℕ) where
@@ -169,7 +170,7 @@ module _ (c : Setting) (n : ℕ) (words : List ℕ) (rest : IsAtRest c.shape n w
       let next = walks row w2 entered.later its refl refl (omega (arith, deep, level, deeper.0)) walking2 frees few in
       let inner : Comes (walk row (with_row row w)) entered.later next.walked next.later =
       subst (λ (b : Bool). Comes (walk row (if b then w else w2)) entered.later next.walked next.later) (sym new) next.comes in
-      let said : slice_index entered.later (info_at m) ≡ info = like-row c.shape n words rest walking2.like its 1 (omega arith) (row_words-some k) in
+      let said : slice_index entered.later (info_at m) ≡ info = like-row c.shape n words rest walking2.like its 1 (omega arith) (two-words k) in
       record {
         walked = next.walked;
         later = next.later;

@@ -1,7 +1,7 @@
 -- Bytes packed in a word are read back.
 use Rattle.std.proofs.Common.{◌≡◌, ℕ, ◌+◌, ◌-◌, ◌*◌, ◌/◌, ◌%◌, ◌^◌, ◌<◌, ◌≤◌, List, [], ◌∷◌, ◌++◌, length, take, drop, refl, ap, sym}
 use Rattle.std.proofs.Common.{◌∙◌, ⊎_elim, true, false, arith}
-use Rattle.std.specs.Prelude.{nat_le, if◌then◌else◌, All}
+use Rattle.std.specs.Prelude.{nat_le, All, if◌then◌else◌}
 use Rattle.std.proofs.Math.Nat.{pow-suc, pow-le-pow_right}
 use Rattle.std.proofs.lemmas.Bool.{cases_lt}
 use Rattle.std.proofs.lemmas.List.{take-append-drop, length-take, length-drop}
@@ -40,10 +40,10 @@ packed-most n xs h few =
     let most : 256 ^ length xs ≤ 256 ^ n = pow-le-pow_right (omega arith) few in
     omega (arith, most, packed-below xs h)
 
-less_equal : (a b : ℕ) → a ≤ b → nat_le a b ≡ true
+pub less_equal : (a b : ℕ) → a ≤ b → nat_le a b ≡ true
 less_equal a b h = grind (arith, h)
 
-not_less_equal : (a b : ℕ) → b < a → nat_le a b ≡ false
+pub not_less_equal : (a b : ℕ) → b < a → nat_le a b ≡ false
 not_less_equal a b h = grind (arith, h)
 
 -- kind 4

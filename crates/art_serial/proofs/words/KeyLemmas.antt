@@ -1,9 +1,9 @@
 -- Rising keys with one more.
 use Rattle.std.proofs.Common.{◌≡◌, ℕ, suc, ◌+◌, ◌<◌, ◌≤◌, List, [], ◌∷◌, ◌++◌, length, take, drop, refl, ap, sym, subst, ◌∙◌}
 use Rattle.std.proofs.Common.{Bool, true, false, arith}
-use Rattle.std.specs.Prelude.{◌≢◌, ◌==◌, nat_lt, if◌then◌else◌, slice_index, All, AllPairs, Option, Some, None, option_map}
+use Rattle.std.specs.Prelude.{◌≢◌, ◌==◌, nat_lt, All, AllPairs, Option, Some, None, option_map, if◌then◌else◌}
 use Rattle.std.specs.List.Sorted.{IsStrictlyIncreasing}
-use Rattle.std.proofs.lemmas.Option.{same_Some, none-some}
+use Rattle.std.proofs.lemmas.Option.{none-some}
 use Rattle.std.proofs.lemmas.List.Elements.{All-head, All-tail, All-cons, All-append, All-take, All-drop, All-weaker}
 use Rattle.std.proofs.lemmas.List.Kept.{AllPairs-cons, AllPairs-from_increasing}
 use Rattle.list_laws.proofs.Lists.{AllPairs-head, AllPairs-tail}
@@ -11,7 +11,7 @@ use Rattle.art_rows.specs.Words.{place_of, new_place, with_key}
 use Rattle.art_rows.proofs.WriterLemmas.{length-put_in}
 use Rattle.art_serial.specs.words.Keys.{moved}
 
-same_number : (n : ℕ) → (n == n) ≡ true
+pub same_number : (n : ℕ) → (n == n) ≡ true
 same_number n = grind arith
 
 pub other_number : (a b : ℕ) → a ≢ b → (a == b) ≡ false
@@ -23,7 +23,7 @@ number_is a b h = grind (arith, h)
 pub number_is_not : (a b : ℕ) → (a == b) ≡ false → a ≢ b
 number_is_not a b h = grind (arith, h)
 
-is_less : (a b : ℕ) → nat_lt a b ≡ true → a < b
+pub is_less : (a b : ℕ) → nat_lt a b ≡ true → a < b
 is_less a b h = grind (arith, h)
 
 is_not_less : (a b : ℕ) → nat_lt a b ≡ false → b ≤ a
@@ -59,24 +59,6 @@ place_head x y o h = go (y == x) refl o h
     go true e o h = absurd (none-some 0 (sym h))
     go false e None h = (number_is_not y x e, refl)
     go false e (Some i) h = absurd (none-some (i + 1) (sym h))
-
-pub place-within : (x : ℕ) (ys : List ℕ) (i : ℕ) → place_of x ys ≡ Some i → (i < length ys) × (slice_index ys i ≡ x)
-place-within x [] i h = absurd (none-some i h)
-place-within x (y ∷ ys) i h = go (place-within x ys) (y == x) refl (place_of x ys) refl h
-  where
-    go : ((j : ℕ) → place_of x ys ≡ Some j → (j < length ys) × (slice_index ys j ≡ x)) → (b : Bool) → (y == x) ≡ b
-        → (o : Option ℕ) → place_of x ys ≡ o → (if b then Some 0 else option_map (λ i. i + 1) o) ≡ Some i
-        → (i < suc (length ys)) × (slice_index (y ∷ ys) i ≡ x)
-    go more true e o p h =
-        subst (λ k. (k < suc (length ys)) × (slice_index (y ∷ ys) k ≡ x)) (same_Some 0 i h) (omega arith, number_is y x e)
-    go more false e None p h = absurd (none-some i h)
-    go more false e (Some j) p h =
-        let rest = more j p in
-        subst (λ k. (k < suc (length ys)) × (slice_index (y ∷ ys) k ≡ x)) (suc_is j ∙ same_Some (j + 1) i h)
-        (omega (arith, rest.0), rest.1)
-      where
-        suc_is : (j : ℕ) → suc j ≡ j + 1
-        suc_is j = omega arith
 
 -- The keys with one more.
 

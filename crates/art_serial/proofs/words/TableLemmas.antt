@@ -2,11 +2,12 @@
 use Rattle.std.proofs.Common.{◌≡◌, ℕ, suc, ◌+◌, ◌-◌, ◌*◌, ◌/◌, ◌<◌, ◌≤◌, refl, ap, sym, subst, ◌∙◌, ⊎_elim, Bool, true, false, arith}
 use Rattle.std.proofs.lemmas.Bool.{cases_lt}
 use Rattle.std.proofs.lemmas.Nat.{mul-le}
-use Rattle.std.specs.Prelude.{if◌then◌else◌, Some, None}
+use Rattle.std.specs.Prelude.{Some, None, if◌then◌else◌}
 use Rattle.art_rows.specs.declared.table.Shape.{Shape}
 use Rattle.art_rows.specs.declared.table.Kind.{Kind}
 use Rattle.art_rows.specs.declared.table.Kind.TheVariants.{Four, Sixteen, FortyEight, Full}
 use Rattle.art_rows.specs.Table.{row_words, rows_of, table_words, first_base, base_of, is_base_of, kind_at}
+use Rattle.art_rows.proofs.KindLemmas.{some-words}
 
 -- a base is one of the rows of its kind
 pub is_base : (s : Shape) (kind : Kind) (number : ℕ) → number < rows_of s kind → is_base_of s kind (base_of s kind number) ≡ true
@@ -144,17 +145,11 @@ same_kind s Full Sixteen word h k = absurd (omega (arith, h.0, h.1, k.0, k.1))
 same_kind s Full FortyEight word h k = absurd (omega (arith, h.0, h.1, k.0, k.1))
 same_kind s Full Full word h k = refl
 
-some_words : (kind : Kind) → 0 < row_words kind
-some_words Four = omega arith
-some_words Sixteen = omega arith
-some_words FortyEight = omega arith
-some_words Full = omega arith
-
 same_row : (s : Shape) (a b : ℕ) (kind : Kind) (word : ℕ) → IsNumbered s a kind → IsNumbered s b kind → IsIn a kind word → IsIn b kind word → a ≡ b
 same_row s a b kind word m n h k =
     let hm = subst (λ x. IsIn x kind word) m.is h in
     let hn = subst (λ x. IsIn x kind word) n.is k in
-    m.is ∙ ap (base_of s kind) (same_numbers (row_words kind) (first_base s kind) m.number n.number word (some_words kind) hm.0 hm.1 hn.0 hn.1) ∙ sym n.is
+    m.is ∙ ap (base_of s kind) (same_numbers (row_words kind) (first_base s kind) m.number n.number word (some-words kind) hm.0 hm.1 hn.0 hn.1) ∙ sym n.is
 
 -- the row that has a word
 pub rows_apart : (s : Shape) (a b : ℕ) (ka kb : Kind) (word : ℕ) → kind_at s a ≡ Some ka → kind_at s b ≡ Some kb
@@ -169,11 +164,11 @@ rows_apart s a b ka kb word ea eb la ha lb hb =
 pub base_of-once : (s : Shape) (ka kb : Kind) (m n : ℕ) → m < rows_of s ka → n < rows_of s kb → base_of s ka m ≡ base_of s kb n → (ka ≡ kb) × (m ≡ n)
 base_of-once s ka kb m n hm hn e =
     let same = rows_apart s (base_of s ka m) (base_of s kb n) ka kb (base_of s ka m) (kind_at-base_of s ka m hm) (kind_at-base_of s kb n hn)
-    (omega arith) (omega (arith, some_words ka)) (omega (arith, e)) (omega (arith, e, some_words kb)) in
+    (omega arith) (omega (arith, some-words ka)) (omega (arith, e)) (omega (arith, e, some-words kb)) in
     (same.1, number ka kb same.1 e)
   where
     number : (ka kb : Kind) → ka ≡ kb → base_of s ka m ≡ base_of s kb n → m ≡ n
     number ka kb k e =
         let at = subst (λ x. base_of s x m ≡ base_of s kb n) k e in
-        same_numbers (row_words kb) (first_base s kb) m n (base_of s kb n) (some_words kb)
-        (omega (arith, at)) (omega (arith, at, some_words kb)) (omega arith) (omega (arith, some_words kb))
+        same_numbers (row_words kb) (first_base s kb) m n (base_of s kb n) (some-words kb)
+        (omega (arith, at)) (omega (arith, at, some-words kb)) (omega arith) (omega (arith, some-words kb))

@@ -1,16 +1,16 @@
 -- Versions as they are written.
-use Rattle.std.proofs.Common.{◌≡◌, ℕ, ◌+◌, ◌-◌, ◌/◌, ◌%◌, ◌^◌, ap, true, false, arith}
+use Rattle.std.proofs.Common.{◌≡◌, ℕ, ◌+◌, ◌-◌, ◌/◌, ◌%◌, ◌^◌, ap, true, false, arith, eq-eqb}
 use Rattle.std.specs.Prelude.{◌==◌}
 use Rattle.art_rows.specs.Words.{is_locked, is_obsolete, locked_word, released_word, obsolete_word}
 
 is_one : (n : ℕ) → n ≡ 1 → (n == 1) ≡ true
 is_one n e = ap (λ k. k == 1) e
 
-not_locked : (v : ℕ) → is_locked v ≡ false → (v / 2) % 2 ≡ 0
-not_locked v h = grind (arith, h)
+pub free-even : (v : ℕ) → is_locked v ≡ false → (v / 2) % 2 ≡ 0
+free-even v h = grind (arith, h)
 
 pub locked_locked : (v : ℕ) → is_locked v ≡ false → is_locked (locked_word v) ≡ true
-locked_locked v h = is_one (((v + 2) % 2 ^ 64 / 2) % 2) (omega (arith, not_locked v h))
+locked_locked v h = is_one (((v + 2) % 2 ^ 64 / 2) % 2) (omega (arith, free-even v h))
 
 pub obsolete_locked : (v : ℕ) → is_obsolete (locked_word v) ≡ is_obsolete v
 obsolete_locked v = ap (λ k. k == 1) same
@@ -38,3 +38,9 @@ locked_obsolete v = ap (λ k. k == 1) same
 
 pub obsolete_obsolete : (v : ℕ) → is_obsolete (obsolete_word v) ≡ true
 obsolete_obsolete v = is_one ((((v - v % 2) + 5) % 2 ^ 64) % 2) (omega arith)
+
+pub even-free : (v : ℕ) → (v / 2) % 2 ≡ 0 → is_locked v ≡ false
+even-free v h = grind (arith, h)
+
+pub taken-locked : (v : ℕ) → (v / 2) % 2 ≡ 0 → is_locked (v + 2) ≡ true
+taken-locked v e = eq-eqb (((v + 2) / 2) % 2) 1 (omega (arith, e))

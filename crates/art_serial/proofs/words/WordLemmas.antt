@@ -1,17 +1,18 @@
 -- Infos, entries and children that were written are read back.
 use Rattle.std.proofs.Common.{◌≡◌, ℕ, ◌+◌, ◌*◌, ◌/◌, ◌%◌, ◌^◌, ◌<◌, ◌≤◌, List, [], ◌∷◌, length, map, refl, ap, sym}
 use Rattle.std.proofs.Common.{◌∙◌, Bool, true, false, arith}
-use Rattle.std.specs.Prelude.{◌==◌, nat_le, if◌then◌else◌, All, Option, Some, None}
+use Rattle.std.specs.Prelude.{◌==◌, nat_le, All, Option, Some, None, if◌then◌else◌}
 use Rattle.std.proofs.lemmas.List.Elements.{All-head, All-tail, All-weaker}
 use Rattle.art_rows.specs.declared.table.Shape.{Shape}
 use Rattle.art_rows.specs.declared.table.Kind.{Kind}
-use Rattle.art_rows.specs.declared.table.Kind.TheVariants.{Four, Sixteen, FortyEight, Full}
 use Rattle.art_rows.specs.declared.table.Child.{Child}
 use Rattle.art_rows.specs.declared.table.Child.TheVariants.{Empty, Row, Leaf}
 use Rattle.art_rows.specs.Table.{kind_at}
 use Rattle.art_rows.specs.Words.{packed, low_bytes, Info, kind_code, info_word, info_of, entry_of, entries_of, entries_word, row_child, child_of, child_word}
+use Rattle.art_rows.proofs.KindLemmas.{code-few}
 use Rattle.art_serial.specs.words.Stored.{IsStored, IsShort}
 use Rattle.art_serial.proofs.words.ByteLemmas.{AreBytes, low_bytes-packed, packed-most}
+use Rattle.art_serial.proofs.words.KeyLemmas.{same_number}
 
 -- entries
 entries_small : (es : List ℕ) → All (λ e. e ≤ 48) es → map entry_of es ≡ es
@@ -40,22 +41,13 @@ info_as : (code level r : ℕ) → code < 4 → level ≤ 3
     → ((code + 4 * level + 256 * r) % 4 ≡ code) × (((code + 4 * level + 256 * r) / 4) % 4 ≡ level) × ((code + 4 * level + 256 * r) / 256 ≡ r)
 info_as code level r lc ll = (omega (arith, lc, ll), omega (arith, lc, ll), omega (arith, lc, ll))
 
-code_small : (kind : Kind) → kind_code kind < 4
-code_small Four = omega arith
-code_small Sixteen = omega arith
-code_small FortyEight = omega arith
-code_small Full = omega arith
-
-same_number : (n : ℕ) → (n == n) ≡ true
-same_number n = grind arith
-
 abbrev info_with : ℕ → List ℕ → Info
 info_with level path = record { level = level; path = path }
 
 pub info_back : (kind : Kind) (level : ℕ) (path : List ℕ) → level ≤ 3 → length path ≡ level → AreBytes path
     → info_of kind (info_word kind level path) ≡ record { level = level; path = path }
 info_back kind level path few long h =
-    let parts = info_as (kind_code kind) level (packed path) (code_small kind) few in
+    let parts = info_as (kind_code kind) level (packed path) (code-few kind) few in
     ap (λ b. if b then info_with ((info_word kind level path / 4) % 4) (low_bytes ((info_word kind level path / 4) % 4) (info_word kind level path / 256))
     else info_with 0 []) (ap (λ n. n == kind_code kind) parts.0 ∙ same_number (kind_code kind))
     ∙ ap (λ n. info_with n (low_bytes n (info_word kind level path / 256))) parts.1
@@ -64,13 +56,13 @@ info_back kind level path few long h =
 
 pub info_below : (kind : Kind) (level : ℕ) (path : List ℕ) → level ≤ 3 → length path ≡ level → AreBytes path → info_word kind level path < 2 ^ 64
 info_below kind level path few long h =
-    let code : kind_code kind < 4 = code_small kind in
+    let code : kind_code kind < 4 = code-few kind in
     let r : packed path < 256 ^ 3 = packed-most 3 path h (omega (arith, few, long)) in
     omega (arith, few, code, r)
 
 -- children
 
-row_as : (base : ℕ) → ((4 * base + 1) % 4 ≡ 1) × ((4 * base + 1) / 4 ≡ base)
+pub row_as : (base : ℕ) → ((4 * base + 1) % 4 ≡ 1) × ((4 * base + 1) / 4 ≡ base)
 row_as base = (omega arith, omega arith)
 
 leaf_as : (key value : ℕ) → value < 2 ^ 30

@@ -1,7 +1,7 @@
 -- GROW from kind 16 to kind 48: the fresh row.
 use Rattle.std.proofs.Common.{◌≡◌, ℕ, ◌+◌, ◌/◌, ◌%◌, ◌<◌, ◌≤◌, List, [], ◌∷◌, ◌++◌, length, get_or, refl, ap, sym, subst, ◌∙◌, ⊎_elim, inl, inr}
-use Rattle.std.proofs.Common.{true, arith}
-use Rattle.std.specs.Prelude.{◌≢◌, ◌⊎◌, ◌==◌, if◌then◌else◌, slice_index, slice_set, AllPairs, Option, Some, None, option_map}
+use Rattle.std.proofs.Common.{arith}
+use Rattle.std.specs.Prelude.{◌≢◌, ◌⊎◌, slice_index, slice_set, AllPairs, Option, Some, None, option_map, if◌then◌else◌}
 use Rattle.std.proofs.lemmas.Option.{same_Some, none-some}
 use Rattle.std.proofs.lemmas.List.{length-append, get_or_default}
 use Rattle.std.proofs.lemmas.List.Elements.{All-nil, All-cons, All-append, All-get_or}
@@ -13,6 +13,7 @@ use Rattle.art_rows.specs.declared.table.Kind.TheVariants.{Sixteen, FortyEight}
 use Rattle.art_rows.specs.declared.table.Child.{Child}
 use Rattle.art_rows.specs.Words.{child_of, child_word, keys16_of, place_of, entries_of}
 use Rattle.art_rows.proofs.ReaderLemmas.{joined, place_append}
+use Rattle.art_rows.proofs.ByteLemmas.{place-within}
 use Rattle.art_steps.specs.Steps.{◌>>◌, each, numbers, store}
 use Rattle.art_steps.specs.Rows.{Setting}
 use Rattle.art_steps.specs.Updates.{new_leaf, new_entry, store_child, store_index, fill}
@@ -22,16 +23,13 @@ use Rattle.art_serial.specs.alone.Alone.{Comes}
 use Rattle.art_serial.proofs.alone.AloneLemmas.{then-comes, store-comes}
 use Rattle.art_serial.specs.words.Stored.{IsStored}
 use Rattle.art_serial.proofs.words.ByteLemmas.{AreBytes}
-use Rattle.art_serial.proofs.words.KeyLemmas.{other_number, place-within}
+use Rattle.art_serial.proofs.words.KeyLemmas.{other_number, same_number}
 use Rattle.art_serial.specs.writes.Writes.{IsBeside, HasGrown}
 use Rattle.art_serial.proofs.writes.StoreLemmas.{small-stored, small-child, stored-at, stored-other, stored-long, with_child, child-stored, store_child-comes}
 use Rattle.art_serial.proofs.writes.CopyLemmas.{copies-small, with_copies, copies-come, copies-long, copies-other, copies-copied, IsClear}
 use Rattle.art_serial.proofs.writes.IndexLemmas.{entry_in, slot-entry, entry-named}
 use Rattle.art_serial.proofs.writes.GrowSixteenLemmas.{index-small, entry-some, entry-absent, with_index, index-comes, index-long, index-other, index-stored}
 use Rattle.art_serial.proofs.writes.GrowSixteenLemmas.{index-read, place-of_at}
-
-same_number : (n : ℕ) → (n == n) ≡ true
-same_number n = grind arith
 
 module _ (s : Shape) (old base : ℕ) (words keys : List ℕ) (x : ℕ) (child : Child) (stored : IsStored s child) (fits : base + 83 ≤ length words)
     (apart : (old + 21 ≤ base) ⊎ (base + 83 ≤ old))

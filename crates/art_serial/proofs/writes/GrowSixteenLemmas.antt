@@ -1,19 +1,20 @@
 -- GROW from kind 16 to kind 48.
 use Rattle.std.proofs.Common.{◌≡◌, ℕ, zero, suc, ◌+◌, ◌*◌, ◌/◌, ◌%◌, ◌<◌, ◌≤◌, List, [], ◌∷◌, length, map, refl, ap, subst, ◌∙◌, ⊎_elim, inl, inr}
-use Rattle.std.proofs.Common.{true, arith}
-use Rattle.std.specs.Prelude.{◌≢◌, ◌⊎◌, ◌==◌, if◌then◌else◌, slice_index, slice_set, All, AllPairs, Option, Some, None, option_map}
+use Rattle.std.proofs.Common.{arith}
+use Rattle.std.specs.Prelude.{◌≢◌, ◌⊎◌, slice_index, slice_set, All, AllPairs, Option, Some, None, option_map, if◌then◌else◌}
 use Rattle.std.proofs.lemmas.Bool.{cases_lt}
 use Rattle.std.proofs.lemmas.List.{length-map}
 use Rattle.std.proofs.lemmas.List.Elements.{All-nil, All-cons, All-get_or}
 use Rattle.list_laws.proofs.Lists.{AllPairs-head, AllPairs-tail}
 use Rattle.art_rows.specs.Words.{place_of, entries_of, entries_word}
 use Rattle.art_rows.specs.Table.{index_at}
+use Rattle.art_rows.proofs.ByteLemmas.{place-within}
 use Rattle.art_steps.specs.Steps.{each, numbers}
 use Rattle.art_steps.specs.Updates.{new_entry, store_index}
 use Rattle.art_serial.specs.alone.Alone.{Comes}
 use Rattle.art_serial.proofs.alone.AloneLemmas.{each_none-comes, each-comes, store-comes}
 use Rattle.art_serial.proofs.words.WordLemmas.{entries_back, entries_below}
-use Rattle.art_serial.proofs.words.KeyLemmas.{other_number, place-within}
+use Rattle.art_serial.proofs.words.KeyLemmas.{other_number, same_number}
 use Rattle.art_serial.specs.writes.Writes.{AreSmall}
 use Rattle.art_serial.proofs.writes.StoreLemmas.{small-stored, stored-at, stored-other, stored-long}
 
@@ -127,9 +128,6 @@ index-small base keys j (suc n) words few h =
     (entries_below (map (new_entry keys) (numbers (8 * j) 8)) (index-eight keys j) (index-most keys (numbers (8 * j) 8) few)))
 
 -- places in distinct keys
-
-same_number : (n : ℕ) → (n == n) ≡ true
-same_number n = grind arith
 
 pub place-of_at : (keys : List ℕ) → AllPairs (λ a b. a ≢ b) keys → (i : ℕ) → i < length keys → place_of (slice_index keys i) keys ≡ Some i
 place-of_at [] distinct i h = absurd (omega (arith, h))

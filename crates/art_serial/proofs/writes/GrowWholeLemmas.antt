@@ -9,6 +9,7 @@ use Rattle.art_rows.specs.declared.table.Kind.TheVariants.{Four, Sixteen, FortyE
 use Rattle.art_rows.specs.declared.table.Child.TheVariants.{Leaf}
 use Rattle.art_rows.specs.Table.{row_words, rows_of, table_words, claims_of, capacity, base_of, kind_at}
 use Rattle.art_rows.specs.Words.{info_word, row_word, released_word, obsolete_word}
+use Rattle.art_rows.proofs.KindLemmas.{claims-few, two-words}
 use Rattle.art_steps.specs.Steps.{◌>>◌, store}
 use Rattle.art_steps.specs.Rows.{Setting, Row, byte_at, claim, unlock_obsolete, unlock_all}
 use Rattle.art_steps.specs.Updates.{fill, grow, next_kind}
@@ -29,19 +30,6 @@ use Rattle.art_serial.proofs.writes.GrowLemmas.{row_filled}
 unlocked-same : (rows : List Row) (words : List ℕ) → with_unlocked rows words ≡ unlocked_rows rows words
 unlocked-same [] words = refl
 unlocked-same (n ∷ rows) words = unlocked-same rows (slice_set words n.base (released_word n.kept))
-
--- a claims word is before all rows
-claims_before : (kind : Kind) → claims_of kind < 5
-claims_before Four = omega arith
-claims_before Sixteen = omega arith
-claims_before FortyEight = omega arith
-claims_before Full = omega arith
-
-two_words : (kind : Kind) → 2 ≤ row_words kind
-two_words Four = omega arith
-two_words Sixteen = omega arith
-two_words FortyEight = omega arith
-two_words Full = omega arith
 
 -- the rows of a kind are before those of the next one
 before_next : (s : Shape) (kind : Kind) (old number : ℕ) → kind ≢ Full → IsNumbered s old kind → old + row_words kind ≤ base_of s (next_kind kind) number
@@ -97,7 +85,7 @@ module _ (c : Setting) (above : List Row) (slot : ℕ) (n : Row) (words : List �
 
   same_row : HasSameFields words w1 n.base n.kind
   same_row word low high =
-      stays word (λ e. omega (arith, e, low, claims_before next, row_begins c.shape n.base n.kind at)) (λ e. omega (arith, e, high, apart))
+      stays word (λ e. omega (arith, e, low, claims-few next, row_begins c.shape n.base n.kind at)) (λ e. omega (arith, e, high, apart))
 
   byte : x < 256
   byte = byte_at-small c n.level
@@ -106,7 +94,7 @@ module _ (c : Setting) (above : List Row) (slot : ℕ) (n : Row) (words : List �
       × HasGrown c.shape w1 later n.base n.kind base next x (Leaf key value)
   filled =
       row_filled c n base w1 x key value call small (omega (arith, fresh_ends, long1)) (inl apart)
-      (λ word low high. stays word (λ e. omega (arith, e, low, claims_before next, fresh_begins)) (λ e. omega (arith, e, low))
+      (λ word low high. stays word (λ e. omega (arith, e, low, claims-few next, fresh_begins)) (λ e. omega (arith, e, low))
       ∙ zeros word (omega (arith, low)) high)
       (form-same words w1 n.base n.kind same_row form) byte (slot-same words w1 n.base n.kind x same_row byte ∙ absent)
       (count-same c.call words w1 n.base n.kind x same_row byte ∙ full)
@@ -117,20 +105,20 @@ module _ (c : Setting) (above : List Row) (slot : ℕ) (n : Row) (words : List �
         long = filled.2.long ∙ long1;
         same = λ word a h.
             filled.2.beside word (⊎_elim (λ l. inl (omega (arith, l))) (λ l. inr l) h)
-            ∙ stays word a (⊎_elim (λ l e. omega (arith, l, e)) (λ l e. omega (arith, l, e, two_words next)) h);
+            ∙ stays word a (⊎_elim (λ l e. omega (arith, l, e)) (λ l e. omega (arith, l, e, two-words next)) h);
         claimed =
-            filled.2.beside (claims_of next) (inl (omega (arith, claims_before next, fresh_begins)))
-            ∙ stored-other w0 (base + 1) (claims_of next) info (λ e. omega (arith, e, claims_before next, fresh_begins))
+            filled.2.beside (claims_of next) (inl (omega (arith, claims-few next, fresh_begins)))
+            ∙ stored-other w0 (base + 1) (claims_of next) info (λ e. omega (arith, e, claims-few next, fresh_begins))
             ∙ stored-at words (claims_of next) ((slice_index words (claims_of next) + 1) % 2 ^ 64)
-            (omega (arith, claims_before next, fresh_begins, fresh_ends));
+            (omega (arith, claims-few next, fresh_begins, fresh_ends));
         version =
-            filled.2.beside base (inl (omega arith)) ∙ stays base (λ e. omega (arith, e, claims_before next, fresh_begins)) (λ e. omega (arith, e));
+            filled.2.beside base (inl (omega arith)) ∙ stays base (λ e. omega (arith, e, claims-few next, fresh_begins)) (λ e. omega (arith, e));
         info =
             filled.2.beside (base + 1) (inl (omega arith))
             ∙ stored-at w0 (base + 1) info (omega (
               arith,
               fresh_ends,
-              two_words next,
+              two-words next,
               stored-long words (claims_of next) ((slice_index words (claims_of next) + 1) % 2 ^ 64),
             ));
         form = filled.2.form;

@@ -1,7 +1,7 @@
 -- PAIR: a fresh row of two children.
 use Rattle.std.proofs.Common.{◌≡◌, ℕ, zero, suc, ◌+◌, ◌%◌, ◌^◌, ◌<◌, ◌≤◌, List, [], ◌∷◌, length, take, refl, ap, sym, subst, ◌∙◌, ⊎_elim}
 use Rattle.std.proofs.Common.{Bool, true, false, arith}
-use Rattle.std.specs.Prelude.{◌≢◌, ◌==◌, nat_lt, if◌then◌else◌, slice_index, slice_set, Option, Some, None, option_map}
+use Rattle.std.specs.Prelude.{◌≢◌, nat_lt, slice_index, slice_set, Option, Some, None, option_map, if◌then◌else◌}
 use Rattle.std.specs.List.Sorted.{IsStrictlyIncreasing}
 use Rattle.std.proofs.lemmas.List.Elements.{All-nil, All-cons}
 use Rattle.events.specs.declared.event.Call.{Call}
@@ -21,13 +21,10 @@ use Rattle.art_serial.proofs.alone.AloneLemmas.{give-comes, bind-comes, then-com
 use Rattle.art_serial.proofs.alone.RowRunLemmas.{with_claim, claim-comes}
 use Rattle.art_serial.specs.words.Stored.{IsStored}
 use Rattle.art_serial.proofs.words.ByteLemmas.{keys4_below, AreBytes, keys4_back}
-use Rattle.art_serial.proofs.words.KeyLemmas.{less, other_number}
+use Rattle.art_serial.proofs.words.KeyLemmas.{less, other_number, same_number}
 use Rattle.art_serial.proofs.words.TableLemmas.{kind_at-base_of, row_begins, row_ends}
 use Rattle.art_serial.specs.writes.Writes.{fresh_base, IsOutside, HasPair}
 use Rattle.art_serial.proofs.writes.StoreLemmas.{small-stored, small-child, stored-at, stored-other, stored-long, with_child, child-stored, store_child-comes}
-
-same_number : (n : ℕ) → (n == n) ≡ true
-same_number n = grind arith
 
 -- the words with a pair of children, the one of the lesser byte first
 abbrev pub with_pair : Shape → List ℕ → ℕ → ℕ → ℕ → Under → Under → List ℕ

@@ -7,6 +7,7 @@ use Rattle.art_rows.specs.declared.table.Kind.TheVariants.{Four, Sixteen}
 use Rattle.art_rows.specs.declared.table.Child.{Child}
 use Rattle.art_rows.specs.Words.{child_of, child_word, keys4_word, keys4_of, keys16_word, more_keys16_word, keys16_of, place_of, new_place, with_key}
 use Rattle.art_rows.proofs.WriterLemmas.{new_place-most}
+use Rattle.art_rows.proofs.ByteLemmas.{place-within}
 use Rattle.art_steps.specs.Steps.{◌>>◌, store}
 use Rattle.art_steps.specs.Rows.{Setting}
 use Rattle.art_steps.specs.Updates.{new_leaf, store_child, make_room, put_in}
@@ -15,7 +16,7 @@ use Rattle.art_serial.specs.alone.Alone.{Comes}
 use Rattle.art_serial.proofs.alone.AloneLemmas.{then-comes, store-comes}
 use Rattle.art_serial.specs.words.Stored.{IsStored, IsShort}
 use Rattle.art_serial.proofs.words.ByteLemmas.{keys4_below, keys16_below, AreBytes, keys4_back, keys16_back}
-use Rattle.art_serial.proofs.words.KeyLemmas.{All-with_key, length-with_key, increasing-with_key, place_of-new, place_of-old, place-within}
+use Rattle.art_serial.proofs.words.KeyLemmas.{All-with_key, length-with_key, increasing-with_key, place_of-new, place_of-old}
 use Rattle.art_serial.specs.writes.Writes.{AreSmall, IsBeside, HasPut}
 use Rattle.art_serial.proofs.writes.StoreLemmas.{small-stored, small-child, stored-at, stored-other, stored-long, with_child, child-stored, store_child-comes}
 use Rattle.art_serial.proofs.writes.MoveLemmas.{room-small, with_room, room-comes, room-long, room-other}

@@ -1,6 +1,6 @@
 -- What a row says is said by its words alone.
 use Rattle.std.proofs.Common.{◌≡◌, ℕ, ◌+◌, ◌/◌, ◌%◌, ◌<◌, ◌≤◌, List, length, refl, ap, sym, ◌∙◌, arith}
-use Rattle.std.specs.Prelude.{if◌then◌else◌, slice_index, Option, Some, None, option_map}
+use Rattle.std.specs.Prelude.{slice_index, Option, Some, None, option_map, if◌then◌else◌}
 use Rattle.std.proofs.lemmas.Option.{same_Some, none-some}
 use Rattle.std.proofs.lemmas.List.Elements.{All-get_or}
 use Rattle.events.specs.declared.event.Call.{Call}
@@ -9,11 +9,11 @@ use Rattle.art_rows.specs.declared.table.Kind.{Kind}
 use Rattle.art_rows.specs.declared.table.Kind.TheVariants.{Four, Sixteen, FortyEight, Full}
 use Rattle.art_rows.specs.Table.{row_words, child_at}
 use Rattle.art_rows.specs.Words.{child_of, keys4_of, keys16_of, place_of, entries_of, count_of}
+use Rattle.art_rows.proofs.ByteLemmas.{place-within}
 use Rattle.art_steps.specs.Rows.{is_insert}
 use Rattle.art_core.specs.Meaning.{entry_slot, slot_of, child_in, child_on}
 use Rattle.art_core.specs.Forms.{HasForm}
 use Rattle.art_serial.specs.alone.Finding.{keys_in, count_in}
-use Rattle.art_serial.proofs.words.KeyLemmas.{place-within}
 use Rattle.art_serial.proofs.writes.IndexLemmas.{length-entries, entries-most, entry_in, entry-named}
 use Rattle.art_serial.proofs.writes.PutLemmas.{keys_of-four, keys_of-sixteen}
 use Rattle.art_serial.specs.writes.Writes.{HasSameFields}

@@ -1,10 +1,8 @@
 -- Words after stores.
-use Rattle.std.proofs.Common.{◌^◌, ⊎_elim, arith, ◌≡◌, ℕ, ◌<◌, List, length, ap, ◌∙◌}
+use Rattle.std.proofs.Common.{◌^◌, ◌≡◌, ℕ, ◌<◌, List, length, ap, ◌∙◌}
 use Rattle.std.specs.Prelude.{◌≢◌, slice_index, slice_set}
 use Rattle.std.proofs.lemmas.List.{length-set, get_or-set_same, get_or-set_other}
-use Rattle.std.proofs.lemmas.Bool.{cases_lt}
-use Rattle.std.proofs.lemmas.List.{get_or_past}
-use Rattle.std.proofs.lemmas.List.Elements.{All-get_or, All-set}
+use Rattle.std.proofs.lemmas.List.Elements.{All-set}
 use Rattle.art_rows.specs.declared.table.Shape.{Shape}
 use Rattle.art_rows.specs.declared.table.Child.{Child}
 use Rattle.art_rows.specs.Words.{child_of, child_word}
@@ -16,6 +14,7 @@ use Rattle.art_serial.proofs.alone.AloneLemmas.{give-comes, bind-comes, load-com
 use Rattle.art_serial.specs.words.Stored.{IsStored, IsShort}
 use Rattle.art_serial.specs.writes.Writes.{AreSmall}
 use Rattle.art_serial.proofs.words.WordLemmas.{child_back, child_again, child_below, again_below}
+use Rattle.art_serial.proofs.trees.Descents.{small_at}
 
 pub stored-at : (words : List ℕ) (word value : ℕ) → word < length words → slice_index (slice_set words word value) word ≡ value
 stored-at words word value h = get_or-set_same words word value 0 h
@@ -55,12 +54,6 @@ copy_child-comes c from to words =
 
 -- words of 64 bits stay so
 
-pub small-at : (words : List ℕ) (word : ℕ) → AreSmall words → slice_index words word < 2 ^ 64
-small-at words word h = ⊎_elim (λ l. All-get_or (λ w. w < 2 ^ 64) words word 0 l h) (λ l. past (get_or_past words word 0 l)) (cases_lt word (length words))
-  where
-    past : slice_index words word ≡ 0 → slice_index words word < 2 ^ 64
-    past e = omega (arith, e)
-
 pub small-stored : (words : List ℕ) (word value : ℕ) → AreSmall words → value < 2 ^ 64 → AreSmall (slice_set words word value)
 small-stored words word value h l = All-set (λ w. w < 2 ^ 64) words word value l h
 
@@ -69,4 +62,4 @@ small-child words slot child h short = small-stored words slot (child_word child
 
 pub small-copy : (s : Shape) (words : List ℕ) (from to : ℕ) → AreSmall words → AreSmall (with_copy s words from to)
 small-copy s words from to h =
-    small-stored words to (child_word (child_of s (slice_index words from))) h (again_below s (slice_index words from) (small-at words from h))
+    small-stored words to (child_word (child_of s (slice_index words from))) h (again_below s (slice_index words from) (small_at words from h))

@@ -1,12 +1,14 @@
 -- A scan that runs alone on the words of its moment goes through the stages of the attempt that answers.
 use Rattle.std.proofs.Common.{◌≡◌, ℕ, zero, suc, ◌+◌, ◌*◌, ◌<◌, ◌≤◌, List, [], ◌∷◌, ◌++◌, length, take, refl, ap, sym, ◌∙◌, Bool, true, false}
 use Rattle.std.proofs.Common.{inl, inr, arith}
-use Rattle.std.specs.Prelude.{◌==◌, if◌then◌else◌, slice_index, Option, Some, None}
+use Rattle.std.specs.Prelude.{◌==◌, slice_index, Option, Some, None, if◌then◌else◌}
 use Rattle.std.proofs.lemmas.Bool.{false≢true}
+use Rattle.std.proofs.Math.Seq.{take-length}
 use Rattle.events.specs.declared.event.Call.{Call}
 use Rattle.events.specs.declared.event.Call.TheVariants.{Scan}
 use Rattle.events.specs.declared.event.Reply.{Reply}
 use Rattle.art_serial.proofs.words.KeyLemmas.{number_is}
+use Rattle.art_serial.proofs.trees.Bytes.{next_of}
 use Rattle.art_rows.specs.declared.table.Kind.{Kind}
 use Rattle.art_rows.specs.declared.table.Kind.TheVariants.{Four, Sixteen, FortyEight, Full}
 use Rattle.art_rows.specs.declared.table.Shape.{Shape}
@@ -28,7 +30,6 @@ use Rattle.art_stages.specs.Scans.{Walk, ScanAt, at, entry_base, close_at, scan_
 use Rattle.art_core.specs.Core.{Plan}
 use Rattle.art_core.specs.Moments.{Reads, next_word, alone, AnswersAlone}
 use Rattle.art_versions.proofs.versions.KeyLemmas.{slot-behind}
-use Rattle.art_versions.proofs.moments.TimeLemmas.{take-whole, take-one-more}
 use Rattle.art_versions.proofs.moments.AttemptLemmas.{stage, fold-more, IsSettledWord, Walking, InRows}
 use Rattle.art_versions.proofs.moments.StandsLemmas.{Stands, Releasing}
 use Rattle.art_versions.proofs.moments.ScanLemmas.{AllStand}
@@ -140,7 +141,7 @@ module _ (plan : Plan) (lo hi : ℕ) (v : plan.variant ≡ Optimistic) (some : 1
       got = slice_index attempt i
 
       next : stage-at (take (suc i) attempt) ≡ scan_after set lo hi here got
-      next = ap stage-at (take-one-more i attempt (omega (arith, most))) ∙ fold-more plan.shape lo hi (scan_start set) (take i attempt) got
+      next = ap stage-at (next_of i attempt (omega (arith, most))) ∙ fold-more plan.shape lo hi (scan_start set) (take i attempt) got
 
       go : Comes i → Does plan.shape some lo hi here.step here.walk got → Comes (suc i)
       go (n, is) (Stays e) = (n, is ∙ sym (next ∙ e))
@@ -161,5 +162,5 @@ module _ (plan : Plan) (lo hi : ℕ) (v : plan.variant ≡ Optimistic) (some : 1
       let h = comes (length attempt) (omega arith) in (
         h.0,
         turn-is plan lo hi v some (alone h.0 plan call words)
-            ∙ (ap (scan_turn set) (h.1 ∙ ap stage-at (take-whole attempt)) ∙ (sym (turn-is plan lo hi v some attempt) ∙ answers)),
+            ∙ (ap (scan_turn set) (h.1 ∙ ap stage-at (take-length attempt)) ∙ (sym (turn-is plan lo hi v some attempt) ∙ answers)),
       )

@@ -4,6 +4,7 @@ use Rattle.std.proofs.Common.{inl, inr, arith}
 use Rattle.std.specs.Prelude.{◌⊎◌, slice_index, Option, Some, None}
 use Rattle.std.proofs.lemmas.List.{length-append}
 use Rattle.std.proofs.lemmas.Bool.{cases_lt}
+use Rattle.std.proofs.Math.Seq.{take-length}
 use Rattle.events.specs.declared.event.Call.TheVariants.{Scan}
 use Rattle.art_rows.specs.declared.table.Shape.{Shape}
 use Rattle.art_rows.specs.Table.{row_words, kind_at}
@@ -17,7 +18,7 @@ use Rattle.art_stages.specs.declared.stage.Held.{Held}
 use Rattle.art_stages.specs.Scans.{ScanAt, scan_start, scan_after, scan_turn}
 use Rattle.art_versions.specs.versions.Holding.{optimistic, OfRows}
 use Rattle.art_versions.specs.versions.Effects.{IsAmong}
-use Rattle.art_versions.proofs.moments.TimeLemmas.{take-more, take-whole, index-more, index-last}
+use Rattle.art_versions.proofs.moments.TimeLemmas.{take-more, index-more, index-last}
 
 module _ (s : Shape) (lo hi : ℕ) where
   abbrev pub c : Setting
@@ -60,7 +61,7 @@ module _ (s : Shape) (lo hi : ℕ) where
         inr (
           is,
           ap (λ l. scan_turn c (stage l)) (sym (ap (λ k. take k (attempt ++ w ∷ [])) is
-              ∙ (take-more (length attempt) attempt w (omega arith) ∙ take-whole attempt))) ∙ h.turn,
+              ∙ (take-more (length attempt) attempt w (omega arith) ∙ take-length attempt))) ∙ h.turn,
         )
   ]
 

@@ -9,6 +9,7 @@ use Rattle.events.specs.declared.event.Reply.{Reply}
 use Rattle.art_rows.specs.declared.table.Kind.{Kind}
 use Rattle.art_rows.specs.Table.{kind_at, info_at}
 use Rattle.art_rows.specs.Words.{is_locked}
+use Rattle.art_rows.proofs.KindLemmas.{seven-words}
 use Rattle.art_steps.specs.declared.variant.Variant.TheVariants.{Optimistic}
 use Rattle.art_steps.specs.declared.access.Point.{Point}
 use Rattle.art_steps.specs.declared.access.Point.TheVariants as point
@@ -24,7 +25,7 @@ use Rattle.art_core.specs.Core.{Plan}
 use Rattle.art_core.specs.Moments.{BeginsAttempt, Reads, Enters}
 use Rattle.art_versions.specs.moments.Gets.{IsCheckedGet, AnsweredGetsAreChecked, GoesBy, HasRead}
 use Rattle.art_versions.proofs.moments.RowLemmas.{row-within}
-use Rattle.art_versions.proofs.moments.SeekLemmas.{stage, some-more, Loads, Entered, InfoOf, Agrees, AllSeek, all-fold, all-append, at-end, attempted, answered}
+use Rattle.art_versions.proofs.moments.SeekLemmas.{stage, Loads, Entered, InfoOf, Agrees, AllSeek, all-fold, all-append, at-end, attempted, answered}
 
 module _ (plan : Plan) (key : ℕ) (v : plan.variant ≡ Optimistic) (some : 1 ≤ plan.shape.rows256) where
   abbrev call : Call
@@ -75,7 +76,7 @@ module _ (plan : Plan) (key : ℕ) (v : plan.variant ≡ Optimistic) (some : 1 �
       to-goes info (inr h) = inr (
         h.0,
         h.1,
-        from-load h.0 (info_at base) None h.2 (inl (row-within plan.shape base (info_at base) kind row (omega arith) (omega (arith, some-more kind)))),
+        from-load h.0 (info_at base) None h.2 (inl (row-within plan.shape base (info_at base) kind row (omega arith) (omega (arith, seven-words kind)))),
         h.3,
       )
 

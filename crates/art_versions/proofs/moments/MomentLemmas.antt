@@ -1,9 +1,10 @@
 -- Where an answered scan was validated, its words are those of one moment; so are those that an answered get read of its last row.
 use Rattle.std.proofs.Common.{◌≡◌, ℕ, zero, suc, ◌+◌, ◌-◌, ◌^◌, ◌<◌, ◌≤◌, List, [], ◌∷◌, ◌++◌, length, take, refl, ap, sym, subst, ◌∙◌, inl, inr, arith, false}
-use Rattle.std.specs.Prelude.{slice_get, slice_index, Option, Some}
+use Rattle.std.specs.Prelude.{slice_get, slice_index, Some}
 use Rattle.std.proofs.lemmas.Bool.{cases_lt}
 use Rattle.std.proofs.lemmas.List.{length-append, length-take}
 use Rattle.std.proofs.lemmas.Option.{same_Some, none-some}
+use Rattle.std.proofs.Math.Seq.{take-length}
 use Rattle.events.specs.declared.event.Call.{Call}
 use Rattle.events.specs.declared.event.Call.TheVariants.{Get, Scan}
 use Rattle.events.specs.declared.event.Reply.{Reply}
@@ -11,13 +12,13 @@ use Rattle.map_object.specs.MapObject.{Contents}
 use Rattle.art_rows.specs.declared.table.Kind.{Kind}
 use Rattle.art_rows.specs.Table.{row_words}
 use Rattle.art_rows.specs.Words.{is_locked}
+use Rattle.art_rows.proofs.KindLemmas.{some-words}
 use Rattle.art_serial.proofs.words.TableLemmas.{rows_apart}
 use Rattle.art_steps.specs.declared.variant.Variant.TheVariants.{Optimistic}
-use Rattle.art_steps.specs.declared.access.Access.{Access}
 use Rattle.art_steps.specs.declared.access.Access.TheVariants.{Load}
-use Rattle.art_steps.specs.declared.access.Point.{Point}
 use Rattle.art_steps.specs.Steps.{Turn, Asks, Answers, reply_of}
 use Rattle.art_steps.specs.Act.{act}
+use Rattle.art_steps.proofs.TurnLemmas.{asks-same}
 use Rattle.art_stages.specs.Scans.{scan_start, scan_turn}
 use Rattle.art_stages.specs.Calls.{call_turn, call_behind}
 use Rattle.art_core.specs.declared.process.Process.{Process}
@@ -39,33 +40,30 @@ use Rattle.art_versions.specs.moments.Times.{GotAt}
 use Rattle.art_versions.specs.moments.Attempts.{IsValidated}
 use Rattle.art_versions.specs.moments.Gets.{IsCheckedGet}
 use Rattle.art_versions.specs.moments.LastRows.{HasMomentOfLastRow, GetsHaveOneMoment}
-use Rattle.art_versions.proofs.moments.TimeLemmas.{at-before, was-got, ordered, take-whole}
+use Rattle.art_versions.proofs.moments.TimeLemmas.{at-before, was-got, ordered}
 use Rattle.art_versions.proofs.moments.AttemptLemmas.{stage}
 use Rattle.art_versions.proofs.moments.ScanLemmas.{all-fold, AllStand}
-use Rattle.art_versions.proofs.moments.ValidLemmas.{validated, some-words}
+use Rattle.art_versions.proofs.moments.ValidLemmas.{validated}
 use Rattle.art_versions.proofs.moments.AloneLemmas.{answers-alone}
 use Rattle.art_versions.proofs.moments.SeekLemmas.{stage as get-stage, entering}
 use Rattle.art_versions.proofs.moments.GetLemmas.{Checking, checked, to-load}
 use Rattle.art_versions.proofs.moments.RowLemmas.{part-same, taken-within}
 
-take-behind : (xs ys : List ℕ) (i : ℕ) → take (length xs + i) (xs ++ ys) ≡ xs ++ take i ys
+pub take-behind : (xs ys : List ℕ) (i : ℕ) → take (length xs + i) (xs ++ ys) ≡ xs ++ take i ys
 take-behind [] ys i = ap (λ k. take k ys) (omega arith)
 take-behind (x ∷ xs) ys i = ap (λ k. take k (x ∷ (xs ++ ys))) (plus (length xs)) ∙ ap (λ zs. x ∷ zs) (take-behind xs ys i)
   where
     plus : (n : ℕ) → suc n + i ≡ suc (n + i)
     plus n = omega arith
 
-index-behind : (xs ys : List ℕ) (i : ℕ) → slice_index (xs ++ ys) (length xs + i) ≡ slice_index ys i
+pub index-behind : (xs ys : List ℕ) (i : ℕ) → slice_index (xs ++ ys) (length xs + i) ≡ slice_index ys i
 index-behind [] ys i = ap (slice_index ys) (omega arith)
 index-behind (x ∷ xs) ys i = ap (slice_index (x ∷ (xs ++ ys))) (plus (length xs)) ∙ index-behind xs ys i
   where
     plus : (n : ℕ) → suc n + i ≡ suc (n + i)
     plus n = omega arith
 
-load-is : {a : Access} {m : Option Point} {w : ℕ} {l : Option Point} → Asks a m ≡ Asks (Load w) l → a ≡ Load w
-load-is e = cc
-
-answers-of : (t : Turn) (r : Reply) → reply_of t ≡ Some r → t ≡ Answers r
+pub answers-of : (t : Turn) (r : Reply) → reply_of t ≡ Some r → t ≡ Answers r
 answers-of (Asks a m) r e = absurd (none-some r e)
 answers-of (Answers x) r e = ap (λ y. Answers y) (same_Some x r e)
 
@@ -126,7 +124,7 @@ module _ (plan : Plan) (start : Contents) (words schedule : List ℕ) (s : State
 
     -- when the i-th word of the attempt was got
     got-at : (i : ℕ) → i < length attempt → GotAt plan first schedule (length schedule) p q call (le + i)
-    got-at i less = was-got plan words schedule p (length schedule) (omega arith) s (ap (run_on plan (Some first)) (take-whole schedule) ∙ run.gives) q its.own call
+    got-at i less = was-got plan words schedule p (length schedule) (omega arith) s (ap (run_on plan (Some first)) (take-length schedule) ∙ run.gives) q its.own call
         its.is_open (le + i) (omega (arith, long, less))
 
     words-of : (i : ℕ) → take (le + i) q.got ≡ earlier ++ take i attempt
@@ -138,7 +136,7 @@ module _ (plan : Plan) (start : Contents) (words schedule : List ℕ) (s : State
         let asks : Asks g.access g.mark ≡ Asks (Load word) r.mark =
         sym g.asks ∙ (ap (act plan.shape plan.variant call) (words-of i) ∙ (its.begins (take i attempt) ∙ r.load)) in
         let told-is = subst (λ a. slice_index q.got (le + i) ≡ Rattle.art_core.specs.Accesses.told a
-        (slice_index g.state.words (Rattle.art_steps.specs.Fits.word_of a))) (load-is asks) g.is in
+        (slice_index g.state.words (Rattle.art_steps.specs.Fits.word_of a))) (asks-same asks) g.is in
         sym told-is ∙ (ap (λ l. slice_index l (le + i)) its.all ∙ index-behind earlier attempt i)
 
     has-got : (i : ℕ) (less : i < length attempt) → HasGot (length (begun q)) (le + i) (got-at i less).state p
@@ -304,7 +302,7 @@ module _ (plan : Plan) (start : Contents) (words schedule : List ℕ) (s : State
       | inl less ↦
           let g = scanned x.m less in
           moment g.u g.state (omega (arith, g.before)) g.at (has-got p q scan x.earlier x.attempt in-scan x.m less)
-      | inr more ↦ moment (length schedule) s (omega arith) (ap (run_on plan (Some first)) (take-whole schedule) ∙ run.gives)
+      | inr more ↦ moment (length schedule) s (omega arith) (ap (run_on plan (Some first)) (take-length schedule) ∙ run.gives)
           (record {
             process = q;
             own = own;

@@ -2,11 +2,13 @@
 use Rattle.std.proofs.Common.{◌≡◌, ℕ, zero, suc, ◌+◌, ◌<◌, ◌≤◌, List, [], ◌∷◌, length, take, drop, refl, ap, ◌∙◌, inl, inr, arith}
 use Rattle.std.specs.Prelude.{slice_index, Option, Some, None}
 use Rattle.std.proofs.lemmas.Bool.{cases_lt}
+use Rattle.std.proofs.Math.Seq.{take-length}
 use Rattle.art_serial.proofs.words.TableLemmas.{rows_apart}
 use Rattle.art_rows.specs.declared.table.Kind.{Kind}
-use Rattle.art_rows.specs.declared.table.Kind.TheVariants.{Four, Sixteen, FortyEight, Full}
 use Rattle.art_rows.specs.declared.table.Shape.{Shape}
 use Rattle.art_rows.specs.Table.{row_words, kind_at}
+use Rattle.art_rows.proofs.KindLemmas.{some-words}
+use Rattle.art_rows.proofs.WriterLemmas.{take_whole}
 
 take-same : (n : ℕ) (xs ys : List ℕ) → length xs ≡ length ys → ((k : ℕ) → k < n → slice_index xs k ≡ slice_index ys k) → take n xs ≡ take n ys
 take-same zero xs ys long same = refl
@@ -26,33 +28,16 @@ part-same (suc base) n (x ∷ xs) [] long same = absurd (omega (arith, long))
 part-same (suc base) n (x ∷ xs) (y ∷ ys) long same =
     part-same base n xs ys (omega (arith, long)) (λ k low high. same (suc k) (omega (arith, low)) (omega (arith, high)))
 
--- behind the end of a list there is no more of it
-take-beyond : (n : ℕ) (xs : List ℕ) → length xs ≤ n → take n xs ≡ xs
-take-beyond zero [] most = refl
-take-beyond (suc n) [] most = refl
-take-beyond zero (x ∷ xs) most = absurd (omega (arith, most))
-take-beyond (suc n) (x ∷ xs) most = ap (λ zs. x ∷ zs) (take-beyond n xs (omega (arith, most)))
-
 pub record Within (n : ℕ) (xs : List ℕ) : Type 0 where
   pub length' : ℕ
   pub most : length' ≤ length xs
   pub same : take n xs ≡ take length' xs
 
-take-all : (xs : List ℕ) → take (length xs) xs ≡ xs
-take-all xs = take-beyond (length xs) xs (omega arith)
-
 pub taken-within : (n : ℕ) (xs : List ℕ) → Within n xs
 taken-within n xs = elim (cases_lt n (length xs)) [
   | inl less ↦ record { length' = n; most = omega (arith, less); same = refl }
-  | inr more ↦ record { length' = length xs; most = omega arith; same = take-beyond n xs more ∙ Rattle.std.proofs.Common.sym (take-all xs) }
+  | inr more ↦ record { length' = length xs; most = omega arith; same = take_whole n xs more ∙ Rattle.std.proofs.Common.sym (take-length xs) }
 ]
-
--- no row begins within another
-some-words : (kind : Kind) → 0 < row_words kind
-some-words Four = omega arith
-some-words Sixteen = omega arith
-some-words FortyEight = omega arith
-some-words Full = omega arith
 
 pub row-within : (s : Shape) (base word : ℕ) (kind : Kind) → kind_at s base ≡ Some kind → base < word → word < base + row_words kind → kind_at s word ≡ None
 row-within s base word kind row low high = go (kind_at s word) refl

@@ -1,9 +1,10 @@
 -- The attempt of a scan that answers: all rows that it read were checked at its end.
 use Rattle.std.proofs.Common.{◌≡◌, ℕ, zero, suc, ◌+◌, ◌*◌, ◌/◌, ◌%◌, ◌<◌, ◌≤◌, List, [], ◌∷◌, ◌++◌, length, take, refl, ap, sym, subst, ◌∙◌, Bool, true, false}
 use Rattle.std.proofs.Common.{inl, inr, arith, append_assoc}
-use Rattle.std.specs.Prelude.{◌⊎◌, ◌==◌, if◌then◌else◌, Option, Some, None}
+use Rattle.std.specs.Prelude.{◌⊎◌, ◌==◌, Option, Some, None, if◌then◌else◌}
 use Rattle.std.proofs.lemmas.List.{length-append, append-nil}
 use Rattle.std.proofs.lemmas.Bool.{cases_lt}
+use Rattle.std.proofs.Math.Seq.{take-length}
 use Rattle.art_serial.proofs.words.KeyLemmas.{number_is}
 use Rattle.events.specs.declared.event.Reply.{Reply}
 use Rattle.art_rows.specs.declared.table.Kind.{Kind}
@@ -14,12 +15,12 @@ use Rattle.art_rows.specs.declared.table.Child.TheVariants.{Empty, Row as ChildR
 use Rattle.art_rows.specs.Table.{row_words, kind_at, keys_at, more_keys_at, count_at, index_at}
 use Rattle.art_rows.specs.Words.{child_of, row_child}
 use Rattle.art_steps.specs.declared.access.Access.{Access}
-use Rattle.art_steps.specs.declared.access.Access.TheVariants.{Load}
 use Rattle.art_steps.specs.declared.access.Point.{Point}
 use Rattle.art_steps.specs.declared.access.Point.TheVariants as point
 use Rattle.art_steps.specs.Steps.{Asks, Answers}
 use Rattle.art_steps.specs.Rows.{Setting}
 use Rattle.art_steps.specs.Scan.{with_leaf}
+use Rattle.art_steps.proofs.TurnLemmas.{answers-asks}
 use Rattle.art_stages.specs.declared.stage.Held.{Held}
 use Rattle.art_stages.specs.declared.stage.Entry.TheVariants.{Root, Below}
 use Rattle.art_stages.specs.declared.stage.ScanStep.{ScanStep}
@@ -32,13 +33,10 @@ use Rattle.art_stages.specs.Scans.{child_after, scan_start, scan_after, scan_tur
 use Rattle.art_stages.specs.Calls.{CallAt, OnScan, after_all, call_begun, call_behind}
 use Rattle.art_versions.specs.versions.Holding.{OfRows, Each, FitsFrame}
 use Rattle.art_versions.proofs.versions.KeyLemmas.{slot-behind}
-use Rattle.art_versions.proofs.moments.TimeLemmas.{take-more, take-whole, index-more}
+use Rattle.art_versions.proofs.moments.TimeLemmas.{take-more, index-more}
 use Rattle.art_versions.proofs.moments.AttemptLemmas.{stage, fold, fold-more, IsSettledWord, loads-more, loads-cases, entered-more, covers-more, Walking}
 use Rattle.art_versions.proofs.moments.AttemptLemmas.{InRows}
 use Rattle.art_versions.proofs.moments.StandsLemmas.{Releasing, Stands, StandsAt, Next, waits-root, waits-below, visits, checks, reads-on, resumes, released}
-
-load-answers : {a : ℕ} {m : Option Point} {r : Reply} → Answers r ≡ Asks (Load a) m → ⊥
-load-answers e = cc
 
 module _ (s : Shape) (some : 1 ≤ s.rows256) (lo hi : ℕ) where
   abbrev pub c : Setting
@@ -123,7 +121,7 @@ module _ (s : Shape) (some : 1 ≤ s.rows256) (lo hi : ℕ) where
         | inl r ↦ inl (r.0, r.1, covers-more s lo hi a word h.rows i word' r.2)
         | inr r ↦ inr (r.0, r.1, r.2, r.3, r.4, index-more i a word old.made ∙ r.5)
       ]
-      | inr last ↦ absurd (load-answers (sym turn ∙ last.1))
+      | inr last ↦ absurd (answers-asks (sym turn ∙ last.1))
     ];
     checked = λ x among. elim (h.checked x among) [
       | inl none ↦ absurd none
@@ -175,14 +173,14 @@ module _ (s : Shape) (some : 1 ≤ s.rows256) (lo hi : ℕ) where
   AllStand attempt = (i : ℕ) → i ≤ length attempt → StandsAt s some lo hi (take i attempt) (stage s lo hi (take i attempt))
 
   pub at-end : (attempt : List ℕ) → AllStand attempt → StandsAt s some lo hi attempt (stage s lo hi attempt)
-  at-end attempt h = subst (λ l. StandsAt s some lo hi l (stage s lo hi l)) (take-whole attempt) (h (length attempt) (omega arith))
+  at-end attempt h = subst (λ l. StandsAt s some lo hi l (stage s lo hi l)) (take-length attempt) (h (length attempt) (omega arith))
 
   one-more : (attempt : List ℕ) (w : ℕ) → AllStand attempt → StandsAt s some lo hi (attempt ++ w ∷ []) (stage s lo hi (attempt ++ w ∷ []))
       → AllStand (attempt ++ w ∷ [])
   one-more attempt w h now i most = elim (cases_lt (length attempt) i) [
     | inl last ↦
         let all : i ≡ length (attempt ++ w ∷ []) = omega (arith, last, most, length-append attempt (w ∷ [])) in
-        subst (λ l. StandsAt s some lo hi l (stage s lo hi l)) (sym (ap (λ k. take k (attempt ++ w ∷ [])) all ∙ take-whole (attempt ++ w ∷ []))) now
+        subst (λ l. StandsAt s some lo hi l (stage s lo hi l)) (sym (ap (λ k. take k (attempt ++ w ∷ [])) all ∙ take-length (attempt ++ w ∷ []))) now
     | inr old ↦ subst (λ l. StandsAt s some lo hi l (stage s lo hi l)) (sym (take-more i attempt w old)) (h i old)
   ]
 

@@ -1,10 +1,11 @@
 -- The attempt of a get that answers: the row that it entered last was checked with the version with which it was entered, and the reply is what its words say.
 use Rattle.std.proofs.Common.{◌≡◌, ◌≢◌, ℕ, zero, suc, ◌+◌, ◌-◌, ◌%◌, ◌<◌, ◌≤◌, List, [], ◌∷◌, ◌++◌, length, take, refl, ap, sym, subst, ◌∙◌, Bool, true, false}
 use Rattle.std.proofs.Common.{inl, inr, arith, append_assoc}
-use Rattle.std.specs.Prelude.{◌⊎◌, ◌==◌, if◌then◌else◌, slice_index, Option, Some, None, option_map}
+use Rattle.std.specs.Prelude.{◌⊎◌, ◌==◌, slice_index, Option, Some, None, option_map, if◌then◌else◌}
 use Rattle.std.proofs.lemmas.List.{length-append, append-nil}
 use Rattle.std.proofs.lemmas.Bool.{cases_lt, false≢true}
 use Rattle.std.proofs.lemmas.Option.{none-some, same_Some}
+use Rattle.std.proofs.Math.Seq.{take-length}
 use Rattle.events.specs.declared.event.Call.TheVariants.{Get}
 use Rattle.events.specs.declared.event.Reply.{Reply}
 use Rattle.events.specs.declared.event.Reply.TheVariants as replies
@@ -17,12 +18,14 @@ use Rattle.art_rows.specs.declared.table.Child.{Child}
 use Rattle.art_rows.specs.declared.table.Child.TheVariants.{Empty, Row as ChildRow, Leaf}
 use Rattle.art_rows.specs.Table.{row_words, kind_at, root_base, info_at, keys_at, more_keys_at, index_at, count_at, child_at}
 use Rattle.art_rows.specs.Words.{is_locked, is_obsolete, entries_of, place_of, child_of, key_bytes, first_difference, info_of}
-use Rattle.art_steps.specs.declared.access.Access.{Access}
+use Rattle.art_rows.proofs.KindLemmas.{seven-words}
+use Rattle.art_rows.proofs.ByteLemmas.{key_byte-small}
 use Rattle.art_steps.specs.declared.access.Access.TheVariants.{Load}
 use Rattle.art_steps.specs.declared.access.Point.{Point}
 use Rattle.art_steps.specs.declared.access.Point.TheVariants as point
 use Rattle.art_steps.specs.Steps.{Asks, Answers}
 use Rattle.art_steps.specs.Rows.{Setting, key_of, path_differs_at}
+use Rattle.art_steps.proofs.TurnLemmas.{loads-same, answers-same, answers-asks, asks-answers}
 use Rattle.art_stages.specs.declared.stage.Held.{Held}
 use Rattle.art_stages.specs.declared.stage.Keys.{Keys}
 use Rattle.art_stages.specs.declared.stage.Finding.{Finding}
@@ -40,35 +43,17 @@ use Rattle.art_stages.specs.Calls.{CallAt, OnKey, call_after, after_all, call_be
 use Rattle.art_core.specs.Meaning.{slot_of, entry_slot, child_in, child_on}
 use Rattle.art_versions.specs.versions.Holding.{optimistic, IsSlot, OfRows, KnowsKey}
 use Rattle.art_versions.proofs.versions.KeyLemmas.{slot-behind}
-use Rattle.art_versions.proofs.versions.WordFacts.{place-fits, entry-fits, key_byte-small}
+use Rattle.art_versions.proofs.versions.WordFacts.{place-fits, entry-fits}
 use Rattle.art_versions.specs.moments.RowReplies.{reply_of_child, reply_behind, row_reply}
-use Rattle.art_versions.proofs.moments.TimeLemmas.{take-more, take-whole, index-more, index-last}
+use Rattle.art_versions.proofs.moments.TimeLemmas.{take-more, index-more, index-last}
 use Rattle.art_versions.proofs.moments.ScanLemmas.{child-is-row}
 use Rattle.art_versions.proofs.moments.RowLemmas.{row-within}
-
-load-same : {a b : ℕ} {m l : Option Point} → Asks (Load a) m ≡ Asks (Load b) l → (a ≡ b) × (m ≡ l)
-load-same e = (cc, cc)
-
-reply-same : {r t : Reply} → Answers r ≡ Answers t → r ≡ t
-reply-same e = cc
-
-reply-asks : {a : ℕ} {m : Option Point} {r : Reply} → Answers r ≡ Asks (Load a) m → ⊥
-reply-asks e = cc
-
-asks-reply : {a : Access} {m : Option Point} {r : Reply} → Asks a m ≡ Answers r → ⊥
-asks-reply e = cc
 
 no-check : None ≢ Some point.Check
 no-check e = cc
 
-pub some-more : (kind : Kind) → 7 ≤ row_words kind
-some-more Four = omega arith
-some-more Sixteen = omega arith
-some-more FortyEight = omega arith
-some-more Full = omega arith
-
 take-front : (xs : List ℕ) (w : ℕ) → take (length xs) (xs ++ w ∷ []) ≡ xs
-take-front xs w = take-more (length xs) xs w (omega arith) ∙ take-whole xs
+take-front xs w = take-more (length xs) xs w (omega arith) ∙ take-length xs
 
 module _ (s : Shape) (some : 1 ≤ s.rows256) (key : ℕ) where
   abbrev pub c : Setting
@@ -166,13 +151,13 @@ module _ (s : Shape) (some : 1 ≤ s.rows256) (key : ℕ) where
   reads-in : (a : List ℕ) (w base : ℕ) (kind : Kind) (kept entry x : ℕ) (m : Option Point) → Last a base kind kept entry
       → turn_at c (stage a) ≡ Asks (Load x) m → base < x → x < base + row_words kind → Last (a ++ w ∷ []) base kind kept entry
   reads-in a w base kind kept entry x m h turn low high = last-more a w base kind kept entry h (λ b k mark row here no.
-      none-some k (sym (row-within s base x kind h.entered.row low high) ∙ (ap (kind_at s) (load-same (sym turn ∙ here)).0 ∙ row)))
+      none-some k (sym (row-within s base x kind h.entered.row low high) ∙ (ap (kind_at s) (loads-same (sym turn ∙ here)).0 ∙ row)))
 
   -- or a version is checked
   checks-one : (a : List ℕ) (w base : ℕ) (kind : Kind) (kept entry x : ℕ) → Last a base kind kept entry
       → turn_at c (stage a) ≡ Asks (Load x) (Some point.Check) → Last (a ++ w ∷ []) base kind kept entry
   checks-one a w base kind kept entry x h turn =
-      last-more a w base kind kept entry h (λ b k mark row here no. no (sym (load-same (sym turn ∙ here)).1))
+      last-more a w base kind kept entry h (λ b k mark row here no. no (sym (loads-same (sym turn ∙ here)).1))
 
   abbrev NoneYet : List ℕ → Type 0
   NoneYet a = (i b : ℕ) (k : Kind) → Entered a i b k → ⊥
@@ -301,7 +286,7 @@ module _ (s : Shape) (some : 1 ≤ s.rows256) (key : ℕ) where
           entered = entered-more a w h.entry h.base h.kind k.entered;
           last = λ i b kind e. elim (entered-cases a w i b kind e) [
             | inl old ↦ k.last i b kind old
-            | inr here ↦ absurd (reply-asks (sym turn ∙ here.1))
+            | inr here ↦ absurd (answers-asks (sym turn ∙ here.1))
           ];
           check = k.check;
           behind = k.behind;
@@ -309,7 +294,7 @@ module _ (s : Shape) (some : 1 ≤ s.rows256) (key : ℕ) where
           same = index-more k.check a w k.loads.made ∙ (k.same ∙ sym (index-more h.entry a w k.entered.loads.made));
           final = λ i word mark l. elim (loads-cases a w i word mark l) [
             | inl old ↦ k.final i word mark old
-            | inr here ↦ absurd (reply-asks (sym turn ∙ here.1))
+            | inr here ↦ absurd (answers-asks (sym turn ∙ here.1))
           ];
         };
         info = h.info;
@@ -481,21 +466,21 @@ module _ (s : Shape) (some : 1 ≤ s.rows256) (key : ℕ) where
       go false = inr refl
   goes a st w turn (at_info d kept entry h) =
       inl (below-go (a ++ w ∷ []) d w kept entry (path_differs_at c (row_at (held d.base d.kind w kept)))
-      (reads-in a w d.base d.kind kept entry (info_at d.base) None h turn (omega arith) (omega (arith, some-more d.kind)))
+      (reads-in a w d.base d.kind kept entry (info_at d.base) None h turn (omega arith) (omega (arith, seven-words d.kind)))
       (inr (length a, omega (arith, h.entered.loads.made), last-loads a w (info_at d.base) None turn, index-last a w)) refl)
   goes a st w turn (finds p entry h) = inl (find-go a p.row.base p.row.kind p.row.info p.row.kept p.above p.slot w entry turn h)
   goes a st w turn (finds_keys p count entry h is counts) =
       inl (finds_more p count w entry
-      (reading-more a w p.row entry (keys_at p.row.base) None h turn (omega arith) (omega (arith, some-more p.row.kind))) is
+      (reading-more a w p.row entry (keys_at p.row.base) None h turn (omega arith) (omega (arith, seven-words p.row.kind))) is
       (λ words g. counts words (agrees-less a w entry p.row.base p.row.kind words g))
-      (agrees-now a w entry p.row.base p.row.kind (keys_at p.row.base) None turn (earlier a p.row entry h) (omega arith) (omega (arith, some-more p.row.kind))))
+      (agrees-now a w entry p.row.base p.row.kind (keys_at p.row.base) None turn (earlier a p.row entry h) (omega arith) (omega (arith, seven-words p.row.kind))))
   goes a st w turn (finds_more p count first entry h is counts firsts) =
       inl (words-go (a ++ w ∷ []) p (record { first = first; second = w; count = count }) entry
-      (reading-more a w p.row entry (more_keys_at p.row.base) None h turn (omega arith) (omega (arith, some-more p.row.kind)))
+      (reading-more a w p.row entry (more_keys_at p.row.base) None h turn (omega arith) (omega (arith, seven-words p.row.kind)))
       (λ words g. sixteen p.row.kind is words
       (counts words (agrees-less a w entry p.row.base p.row.kind words g))
       (firsts words (agrees-less a w entry p.row.base p.row.kind words g))
-      (agrees-now a w entry p.row.base p.row.kind (more_keys_at p.row.base) None turn (earlier a p.row entry h) (omega arith) (omega (arith, some-more p.row.kind)) words g)))
+      (agrees-now a w entry p.row.base p.row.kind (more_keys_at p.row.base) None turn (earlier a p.row entry h) (omega arith) (omega (arith, seven-words p.row.kind)) words g)))
     where
       sixteen : (kind : Kind) → kind ≡ Sixteen → (words : List ℕ) → slice_index words (count_at Sixteen p.row.base) ≡ count
           → slice_index words (keys_at p.row.base) ≡ first → slice_index words (more_keys_at p.row.base) ≡ w
@@ -555,32 +540,32 @@ module _ (s : Shape) (some : 1 ≤ s.rows256) (key : ℕ) where
       within b x k at e low high = absurd (none-some kind (sym (row-within s b x k at low high) ∙ (ap (kind_at s) e ∙ row)))
 
       find : (k : Kind) (n : Held) → kind_at s n.base ≡ Some k → find_turn k c n ≡ Asks (Load base) mark → P base kind
-      find Four n at e = within n.base (keys_at n.base) Four at (load-same e).0 (omega arith) (omega arith)
-      find Sixteen n at e = within n.base (count_at Sixteen n.base) Sixteen at (load-same e).0 (omega arith) (omega arith)
+      find Four n at e = within n.base (keys_at n.base) Four at (loads-same e).0 (omega arith) (omega arith)
+      find Sixteen n at e = within n.base (count_at Sixteen n.base) Sixteen at (loads-same e).0 (omega arith) (omega arith)
       find FortyEight n at e =
           let small = key_byte-small (key_of (Get key)) (row_at n).level in
-          within n.base (index_at n.base (byte_in c n)) FortyEight at (load-same e).0 (omega (arith, small)) (omega (arith, small))
+          within n.base (index_at n.base (byte_in c n)) FortyEight at (loads-same e).0 (omega (arith, small)) (omega (arith, small))
       find Full n at e =
           let small = key_byte-small (key_of (Get key)) (row_at n).level in
-          within n.base (child_at Full n.base (byte_in c n)) Full at (load-same e).0 (omega (arith, small)) (omega (arith, small))
+          within n.base (child_at Full n.base (byte_in c n)) Full at (loads-same e).0 (omega (arith, small)) (omega (arith, small))
 
       go : (st : Stage) → Seeks a st → turn_at c st ≡ Asks (Load base) mark → KnowsKey P c st → P base kind
-      go st (at_root none) e k = same-row (root_base s) 0 Full root root-row (load-same e).0
-      go st (at_row d at) e k = same-row d.base 0 d.kind k.known.0 at (load-same e).0
-      go st (between d kept entry h) e k = absurd (unchecked (sym (load-same e).1))
+      go st (at_root none) e k = same-row (root_base s) 0 Full root root-row (loads-same e).0
+      go st (at_row d at) e k = same-row d.base 0 d.kind k.known.0 at (loads-same e).0
+      go st (between d kept entry h) e k = absurd (unchecked (sym (loads-same e).1))
       go st (at_info d kept entry h) e k =
-          within d.base (info_at d.base) d.kind h.entered.row (load-same e).0 (omega arith) (omega (arith, some-more d.kind))
+          within d.base (info_at d.base) d.kind h.entered.row (loads-same e).0 (omega arith) (omega (arith, seven-words d.kind))
       go st (finds p entry h) e k = find p.row.kind p.row h.last.entered.row e
       go st (finds_keys p count entry h is counts) e k =
-          within p.row.base (keys_at p.row.base) p.row.kind h.last.entered.row (load-same e).0 (omega arith) (omega (arith, some-more p.row.kind))
+          within p.row.base (keys_at p.row.base) p.row.kind h.last.entered.row (loads-same e).0 (omega arith) (omega (arith, seven-words p.row.kind))
       go st (finds_more p count first entry h is counts firsts) e k =
-          within p.row.base (more_keys_at p.row.base) p.row.kind h.last.entered.row (load-same e).0 (omega arith) (omega (arith, some-more p.row.kind))
+          within p.row.base (more_keys_at p.row.base) p.row.kind h.last.entered.row (loads-same e).0 (omega arith) (omega (arith, seven-words p.row.kind))
       go st (at_slot p slot entry h is slots) e k =
           let behind = slot-behind p.row.base p.row.kind slot is in
-          within p.row.base slot p.row.kind h.last.entered.row (load-same e).0 (omega (arith, behind.0)) behind.1
-      go st (checks p f entry h is sees) e k = absurd (unchecked (sym (load-same e).1))
-      go st (checks_last n place entry h info differs) e k = absurd (unchecked (sym (load-same e).1))
-      go st (over outcome h) e k = absurd (reply-asks e)
+          within p.row.base slot p.row.kind h.last.entered.row (loads-same e).0 (omega (arith, behind.0)) behind.1
+      go st (checks p f entry h is sees) e k = absurd (unchecked (sym (loads-same e).1))
+      go st (checks_last n place entry h info differs) e k = absurd (unchecked (sym (loads-same e).1))
+      go st (over outcome h) e k = absurd (answers-asks e)
 
   -- A get's words are those of earlier attempts, and of one that has not started again.
 
@@ -588,13 +573,13 @@ module _ (s : Shape) (some : 1 ≤ s.rows256) (key : ℕ) where
   AllSeek attempt = (i : ℕ) → i ≤ length attempt → Seeks (take i attempt) (stage (take i attempt))
 
   pub at-end : (attempt : List ℕ) → AllSeek attempt → Seeks attempt (stage attempt)
-  at-end attempt h = subst (λ l. Seeks l (stage l)) (take-whole attempt) (h (length attempt) (omega arith))
+  at-end attempt h = subst (λ l. Seeks l (stage l)) (take-length attempt) (h (length attempt) (omega arith))
 
   one-more : (attempt : List ℕ) (w : ℕ) → AllSeek attempt → Seeks (attempt ++ w ∷ []) (stage (attempt ++ w ∷ [])) → AllSeek (attempt ++ w ∷ [])
   one-more attempt w h now i most = elim (cases_lt (length attempt) i) [
     | inl last ↦
         let all : i ≡ length (attempt ++ w ∷ []) = omega (arith, last, most, length-append attempt (w ∷ [])) in
-        subst (λ l. Seeks l (stage l)) (sym (ap (λ k. take k (attempt ++ w ∷ [])) all ∙ take-whole (attempt ++ w ∷ []))) now
+        subst (λ l. Seeks l (stage l)) (sym (ap (λ k. take k (attempt ++ w ∷ [])) all ∙ take-length (attempt ++ w ∷ []))) now
     | inr old ↦ subst (λ l. Seeks l (stage l)) (sym (take-more i attempt w old)) (h i old)
   ]
 
@@ -641,20 +626,20 @@ module _ (s : Shape) (some : 1 ≤ s.rows256) (key : ℕ) where
   answered attempt reply turn seeks = go (stage attempt) turn seeks
     where
       find-asks : (kind : Kind) (n : Held) → find_turn kind c n ≡ Answers reply → ⊥
-      find-asks Four n e = asks-reply e
-      find-asks Sixteen n e = asks-reply e
-      find-asks FortyEight n e = asks-reply e
-      find-asks Full n e = asks-reply e
+      find-asks Four n e = asks-answers e
+      find-asks Sixteen n e = asks-answers e
+      find-asks FortyEight n e = asks-answers e
+      find-asks Full n e = asks-answers e
 
       go : (st : Stage) → turn_at c st ≡ Answers reply → Seeks attempt st → Done attempt reply
-      go st e (at_root none) = absurd (asks-reply e)
-      go st e (at_row d row) = absurd (asks-reply e)
-      go st e (between d kept entry h) = absurd (asks-reply e)
-      go st e (at_info d kept entry h) = absurd (asks-reply e)
+      go st e (at_root none) = absurd (asks-answers e)
+      go st e (at_row d row) = absurd (asks-answers e)
+      go st e (between d kept entry h) = absurd (asks-answers e)
+      go st e (at_info d kept entry h) = absurd (asks-answers e)
       go st e (finds p entry h) = absurd (find-asks p.row.kind p.row e)
-      go st e (finds_keys p count entry h is counts) = absurd (asks-reply e)
-      go st e (finds_more p count first entry h is counts firsts) = absurd (asks-reply e)
-      go st e (at_slot p slot entry h is slots) = absurd (asks-reply e)
-      go st e (checks p f entry h is sees) = absurd (asks-reply e)
-      go st e (checks_last n place entry h info differs) = absurd (asks-reply e)
-      go st e (over outcome h) = subst (Done attempt) (reply-same e) h
+      go st e (finds_keys p count entry h is counts) = absurd (asks-answers e)
+      go st e (finds_more p count first entry h is counts firsts) = absurd (asks-answers e)
+      go st e (at_slot p slot entry h is slots) = absurd (asks-answers e)
+      go st e (checks p f entry h is sees) = absurd (asks-answers e)
+      go st e (checks_last n place entry h info differs) = absurd (asks-answers e)
+      go st e (over outcome h) = subst (Done attempt) (answers-same e) h

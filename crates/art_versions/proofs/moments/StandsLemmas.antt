@@ -1,23 +1,24 @@
 -- What is so of an attempt of a scan at each of its stages.
 use Rattle.std.proofs.Common.{◌≡◌, ◌≢◌, ℕ, ◌+◌, ◌%◌, ◌<◌, ◌≤◌, List, [], ◌∷◌, ◌++◌, length, take, refl, ap, sym, subst, ◌∙◌, Bool, true, false}
 use Rattle.std.proofs.Common.{inl, inr, arith}
-use Rattle.std.specs.Prelude.{◌⊎◌, ◌==◌, if◌then◌else◌, slice_index, map, Option, Some, None}
+use Rattle.std.specs.Prelude.{◌⊎◌, slice_index, map, Option, Some, None, if◌then◌else◌}
 use Rattle.std.proofs.lemmas.List.{length-append}
 use Rattle.std.proofs.lemmas.Bool.{false≢true}
 use Rattle.std.proofs.lemmas.Option.{none-some, same_Some}
-use Rattle.art_serial.proofs.words.KeyLemmas.{number_is}
 use Rattle.art_serial.proofs.words.TableLemmas.{kind_at-base_of}
 use Rattle.art_rows.specs.declared.table.Kind.{Kind}
-use Rattle.art_rows.specs.declared.table.Kind.TheVariants.{Four, Sixteen, FortyEight, Full}
+use Rattle.art_rows.specs.declared.table.Kind.TheVariants.{FortyEight, Full}
 use Rattle.art_rows.specs.declared.table.Shape.{Shape}
 use Rattle.art_rows.specs.Table.{row_words, kind_at, root_base, info_at}
 use Rattle.art_rows.specs.Words.{is_locked, is_obsolete}
+use Rattle.art_rows.proofs.KindLemmas.{seven-words}
 use Rattle.art_steps.specs.declared.access.Access.TheVariants.{Load}
 use Rattle.art_steps.specs.declared.access.Point.{Point}
 use Rattle.art_steps.specs.declared.access.Point.TheVariants as point
 use Rattle.art_steps.specs.Steps.{Asks}
 use Rattle.art_steps.specs.Rows.{Setting}
 use Rattle.art_steps.specs.Scan.{bytes_of, has_row}
+use Rattle.art_steps.proofs.TurnLemmas.{loads-same}
 use Rattle.art_stages.specs.declared.stage.Held.{Held}
 use Rattle.art_stages.specs.declared.stage.Entry.TheVariants.{Root, Below}
 use Rattle.art_stages.specs.declared.stage.Frame.{Frame}
@@ -36,24 +37,7 @@ use Rattle.art_versions.proofs.moments.AttemptLemmas.{stage, Loads, IsSettledWor
 use Rattle.art_versions.proofs.moments.AttemptLemmas.{covers-more}
 use Rattle.art_versions.proofs.moments.AttemptLemmas.{walks-on, no-check}
 use Rattle.art_versions.proofs.moments.WalkLemmas.{resumed, listed}
-
-load-same : {a b : ℕ} {m l : Option Point} → Asks (Load a) m ≡ Asks (Load b) l → (a ≡ b) × (m ≡ l)
-load-same e = (cc, cc)
-
-some-words : (kind : Kind) → 7 ≤ row_words kind
-some-words Four = omega arith
-some-words Sixteen = omega arith
-some-words FortyEight = omega arith
-some-words Full = omega arith
-
-among-front : (n : Held) (xs ys : List Held) → IsAmong n xs → IsAmong n (xs ++ ys)
-among-front n [] ys a = absurd a
-among-front n (x ∷ xs) ys (inl e) = inl e
-among-front n (x ∷ xs) ys (inr a) = inr (among-front n xs ys a)
-
-among-last : (n : Held) (xs : List Held) → IsAmong n (xs ++ n ∷ [])
-among-last n [] = inl refl
-among-last n (x ∷ xs) = inr (among-last n xs)
+use Rattle.art_versions.proofs.versions.KnownLemmas.{among-front, among-last, found-row}
 
 among-cases : (n m : Held) (xs : List Held) → IsAmong n (xs ++ m ∷ []) → IsAmong n xs ⊎ (n ≡ m)
 among-cases n m [] (inl e) = inr e
@@ -63,15 +47,6 @@ among-cases n m (x ∷ xs) (inr a) = elim (among-cases n m xs a) [
   | inl b ↦ inl (inr b)
   | inr e ↦ inr e
 ]
-
-found-row : (base : ℕ) (rows : List Held) → has_row base (map row_at rows) ≡ true → (n : Held) × IsAmong n rows × (n.base ≡ base)
-found-row base [] h = absurd (false≢true h)
-found-row base (n ∷ rows) h = go (n.base == base) refl h (found-row base rows)
-  where
-    go : (b : Bool) → (n.base == base) ≡ b → (if b then true else has_row base (map row_at rows)) ≡ true
-        → (has_row base (map row_at rows) ≡ true → (m : Held) × IsAmong m rows × (m.base ≡ base)) → (m : Held) × IsAmong m (n ∷ rows) × (m.base ≡ base)
-    go true e k later = (n, inl refl, number_is n.base base e)
-    go false e k later = let r = later k in (r.0, inr r.1, r.2)
 
 module _ (s : Shape) (some : 1 ≤ s.rows256) (lo hi : ℕ) where
   abbrev c : Setting
@@ -160,7 +135,7 @@ module _ (s : Shape) (some : 1 ≤ s.rows256) (lo hi : ℕ) where
   pub reads-on : (a : List ℕ) (w : ℕ) (rows : List Held) (base : ℕ) (kind : Kind) (x : ℕ) → Reading a rows → In rows base kind
       → scan_turn c (stage s lo hi a) ≡ Asks (Load x) None → base ≤ x → x < base + row_words kind → Reading (a ++ w ∷ []) rows
   reads-on a w rows base kind x h p turn low high = walks-on s lo hi a w rows h (λ word mark e settled.
-      let same = load-same (sym turn ∙ e) in (
+      let same = loads-same (sym turn ∙ e) in (
         λ check. no-check s lo hi (same.1 ∙ check),
         (p.0, p.1, omega (arith, low, p.2, same.0), omega (arith, high, same.0, p.2, ap row_words p.3)),
       ))
@@ -170,7 +145,7 @@ module _ (s : Shape) (some : 1 ≤ s.rows256) (lo hi : ℕ) where
       → scan_turn c (stage s lo hi a) ≡ Asks (Load base) None → Reading (a ++ w ∷ []) rows
   waits-on a w rows base kind h row locked turn = walks-on s lo hi a w rows h (λ word mark e settled.
       absurd (elim settled [
-        | inl none ↦ none-some kind (sym none ∙ (ap (kind_at s) (sym (load-same (sym turn ∙ e)).0) ∙ row))
+        | inl none ↦ none-some kind (sym none ∙ (ap (kind_at s) (sym (loads-same (sym turn ∙ e)).0) ∙ row))
         | inr free ↦ false≢true (sym free ∙ locked)
       ]))
 
@@ -187,7 +162,7 @@ module _ (s : Shape) (some : 1 ≤ s.rows256) (lo hi : ℕ) where
           let k = h.covers i word mark old (subst (IsSettledWord s lo hi word) (index-more i a n.kept old.made) settled) in
           (k.0, wider i word (covers-more s lo hi a n.kept rows i word k.1))
       | inr last ↦
-          let same = load-same (sym turn ∙ last.1) in (
+          let same = loads-same (sym turn ∙ last.1) in (
             λ check. no-check s lo hi (same.1 ∙ check),
             record {
               row = n;
@@ -196,7 +171,7 @@ module _ (s : Shape) (some : 1 ≤ s.rows256) (lo hi : ℕ) where
               entered = entered;
               no_later = omega (arith, last.0);
               from = omega (arith, same.0);
-              below = omega (arith, same.0, some-words n.kind);
+              below = omega (arith, same.0, seven-words n.kind);
             },
           )
     ];
@@ -289,7 +264,7 @@ module _ (s : Shape) (some : 1 ≤ s.rows256) (lo hi : ℕ) where
       same-turn = ap (λ l. scan_turn c (stage s lo hi l)) (sym is) ∙ turn
 
       info-in : info_at base < base + row_words kind
-      info-in = omega (arith, some-words kind)
+      info-in = omega (arith, seven-words kind)
 
       go : (b : Bool) → has_row base (map row_at w.rows) ≡ b
           → StandsAt (a ++ word ∷ []) (visit_list c lo hi n (if b then w else wider) (bytes_of lo hi (row_at n)))
@@ -297,7 +272,7 @@ module _ (s : Shape) (some : 1 ≤ s.rows256) (lo hi : ℕ) where
           let m = found-row base w.rows e in
           let kinds : m.0.kind ≡ kind = same_Some m.0.kind kind (sym (h.entered m.0 m.1).1.row ∙ (ap (kind_at s) m.2 ∙ row)) in
           let in-it : In w.rows base kind = (m.0, m.1, m.2, kinds) in
-          let one = reads-on prev kept w.rows base kind base h in-it waited (omega arith) (omega (arith, some-words kind)) in
+          let one = reads-on prev kept w.rows base kind base h in-it waited (omega arith) (omega (arith, seven-words kind)) in
           let two = reads-on (prev ++ kept ∷ []) word w.rows base kind (info_at base) one in-it same-turn (omega arith) info-in in
           lists (a ++ word ∷ []) w.rows (subst (λ l. Reading (l ++ word ∷ []) w.rows) (sym is) two) n w (bytes_of lo hi (row_at n)) refl in-it way
       go false e =
@@ -322,7 +297,7 @@ module _ (s : Shape) (some : 1 ≤ s.rows256) (lo hi : ℕ) where
         | inr r ↦ inr (r.0, r.1, r.2, r.3, r.4, index-more i a n.kept old.made ∙ r.5)
       ]
       | inr last ↦
-          let same = load-same (sym turn ∙ last.1) in
+          let same = loads-same (sym turn ∙ last.1) in
           inr (
             omega (arith, last.0, h.most),
             sym same.1,

@@ -4,6 +4,7 @@ use Rattle.std.specs.Prelude.{◌⊎◌, slice_get, slice_index, Option, Some, N
 use Rattle.std.proofs.lemmas.List.{length-append}
 use Rattle.std.proofs.lemmas.Bool.{cases_lt}
 use Rattle.std.proofs.lemmas.Option.{same_Some, none-some}
+use Rattle.std.proofs.Math.Seq.{take-length}
 use Rattle.events.specs.declared.event.Call.{Call}
 use Rattle.events.specs.declared.event.Event.TheVariants.{Invoke, Answer}
 use Rattle.events.specs.declared.event.Reply.{Reply}
@@ -50,15 +51,6 @@ pub take-more : (i : ℕ) (xs : List ℕ) (w : ℕ) → i ≤ length xs → take
 take-more zero xs w h = refl
 take-more (suc i) [] w h = absurd (omega (arith, h))
 take-more (suc i) (x ∷ xs) w h = ap (λ zs. x ∷ zs) (take-more i xs w (omega (arith, h)))
-
-pub take-whole : (xs : List ℕ) → take (length xs) xs ≡ xs
-take-whole [] = refl
-take-whole (x ∷ xs) = ap (λ zs. x ∷ zs) (take-whole xs)
-
-pub take-one-more : (i : ℕ) (xs : List ℕ) → i < length xs → take (suc i) xs ≡ take i xs ++ slice_index xs i ∷ []
-take-one-more i [] h = absurd (omega (arith, h))
-take-one-more zero (x ∷ xs) h = refl
-take-one-more (suc i) (x ∷ xs) h = ap (λ zs. x ∷ zs) (take-one-more i xs (omega (arith, h)))
 
 pub index-more : (i : ℕ) (xs : List ℕ) (w : ℕ) → i < length xs → slice_index (xs ++ w ∷ []) i ≡ slice_index xs i
 index-more i [] w h = absurd (omega (arith, h))
@@ -170,7 +162,7 @@ module _ (plan : Plan) (words schedule : List ℕ) (p : ℕ) where
             | inr last ↦
                 let at-end : i ≡ length w.got = omega (arith, last, less, long) in
                 let words-before : take i q.got ≡ w.got = ap (take i) got ∙ (take-more i w.got _ (omega (arith, at-end))
-                ∙ (ap (λ k. take k w.got) at-end ∙ take-whole w.got)) in
+                ∙ (ap (λ k. take k w.got) at-end ∙ take-length w.got)) in
                 record {
                   u = t;
                   before = omega arith;
@@ -243,5 +235,5 @@ module _ (plan : Plan) (first : State) (schedule : List ℕ) (p : ℕ) where
 
 pub words-were-got : WordsWereGot
 words-were-got plan words schedule s p q call i gives own is less =
-    was-got plan words schedule p (length schedule) (omega arith) s (ap (run_on plan (Some (opened_on plan words))) (take-whole schedule) ∙ gives) q own call is i
+    was-got plan words schedule p (length schedule) (omega arith) s (ap (run_on plan (Some (opened_on plan words))) (take-length schedule) ∙ gives) q own call is i
     less

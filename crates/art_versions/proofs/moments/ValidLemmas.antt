@@ -6,10 +6,9 @@ use Rattle.std.proofs.lemmas.Bool.{ne_eqb}
 use Rattle.events.specs.declared.event.Call.{Call}
 use Rattle.events.specs.declared.event.Call.TheVariants.{Scan}
 use Rattle.events.specs.declared.event.Reply.{Reply}
-use Rattle.art_rows.specs.declared.table.Kind.{Kind}
-use Rattle.art_rows.specs.declared.table.Kind.TheVariants.{Four, Sixteen, FortyEight, Full}
 use Rattle.art_rows.specs.Table.{row_words, kind_at}
 use Rattle.art_rows.specs.Words.{is_locked}
+use Rattle.art_rows.proofs.KindLemmas.{some-words}
 use Rattle.art_steps.specs.declared.variant.Variant.TheVariants.{Optimistic}
 use Rattle.art_steps.specs.declared.access.Point.{Point}
 use Rattle.art_steps.specs.declared.access.Point.TheVariants as point
@@ -29,12 +28,6 @@ use Rattle.art_versions.proofs.moments.ScanLemmas.{all-fold, all-append, AllStan
 
 pub free-unlocked : (v : ℕ) → v % 4 ≡ 0 → is_locked v ≡ false
 free-unlocked v e = ne_eqb ((v / 2) % 2) 1 (λ f. omega (arith, e, f))
-
-pub some-words : (kind : Kind) → 0 < row_words kind
-some-words Four = omega arith
-some-words Sixteen = omega arith
-some-words FortyEight = omega arith
-some-words Full = omega arith
 
 module _ (plan : Plan) (lo hi : ℕ) (v : plan.variant ≡ Optimistic) (some : 1 ≤ plan.shape.rows256) where
   abbrev call : Call

@@ -1,7 +1,7 @@
 -- Each access of an open call keeps rows and versions sound, and is steady.
 use Rattle.art_versions.specs.versions.Writers.{IsHeldBy, IsTakenBy, MayWrite, WritesOwn}
-use Rattle.std.proofs.Common.{◌≡◌, ◌≢◌, ℕ, ◌+◌, ◌*◌, ◌/◌, ◌%◌, ◌^◌, ◌<◌, ◌≤◌, List, [], length, refl, ap, sym, subst, ◌∙◌, inl, inr, arith, Bool}
-use Rattle.std.proofs.Common.{true, false, ne_eqb}
+use Rattle.std.proofs.Common.{◌≡◌, ◌≢◌, ℕ, ◌+◌, ◌*◌, ◌^◌, ◌<◌, ◌≤◌, List, [], length, refl, ap, sym, subst, ◌∙◌, inl, inr, arith, Bool}
+use Rattle.std.proofs.Common.{true, false}
 use Rattle.std.specs.Prelude.{◌⊎◌, slice_get, slice_index, slice_set, Some}
 use Rattle.std.proofs.lemmas.Bool.{cases_eq}
 use Rattle.std.proofs.lemmas.Option.{same_Some}
@@ -10,7 +10,11 @@ use Rattle.art_rows.specs.declared.table.Shape.{Shape}
 use Rattle.art_rows.specs.declared.table.Kind.{Kind}
 use Rattle.art_rows.specs.Table.{row_words, claims_of, kind_at}
 use Rattle.art_rows.specs.Words.{is_locked, locked_word, released_word, obsolete_word}
+use Rattle.art_rows.proofs.KindLemmas.{some-words, claims-few}
 use Rattle.art_serial.proofs.words.TableLemmas.{row_begins, row_ends, rows_apart}
+use Rattle.art_serial.proofs.writes.StoreLemmas.{stored-at}
+use Rattle.art_serial.proofs.serial.OrderlyLemmas.{set-here}
+use Rattle.art_serial.proofs.words.VersionLemmas.{even-free, taken-locked}
 use Rattle.art_steps.specs.declared.variant.Variant.{Variant}
 use Rattle.art_steps.specs.Rows.{Setting, locks}
 use Rattle.art_stages.specs.declared.stage.Held.{Held}
@@ -26,13 +30,9 @@ use Rattle.art_versions.proofs.versions.KeyLemmas.{slot-behind}
 use Rattle.art_versions.proofs.versions.KnownLemmas.{knows-more}
 use Rattle.art_versions.proofs.versions.WordFacts.{version-free}
 use Rattle.art_versions.proofs.versions.WithLemmas.{with-here, with-more, with-split, distinct-with, distinct-without}
-use Rattle.art_versions.proofs.versions.ChangeLemmas.{written, good-more, index-same, index-other, set-same, held-still, sound-now}
-use Rattle.art_versions.proofs.versions.MoveLemmas.{settled-row, some-words, claims-low, not-locked, true-false, differ}
+use Rattle.art_versions.proofs.versions.ChangeLemmas.{written, good-more, index-other, held-still, sound-now}
+use Rattle.art_versions.proofs.versions.MoveLemmas.{settled-row, true-false, differ}
 use Rattle.art_versions.proofs.versions.MoveLemmas as m
-use Rattle.art_versions.proofs.versions.MoveLemmas.{settled-row, some-words, claims-low, not-locked, differ}
-
-unlocked : (value : ℕ) → (value / 2) % 2 ≡ 0 → is_locked value ≡ false
-unlocked value e = ne_eqb ((value / 2) % 2) 1 (λ f. omega (arith, e, f))
 
 module _ (variant : Variant) (shape : Shape) (n : ℕ) (s : State) (h : IsSound variant shape n s) (few : n < 2 ^ 62) (p : ℕ) (q : Process) (here : slice_get s.processes p ≡ Some q)
     (call : Call) (is-open : q.call ≡ Some call) where
@@ -139,7 +139,7 @@ module _ (variant : Variant) (shape : Shape) (n : ℕ) (s : State) (h : IsSound 
 
   -- a row that it holds is locked
   pub is-locked : (x : Held) → IsAmong x (holds c place) → IsKept l P x → is_locked (slice_index s.words x.base) ≡ true
-  is-locked x a k = ap is_locked (h.locked p call q opens x a) ∙ not-locked x.kept (version-free l x.kept k.0)
+  is-locked x a k = ap is_locked (h.locked p call q opens x a) ∙ taken-locked x.kept (version-free l x.kept k.0)
 
   -- versions are small
   version-small : (x : Held) → IsKept l P x → slice_index s.words x.base ≤ 3 * n
@@ -161,13 +161,13 @@ module _ (variant : Variant) (shape : Shape) (n : ℕ) (s : State) (h : IsSound 
     inside = omega (arith, row_ends shape x.base x.kind row, some-words x.kind, h.long)
 
     version : then-at x.base ≡ value
-    version = index-same s.words x.base value inside
+    version = stored-at s.words x.base value inside
 
     elsewhere : (y : ℕ) → y ≢ x.base → then-at y ≡ slice_index s.words y
     elsewhere y e = index-other s.words x.base value y e
 
     claims-same : (kind : Kind) → then-at (claims_of kind) ≡ slice_index s.words (claims_of kind)
-    claims-same kind = elsewhere (claims_of kind) (differ (claims_of kind) x.base (omega (arith, row_begins shape x.base x.kind row, claims-low kind)))
+    claims-same kind = elsewhere (claims_of kind) (differ (claims_of kind) x.base (omega (arith, row_begins shape x.base x.kind row, claims-few kind)))
 
     versions-few : (base : ℕ) (kind : Kind) → kind_at shape base ≡ Some kind → then-at base ≤ 3 * (n + 1)
     versions-few base kind e = elim (cases_eq base x.base) [
@@ -260,7 +260,7 @@ module _ (variant : Variant) (shape : Shape) (n : ℕ) (s : State) (h : IsSound 
             holder = p;
             call = call;
             process = q';
-            is_open = record { own = set-same s.processes p q q' here; is_open = its };
+            is_open = record { own = set-here s.processes p q q' here; is_open = its };
             row = x;
             among = subst (IsAmong x) (sym has.1) (held (ap is_locked (sym (ap then-at same ∙ version)) ∙ free));
             is = sym same;
@@ -300,7 +300,7 @@ module _ (variant : Variant) (shape : Shape) (n : ℕ) (s : State) (h : IsSound 
           holder = p;
           call = call;
           process = q';
-          is_open = record { own = set-same s.processes p q q' here; is_open = its };
+          is_open = record { own = set-here s.processes p q q' here; is_open = its };
           row = x;
           among = subst (IsAmong x) (sym (has (λ y a. held-apart p call q opens y a)).1) (with-here x (holds c place) all with);
           is = refl;
@@ -374,8 +374,8 @@ module _ (variant : Variant) (shape : Shape) (n : ℕ) (s : State) (h : IsSound 
 
       free : is_locked value ≡ false
       free = elim written [
-        | inl e ↦ unlocked value (omega (arith, is, e, version-small x k, few, version-free l x.kept k.0))
-        | inr e ↦ unlocked value (omega (arith, is, e, version-small x k, few, version-free l x.kept k.0))
+        | inl e ↦ even-free value (omega (arith, is, e, version-small x k, few, version-free l x.kept k.0))
+        | inr e ↦ even-free value (omega (arith, is, e, version-small x k, few, version-free l x.kept k.0))
       ]
 
       apart : (r : ℕ) (other : Call) (w : Process) → r ≢ p → IsOpen s r other w → (y z : Held) → IsAmong y rest

@@ -1,6 +1,6 @@
 -- What a call on a key of a full tree knows at its beginning and its end, behind FIND, and as it works on the rows that it holds.
 use Rattle.std.proofs.Common.{◌≡◌, ℕ, zero, suc, ◌+◌, ◌-◌, ◌<◌, List, [], ◌∷◌, refl, sym, subst, Bool, true, false, arith, inl}
-use Rattle.std.specs.Prelude.{if◌then◌else◌, ◌==◌, Option, Some, None}
+use Rattle.std.specs.Prelude.{◌==◌, Option, Some, None, if◌then◌else◌}
 use Rattle.events.specs.declared.event.Call.{Call}
 use Rattle.art_rows.specs.declared.table.Kind.{Kind}
 use Rattle.art_rows.specs.declared.table.Kind.TheVariants.{Four, Sixteen, FortyEight, Full}
@@ -8,6 +8,7 @@ use Rattle.art_rows.specs.declared.table.Shape.{Shape}
 use Rattle.art_rows.specs.Table.{capacity, kind_at, child_at, root_base}
 use Rattle.art_rows.specs.Words.{place_of, child_of}
 use Rattle.art_rows.proofs.WriterLemmas.{new_place-most}
+use Rattle.art_rows.proofs.ByteLemmas.{key_byte-small}
 use Rattle.art_steps.specs.Rows.{Setting, key_of, is_insert, locks, releases_early}
 use Rattle.art_stages.specs.declared.stage.Held.{Held}
 use Rattle.art_stages.specs.declared.stage.Keys.{Keys}
@@ -22,7 +23,7 @@ use Rattle.art_stages.specs.Stages.{row_at, held, count_in, keys_in, keys_among,
 use Rattle.art_stages.specs.Automaton.{start_at, moves_at, put_at, work_at, checked_at, among_at, words_at, find_at, release_at, keys_one}
 use Rattle.art_versions.specs.versions.Holding.{OfRows, Each, IsSlot, child_rows, row_filled, IsUnder, IsFound, HasPlace, FitsWork, IsKept, IsNamed, KnowsKey}
 use Rattle.art_versions.specs.versions.Holding.{rows_of_work, rows_found, FitsPlace, HasSlot, KnowsStage, kept_at_place}
-use Rattle.art_versions.proofs.versions.WordFacts.{place-fits, entry-fits, key_byte-small}
+use Rattle.art_versions.proofs.versions.WordFacts.{place-fits, entry-fits}
 use Rattle.art_steps.specs.declared.variant.Variant.{Variant}
 use Rattle.art_versions.specs.versions.Locking.{all_of, held_at_place, locks_of, rows_held, rows_of_hold}
 use Rattle.art_serial.proofs.words.KeyLemmas.{less}

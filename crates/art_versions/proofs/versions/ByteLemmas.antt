@@ -1,7 +1,8 @@
 -- Index words that a scan loads.
 use Rattle.std.proofs.Common.{◌≡◌, ℕ, zero, suc, ◌+◌, ◌/◌, ◌<◌, ◌≤◌, List, [], ◌∷◌, refl, ap, sym, subst, ◌∙◌, Bool, true, false, arith}
-use Rattle.std.specs.Prelude.{if◌then◌else◌, filter}
+use Rattle.std.specs.Prelude.{filter, if◌then◌else◌}
 use Rattle.art_serial.proofs.words.KeyLemmas.{number_is}
+use Rattle.art_serial.proofs.alone.DifferLemmas.{heads}
 use Rattle.art_steps.specs.Steps.{numbers}
 use Rattle.art_steps.specs.Rows.{Row}
 use Rattle.art_steps.specs.Scan.{can_lie, bytes_of}
@@ -22,10 +23,7 @@ filter-each p Q (y ∷ ys) h = go (p y) (filter-each p Q ys h.1)
     go true rest = (h.0, rest)
     go false rest = rest
 
-same-head : {x y : ℕ} {xs ys : List ℕ} → x ∷ xs ≡ y ∷ ys → x ≡ y
-same-head e = cc
-
-no-head : {x : ℕ} {xs : List ℕ} → [] ≡ x ∷ xs → ⊥
+pub no-head : {x : ℕ} {xs : List ℕ} → [] ≡ x ∷ xs → ⊥
 no-head e = cc
 
 filter-head : (p : ℕ → Bool) (ys : List ℕ) (x : ℕ) (xs : List ℕ) → filter p ys ≡ x ∷ xs → p x ≡ true
@@ -33,7 +31,7 @@ filter-head p [] x xs e = absurd (no-head e)
 filter-head p (y ∷ ys) x xs e = go (p y) refl e (filter-head p ys x xs)
   where
     go : (b : Bool) → p y ≡ b → (if b then y ∷ filter p ys else filter p ys) ≡ x ∷ xs → (filter p ys ≡ x ∷ xs → p x ≡ true) → p x ≡ true
-    go true is f rest = ap p (sym (same-head f)) ∙ is
+    go true is f rest = ap p (sym (heads f)) ∙ is
     go false is f rest = rest f
 
 first-each : (Q : ℕ → Type 0) (ys : List ℕ) (x : ℕ) (xs : List ℕ) → ys ≡ x ∷ xs → Each Q ys → Q x

@@ -2,11 +2,11 @@
 use Rattle.art_rows.specs.Table.{row_words}
 use Rattle.art_versions.specs.versions.Writers.{MayWrite, WritesOwn}
 use Rattle.std.proofs.Common.{◌≡◌, ◌≢◌, ℕ, zero, suc, ◌+◌, ◌*◌, ◌<◌, ◌≤◌, true, List, [], ◌∷◌, length, refl, ap, sym, subst, ◌∙◌, inl, inr, arith}
-use Rattle.std.proofs.Common.{get_or-set_other, get_or-set_same}
+use Rattle.std.proofs.Common.{get_or-set_other}
 use Rattle.std.specs.Prelude.{◌⊎◌, slice_get, slice_index, slice_set, Some}
 use Rattle.std.proofs.lemmas.List.{length-set}
 use Rattle.std.proofs.lemmas.Bool.{cases_eq}
-use Rattle.std.proofs.lemmas.Option.{same_Some, none-some}
+use Rattle.std.proofs.lemmas.Option.{same_Some}
 use Rattle.events.specs.declared.event.Call.{Call}
 use Rattle.art_rows.specs.declared.table.Shape.{Shape}
 use Rattle.art_rows.specs.declared.table.Kind.{Kind}
@@ -19,6 +19,8 @@ use Rattle.art_steps.specs.declared.variant.Variant.{Variant}
 use Rattle.art_core.specs.declared.process.Process.{Process}
 use Rattle.art_core.specs.Core.{State}
 use Rattle.art_core.proofs.HistoryLemmas.{changed-at}
+use Rattle.art_serial.proofs.writes.StoreLemmas.{stored-at}
+use Rattle.art_serial.proofs.serial.OrderlyLemmas.{set-here}
 use Rattle.art_versions.specs.versions.Holding.{OfRows, IsNamed, child_rows, Knows}
 use Rattle.art_versions.specs.versions.Effects.{IsGoodAt, IsAmong}
 use Rattle.art_versions.specs.versions.Versions.{IsOpen, stage_of, held_by, filled_by, IsClaimed, IsSettled, IsHeld, AreDistinct, IsSound}
@@ -30,16 +32,8 @@ pub good-more : (P Q : OfRows) (shape : Shape) → ((b : ℕ) (k : Kind) → P b
 good-more P Q shape more word value h base kind e slot =
     each-weaker (IsNamed P) (IsNamed Q) (λ m x. more m.0 m.1 x) (child_rows (child_of shape value)) (h base kind e slot)
 
-pub index-same : (words : List ℕ) (word value : ℕ) → word < length words → slice_index (slice_set words word value) word ≡ value
-index-same words word value h = get_or-set_same words word value 0 h
-
 pub index-other : (words : List ℕ) (word value x : ℕ) → x ≢ word → slice_index (slice_set words word value) x ≡ slice_index words x
 index-other words word value x h = get_or-set_other words word x value 0 h
-
-pub set-same : {A : Type 0} (xs : List A) (i : ℕ) (old new : A) → slice_get xs i ≡ Some old → slice_get (slice_set xs i new) i ≡ Some new
-set-same [] i old new h = absurd (none-some old h)
-set-same (x ∷ xs) zero old new h = refl
-set-same (x ∷ xs) (suc i) old new h = set-same xs i old new h
 
 pub set-other : {A : Type 0} (xs : List A) (i : ℕ) (new : A) (j : ℕ) → j ≢ i → slice_get (slice_set xs i new) j ≡ slice_get xs j
 set-other [] i new j h = refl
@@ -90,7 +84,7 @@ module _ (variant : Variant) (shape : Shape) (n : ℕ) (s : State) (h : IsSound 
           holder = p;
           call = x.call;
           process = q';
-          is_open = record { own = set-same s.processes p q q' here; is_open = more.0 };
+          is_open = record { own = set-here s.processes p q q' here; is_open = more.0 };
           row = x.row;
           among = more.1;
           is = x.is;
@@ -149,7 +143,7 @@ module _ (variant : Variant) (shape : Shape) (n : ℕ) (s : State) (h : IsSound 
       good-now : (x : ℕ) → IsGoodAt (IsSettled variant shape next) shape x (now x)
       good-now x = elim (cases_eq x word) [
         | inl same ↦ subst (λ y. IsGoodAt (IsSettled variant shape next) shape y (now y)) (sym same)
-            (subst (IsGoodAt (IsSettled variant shape next) shape word) (sym (index-same s.words word value k.within)) k.good)
+            (subst (IsGoodAt (IsSettled variant shape next) shape word) (sym (stored-at s.words word value k.within)) k.good)
         | inr other ↦ subst (IsGoodAt (IsSettled variant shape next) shape x) (sym (index-other s.words word value x other))
             (good-more (IsSettled variant shape s) (IsSettled variant shape next) shape settled-more x (slice_index s.words x) (h.children x))
       ]

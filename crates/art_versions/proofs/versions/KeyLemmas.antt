@@ -1,7 +1,7 @@
 -- What each access of a call on a key does, where both full trees do the same.
 use Rattle.std.proofs.Common.{◌≡◌, ℕ, zero, suc, ◌+◌, ◌-◌, ◌*◌, ◌<◌, ◌≤◌, List, [], ◌∷◌, ◌++◌, refl, ap, sym, subst, ◌∙◌, Bool, true, false, arith}
 use Rattle.std.proofs.Common.{inl, inr}
-use Rattle.std.specs.Prelude.{◌⊎◌, nat_lt, if◌then◌else◌, ◌==◌, slice_index, Option, Some, None}
+use Rattle.std.specs.Prelude.{◌⊎◌, nat_lt, ◌==◌, slice_index, Option, Some, None, if◌then◌else◌}
 use Rattle.events.specs.declared.event.Call.{Call}
 use Rattle.art_rows.specs.declared.table.Kind.{Kind}
 use Rattle.art_rows.specs.declared.table.Kind.TheVariants.{Four, Sixteen, FortyEight, Full}
@@ -11,6 +11,7 @@ use Rattle.art_rows.specs.declared.table.Child.TheVariants.{Row as ChildRow}
 use Rattle.art_rows.specs.Table.{capacity, kind_at, child_at, root_base, rows_of, base_of, info_at, keys_at, more_keys_at, index_at, count_at}
 use Rattle.art_rows.specs.Words.{entries_of, child_of, row_word, keys16_word, more_keys16_word}
 use Rattle.art_rows.proofs.WriterLemmas.{new_place-most}
+use Rattle.art_rows.proofs.ByteLemmas.{key_byte-small, keys4-few, keys16-few}
 use Rattle.art_serial.proofs.words.TableLemmas.{kind_at-base_of, rows_apart}
 use Rattle.art_serial.proofs.words.KeyLemmas.{less, not_less}
 use Rattle.art_steps.specs.Rows.{Setting, key_of, is_insert, locks, releases_early}
@@ -36,7 +37,7 @@ use Rattle.art_stages.specs.Calls.{OnKey}
 use Rattle.art_versions.specs.versions.Holding.{OfRows, Named, Each, IsSlot, child_rows, row_grown, HangsIn, IsCopied, FitsGrowing, IsKept, IsNamed, KnowsKey}
 use Rattle.art_versions.specs.versions.Holding.{FitsPlace, HasSlot, IsFound, kept_at_place, rows_found}
 use Rattle.art_versions.specs.versions.Effects.{IsAmong, With, IsBehindVersion, Has, Does, Reads, Writes, Fills, Ends, Releases, Claims, Answered}
-use Rattle.art_versions.proofs.versions.WordFacts.{keys4-most, keys16-most, entry-fits, child-good, new-leaf-rows, key_byte-small}
+use Rattle.art_versions.proofs.versions.WordFacts.{entry-fits, child-good, new-leaf-rows}
 use Rattle.art_versions.proofs.versions.AfterLemmas.{among, finds, released, moves, IsAt}
 use Rattle.art_stages.specs.declared.stage.Down.{Down}
 use Rattle.art_stages.specs.declared.stage.Finding.{Finding}
@@ -273,14 +274,14 @@ module _ (variant : Variant) (s : Shape) (call : Call) (P : OfRows) (is_row : (b
       let row = k.filled.0 in
       let behind : IsBehindVersion base Sixteen (info_at base) = (omega arith, omega arith) in
       Fills base Sixteen _ _ _ refl refl behind row (λ ob ok oe os. absurd (bare l s P base Sixteen (info_at base) row behind (λ x. omega (arith, x.2)) ob ok oe os))
-      (copies (growing old Four info was above slot keys base) 0 (count_in Four keys) k.kept k.fits tt (omega (arith, keys4-most keys.first)) row)
+      (copies (growing old Four info was above slot keys base) 0 (count_in Four keys) k.kept k.fits tt (omega (arith, keys4-few keys.first)) row)
   info-does old Sixteen info was above slot keys base k =
       let row = k.filled.0 in
       let behind : IsBehindVersion base FortyEight (info_at base) = (omega arith, omega arith) in
       Fills base FortyEight _ _ _ refl refl behind row
       (λ ob ok oe os. absurd (bare l s P base FortyEight (info_at base) row behind (λ x. omega (arith, x.2)) ob ok oe os))
       (copies (growing old Sixteen info was above slot keys base) 0 (count_in Sixteen keys) k.kept k.fits tt
-      (omega (arith, keys16-most keys.count keys.first keys.second)) row)
+      (omega (arith, keys16-few keys.count keys.first keys.second)) row)
   info-does old FortyEight info was above slot keys base k =
       let row = k.filled.0 in
       let behind : IsBehindVersion base Full (info_at base) = (omega arith, omega arith) in
@@ -374,7 +375,7 @@ module _ (variant : Variant) (s : Shape) (call : Call) (P : OfRows) (is_row : (b
       let g = growing old Four info was above slot keys base in
       let row = k.filled.0 in
       let at : IsSlot base Sixteen (child_at Sixteen base (place_in c g.hold g.keys)) =
-      (place_in c g.hold g.keys, omega (arith, new_place-most (byte_in c g.hold.row) (keys_in Four keys), keys4-most keys.first), refl) in
+      (place_in c g.hold g.keys, omega (arith, new_place-most (byte_in c g.hold.row) (keys_in Four keys), keys4-few keys.first), refl) in
       Fills base Sixteen _ _ _ refl refl (slot-behind base Sixteen _ at) row
       (λ ob ok oe os. child-good s P is_row (new_leaf call) (new-leaf-rows s P call))
       (record { kept = k.kept; known = tt; fits = (k.fits, tt, omega arith); filled = k.filled }, refl, refl)

@@ -1,7 +1,15 @@
 -- What a call knows stays known, and rows that it holds are rows that it knows.
-use Rattle.std.proofs.Common.{ℕ, List, [], ◌∷◌, sym, subst, Bool, true, false, inl, inr}
+use Rattle.std.proofs.Common.{ℕ, List, [], ◌∷◌, sym, subst, Bool, true, false, inl, inr, ◌++◌, refl, ◌≡◌, ◌∙◌, ap, if◌then◌else◌}
+use Rattle.std.specs.Prelude.{◌==◌, map}
+use Rattle.std.proofs.lemmas.Bool.{false≢true}
+use Rattle.std.proofs.lemmas.Option.{same_Some}
+use Rattle.events.specs.declared.event.Call.{Call}
 use Rattle.art_rows.specs.declared.table.Kind.{Kind}
 use Rattle.art_steps.specs.Rows.{Setting, is_insert, locks}
+use Rattle.art_steps.specs.Scan.{has_row}
+use Rattle.art_core.specs.declared.process.Process.{Process}
+use Rattle.art_core.specs.Core.{State}
+use Rattle.art_serial.proofs.words.KeyLemmas.{number_is}
 use Rattle.art_stages.specs.declared.stage.Held.{Held}
 use Rattle.art_stages.specs.declared.stage.Frame.{Frame}
 use Rattle.art_stages.specs.declared.stage.ScanStep.{ScanStep}
@@ -12,13 +20,14 @@ use Rattle.art_stages.specs.declared.stage.Stage.TheVariants.{PutKeys, PutMore, 
 use Rattle.art_stages.specs.declared.stage.Stage.TheVariants.{SpreadLoad, SpreadStore, GrowLeaf, GrowKeys, GrowCount, Hang, Obsolete, Unlock, Over}
 use Rattle.art_stages.specs.declared.stage.Position.{Position}
 use Rattle.art_stages.specs.declared.stage.Down.{Down}
-use Rattle.art_stages.specs.Stages.{held}
+use Rattle.art_stages.specs.Stages.{held, row_at}
 use Rattle.art_stages.specs.Scans.{Walk}
 use Rattle.art_stages.specs.Calls.{CallAt, OnKey, OnScan}
 use Rattle.art_versions.specs.versions.Locking.{all_of, locks_of, held_at_place, held_between, held_below, rows_held, scan_held}
 use Rattle.art_versions.specs.versions.Holding.{OfRows, Each, kept_at_place, kept_below, FitsFrame, FitsScan, IsKept, IsNamed, KnowsStage, Knows, holds}
 use Rattle.art_versions.specs.versions.Effects.{IsAmong}
 use Rattle.art_versions.proofs.versions.KeyLemmas.{each-weaker, each-split}
+use Rattle.art_versions.specs.versions.Versions.{IsOpen}
 use Rattle.art_stages.specs.declared.stage.ScanStep.TheVariants.{FirstKeys, Index, Release, SecondKeys}
 use Rattle.art_stages.specs.declared.stage.ScanStep.TheVariants as scan
 
@@ -127,3 +136,37 @@ module _ (P Q : OfRows) (c : Setting) (more : (b : ℕ) (k : Kind) → P b k →
     fits = fits-more (locks c.variant) at.step at.walk k.fits;
     way = frames at.walk.way k.way;
   }
+
+pub among-front : (n : Held) (xs ys : List Held) → IsAmong n xs → IsAmong n (xs ++ ys)
+among-front n [] ys a = absurd a
+among-front n (x ∷ xs) ys (inl e) = inl e
+among-front n (x ∷ xs) ys (inr a) = inr (among-front n xs ys a)
+
+pub among-last : (n : Held) (xs : List Held) → IsAmong n (xs ++ n ∷ [])
+among-last n [] = inl refl
+among-last n (x ∷ xs) = inr (among-last n xs)
+
+pub found-row : (base : ℕ) (rows : List Held) → has_row base (map row_at rows) ≡ true → (n : Held) × IsAmong n rows × (n.base ≡ base)
+found-row base [] h = absurd (false≢true h)
+found-row base (n ∷ rows) h = go (n.base == base) refl h (found-row base rows)
+  where
+    go : (b : Bool) → (n.base == base) ≡ b → (if b then true else has_row base (map row_at rows)) ≡ true
+        → (has_row base (map row_at rows) ≡ true → (m : Held) × IsAmong m rows × (m.base ≡ base)) → (m : Held) × IsAmong m (n ∷ rows) × (m.base ≡ base)
+    go true e k later = (n, inl refl, number_is n.base base e)
+    go false e k later = let r = later k in (r.0, inr r.1, r.2)
+
+pub each-among : (P : Held → Type 0) (hs : List Held) → ((h : Held) → IsAmong h hs → P h) → Each P hs
+each-among P [] f = tt
+each-among P (h ∷ hs) f = (f h (inl refl), each-among P hs (λ x a. f x (inr a)))
+
+pub each-map : {P Q : Held → Type 0} → ((x : Held) → P x → Q x) → (xs : List Held) → Each P xs → Each Q xs
+each-map f [] e = tt
+each-map f (x ∷ xs) e = (f x e.0, each-map f xs e.1)
+
+-- two open calls of a process are one
+pub same-process : (s : State) (p : ℕ) (call other : Call) (q w : Process) → IsOpen s p call q → IsOpen s p other w → q ≡ w
+same-process s p call other q w o x = same_Some q w (sym o.own ∙ x.own)
+
+pub same-call : (s : State) (p : ℕ) (call other : Call) (q w : Process) → IsOpen s p call q → IsOpen s p other w → call ≡ other
+same-call s p call other q w o x =
+    same_Some call other (sym o.is_open ∙ (ap (λ (y : Process). y.call) (same-process s p call other q w o x) ∙ x.is_open))

@@ -7,11 +7,11 @@ use Rattle.std.proofs.lemmas.Bool.{cases_eq, cases_lt}
 use Rattle.std.proofs.lemmas.Option.{same_Some, none-some, slice_get_within}
 use Rattle.list_laws.proofs.Lists.{slice_get-append_left, slice_get-middle}
 use Rattle.events.specs.declared.event.Call.{Call}
-use Rattle.events.specs.declared.event.Reply.{Reply}
 use Rattle.map_object.specs.MapObject.{Contents}
 use Rattle.art_rows.specs.declared.table.Kind.{Kind}
 use Rattle.art_rows.specs.Table.{rows_of, claims_of, kind_at}
 use Rattle.art_rows.specs.Words.{locked_word}
+use Rattle.art_rows.proofs.KindLemmas.{some-words}
 use Rattle.art_serial.proofs.words.TableLemmas.{rows_apart}
 use Rattle.art_steps.specs.declared.access.Access.{Access}
 use Rattle.art_steps.specs.declared.access.Access.TheVariants.{Load, Store, Exchange, Add}
@@ -20,6 +20,8 @@ use Rattle.art_steps.specs.Steps.{Turn, Asks, Answers}
 use Rattle.art_steps.specs.Rows.{Setting, locks}
 use Rattle.art_steps.specs.Act.{act}
 use Rattle.art_steps.specs.Fits.{word_of}
+use Rattle.art_steps.proofs.TurnLemmas.{load-store, load-exchange, store-exchange, exchange-store, add-store, add-exchange, store-word, exchanges-same}
+use Rattle.art_steps.proofs.TurnLemmas.{asks-same, asks-answers}
 use Rattle.art_stages.specs.declared.stage.Held.{Held}
 use Rattle.art_stages.specs.Stages.{setting}
 use Rattle.art_stages.specs.Calls.{CallAt, call_turn, call_after, call_begun}
@@ -39,7 +41,7 @@ use Rattle.art_versions.specs.versions.Laws.{IsFull}
 use Rattle.art_versions.proofs.versions.KnownLemmas.{held-is-kept}
 use Rattle.art_versions.proofs.versions.WordFacts.{version-free}
 use Rattle.art_versions.proofs.versions.WithLemmas.{with-here, with-more, with-split, distinct-without}
-use Rattle.art_versions.proofs.versions.MoveLemmas.{settled-row, some-words}
+use Rattle.art_versions.proofs.versions.MoveLemmas.{settled-row}
 use Rattle.art_versions.proofs.versions.StepLemmas.{after-more, does, next-turn, begun-idle, one-step}
 use Rattle.art_versions.proofs.versions.RunLemmas.{start-sound, idle-idle}
 
@@ -123,36 +125,6 @@ module _ (plan : Plan) (call : Call) where
     ];
   }
 
-load-store : {a b v : ℕ} {m l : Option Point} → Asks (Load a) m ≡ Asks (Store b v) l → ⊥
-load-store e = cc
-
-load-exchange : {a b v x : ℕ} {m l : Option Point} → Asks (Load a) m ≡ Asks (Exchange b v x) l → ⊥
-load-exchange e = cc
-
-store-store : {a b v x : ℕ} {m l : Option Point} → Asks (Store a v) m ≡ Asks (Store b x) l → a ≡ b
-store-store e = cc
-
-store-exchange : {a b v x y : ℕ} {m l : Option Point} → Asks (Store a v) m ≡ Asks (Exchange b x y) l → ⊥
-store-exchange e = cc
-
-exchange-store : {a b v x y : ℕ} {m l : Option Point} → Asks (Exchange a x y) m ≡ Asks (Store b v) l → ⊥
-exchange-store e = cc
-
-exchange-exchange : {a b v w x y : ℕ} {m l : Option Point} → Asks (Exchange a v x) m ≡ Asks (Exchange b w y) l → (a ≡ b) × (v ≡ w)
-exchange-exchange e = (cc, cc)
-
-add-store : {a b v : ℕ} {m l : Option Point} → Asks (Add a) m ≡ Asks (Store b v) l → ⊥
-add-store e = cc
-
-add-exchange : {a b x y : ℕ} {m l : Option Point} → Asks (Add a) m ≡ Asks (Exchange b x y) l → ⊥
-add-exchange e = cc
-
-same-asks : {a b : Access} {m l : Option Point} → Asks a m ≡ Asks b l → a ≡ b
-same-asks e = cc
-
-answers-asks : {a : Access} {m : Option Point} {r : Reply} → Asks a m ≡ Answers r → ⊥
-answers-asks e = cc
-
 module _ (plan : Plan) (n : ℕ) (s : State) (sound : IsSound plan.variant plan.shape n s) (p : ℕ) (q : Process) (call : Call) (opens : IsOpen s p call q)
     (k : AreLocked plan call q.got (held_by plan.variant plan.shape call q)) where
   abbrev c : Setting
@@ -180,7 +152,7 @@ module _ (plan : Plan) (n : ℕ) (s : State) (sound : IsSound plan.variant plan.
   stores : (b : ℕ) (kind : Kind) (word value : ℕ) (mark : Option Point) → call_turn c place ≡ Asks (Store word value) mark → IsBehindVersion b kind word
       → kind_at plan.shape b ≡ Some kind → AreLocked plan call (q.got ++ 0 ∷ []) (holds c place)
   stores b kind word value mark turn behind row = stay plan call q.got 0 (holds c place) k
-      (λ h a v m e. other h a (store-store (sym (turn-is (Asks (Store word value) mark) turn) ∙ e)))
+      (λ h a v m e. other h a (store-word (sym (turn-is (Asks (Store word value) mark) turn) ∙ e)))
       (λ base v m e f. store-exchange (sym (turn-is (Asks (Store word value) mark) turn) ∙ e))
     where
       other : (h : Held) → IsAmong h (holds c place) → word ≡ h.base → ⊥
@@ -190,21 +162,21 @@ module _ (plan : Plan) (n : ℕ) (s : State) (sound : IsSound plan.variant plan.
           omega (arith, same, one.0, behind.0)
 
   pub access : (a : Access) (mark : Option Point) → call_turn c place ≡ Asks a mark → Does P c place → After a
-  access a mark e (Reads word at turn after) = subst After (same-asks (sym turn ∙ e))
+  access a mark e (Reads word at turn after) = subst After (asks-same (sym turn ∙ e))
       (subst (AreLocked plan call (q.got ++ now (Load word) ∷ [])) (sym (after (now (Load word)) (sound.children word)).1)
       (stay plan call q.got (now (Load word)) (holds c place) k (λ h b v m f. load-store (sym (turn-is (Asks (Load word) at) turn) ∙ f))
       (λ base v m f g. load-exchange (sym (turn-is (Asks (Load word) at) turn) ∙ f))))
-  access a mark e (Writes x word value at turn among kept behind good after) = subst After (same-asks (sym turn ∙ e))
+  access a mark e (Writes x word value at turn among kept behind good after) = subst After (asks-same (sym turn ∙ e))
       (subst (AreLocked plan call (q.got ++ 0 ∷ [])) (sym after.1)
       (stores x.base x.kind word value at turn behind (settled-row plan.variant plan.shape s x.base x.kind kept.1)))
-  access a mark e (Fills b kind word value at turn filled behind row good after) = subst After (same-asks (sym turn ∙ e))
+  access a mark e (Fills b kind word value at turn filled behind row good after) = subst After (asks-same (sym turn ∙ e))
       (subst (AreLocked plan call (q.got ++ 0 ∷ [])) (sym after.1) (stores b kind word value at turn behind row))
-  access a mark e (Ends b kind word value at turn filled behind row good after) = subst After (same-asks (sym turn ∙ e))
+  access a mark e (Ends b kind word value at turn filled behind row good after) = subst After (asks-same (sym turn ∙ e))
       (subst (AreLocked plan call (q.got ++ 0 ∷ [])) (sym after.1) (stores b kind word value at turn behind row))
-  access a mark e (Releases x rest value at turn with none written kept after) = subst After (same-asks (sym turn ∙ e))
+  access a mark e (Releases x rest value at turn with none written kept after) = subst After (asks-same (sym turn ∙ e))
       (subst (AreLocked plan call (q.got ++ 0 ∷ [])) (sym after.1) (record {
         locked = λ h b. more plan call q.got 0 h.base h.kept (k.locked h (with-more x rest (holds c place) h with b))
-            (λ v m f. apart h b (store-store (sym (turn-is (Asks (Store x.base value) at) turn) ∙ f)));
+            (λ v m f. apart h b (store-word (sym (turn-is (Asks (Store x.base value) at) turn) ∙ f)));
         held = λ base v y. elim (less plan call q.got 0 base v y) [
           | inl t ↦ still base v t.1 (k.held base v t.0)
           | inr t ↦ absurd (store-exchange (sym (turn-is (Asks (Store x.base value) at) turn) ∙ t.1))
@@ -221,13 +193,13 @@ module _ (plan : Plan) (n : ℕ) (s : State) (sound : IsSound plan.variant plan.
             ∙ ap (λ b. Asks (Store b value) at) (ap (λ z. z.base) (sym same) ∙ y.2)))
         | inr b ↦ (y.0, b, y.2, y.3)
       ]
-  access a mark e (Takes x all at turn with none kept taken other) = subst After (same-asks (sym turn ∙ e))
+  access a mark e (Takes x all at turn with none kept taken other) = subst After (asks-same (sym turn ∙ e))
       (elim (cases_eq (slice_index s.words x.base) x.kept) [
         | inl same ↦ subst (λ w. AreLocked plan call (q.got ++ w ∷ []) (holds c (call_after c place w))) (sym same)
             (subst (AreLocked plan call (q.got ++ x.kept ∷ [])) (sym (taken (λ y b f. locked-apart y b same f)).1) takes)
         | inr differs ↦ subst (AreLocked plan call (q.got ++ slice_index s.words x.base ∷ [])) (sym (other (slice_index s.words x.base) differs).1)
             (stay plan call q.got (slice_index s.words x.base) (holds c place) k (λ h b v m f. exchange-store (sym its ∙ f))
-            (λ base v m f g. differs (g ∙ sym (exchange-exchange (sym its ∙ f)).1)))
+            (λ base v m f g. differs (g ∙ sym (exchanges-same (sym its ∙ f)).1)))
       ])
     where
       its : act plan.shape plan.variant call q.got ≡ Asks (Exchange x.base x.kept (locked_word x.kept)) at
@@ -253,10 +225,10 @@ module _ (plan : Plan) (n : ℕ) (s : State) (sound : IsSound plan.variant plan.
         ];
         held = λ base v y. elim (less plan call q.got x.kept base v y) [
           | inl t ↦ let z = k.held base v t.0 in (z.0, with-more x (holds c place) all z.0 with z.1, z.2, z.3)
-          | inr t ↦ let same = exchange-exchange (sym its ∙ t.1) in (x, with-here x (holds c place) all with, same.0, same.1)
+          | inr t ↦ let same = exchanges-same (sym its ∙ t.1) in (x, with-here x (holds c place) all with, same.0, same.1)
         ];
       }
-  access a mark e (Claims kind at turn none claimed full) = subst After (same-asks (sym turn ∙ e)) (elim (cases_lt value (rows_of plan.shape kind)) [
+  access a mark e (Claims kind at turn none claimed full) = subst After (asks-same (sym turn ∙ e)) (elim (cases_lt value (rows_of plan.shape kind)) [
     | inl low ↦ subst (AreLocked plan call (q.got ++ value ∷ [])) (sym (claimed value low).1) added
     | inr past ↦ subst (AreLocked plan call (q.got ++ value ∷ [])) (sym (full value past).1) added
   ])
@@ -267,7 +239,7 @@ module _ (plan : Plan) (n : ℕ) (s : State) (sound : IsSound plan.variant plan.
       added : AreLocked plan call (q.got ++ value ∷ []) (holds c place)
       added = stay plan call q.got value (holds c place) k (λ h b v m f. add-store (sym (turn-is (Asks (Add (claims_of kind)) at) turn) ∙ f))
           (λ base v m f g. add-exchange (sym (turn-is (Asks (Add (claims_of kind)) at) turn) ∙ f))
-  access a mark e (Answered reply turn none) = absurd (answers-asks (sym e ∙ turn))
+  access a mark e (Answered reply turn none) = absurd (asks-answers (sym e ∙ turn))
 
 -- in every open call
 abbrev pub Logged : Plan → State → Type 0

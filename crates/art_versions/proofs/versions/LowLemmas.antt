@@ -2,16 +2,17 @@
 use Rattle.art_versions.specs.versions.Writers.{MayWrite, WritesOwn}
 use Rattle.art_versions.proofs.versions.ChangeLemmas.{written}
 use Rattle.art_rows.specs.Table.{row_words}
-use Rattle.std.proofs.Common.{◌≡◌, ◌≢◌, ℕ, ◌+◌, ◌*◌, ◌^◌, ◌<◌, ◌≤◌, List, [], ◌∷◌, length, refl, ap, sym, subst, ◌∙◌, inl, inr, arith}
+use Rattle.std.proofs.Common.{◌≡◌, ◌≢◌, ℕ, ◌+◌, ◌*◌, ◌^◌, ◌<◌, ◌≤◌, List, [], ◌∷◌, length, ap, sym, subst, ◌∙◌, inl, inr, arith}
 use Rattle.std.specs.Prelude.{◌⊎◌, slice_get, slice_index, slice_set, Some}
 use Rattle.std.proofs.lemmas.Bool.{cases_eq}
 use Rattle.std.proofs.lemmas.Option.{same_Some}
 use Rattle.events.specs.declared.event.Call.{Call}
 use Rattle.art_rows.specs.declared.table.Shape.{Shape}
 use Rattle.art_rows.specs.declared.table.Kind.{Kind}
-use Rattle.art_rows.specs.declared.table.Kind.TheVariants.{Four, Sixteen, FortyEight, Full}
+use Rattle.art_rows.specs.declared.table.Kind.TheVariants.{Full}
 use Rattle.art_rows.specs.Table.{rows_of, claims_of, base_of, root_base, kind_at}
 use Rattle.art_rows.specs.Words.{is_locked}
+use Rattle.art_rows.proofs.KindLemmas.{claims-few}
 use Rattle.art_serial.proofs.words.TableLemmas.{row_begins, base_of-once}
 use Rattle.art_stages.specs.declared.stage.Held.{Held}
 use Rattle.art_stages.specs.Stages.{setting}
@@ -25,35 +26,17 @@ use Rattle.art_versions.specs.versions.Versions.{IsOpen, stage_of, held_by, fill
 use Rattle.art_versions.specs.versions.Steady.{IsSteady}
 use Rattle.art_versions.proofs.versions.KeyLemmas.{slot-behind}
 use Rattle.art_versions.proofs.versions.KnownLemmas.{knows-more, held-is-kept}
-use Rattle.art_versions.proofs.versions.ChangeLemmas.{index-same, index-other, held-still, Claims, settled-more, sound-now}
-use Rattle.art_versions.proofs.versions.MoveLemmas.{settled-row, claims-low, no-items, differ-from}
+use Rattle.art_versions.proofs.versions.ChangeLemmas.{index-other, held-still, Claims, settled-more, sound-now}
+use Rattle.art_versions.proofs.versions.MoveLemmas.{settled-row, no-items, differ-from}
 use Rattle.art_serial.proofs.words.KeyLemmas.{less}
+use Rattle.art_serial.proofs.writes.StoreLemmas.{stored-at}
 use Rattle.art_versions.proofs.versions.MoveLemmas as m
-use Rattle.art_versions.proofs.versions.MoveLemmas.{settled-row, claims-low, no-items, differ-from}
 
-first-item : {x y : Named} → ◌≡◌ {A = List Named} (x ∷ []) (y ∷ []) → x ≡ y
+pub first-item : {x y : Named} → ◌≡◌ {A = List Named} (x ∷ []) (y ∷ []) → x ≡ y
 first-item e = cc
 
 same-item : {b d : ℕ} {k l : Kind} → ◌≡◌ {A = List Named} ((b, k) ∷ []) ((d, l) ∷ []) → (b ≡ d) × (k ≡ l)
 same-item e = let same = first-item e in (ap (λ x. x.0) same, ap (λ x. x.1) same)
-
-same-claims : (a b : Kind) → claims_of a ≡ claims_of b → a ≡ b
-same-claims Four Four e = refl
-same-claims Four Sixteen e = absurd (omega (arith, e))
-same-claims Four FortyEight e = absurd (omega (arith, e))
-same-claims Four Full e = absurd (omega (arith, e))
-same-claims Sixteen Four e = absurd (omega (arith, e))
-same-claims Sixteen Sixteen e = refl
-same-claims Sixteen FortyEight e = absurd (omega (arith, e))
-same-claims Sixteen Full e = absurd (omega (arith, e))
-same-claims FortyEight Four e = absurd (omega (arith, e))
-same-claims FortyEight Sixteen e = absurd (omega (arith, e))
-same-claims FortyEight FortyEight e = refl
-same-claims FortyEight Full e = absurd (omega (arith, e))
-same-claims Full Four e = absurd (omega (arith, e))
-same-claims Full Sixteen e = absurd (omega (arith, e))
-same-claims Full FortyEight e = absurd (omega (arith, e))
-same-claims Full Full e = refl
 
 module _ (variant : Variant) (shape : Shape) (n : ℕ) (s : State) (h : IsSound variant shape n s) (few : n < 2 ^ 62) (p : ℕ) (q : Process) (here : slice_get s.processes p ≡ Some q) where
   held-row : (r : ℕ) (other : Call) (w : Process) → IsOpen s r other w → (x : Held) → IsAmong x (held_by variant shape other w)
@@ -147,7 +130,7 @@ module _ (variant : Variant) (shape : Shape) (n : ℕ) (s : State) (h : IsSound 
     claim-rises : (other : Kind) → ((claims_of other ≡ claims_of kind) × (then-at (claims_of other) ≡ claimed + 1)) ⊎
         (then-at (claims_of other) ≡ slice_index s.words (claims_of other))
     claim-rises other = elim (cases_eq (claims_of other) (claims_of kind)) [
-      | inl e ↦ inl (e, ap then-at e ∙ (index-same s.words (claims_of kind) value (omega (arith, claims-low kind, h.long)) ∙ one))
+      | inl e ↦ inl (e, ap then-at e ∙ (stored-at s.words (claims_of kind) value (omega (arith, claims-few kind, h.long)) ∙ one))
       | inr e ↦ inr (index-other s.words (claims_of kind) value (claims_of other) e)
     ]
 
@@ -166,11 +149,11 @@ module _ (variant : Variant) (shape : Shape) (n : ℕ) (s : State) (h : IsSound 
     keeps-claim filled as-said has = (
       m.rows-stay variant shape n s h few p q here call is-open (claims_of kind) value q' its cl filled
           (knows-more (IsSettled variant shape s) (IsSettled variant shape after) (setting shape variant call) more (stage_of variant shape call q') has.0, has.1, has.2)
-          (within (claims_of kind) value (claims-low kind) q') (versions (claims_of kind) value (claims-low kind) q')
-          (no-slot (claims_of kind) value (claims-low kind) q' (IsSettled variant shape after))
-          (row-above (claims_of kind) value (claims-low kind) q'),
-      steady (claims_of kind) value (claims-low kind) q' cl.rise more,
-      written variant shape s p (claims_of kind) value (slice_set s.processes p q') (no-row (claims_of kind) value (claims-low kind) q'),
+          (within (claims_of kind) value (claims-few kind) q') (versions (claims_of kind) value (claims-few kind) q')
+          (no-slot (claims_of kind) value (claims-few kind) q' (IsSettled variant shape after))
+          (row-above (claims_of kind) value (claims-few kind) q'),
+      steady (claims_of kind) value (claims-few kind) q' cl.rise more,
+      written variant shape s p (claims_of kind) value (slice_set s.processes p q') (no-row (claims_of kind) value (claims-few kind) q'),
     )
       where
         its-row : (b : ℕ) (k : Kind) → filled_by variant shape call q' ≡ (b, k) ∷ []
@@ -184,7 +167,7 @@ module _ (variant : Variant) (shape : Shape) (n : ℕ) (s : State) (h : IsSound 
             → IsClaimed shape (slice_set s.words (claims_of kind) value) b k
         is-claimed b k x = subst (λ l. IsClaimed shape (slice_set s.words (claims_of kind) value) b l) (sym x.2) (record {
           number = claimed;
-          claimed = omega (arith, index-same s.words (claims_of kind) value (within (claims_of kind) value (claims-low kind) q'), one);
+          claimed = omega (arith, stored-at s.words (claims_of kind) value (within (claims_of kind) value (claims-few kind) q'), one);
           within = x.0;
           is = x.1;
         })

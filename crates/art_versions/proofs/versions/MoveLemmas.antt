@@ -1,16 +1,17 @@
 -- Each access of an open call keeps rows and versions sound.
-use Rattle.std.proofs.Common.{◌≡◌, ◌≢◌, ℕ, ◌+◌, ◌*◌, ◌/◌, ◌%◌, ◌^◌, ◌<◌, ◌≤◌, List, [], ◌∷◌, length, refl, ap, sym, subst, ◌∙◌, inl, inr, arith, true}
-use Rattle.std.proofs.Common.{false, eq-eqb}
+use Rattle.std.proofs.Common.{◌≡◌, ◌≢◌, ℕ, ◌+◌, ◌*◌, ◌^◌, ◌<◌, ◌≤◌, List, [], ◌∷◌, length, refl, ap, sym, subst, ◌∙◌, inl, inr, arith, true}
+use Rattle.std.proofs.Common.{false}
 use Rattle.std.specs.Prelude.{◌⊎◌, slice_get, slice_index, slice_set, Some}
 use Rattle.std.proofs.lemmas.Bool.{cases_eq}
 use Rattle.std.proofs.lemmas.Option.{same_Some}
 use Rattle.events.specs.declared.event.Call.{Call}
 use Rattle.art_rows.specs.declared.table.Shape.{Shape}
 use Rattle.art_rows.specs.declared.table.Kind.{Kind}
-use Rattle.art_rows.specs.declared.table.Kind.TheVariants.{Four, Sixteen, FortyEight, Full}
-use Rattle.art_rows.specs.Table.{row_words, claims_of, kind_at}
+use Rattle.art_rows.specs.Table.{claims_of, kind_at}
 use Rattle.art_rows.specs.Words.{is_locked}
+use Rattle.art_rows.proofs.KindLemmas.{some-words, claims-few}
 use Rattle.art_serial.proofs.words.TableLemmas.{kind_at-base_of, rows_apart}
+use Rattle.art_serial.proofs.writes.StoreLemmas.{stored-at}
 use Rattle.art_steps.specs.Rows.{Setting, locks}
 use Rattle.art_stages.specs.declared.stage.Held.{Held}
 use Rattle.art_stages.specs.Calls.{CallAt}
@@ -22,23 +23,11 @@ use Rattle.art_versions.specs.versions.Holding.{Named, IsKept, Knows, holds, fil
 use Rattle.art_versions.specs.versions.Effects.{IsGoodAt, IsAmong, IsBehindVersion, Has}
 use Rattle.art_versions.specs.versions.Versions.{IsOpen, stage_of, held_by, filled_by, IsClaimed, IsSettled, AreDistinct, IsSound}
 use Rattle.art_versions.proofs.versions.KnownLemmas.{held-is-kept}
-use Rattle.art_versions.proofs.versions.ChangeLemmas.{index-same, index-other, next, now, held-still, Claims, settled-more, sound-now}
+use Rattle.art_versions.proofs.versions.ChangeLemmas.{index-other, next, now, held-still, Claims, settled-more, sound-now}
 use Rattle.art_stages.proofs.BehindLemmas.{behind}
 
 pub settled-row : (variant : Variant) (shape : Shape) (s : State) (b : ℕ) (k : Kind) → IsSettled variant shape s b k → kind_at shape b ≡ Some k
 settled-row variant shape s b k x = ap (kind_at shape) x.claimed.is ∙ kind_at-base_of shape k x.claimed.number x.claimed.within
-
-pub some-words : (kind : Kind) → 0 < row_words kind
-some-words Four = omega arith
-some-words Sixteen = omega arith
-some-words FortyEight = omega arith
-some-words Full = omega arith
-
-pub claims-low : (kind : Kind) → claims_of kind < 5
-claims-low Four = omega arith
-claims-low Sixteen = omega arith
-claims-low FortyEight = omega arith
-claims-low Full = omega arith
 
 pub differ : (a b : ℕ) → a < b → a ≢ b
 differ a b h e = omega (arith, h, e)
@@ -48,9 +37,6 @@ differ-from a b h e = omega (arith, h, e)
 
 pub no-items : {b : ℕ} {k : Kind} → ◌≡◌ {A = List Named} [] ((b, k) ∷ []) → ⊥
 no-items e = cc
-
-pub not-locked : (v : ℕ) → (v / 2) % 2 ≡ 0 → is_locked (v + 2) ≡ true
-not-locked v e = eq-eqb (((v + 2) / 2) % 2) 1 (omega (arith, e))
 
 pub true-false : {b : _} → b ≡ true → b ≡ false → ⊥
 true-false e f = cc
@@ -89,7 +75,7 @@ module _ (variant : Variant) (shape : Shape) (n : ℕ) (s : State) (h : IsSound 
 
     pub stays : (x : ℕ) → (x ≡ word → value ≡ slice_index s.words word) → word < length s.words → at-now x ≡ slice_index s.words x
     stays x same within = elim (cases_eq x word) [
-      | inl e ↦ ap at-now e ∙ (index-same s.words word value within ∙ (same e ∙ ap (slice_index s.words) (sym e)))
+      | inl e ↦ ap at-now e ∙ (stored-at s.words word value within ∙ (same e ∙ ap (slice_index s.words) (sym e)))
       | inr e ↦ index-other s.words word value x e
     ]
 
@@ -162,4 +148,4 @@ module _ (variant : Variant) (shape : Shape) (n : ℕ) (s : State) (h : IsSound 
         omega (arith, same, one.0, behind.0)
 
     pub no-claim : 5 ≤ word → (kind : Kind) → claims_of kind ≢ word
-    no-claim low kind e = omega (arith, low, e, claims-low kind)
+    no-claim low kind e = omega (arith, low, e, claims-few kind)

@@ -7,6 +7,7 @@ use Rattle.std.proofs.lemmas.Option.{same_Some}
 use Rattle.map_object.specs.MapObject.{Contents}
 use Rattle.art_rows.specs.declared.table.Shape.{Shape}
 use Rattle.art_rows.specs.Words.{is_obsolete}
+use Rattle.art_rows.proofs.KindLemmas.{some-words}
 use Rattle.art_steps.specs.declared.variant.Variant.TheVariants.{Optimistic}
 use Rattle.art_stages.specs.Stages.{setting}
 use Rattle.art_core.specs.Core.{Plan, State, opened_on, step}
@@ -18,7 +19,7 @@ use Rattle.art_versions.specs.versions.Versions.{IsHeld, IsSettled, IsSound, sta
 use Rattle.art_versions.specs.versions.Steady.{IsSteady, ObsoleteStand}
 use Rattle.art_versions.specs.versions.Writers.{MayWrite, WritesOwn}
 use Rattle.art_versions.proofs.versions.KnownLemmas.{held-is-kept}
-use Rattle.art_versions.proofs.versions.MoveLemmas.{settled-row, some-words, true-false}
+use Rattle.art_versions.proofs.versions.MoveLemmas.{settled-row, true-false}
 use Rattle.art_versions.proofs.versions.StepLemmas.{one-step}
 use Rattle.art_versions.proofs.versions.RunLemmas.{start-sound, run-sound, later-part}
 

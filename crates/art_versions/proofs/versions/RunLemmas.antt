@@ -1,6 +1,6 @@
 -- Every run of a full tree keeps rows and versions sound, and is steady.
 use Rattle.art_versions.specs.versions.Writers.{WritesOwn}
-use Rattle.std.proofs.Common.{◌≡◌, ◌≢◌, ℕ, zero, suc, ◌+◌, ◌^◌, ◌<◌, ◌≤◌, true, List, [], ◌∷◌, ◌++◌, length, refl, ap, sym, subst, ◌∙◌, arith}
+use Rattle.std.proofs.Common.{◌≡◌, ◌≢◌, ℕ, ◌+◌, ◌^◌, ◌<◌, ◌≤◌, true, List, [], ◌∷◌, ◌++◌, length, refl, ap, sym, subst, ◌∙◌, arith}
 use Rattle.std.specs.Prelude.{slice_get, slice_index, slice_set, replicate, Option, Some, None}
 use Rattle.std.proofs.lemmas.List.{length-replicate, length-set, length-append}
 use Rattle.art_core.proofs.RunLemmas.{run-on-append}
@@ -12,7 +12,10 @@ use Rattle.art_rows.specs.declared.table.Kind.{Kind}
 use Rattle.art_rows.specs.declared.table.Kind.TheVariants.{Four, Sixteen, FortyEight, Full}
 use Rattle.art_rows.specs.Table.{opening, table_words, row_words, claims_of, root_base, kind_at}
 use Rattle.art_rows.specs.Words.{is_locked, child_of}
+use Rattle.art_rows.proofs.KindLemmas.{some-words}
 use Rattle.art_serial.proofs.words.TableLemmas.{kind_at-base_of, row_begins, rows_apart}
+use Rattle.art_serial.proofs.writes.StoreLemmas.{stored-at}
+use Rattle.art_serial.proofs.trees.Opening.{only-zeros}
 use Rattle.art_steps.specs.declared.variant.Variant.{Variant}
 use Rattle.art_core.specs.declared.process.Process.{Process}
 use Rattle.art_core.specs.Core.{Plan, State, move_from, opened, opened_on, step}
@@ -26,8 +29,8 @@ use Rattle.art_versions.specs.versions.Versions.{IsOpen, IsSettled, IsSound}
 use Rattle.art_versions.specs.versions.Laws.{IsFull}
 use Rattle.art_versions.specs.versions.Steady.{IsSteady}
 use Rattle.art_versions.proofs.versions.KeyLemmas.{slot-behind}
-use Rattle.art_versions.proofs.versions.ChangeLemmas.{index-other, index-same, good-more}
-use Rattle.art_versions.proofs.versions.MoveLemmas.{some-words, true-false, differ, differ-from}
+use Rattle.art_versions.proofs.versions.ChangeLemmas.{index-other, good-more}
+use Rattle.art_versions.proofs.versions.MoveLemmas.{true-false, differ, differ-from}
 use Rattle.art_versions.proofs.versions.StepLemmas.{one-step}
 
 pub steady-refl : (variant : Variant) (shape : Shape) (s : State) → IsSteady variant shape s s
@@ -66,11 +69,6 @@ run-sound variant full plan v root (p ∷ schedule) n first s few h e = go (step
 
 -- The opening state.
 
-all-zeros : (n x : ℕ) → slice_index (replicate n 0) x ≡ 0
-all-zeros zero x = refl
-all-zeros (suc n) zero = refl
-all-zeros (suc n) (suc x) = all-zeros n x
-
 long-enough : (n : ℕ) → 4 < n → 4 < length {A = ℕ} (replicate n 0)
 long-enough n h = subst (λ m. 4 < m) (sym (length-replicate {A = ℕ} n 0)) h
 
@@ -103,11 +101,11 @@ module _ (variant : Variant) (shape : Shape) (some : 1 ≤ shape.rows256) where
   pub zeros : (x : ℕ) → x ≢ 4 → x ≢ root + 1 → slice_index words x ≡ 0
   zeros x four info =
       index-other (slice_set (replicate (table_words shape) 0) 4 1) (root + 1) 3 x info
-      ∙ (index-other (replicate (table_words shape) 0) 4 1 x four ∙ all-zeros (table_words shape) x)
+      ∙ (index-other (replicate (table_words shape) 0) 4 1 x four ∙ only-zeros (table_words shape) x)
 
   pub one : slice_index words 4 ≡ 1
   one = index-other (slice_set (replicate (table_words shape) 0) 4 1) (root + 1) 3 4 (differ 4 (root + 1) (omega (arith, root-low)))
-      ∙ index-same (replicate (table_words shape) 0) 4 1 (long-enough (table_words shape) (omega arith))
+      ∙ stored-at (replicate (table_words shape) 0) 4 1 (long-enough (table_words shape) (omega arith))
 
   opening-claims : (kind : Kind) → slice_index words (claims_of kind) ≤ 1
   opening-claims Full = omega (arith, one)

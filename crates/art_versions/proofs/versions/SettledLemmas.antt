@@ -6,10 +6,12 @@ use Rattle.art_rows.specs.declared.table.Kind.{Kind}
 use Rattle.art_rows.specs.declared.table.Kind.TheVariants.{Four, Sixteen, FortyEight, Full}
 use Rattle.art_rows.specs.declared.table.Shape.{Shape}
 use Rattle.art_rows.specs.Table.{row_words, root_base, info_at, keys_at, more_keys_at, index_at, count_at}
+use Rattle.art_rows.proofs.KindLemmas.{seven-words}
 use Rattle.art_steps.specs.declared.access.Access.TheVariants.{Load}
 use Rattle.art_steps.specs.declared.access.Point.{Point}
 use Rattle.art_steps.specs.declared.access.Point.TheVariants as point
-use Rattle.art_steps.specs.Steps.{Asks, Answers}
+use Rattle.art_steps.specs.Steps.{Asks}
+use Rattle.art_steps.proofs.TurnLemmas.{loads-same, answers-asks}
 use Rattle.art_stages.specs.declared.stage.Held.{Held}
 use Rattle.art_stages.specs.declared.stage.Entry.TheVariants.{Root, Below}
 use Rattle.art_stages.specs.declared.stage.ScanStep.{ScanStep}
@@ -18,18 +20,6 @@ use Rattle.art_stages.specs.declared.stage.ScanStep.TheVariants.{Over}
 use Rattle.art_stages.specs.Scans.{Walk, ScanAt, at, scan_turn, keys_turn}
 use Rattle.art_versions.specs.versions.Holding.{optimistic, OfRows, KnowsScan}
 use Rattle.art_versions.proofs.versions.KeyLemmas.{slot-behind}
-
-load-same : {a b : ℕ} {m l : Option Point} → Asks (Load a) m ≡ Asks (Load b) l → (a ≡ b) × (m ≡ l)
-load-same e = (cc, cc)
-
-answers-load : {r : _} {b : ℕ} {l : Option Point} → Answers r ≡ Asks (Load b) l → ⊥
-answers-load e = cc
-
-some-words : (kind : Kind) → 7 ≤ row_words kind
-some-words Four = omega arith
-some-words Sixteen = omega arith
-some-words FortyEight = omega arith
-some-words Full = omega arith
 
 module _ (s : Shape) (call : Call) (P : OfRows) (root : P (root_base s) Full) where
   -- a row of P has the word
@@ -45,10 +35,10 @@ module _ (s : Shape) (call : Call) (P : OfRows) (root : P (root_base s) Full) wh
 
   keys-known : (kind : Kind) (n : Held) (word : ℕ) (mark : Option Point) → n.kind ≡ kind → P n.base n.kind → keys_turn kind n ≡ Asks (Load word) mark
       → IsInKnown word
-  keys-known Four n word mark k p e = in-row n.base n.kind (keys_at n.base) word p (load-same e).0 (omega arith) (omega (arith, some-words n.kind))
-  keys-known Sixteen n word mark k p e = in-row n.base n.kind (count_at Sixteen n.base) word p (load-same e).0 (omega arith) (omega (arith, some-words n.kind))
-  keys-known FortyEight n word mark k p e = in-row n.base n.kind (keys_at n.base) word p (load-same e).0 (omega arith) (omega (arith, some-words n.kind))
-  keys-known Full n word mark k p e = in-row n.base n.kind (keys_at n.base) word p (load-same e).0 (omega arith) (omega (arith, some-words n.kind))
+  keys-known Four n word mark k p e = in-row n.base n.kind (keys_at n.base) word p (loads-same e).0 (omega arith) (omega (arith, seven-words n.kind))
+  keys-known Sixteen n word mark k p e = in-row n.base n.kind (count_at Sixteen n.base) word p (loads-same e).0 (omega arith) (omega (arith, seven-words n.kind))
+  keys-known FortyEight n word mark k p e = in-row n.base n.kind (keys_at n.base) word p (loads-same e).0 (omega arith) (omega (arith, seven-words n.kind))
+  keys-known Full n word mark k p e = in-row n.base n.kind (keys_at n.base) word p (loads-same e).0 (omega arith) (omega (arith, seven-words n.kind))
 
   pub loads-known : (x : ScanAt) → KnowsScan P false x → (word : ℕ) (mark : Option Point) → scan_turn (optimistic s call) x ≡ Asks (Load word) mark
       → mark ≢ Some point.Check → IsInKnown word
@@ -57,17 +47,17 @@ module _ (s : Shape) (call : Call) (P : OfRows) (root : P (root_base s) Full) wh
       go : (step : ScanStep) (w : Walk) → KnowsScan P false (at step w) → scan_turn (optimistic s call) (at step w) ≡ Asks (Load word) mark → IsInKnown word
       go (Lock entry first) w k e = absurd k.fits
       go (Exchange entry v) w k e = absurd k.fits.0
-      go (Wait Root) w k e = in-row (root_base s) Full (root_base s) word root (load-same e).0 (omega arith) (omega arith)
-      go (Wait (Below base kind)) w k e = in-row base kind base word k.known.0 (load-same e).0 (omega arith) (omega (arith, some-words kind))
-      go (Info base kind kept) w k e = in-row base kind (info_at base) word k.known.0 (load-same e).0 (omega arith) (omega (arith, some-words kind))
+      go (Wait Root) w k e = in-row (root_base s) Full (root_base s) word root (loads-same e).0 (omega arith) (omega arith)
+      go (Wait (Below base kind)) w k e = in-row base kind base word k.known.0 (loads-same e).0 (omega arith) (omega (arith, seven-words kind))
+      go (Info base kind kept) w k e = in-row base kind (info_at base) word k.known.0 (loads-same e).0 (omega arith) (omega (arith, seven-words kind))
       go (Keys n) w k e = keys-known n.kind n word mark refl k.known.0 e
-      go (FirstKeys n count) w k e = in-row n.base n.kind (keys_at n.base) word k.known.0 (load-same e).0 (omega arith) (omega (arith, some-words n.kind))
+      go (FirstKeys n count) w k e = in-row n.base n.kind (keys_at n.base) word k.known.0 (loads-same e).0 (omega arith) (omega (arith, seven-words n.kind))
       go (SecondKeys n count first) w k e =
-          in-row n.base n.kind (more_keys_at n.base) word k.known.0 (load-same e).0 (omega arith) (omega (arith, some-words n.kind))
-      go (Index n j m) w k e = in-row n.base n.kind (index_at n.base (8 * j)) word k.known.0 (load-same e).0 (omega arith)
+          in-row n.base n.kind (more_keys_at n.base) word k.known.0 (loads-same e).0 (omega arith) (omega (arith, seven-words n.kind))
+      go (Index n j m) w k e = in-row n.base n.kind (index_at n.base (8 * j)) word k.known.0 (loads-same e).0 (omega arith)
           (subst (λ l. index_at n.base (8 * j) < n.base + row_words l) (sym k.fits.0) (omega (arith, k.fits.1)))
       go (LoadChild f slot) w k e =
           let behind = slot-behind f.row.base f.row.kind slot k.fits.1 in
-          in-row f.row.base f.row.kind slot word k.fits.0.0 (load-same e).0 (omega (arith, behind.0)) behind.1
-      go (Release n) w k e = absurd (no-check (sym (load-same e).1))
-      go Over w k e = absurd (answers-load e)
+          in-row f.row.base f.row.kind slot word k.fits.0.0 (loads-same e).0 (omega (arith, behind.0)) behind.1
+      go (Release n) w k e = absurd (no-check (sym (loads-same e).1))
+      go Over w k e = absurd (answers-asks e)

@@ -4,7 +4,7 @@ use Rattle.std.proofs.Common.{true, false}
 use Rattle.art_steps.specs.Rows.{locks}
 use Rattle.std.proofs.Common.{◌≡◌, ◌≢◌, ℕ, ◌+◌, ◌%◌, ◌^◌, ◌<◌, ◌≤◌, List, [], ◌∷◌, ◌++◌, length, refl, ap, sym, subst, ◌∙◌, inl, inr, arith, eq-eqb}
 use Rattle.std.proofs.Common.{ne_eqb}
-use Rattle.std.specs.Prelude.{Bool, if◌then◌else◌, slice_get, slice_index, slice_set, Option, Some, None}
+use Rattle.std.specs.Prelude.{Bool, slice_get, slice_index, slice_set, Option, Some, None, if◌then◌else◌}
 use Rattle.std.proofs.lemmas.List.{append-nil}
 use Rattle.std.proofs.lemmas.Bool.{cases_eq, cases_lt}
 use Rattle.std.proofs.lemmas.Option.{same_Some, none-some}
@@ -16,6 +16,7 @@ use Rattle.art_rows.specs.declared.table.Kind.{Kind}
 use Rattle.art_rows.specs.declared.table.Kind.TheVariants.{Four, Sixteen, FortyEight, Full}
 use Rattle.art_rows.specs.Table.{rows_of, claims_of, base_of, root_base, kind_at}
 use Rattle.art_rows.specs.Words.{locked_word}
+use Rattle.art_rows.proofs.KindLemmas.{claims-few}
 use Rattle.art_steps.specs.declared.variant.Variant.TheVariants.{Optimistic}
 use Rattle.art_steps.specs.declared.access.Access.{Access}
 use Rattle.art_steps.specs.declared.access.Access.TheVariants.{Load, Store, Exchange, Add}
@@ -45,6 +46,7 @@ use Rattle.art_versions.proofs.versions.OptimisticLemmas.{optimistic-own}
 use Rattle.art_versions.specs.versions.Laws.{IsFull}
 use Rattle.art_steps.specs.declared.variant.Variant.TheVariants.{Coupled}
 use Rattle.art_steps.specs.Rows.{is_insert}
+use Rattle.art_steps.proofs.TurnLemmas.{asks-same, asks-answers}
 use Rattle.art_stages.specs.Automaton.{start_at}
 use Rattle.art_stages.specs.Scans.{ScanAt, at, no_walk}
 use Rattle.art_stages.specs.declared.stage.Entry.TheVariants.{Root as EntryRoot}
@@ -52,7 +54,7 @@ use Rattle.art_stages.specs.declared.stage.ScanStep.TheVariants as scan
 use Rattle.art_versions.specs.versions.Locking.{locks_of, rows_held, scan_held}
 use Rattle.art_versions.specs.versions.Holding.{row_filled, KnowsStage, KnowsScan}
 use Rattle.art_versions.proofs.versions.ChangeLemmas.{whose, own-call, index-other}
-use Rattle.art_versions.proofs.versions.MoveLemmas.{settled-row, true-false, no-items, differ, claims-low}
+use Rattle.art_versions.proofs.versions.MoveLemmas.{settled-row, true-false, no-items, differ}
 use Rattle.art_versions.proofs.versions.AccessLemmas.{keeps-words, keeps-versions, is-locked, takes, releases}
 use Rattle.art_versions.proofs.versions.LowLemmas.{keeps-idle, keeps-claim}
 use Rattle.art_stages.specs.Stages.{setting}
@@ -86,12 +88,6 @@ pub next-turn : (variant : Variant) (shape : Shape) (call : Call) (q : Process)
 next-turn variant shape call q =
     ap (act shape variant call) (sym (append-nil q.got))
     ∙ (sym (behind (setting shape variant call) q.got []) ∙ call_next (setting shape variant call) (stage_of variant shape call q))
-
-asks-same : {a b : Access} {m l : Option Point} → Asks a m ≡ Asks b l → a ≡ b
-asks-same e = cc
-
-asks-answers : {a : Access} {m : Option Point} {r : Reply} → Asks a m ≡ Answers r → ⊥
-asks-answers e = cc
 
 module _ (variant : Variant) (shape : Shape) (root : 1 ≤ shape.rows256) (n : ℕ) (s : State) (h : IsSound variant shape n s) (few : n < 2 ^ 62) (p : ℕ) (q : Process)
     (here : slice_get s.processes p ≡ Some q) where
@@ -158,7 +154,7 @@ module _ (variant : Variant) (shape : Shape) (root : 1 ≤ shape.rows256) (n : �
 
         claims-same : slice_index (slice_set s.words word value) (claims_of k) ≡ slice_index s.words (claims_of k)
         claims-same = index-other s.words word value (claims_of k)
-            (differ (claims_of k) word (omega (arith, claims-low k, row_begins shape b k row, behind.0)))
+            (differ (claims_of k) word (omega (arith, claims-few k, row_begins shape b k row, behind.0)))
 
         unfilled : (r : ℕ) (o : Call) (w : Process) → IsOpen stored r o w → (d : ℕ) (l : Kind) → filled_by variant shape o w ≡ (d, l) ∷ [] → b ≢ d
         unfilled r o w open-then d l f same = elim (whose variant shape n s h p q here word value (later (Store word value)) r o w open-then) [

@@ -1,7 +1,7 @@
 -- Facts on counts, places and child words.
-use Rattle.std.proofs.Common.{◌≡◌, ℕ, zero, suc, ◌+◌, ◌*◌, ◌-◌, ◌/◌, ◌%◌, ◌^◌, ◌<◌, ◌≤◌, [], length, refl, ap, sym, subst, ◌∙◌, Bool, true, false}
+use Rattle.std.proofs.Common.{◌≡◌, ℕ, ◌+◌, ◌*◌, ◌-◌, ◌/◌, ◌%◌, ◌^◌, ◌<◌, ◌≤◌, [], length, refl, ap, sym, subst, ◌∙◌, Bool, true, false}
 use Rattle.std.proofs.Common.{arith}
-use Rattle.std.specs.Prelude.{nat_le, if◌then◌else◌, ◌==◌, slice_index, Some, None}
+use Rattle.std.specs.Prelude.{◌==◌, slice_index, Some, None, if◌then◌else◌}
 use Rattle.std.proofs.lemmas.Option.{none-some, same_Some}
 use Rattle.events.specs.declared.event.Call.{Call}
 use Rattle.events.specs.declared.event.Call.TheVariants.{Get, Insert, Remove, Scan, Replace}
@@ -11,33 +11,21 @@ use Rattle.art_rows.specs.declared.table.Shape.{Shape}
 use Rattle.art_rows.specs.declared.table.Child.{Child}
 use Rattle.art_rows.specs.declared.table.Child.TheVariants.{Empty, Row as ChildRow, Leaf}
 use Rattle.art_rows.specs.Table.{capacity, kind_at}
-use Rattle.art_rows.specs.Words.{is_locked, is_obsolete, keys4_of, keys16_of, count_of, entries_of, key_bytes, child_of, child_word, row_child}
+use Rattle.art_rows.specs.Words.{is_locked, is_obsolete, count_of, entries_of, child_of, child_word, row_child}
 use Rattle.art_rows.specs.Words.{leaf_word, row_word, place_of}
-use Rattle.art_rows.proofs.WriterLemmas.{length-keys4, length-keys16}
-use Rattle.art_rows.proofs.ReaderLemmas.{most_of}
-use Rattle.art_serial.proofs.words.KeyLemmas.{place-within}
+use Rattle.art_rows.proofs.ByteLemmas.{entries-most, place-within, keys4-few, keys16-few}
 use Rattle.art_steps.specs.Updates.{overwriting, new_leaf}
-use Rattle.art_steps.proofs.AccessLemmas.{entries-most}
+use Rattle.art_serial.proofs.words.WordLemmas.{row_as}
 use Rattle.art_stages.specs.declared.stage.Keys.{Keys}
 use Rattle.art_stages.specs.Stages.{count_in, keys_among}
 use Rattle.art_versions.specs.versions.Holding.{OfRows, Each, IsNamed, IsVersion, child_rows}
-
-pub keys4-most : (w : ℕ) → length (keys4_of w) ≤ 4
-keys4-most w = omega (arith, length-keys4 w, few (nat_le (w % 256) 4) refl)
-  where
-    few : (b : Bool) → nat_le (w % 256) 4 ≡ b → (if b then w % 256 else 0) ≤ 4
-    few true e = grind (arith, e)
-    few false e = omega arith
-
-pub keys16-most : (count first second : ℕ) → length (keys16_of count first second) ≤ 16
-keys16-most count first second = omega (arith, length-keys16 count first second, most_of count)
 
 count48-most : (w : ℕ) → count_of 48 w ≤ 48
 count48-most w = grind arith
 
 pub count-most : (kind : Kind) (keys : Keys) → count_in kind keys ≤ capacity kind
-count-most Four keys = keys4-most keys.first
-count-most Sixteen keys = keys16-most keys.count keys.first keys.second
+count-most Four keys = keys4-few keys.first
+count-most Sixteen keys = keys16-few keys.count keys.first keys.second
 count-most FortyEight keys = count48-most keys.count
 count-most Full keys = omega arith
 
@@ -49,8 +37,8 @@ full-not-less a b e l = grind arith
 
 -- where a key stands among the keys of a row
 pub among-most : (kind : Kind) (keys : Keys) → length (keys_among kind keys) ≤ capacity kind
-among-most Four keys = keys4-most keys.first
-among-most Sixteen keys = keys16-most keys.count keys.first keys.second
+among-most Four keys = keys4-few keys.first
+among-most Sixteen keys = keys16-few keys.count keys.first keys.second
 among-most FortyEight keys = omega arith
 among-most Full keys = omega arith
 
@@ -59,13 +47,6 @@ place-fits kind keys x i e = omega (arith, (place-within x (keys_among kind keys
 
 pub entry-fits : (w k : ℕ) → slice_index (entries_of w) k - 1 < 48
 entry-fits w k = omega (arith, entries-most w k)
-
-pub key_byte-small : (key i : ℕ) → slice_index (key_bytes key) i < 256
-key_byte-small key zero = omega arith
-key_byte-small key (suc zero) = omega arith
-key_byte-small key (suc (suc zero)) = omega arith
-key_byte-small key (suc (suc (suc zero))) = omega arith
-key_byte-small key (suc (suc (suc (suc i)))) = omega arith
 
 -- a version that WAIT keeps
 pub free-version : (v : ℕ) → is_locked v ≡ false → is_obsolete v ≡ false → v % 4 ≡ 0
@@ -77,9 +58,6 @@ version-free true v e = grind (arith, e)
 version-free false v e = omega (arith, e)
 
 -- child words
-
-row-read : (base : ℕ) → ((4 * base + 1) % 4 ≡ 1) × ((4 * base + 1) / 4 ≡ base)
-row-read base = (omega arith, omega arith)
 
 leaf-read : (key value : ℕ) → (key * 2 ^ 32 + value * 4 + 2) % 4 ≡ 2
 leaf-read key value = omega arith
@@ -99,7 +77,7 @@ module _ (s : Shape) where
 
   pub row-is : (base : ℕ) (kind : Kind) → kind_at s base ≡ Some kind → child_of s (row_word base) ≡ ChildRow base kind
   row-is base kind e =
-      let r = row-read base in
+      let r = row_as base in
       ap (λ n. if n == 1 then row_child ((4 * base + 1) / 4) (kind_at s ((4 * base + 1) / 4)) else
       (if n == 2 then Leaf ((4 * base + 1) / 4294967296) ((4 * base + 1) % 4294967296 / 4) else Empty)) r.0
       ∙ (ap (λ n. row_child n (kind_at s n)) r.1 ∙ ap (row_child base) e)
