@@ -4,4 +4,5 @@ pub mod FewLemmas
 pub mod FrontLemmas
 pub mod MomentLemmas
 pub mod RunCallLemmas
+pub mod ScriptLemmas
 pub mod TraceLemmas

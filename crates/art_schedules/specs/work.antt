@@ -3,5 +3,6 @@ pub mod Solo
 pub mod Own
 pub mod Follow
 pub mod Works
+pub mod Ways
 pub mod Finds
 pub mod Laws

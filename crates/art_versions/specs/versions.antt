@@ -5,6 +5,5 @@ pub mod Effects
 pub mod Versions
 pub mod Steady
 pub mod Writers
-pub mod Fresh
 pub mod Locks
 pub mod Laws

@@ -17,7 +17,8 @@ use Rattle.points.proofs.PointLemmas.{calls_by_point}
 use Rattle.points.proofs.WindowLemmas.{precedence_from_windows}
 use Rattle.art_core.specs.Core.{Plan, State, begun, history_of, opened_on}
 use Rattle.art_schedules.specs.calls.RunCalls.{IsIn, RunCall, IsWithin, EndsWith, IsRunCall, last_step, HasCalls}
-use Rattle.art_schedules.specs.calls.Effects.{IsStepOf, ChangesNothing, ChangesOnce, HasEffect, Changes, Finds, Pends, IsInCallAt, HaveEffects}
+use Rattle.art_schedules.specs.calls.Effects.{IsStepOf, ChangesNothing, ChangesOnce, Changes, Finds, Pends, IsInCallAt, HaveEffects}
+use Rattle.art_schedules.specs.calls.Effects.{HasOwnEffect}
 use Rattle.art_schedules.specs.calls.Laws.{EffectsGiveOrders, EffectsLeavePairs}
 use Rattle.art_schedules.proofs.calls.RunCallLemmas.{run-has-calls}
 
@@ -33,7 +34,8 @@ module _ (plan : Plan) (start : Contents) (first : State) (schedule : List ℕ) 
       (t < length schedule) × IsWithin c t
       × (((x : ChangesOnce schedule e.pairs e.changes a c) × (x.t ≡ t)) ⊎ (Leaves (e.pairs t) a (e.pairs t) × ChangesNothing schedule e.changes c))
 
-  point_of : (a : Operation) (c : RunCall) → IsRunCall plan first schedule a c → HasEffect schedule e.pairs e.changes a c → (o : Option ℕ) × IsPointOf a c o
+  point_of : (a : Operation) (c : RunCall) → IsRunCall plan first schedule a c → HasOwnEffect schedule e.pairs e.changes a c
+      → (o : Option ℕ) × IsPointOf a c o
   point_of a c is (Changes x) = (Some x.t, (slice_get_within schedule x.t c.process x.own.0, x.own.1, inl (x, refl)))
   point_of a c is (Pends pending nothing) = (None, (pending, nothing))
   point_of a c is (Finds x) = by_response a.response refl c.ends is.ends x.within.1

@@ -30,7 +30,7 @@ use Rattle.art_core.specs.Plans.{IsPlan, IsRun}
 use Rattle.art_core.proofs.HistoryLemmas.{IsLogged, calls-within, one-move, is-moved, one-step, nowhere, steps-rise, all_steps}
 use Rattle.art_core.proofs.HistoryLemmas.{opened-logged, start-length, start-clock}
 use Rattle.art_schedules.specs.calls.RunCalls.{IsIn, IsRunCall, HasCalls}
-use Rattle.art_schedules.specs.calls.Effects.{IsStepOf, ChangesOnce, HasEffect, Changes, Finds, Pends, HaveEffects}
+use Rattle.art_schedules.specs.calls.Effects.{IsStepOf, ChangesOnce, Changes, Finds, Pends, HaveEffects, HasOwnEffect}
 use Rattle.art_schedules.specs.calls.FewPairs.{ChangesIn, GrowByCalls, PairsStayFew, EffectsKeepFewPairs}
 use Rattle.art_schedules.proofs.calls.RunCallLemmas.{run-has-calls}
 
@@ -207,7 +207,8 @@ module _ (plan : Plan) (start : Contents) (first : State) (schedule : List ℕ) 
         → ChangesOnce schedule e.pairs e.changes c.operation (h.call_of c.n)
     changes-once p number c t own = go (e.each c.operation (h.call_of c.n) c.is)
       where
-        go : HasEffect schedule e.pairs e.changes c.operation (h.call_of c.n) → ChangesOnce schedule e.pairs e.changes c.operation (h.call_of c.n)
+        go : HasOwnEffect schedule e.pairs e.changes c.operation (h.call_of c.n)
+            → ChangesOnce schedule e.pairs e.changes c.operation (h.call_of c.n)
         go (Changes x) = x
         go (Finds x) = absurd (false≢true (sym (x.nothing t (its-step e.changes p number c t own)) ∙ own.change))
         go (Pends pending nothing) = absurd (false≢true (sym (nothing t (its-step e.changes p number c t own)) ∙ own.change))

@@ -10,7 +10,7 @@ use Rattle.art_rows.specs.Table.{row_words, rows_of, table_words, base_of, kind_
 use Rattle.art_serial.proofs.words.TableLemmas.{kind_at-base_of, row_begins, row_ends, rows_apart}
 use Rattle.art_serial.proofs.writes.GrowSixteenLemmas.{entry-at}
 use Rattle.art_steps.specs.Steps.{numbers}
-use Rattle.art_versions.specs.versions.Steady.{SameRow}
+use Rattle.art_versions.specs.versions.Steady.{SameWords}
 use Rattle.art_schedules.specs.calm.Calm.{is_busy, lies_at, lies_below, is_of_busy_row, calm_after}
 
 as-many : (f : ℕ → ℕ) (first n : ℕ) → length (map f (numbers first n)) ≡ n
@@ -109,12 +109,12 @@ module _ (shape : Shape) (calm later : List ℕ) where
 
   -- and so are those of a row that is not busy;
   pub after-free : (base : ℕ) (kind : Kind) → kind_at shape base ≡ Some kind → is_busy (slice_index later base) ≡ false
-      → SameRow later (calm_after shape calm later) base kind
+      → SameWords later (calm_after shape calm later) base kind
   after-free base kind row free word low high = at-false word (of-free shape later word base kind row low high free)
 
   -- those of a busy row are calm's;
   pub after-busy : table_words shape ≤ length later → (base : ℕ) (kind : Kind) → kind_at shape base ≡ Some kind → is_busy (slice_index later base) ≡ true
-      → SameRow calm (calm_after shape calm later) base kind
+      → SameWords calm (calm_after shape calm later) base kind
   after-busy long base kind row busy word low high =
       after-at word (omega (arith, row_ends shape base kind row, long, high)) ∙ ap (chosen word) (of-busy shape later word base kind row low high busy)
 

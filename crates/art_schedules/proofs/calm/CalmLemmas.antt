@@ -7,12 +7,14 @@ use Rattle.std.proofs.lemmas.List.Elements.{All-from_get_or}
 use Rattle.events.specs.declared.event.Call.{Call}
 use Rattle.art_rows.specs.declared.table.Shape.{Shape}
 use Rattle.art_rows.specs.declared.table.Kind.{Kind}
-use Rattle.art_rows.specs.Table.{row_words, rows_of, table_words, claims_of, base_of, kind_at}
+use Rattle.art_rows.specs.Table.{row_words, table_words, claims_of, base_of, kind_at}
 use Rattle.art_rows.specs.Words.{is_locked, is_obsolete, released_word}
 use Rattle.art_rows.proofs.KindLemmas.{some-words, claims-few}
 use Rattle.art_serial.proofs.words.TableLemmas.{kind_at-base_of, row_begins, rows_apart}
 use Rattle.art_serial.proofs.trees.Descents.{small_at}
 use Rattle.art_serial.proofs.words.VersionLemmas.{even-free, taken-locked, obsolete_obsolete, obsolete_released}
+use Rattle.art_serial.specs.writes.Writes.{IsOutside}
+use Rattle.art_serial.specs.trees.Trees.{IsClaimed, AreZeroPastClaims}
 use Rattle.art_steps.specs.declared.variant.Variant.{Variant}
 use Rattle.art_steps.specs.declared.variant.Variant.TheVariants.{Optimistic}
 use Rattle.art_steps.specs.declared.access.Access.TheVariants.{Store}
@@ -24,16 +26,15 @@ use Rattle.art_core.specs.Core.{State}
 use Rattle.art_core.specs.Meaning.{AllUnlocked}
 use Rattle.art_versions.specs.versions.Holding.{OfRows, IsKept, IsVersion}
 use Rattle.art_versions.specs.versions.Effects.{IsGoodAt, IsAmong, IsWith}
-use Rattle.art_versions.specs.versions.Versions.{IsOpen, stage_of, held_by, filled_by, IsClaimed, IsSettled, IsSound}
-use Rattle.art_versions.specs.versions.Steady.{SameRow, IsSteady}
-use Rattle.art_versions.specs.versions.Fresh.{FreshAreZero}
+use Rattle.art_versions.specs.versions.Versions.{IsOpen, stage_of, held_by, filled_by, IsSettled, IsSound}
+use Rattle.art_versions.specs.versions.Steady.{IsSteady, SameWords}
 use Rattle.art_versions.proofs.versions.KnownLemmas.{held-is-kept}
 use Rattle.art_versions.proofs.versions.ChangeLemmas.{good-more}
 use Rattle.art_versions.proofs.versions.MoveLemmas.{settled-row, true-false}
 use Rattle.art_versions.proofs.versions.WordFacts.{version-free}
 use Rattle.art_versions.proofs.versions.RunLemmas.{AllIdle}
 use Rattle.art_schedules.specs.calm.Calm.{is_busy, calm_after, IsCalm}
-use Rattle.art_schedules.specs.calm.Changes.{AsksFor, HoldsThen, RowChange, RowsStay, RowWritten, RowFilled, RowTaken, RowReleased, IsOutside}
+use Rattle.art_schedules.specs.calm.Changes.{AsksFor, HoldsThen, RowChange, RowsStay, RowWritten, RowFilled, RowTaken, RowReleased}
 use Rattle.art_schedules.specs.calm.Changes.{CalmChange, CalmStays, CalmFilled, CalmReleased, CalmStep}
 use Rattle.art_schedules.proofs.calm.AfterLemmas.{after-long, after-past, after-low, after-free, after-busy, after-either, IsOfRow, row-of-word}
 use Rattle.art_schedules.proofs.calm.ReachedLemmas.{reached-good}
@@ -67,10 +68,12 @@ module _ (variant : Variant) (shape : Shape) (n m : ℕ) (s later : State) (h : 
   wide : table_words shape ≤ length later.words
   wide = omega (arith, k.long)
 
-  busy-row : (base : ℕ) (kind : Kind) → kind_at shape base ≡ Some kind → is_busy (slice_index later.words base) ≡ true → SameRow calm after base kind
+  busy-row : (base : ℕ) (kind : Kind) → kind_at shape base ≡ Some kind → is_busy (slice_index later.words base) ≡ true
+      → SameWords calm after base kind
   busy-row base kind row busy = after-busy shape calm later.words wide base kind row busy
 
-  free-row : (base : ℕ) (kind : Kind) → kind_at shape base ≡ Some kind → is_busy (slice_index later.words base) ≡ false → SameRow later.words after base kind
+  free-row : (base : ℕ) (kind : Kind) → kind_at shape base ≡ Some kind → is_busy (slice_index later.words base) ≡ false
+      → SameWords later.words after base kind
   free-row base kind row free = after-free shape calm later.words base kind row free
 
   unlocked : AllUnlocked shape after
@@ -129,7 +132,7 @@ module _ (variant : Variant) (shape : Shape) (n m : ℕ) (s later : State) (h : 
   ]
 
   filled : (r : ℕ) (call : Call) (w : Process) → IsOpen later r call w → (base : ℕ) (kind : Kind) → filled_by variant shape call w ≡ (base, kind) ∷ []
-      → SameRow later.words after base kind
+      → SameWords later.words after base kind
   filled r call w o base kind f = elim (cases_Bool (is_busy (slice_index later.words base))) [
     | inl busy ↦ absurd ((settled-then base kind row busy).unfilled r call w o base kind f refl)
     | inr free ↦ free-row base kind row free
@@ -138,16 +141,15 @@ module _ (variant : Variant) (shape : Shape) (n m : ℕ) (s later : State) (h : 
       row : kind_at shape base ≡ Some kind
       row = claimed-row shape later.words base kind (k.filled r call w o base kind f)
 
-  module _ (fresh : FreshAreZero shape later) (small : All (λ w. w < 2 ^ 64) later.words) where
+  module _ (fresh : AreZeroPastClaims shape later.words) (small : All (λ w. w < 2 ^ 64) later.words) where
     small-then : All (λ w. w < 2 ^ 64) after
     small-then = All-from_get_or (λ w. w < 2 ^ 64) after 0 (λ word within. elim (after-either shape calm later.words word) [
       | inl e ↦ subst (λ w. w < 2 ^ 64) (sym e) (small_at calm word c.small)
       | inr e ↦ subst (λ w. w < 2 ^ 64) (sym e) (small_at later.words word small)
     ])
 
-    fresh-then : (kind : Kind) (number word : ℕ) → slice_index after (claims_of kind) ≤ number → number < rows_of shape kind → base_of shape kind number ≤ word
-        → word < base_of shape kind number + row_words kind → slice_index after word ≡ 0
-    fresh-then kind number word past within low high =
+    fresh-then : AreZeroPastClaims shape after
+    fresh-then kind number past within word low high =
         let claims = after-low shape calm later.words (claims_of kind) (claims-few kind) in
         let before : slice_index later.words (claims_of kind) ≤ number = omega (arith, claims, past) in
         let row = kind_at-base_of shape kind number within in
@@ -287,7 +289,7 @@ module _ (variant : Variant) (shape : Shape) (n m : ℕ) (s later : State) (h : 
 
 -- Before the first step calm is the words.
 pub calm-first : (variant : Variant) (shape : Shape) (n : ℕ) (s : State) → IsSound variant shape n s → AllIdle s → BusySettled variant shape s
-    → FreshAreZero shape s → All (λ w. w < 2 ^ 64) s.words → IsCalm variant shape s.words s s.words
+    → AreZeroPastClaims shape s.words → All (λ w. w < 2 ^ 64) s.words → IsCalm variant shape s.words s s.words
 calm-first variant shape n s h none settled fresh small = record {
   long = h.long;
   small = small;
@@ -298,7 +300,7 @@ calm-first variant shape n s h none settled fresh small = record {
   live = λ base kind row alive. alive;
   held = λ p call q o. absurd (none p call q o);
   settled = settled;
-  fresh = λ kind number word past within low high. fresh kind number past within word low high;
+  fresh = fresh;
   children = h.children;
   reached = reached-good (IsSettled variant shape s) shape (settled-row variant shape s) s.words h.root h.children;
 }

@@ -1,9 +1,8 @@
 -- The words of every run are below 2^64.
-use Rattle.std.proofs.Common.{◌≡◌, ℕ, ◌^◌, ◌<◌, Bool, true, false, List, [], ◌∷◌, length, refl, ap, sym, subst, ◌∙◌, inl, inr, arith}
+use Rattle.std.proofs.Common.{◌≡◌, ℕ, ◌^◌, ◌<◌, Bool, true, false, List, [], ◌∷◌, refl, ap, sym, subst, ◌∙◌, inl, inr, arith}
 use Rattle.std.specs.Prelude.{◌==◌, IsTrue, slice_get, slice_index, slice_set, replicate, All, Option, Some, None, if◌then◌else◌}
 use Rattle.std.proofs.lemmas.Option.{same_Some, none-some}
 use Rattle.std.proofs.lemmas.List.Elements.{All-nil, All-cons, All-set, All-replicate}
-use Rattle.list_laws.proofs.Lists.{All-at}
 use Rattle.events.specs.declared.event.Call.{Call}
 use Rattle.events.specs.declared.event.Call.TheVariants.{Get, Insert, Remove, Scan, Replace}
 use Rattle.map_object.specs.MapObject.{Contents}
@@ -24,7 +23,7 @@ use Rattle.art_stages.specs.Calls.{call_turn, call_begun}
 use Rattle.art_stages.specs.Stages.{setting}
 use Rattle.art_core.specs.declared.process.Process.{Process}
 use Rattle.art_core.specs.Accesses.{told, changed}
-use Rattle.art_core.specs.Core.{Plan, State, Move, Invokes, Makes, Responds, begun, next_in, next_call, invocation, after_move, word_of_move, new_word}
+use Rattle.art_core.specs.Core.{Plan, State, Move, Invokes, Makes, Responds, next_call, invocation, after_move, word_of_move, new_word}
 use Rattle.art_core.specs.Core.{moved, move_of}
 use Rattle.art_core.specs.Core.{move_from, opened, opened_on, step}
 use Rattle.art_core.specs.Runs.{run_on}
@@ -37,9 +36,7 @@ use Rattle.art_versions.specs.versions.Versions.{IsOpen, stage_of}
 use Rattle.art_versions.proofs.versions.StepLemmas.{after-more, next-turn}
 use Rattle.art_versions.proofs.versions.RunLemmas.{idle-idle}
 use Rattle.art_schedules.proofs.calm.SmallStageLemmas.{SmallAt, SmallTurn, IsFine, call-after-small, call-turn-small, begun-small}
-
-abbrev AreTreeCalls : List (List Call) → Type 0
-AreTreeCalls scripts = All (λ script. All (λ call. IsTrue (is_tree_call call)) script) scripts
+use Rattle.art_schedules.proofs.calls.ScriptLemmas.{AreTreeCalls, next-tree}
 
 -- Calls that a tree can do.
 
@@ -79,16 +76,6 @@ record IsSmall (plan : Plan) (s : State) : Type 0 where
 module _ (plan : Plan) (limits : IsWithinLimits plan.shape) (calls : AreTreeCalls plan.scripts) where
   fine : (call : Call) → is_tree_call call ≡ true → IsFine (setting plan.shape plan.variant call)
   fine call tree = record { leaf = fine-leaf call tree; over = fine-over call tree; rows = fine-rows plan.shape limits }
-
-  -- the next call is one of the script
-  next-tree : (p : ℕ) (q : Process) (call : Call) → next_call plan p q ≡ Some call → is_tree_call call ≡ true
-  next-tree p q call e = go (slice_get plan.scripts p) refl e
-    where
-      go : (o : Option (List Call)) → slice_get plan.scripts p ≡ o → next_in o (length (begun q)) ≡ Some call → is_tree_call call ≡ true
-      go None f g = absurd (none-some call g)
-      go (Some script) f g =
-          All-at (λ call. IsTrue (is_tree_call call)) script (length (begun q)) call
-          (All-at (λ script. All (λ call. IsTrue (is_tree_call call)) script) plan.scripts p script calls f) g
 
   module _ (s : State) (h : IsSmall plan s) (p : ℕ) (q : Process) (here : slice_get s.processes p ≡ Some q) where
     abbrev Small : Move → Type 0
@@ -134,8 +121,11 @@ module _ (plan : Plan) (limits : IsWithinLimits plan.shape) (calls : AreTreeCall
         begins None f g = absurd (none-some m g)
         begins (Some call) f g = subst Small (same_Some (Invokes call) m g) (goes-on (Invokes call) (omega arith) (λ other i.
             let same = same_Some call other i in
-            subst (λ x. (is_tree_call x ≡ true) × SmallAt (stage_of plan.variant plan.shape x (after_move p (Invokes call) (slice_index s.words 0) q))) same
-            (next-tree p q call f, begun-small (setting plan.shape plan.variant call) (fine call (next-tree p q call f)) call)))
+            subst (λ x. (is_tree_call x ≡ true) × SmallAt (stage_of plan.variant plan.shape x (after_move p (Invokes call) (slice_index s.words 0) q))) same (
+              next-tree plan calls p q call f,
+              begun-small (setting plan.shape plan.variant call)
+                  (fine call (next-tree plan calls p q call f)) call,
+            )))
     one-move (Some call) m e k = goes (act plan.shape plan.variant call q.got) (sym turn) k
       where
         opens : IsOpen s p call q

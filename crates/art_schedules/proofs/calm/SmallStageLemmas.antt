@@ -15,6 +15,7 @@ use Rattle.art_rows.specs.Words.{child_of, child_word, row_word, keys4_word, key
 use Rattle.art_rows.proofs.ByteLemmas.{key_byte-small}
 use Rattle.art_serial.proofs.words.WordLemmas.{again_below}
 use Rattle.art_serial.proofs.inserts.SmallLemmas.{differs-before}
+use Rattle.art_serial.proofs.trees.InfoWords.{path_byte}
 use Rattle.art_steps.specs.declared.access.Access.TheVariants.{Store, Exchange as Swap}
 use Rattle.art_steps.specs.Steps.{Turn, Asks, numbers}
 use Rattle.art_steps.specs.Rows.{Setting, is_insert, is_full, locks, releases_early, leaves_out_check, takes_unchecked, key_of, path_differs_at}
@@ -57,7 +58,7 @@ use Rattle.art_stages.specs.Automaton.{grow_count_turn, store_of}
 use Rattle.art_stages.specs.Scans.{Walk, at, scan_turn, keys_turn, release_turn}
 use Rattle.art_stages.specs.Calls.{CallAt, OnKey, OnScan, call_turn, call_after, begun_as}
 use Rattle.art_versions.proofs.versions.WordFacts.{count-most}
-use Rattle.art_schedules.proofs.calm.SmallWordLemmas.{path-byte, grown-info, pair-info, differ-level, two-keys, keys4-with, keys-few}
+use Rattle.art_schedules.proofs.calm.SmallWordLemmas.{grown-info, pair-info, differ-level, two-keys, keys4-with, keys-few}
 use Rattle.art_schedules.proofs.calm.SmallWordLemmas.{keys16-with}
 use Rattle.art_schedules.proofs.calm.SmallWordLemmas.{entries-with, entries-new}
 
@@ -286,11 +287,11 @@ module _ (c : Setting) (fine : IsFine c) where
       → SmallStage (below_at l i c d m o)
   small-below l i d m None s few = tt
   small-below true false d m (Some x) s few = tt
-  small-below true true d m (Some x) s few = (few x refl, path-byte m.kind m.info x, s)
+  small-below true true d m (Some x) s few = (few x refl, path_byte m.kind m.info x, s)
   small-below false false d m (Some x) s few = if-small (leaves_out_check c.variant c.call) (Over no_value) (CheckLast m) tt tt
   small-below false true d m (Some x) s few =
       if-small (nat_le x (row_at d.above).level) (Wait Root) (take_alone c d.above (beside_work d.slot m x)) tt
-      (small-alone d.above (beside_work d.slot m x) (few x refl, path-byte m.kind m.info x, s))
+      (small-alone d.above (beside_work d.slot m x) (few x refl, path_byte m.kind m.info x, s))
 
   differs-few : (m : Held) (x : ℕ) → path_differs_at c (row_at m) ≡ Some x → x ≤ 3
   differs-few m x e = let less = differs-before (row_at m).path (key_bytes (key_of c.call)) x e in omega (arith, less)

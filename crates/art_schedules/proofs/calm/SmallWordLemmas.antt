@@ -1,6 +1,6 @@
 -- The words that calls store are below 2^64.
 use Rattle.std.proofs.Common.{◌≡◌, ℕ, zero, suc, ◌/◌, ◌%◌, ◌^◌, ◌<◌, ◌≤◌, Bool, true, false, List, [], ◌∷◌, ◌++◌, length, take, refl, arith}
-use Rattle.std.specs.Prelude.{◌==◌, nat_le, map, set, slice_index, unwrap_or, Option, Some, None, if◌then◌else◌}
+use Rattle.std.specs.Prelude.{◌==◌, nat_le, map, set, unwrap_or, Option, Some, None, if◌then◌else◌}
 use Rattle.std.proofs.lemmas.List.{length-set, length-map}
 use Rattle.std.proofs.lemmas.List.Elements.{All-nil, All-cons, All-take, All-append, All-set}
 use Rattle.art_rows.specs.declared.table.Kind.{Kind}
@@ -8,43 +8,21 @@ use Rattle.art_rows.specs.declared.table.Kind.TheVariants.{Four, Sixteen, FortyE
 use Rattle.art_rows.specs.Words.{packed, low_bytes, key_bytes, first_difference, Info, kind_code, info_word, info_of, keys4_of, keys16_of, entry_of}
 use Rattle.art_rows.specs.Words.{entries_of, count_of}
 use Rattle.art_rows.specs.Words.{keys4_word, keys16_word, more_keys16_word, entries_word, place_of, with_key}
-use Rattle.art_rows.proofs.ByteLemmas.{entries-most, key_byte-small, place-within, low_byte-small}
+use Rattle.art_rows.proofs.ByteLemmas.{entries-most, place-within}
 use Rattle.art_rows.proofs.KindLemmas.{code-few}
 use Rattle.art_rows.proofs.WriterLemmas.{length-low_bytes}
-use Rattle.art_serial.proofs.words.ByteLemmas.{AreBytes, packed-most, keys16_below}
+use Rattle.art_serial.proofs.words.ByteLemmas.{AreBytes, packed-most, keys16_below, bytes-small, low_bytes-small, key_bytes-small}
 use Rattle.art_serial.proofs.words.KeyLemmas.{All-with_key, length-with_key}
 use Rattle.art_serial.proofs.writes.GrowSixteenLemmas.{length-numbers, entry-absent, entry-some}
 use Rattle.art_serial.proofs.inserts.SmallLemmas.{differs-before}
+use Rattle.art_serial.proofs.trees.InfoWords.{path_byte}
 use Rattle.art_steps.specs.Steps.{numbers}
 use Rattle.art_steps.specs.Updates.{new_entry, keys_differ_at}
 use Rattle.art_stages.specs.declared.stage.Keys.{Keys as KeyWords}
 use Rattle.art_stages.specs.Stages.{keys_in}
 use Rattle.art_versions.proofs.versions.WordFacts.{among-most}
 
--- Bytes.
-
--- bytes by their places are all the bytes
-by-place : (xs : List ℕ) → ((i : ℕ) → slice_index xs i < 256) → AreBytes xs
-by-place [] h = All-nil (λ x. x < 256)
-by-place (x ∷ xs) h = All-cons (λ x. x < 256) x xs (h 0) (by-place xs (λ i. h (suc i)))
-
-low-bytes : (n w : ℕ) → AreBytes (low_bytes n w)
-low-bytes n w = by-place (low_bytes n w) (low_byte-small n w)
-
-key-bytes : (key : ℕ) → AreBytes (key_bytes key)
-key-bytes key = by-place (key_bytes key) (key_byte-small key)
-
 -- Infos.
-
-pub path-byte : (kind : Kind) (info i : ℕ) → slice_index (info_of kind info).path i < 256
-path-byte kind info i = go (info % 4 == kind_code kind)
-  where
-    chosen : Bool → Info
-    chosen b = if b then record { level = (info / 4) % 4; path = low_bytes ((info / 4) % 4) (info / 256) } else record { level = 0; path = [] }
-
-    go : (b : Bool) → slice_index (chosen b).path i < 256
-    go true = low_byte-small ((info / 4) % 4) (info / 256) i
-    go false = omega arith
 
 level-few : (kind : Kind) (info : ℕ) → (info_of kind info).level ≤ 3
 level-few kind info = go (info % 4 == kind_code kind)
@@ -74,7 +52,7 @@ info-small kind level path few long bytes =
 -- the info of a larger row, with the level and the path of this one,
 pub grown-info : (larger kind : Kind) (info : ℕ) → info_word larger (info_of kind info).level (info_of kind info).path < 2 ^ 64
 grown-info larger kind info = info-small larger (info_of kind info).level (info_of kind info).path (level-few kind info) (path-few kind info)
-    (by-place (info_of kind info).path (path-byte kind info))
+    (bytes-small (info_of kind info).path (path_byte kind info))
 
 taken-long : (level key : ℕ) → length (take level (key_bytes key)) ≤ 4
 taken-long zero key = omega arith
@@ -87,7 +65,8 @@ taken-long (suc (suc (suc (suc (suc level))))) key = omega arith
 -- and that of a pair
 pub pair-info : (level key : ℕ) → level ≤ 3 → info_word Four level (take level (key_bytes key)) < 2 ^ 64
 pair-info level key few =
-    info-small Four level (take level (key_bytes key)) few (taken-long level key) (All-take (λ x. x < 256) level (key_bytes key) (key-bytes key))
+    info-small Four level (take level (key_bytes key)) few (taken-long level key)
+    (All-take (λ x. x < 256) level (key_bytes key) (key_bytes-small key))
 
 -- Where lists differ first.
 
@@ -107,12 +86,12 @@ low4 : (w : ℕ) → AreBytes (keys4_of w)
 low4 w = go (nat_le (w % 256) 4)
   where
     go : (b : Bool) → AreBytes (if b then low_bytes (w % 256) (w / 256) else [])
-    go true = low-bytes (w % 256) (w / 256)
+    go true = low_bytes-small (w % 256) (w / 256)
     go false = All-nil (λ x. x < 256)
 
 low16 : (count first second : ℕ) → AreBytes (keys16_of count first second)
 low16 count first second = All-take (λ x. x < 256) (count_of 16 count) (low_bytes 8 first ++ low_bytes 8 second)
-    (All-append (λ x. x < 256) (low_bytes 8 first) (low_bytes 8 second) (low-bytes 8 first) (low-bytes 8 second))
+    (All-append (λ x. x < 256) (low_bytes 8 first) (low_bytes 8 second) (low_bytes-small 8 first) (low_bytes-small 8 second))
 
 pub keys4-with : (x w : ℕ) → x < 256 → keys4_word (with_key x (keys4_of w)) < 2 ^ 64
 keys4-with x w byte =
@@ -126,7 +105,7 @@ keys4-with x w byte =
 keys-bytes : (kind : Kind) (keys : KeyWords) → AreBytes (keys_in kind keys)
 keys-bytes Four keys = low4 keys.first
 keys-bytes Sixteen keys = low16 keys.count keys.first keys.second
-keys-bytes FortyEight keys = by-place (entries_of keys.first) (λ k. omega (arith, entries-most keys.first k))
+keys-bytes FortyEight keys = bytes-small (entries_of keys.first) (λ k. omega (arith, entries-most keys.first k))
 keys-bytes Full keys = All-nil (λ x. x < 256)
 
 pub keys-few : (kind : Kind) (keys : KeyWords) → length (keys_in kind keys) ≤ 16
@@ -144,7 +123,8 @@ keys16-with kind keys x byte =
 
 pub entries-with : (w i e : ℕ) → e < 256 → entries_word (set (entries_of w) i e) < 2 ^ 64
 entries-with w i e few =
-    packed-most 8 (set (entries_of w) i e) (All-set (λ x. x < 256) (entries_of w) i e few (by-place (entries_of w) (λ k. omega (arith, entries-most w k))))
+    packed-most 8 (set (entries_of w) i e)
+    (All-set (λ x. x < 256) (entries_of w) i e few (bytes-small (entries_of w) (λ k. omega (arith, entries-most w k))))
     (omega (arith, length-set (entries_of w) i e, length-map (low_bytes 8 w) entry_of, length-low_bytes 8 w))
 
 entry-bytes : (keys ys : List ℕ) → length keys ≤ 48 → AreBytes (map (new_entry keys) ys)

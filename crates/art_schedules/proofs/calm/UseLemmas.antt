@@ -8,6 +8,7 @@ use Rattle.art_rows.specs.declared.table.Kind.{Kind}
 use Rattle.art_rows.specs.Table.{kind_at}
 use Rattle.art_rows.specs.Words.{released_word}
 use Rattle.art_serial.proofs.words.TableLemmas.{rows_apart}
+use Rattle.art_serial.specs.writes.Writes.{IsOutside}
 use Rattle.art_steps.specs.declared.variant.Variant.{Variant}
 use Rattle.art_steps.specs.declared.access.Access.{Access}
 use Rattle.art_steps.specs.declared.access.Access.TheVariants.{Store}
@@ -25,7 +26,7 @@ use Rattle.art_versions.specs.versions.Effects.{IsAmong, IsBehindVersion}
 use Rattle.art_versions.specs.versions.Versions.{IsOpen, stage_of, held_by, filled_by, IsSettled, IsSound}
 use Rattle.art_versions.proofs.versions.KnownLemmas.{held-is-kept}
 use Rattle.art_versions.proofs.versions.MoveLemmas.{settled-row}
-use Rattle.art_schedules.specs.calm.Changes.{AsksFor, IsOutside, CalmChange, CalmStays, CalmFilled, CalmReleased, CalmStep}
+use Rattle.art_schedules.specs.calm.Changes.{AsksFor, CalmChange, CalmStays, CalmFilled, CalmReleased, CalmStep}
 use Rattle.art_schedules.proofs.calm.VersionLemmas.{not-behind}
 use Rattle.art_schedules.proofs.calm.CalmLemmas.{claimed-row}
 

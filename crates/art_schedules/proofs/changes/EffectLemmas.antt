@@ -1,6 +1,6 @@
 -- What comes of each effect of a change of one row.
 use Rattle.std.proofs.Common.{◌≡◌, ◌⊎◌, inl, inr, ℕ, ◌<◌, ◌++◌, List, slice_index, false, refl, sym, ◌∙◌, subst, subst₂, arith, ⊎_elim}
-use Rattle.std.specs.Prelude.{◌↔◌}
+use Rattle.std.specs.Prelude.{◌↔◌, None}
 use Rattle.std.proofs.lemmas.Bool.{cases_eq}
 use Rattle.map_object.specs.MapObject.{Contents, put, below, above}
 use Rattle.art_rows.specs.declared.table.Shape.{Shape}
@@ -8,15 +8,14 @@ use Rattle.art_rows.specs.declared.table.Kind.{Kind}
 use Rattle.art_rows.specs.declared.table.Kind.TheVariants.{Four}
 use Rattle.art_rows.specs.declared.table.Child.{Child}
 use Rattle.art_rows.specs.declared.table.Child.TheVariants.{Empty, Row, Leaf}
-use Rattle.art_rows.specs.Table.{rows_of, claims_of, base_of, info_at}
+use Rattle.art_rows.specs.Table.{info_at}
 use Rattle.art_rows.specs.Words.{key_bytes, is_obsolete}
 use Rattle.art_rows.proofs.KindLemmas.{two-words}
 use Rattle.art_rows.proofs.ByteLemmas.{key_byte-small}
 use Rattle.art_core.specs.Meaning.{Reached, Means, child_on}
 use Rattle.art_core.specs.Forms.{IsTree}
 use Rattle.art_serial.specs.trees.Trees.{IsAtRest, SameRow, SameTree, HasRows, IsPair, Parts, HasRowMore, IsGrown, HasRowInPlace}
-use Rattle.art_serial.specs.trees.Trees.{SameTreesAreOne, LeavesArePut, LeavesAreRemoved, PairsAreHung, GrownRowsAreHung}
-use Rattle.art_versions.specs.versions.Versions.{IsClaimed}
+use Rattle.art_serial.specs.trees.Trees.{SameTreesAreOne, LeavesArePut, LeavesAreRemoved, PairsAreHung, GrownRowsAreHung, IsClaimed}
 use Rattle.art_serial.proofs.alone.PlaceLemmas.{kind_at-sits}
 use Rattle.art_serial.proofs.alone.SlotLemmas.{row-keys, form-same}
 use Rattle.art_serial.proofs.alone.LikeLemmas.{sits}
@@ -26,10 +25,11 @@ use Rattle.art_serial.proofs.trees.Changes.{way_byte}
 use Rattle.art_schedules.specs.changes.Rows.{OneRow, IsFilled}
 use Rattle.art_schedules.specs.changes.Effects.{Keeps, Fills, PutsLeaf, RemovesLeaf, HangsPair, HangsGrown, IsPutOn, IsRemovedFrom, IsPairHung, IsGrownHung}
 use Rattle.art_schedules.specs.changes.Effects.{Effect, HasEffect, IsGone}
-use Rattle.art_schedules.specs.changes.Follows.{HasFewClaims, Follows, NoBase, NoRow, KeepsTree}
+use Rattle.art_schedules.specs.changes.Follows.{HasFewClaims, Follows, KeepsTree}
 use Rattle.art_schedules.specs.changes.Laws.{EffectsFollow}
 use Rattle.art_schedules.proofs.changes.FollowLemmas.{follows-by, kept-trees-follow}
 use Rattle.art_schedules.proofs.changes.RowLemmas.{claimed-sits, same-kind, other-row, reached-sits, unlocked, live, still-claimed, fresh, infos, changes}
+use Rattle.art_schedules.specs.changes.Courses.{IsGoneBy, ComesInBy}
 
 -- the byte at which a child's keys part from the key is a byte
 pub parted-small : (words : List ℕ) (key d a : ℕ) (child : Child) → Parts words key d a child → a < 256
@@ -80,10 +80,6 @@ module _ (s : Shape) (n claims : ℕ) (calm later : List ℕ) (m : Contents) (re
     claimed-row b k (inl (r, not)) = still-claimed s n calm later rest base kind one b k r
     claimed-row b k (inr new) = (filled b k new).claimed
 
-    claimed : (b : ℕ) (k : Kind) → IsClaimed s later b k
-        → (number : ℕ) × (number < slice_index later (claims_of k)) × (number < rows_of s k) × (b ≡ base_of s k number)
-    claimed b k h = (h.number, h.claimed, h.within, h.is)
-
     rests : IsAtRest s claims later
     rests = record {
       long = one.long ∙ rest.long;
@@ -92,7 +88,7 @@ module _ (s : Shape) (n claims : ℕ) (calm later : List ℕ) (m : Contents) (re
       tree = tree;
       live = λ b k r. live-row b k ((rows b k).0 r);
       claims = few;
-      claimed = λ b k r. claimed b k (claimed-row b k ((rows b k).0 r));
+      claimed = λ b k r. claimed-row b k ((rows b k).0 r);
       fresh = fresh s n calm later rest base kind one (still-claimed s n calm later rest base kind one base kind reached);
     }
 
@@ -102,20 +98,21 @@ module _ (s : Shape) (n claims : ℕ) (calm later : List ℕ) (m : Contents) (re
   -- ---- one leaf
 
   leaf-follows : (pairs : Contents) → Reached s calm base kind → slice_index later (info_at base) ≡ slice_index calm (info_at base)
-      → HasRows s calm later pairs → Follows s claims calm later pairs NoBase NoRow
-  leaf-follows pairs reached info hung = follows pairs NoBase NoRow reached info hung.tree hung.means
+      → HasRows s calm later pairs → Follows s claims calm later pairs (IsGoneBy None) (ComesInBy None)
+  leaf-follows pairs reached info hung = follows pairs (IsGoneBy None) (ComesInBy None) reached info hung.tree hung.means
       (λ b k. (λ r. inl ((hung.rows b k).0 r, λ h. h), λ e. back b k e)) (λ b k none. absurd none)
     where
-      back : (b : ℕ) (k : Kind) → (Reached s calm b k × (NoBase b → ⊥)) ⊎ NoRow b k → Reached s later b k
+      back : (b : ℕ) (k : Kind) → (Reached s calm b k × (IsGoneBy None b → ⊥)) ⊎ ComesInBy None b k → Reached s later b k
       back b k (inl (r, not)) = (hung.rows b k).1 r
       back b k (inr none) = absurd none
 
-  put-follows : LeavesArePut → (x key value : ℕ) → IsPutOn s calm later base kind x key value → Follows s claims calm later (put key value m) NoBase NoRow
+  put-follows : LeavesArePut → (x key value : ℕ) → IsPutOn s calm later base kind x key value
+      → Follows s claims calm later (put key value m) (IsGoneBy None) (ComesInBy None)
   put-follows puts x key value is = leaf-follows (put key value m) is.leads.reached is.row.info
       (puts s calm later m key value base kind x rest.tree means is.leads is.free (changes s n calm later rest base kind one x (Leaf key value) is.row))
 
   removed-follows : LeavesAreRemoved → (x key : ℕ) → IsRemovedFrom s calm later base kind x key
-      → Follows s claims calm later (below key m ++ above key m) NoBase NoRow
+      → Follows s claims calm later (below key m ++ above key m) (IsGoneBy None) (ComesInBy None)
   removed-follows removes x key is = leaf-follows (below key m ++ above key m) is.leads.reached is.row.info
       (removes s calm later m key base kind x rest.tree means is.leads is.free (changes s n calm later rest base kind one x Empty is.row))
 
@@ -153,19 +150,20 @@ module _ (s : Shape) (n claims : ℕ) (calm later : List ℕ) (m : Contents) (re
     pair-hung = hangs s calm later m key value base kind x row d a b rest.tree means is.leads is.parts later-pair
         (changes s n calm later rest base kind one x (Row row Four) is.row)
 
-    pair-rows : (c : ℕ) (k : Kind) → Reached s later c k ↔ ((Reached s calm c k × (NoBase c → ⊥)) ⊎ ((c ≡ row) × (k ≡ Four)))
+    pair-rows : (c : ℕ) (k : Kind) → Reached s later c k ↔ ((Reached s calm c k × (IsGoneBy None c → ⊥)) ⊎ ((c ≡ row) × (k ≡ Four)))
     pair-rows c k = (λ r. to ((pair-hung.1 c k).0 r), λ e. (pair-hung.1 c k).1 (from e))
       where
-        to : Reached s calm c k ⊎ ((c ≡ row) × (k ≡ Four)) → (Reached s calm c k × (NoBase c → ⊥)) ⊎ ((c ≡ row) × (k ≡ Four))
+        to : Reached s calm c k ⊎ ((c ≡ row) × (k ≡ Four)) → (Reached s calm c k × (IsGoneBy None c → ⊥)) ⊎ ((c ≡ row) × (k ≡ Four))
         to (inl r) = inl (r, λ h. h)
         to (inr new) = inr new
 
-        from : (Reached s calm c k × (NoBase c → ⊥)) ⊎ ((c ≡ row) × (k ≡ Four)) → Reached s calm c k ⊎ ((c ≡ row) × (k ≡ Four))
+        from : (Reached s calm c k × (IsGoneBy None c → ⊥)) ⊎ ((c ≡ row) × (k ≡ Four)) → Reached s calm c k ⊎ ((c ≡ row) × (k ≡ Four))
         from (inl (r, not)) = inl r
         from (inr new) = inr new
 
-    pair-follows : Follows s claims calm later (put key value m) NoBase (λ c k. (c ≡ row) × (k ≡ Four))
-    pair-follows = follows (put key value m) NoBase (λ c k. (c ≡ row) × (k ≡ Four)) is.leads.reached is.row.info pair-hung.0 pair-hung.2 pair-rows
+    pair-follows : Follows s claims calm later (put key value m) (IsGoneBy None) (λ c k. (c ≡ row) × (k ≡ Four))
+    pair-follows = follows (put key value m) (IsGoneBy None) (λ c k. (c ≡ row) × (k ≡ Four)) is.leads.reached is.row.info pair-hung.0
+        pair-hung.2 pair-rows
         (filled-row row Four is.filled)
 
   module _ (hangs : GrownRowsAreHung) (x key value full : ℕ) (full_kind : Kind) (y row : ℕ) (larger : Kind)

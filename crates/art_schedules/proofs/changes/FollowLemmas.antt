@@ -1,19 +1,20 @@
 -- Where the infos of rows stay, so do the ways that lead to them; and trees whose rows say the same.
-use Rattle.std.proofs.Common.{◌≡◌, ◌⊎◌, inl, inr, ℕ, ◌+◌, ◌<◌, ◌≤◌, List, slice_index, refl, sym, ap, ◌∙◌, arith}
-use Rattle.std.specs.Prelude.{◌↔◌}
+use Rattle.std.proofs.Common.{◌≡◌, ◌⊎◌, inl, inr, ℕ, ◌+◌, ◌≤◌, List, slice_index, refl, sym, ap, ◌∙◌, arith}
+use Rattle.std.specs.Prelude.{◌↔◌, None}
 use Rattle.map_object.specs.MapObject.{Contents}
 use Rattle.art_rows.specs.declared.table.Shape.{Shape}
 use Rattle.art_rows.specs.declared.table.Kind.{Kind}
-use Rattle.art_rows.specs.Table.{claims_of, rows_of, base_of, info_at}
+use Rattle.art_rows.specs.Table.{base_of, info_at}
 use Rattle.art_rows.specs.Words.{info_of, is_locked, is_obsolete}
 use Rattle.art_rows.proofs.KindLemmas.{two-words}
 use Rattle.art_core.specs.Meaning.{Reached, Means}
-use Rattle.art_serial.specs.trees.Trees.{IsAtRest, LeadsTo, HasRows, SameTreesAreOne}
+use Rattle.art_serial.specs.trees.Trees.{IsAtRest, LeadsTo, HasRows, SameTreesAreOne, IsClaimed}
 use Rattle.art_serial.proofs.alone.PlaceLemmas.{Sits, sits-inside, kind_at-sits}
 use Rattle.art_serial.proofs.alone.LikeLemmas.{sits}
 use Rattle.art_serial.proofs.trees.Changes.{way_later}
-use Rattle.art_schedules.specs.changes.Follows.{Follows, NoBase, NoRow}
+use Rattle.art_schedules.specs.changes.Follows.{Follows}
 use Rattle.art_schedules.specs.changes.Laws.{KeptTreesFollow, LowWordsKeep}
+use Rattle.art_schedules.specs.changes.Courses.{IsGoneBy, ComesInBy}
 
 -- a tree at rest of these rows, with their infos, follows
 pub follows-by : (s : Shape) (n : ℕ) (calm later : List ℕ) (pairs : Contents) (gone : ℕ → Type 0) (fresh : ℕ → Kind → Type 0) → IsAtRest s n later
@@ -40,22 +41,22 @@ follows-by s n calm later pairs gone fresh rests means rows infos = record {
 
 pub kept-trees-follow : SameTreesAreOne → KeptTreesFollow
 kept-trees-follow trees s n claims calm later m rest means keeps few =
-    follows-by s claims calm later m NoBase NoRow rests hung.means
+    follows-by s claims calm later m (IsGoneBy None) (ComesInBy None) rests hung.means
     (λ b k. (λ r. inl ((hung.rows b k).0 r, λ h. h), λ e. back b k e))
     (λ b k r. keeps.same b k r 1 (omega arith) (two-words k))
   where
     hung : HasRows s calm later m
     hung = trees s calm later m rest.tree means keeps.same
 
-    back : (b : ℕ) (k : Kind) → (Reached s calm b k × (NoBase b → ⊥)) ⊎ NoRow b k → Reached s later b k
+    back : (b : ℕ) (k : Kind) → (Reached s calm b k × (IsGoneBy None b → ⊥)) ⊎ ComesInBy None b k → Reached s later b k
     back b k (inl (r, not)) = (hung.rows b k).1 r
     back b k (inr none) = absurd none
 
     claimed : (base : ℕ) (kind : Kind) → Reached s calm base kind
-        → (number : ℕ) × (number < slice_index later (claims_of kind)) × (number < rows_of s kind) × (base ≡ base_of s kind number)
+        → IsClaimed s later base kind
     claimed base kind r =
-        let (number, below, low, is) = rest.claimed base kind r in
-        (number, omega (arith, below, keeps.claims kind), low, is)
+        let x = rest.claimed base kind r in
+        record { number = x.number; claimed = omega (arith, x.claimed, keeps.claims kind); within = x.within; is = x.is }
 
     rests : IsAtRest s claims later
     rests = record {
@@ -77,9 +78,9 @@ low-words-keep s n calm later rest long small claims same = record {
   same = λ b k r j low high. same (b + j) (omega (arith, behind b k (sits s n calm rest r)));
   unlocked = λ b k is. ap is_locked (same b (behind b k (kind_at-sits s b k is))) ∙ rest.unlocked b k is;
   live = λ b k r. ap is_obsolete (same b (behind b k (sits s n calm rest r))) ∙ rest.live b k r;
-  fresh = λ k number word above low from to.
+  fresh = λ k number above low word from to.
       same word (omega (arith, behind (base_of s k number) k (record { number = number; low = low; is = refl }), from))
-      ∙ rest.fresh k number word (omega (arith, above, claims k)) low from to;
+      ∙ rest.fresh k number (omega (arith, above, claims k)) low word from to;
 }
   where
     behind : (b : ℕ) (k : Kind) → Sits s b k → 5 ≤ b

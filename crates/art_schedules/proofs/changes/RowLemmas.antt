@@ -5,13 +5,12 @@ use Rattle.std.proofs.lemmas.Bool.{cases_eq}
 use Rattle.art_rows.specs.declared.table.Shape.{Shape}
 use Rattle.art_rows.specs.declared.table.Kind.{Kind}
 use Rattle.art_rows.specs.declared.table.Child.{Child}
-use Rattle.art_rows.specs.Table.{row_words, rows_of, claims_of, base_of, info_at, kind_at}
+use Rattle.art_rows.specs.Table.{row_words, claims_of, base_of, info_at, kind_at}
 use Rattle.art_rows.specs.Words.{is_locked, is_obsolete, child_of}
 use Rattle.art_rows.proofs.KindLemmas.{two-words}
 use Rattle.art_core.specs.Meaning.{Reached}
-use Rattle.art_serial.specs.trees.Trees.{IsAtRest, SameRow, ChangesAt}
+use Rattle.art_serial.specs.trees.Trees.{IsAtRest, SameRow, ChangesAt, IsClaimed, AreZeroPastClaims}
 use Rattle.art_serial.specs.trees.Children.{ChildrenAreRead}
-use Rattle.art_versions.specs.versions.Versions.{IsClaimed}
 use Rattle.art_versions.specs.versions.Steady as steady
 use Rattle.art_serial.proofs.alone.PlaceLemmas.{Sits, sits-part, sits-inside, sits-kind_at, kind_at-sits}
 use Rattle.art_serial.proofs.alone.LikeLemmas.{sits}
@@ -25,7 +24,7 @@ abbrev pub claimed-sits : (s : Shape) (words : List ℕ) (base : ℕ) (kind : Ki
 claimed-sits s words base kind h = record { number = h.number; low = h.within; is = h.is }
 
 -- where all words of a row are the same, so are those behind its version
-pub steady-row : (words later : List ℕ) (base : ℕ) (kind : Kind) → steady.SameRow words later base kind → SameRow words later base kind
+pub steady-row : (words later : List ℕ) (base : ℕ) (kind : Kind) → steady.SameWords words later base kind → SameRow words later base kind
 steady-row words later base kind same j low high = same (base + j) (omega arith) (omega (arith, high))
 
 -- a word from a base on, by its place
@@ -65,13 +64,12 @@ module _ (s : Shape) (n : ℕ) (calm later : List ℕ) (rest : IsAtRest s n calm
   -- a row that was reached is claimed
   pub still-claimed : (b : ℕ) (k : Kind) → Reached s calm b k → IsClaimed s later b k
   still-claimed b k r =
-      let (number, below, low, is) = rest.claimed b k r in
-      record { number = number; claimed = omega (arith, below, one.claims k); within = low; is = is }
+      let x = rest.claimed b k r in
+      record { number = x.number; claimed = omega (arith, x.claimed, one.claims k); within = x.within; is = x.is }
 
   -- a row that is not claimed has only zeros
-  pub fresh : IsClaimed s later base kind → (k : Kind) (number word : ℕ) → slice_index later (claims_of k) ≤ number → number < rows_of s k
-      → base_of s k number ≤ word → word < base_of s k number + row_words k → slice_index later word ≡ 0
-  fresh own k number word above low from to = ⊎_elim
+  pub fresh : IsClaimed s later base kind → AreZeroPastClaims s later
+  fresh own k number above low word from to = ⊎_elim
       (λ here.
       let (kinds, numbers, bases, places) = sits-part s (base_of s k number) base 0 0 k kind (record { number = number; low = low; is = refl })
       (claimed-sits s later base kind own) (omega (arith, two-words k)) (omega (arith, two-words kind)) (ap (λ i. i + 0) here) in
@@ -81,7 +79,7 @@ module _ (s : Shape) (n : ℕ) (calm later : List ℕ) (rest : IsAtRest s n calm
       ap (λ w. slice_index later w) is
       ∙ (one.others (base_of s k number) k j (sits-kind_at s (base_of s k number) k (record { number = number; low = low; is = refl })) apart high
       ∙ (ap (λ w. slice_index calm w) (sym is)
-      ∙ rest.fresh k number word (omega (arith, above, one.claims k)) low from to))) (cases_eq (base_of s k number) base)
+      ∙ rest.fresh k number (omega (arith, above, one.claims k)) low word from to))) (cases_eq (base_of s k number) base)
 
   -- the infos of all rows that were reached, where the row's stays
   pub infos : slice_index later (info_at base) ≡ slice_index calm (info_at base) → (b : ℕ) (k : Kind) → Reached s calm b k

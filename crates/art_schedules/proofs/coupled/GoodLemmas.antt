@@ -20,9 +20,9 @@ use Rattle.art_versions.proofs.versions.KnownLemmas.{held-is-kept}
 use Rattle.art_versions.proofs.versions.MoveLemmas.{settled-row}
 use Rattle.art_schedules.specs.calm.Calm.{calm_of}
 use Rattle.art_schedules.specs.changes.Effects.{Effect}
-use Rattle.art_schedules.specs.changes.Courses.{IsGoneBy, IsFreshBy}
+use Rattle.art_schedules.specs.changes.Courses.{IsGoneBy, ComesInBy, pairs_by}
 use Rattle.art_schedules.specs.changes.Follows.{Follows}
-use Rattle.art_schedules.specs.coupled.Moments.{IsStepOf, TakesLive}
+use Rattle.art_schedules.specs.coupled.Moments.{TakesLive, IsCoupledStep}
 use Rattle.art_schedules.specs.coupled.Good.{IsGoodRow, GoodOf, TakesReached, GoodRowsStay, OthersLeaveGood}
 use Rattle.art_schedules.proofs.coupled.MadeLemmas.{Facts, facts, others-open}
 use Rattle.art_schedules.proofs.coupled.RowLemmas.{held-live}
@@ -30,7 +30,7 @@ use Rattle.art_schedules.proofs.coupled.MoveLemmas.{reached-kind}
 use Rattle.art_schedules.proofs.coupled.LeaveLemmas.{HeldFrom, HeldBefore, TakenNow, held-from}
 
 module _ (plan : Plan) (start : Contents) (words schedule : List ℕ) (p : ℕ) (s t : State) (claims : ℕ) (m : Contents)
-    (h : IsStepOf plan start words schedule p s t claims m) where
+    (h : IsCoupledStep plan start words schedule p s t claims m) where
   abbrev calm : List ℕ
   calm = calm_of plan words schedule
 
@@ -41,7 +41,8 @@ module _ (plan : Plan) (start : Contents) (words schedule : List ℕ) (p : ℕ) 
   f = facts plan start words schedule p s t claims m h
 
   -- a row that is held behind the step stays in the calm tree
-  module _ (n : ℕ) (pairs : Contents) (effect : Option Effect) (follows : Follows plan.shape n calm after pairs (IsGoneBy effect) (IsFreshBy effect))
+  module _ (n : ℕ) (pairs : Contents) (effect : Option Effect)
+      (follows : Follows plan.shape n calm after pairs (IsGoneBy effect) (ComesInBy effect))
       (dead : (b : ℕ) → IsGoneBy effect b → is_obsolete (slice_index t.words b) ≡ true) where
     still-good : (r : ℕ) (call : Call) (q : Process) → IsOpen t r call q → (x : Held) → IsAmong x (held_by Coupled plan.shape call q)
         → IsGoodRow plan.shape calm x → IsGoodRow plan.shape after x
@@ -75,11 +76,12 @@ module _ (plan : Plan) (start : Contents) (words schedule : List ℕ) (p : ℕ) 
     same-holder w = elim (cases_eq w.holder p) [
       | inl e ↦ e
       | inr d ↦
-          f.behind.apart w.holder p w.call call w.process q (others-open plan p w.holder s t w.call w.process h.made d w.is_open) o w.row x w.among a w.is
+          f.behind.apart w.holder p w.call call w.process q (others-open plan p w.holder s t w.call w.process h.run.made d w.is_open) o
+          w.row x w.among a w.is
     ]
 
     was-good : IsGoodRow plan.shape calm x
-    was-good = go (held-from plan.shape h.before.within.shape.root s t p words calm after f p call q o x a)
+    was-good = go (held-from plan.shape h.run.before.within.shape.root s t p words calm after f p call q o x a)
       where
         go : HeldFrom plan.shape s p x → IsGoodRow plan.shape calm x
         go (HeldBefore w kept) =
@@ -88,10 +90,11 @@ module _ (plan : Plan) (start : Contents) (words schedule : List ℕ) (p : ℕ) 
         go (TakenNow y asks was base kept) = let (kind, reached) = takes y asks was in as-good y kind reached (live y asks was) base kept
 
 pub good-rows-stay : GoodRowsStay
-good-rows-stay plan start words schedule p s t claims m n pairs effect h follows dead good live takes call q o x a =
-    still-good plan start words schedule p s t claims m h n pairs effect follows dead p call q o x a
+good-rows-stay plan start words schedule p s t claims m pairs effect h goes good live takes call q o x a =
+    still-good plan start words schedule p s t claims m h goes.claims (pairs_by effect pairs) effect goes.follows goes.gone p call q o x a
     (was-good plan start words schedule p s t claims m h good live takes call q o x a)
 
 pub others-leave-good : OthersLeaveGood
-others-leave-good plan start words schedule p s t claims m n pairs effect h follows dead r call q apart o good x a =
-    still-good plan start words schedule p s t claims m h n pairs effect follows dead r call q (others-open plan p r s t call q h.made apart o) x a (good x a)
+others-leave-good plan start words schedule p s t claims m pairs effect h goes r call q apart o good x a =
+    still-good plan start words schedule p s t claims m h goes.claims (pairs_by effect pairs) effect goes.follows goes.gone r call q
+    (others-open plan p r s t call q h.run.made apart o) x a (good x a)

@@ -38,7 +38,7 @@ use Rattle.art_serial.proofs.words.VersionLemmas.{taken-locked, obsolete_release
 use Rattle.art_versions.specs.versions.Holding.{Knows, holds}
 use Rattle.art_versions.specs.versions.Locking.{all_of, lock_of, locks_of, rows_of_hold}
 use Rattle.art_versions.specs.versions.Effects.{IsAmong}
-use Rattle.art_versions.specs.versions.Versions.{IsOpen, IsHeld, IsSettled, stage_of, held_by}
+use Rattle.art_versions.specs.versions.Versions.{IsOpen, IsHeld, IsSettled, stage_of, held_by, IsAtStage}
 use Rattle.art_versions.proofs.versions.KnownLemmas.{held-is-kept}
 use Rattle.art_versions.proofs.versions.MoveLemmas.{settled-row}
 use Rattle.art_versions.proofs.versions.WordFacts.{version-free}
@@ -47,8 +47,7 @@ use Rattle.art_schedules.specs.calm.Changes.{AsksFor, RowChange, RowsStay, RowWr
 use Rattle.art_schedules.proofs.calm.VersionLemmas.{not-behind, locked-same, released-free, obsolete-free}
 use Rattle.art_schedules.proofs.calm.CalmLemmas.{claimed-row}
 use Rattle.art_schedules.specs.changes.Effects.{Effect}
-use Rattle.art_schedules.specs.changes.Courses.{IsGoneBy, IsFreshBy}
-use Rattle.art_schedules.specs.changes.Follows.{Follows}
+use Rattle.art_schedules.specs.changes.Courses.{IsGoneBy, ComesInBy, TreeGoesOn}
 use Rattle.art_schedules.specs.work.Own.{TouchesOwn, LoadsHeld, StoresOwn, ClaimsRow, ReleasesHeld, Replies, is_lock, may_release}
 use Rattle.art_schedules.specs.work.Works.{RowsOf}
 use Rattle.art_schedules.proofs.work.OwnLemmas.{rows-known}
@@ -56,7 +55,7 @@ use Rattle.art_schedules.proofs.work.TouchLemmas.{work-own}
 use Rattle.art_schedules.proofs.work.LockedLemmas.{locked-own}
 use Rattle.art_schedules.proofs.work.WalkLemmas.{reads-held}
 use Rattle.art_schedules.specs.coupled.Knows.{KnowsWay}
-use Rattle.art_schedules.specs.coupled.Moments.{IsStepOf, IsAtStage, IsLeaving, ObsoleteLeave, HeldAreLive, TakesLive, MakesLeave, LeavesBy}
+use Rattle.art_schedules.specs.coupled.Moments.{IsLeaving, ObsoleteLeave, HeldAreLive, TakesLive, MakesLeave, LeavesBy, IsCoupledStep}
 use Rattle.art_schedules.specs.coupled.Laws.{WaysTakeLive, WorkTakesLive, HeldRowsLive, ObsoleteRowsLeave, RestsHaveNone}
 use Rattle.art_schedules.proofs.coupled.MadeLemmas.{Facts, facts, made, others-open}
 use Rattle.art_schedules.proofs.coupled.RowLemmas.{kept-row, held-calm, held-live, its-turn}
@@ -161,7 +160,7 @@ module _ (shape : Shape) (root : 1 ≤ shape.rows256) (s t : State) (p : ℕ) (f
     pub record MadeBy (base : ℕ) (kind : Kind) : Type 0 where
       pub call : Call
       pub hold : Hold
-      pub at : IsAtStage shape s p call (Obsolete hold)
+      pub at : IsAtStage Coupled shape s p call (OnKey (Obsolete hold))
       pub is : base ≡ hold.row.base
 
     becomes : (base : ℕ) (kind : Kind) → kind_at shape base ≡ Some kind → is_obsolete (slice_index s.words base) ≡ false
@@ -224,7 +223,7 @@ module _ (shape : Shape) (root : 1 ≤ shape.rows256) (s t : State) (p : ℕ) (f
                 touched (Replies r turn) = absurd (answers-asks (sym turn ∙ asks.turn))
 
 module _ (plan : Plan) (start : Contents) (words schedule : List ℕ) (p : ℕ) (s t : State) (claims : ℕ) (m : Contents)
-    (h : IsStepOf plan start words schedule p s t claims m) where
+    (h : IsCoupledStep plan start words schedule p s t claims m) where
   abbrev calm : List ℕ
   calm = calm_of plan words schedule
 
@@ -234,14 +233,14 @@ module _ (plan : Plan) (start : Contents) (words schedule : List ℕ) (p : ℕ) 
   f : Facts plan.shape s t p words calm after
   f = facts plan start words schedule p s t claims m h
 
-  module _ (leaving next : ℕ → Option ℕ) (n : ℕ) (pairs : Contents) (effect : Option Effect)
-      (follows : Follows plan.shape n calm after pairs (IsGoneBy effect) (IsFreshBy effect)) (live : HeldAreLive plan.shape s)
+  module _ (leaving next : ℕ → Option ℕ) (pairs : Contents) (effect : Option Effect)
+      (goes : TreeGoesOn plan.shape t.words calm after pairs effect) (live : HeldAreLive plan.shape s)
       (by : LeavesBy plan.shape s t p calm effect leaving next) (leave : ObsoleteLeave plan.shape s calm leaving) where
     -- a row that is held is reached behind the step as before it, with the same children
     not-gone : (r : ℕ) (call : Call) (q : Process) → IsOpen t r call q → (x : Held) → IsAmong x (held_by Coupled plan.shape call q)
         → is_obsolete x.kept ≡ false → IsGoneBy effect x.base → ⊥
     not-gone r call q o x a alive gone =
-        false≢true (sym (held-live plan.shape s t p words calm after f r call q o x a alive) ∙ by.gone x.base gone)
+        false≢true (sym (held-live plan.shape s t p words calm after f r call q o x a alive) ∙ goes.gone x.base gone)
 
     still-hangs : (r : ℕ) (call : Call) (q : Process) → IsOpen t r call q → (x : Held) → IsAmong x (held_by Coupled plan.shape call q) → (byte : ℕ) → byte < 256
         → (base : ℕ) (kind : Kind) → child_on plan.shape calm x.base x.kind byte ≡ ChildRow base kind
@@ -249,7 +248,8 @@ module _ (plan : Plan) (start : Contents) (words schedule : List ℕ) (p : ℕ) 
     still-hangs r call q o x a byte small base kind hangs =
         child-same plan.shape calm after x.base x.kind byte small (held-calm plan.shape s t p words calm after f r call q o x a) ∙ hangs
 
-    unlock-among : (shape : Shape) (u : State) (r : ℕ) (call : Call) (hold : Hold) (outcome : _) (x : IsAtStage shape u r call (Unlock hold outcome))
+    unlock-among : (shape : Shape) (u : State) (r : ℕ) (call : Call) (hold : Hold) (outcome : _)
+        (x : IsAtStage Coupled shape u r call (OnKey (Unlock hold outcome)))
         → IsAmong (lock_of hold.row) (held_by Coupled shape call x.process)
     unlock-among shape u r call hold outcome x = subst (λ y. IsAmong (lock_of hold.row) (holds (setting shape Coupled call) y)) (sym x.at) (inl refl)
 
@@ -257,11 +257,17 @@ module _ (plan : Plan) (start : Contents) (words schedule : List ℕ) (p : ℕ) 
     was-leaving : (base : ℕ) (kind : Kind) → (IsGoneBy effect base → ⊥) → IsLeaving plan.shape s calm leaving base kind
         → IsLeaving plan.shape t after next base kind
     was-leaving base kind stays l = elim (cases_eq l.process p) [
-      | inl e ↦ absurd (stays (by.leaves l.call l.hold l.outcome base (subst (λ r. IsAtStage plan.shape s r l.call (Unlock l.hold l.outcome)) e l.at)
+      | inl e ↦ absurd (stays
+          (by.leaves l.call l.hold l.outcome base
+          (subst (λ r. IsAtStage Coupled plan.shape s r l.call (OnKey (Unlock l.hold l.outcome))) e l.at)
           (ap leaving (sym e) ∙ l.leaves)))
       | inr apart ↦
-          let then : IsAtStage plan.shape t l.process l.call (Unlock l.hold l.outcome) =
-          record { process = l.at.process; is_open = others-open plan p l.process s t l.call l.at.process h.made apart l.at.is_open; at = l.at.at } in
+          let then : IsAtStage Coupled plan.shape t l.process l.call (OnKey (Unlock l.hold l.outcome)) =
+          record {
+            process = l.at.process;
+            is_open = others-open plan p l.process s t l.call l.at.process h.run.made apart l.at.is_open;
+            at = l.at.at;
+          } in
           let among = unlock-among plan.shape s l.process l.call l.hold l.outcome l.at in
           record {
             process = l.process;
@@ -272,7 +278,7 @@ module _ (plan : Plan) (start : Contents) (words schedule : List ℕ) (p : ℕ) 
             leaves = by.others l.process apart ∙ l.leaves;
             byte = l.byte;
             is_byte = l.is_byte;
-            reached = (follows.rows l.hold.row.base l.hold.row.kind).1
+            reached = (goes.follows.rows l.hold.row.base l.hold.row.kind).1
                 (inl (
                   l.reached,
                   not-gone l.process l.call l.at.process then.is_open (lock_of l.hold.row) among
@@ -284,7 +290,8 @@ module _ (plan : Plan) (start : Contents) (words schedule : List ℕ) (p : ℕ) 
 
     -- the step makes it obsolete
     leaves-now : (base : ℕ) (kind : Kind) → kind_at plan.shape base ≡ Some kind
-        → MadeBy plan.shape h.before.within.shape.root s t p words calm after f live base kind → IsLeaving plan.shape t after next base kind
+        → MadeBy plan.shape h.run.before.within.shape.root s t p words calm after f live base kind
+        → IsLeaving plan.shape t after next base kind
     leaves-now base kind row x = record {
       process = p;
       call = x.call;
@@ -294,7 +301,7 @@ module _ (plan : Plan) (start : Contents) (words schedule : List ℕ) (p : ℕ) 
       leaves = y.names ∙ ap Some (sym x.is);
       byte = y.byte;
       is_byte = y.is_byte;
-      reached = (follows.rows y.above.base y.above.kind).1 (inl (
+      reached = (goes.follows.rows y.above.base y.above.kind).1 (inl (
         y.reached,
         not-gone p x.call then.process then.is_open (lock_of y.above)
             (unlock-among plan.shape t p x.call (hold_alone y.above) (Some no_value) then) (live p x.call x.at.process x.at.is_open (lock_of y.above)
@@ -318,9 +325,10 @@ module _ (plan : Plan) (start : Contents) (words schedule : List ℕ) (p : ℕ) 
             (kept-row plan.shape s t p words calm after f p x.call x.at.process x.at.is_open (lock_of x.hold.row) (held-there (lock_of x.hold.row) (inl refl))))
             ∙ (ap (kind_at plan.shape) (sym x.is) ∙ row))
 
-        then : IsAtStage plan.shape t p x.call (Unlock (hold_alone y.above) (Some no_value))
+        then : IsAtStage Coupled plan.shape t p x.call (OnKey (Unlock (hold_alone y.above) (Some no_value)))
         then =
-            let z = made plan p s t x.call x.at.process (Store x.hold.row.base (obsolete_word x.hold.row.kept)) (Some point.Unlock) h.coupled h.made
+            let z = made plan p s t x.call x.at.process (Store x.hold.row.base (obsolete_word x.hold.row.kept)) (Some point.Unlock)
+            h.coupled h.run.made
             x.at.is_open (ap (call_turn (setting plan.shape Coupled x.call)) x.at.at) in
             record {
               process = z.process;
@@ -329,9 +337,10 @@ module _ (plan : Plan) (start : Contents) (words schedule : List ℕ) (p : ℕ) 
             }
 
     rows-leave : ObsoleteLeave plan.shape t after next
-    rows-leave base kind r dead = go ((follows.rows base kind).0 r)
+    rows-leave base kind r dead = go ((goes.follows.rows base kind).0 r)
       where
-        go : (Reached plan.shape calm base kind × (IsGoneBy effect base → ⊥)) ⊎ IsFreshBy effect base kind → IsLeaving plan.shape t after next base kind
+        go : (Reached plan.shape calm base kind × (IsGoneBy effect base → ⊥)) ⊎ ComesInBy effect base kind
+            → IsLeaving plan.shape t after next base kind
         go (inr fresh) = absurd (false≢true (sym (by.fresh base kind fresh) ∙ dead))
         go (inl (was, stays)) = before (is_obsolete (slice_index s.words base)) refl
           where
@@ -341,11 +350,12 @@ module _ (plan : Plan) (start : Contents) (words schedule : List ℕ) (p : ℕ) 
             before : (b : Bool) → is_obsolete (slice_index s.words base) ≡ b → IsLeaving plan.shape t after next base kind
             before true e = was-leaving base kind stays (leave base kind was e)
             before false e =
-                leaves-now base kind row (becomes plan.shape h.before.within.shape.root s t p words calm after f live base kind row e dead)
+                leaves-now base kind row
+                (becomes plan.shape h.run.before.within.shape.root s t p words calm after f live base kind row e dead)
 
   -- a call on its way takes no obsolete row
-  module _ (leaving : ℕ → Option ℕ) (leave : ObsoleteLeave plan.shape s calm leaving) (call : Call) (stage : Stage) (at-stage : IsAtStage plan.shape s p call
-      stage)
+  module _ (leaving : ℕ → Option ℕ) (leave : ObsoleteLeave plan.shape s calm leaving) (call : Call) (stage : Stage)
+      (at-stage : IsAtStage Coupled plan.shape s p call (OnKey stage))
       (found : Option Reply) (k : KnowsWay (setting plan.shape Coupled call) calm s.words found stage) where
     takes-live-rows : TakesLive plan.shape s p
     takes-live-rows x asks is =
@@ -366,7 +376,7 @@ work-takes-live plan start words schedule p s t claims m call stage h at w x ask
     known = f plan start words schedule p s t claims m h
 
     touches : TouchesOwn (setting plan.shape Coupled call) (OnKey stage)
-    touches = work-own Coupled (inl refl) plan.shape call h.before.within.shape.root stage w
+    touches = work-own Coupled (inl refl) plan.shape call h.run.before.within.shape.root stage w
         (subst (Knows (RowsOf plan.shape) (setting plan.shape Coupled call)) at.at (rows-known Coupled plan.shape known.count s p call at.process known.sound
         at.is_open))
 
@@ -383,11 +393,11 @@ work-takes-live plan start words schedule p s t claims m call stage h at w x ask
 
 pub held-live-then : HeldRowsLive
 held-live-then plan start words schedule p s t claims m h live takes =
-    held-rows-live plan.shape h.before.within.shape.root s t p words _ _ (f plan start words schedule p s t claims m h) live takes
+    held-rows-live plan.shape h.run.before.within.shape.root s t p words _ _ (f plan start words schedule p s t claims m h) live takes
 
 pub obsolete-rows-leave : ObsoleteRowsLeave
-obsolete-rows-leave plan start words schedule p s t claims m leaving next n pairs effect h follows live by leave =
-    rows-leave plan start words schedule p s t claims m h leaving next n pairs effect follows live by leave
+obsolete-rows-leave plan start words schedule p s t claims m leaving next pairs effect h goes live by leave =
+    rows-leave plan start words schedule p s t claims m h leaving next pairs effect goes live by leave
 
 pub rests-have-none : RestsHaveNone
 rests-have-none shape claims s leaving rest base kind r dead = absurd (false≢true (sym (rest.live base kind r) ∙ dead))

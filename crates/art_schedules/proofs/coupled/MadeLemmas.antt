@@ -26,7 +26,7 @@ use Rattle.art_schedules.specs.calm.Calm.{calm_of, IsCalm}
 use Rattle.art_schedules.specs.calm.Changes.{CalmStep}
 use Rattle.art_schedules.proofs.calm.InductionLemmas.{step-of-run}
 use Rattle.art_schedules.proofs.calm.RunLemmas.{calm-at, step-at}
-use Rattle.art_schedules.specs.coupled.Moments.{IsStepOf}
+use Rattle.art_schedules.specs.coupled.Moments.{IsCoupledStep}
 
 -- what is known of the two states, and of calm beside them
 pub record Facts (shape : Shape) (s t : State) (p : ℕ) (first calm after : List ℕ) : Type 0 where
@@ -40,21 +40,22 @@ pub record Facts (shape : Shape) (s t : State) (p : ℕ) (first calm after : Lis
   pub goes : CalmStep Coupled shape s p t calm after
 
 pub facts : (plan : Plan) (start : Contents) (words schedule : List ℕ) (p : ℕ) (s t : State) (claims : ℕ) (m : Contents)
-    → IsStepOf plan start words schedule p s t claims m
+    → IsCoupledStep plan start words schedule p s t claims m
     → Facts plan.shape s t p words (calm_of plan words schedule) (calm_of plan words (schedule ++ p ∷ []))
 facts plan start words schedule p s t claims m h =
-    let x = step-of-run Coupled (inl refl) plan start words schedule p s t h.before h.coupled h.made in
+    let x = step-of-run Coupled (inl refl) plan start words schedule p s t h.run.before h.coupled h.run.made in
     record {
       count = x.count;
       few = x.few;
       sound = x.before;
       behind = x.behind;
       steady = x.steady;
-      before = subst (λ v. IsCalm v plan.shape words s (calm_of plan words schedule)) h.coupled (calm-at plan start words schedule s h.before (inl h.coupled));
+      before = subst (λ v. IsCalm v plan.shape words s (calm_of plan words schedule)) h.coupled
+          (calm-at plan start words schedule s h.run.before (inl h.coupled));
       then = subst (λ v. IsCalm v plan.shape words t (calm_of plan words (schedule ++ p ∷ []))) h.coupled
-          (calm-at plan start words (schedule ++ p ∷ []) t h.behind (inl h.coupled));
+          (calm-at plan start words (schedule ++ p ∷ []) t h.run.behind (inl h.coupled));
       goes = subst (λ v. CalmStep v plan.shape s p t (calm_of plan words schedule) (calm_of plan words (schedule ++ p ∷ []))) h.coupled
-          (step-at plan start words schedule p s t h.behind (inl h.coupled) h.before.gives);
+          (step-at plan start words schedule p s t h.run.behind (inl h.coupled) h.run.before.gives);
     }
 
 -- the access that an open call made

@@ -52,21 +52,20 @@ use Rattle.art_serial.proofs.writes.StoreLemmas.{stored-at}
 use Rattle.art_versions.specs.versions.Holding.{Each, Fits, Knows, KnowsKey, holds, fills, row_filled}
 use Rattle.art_versions.specs.versions.Locking.{all_of, held_at_place, lock_of, locks_of, rows_held, rows_of_hold}
 use Rattle.art_versions.specs.versions.Effects.{IsAmong}
-use Rattle.art_versions.specs.versions.Versions.{IsOpen, IsSettled, stage_of, held_by, filled_by}
+use Rattle.art_versions.specs.versions.Versions.{IsOpen, IsSettled, stage_of, held_by, filled_by, IsAtStage}
 use Rattle.art_versions.proofs.versions.KnownLemmas.{held-is-kept, among-each, each-among}
 use Rattle.art_versions.proofs.versions.MoveLemmas.{settled-row, no-items}
 use Rattle.art_schedules.specs.calm.Calm.{calm_of}
 use Rattle.art_schedules.proofs.calm.VersionLemmas.{free-busy}
-use Rattle.art_schedules.specs.changes.Courses.{IsGoneBy}
+use Rattle.art_schedules.specs.changes.Courses.{IsGoneBy, IsStill, ComesInBy, pairs_by}
 use Rattle.art_schedules.specs.changes.Effects.{Effect}
-use Rattle.art_schedules.specs.changes.Follows.{HasFewClaims, Follows, KeepsTree, NoBase, NoRow}
+use Rattle.art_schedules.specs.changes.Follows.{HasFewClaims, Follows, KeepsTree}
 use Rattle.art_schedules.specs.changes.Laws.{KeptTreesFollow}
 use Rattle.art_schedules.proofs.changes.RowLemmas.{steady-row}
 use Rattle.art_schedules.specs.coupled.Knows.{IsOwn, IsBelow, HangsBelow, KnowsPlace, KnowsTarget, KnowsStage, KnowsReply, KnowsAt, KnowsWay}
 use Rattle.art_schedules.specs.coupled.Goes.{Gets, Goes, GoesOn, Works, Finds}
-use Rattle.art_schedules.specs.coupled.Stays.{IsStill}
 use Rattle.art_schedules.specs.coupled.Laws.{CallsBegin, CallsGoOn, CallsStay, FoundIsAnswered, OthersLeaveWays, WaysHoldReached}
-use Rattle.art_schedules.specs.coupled.Moments.{IsStepOf, IsAtStage, IsLeaving, ObsoleteLeave}
+use Rattle.art_schedules.specs.coupled.Moments.{IsLeaving, ObsoleteLeave, IsCoupledStep}
 use Rattle.art_schedules.specs.coupled.Good.{WaysTakeReached, SeekersAreNotAnswered}
 use Rattle.art_schedules.proofs.coupled.OwnLemmas.{ways-go-on, findings-stay}
 use Rattle.art_schedules.proofs.coupled.StayLemmas.{begins-still, own-still, ways-are-kept}
@@ -109,14 +108,15 @@ find-loads FortyEight c n = (_, refl)
 find-loads Full c n = (_, refl)
 
 -- What a call on its way does next: it loads, or exchanges the version of its target, or releases a row that it holds.
-data Does (c : Setting) (i : Bool) (stage : Stage) : Type 0 where
-  DoesLoad : (word : ℕ) → (mark : Option Point) → turn_at c stage ≡ Asks (Load word) mark → Does c i stage
-  DoesSwap : (t : Target) → (v : ℕ) → stage ≡ Exchange t v → Does c i stage
+data DoesAt (c : Setting) (i : Bool) (stage : Stage) : Type 0 where
+  DoesLoad : (word : ℕ) → (mark : Option Point) → turn_at c stage ≡ Asks (Load word) mark → DoesAt c i stage
+  DoesSwap : (t : Target) → (v : ℕ) → stage ≡ Exchange t v → DoesAt c i stage
   DoesRelease : (h : Held) → (mark : Option Point) → IsAmong h (rows_held true i stage) → turn_at c stage ≡ Asks (Store h.base (released_word h.kept)) mark
-      → Does c i stage
-  DoesAnswer : (r : Reply) → turn_at c stage ≡ Answers r → Does c i stage
+      → DoesAt c i stage
+  DoesAnswer : (r : Reply) → turn_at c stage ≡ Answers r → DoesAt c i stage
 
-stage-does : (c : Setting) (coupled : locks c.variant ≡ true) (i : Bool) (calm : List ℕ) (stage : Stage) → KnowsStage i c calm stage → Does c i stage
+stage-does : (c : Setting) (coupled : locks c.variant ≡ true) (i : Bool) (calm : List ℕ) (stage : Stage) → KnowsStage i c calm stage
+    → DoesAt c i stage
 stage-does c l i calm (Lock t true) k = DoesLoad _ _ refl
 stage-does c l i calm (Lock t false) k = DoesLoad _ _ refl
 stage-does c l i calm (Exchange t v) k = DoesSwap t v refl
@@ -130,13 +130,14 @@ stage-does c l i calm (Slot p slot) k = DoesLoad _ _ refl
 stage-does c l i calm (LetGo above p f) k = DoesRelease above _ (inr (inl refl)) refl
 stage-does c l i calm stage k = absurd k
 
-reply-does : (r : Reply) (c : Setting) (i : Bool) (calm : List ℕ) (stage : Stage) → KnowsReply r i c calm stage → Does c i stage
+reply-does : (r : Reply) (c : Setting) (i : Bool) (calm : List ℕ) (stage : Stage) → KnowsReply r i c calm stage → DoesAt c i stage
 reply-does r c i calm (Info d kept) k = DoesLoad _ _ refl
 reply-does r c i calm (Unlock h outcome) k = DoesRelease h.row _ (inl refl) refl
 reply-does r c i calm (Over outcome) k = DoesAnswer _ refl
 reply-does r c i calm stage k = absurd k
 
-knows-does : (o : Option Reply) (c : Setting) → locks c.variant ≡ true → (i : Bool) (calm : List ℕ) (stage : Stage) → KnowsAt o i c calm stage → Does c i stage
+knows-does : (o : Option Reply) (c : Setting) → locks c.variant ≡ true → (i : Bool) (calm : List ℕ) (stage : Stage)
+    → KnowsAt o i c calm stage → DoesAt c i stage
 knows-does None c l i calm stage k = stage-does c l i calm stage k
 knows-does (Some r) c l i calm stage k = reply-does r c i calm stage k
 
@@ -181,7 +182,7 @@ row-swapped : (o : Option Reply) (c : Setting) → locks c.variant ≡ true → 
     → (word v w : ℕ) (mark : Option Point) → turn_at c stage ≡ Asks (Swap word v w) mark → (kind : Kind) × Reached c.shape calm word kind
 row-swapped o c l i calm stage k word v w mark e = go (knows-does o c l i calm stage k)
   where
-    go : Does c i stage → (kind : Kind) × Reached c.shape calm word kind
+    go : DoesAt c i stage → (kind : Kind) × Reached c.shape calm word kind
     go (DoesLoad other m x) = absurd (load-exchange (sym x ∙ e))
     go (DoesRelease h m among x) = absurd (store-exchange (sym x ∙ e))
     go (DoesAnswer reply x) = absurd (answers-asks (sym x ∙ e))
@@ -263,7 +264,7 @@ module _ (shape : Shape) (s t : State) (p : ℕ) (first calm after : List ℕ) (
         → (word v : ℕ) (m : Option Point) → turn_at c stage ≡ Asks (Swap word v (locked_word v)) m → slice_index s.words word ≡ v → is_obsolete v ≡ false
     live-taken found stage at k word v m e is = go (knows-does found c refl (is_insert call) calm stage k)
       where
-        go : Does c (is_insert call) stage → is_obsolete v ≡ false
+        go : DoesAt c (is_insert call) stage → is_obsolete v ≡ false
         go (DoesLoad other l x) = absurd (load-exchange (sym x ∙ e))
         go (DoesRelease h l among x) = absurd (store-exchange (sym x ∙ e))
         go (DoesAnswer reply x) = absurd (answers-asks (sym x ∙ e))
@@ -286,7 +287,7 @@ module _ (shape : Shape) (s t : State) (p : ℕ) (first calm after : List ℕ) (
             → Reached shape calm word kind → SameRow calm s.words word kind × (is_obsolete v ≡ false)
         takes word v m e is kind r = go (knows-does found c refl (is_insert call) calm stage k)
           where
-            go : Does c (is_insert call) stage → SameRow calm s.words word kind × (is_obsolete v ≡ false)
+            go : DoesAt c (is_insert call) stage → SameRow calm s.words word kind × (is_obsolete v ≡ false)
             go (DoesLoad other l x) = absurd (load-exchange (sym x ∙ e))
             go (DoesRelease h l among x) = absurd (store-exchange (sym x ∙ e))
             go (DoesAnswer reply x) = absurd (answers-asks (sym x ∙ e))
@@ -323,7 +324,7 @@ module _ (shape : Shape) (s t : State) (p : ℕ) (first calm after : List ℕ) (
             here : turn_at c stage ≡ Asks (Store word value) mark
             here = ap (call_turn c) (sym at) ∙ e
 
-            go : Does c (is_insert call) stage → (y : Held) × IsAmong y (held_by Coupled shape call q) × (word ≡ y.base)
+            go : DoesAt c (is_insert call) stage → (y : Held) × IsAmong y (held_by Coupled shape call q) × (word ≡ y.base)
             go (DoesLoad other l x) = absurd (load-store (sym x ∙ here))
             go (DoesSwap t u x) = absurd (exchange-store (ap (turn_at c) (sym x) ∙ here))
             go (DoesAnswer reply x) = absurd (answers-asks (sym x ∙ here))
@@ -340,7 +341,7 @@ module _ (shape : Shape) (s t : State) (p : ℕ) (first calm after : List ℕ) (
         without : ((word value : ℕ) (m : Option Point) → turn_at c stage ≡ Asks (Store word value) m → ⊥) → KeepsTree shape calm after
         without none = keeps-without shape s t p first calm after f call q o claims rest small (λ word value m e. none word value m (sym here ∙ e))
 
-        go : Does c (is_insert call) stage → KeepsTree shape calm after
+        go : DoesAt c (is_insert call) stage → KeepsTree shape calm after
         go (DoesLoad other l x) = without (λ word value m e. load-store (sym x ∙ e))
         go (DoesSwap t u x) = without (λ word value m e. exchange-store (ap (turn_at c) (sym x) ∙ e))
         go (DoesAnswer reply x) = without (λ word value m e. answers-asks (sym x ∙ e))
@@ -383,7 +384,7 @@ few-claims shape s t p first calm after f kind =
     omega (arith, few, f.then.low (claims_of kind) (claims-few kind))
 
 module _ (plan : Plan) (start : Contents) (words schedule : List ℕ) (p : ℕ) (s t : State) (claims : ℕ) (m : Contents)
-    (h : IsStepOf plan start words schedule p s t claims m) where
+    (h : IsCoupledStep plan start words schedule p s t claims m) where
   abbrev calm : List ℕ
   calm = calm_of plan words schedule
 
@@ -394,7 +395,7 @@ module _ (plan : Plan) (start : Contents) (words schedule : List ℕ) (p : ℕ) 
   f = facts plan start words schedule p s t claims m h
 
   -- the rows that the call holds behind the step are still
-  rows-still : (call : Call) (r : ℕ) (effect : Option Effect) (next : Stage) (x : IsAtStage plan.shape t r call next)
+  rows-still : (call : Call) (r : ℕ) (effect : Option Effect) (next : Stage) (x : IsAtStage Coupled plan.shape t r call (OnKey next))
       → ((h : Held) → IsAmong (lock_of h) (held_by Coupled plan.shape call x.process) → SameRow s.words t.words h.base h.kind × (IsGoneBy effect h.base → ⊥))
       → Each (IsStill calm s.words after t.words effect) (rows_held true (is_insert call) next)
   rows-still call r effect next x same = each-among _ (rows_held true (is_insert call) next) (λ h a.
@@ -403,7 +404,8 @@ module _ (plan : Plan) (start : Contents) (words schedule : List ℕ) (p : ℕ) 
       let y = same h among in
       record { row = held-calm plan.shape s t p words calm after f r call x.process x.is_open (lock_of h) among; same = y.0; stays = y.1 })
 
-  module _ (leaving : ℕ → Option ℕ) (leave : ObsoleteLeave plan.shape s calm leaving) (call : Call) (stage : Stage) (at : IsAtStage plan.shape s p call stage)
+  module _ (leaving : ℕ → Option ℕ) (leave : ObsoleteLeave plan.shape s calm leaving) (call : Call) (stage : Stage)
+      (at : IsAtStage Coupled plan.shape s p call (OnKey stage))
       (found : Option Reply) (k : KnowsWay (setting plan.shape Coupled call) calm s.words found stage)
       (a : Access) (mark : Option Point) (turn : turn_at (setting plan.shape Coupled call) stage ≡ Asks a mark) where
     abbrev its : Setting
@@ -413,13 +415,14 @@ module _ (plan : Plan) (start : Contents) (words schedule : List ℕ) (p : ℕ) 
     got = told a (slice_index s.words (word_of a))
 
     access-made : IsMade plan.shape s t p call at.process a
-    access-made = made plan p s t call at.process a mark h.coupled h.made at.is_open (ap (call_turn its) at.at ∙ turn)
+    access-made = made plan p s t call at.process a mark h.coupled h.run.made at.is_open (ap (call_turn its) at.at ∙ turn)
 
-    next-at : IsAtStage plan.shape t p call (stage_after its stage got)
+    next-at : IsAtStage Coupled plan.shape t p call (OnKey (stage_after its stage got))
     next-at = record { process = access-made.process; is_open = access-made.is_open; at = access-made.at ∙ ap (λ x. call_after its x got) at.at }
 
     keeps-tree : KeepsTree plan.shape calm after
-    keeps-tree = tree-stays plan.shape s t p words calm after f claims h.rests leaving leave call at.process at.is_open found stage a mark at.at k turn h.small
+    keeps-tree = tree-stays plan.shape s t p words calm after f claims h.rests leaving leave call at.process at.is_open found stage a mark
+        at.at k turn f.then.small
         access-made.words
 
     own-gets : Gets its calm s.words stage got
@@ -435,14 +438,14 @@ module _ (plan : Plan) (start : Contents) (words schedule : List ℕ) (p : ℕ) 
         ))
 
     module _ (trees : KeptTreesFollow) where
-      own-follows : Follows plan.shape (f.count + 2) calm after m NoBase NoRow
+      own-follows : Follows plan.shape (f.count + 2) calm after m (IsGoneBy None) (ComesInBy None)
       own-follows = trees plan.shape claims (f.count + 2) calm after m h.rests h.means keeps-tree (few-claims plan.shape s t p words calm after f)
 
       knows-then : (o : Option Reply) → KnowsWay its calm s.words o (stage_after its stage got) → KnowsWay its after t.words o (stage_after its stage got)
       knows-then o x = ways-are-kept plan.shape call (f.count + 2) calm s.words after t.words m None o (stage_after its stage got) own-follows own-still-rows x
 
       still-of : (hs : List Held) → Each (IsStill calm s.words after t.words None) hs
-          → Each (λ x. SameRow calm after x.base x.kind × (NoBase x.base → ⊥)) hs
+          → Each (λ x. SameRow calm after x.base x.kind × (IsGoneBy None x.base → ⊥)) hs
       still-of [] x = tt
       still-of (y ∷ hs) x = ((x.0.row, x.0.stays), still-of hs x.1)
 
@@ -457,7 +460,8 @@ module _ (plan : Plan) (start : Contents) (words schedule : List ℕ) (p : ℕ) 
           let still = subst (Each (IsStill calm s.words after t.words None)) (ap (rows_held true (is_insert call)) e ∙ works-hold (is_insert call) its hold
           work)
           own-still-rows in
-          Works hold work e (begins-still its (f.count + 2) calm after m NoBase NoRow own-follows m hold work (still-of (rows_of_hold hold) still) b)
+          Works hold work e (begins-still its (f.count + 2) calm after m (IsGoneBy None) (ComesInBy None) own-follows m hold work
+          (still-of (rows_of_hold hold) still) b)
           (own-of (rows_of_hold hold) still own)
 
 pub calls-go-on : KeptTreesFollow → WaysLeadToValues → LeavesAreSmall → CallsGoOn
@@ -488,14 +492,14 @@ calls-stay trees plan start words schedule p s t claims m leaving call stage rep
     }
 
 pub others-leave-ways : OthersLeaveWays
-others-leave-ways plan start words schedule p s t claims m r call stage found n pairs effect h apart at k follows dead =
-    (next, ways-are-kept plan.shape call n _ s.words _ t.words pairs effect found stage follows still k)
+others-leave-ways plan start words schedule p s t claims m r call stage found pairs effect h apart at k goes =
+    (next, ways-are-kept plan.shape call goes.claims _ s.words _ t.words (pairs_by effect pairs) effect found stage goes.follows still k)
   where
     known : Facts plan.shape s t p words (calm_of plan words schedule) (calm_of plan words (schedule ++ p ∷ []))
     known = f plan start words schedule p s t claims m h
 
-    next : IsAtStage plan.shape t r call stage
-    next = record { process = at.process; is_open = others-open plan p r s t call at.process h.made apart at.is_open; at = at.at }
+    next : IsAtStage Coupled plan.shape t r call (OnKey stage)
+    next = record { process = at.process; is_open = others-open plan p r s t call at.process h.run.made apart at.is_open; at = at.at }
 
     live : (x : Held) → IsAmong x (rows_held true (is_insert call) stage) → is_obsolete x.kept ≡ false
     live x a = (among-each _ x (rows_held true (is_insert call) stage) a k.rows).live
@@ -508,8 +512,9 @@ others-leave-ways plan start words schedule p s t claims m r call stage found n 
         record {
           row = held-calm plan.shape s t p words _ _ known r call at.process next.is_open (lock_of x) among;
           same = others-same plan.shape s t p words _ _ known r call at.process apart at.is_open (lock_of x) among;
-          stays = λ gone. false≢true (sym (held-live plan.shape s t p words _ _ known r call at.process next.is_open (lock_of x) among (live x a)) ∙ dead
-              x.base gone);
+          stays = λ gone. false≢true
+              (sym (held-live plan.shape s t p words _ _ known r call at.process next.is_open (lock_of x) among (live x a))
+              ∙ goes.gone x.base gone);
         })
 
 pub found-is-answered : FoundIsAnswered

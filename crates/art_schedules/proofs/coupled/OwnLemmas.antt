@@ -1,13 +1,12 @@
 -- A step of a call that knows its way.
 use Rattle.std.proofs.Common.{◌≡◌, ◌≢◌, inl, inr, ℕ, ◌+◌, ◌-◌, ◌%◌, ◌<◌, ◌==◌, List, ◌∷◌, length, slice_index, Option, Some, None}
 use Rattle.std.proofs.Common.{Bool, true, false, refl, sym, ap, ◌∙◌, subst, arith, eqb-true, option_map, if◌then◌else◌}
-use Rattle.std.proofs.lemmas.Bool.{false≢true, eqb-false}
+use Rattle.std.proofs.lemmas.Bool.{eqb-false}
 use Rattle.std.proofs.lemmas.Option.{none-some}
 use Rattle.events.specs.declared.event.Call.{Call}
-use Rattle.events.specs.declared.event.Call.TheVariants.{Get, Insert, Remove, Scan, Replace}
 use Rattle.events.specs.declared.event.Reply.{Reply}
 use Rattle.events.specs.declared.event.Reply.TheVariants as reply
-use Rattle.map_object.specs.MapObject.{Contents, value_at, put, is_just, value_reply, after, Does}
+use Rattle.map_object.specs.MapObject.{Contents, value_at, value_reply, Does}
 use Rattle.art_rows.specs.declared.table.Shape.{Shape}
 use Rattle.art_rows.specs.declared.table.Kind.{Kind}
 use Rattle.art_rows.specs.declared.table.Kind.TheVariants.{Four, Sixteen, FortyEight, Full}
@@ -36,7 +35,7 @@ use Rattle.art_stages.specs.declared.stage.Stage.TheVariants.{LetGo, Write, Clai
 use Rattle.art_stages.specs.Stages.{row_at, held, root_place, byte_in, keys_among, count_in, setting}
 use Rattle.art_stages.specs.Automaton.{after_with, seek_coupled, insert_coupled, place_coupled, let_go_at, found_at, words_at, among_at, find_at}
 use Rattle.art_stages.specs.Automaton.{below_at, entered_at, hold_alone, no_value, pair_work, overwrite_at, keys_one, release_at}
-use Rattle.art_core.specs.Meaning.{Reached, root, below, child_on, child_in, slot_of, Means}
+use Rattle.art_core.specs.Meaning.{Reached, root, below, child_on, child_in, Means}
 use Rattle.art_core.specs.Forms.{HasForm, level_in, path_in}
 use Rattle.art_serial.specs.trees.Trees.{IsAtRest, LeadsTo, WaysLeadToValues, LeavesAreSmall}
 use Rattle.art_serial.specs.alone.Laws.{is_seek}
@@ -51,13 +50,14 @@ use Rattle.art_versions.specs.versions.Locking.{all_of, rows_held, held_at_place
 use Rattle.art_versions.specs.versions.Effects.{IsBehindVersion}
 use Rattle.art_versions.proofs.versions.KeyLemmas.{slot-behind}
 use Rattle.art_versions.proofs.versions.WordFacts.{not-full, full-not-less, count-most}
-use Rattle.art_schedules.specs.work.Works.{IsInsert, LacksByte}
-use Rattle.art_schedules.specs.coupled.Begins.{IsOnWay, HasChild, Hangs}
-use Rattle.art_schedules.specs.coupled.Knows.{IsOwn, IsBelow, HangsBelow, KnowsTarget, KnowsPlace, KnowsKeys, KnowsFinding, KnowsInfo, KnowsStage, KnowsAt}
+use Rattle.art_schedules.specs.work.Works.{LacksByte}
+use Rattle.art_schedules.specs.coupled.Knows.{IsOwn, IsBelow, HangsBelow, KnowsTarget, KnowsPlace, KnowsInfo, KnowsStage, KnowsAt}
 use Rattle.art_schedules.specs.coupled.Knows.{KnowsReply}
-use Rattle.art_schedules.specs.coupled.Knows.{KnowsWay, slot_in}
+use Rattle.art_schedules.specs.coupled.Knows.{KnowsWay}
 use Rattle.art_schedules.specs.coupled.Goes.{Gets, Goes, GoesOn, Works, Finds}
 use Rattle.art_schedules.specs.coupled.Laws.{WaysGoOn, FindingsStay}
+use Rattle.art_schedules.specs.work.Ways.{slot_in, KnowsKeys, KnowsFinding, IsOnWay, HasChild, Hangs}
+use Rattle.art_schedules.proofs.work.CallLemmas.{insert-of, seek-of, key-small, kept-after, full-slot}
 
 -- ---- words, bytes and calls
 
@@ -67,43 +67,6 @@ pub own-word : (calm words : List ℕ) (n : Held) → IsOwn calm words n → (wo
 own-word calm words n own word behind =
     let is : n.base + (word - n.base) ≡ word = omega (arith, behind.0) in
     sym (ap (slice_index words) is) ∙ (own.same (word - n.base) (omega (arith, behind.0)) (omega (arith, behind.0, behind.1)) ∙ ap (slice_index calm) is)
-
-insert-of : (call : Call) → is_tree_call call ≡ true → is_insert call ≡ true → IsInsert call
-insert-of (Insert key value) tree e = record { key = key; value = value; is = refl; small = grind (arith, tree) }
-insert-of (Get key) tree e = absurd (false≢true e)
-insert-of (Remove key) tree e = absurd (false≢true e)
-insert-of (Scan low high) tree e = absurd (false≢true e)
-insert-of (Replace key old new) tree e = absurd (false≢true e)
-
-seek-of : (call : Call) → is_insert call ≡ false → is_scan call ≡ false → is_seek call ≡ true
-seek-of (Insert key value) e f = absurd (false≢true (sym e))
-seek-of (Get key) e f = refl
-seek-of (Remove key) e f = refl
-seek-of (Scan low high) e f = absurd (false≢true (sym f))
-seek-of (Replace key old new) e f = refl
-
-key-small : (call : Call) → is_tree_call call ≡ true → is_scan call ≡ false → key_of call < 4294967296
-key-small (Insert key value) tree f = grind (arith, tree)
-key-small (Get key) tree f = grind (arith, tree)
-key-small (Remove key) tree f = grind (arith, tree)
-key-small (Scan low high) tree f = absurd (false≢true (sym f))
-key-small (Replace key old new) tree f = grind (arith, tree)
-
--- a call that finds its key and overwrites nothing leaves the map
-kept-after : (m : Contents) (call : Call) (v : ℕ) → is_seek call ≡ true → overwriting call v ≡ None → value_at m (key_of call) ≡ Some v → after m call ≡ m
-kept-after m (Get key) v seek none has = refl
-kept-after m (Remove key) v seek none has = absurd (none-some 0 (sym none))
-kept-after m (Replace key old new) v seek none has = ap (λ o. if is_just o old then put key new m else m) has ∙ go (v == old) refl none
-  where
-    go : (b : Bool) → (v == old) ≡ b → (if b then Some (child_word (Leaf key new)) else None) ≡ None → (if b then put key new m else m) ≡ m
-    go true e f = absurd (none-some _ (sym f))
-    go false e f = refl
-kept-after m (Insert key value) v seek none has = absurd (false≢true seek)
-kept-after m (Scan low high) v seek none has = absurd (false≢true seek)
-
--- a key's slot in a row of kind 256
-full-slot : (calm : List ℕ) (base : ℕ) (kind : Kind) (x : ℕ) → kind ≡ Full → slot_of calm base kind x ≡ None → ⊥
-full-slot calm base kind x is none = none-some _ (sym none ∙ ap (λ k. slot_of calm base k x) is)
 
 module _ (shape : Shape) (call : Call) (tree : is_tree_call call ≡ true) (key-call : is_scan call ≡ false) (n : ℕ) (calm words : List ℕ) (m : Contents)
     (rest : IsAtRest shape n calm) (means : Means shape calm m) (ways : WaysLeadToValues) (leaves : LeavesAreSmall) where

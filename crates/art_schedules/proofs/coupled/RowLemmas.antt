@@ -25,13 +25,14 @@ use Rattle.art_serial.specs.trees.Trees.{IsAtRest, SameRow}
 use Rattle.art_serial.proofs.alone.PlaceLemmas.{sits-kind_at}
 use Rattle.art_serial.proofs.alone.LikeLemmas.{sits}
 use Rattle.art_serial.proofs.words.VersionLemmas.{obsolete_released}
+use Rattle.art_serial.specs.writes.Writes.{IsOutside}
 use Rattle.art_versions.specs.versions.Effects.{IsAmong, IsBehindVersion}
 use Rattle.art_versions.specs.versions.Versions.{IsOpen, IsSettled, stage_of, held_by, filled_by}
 use Rattle.art_versions.proofs.versions.KnownLemmas.{held-is-kept}
 use Rattle.art_versions.proofs.versions.MoveLemmas.{settled-row}
 use Rattle.art_versions.proofs.versions.WordFacts.{version-free}
 use Rattle.art_schedules.specs.calm.Calm.{is_busy}
-use Rattle.art_schedules.specs.calm.Changes.{AsksFor, RowChange, RowsStay, RowWritten, RowFilled, RowTaken, RowReleased, IsOutside}
+use Rattle.art_schedules.specs.calm.Changes.{AsksFor, RowChange, RowsStay, RowWritten, RowFilled, RowTaken, RowReleased}
 use Rattle.art_schedules.proofs.calm.VersionLemmas.{not-behind, free-busy, released-free, locked-same}
 use Rattle.art_schedules.proofs.calm.UseLemmas.{without-store, with-released}
 use Rattle.art_schedules.specs.changes.Follows.{KeepsTree}

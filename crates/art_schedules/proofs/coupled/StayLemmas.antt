@@ -34,12 +34,12 @@ use Rattle.art_serial.proofs.alone.SlotLemmas.{slot-is, row-keys, slot-same, key
 use Rattle.art_versions.specs.versions.Holding.{Each}
 use Rattle.art_versions.specs.versions.Locking.{rows_held, held_at_place, rows_of_target, rows_of_hold, all_of}
 use Rattle.art_schedules.specs.work.Works.{LacksByte}
-use Rattle.art_schedules.specs.changes.Courses.{IsGoneBy}
+use Rattle.art_schedules.specs.changes.Courses.{IsGoneBy, IsStill}
 use Rattle.art_schedules.specs.changes.Follows.{Follows}
-use Rattle.art_schedules.specs.coupled.Begins.{IsOnWay, HasChild, Hangs, upper_of, BeginsWork}
-use Rattle.art_schedules.specs.coupled.Knows.{IsOwn, HangsBelow, KnowsTarget, KnowsPlace, KnowsFinding, KnowsInfo, IsPassed, KnowsStage, KnowsReply, KnowsAt}
-use Rattle.art_schedules.specs.coupled.Knows.{slot_in}
-use Rattle.art_schedules.specs.coupled.Stays.{IsStill, WaysAreKept}
+use Rattle.art_schedules.specs.coupled.Begins.{upper_of, BeginsWork}
+use Rattle.art_schedules.specs.coupled.Knows.{IsOwn, HangsBelow, KnowsTarget, KnowsPlace, KnowsInfo, IsPassed, KnowsStage, KnowsReply, KnowsAt}
+use Rattle.art_schedules.specs.coupled.Stays.{WaysAreKept}
+use Rattle.art_schedules.specs.work.Ways.{slot_in, KnowsFinding, IsOnWay, HasChild, Hangs}
 
 -- the word of a row at another place
 placed-word : (calm after : List ℕ) (base : ℕ) (kind : Kind) (word j : ℕ) → SameRow calm after base kind → word ≡ base + j → 1 ≤ j → j < row_words kind

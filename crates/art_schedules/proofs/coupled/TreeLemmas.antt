@@ -23,13 +23,13 @@ use Rattle.art_serial.proofs.inserts.OutcomeLemmas.{child-same}
 use Rattle.art_versions.specs.versions.Holding.{Each}
 use Rattle.art_versions.specs.versions.Effects.{IsAmong}
 use Rattle.art_schedules.specs.changes.Effects.{Effect}
-use Rattle.art_schedules.specs.changes.Courses.{IsGoneBy, IsFreshBy}
+use Rattle.art_schedules.specs.changes.Courses.{IsGoneBy, ComesInBy}
 use Rattle.art_schedules.specs.changes.Follows.{Follows}
 use Rattle.art_schedules.specs.work.Own.{IsWalked, ReadsWalked}
 use Rattle.art_schedules.specs.coupled.Scanning.{KnowsWords, KnowsFrame, KnowsEntry, KnowsStep, StaysAt, ScansKeepTrees}
 
 module _ (shape : Shape) (claims n : ℕ) (calm after : List ℕ) (pairs : Contents) (effect : Option Effect) (rest : IsAtRest shape claims calm)
-    (follows : Follows shape n calm after pairs (IsGoneBy effect) (IsFreshBy effect)) (rows : List Held)
+    (follows : Follows shape n calm after pairs (IsGoneBy effect) (ComesInBy effect)) (rows : List Held)
     (still : (h : Held) → IsAmong h rows → StaysAt shape calm after effect h.base) where
   -- a row of the calm tree that stays
   reached-still : (base : ℕ) (kind : Kind) → Reached shape calm base kind → StaysAt shape calm after effect base

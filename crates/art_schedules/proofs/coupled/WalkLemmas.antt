@@ -33,7 +33,7 @@ use Rattle.art_serial.specs.walks.Walks.{ScansAreTheMaps}
 use Rattle.art_serial.proofs.writes.StoreLemmas.{stored-at}
 use Rattle.art_schedules.specs.work.Solo.{Suits}
 use Rattle.art_schedules.proofs.work.SoloLemmas.{suits-on, runs-behind}
-use Rattle.art_schedules.specs.coupled.Walks.{Alone, here, further, IsWalked, SameOn, WalksAreTheMaps, WalksStay}
+use Rattle.art_schedules.specs.coupled.Walks.{Alone, here, further, SameOn, WalksAreTheMaps, WalksStay, IsOver}
 
 -- ---- on other words
 
@@ -120,7 +120,8 @@ module _ (shape : Shape) (low high : ℕ) where
       (runs-behind c (OnScan low high (at (scan.Release n) (record { rows = y ∷ rows; pairs = pairs; way = way }))) refl (Store n.base (released_word n.kept))
       (Some point.Unlock) refl now 0 (slice_set now n.base (released_word n.kept)) last r refl refl runs)
 
-  ended : (step : ScanStep) (w : Walk) (now last : List ℕ) (r : Reply) → IsWalked step → RunsAlone (rest_at c (OnScan low high (at step w))) now last r
+  ended : (step : ScanStep) (w : Walk) (now last : List ℕ) (r : Reply) → IsOver step
+      → RunsAlone (rest_at c (OnScan low high (at step w))) now last r
       → r ≡ reply.Pairs w.pairs
   ended (scan.Release n) w now last r walked runs = release-answers w.rows n w.pairs w.way now last r runs
   ended scan.Over w now last r walked runs = over-answers w now last r runs

@@ -1,12 +1,11 @@
 -- What a call on its way gives where its work begins is what its work asks.
 use Rattle.std.proofs.Common.{◌≡◌, ℕ, true, List, refl, sym, ap, subst, ◌∙◌, inl, inr, ⊎_elim}
 use Rattle.std.specs.Prelude.{Option, Some, None}
-use Rattle.events.specs.declared.event.Call.{Call}
 use Rattle.map_object.specs.MapObject.{Contents}
 use Rattle.art_rows.specs.declared.table.Child.{Child}
 use Rattle.art_rows.specs.declared.table.Child.TheVariants.{Empty, Row as ChildRow, Leaf}
 use Rattle.art_steps.specs.TreeCalls.{is_tree_call}
-use Rattle.art_steps.specs.Rows.{Setting, key_of, is_insert}
+use Rattle.art_steps.specs.Rows.{Setting, key_of}
 use Rattle.art_stages.specs.declared.stage.Held.{Held}
 use Rattle.art_stages.specs.declared.stage.Hold.{Hold}
 use Rattle.art_stages.specs.declared.stage.Work.{Work}
@@ -14,17 +13,15 @@ use Rattle.art_stages.specs.declared.stage.Work.TheVariants as work
 use Rattle.art_stages.specs.Stages.{byte_in}
 use Rattle.art_core.specs.Meaning.{child_on, child_in}
 use Rattle.art_serial.specs.trees.Trees.{LeadsTo}
-use Rattle.art_schedules.specs.work.Works.{IsInsert}
-use Rattle.art_schedules.specs.coupled.Begins.{HasChild, Hangs, Overwrites}
+use Rattle.art_schedules.specs.coupled.Begins.{Overwrites}
 use Rattle.art_schedules.specs.coupled.Begins as coupled
 use Rattle.art_schedules.specs.effects.Begins.{BeginsWork, IsOverwritten, upper_of, upper_row}
-
-inserts : (call : Call) → IsInsert call → is_insert call ≡ true
-inserts call x = ap is_insert x.is
+use Rattle.art_schedules.specs.work.Ways.{HasChild, Hangs}
+use Rattle.art_schedules.proofs.work.CallLemmas.{is-insert}
 
 overwrites : (c : Setting) (word : ℕ) (old : Option ℕ) (child : Child) → Overwrites c.call word old child → IsOverwritten c word old child
-overwrites c word old Empty x = (inserts c.call x.0, x.1, x.2)
-overwrites c word old (Leaf k v) x = (x.0, x.1, ⊎_elim (λ y. inl (inserts c.call y.0, y.1)) (λ y. inr y.1) x.2)
+overwrites c word old Empty x = (is-insert c.call x.0, x.1, x.2)
+overwrites c word old (Leaf k v) x = (x.0, x.1, ⊎_elim (λ y. inl (is-insert c.call y.0, y.1)) (λ y. inr y.1) x.2)
 overwrites c word old (ChildRow base kind) x = absurd x
 
 same-upper : (row : Held) (o : Option Held) → coupled.upper_of row o ≡ upper_of row o

@@ -1,6 +1,6 @@
 -- Every run of the coupled tree is linearizable, from the laws of the parts.
 use Rattle.std.proofs.Common.{◌≡◌, ℕ, ◌+◌, true, false, List, [], ◌∷◌, ◌++◌, length, refl, sym, ap, subst, ◌∙◌, ⊎_elim}
-use Rattle.std.specs.Prelude.{slice_get, IsTrue, All, Option, Some, None}
+use Rattle.std.specs.Prelude.{Option, Some, None}
 use Rattle.std.proofs.lemmas.Option.{same_Some, none-some}
 use Rattle.events.specs.declared.event.Call.{Call}
 use Rattle.events.specs.declared.event.Call.TheVariants.{Get, Insert, Remove, Scan, Replace}
@@ -10,7 +10,6 @@ use Rattle.art_rows.specs.declared.table.Shape.{Shape}
 use Rattle.art_steps.specs.declared.variant.Variant.TheVariants.{Coupled}
 use Rattle.art_steps.specs.declared.access.Access.{Access}
 use Rattle.art_steps.specs.Steps.{Answers}
-use Rattle.art_steps.specs.TreeCalls.{is_tree_call}
 use Rattle.art_steps.specs.Rows.{is_scan}
 use Rattle.art_stages.specs.declared.stage.Hold.{Hold}
 use Rattle.art_stages.specs.declared.stage.Outcome.{Outcome}
@@ -21,30 +20,32 @@ use Rattle.art_stages.specs.Stages.{setting, reply_for}
 use Rattle.art_stages.specs.Automaton.{turn_at}
 use Rattle.art_stages.specs.Calls.{OnKey, call_turn, call_begun, call_behind}
 use Rattle.art_core.specs.declared.process.Process.{Process}
-use Rattle.art_core.specs.Core.{Plan, State, begun, next_call, next_in, opened_on}
+use Rattle.art_core.specs.Core.{Plan, State, opened_on}
 use Rattle.art_core.specs.Claims.{CoupledIsLinearizable}
-use Rattle.art_core.specs.Plans.{IsPlan, IsRun}
-use Rattle.list_laws.proofs.Lists.{All-at}
+use Rattle.art_core.specs.Plans.{IsRun}
 use Rattle.art_versions.specs.versions.Holding.{holds}
 use Rattle.art_versions.specs.versions.Effects.{IsAmong}
-use Rattle.art_versions.specs.versions.Versions.{stage_of}
+use Rattle.art_versions.specs.versions.Versions.{stage_of, IsAtStage}
 use Rattle.art_versions.proofs.versions.KnownLemmas.{same-call}
 use Rattle.art_schedules.specs.calm.Calm.{calm_of}
 use Rattle.art_schedules.specs.stories.Stories.{Status, Before, HasReply, Tale}
-use Rattle.art_schedules.specs.stories.Fitting.{IsToldStep, GoesOn, AllFit, IsLedOn, IsAnswered, OwnStep, Stays, BeginsCall, MakesAccess, AnswersCall}
+use Rattle.art_schedules.specs.stories.Fitting.{IsToldStep, AllFit, IsLedOn, OwnStep, Stays, BeginsCall, MakesAccess, AnswersCall}
+use Rattle.art_schedules.specs.stories.Fitting.{HasItsReply, set_at, the_plan}
 use Rattle.art_schedules.specs.coupled.Knows.{KnowsWay}
-use Rattle.art_schedules.specs.coupled.Moments.{IsAtStage, LeavesBy}
+use Rattle.art_schedules.specs.coupled.Moments.{LeavesBy}
 use Rattle.art_schedules.specs.coupled.Good.{HoldsGood}
 use Rattle.art_schedules.specs.effects.AtWork.{AtEnd, Answering, Leaving}
 use Rattle.art_schedules.specs.effects.Outcomes.{Makes}
-use Rattle.art_schedules.specs.coupled_runs.CoupledFits.{Ghosts, set_at, ghosts_with, IsWorld, HasNone, OfScans, IsFit, Seeks, Works, Finds, Ends, Walks}
+use Rattle.art_schedules.specs.coupled_runs.CoupledFits.{Ghosts, ghosts_with, IsWorld, HasNone, OfScans, IsFit, Seeks, Works, Finds, Ends, Walks}
 use Rattle.art_schedules.specs.coupled_runs.CoupledFits.{CoupledFits}
 use Rattle.art_schedules.specs.coupled_runs.KeptScans.{ScansAreKept}
 use Rattle.art_schedules.proofs.coupled_runs.PartLaws.{LawsOfParts}
-use Rattle.art_schedules.specs.coupled_runs.Linear.{the_plan, CallsAreLed, HaveScans, LedAreLinearizable}
-use Rattle.art_schedules.proofs.coupled_runs.StageLemmas.{set-here, set-other, same-stage}
+use Rattle.art_schedules.specs.coupled_runs.Linear.{HaveScans, LedAreLinearizable, CoupledAreLed}
 use Rattle.art_schedules.proofs.coupled_runs.LedLemmas as led
 use Rattle.art_schedules.proofs.coupled_runs.OwnLemmas.{own-step}
+use Rattle.art_schedules.specs.changes.Courses.{TreeGoesOn}
+use Rattle.art_schedules.proofs.calls.ScriptLemmas.{next-tree}
+use Rattle.art_schedules.proofs.stories.OpenLemmas.{set-here, set-other, same-stage}
 
 -- an end is answered what it has
 end-answers : (shape : Shape) (real calm : List ℕ) (call : Call) (reply answer : Reply) (stage : Stage)
@@ -73,19 +74,10 @@ begun-holds shape (Remove key) = refl
 begun-holds shape (Replace key old new) = refl
 begun-holds shape (Scan low high) = refl
 
--- the next call is one of the script
-next-tree : (plan : Plan) → IsPlan plan → (p : ℕ) (q : Process) (call : Call) → next_call plan p q ≡ Some call → is_tree_call call ≡ true
-next-tree plan within p q call e = go (slice_get plan.scripts p) refl e
-  where
-    go : (o : Option (List Call)) → slice_get plan.scripts p ≡ o → next_in o (length (begun q)) ≡ Some call → is_tree_call call ≡ true
-    go None f g = absurd (none-some call g)
-    go (Some script) f g = (All-at (λ call. IsTrue (is_tree_call call)) script (length (begun q)) call
-        (All-at (λ script. All (λ call. IsTrue (is_tree_call call)) script) plan.scripts p script within.calls f) g)
-
 module _ (laws : LawsOfParts) (shape : Shape) (scripts : List (List Call)) (start : Contents) (words : List ℕ) (Scans : OfScans)
-    (scans : ScansAreKept (the_plan shape scripts) start words Scans) where
+    (scans : ScansAreKept (the_plan Coupled shape scripts) start words Scans) where
   abbrev plan : Plan
-  plan = the_plan shape scripts
+  plan = the_plan Coupled shape scripts
 
   abbrev World : Ghosts → List ℕ → State → List ℕ → Type 0
   World g schedule s calm = IsWorld shape g s calm
@@ -119,7 +111,8 @@ module _ (laws : LawsOfParts) (shape : Shape) (scripts : List (List Call)) (star
     abbrev BeginClause : List ℕ → List ℕ → Type 0
     BeginClause x y =
         (told : IsToldStep plan start words schedule tale p s t x y) → IsWorld shape g s x → AllFit (CoupledFits shape Scans g) schedule s x
-        → (call : Call) (q later : Process) → BeginsCall plan s p t call q later → GoesOn shape t x y (tale.pairs (length schedule)) None
+        → (call : Call) (q later : Process) → BeginsCall plan s p t call q later
+        → TreeGoesOn shape t.words x y (tale.pairs (length schedule)) None
         → IsLedOn Ghosts World (CoupledFits shape Scans) g schedule p s t x y
         (λ next. CoupledFits shape Scans next (schedule ++ p ∷ []) t y p call later Before)
 
@@ -128,12 +121,17 @@ module _ (laws : LawsOfParts) (shape : Shape) (scripts : List (List Call)) (star
         led.led laws shape scripts start words Scans scans schedule tale p s t g told world all None makes (λ b k x. absurd x) None None (led.NoFresh refl)
         (led.leaves-off laws shape scripts start words Scans scans schedule tale p s t g told world all off makes)
         (λ ghost. CoupledFits shape Scans ghost (schedule ++ p ∷ []) t there p call later Before)
-        (record { tree = next-tree plan told.before.within p q call b.next; rows = rows; fit = fit call b (laws.calls_begin shape call there t.words) })
+        (record {
+          tree = next-tree plan told.step.before.within.calls p q call b.next;
+          rows = rows;
+          fit = fit call b
+              (laws.calls_begin shape call there t.words);
+        })
       where
         makes : Makes Coupled shape s p here there (tale.pairs (length schedule)) None
         makes = led.goes-makes laws shape scripts start words Scans scans schedule tale p s t g told world all goes
 
-        off : (other : Call) (stage : Stage) → IsAtStage shape s p other stage → ⊥
+        off : (other : Call) (stage : Stage) → IsAtStage Coupled shape s p other (OnKey stage) → ⊥
         off other stage y =
             none-some other (sym b.idle ∙ (ap (λ (x : Process). x.call) (same_Some q y.process (sym b.own ∙ y.is_open.own)) ∙ y.is_open.is_open))
 
@@ -159,21 +157,23 @@ module _ (laws : LawsOfParts) (shape : Shape) (scripts : List (List Call)) (star
     AnswerClause x y =
         (told : IsToldStep plan start words schedule tale p s t x y) → IsWorld shape g s x → AllFit (CoupledFits shape Scans g) schedule s x
         → (call : Call) (q : Process) (status : Status) (reply : Reply) → AnswersCall plan s p t call q reply
-        → CoupledFits shape Scans g schedule s x p call q status → GoesOn shape t x y (tale.pairs (length schedule)) None
-        → IsLedOn Ghosts World (CoupledFits shape Scans) g schedule p s t x y (λ next. IsAnswered plan words schedule tale p call q status reply)
+        → CoupledFits shape Scans g schedule s x p call q status → TreeGoesOn shape t.words x y (tale.pairs (length schedule)) None
+        → IsLedOn Ghosts World (CoupledFits shape Scans) g schedule p s t x y
+        (λ next. HasItsReply plan words schedule tale p call q status reply)
 
     pub answers : AnswerClause here there
     answers told world all call q status reply x f goes =
         led.led laws shape scripts start words Scans scans schedule tale p s t g told world all None makes (λ b k x. absurd x) None None (led.NoFresh refl)
         leaves
-        (λ ghost. IsAnswered plan words schedule tale p call q status reply) (go f.fit)
+        (λ ghost. HasItsReply plan words schedule tale p call q status reply) (go f.fit)
       where
         makes : Makes Coupled shape s p here there (tale.pairs (length schedule)) None
         makes = led.goes-makes laws shape scripts start words Scans scans schedule tale p s t g told world all goes
 
-        at-answer : (other : Call) (b : Stage) → IsAtStage shape s p other b → turn_at (setting shape Coupled other) b ≡ Answers reply
+        at-answer : (other : Call) (b : Stage) → IsAtStage Coupled shape s p other (OnKey b)
+            → turn_at (setting shape Coupled other) b ≡ Answers reply
         at-answer other b y =
-            ap (call_turn (setting shape Coupled other)) (sym y.at ∙ same-stage shape s p other call y.process q y.is_open x.here)
+            ap (call_turn (setting shape Coupled other)) (sym y.at ∙ same-stage Coupled shape s p other call y.process q y.is_open x.here)
             ∙ (ap (λ z. call_turn (setting shape Coupled z) (stage_of Coupled shape call q)) (same-call s p other call y.process q y.is_open x.here)
             ∙ x.answers)
 
@@ -182,14 +182,13 @@ module _ (laws : LawsOfParts) (shape : Shape) (scripts : List (List Call)) (star
           others = λ r apart. set-other g.leaving p None r apart;
           makes = λ other h y. absurd (obsolete-asks shape other h reply (at-answer other (Obsolete h) y));
           leaves = λ other h outcome base y e. absurd (unlock-asks shape other h outcome reply (at-answer other (Unlock h outcome) y));
-          gone = λ base x. absurd x;
           fresh = λ base kind x. absurd x;
         }
 
         turn : (stage : Stage) → stage_of Coupled shape call q ≡ OnKey stage → turn_at (setting shape Coupled call) stage ≡ Answers reply
         turn stage at = ap (call_turn (setting shape Coupled call)) (sym at) ∙ x.answers
 
-        go : IsFit shape Scans g schedule s here p call q status → IsAnswered plan words schedule tale p call q status reply
+        go : IsFit shape Scans g schedule s here p call q status → HasItsReply plan words schedule tale p call q status reply
         go (Seeks stage on none at knows e) = absurd (laws.seekers_are_not_answered shape call here s.words stage reply knows (turn stage at))
         go (Works stage at w e) = absurd ((laws.workers_only_work (setting shape Coupled call) s.words here (g.fresh p) stage w.0).1 reply (turn stage at))
         go (Finds stage found none at knows e) = (
@@ -208,7 +207,7 @@ module _ (laws : LawsOfParts) (shape : Shape) (scripts : List (List Call)) (star
         go (Walks low high at none stage y) = scans.answers schedule tale p s t here there told call q status reply x y
 
   -- What fits each call is kept.
-  pub calls-are-led : CallsAreLed shape scripts start words Scans
+  pub calls-are-led : CoupledAreLed shape scripts start words Scans
   calls-are-led = record {
     first = λ run rest means. (
       record { fresh = λ p. None; leaving = λ p. None },

@@ -1,5 +1,5 @@
 -- What fits each call of the coupled tree is kept by each step of a run.
-use Rattle.std.proofs.Common.{◌≡◌, ◌≢◌, ℕ, ◌+◌, true, false, List, [], ◌∷◌, ◌++◌, length, refl, sym, ap, subst, ◌∙◌, inl, ⊎_elim, arith}
+use Rattle.std.proofs.Common.{◌≡◌, ◌≢◌, ℕ, ◌+◌, true, false, List, [], ◌∷◌, ◌++◌, length, refl, sym, ap, subst, ◌∙◌, ⊎_elim, arith}
 use Rattle.std.specs.Prelude.{slice_index, Option, Some, None}
 use Rattle.std.proofs.lemmas.Option.{same_Some, none-some}
 use Rattle.events.specs.declared.event.Call.{Call}
@@ -22,28 +22,29 @@ use Rattle.art_stages.specs.Stages.{setting}
 use Rattle.art_stages.specs.Calls.{OnKey, call_turn}
 use Rattle.art_core.specs.declared.process.Process.{Process}
 use Rattle.art_core.specs.Core.{Plan, State}
+use Rattle.art_serial.specs.trees.Trees.{IsClaimed}
 use Rattle.art_versions.specs.versions.Holding.{Named}
-use Rattle.art_versions.specs.versions.Versions.{IsOpen, IsClaimed, stage_of}
+use Rattle.art_versions.specs.versions.Versions.{IsOpen, stage_of, IsAtStage}
 use Rattle.art_versions.proofs.versions.KnownLemmas.{same-call}
 use Rattle.art_schedules.specs.calm.Calm.{calm_of}
 use Rattle.art_schedules.specs.calm.Changes.{AsksFor}
 use Rattle.art_schedules.proofs.calm.CalmLemmas.{claimed-row}
 use Rattle.art_schedules.specs.changes.Effects.{Effect}
-use Rattle.art_schedules.specs.changes.Courses.{IsGoneBy, IsFreshBy}
+use Rattle.art_schedules.specs.changes.Courses.{IsGoneBy, ComesInBy, TreeGoesOn}
 use Rattle.art_schedules.specs.changes.Follows.{HasFewClaims, KeepsTree}
 use Rattle.art_schedules.specs.stories.Stories.{Status, Tale}
-use Rattle.art_schedules.specs.stories.Fitting.{IsToldStep, GoesOn, AllFit, IsLedOn}
-use Rattle.art_schedules.specs.coupled.Moments.{ObsoleteLeave, IsStepOf, IsAtStage, TakesLive, MakesLeave, LeavesBy, HeldAreLive}
+use Rattle.art_schedules.specs.stories.Fitting.{IsToldStep, AllFit, IsLedOn, set_at, the_plan}
+use Rattle.art_schedules.specs.coupled.Moments.{ObsoleteLeave, TakesLive, MakesLeave, LeavesBy, HeldAreLive, IsCoupledStep}
 use Rattle.art_schedules.specs.coupled.Good.{TakesReached}
 use Rattle.art_schedules.proofs.coupled.MadeLemmas.{Facts, facts}
-use Rattle.art_schedules.specs.effects.Outcomes.{IsLastStep, Makes, HoldsReached, IsOther, pairs_by}
-use Rattle.art_schedules.specs.coupled_runs.CoupledFits.{Ghosts, set_at, ghosts_with, IsWorld, IsWorking, HasNone, OfScans}
+use Rattle.art_schedules.specs.effects.Outcomes.{Makes, HoldsReached, IsOther}
+use Rattle.art_schedules.specs.coupled_runs.CoupledFits.{Ghosts, ghosts_with, IsWorld, IsWorking, HasNone, OfScans}
 use Rattle.art_schedules.specs.coupled_runs.CoupledFits.{IsFit, Seeks, Works, Finds, Ends, Walks, CoupledFits}
 use Rattle.art_schedules.specs.coupled_runs.KeptScans.{ScansAreKept}
 use Rattle.art_schedules.proofs.coupled_runs.PartLaws.{LawsOfParts}
-use Rattle.art_schedules.specs.coupled_runs.Linear.{the_plan}
-use Rattle.art_schedules.proofs.coupled_runs.StageLemmas.{set-cases, set-here, set-other, same-stage, on-key}
 use Rattle.art_schedules.proofs.changes.EffectLemmas.{gone-reached}
+use Rattle.art_schedules.proofs.work.CallLemmas.{key-same}
+use Rattle.art_schedules.proofs.stories.OpenLemmas.{set-cases, set-here, set-other, same-stage}
 
 -- the fresh row behind a step: as before, or none, or one that was claimed in it
 pub data FreshBehind (shape : Shape) (s t : State) (before fresh : Option Named) : Type 0 where
@@ -53,9 +54,9 @@ pub data FreshBehind (shape : Shape) (s t : State) (before fresh : Option Named)
       → FreshBehind shape s t before fresh
 
 module _ (laws : LawsOfParts) (shape : Shape) (scripts : List (List Call)) (start : Contents) (words : List ℕ) (Scans : OfScans)
-    (scans : ScansAreKept (the_plan shape scripts) start words Scans) where
+    (scans : ScansAreKept (the_plan Coupled shape scripts) start words Scans) where
   abbrev plan : Plan
-  plan = the_plan shape scripts
+  plan = the_plan Coupled shape scripts
 
   abbrev World : Ghosts → List ℕ → State → List ℕ → Type 0
   World g schedule s calm = IsWorld shape g s calm
@@ -72,19 +73,13 @@ module _ (laws : LawsOfParts) (shape : Shape) (scripts : List (List Call)) (star
     abbrev m : Contents
     m = tale.pairs (length schedule)
 
-    pub is-step : IsStepOf plan start words schedule p s t told.claims m
+    pub is-step : IsCoupledStep plan start words schedule p s t told.claims m
     is-step = record {
       coupled = refl;
-      before = told.before;
-      behind = told.behind;
-      made = told.made;
+      run = told.step;
       rests = told.rests;
       means = told.means;
-      small = told.calm_behind.small;
     }
-
-    pub is-last : IsLastStep plan start words schedule p s t
-    is-last = record { full = inl refl; gives = told.before.gives; run = told.behind }
 
     pub fact : Facts shape s t p words calm after
     fact = facts plan start words schedule p s t told.claims m is-step
@@ -94,24 +89,27 @@ module _ (laws : LawsOfParts) (shape : Shape) (scripts : List (List Call)) (star
 
     pub keeps-makes : KeepsTree shape calm after → Makes Coupled shape s p calm after m None
     keeps-makes k = record {
-      claims = fact.count + 2;
-      follows = laws.kept_trees_follow shape told.claims (fact.count + 2) calm after m told.rests told.means k few;
+      goes = record {
+        claims = fact.count + 2;
+        follows = laws.kept_trees_follow shape told.claims (fact.count + 2) calm after m told.rests told.means k few;
+        gone = λ b none. absurd none;
+      };
       by = tt;
     }
 
-    pub goes-makes : GoesOn shape t calm after m None → Makes Coupled shape s p calm after m None
-    goes-makes k = record { claims = k.claims; follows = k.follows; by = tt }
+    pub goes-makes : TreeGoesOn shape t.words calm after m None → Makes Coupled shape s p calm after m None
+    goes-makes k = record { goes = record { claims = k.claims; follows = k.follows; gone = λ b none. absurd none }; by = tt }
 
     pub gone-behind : (effect : Option Effect) → Makes Coupled shape s p calm after m effect → (b : ℕ) → IsGoneBy effect b
         → is_obsolete (slice_index t.words b) ≡ true
     gone-behind None makes b gone = absurd gone
     gone-behind (Some e) makes b gone =
         let (k, r) = gone-reached shape calm after e makes.by.has b gone in
-        told.change.obsolete b k (claimed-row shape s.words b k (told.calm_before.reached b k r).claimed) (makes.by.gone b gone)
+        told.change.obsolete b k (claimed-row shape s.words b k (told.calm_before.reached b k r).claimed) (makes.goes.gone b gone)
 
-    pub makes-goes : (effect : Option Effect) → Makes Coupled shape s p calm after m effect → GoesOn shape t calm after m effect
-    makes-goes None makes = record { claims = makes.claims; follows = makes.follows; gone = λ b x. absurd x }
-    makes-goes (Some e) makes = record { claims = makes.claims; follows = makes.follows; gone = gone-behind (Some e) makes }
+    pub makes-goes : (effect : Option Effect) → Makes Coupled shape s p calm after m effect → TreeGoesOn shape t.words calm after m effect
+    makes-goes None makes = record { claims = makes.goes.claims; follows = makes.goes.follows; gone = λ b x. absurd x }
+    makes-goes (Some e) makes = record { claims = makes.goes.claims; follows = makes.goes.follows; gone = gone-behind (Some e) makes }
 
     pub holds-reached : HoldsReached Coupled shape s p calm
     holds-reached call q o h a = ((all p call q o).1.rows h a).reached
@@ -133,12 +131,12 @@ module _ (laws : LawsOfParts) (shape : Shape) (scripts : List (List Call)) (star
         none-asked h x =
             none h.base h.kept (locked_word h.kept) x.mark
             (ap (λ y. call_turn (setting shape Coupled y) (stage_of Coupled shape call q)) (same-call s p call x.call q x.process o x.is_open)
-            ∙ (ap (call_turn (setting shape Coupled x.call)) (same-stage shape s p call x.call q x.process o x.is_open) ∙ x.turn))
+            ∙ (ap (call_turn (setting shape Coupled x.call)) (same-stage Coupled shape s p call x.call q x.process o x.is_open) ∙ x.turn))
 
     -- ---- what fits the other calls
 
     module _ (effect : Option Effect) (makes : Makes Coupled shape s p calm after m effect)
-        (fresh-is : (b : ℕ) (k : Kind) → IsFreshBy effect b k → g.fresh p ≡ Some (b, k)) (f : Option Named) (l : Option ℕ) where
+        (fresh-is : (b : ℕ) (k : Kind) → ComesInBy effect b k → g.fresh p ≡ Some (b, k)) (f : Option Named) (l : Option ℕ) where
       is-other : (r : ℕ) → r ≢ p → (o : Option Named) → g.fresh r ≡ o → IsOther effect o
       is-other r apart None e = tt
       is-other r apart (Some row) e = λ x. apart (world.apart r p row e (fresh-is row.0 row.1 x))
@@ -148,8 +146,8 @@ module _ (laws : LawsOfParts) (shape : Shape) (scripts : List (List Call)) (star
           → CoupledFits shape Scans (ghosts_with g p f l) (schedule ++ p ∷ []) t after r call q status
       other-fits r call q status apart o behind x = record {
         tree = x.tree;
-        rows = laws.others_leave_good plan start words schedule p s t told.claims m makes.claims (pairs_by effect m) effect is-step makes.follows
-            (gone-behind effect makes) r call q apart o x.rows;
+        rows = laws.others_leave_good plan start words schedule p s t told.claims m m effect is-step
+            (makes-goes effect makes) r call q apart o x.rows;
         fit = go x.fit;
       }
         where
@@ -165,17 +163,18 @@ module _ (laws : LawsOfParts) (shape : Shape) (scripts : List (List Call)) (star
           go : IsFit shape Scans g schedule s calm r call q status → IsFit shape Scans (ghosts_with g p f l) (schedule ++ p ∷ []) t after r call q status
           go (Seeks stage on none at knows e) =
               Seeks stage on (none-still none) at
-              (laws.others_leave_ways plan start words schedule p s t told.claims m r call stage None makes.claims (pairs_by effect m) effect is-step apart
-              (record { process = q; is_open = o; at = at }) knows makes.follows (gone-behind effect makes)).1
+              (laws.others_leave_ways plan start words schedule p s t told.claims m r call stage None m effect is-step apart
+              (record { process = q; is_open = o; at = at }) knows (makes-goes effect makes)).1
               e
           go (Finds stage reply none at knows e) =
               Finds stage reply (none-still none) at
-              (laws.others_leave_ways plan start words schedule p s t told.claims m r call stage (Some reply) makes.claims (pairs_by effect m) effect is-step
+              (laws.others_leave_ways plan start words schedule p s t told.claims m r call stage (Some reply) m effect is-step
               apart
-              (record { process = q; is_open = o; at = at }) knows makes.follows (gone-behind effect makes)).1
+              (record { process = q; is_open = o; at = at }) knows (makes-goes effect makes)).1
               e
           go (Works stage at w e) =
-              let kept = laws.others_keep_marked plan start words schedule p s t told.claims m effect is-last told.rests makes holds-reached r apart call stage
+              let kept = laws.others_keep_marked plan start words schedule p s t told.claims m effect told.step told.rests makes
+              holds-reached r apart call stage
               (g.fresh r) (g.leaving r) (record { process = q; is_open = o; at = at }) (is-other r apart (g.fresh r) refl) w.0 w.1 in
               Works stage at
               (subst (λ y. IsWorking shape t.words after call stage y (set_at g.leaving p l r)) (sym fresh-same)
@@ -183,7 +182,8 @@ module _ (laws : LawsOfParts) (shape : Shape) (scripts : List (List Call)) (star
               e
           go (Ends stage reply none at ends e) =
               Ends stage reply (none-still none) at
-              (laws.others_keep_ends plan start words schedule p s t told.claims m effect is-last told.rests makes holds-reached r apart call stage reply
+              (laws.others_keep_ends plan start words schedule p s t told.claims m effect told.step told.rests makes holds-reached r apart
+              call stage reply
               (record { process = q; is_open = o; at = at }) ends).1
               e
           go (Walks low high at none stage x) =
@@ -203,8 +203,8 @@ module _ (laws : LawsOfParts) (shape : Shape) (scripts : List (List Call)) (star
         where
           obsolete : ObsoleteLeave shape t after (set_at g.leaving p l)
           obsolete =
-              laws.obsolete_rows_leave plan start words schedule p s t told.claims m g.leaving (set_at g.leaving p l) makes.claims (pairs_by effect m) effect
-              is-step makes.follows held-live leaves world.obsolete
+              laws.obsolete_rows_leave plan start words schedule p s t told.claims m g.leaving (set_at g.leaving p l) m effect
+              is-step (makes-goes effect makes) held-live leaves world.obsolete
 
           own-claimed : (row : Named) → FreshBehind shape s t (g.fresh p) f → f ≡ Some row → IsClaimed shape t.words row.0 row.1
           own-claimed row (SameFresh e) x = claims-rise row.0 row.1 (world.claimed p row (sym e ∙ x))
@@ -234,26 +234,25 @@ module _ (laws : LawsOfParts) (shape : Shape) (scripts : List (List Call)) (star
     pub leaves-of : (call : Call) (q : Process) → IsOpen s p call q → (stage : Stage) → stage_of Coupled shape call q ≡ OnKey stage → (effect : Option Effect)
         → Makes Coupled shape s p calm after m effect → (l : Option ℕ) → ((h : Hold) → stage ≡ Obsolete h → MakesLeave shape calm h l)
         → ((h : Hold) (outcome : Option Outcome) (base : ℕ) → stage ≡ Unlock h outcome → g.leaving p ≡ Some base → IsGoneBy effect base)
-        → ((base : ℕ) (kind : Kind) → IsFreshBy effect base kind → is_obsolete (slice_index t.words base) ≡ false)
+        → ((base : ℕ) (kind : Kind) → ComesInBy effect base kind → is_obsolete (slice_index t.words base) ≡ false)
         → LeavesBy shape s t p calm effect g.leaving (set_at g.leaving p l)
     leaves-of call q o stage at effect makes l obsoletes unlocks fresh = record {
       others = λ r apart. set-other g.leaving p l r apart;
       makes = λ other h x. subst (MakesLeave shape calm h) (sym (set-here g.leaving p l)) (obsoletes h (is-stage other (Obsolete h) x));
       leaves = λ other h outcome base x e. unlocks h outcome base (is-stage other (Unlock h outcome) x) e;
-      gone = gone-behind effect makes;
       fresh = fresh;
     }
       where
-        is-stage : (other : Call) (b : Stage) → IsAtStage shape s p other b → stage ≡ b
-        is-stage other b x = on-key (sym at ∙ (same-stage shape s p call other q x.process o x.is_open ∙ x.at))
+        is-stage : (other : Call) (b : Stage) → IsAtStage Coupled shape s p other (OnKey b) → stage ≡ b
+        is-stage other b x = key-same (sym at ∙ (same-stage Coupled shape s p call other q x.process o x.is_open ∙ x.at))
 
     -- and of a scan, or where no call is open
-    pub leaves-off : ((call : Call) (stage : Stage) → IsAtStage shape s p call stage → ⊥) → Makes Coupled shape s p calm after m None
+    pub leaves-off : ((call : Call) (stage : Stage) → IsAtStage Coupled shape s p call (OnKey stage) → ⊥)
+        → Makes Coupled shape s p calm after m None
         → LeavesBy shape s t p calm None g.leaving (set_at g.leaving p None)
     leaves-off off makes = record {
       others = λ r apart. set-other g.leaving p None r apart;
       makes = λ other h x. absurd (off other (Obsolete h) x);
       leaves = λ other h outcome base x e. absurd (off other (Unlock h outcome) x);
-      gone = gone-behind None makes;
       fresh = λ base kind x. absurd x;
     }

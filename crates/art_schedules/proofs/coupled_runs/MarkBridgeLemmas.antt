@@ -6,7 +6,7 @@ use Rattle.art_rows.specs.declared.table.Kind.{Kind}
 use Rattle.art_rows.specs.declared.table.Kind.TheVariants.{Four}
 use Rattle.art_stages.specs.declared.stage.Hold.{Hold}
 use Rattle.art_versions.specs.versions.Holding.{Named}
-use Rattle.art_schedules.specs.changes.Effects.{Effect, Keeps, Fills, PutsLeaf, RemovesLeaf, HangsPair, HangsGrown, IsFresh}
+use Rattle.art_schedules.specs.changes.Effects.{Effect, Keeps, Fills, PutsLeaf, RemovesLeaf, HangsPair, HangsGrown, ComesIn}
 use Rattle.art_schedules.specs.coupled.Moments.{MakesLeave}
 use Rattle.art_schedules.specs.effects.AtWork.{fresh_of}
 use Rattle.art_schedules.specs.effects.Marks.{HangsOnAbove}
@@ -17,7 +17,7 @@ makes-leave shape calm h x =
     record { above = x.above; is = x.is; byte = x.byte; is_byte = x.is_byte; reached = x.reached; hangs = x.hangs; names = refl }
 
 -- the row that an effect brings
-pub fresh-is : (e : Effect) (fresh : Option Named) → fresh ≡ fresh_of e → (b : ℕ) (k : Kind) → IsFresh e b k → fresh ≡ Some (b, k)
+pub fresh-is : (e : Effect) (fresh : Option Named) → fresh ≡ fresh_of e → (b : ℕ) (k : Kind) → ComesIn e b k → fresh ≡ Some (b, k)
 fresh-is (Keeps base kind) fresh is b k none = absurd none
 fresh-is (Fills base kind) fresh is b k none = absurd none
 fresh-is (PutsLeaf base kind x key value) fresh is b k none = absurd none

@@ -28,7 +28,7 @@ use Rattle.art_core.specs.Core.{Plan, State, begun, opened_on}
 use Rattle.art_versions.specs.versions.Holding.{Each, Knows, holds}
 use Rattle.art_versions.specs.versions.Locking.{all_of, lock_of, locks_of, rows_of_hold}
 use Rattle.art_versions.specs.versions.Effects.{IsAmong}
-use Rattle.art_versions.specs.versions.Versions.{IsOpen, stage_of, held_by}
+use Rattle.art_versions.specs.versions.Versions.{IsOpen, stage_of, held_by, IsAtStage}
 use Rattle.art_versions.proofs.versions.KnownLemmas.{each-map}
 use Rattle.art_schedules.specs.calm.Calm.{calm_of}
 use Rattle.art_schedules.specs.work.Works.{RowsOf}
@@ -36,24 +36,26 @@ use Rattle.art_schedules.proofs.work.OwnLemmas.{rows-known}
 use Rattle.art_schedules.specs.changes.Effects.{Effect}
 use Rattle.art_schedules.specs.stories.Stories.{Status, Before, Found, Changed, HasNotChanged, Tale}
 use Rattle.art_schedules.specs.stories.Fitting.{IsToldStep, AllFit, IsLedOn, OwnStep, Keeps, Changes, Next, Stays, FindsNow, MakesAccess}
+use Rattle.art_schedules.specs.stories.Fitting.{set_at, the_plan}
 use Rattle.art_schedules.specs.coupled.Knows.{KnowsWay, IsOwn}
 use Rattle.art_schedules.specs.coupled.Goes as goes
 use Rattle.art_schedules.specs.coupled.Begins as coupled
-use Rattle.art_schedules.specs.coupled.Moments.{GoesFrom, StaysFrom, IsStepOf, IsAtStage, TakesLive, MakesLeave, LeavesBy}
+use Rattle.art_schedules.specs.coupled.Moments.{GoesFrom, StaysFrom, TakesLive, MakesLeave, LeavesBy, IsCoupledStep}
 use Rattle.art_schedules.specs.coupled.Good.{HoldsGood, TakesReached}
 use Rattle.art_schedules.specs.effects.AtWork.{AtWork, AtEnd, Answering, Leaving, IsInTree}
-use Rattle.art_schedules.specs.effects.Outcomes.{Makes, Works as WorksOn, IsRefused, TakesEffect, pairs_by}
+use Rattle.art_schedules.specs.effects.Outcomes.{Makes, Works as WorksOn, IsRefused, TakesEffect}
 use Rattle.art_schedules.specs.effects.Marks.{obsolete_by, WorkerStep, EnderStep}
-use Rattle.art_schedules.specs.coupled_runs.CoupledFits.{Ghosts, set_at, ghosts_with, IsWorld, IsWorking, HasNone, OfScans}
+use Rattle.art_schedules.specs.coupled_runs.CoupledFits.{Ghosts, ghosts_with, IsWorld, IsWorking, HasNone, OfScans}
 use Rattle.art_schedules.specs.coupled_runs.CoupledFits.{IsFit, Seeks, Works, Finds, Ends, Walks, CoupledFits}
 use Rattle.art_schedules.proofs.coupled_runs.PartLaws.{LawsOfParts}
 use Rattle.art_schedules.specs.coupled_runs.KeptScans.{ScanStep, ScansAreKept}
-use Rattle.art_schedules.specs.coupled_runs.Linear.{the_plan}
-use Rattle.art_schedules.proofs.coupled_runs.StageLemmas.{set-here, same-stage, work-claimed, key-scan}
+use Rattle.art_schedules.proofs.coupled_runs.StageLemmas.{work-claimed}
 use Rattle.art_schedules.proofs.coupled_runs.BridgeLemmas.{begins-bridge}
 use Rattle.art_schedules.proofs.coupled_runs.MarkBridgeLemmas.{makes-leave, fresh-is}
 use Rattle.art_schedules.proofs.coupled_runs.LedLemmas as led
 use Rattle.art_schedules.proofs.coupled.MoveLemmas.{works-hold}
+use Rattle.art_schedules.proofs.work.CallLemmas.{key-scan}
+use Rattle.art_schedules.proofs.stories.OpenLemmas.{set-here, same-stage}
 
 -- an end takes no row
 end-swaps : (shape : Shape) (real calm : List ℕ) (call : Call) (reply : Reply) (stage : Stage) → AtEnd (setting shape Coupled call) real calm reply stage
@@ -76,14 +78,15 @@ obsolete-named : (stage : Stage) (h : Hold) → stage ≡ Obsolete h → obsolet
 obsolete-named stage h e n = none-some h.row.base (sym n ∙ ap obsolete_by e)
 
 module _ (laws : LawsOfParts) (shape : Shape) (scripts : List (List Call)) (start : Contents) (words : List ℕ) (Scans : OfScans)
-    (scans : ScansAreKept (the_plan shape scripts) start words Scans)
+    (scans : ScansAreKept (the_plan Coupled shape scripts) start words Scans)
     (schedule : List ℕ) (tale : Tale) (p : ℕ) (s t : State) (g : Ghosts)
-    (told : IsToldStep (the_plan shape scripts) start words schedule tale p s t (calm_of (the_plan shape scripts) words schedule)
-    (calm_of (the_plan shape scripts) words (schedule ++ p ∷ [])))
-    (world : IsWorld shape g s (calm_of (the_plan shape scripts) words schedule))
-    (all : AllFit (CoupledFits shape Scans g) schedule s (calm_of (the_plan shape scripts) words schedule)) where
+    (told : IsToldStep (the_plan Coupled shape scripts) start words schedule tale p s t
+    (calm_of (the_plan Coupled shape scripts) words schedule)
+    (calm_of (the_plan Coupled shape scripts) words (schedule ++ p ∷ [])))
+    (world : IsWorld shape g s (calm_of (the_plan Coupled shape scripts) words schedule))
+    (all : AllFit (CoupledFits shape Scans g) schedule s (calm_of (the_plan Coupled shape scripts) words schedule)) where
   abbrev plan : Plan
-  plan = the_plan shape scripts
+  plan = the_plan Coupled shape scripts
 
   abbrev calm : List ℕ
   calm = calm_of plan words schedule
@@ -94,7 +97,7 @@ module _ (laws : LawsOfParts) (shape : Shape) (scripts : List (List Call)) (star
   abbrev m : Contents
   m = tale.pairs (length schedule)
 
-  is-step : IsStepOf plan start words schedule p s t told.claims m
+  is-step : IsCoupledStep plan start words schedule p s t told.claims m
   is-step = led.is-step laws shape scripts start words Scans scans schedule tale p s t g told world all
 
   -- a call with its stage, and the process that it is behind the step
@@ -113,13 +116,14 @@ module _ (laws : LawsOfParts) (shape : Shape) (scripts : List (List Call)) (star
     good : (effect : Option Effect) → Makes Coupled shape s p calm after m effect → TakesLive shape s p × TakesReached shape s p calm
         → HoldsGood shape after call later
     good effect makes takes =
-        laws.good_rows_stay plan start words schedule p s t told.claims m makes.claims (pairs_by effect m) effect is-step makes.follows
-        (led.gone-behind laws shape scripts start words Scans scans schedule tale p s t g told world all effect makes) (λ c w o. (all p c w o).1.rows) takes.0
+        laws.good_rows_stay plan start words schedule p s t told.claims m m effect is-step
+        (led.makes-goes laws shape scripts start words Scans scans schedule tale p s t g told world all effect makes)
+        (λ c w o. (all p c w o).1.rows) takes.0
         takes.1 call later made.behind
 
     at-next : (other : Process) → IsOpen t p call other → (next : Stage) → stage_of Coupled shape call other ≡ OnKey next
         → stage_of Coupled shape call later ≡ OnKey next
-    at-next other o next e = same-stage shape t p call call later other made.behind o ∙ e
+    at-next other o next e = same-stage Coupled shape t p call call later other made.behind o ∙ e
 
     none-now : HasNone (ghosts_with g p None None) p
     none-now = (set-here g.fresh p None, set-here g.leaving p None)
@@ -145,7 +149,7 @@ module _ (laws : LawsOfParts) (shape : Shape) (scripts : List (List Call)) (star
         → KnowsWay (setting shape Coupled call) calm s.words None stage → status ≡ Before → Answer
     seeks stage on none at knows e = go from.goes
       where
-        here : IsAtStage shape s p call stage
+        here : IsAtStage Coupled shape s p call (OnKey stage)
         here = record { process = q; is_open = made.here; at = at }
 
         from : GoesFrom shape call t p calm after m
@@ -229,7 +233,7 @@ module _ (laws : LawsOfParts) (shape : Shape) (scripts : List (List Call)) (star
         )
         (Finds from.next reply none-now (at-next from.at.process from.at.is_open from.next from.at.at) from.knows refl)
       where
-        here : IsAtStage shape s p call stage
+        here : IsAtStage Coupled shape s p call (OnKey stage)
         here = record { process = q; is_open = made.here; at = at }
 
         turn : turn_at (setting shape Coupled call) stage ≡ Asks a made.mark
@@ -255,7 +259,7 @@ module _ (laws : LawsOfParts) (shape : Shape) (scripts : List (List Call)) (star
       where
         from : EnderStep plan s p t calm after m call reply
         from = laws.enders_go_on plan start words schedule p s t told.claims m
-            (led.is-last laws shape scripts start words Scans scans schedule tale p s t g told world all) told.rests told.means call stage reply a made.mark
+            told.step told.rests told.means call stage reply a made.mark
             (record { process = q; is_open = made.here; at = at }) end (ap (call_turn (setting shape Coupled call)) (sym at) ∙ made.asks)
 
     -- ---- at work
@@ -263,7 +267,7 @@ module _ (laws : LawsOfParts) (shape : Shape) (scripts : List (List Call)) (star
     works : (stage : Stage) → stage_of Coupled shape call q ≡ OnKey stage → IsWorking shape s.words calm call stage (g.fresh p) (g.leaving p)
         → status ≡ Before → Answer
     works stage at w e = go (laws.workers_go_on plan start words schedule p s t told.claims m
-        (led.is-last laws shape scripts start words Scans scans schedule tale p s t g told world all) told.rests told.means
+        told.step told.rests told.means
         call stage (g.fresh p) (g.leaving p)
         (record { process = q; is_open = made.here; at = at }) w.0 w.1)
       where
@@ -333,8 +337,8 @@ module _ (laws : LawsOfParts) (shape : Shape) (scripts : List (List Call)) (star
         makes : Makes Coupled shape s p calm after m None
         makes = led.keeps-makes laws shape scripts start words Scans scans schedule tale p s t g told world all from.keeps
 
-        off : (other : Call) (b : Stage) → IsAtStage shape s p other b → ⊥
-        off other b y = key-scan (sym y.at ∙ (same-stage shape s p other call y.process q y.is_open made.here ∙ stage))
+        off : (other : Call) (b : Stage) → IsAtStage Coupled shape s p other (OnKey b) → ⊥
+        off other b y = key-scan (sym y.at ∙ (same-stage Coupled shape s p other call y.process q y.is_open made.here ∙ stage))
 
     pub own-step : CoupledFits shape Scans g schedule s calm p call q status → Answer
     own-step x = go x.fit

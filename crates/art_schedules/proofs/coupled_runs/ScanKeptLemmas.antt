@@ -1,6 +1,6 @@
 -- What fits an open scan of the coupled tree is kept by each step of a run.
-use Rattle.std.proofs.Common.{◌≡◌, ◌≢◌, ◌⊎◌, inl, inr, ℕ, ◌+◌, true, List, [], ◌∷◌, ◌++◌, length, refl, sym, ap, subst, ◌∙◌, arith}
-use Rattle.std.specs.Prelude.{slice_index, Option, Some, None}
+use Rattle.std.proofs.Common.{◌≡◌, ◌≢◌, ◌⊎◌, inl, inr, ℕ, ◌+◌, List, [], ◌∷◌, ◌++◌, length, refl, sym, ap, subst, ◌∙◌, arith}
+use Rattle.std.specs.Prelude.{Option, None}
 use Rattle.std.proofs.lemmas.Bool.{false≢true}
 use Rattle.std.proofs.lemmas.Option.{same_Some}
 use Rattle.events.specs.declared.event.Call.{Call}
@@ -24,41 +24,36 @@ use Rattle.art_core.specs.declared.process.Process.{Process}
 use Rattle.art_core.specs.Core.{Plan, State, begun, opened_on}
 use Rattle.art_versions.specs.versions.Effects.{IsAmong}
 use Rattle.art_versions.specs.versions.Holding.{holds}
-use Rattle.art_versions.specs.versions.Versions.{IsOpen, stage_of}
+use Rattle.art_versions.specs.versions.Versions.{IsOpen, stage_of, IsAtStage}
 use Rattle.art_schedules.specs.calm.Calm.{calm_of}
 use Rattle.art_schedules.proofs.calm.VersionLemmas.{locked-same}
 use Rattle.art_schedules.specs.changes.Effects.{Effect}
-use Rattle.art_schedules.specs.changes.Courses.{IsGoneBy}
-use Rattle.art_schedules.specs.changes.Follows.{Follows, KeepsTree, NoBase, NoRow}
+use Rattle.art_schedules.specs.changes.Courses.{IsGoneBy, pairs_by, ComesInBy}
+use Rattle.art_schedules.specs.changes.Follows.{Follows, KeepsTree}
 use Rattle.art_schedules.specs.stories.Stories.{Status, Before, Found, Changed, Tale}
-use Rattle.art_schedules.specs.stories.Fitting.{IsToldStep, Next, Stays, FindsNow, IsAnswered, BeginsCall, MakesAccess, AnswersCall}
-use Rattle.art_schedules.specs.coupled.Walks.{IsWalked}
+use Rattle.art_schedules.specs.stories.Fitting.{IsToldStep, Next, Stays, FindsNow, BeginsCall, MakesAccess, AnswersCall, HasItsReply}
+use Rattle.art_schedules.specs.stories.Fitting.{the_plan}
 use Rattle.art_schedules.specs.coupled.Scanning.{KnowsTree}
-use Rattle.art_schedules.specs.coupled.Moments.{IsStepOf, ObsoleteLeave}
+use Rattle.art_schedules.specs.coupled.Moments.{ObsoleteLeave, IsCoupledStep}
 use Rattle.art_schedules.specs.coupled.Good.{HoldsGood}
 use Rattle.art_schedules.proofs.coupled.MadeLemmas.{Facts, facts}
-use Rattle.art_schedules.specs.effects.Outcomes.{Makes, pairs_by}
-use Rattle.art_schedules.specs.locked_scans.Walking.{rows_at, IsAtScan, ScanComes, ScanStays}
+use Rattle.art_schedules.specs.effects.Outcomes.{Makes}
+use Rattle.art_schedules.specs.locked_scans.Walking.{ScanComes, ScanStays, rows_of_scan}
 use Rattle.art_schedules.specs.coupled_runs.KeptScans.{ScanStep}
-use Rattle.art_schedules.specs.coupled_runs.Linear.{the_plan, HaveScans}
+use Rattle.art_schedules.specs.coupled_runs.Linear.{HaveScans}
 use Rattle.art_schedules.specs.coupled_runs.ScanFits.{KnowsScan, IsKnownScan, CoupledScans}
 use Rattle.art_schedules.proofs.coupled_runs.PartLaws.{LawsOfParts}
+use Rattle.art_schedules.specs.coupled.Walks.{IsOver}
 
 -- a walk is over, or is not
-walked-or-not : (step : stage.ScanStep) → IsWalked step ⊎ (IsWalked step → ⊥)
+walked-or-not : (step : stage.ScanStep) → IsOver step ⊎ (IsOver step → ⊥)
 walked-or-not (Release n) = inl tt
 walked-or-not Over = inl tt
 walked-or-not step = inr (λ w. w)
 
--- a row that goes by the step was obsolete before it
-gone-before : (shape : Shape) (s : State) (p : ℕ) (calm after : List ℕ) (m : Contents) (effect : Option Effect)
-    → Makes Coupled shape s p calm after m effect → (b : ℕ) → IsGoneBy effect b → is_obsolete (slice_index s.words b) ≡ true
-gone-before shape s p calm after m None makes b gone = absurd gone
-gone-before shape s p calm after m (Some e) makes b gone = makes.by.gone b gone
-
 module _ (laws : LawsOfParts) (shape : Shape) (scripts : List (List Call)) (start : Contents) (words : List ℕ) where
   abbrev plan : Plan
-  plan = the_plan shape scripts
+  plan = the_plan Coupled shape scripts
 
   abbrev Scans : List ℕ → State → List ℕ → ℕ → Call → Process → Status → Type 0
   Scans = CoupledScans shape
@@ -78,15 +73,12 @@ module _ (laws : LawsOfParts) (shape : Shape) (scripts : List (List Call)) (star
     at-calm P h x y e f = subst (λ b. P x b) (sym f) (subst (λ a. P a there) (sym e) h)
 
     module _ (told : IsToldStep plan start words schedule tale p s t here there) where
-      is-step : IsStepOf plan start words schedule p s t told.claims m
+      is-step : IsCoupledStep plan start words schedule p s t told.claims m
       is-step = record {
         coupled = refl;
-        before = told.before;
-        behind = told.behind;
-        made = told.made;
+        run = told.step;
         rests = told.rests;
         means = told.means;
-        small = told.calm_behind.small;
       }
 
       fact : Facts shape s t p words here there
@@ -108,7 +100,7 @@ module _ (laws : LawsOfParts) (shape : Shape) (scripts : List (List Call)) (star
         );
       }
 
-      follows : KeepsTree shape here there → Follows shape (fact.count + 2) here there m NoBase NoRow
+      follows : KeepsTree shape here there → Follows shape (fact.count + 2) here there m (IsGoneBy None) (ComesInBy None)
       follows keeps = laws.kept_trees_follow shape told.claims (fact.count + 2) here there m told.rests told.means keeps (λ kind.
           let most = fact.behind.claims kind in omega (arith, most, fact.then.low (claims_of kind) (claims-few kind)))
 
@@ -119,13 +111,15 @@ module _ (laws : LawsOfParts) (shape : Shape) (scripts : List (List Call)) (star
         abbrev its : Call
         its = Scan low high
 
-        in-scan : IsAtScan shape s p low high x
+        in-scan : IsAtStage Coupled shape s p (Scan low high) (OnScan low high x)
         in-scan = record { process = q; is_open = made.here; at = at }
 
-        its-stage : (next : ScanAt) → IsAtScan shape t p low high next → stage_of Coupled shape its later ≡ OnScan low high next
+        its-stage : (next : ScanAt) → IsAtStage Coupled shape t p (Scan low high) (OnScan low high next)
+            → stage_of Coupled shape its later ≡ OnScan low high next
         its-stage next y = ap (stage_of Coupled shape its) (same_Some later y.process (sym made.behind.own ∙ y.is_open.own)) ∙ y.at
 
-        steps : (status now : Status) (next : ScanAt) → ((IsWalked x.step → ⊥) → KnowsTree shape here x) → IsAtScan shape t p low high next
+        steps : (status now : Status) (next : ScanAt) → ((IsOver x.step → ⊥) → KnowsTree shape here x)
+            → IsAtStage Coupled shape t p (Scan low high) (OnScan low high next)
             → KeepsTree shape here there → Next plan (opened_on plan words) schedule tale p (length (begun q)) its status now
             → KnowsScan shape low high there t.words next now → ScanStep plan words schedule tale p s t here there its q later status Scans
         steps status now next tree y keeps how knows = record {
@@ -148,7 +142,7 @@ module _ (laws : LawsOfParts) (shape : Shape) (scripts : List (List Call)) (star
             comes : ScanComes shape low high t p here there
             comes = laws.scans_come_on plan start words schedule p s t told.claims m leaving low high x is-step leave in-scan k.0 k.1 k.2
 
-            go : IsWalked comes.goes.next.step ⊎ (IsWalked comes.goes.next.step → ⊥)
+            go : IsOver comes.goes.next.step ⊎ (IsOver comes.goes.next.step → ⊥)
                 → ScanStep plan words schedule tale p s t here there its q later Before Scans
             go (inl walked) =
                 let f = follows comes.goes.keeps in
@@ -172,23 +166,24 @@ module _ (laws : LawsOfParts) (shape : Shape) (scripts : List (List Call)) (star
       module _ (effect : Option Effect) (makes : Makes Coupled shape s p here there m effect) (r low high : ℕ) (q : Process) (apart : r ≢ p)
           (o : IsOpen s r (Scan low high) q) (good : HoldsGood shape here (Scan low high) q) (x : ScanAt)
           (at : stage_of Coupled shape (Scan low high) q ≡ OnScan low high x) where
-        theirs : IsAtScan shape s r low high x
+        theirs : IsAtStage Coupled shape s r (Scan low high) (OnScan low high x)
         theirs = record { process = q; is_open = o; at = at }
 
         -- no row goes that the scan holds
-        stay : (h : Held) → IsAmong h (rows_at shape low high x) → IsGoneBy effect h.base → ⊥
+        stay : (h : Held) → IsAmong h (rows_of_scan shape low high x) → IsGoneBy effect h.base → ⊥
         stay h among gone =
             let a = subst (λ y. IsAmong h (holds (setting shape Coupled (Scan low high)) y)) (sym at) among in
             false≢true (sym (ap is_obsolete (fact.sound.locked r (Scan low high) q o h a) ∙ (locked-same h.kept ∙ (good h a).live))
-            ∙ gone-before shape s p here there m effect makes h.base gone)
+            ∙ makes.goes.gone h.base gone)
 
         other-scan : (status : Status) → KnowsScan shape low high here s.words x status → KnowsScan shape low high there t.words x status
         other-scan Before k =
             let left = laws.others_leave_scans plan start words schedule p s t told.claims m r low high x is-step apart theirs in (
               k.0,
               left.1 k.1,
-              laws.others_leave_trees plan start words schedule p s t told.claims m r low high x makes.claims (pairs_by effect m) effect is-step apart theirs
-                  makes.follows stay k.0 k.1 k.2,
+              laws.others_leave_trees plan start words schedule p s t told.claims m r low high x makes.goes.claims (pairs_by effect m)
+                  effect is-step apart theirs
+                  makes.goes.follows stay k.0 k.1 k.2,
             )
         other-scan (Found reply) k = (laws.others_leave_scans plan start words schedule p s t told.claims m r low high x is-step apart theirs).2 reply k
         other-scan (Changed reply) k = absurd k
@@ -245,17 +240,17 @@ module _ (laws : LawsOfParts) (shape : Shape) (scripts : List (List Call)) (star
 
     answer : (low high : ℕ) (calm : List ℕ) (q : Process) (reply : Reply) (x : ScanAt) (status : Status)
         → scan_turn (setting shape Coupled (Scan low high)) x ≡ Answers reply → KnowsScan shape low high calm s.words x status
-        → IsAnswered plan words schedule tale p (Scan low high) q status reply
+        → HasItsReply plan words schedule tale p (Scan low high) q status reply
     answer low high calm q reply x Before turn k = absurd (laws.walking_scans_ask shape low high x reply k.0 turn)
     answer low high calm q reply x (Found found) turn k =
         (Found found, Stays refl, sym (laws.found_scans_answer shape low high calm s.words found reply x k turn))
     answer low high calm q reply x (Changed changed) turn k = absurd k
 
     pub answers : (calm : List ℕ) (call : Call) (q : Process) (status : Status) (reply : Reply) → AnswersCall plan s p t call q reply
-        → Scans schedule s calm p call q status → IsAnswered plan words schedule tale p call q status reply
+        → Scans schedule s calm p call q status → HasItsReply plan words schedule tale p call q status reply
     answers calm call q status reply ended x =
         subst (λ y. call_turn (setting shape Coupled y) (stage_of Coupled shape y q) ≡ Answers reply → stage_of Coupled shape y q ≡ OnScan x.low x.high x.at
-        → IsAnswered plan words schedule tale p y q status reply) (sym x.is)
+        → HasItsReply plan words schedule tale p y q status reply) (sym x.is)
         (λ turn at. answer x.low x.high calm q reply x.at status (ap (call_turn (setting shape Coupled (Scan x.low x.high))) (sym at) ∙ turn) x.knows)
         ended.answers x.stage
 

@@ -6,11 +6,11 @@ use Rattle.art_rows.specs.declared.table.Kind.TheVariants.{Four}
 use Rattle.art_steps.specs.Rows.{Setting}
 use Rattle.art_stages.specs.declared.stage.Stage.{Stage}
 use Rattle.art_core.specs.Core.{State}
+use Rattle.art_serial.specs.trees.Trees.{IsClaimed}
 use Rattle.art_versions.specs.versions.Holding.{Named}
-use Rattle.art_versions.specs.versions.Versions.{IsClaimed}
 use Rattle.art_schedules.specs.changes.Effects.{Effect, Keeps, Fills, PutsLeaf, RemovesLeaf, HangsPair, HangsGrown}
 use Rattle.art_schedules.specs.effects.AtWork.{fresh_of, IsPending, AtWork, Claiming, Going, Hanging}
-use Rattle.art_schedules.specs.effects.Outcomes.{GoesOn, AreApart, IsOther}
+use Rattle.art_schedules.specs.effects.Outcomes.{IsOther, FreshGoesOn, AreTwoRows}
 
 pending-claimed : (c : Setting) (real calm : List ℕ) (e : Effect) (old : Option ℕ) → IsPending c real calm e old → (row : Named) → fresh_of e ≡ Some row
     → IsClaimed c.shape real row.0 row.1
@@ -28,26 +28,26 @@ fresh-claimed c real calm stage row (Claiming none g) = absurd (none-some row (s
 fresh-claimed c real calm stage row (Going g) = g.new.claimed
 fresh-claimed c real calm stage row (Hanging g) = pending-claimed c real calm g.effect g.old g.pending row (sym g.fresh_row)
 
-apart-swap : (a b : Option Named) → AreApart a b → AreApart b a
+apart-swap : (a b : Option Named) → AreTwoRows a b → AreTwoRows b a
 apart-swap None None h = tt
 apart-swap None (Some b) h = tt
 apart-swap (Some a) None h = tt
 apart-swap (Some a) (Some b) h = λ e. h (sym e)
 
 pub stay-apart : (c : Setting) (s : State) (calm : List ℕ) (stage : Stage) (fresh later other : Option Named) → AtWork c s.words calm other stage
-    → GoesOn c.shape s fresh later → AreApart fresh other → AreApart later other × AreApart other later
+    → FreshGoesOn c.shape s fresh later → AreTwoRows fresh other → AreTwoRows later other × AreTwoRows other later
 stay-apart c s calm stage fresh later other work (inl same) apart =
-    let now = subst (λ z. AreApart z other) (sym same) apart in (now, apart-swap later other now)
+    let now = subst (λ z. AreTwoRows z other) (sym same) apart in (now, apart-swap later other now)
 stay-apart c s calm stage fresh later other work (inr (row, is, unclaimed)) apart =
-    let now = subst (λ z. AreApart z other) (sym is) (go other work) in (now, apart-swap later other now)
+    let now = subst (λ z. AreTwoRows z other) (sym is) (go other work) in (now, apart-swap later other now)
   where
-    go : (other : Option Named) → AtWork c s.words calm other stage → AreApart (Some row) other
+    go : (other : Option Named) → AtWork c s.words calm other stage → AreTwoRows (Some row) other
     go None work = tt
     go (Some x) work = λ e.
         let claimed = fresh-claimed c s.words calm stage x work in
         unclaimed x.1 (record { number = claimed.number; claimed = claimed.claimed; within = claimed.within; is = e ∙ claimed.is })
 
-pub bring-theirs : (e : Effect) (other : Option Named) → AreApart (fresh_of e) other → IsOther (Some e) other
+pub bring-theirs : (e : Effect) (other : Option Named) → AreTwoRows (fresh_of e) other → IsOther (Some e) other
 bring-theirs e None apart = tt
 bring-theirs (Keeps base kind) (Some row) apart = λ none. none
 bring-theirs (Fills base kind) (Some row) apart = λ none. none

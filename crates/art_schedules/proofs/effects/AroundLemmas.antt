@@ -18,15 +18,15 @@ use Rattle.art_stages.specs.Stages.{setting}
 use Rattle.art_stages.specs.Calls.{call_turn, call_after, call_begun}
 use Rattle.art_core.specs.declared.process.Process.{Process}
 use Rattle.art_core.specs.Accesses.{told, got_by, words_after}
-use Rattle.art_core.specs.Core.{Plan, State, Move, Makes, opened_on, after_move, moved, move_of, move_from}
+use Rattle.art_core.specs.Core.{Plan, State, Move, Makes, after_move, moved, move_of, move_from}
 use Rattle.art_core.proofs.HistoryLemmas.{IsMoved, is-moved}
 use Rattle.art_serial.proofs.serial.OrderlyLemmas.{set-here}
+use Rattle.art_serial.specs.trees.Trees.{AreZeroPastClaims}
 use Rattle.art_versions.specs.versions.Holding.{IsKept}
 use Rattle.art_versions.specs.versions.Effects.{IsAmong}
 use Rattle.art_versions.specs.versions.Versions.{IsOpen, IsSettled, IsSound, stage_of, held_by}
-use Rattle.art_versions.specs.versions.Steady.{IsSteady, SameRow}
+use Rattle.art_versions.specs.versions.Steady.{IsSteady, SameWords}
 use Rattle.art_versions.specs.versions.Writers.{WritesOwn, IsHeldBy, IsTakenBy, IsFilledBy}
-use Rattle.art_versions.specs.versions.Fresh.{FreshAreZero}
 use Rattle.art_versions.specs.versions.Laws.{IsFull}
 use Rattle.art_versions.proofs.versions.ChangeLemmas.{set-other}
 use Rattle.art_versions.proofs.versions.FreshLemmas.{fresh-at}
@@ -35,10 +35,9 @@ use Rattle.art_versions.proofs.versions.MoveLemmas.{settled-row}
 use Rattle.art_versions.proofs.versions.RunLemmas.{written-at}
 use Rattle.art_versions.proofs.versions.StepLemmas.{after-more, next-turn}
 use Rattle.art_schedules.specs.calm.Calm.{calm_of, IsCalm}
-use Rattle.art_schedules.specs.calm.Changes.{CalmStep}
-use Rattle.art_schedules.proofs.calm.InductionLemmas.{run-begins, last-step, step-of-run}
+use Rattle.art_schedules.specs.calm.Changes.{CalmStep, IsRunStep}
+use Rattle.art_schedules.proofs.calm.InductionLemmas.{step-of-run}
 use Rattle.art_schedules.proofs.calm.RunLemmas.{calm-at, step-at}
-use Rattle.art_schedules.specs.effects.Outcomes.{IsLastStep}
 
 pub record Around (plan : Plan) (p : ℕ) (s t : State) (calm after : List ℕ) : Type 0 where
   pub full : IsFull plan.variant
@@ -53,30 +52,28 @@ pub record Around (plan : Plan) (p : ℕ) (s t : State) (calm after : List ℕ) 
   pub calm_behind : IsCalm plan.variant plan.shape first t after
   pub changes : CalmStep plan.variant plan.shape s p t calm after
   pub written : WritesOwn plan.variant plan.shape s p t
-  pub zero : FreshAreZero plan.shape s
+  pub zero : AreZeroPastClaims plan.shape s.words
   pub move : IsMoved plan s p t
 
-pub around : (plan : Plan) (start : Contents) (words schedule : List ℕ) (p : ℕ) (s t : State) → IsLastStep plan start words schedule p s t
+pub around : (plan : Plan) (start : Contents) (words schedule : List ℕ) (p : ℕ) (s t : State) → IsRunStep plan start words schedule p s t
     → Around plan p s t (calm_of plan words schedule) (calm_of plan words (schedule ++ p ∷ []))
 around plan start words schedule p s t l =
-    let before = run-begins plan start words schedule (p ∷ []) s t l.run l.gives in
-    let f = last-step plan (opened_on plan words) s t schedule p l.gives l.run.gives in
-    let made = step-of-run plan.variant l.full plan start words schedule p s t before refl f in
+    let made = step-of-run plan.variant l.full plan start words schedule p s t l.before refl l.made in
     record {
       full = l.full;
-      root = l.run.within.shape.root;
+      root = l.behind.within.shape.root;
       first = words;
       count = made.count;
       few = made.few;
       before = made.before;
       behind = made.behind;
       steady = made.steady;
-      calm_before = calm-at plan start words schedule s before l.full;
-      calm_behind = calm-at plan start words (schedule ++ p ∷ []) t l.run l.full;
-      changes = step-at plan start words schedule p s t l.run l.full l.gives;
-      written = written-at plan.variant l.full plan start words schedule p s t l.run refl l.gives;
-      zero = fresh-at plan.variant l.full plan start words schedule s before refl;
-      move = is-moved plan s p t f;
+      calm_before = calm-at plan start words schedule s l.before l.full;
+      calm_behind = calm-at plan start words (schedule ++ p ∷ []) t l.behind l.full;
+      changes = step-at plan start words schedule p s t l.behind l.full l.before.gives;
+      written = written-at plan.variant l.full plan start words schedule p s t l.behind refl l.before.gives;
+      zero = fresh-at plan.variant l.full plan start words schedule s l.before refl;
+      move = is-moved plan s p t l.made;
     }
 
 -- the process that steps makes the access that it asks for
@@ -140,7 +137,7 @@ module _ (plan : Plan) (p : ℕ) (s t : State) (calm after : List ℕ) (x : Arou
   others-row = settled-row variant shape s h.base h.kind kept.1
 
   -- the words of a row that another process holds stay
-  pub others-stay : SameRow s.words t.words h.base h.kind
+  pub others-stay : SameWords s.words t.words h.base h.kind
   others-stay word low high = elim (cases_eq (slice_index t.words word) (slice_index s.words word)) [
     | inl e ↦ e
     | inr d ↦ absurd (go (x.written h.base h.kind others-row word low high d))
@@ -155,6 +152,6 @@ module _ (plan : Plan) (p : ℕ) (s t : State) (calm after : List ℕ) (x : Arou
       go (inr (inr f)) = kept.1.unfilled p f.call f.process f.is_open h.base f.kind f.fills refl
 
   -- and so do calm's
-  pub others-calm : SameRow calm after h.base h.kind
+  pub others-calm : SameWords calm after h.base h.kind
   others-calm = x.changes.held h.base h.kind others-row
       (record { holder = r; call = call; process = w; is_open = then-open; row = h; among = among; is = refl })

@@ -1,5 +1,5 @@
 -- What is so where work begins.
-use Rattle.std.proofs.Common.{◌≡◌, ℕ, List, true, false, refl, ap, sym, inl, inr}
+use Rattle.std.proofs.Common.{◌≡◌, ℕ, List, true, false, refl, sym, inl, inr}
 use Rattle.std.specs.Prelude.{Option, Some, None}
 use Rattle.events.specs.declared.event.Call.{Call}
 use Rattle.events.specs.declared.event.Call.TheVariants.{Get, Insert, Remove, Scan, Replace}
@@ -11,8 +11,8 @@ use Rattle.art_stages.specs.declared.stage.Hold.{Hold}
 use Rattle.art_stages.specs.declared.stage.Work.{Work}
 use Rattle.art_stages.specs.declared.stage.Work.TheVariants as work
 use Rattle.art_core.specs.Meaning.{child_on}
-use Rattle.art_schedules.specs.work.Works.{IsInsert}
 use Rattle.art_schedules.specs.effects.Begins.{BeginsWork, IsOverwritten}
+use Rattle.art_schedules.proofs.work.CallLemmas.{is-insert}
 
 inserts-do-not-scan : (call : Call) → is_insert call ≡ true → is_scan call ≡ false
 inserts-do-not-scan (Insert key value) e = refl
@@ -30,9 +30,6 @@ overwrites-do-not-scan (Get key) value word e = refl
 overwrites-do-not-scan (Remove key) value word e = refl
 overwrites-do-not-scan (Scan low high) value word e = absurd (none-some e)
 overwrites-do-not-scan (Replace key old new) value word e = refl
-
-is-insert : (call : Call) → IsInsert call → is_insert call ≡ true
-is-insert call i = ap is_insert i.is
 
 overwritten : (c : Setting) (word : ℕ) (old : Option ℕ) (child : Child) → IsOverwritten c word old child → is_scan c.call ≡ false
 overwritten c word old Empty o = inserts-do-not-scan c.call o.0

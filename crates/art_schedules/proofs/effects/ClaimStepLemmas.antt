@@ -31,24 +31,24 @@ use Rattle.art_stages.specs.Calls.{OnKey, call_turn, call_after}
 use Rattle.art_core.specs.declared.process.Process.{Process}
 use Rattle.art_core.specs.Core.{Plan, State}
 use Rattle.art_core.specs.Meaning.{Means}
-use Rattle.art_serial.specs.trees.Trees.{IsAtRest}
+use Rattle.art_serial.specs.trees.Trees.{IsAtRest, IsClaimed, IsUnused}
 use Rattle.art_serial.specs.trees.Children.{ChildrenAreRead}
 use Rattle.art_serial.proofs.writes.StoreLemmas.{stored-at}
 use Rattle.art_versions.specs.versions.Locking.{rows_of_hold}
 use Rattle.art_versions.specs.versions.Holding.{Each, Knows}
-use Rattle.art_versions.specs.versions.Versions.{IsOpen, IsClaimed, stage_of}
+use Rattle.art_versions.specs.versions.Versions.{IsOpen, stage_of, IsAtStage}
 use Rattle.art_versions.proofs.versions.ChangeLemmas.{index-other}
 use Rattle.art_versions.proofs.versions.MoveLemmas.{settled-row, true-false}
 use Rattle.art_schedules.proofs.calm.UseLemmas.{without-store}
-use Rattle.art_schedules.specs.changes.Courses.{IsGoneBy, IsFreshBy}
+use Rattle.art_schedules.specs.changes.Courses.{IsGoneBy, ComesInBy}
 use Rattle.art_schedules.specs.changes.Laws.{EffectsFollow, KeptTreesFollow}
 use Rattle.art_schedules.specs.changes.Written.{IsUnreached}
-use Rattle.art_schedules.specs.work.Solo.{IsUnused, Solo, here, further, claims}
+use Rattle.art_schedules.specs.work.Solo.{Solo, here, further, claims}
 use Rattle.art_schedules.specs.work.Works.{RowsOf}
 use Rattle.art_schedules.proofs.work.OwnLemmas.{rows-known}
 use Rattle.art_schedules.specs.effects.Begins.{BeginsWork}
 use Rattle.art_schedules.specs.effects.AtWork.{IsInTree, IsSame, IsClaiming, claims_row, hold_at, FillsAt, AtWork, Going, Leaving}
-use Rattle.art_schedules.specs.effects.Outcomes.{Makes, IsAt, Works, IsRefused}
+use Rattle.art_schedules.specs.effects.Outcomes.{Makes, Works, IsRefused}
 use Rattle.art_schedules.specs.effects.Marks.{obsolete_by, WorkerStep}
 use Rattle.art_schedules.proofs.effects.AroundLemmas.{Around, OwnAccess, own-access}
 use Rattle.art_schedules.proofs.effects.KeptLemmas.{begins-kept, inside-kept, unreached-kept}
@@ -86,13 +86,15 @@ module _ (read : ChildrenAreRead) (trees : KeptTreesFollow) (effects : EffectsFo
 
     pub rows-then : (h : Hold) → Each (IsInTree c calm) (rows_of_hold h) → Each (IsInTree c after) (rows_of_hold h)
     rows-then h rows = each-with (IsInTree c calm) (IsInTree c after) (rows_of_hold h)
-        (λ row among inside. inside-kept c made.claims calm after _ (IsGoneBy None) (IsFreshBy None) made.follows row inside (λ none. none)) rows
+        (λ row among inside. inside-kept c made.goes.claims calm after _ (IsGoneBy None) (ComesInBy None) made.goes.follows row inside
+        (λ none. none)) rows
 
     pub calms : (h : Hold) → Each (IsInTree c calm) (rows_of_hold h) → Each (IsSame calm after) (rows_of_hold h)
     calms h rows = each-with (IsInTree c calm) (IsSame calm after) (rows_of_hold h) (λ row among inside. calm-row row inside) rows
 
     pub begins-then : (h : Hold) (work : Work) → Each (IsInTree c calm) (rows_of_hold h) → BeginsWork c calm h work → BeginsWork c after h work
-    begins-then h work rows begins = begins-kept c made.claims calm after _ (IsGoneBy None) (IsFreshBy None) made.follows h work (calms h rows)
+    begins-then h work rows begins = begins-kept c made.goes.claims calm after _ (IsGoneBy None) (ComesInBy None) made.goes.follows h work
+        (calms h rows)
         (each-of (λ row. IsGoneBy None row.base → ⊥) (rows_of_hold h) (λ row among none. none)) begins
 
   -- ---- the claim
@@ -135,7 +137,7 @@ module _ (read : ChildrenAreRead) (trees : KeptTreesFollow) (effects : EffectsFo
         pair-up [] a b = tt
         pair-up (row ∷ hs) a b = ((a.0, b.0), pair-up hs a.1 b.1)
 
-    then-at : (stage2 : Stage) → stage_after c (work_at c h work) number ≡ stage2 → IsAt variant shape t p call stage2
+    then-at : (stage2 : Stage) → stage_after c (work_at c h work) number ≡ stage2 → IsAtStage variant shape t p call (OnKey stage2)
     then-at stage2 e = record {
       process = own.process;
       is_open = own.is_open;
@@ -147,7 +149,7 @@ module _ (read : ChildrenAreRead) (trees : KeptTreesFollow) (effects : EffectsFo
     calm-number = x.calm_before.low (claims_of kind) (claims-few kind)
 
     unused : IsUnused shape calm kind number
-    unused within word low high = x.calm_before.fresh kind number word (omega (arith, calm-number)) within low high
+    unused = x.calm_before.fresh kind number (omega (arith, calm-number))
 
     not-claimed : number < rows_of shape kind → (l : Kind) → IsClaimed shape s.words (base_of shape kind number) l → ⊥
     not-claimed within l claimed =
@@ -157,8 +159,8 @@ module _ (read : ChildrenAreRead) (trees : KeptTreesFollow) (effects : EffectsFo
     unreached : number < rows_of shape kind → IsUnreached shape calm (base_of shape kind number)
     unreached within l r =
         let its = rest.claimed (base_of shape kind number) l r in
-        let one = base_of-once shape kind l number its.0 within its.2 its.3 in
-        omega (arith, one.1, subst (λ z. its.0 < slice_index calm (claims_of z)) (sym one.0) its.1, calm-number)
+        let one = base_of-once shape kind l number its.number within its.within its.is in
+        omega (arith, one.1, subst (λ z. its.number < slice_index calm (claims_of z)) (sym one.0) its.claimed, calm-number)
 
     -- a claim makes no row obsolete
     none-obsolete : obsolete_by stage ≡ None
@@ -195,7 +197,8 @@ module _ (read : ChildrenAreRead) (trees : KeptTreesFollow) (effects : EffectsFo
             new = record {
               at = fills number;
               claimed = record { number = number; claimed = omega (arith, real-count); within = within; is = refl };
-              unreached = unreached-kept shape (made stays).claims calm after _ (IsGoneBy None) (IsFreshBy None) (made stays).follows base (unreached within)
+              unreached = unreached-kept shape (made stays).goes.claims calm after _ (IsGoneBy None) (ComesInBy None)
+                  (made stays).goes.follows base (unreached within)
                   (λ i none. none);
               live = ap is_obsolete (stays base begins_late ∙ unused within base (omega arith) (omega (arith, some-words kind)));
               live_now = ap is_obsolete (real-word base begins_late

@@ -44,7 +44,7 @@ use Rattle.art_serial.proofs.trees.Changes.{way_byte}
 use Rattle.art_versions.specs.versions.Locking.{lock_of, locks_of, all_of, rows_of_hold}
 use Rattle.art_versions.specs.versions.Holding.{Named, Each, Knows, KnowsKey, holds, fills}
 use Rattle.art_versions.specs.versions.Effects.{IsAmong, IsBehindVersion}
-use Rattle.art_versions.specs.versions.Versions.{IsOpen, AreDistinct, stage_of, filled_by}
+use Rattle.art_versions.specs.versions.Versions.{IsOpen, AreDistinct, stage_of, filled_by, IsAtStage}
 use Rattle.art_versions.proofs.versions.ChangeLemmas.{index-other}
 use Rattle.art_versions.proofs.versions.MoveLemmas.{settled-row, true-false}
 use Rattle.art_versions.proofs.versions.LowLemmas.{first-item}
@@ -52,12 +52,12 @@ use Rattle.art_schedules.specs.calm.Calm.{is_busy}
 use Rattle.art_schedules.proofs.calm.CalmLemmas.{claimed-row}
 use Rattle.art_schedules.proofs.calm.UseLemmas.{without-store, with-written, with-filled}
 use Rattle.art_schedules.proofs.calm.VersionLemmas.{free-busy}
-use Rattle.art_schedules.specs.changes.Courses.{IsGoneBy, IsFreshBy}
+use Rattle.art_schedules.specs.changes.Courses.{IsGoneBy, ComesInBy}
 use Rattle.art_schedules.specs.changes.Laws.{EffectsFollow, KeptTreesFollow}
 use Rattle.art_schedules.proofs.changes.RowLemmas.{steady-row}
 use Rattle.art_schedules.specs.work.Solo.{Solo, further, loads, stores}
 use Rattle.art_schedules.specs.work.Own.{IsHeldWord, IsFilledWord, TouchesOwn, LoadsHeld, StoresOwn, ClaimsRow, ReleasesHeld, Replies, may_release}
-use Rattle.art_schedules.specs.work.Works.{RowsOf, IsRelease, IsDone, IsDoneBy, PairHangs, GrownHangs}
+use Rattle.art_schedules.specs.work.Works.{RowsOf, IsRelease, IsDoneBy, PairHangs, GrownHangs, IsWorkDone}
 use Rattle.art_schedules.specs.work.Laws.{WorkIsDone}
 use Rattle.art_schedules.proofs.work.EndLemmas.{end-releases}
 use Rattle.art_schedules.proofs.work.GoingLemmas.{alike-set}
@@ -68,9 +68,9 @@ use Rattle.art_schedules.proofs.work.WorkLemmas.{put_loads, put_stores, put_leaf
 use Rattle.art_schedules.proofs.work.WorkLemmas.{grow_info, grow_loads, grow_stores, spread_index, spread_loads}
 use Rattle.art_schedules.proofs.work.WorkLemmas.{spread_stores, grow_leaf, grow_keys, grow_count, hangs as hang_stage}
 use Rattle.art_schedules.specs.effects.Begins.{upper_of, upper_row, BeginsWork}
-use Rattle.art_schedules.specs.effects.AtWork.{IsInTree, IsSame, hold_at, growing_at, FillsAt, IsNew, HasNew, IsGoing, IsReady, IsHanging, AtWork, Going}
-use Rattle.art_schedules.specs.effects.AtWork.{Hanging}
-use Rattle.art_schedules.specs.effects.Outcomes.{Makes, IsAt, Works}
+use Rattle.art_schedules.specs.effects.AtWork.{IsInTree, IsSame, hold_at, growing_at, FillsAt, HasNew, IsGoing, IsHanging, AtWork, Going}
+use Rattle.art_schedules.specs.effects.AtWork.{Hanging, FillsFresh, HasFilledFresh}
+use Rattle.art_schedules.specs.effects.Outcomes.{Makes, Works}
 use Rattle.art_schedules.specs.effects.Marks.{IsMarked, WorkerStep}
 use Rattle.art_schedules.proofs.effects.BeginLemmas.{no-scan}
 use Rattle.art_schedules.proofs.effects.AroundLemmas.{Around, OwnAccess, own-access}
@@ -209,22 +209,25 @@ module _ (read : ChildrenAreRead) (trees : KeptTreesFollow) (effects : EffectsFo
     pub solo : Solo c (OnKey (work_at c g.hold g.work)) g.first (OnKey (stage_after c stage w)) words
     pub calms : Each (IsSame calm after) rows
     pub same : Each (IsSame words t.words) rows
-    pub new : (b : ℕ) (l : Kind) → IsNew c s.words calm g.words g.hold g.work stage b l → IsReady c t.words after b l × SameRow words after b l
+    pub new : (b : ℕ) (l : Kind) → FillsFresh c s.words calm g.words g.hold g.work stage b l → HasFilledFresh c t.words after b l
+        × SameRow words after b l
     pub wrote : (word value : ℕ) (mark : Option Point) → turn_at c stage ≡ Asks (Store word value) mark → word < length g.words → slice_index words word ≡ value
     pub process : Process
     pub is_open : IsOpen t p call process
     pub stage_at : stage_of variant shape call process ≡ OnKey (stage_after c stage w)
 
   -- a fresh row is apart from each that is held
-  new-apart : (b : ℕ) (l : Kind) → IsNew c s.words calm g.words g.hold g.work stage b l → (row : Held) → IsAmong row (holds c (OnKey stage)) → (word : ℕ)
+  new-apart : (b : ℕ) (l : Kind) → FillsFresh c s.words calm g.words g.hold g.work stage b l → (row : Held)
+      → IsAmong row (holds c (OnKey stage)) → (word : ℕ)
       → b ≤ word → word < b + row_words l → row.base ≤ word → word < row.base + row_words row.kind → ⊥
   new-apart b l new row among word low high low2 high2 = new.unreached row.kind
       (subst (λ z. Reached shape calm z row.kind)
       (rows_apart shape row.base b row.kind l word (held-row row among) (claimed-row shape s.words b l new.claimed) low2 high2 low high).0
       (held-reached row among))
 
-  ready-then : (made : Kept) (b : ℕ) (l : Kind) → IsNew c s.words calm g.words g.hold g.work stage b l → slice_index after b ≡ slice_index calm b
-      → is_obsolete (slice_index t.words b) ≡ false → IsReady c t.words after b l
+  ready-then : (made : Kept) (b : ℕ) (l : Kind) → FillsFresh c s.words calm g.words g.hold g.work stage b l
+      → slice_index after b ≡ slice_index calm b
+      → is_obsolete (slice_index t.words b) ≡ false → HasFilledFresh c t.words after b l
   ready-then made b l new same live_now = record {
     claimed = record {
       number = new.claimed.number;
@@ -232,7 +235,8 @@ module _ (read : ChildrenAreRead) (trees : KeptTreesFollow) (effects : EffectsFo
       within = new.claimed.within;
       is = new.claimed.is;
     };
-    unreached = unreached-kept shape made.claims calm after _ (IsGoneBy None) (IsFreshBy None) made.follows b new.unreached (λ i none. none);
+    unreached = unreached-kept shape made.goes.claims calm after _ (IsGoneBy None) (ComesInBy None) made.goes.follows b new.unreached
+        (λ i none. none);
     live = ap is_obsolete same ∙ new.live;
     live_now = live_now;
   }
@@ -249,8 +253,8 @@ module _ (read : ChildrenAreRead) (trees : KeptTreesFollow) (effects : EffectsFo
     calms-stay = each-with (IsInTree c calm) (IsSame calm after) rows (λ row among inside j low high. stays (row.base + j) (omega
         (arith, late row inside))) g.rows
 
-    new-stays : (words : List ℕ) (b : ℕ) (l : Kind) → IsNew c s.words calm g.words g.hold g.work stage b l → SameRow g.words words b l
-        → slice_index t.words b ≡ slice_index s.words b → IsReady c t.words after b l × SameRow words after b l
+    new-stays : (words : List ℕ) (b : ℕ) (l : Kind) → FillsFresh c s.words calm g.words g.hold g.work stage b l → SameRow g.words words b l
+        → slice_index t.words b ≡ slice_index s.words b → HasFilledFresh c t.words after b l × SameRow words after b l
     new-stays words b l new same version =
         let low5 = row_begins shape b l (claimed-row shape s.words b l new.claimed) in (
           ready-then made-stays b l new (stays b low5) (ap is_obsolete version ∙ new.live_now),
@@ -303,7 +307,8 @@ module _ (read : ChildrenAreRead) (trees : KeptTreesFollow) (effects : EffectsFo
         ∙ alike-set g.words s.words (row.base + j) word value as-long (same j low high)) g.same
 
     stored : (made : Kept) → Each (IsSame calm after) rows
-        → ((b : ℕ) (l : Kind) → IsNew c s.words calm g.words g.hold g.work stage b l → IsReady c t.words after b l × SameRow now after b l) → Moved 0
+        → ((b : ℕ) (l : Kind) → FillsFresh c s.words calm g.words g.hold g.work stage b l → HasFilledFresh c t.words after b l
+        × SameRow now after b l) → Moved 0
     stored made calms new = record {
       made = made;
       words = now;
@@ -331,7 +336,8 @@ module _ (read : ChildrenAreRead) (trees : KeptTreesFollow) (effects : EffectsFo
         ∙ index-other s.words word value b
         (λ e. new-apart b l new held.row held.among word (omega (arith, e)) (omega (arith, e, some-words l)) (omega (arith, held.behind.0)) held.behind.1)))
 
-    stored-filled : (b : ℕ) (l : Kind) → IsNew c s.words calm g.words g.hold g.work stage b l → fills (OnKey stage) ≡ (b, l) ∷ [] → IsBehindVersion b l word
+    stored-filled : (b : ℕ) (l : Kind) → FillsFresh c s.words calm g.words g.hold g.work stage b l → fills (OnKey stage) ≡ (b, l) ∷ []
+        → IsBehindVersion b l word
         → Moved 0
     stored-filled b l new f behind = stored made calms others-new
       where
@@ -371,10 +377,11 @@ module _ (read : ChildrenAreRead) (trees : KeptTreesFollow) (effects : EffectsFo
             ∙ alike-set g.words s.words (b + j) word value as-long
             (sym (steady-row s.words calm b l (x.calm_before.filled p call q o b l filled) j low high) ∙ new.same j low high))
 
-        others-new : (d : ℕ) (i : Kind) → IsNew c s.words calm g.words g.hold g.work stage d i → IsReady c t.words after d i × SameRow now after d i
+        others-new : (d : ℕ) (i : Kind) → FillsFresh c s.words calm g.words g.hold g.work stage d i → HasFilledFresh c t.words after d i
+            × SameRow now after d i
         others-new d i other =
             let same : ◌≡◌ {A = Named} (b, l) (d, i) = fills-new g.hold g.work d i stage other.at b l f in
-            subst (λ (z : Named). IsReady c t.words after z.0 z.1 × SameRow now after z.0 z.1) same
+            subst (λ (z : Named). HasFilledFresh c t.words after z.0 z.1 × SameRow now after z.0 z.1) same
             (ready-then made b l new (others b low5 (λ e. omega (arith, e, behind.0))) (ap is_obsolete version ∙ new.live), filled-same)
 
     stored-fresh : (row : Option Named) → HasNew c s.words calm g.words g.hold g.work stage row → IsFilledWord (OnKey stage) word → Moved 0
@@ -392,12 +399,13 @@ module _ (read : ChildrenAreRead) (trees : KeptTreesFollow) (effects : EffectsFo
     next = stage_after c stage w
 
     begins : BeginsWork c after g.hold g.work
-    begins = begins-kept c mv.made.claims calm after _ (IsGoneBy None) (IsFreshBy None) mv.made.follows g.hold g.work mv.calms
+    begins = begins-kept c mv.made.goes.claims calm after _ (IsGoneBy None) (ComesInBy None) mv.made.goes.follows g.hold g.work mv.calms
         (each-of (λ row. IsGoneBy None row.base → ⊥) rows (λ row among none. none)) g.begins
 
     rows-then : Each (IsInTree c after) rows
     rows-then = each-with (IsInTree c calm) (IsInTree c after) rows
-        (λ row among inside. inside-kept c mv.made.claims calm after _ (IsGoneBy None) (IsFreshBy None) mv.made.follows row inside (λ none. none)) g.rows
+        (λ row among inside. inside-kept c mv.made.goes.claims calm after _ (IsGoneBy None) (ComesInBy None) mv.made.goes.follows row
+        inside (λ none. none)) g.rows
 
     was-then : Each (IsSame g.first after) rows
     was-then = go rows g.was mv.calms
@@ -406,7 +414,7 @@ module _ (read : ChildrenAreRead) (trees : KeptTreesFollow) (effects : EffectsFo
         go [] a b = tt
         go (h ∷ hs) a b = (λ j low high. b.0 j low high ∙ a.0 j low high, go hs a.1 b.1)
 
-    is-at : IsAt variant shape t p call next
+    is-at : IsAtStage variant shape t p call (OnKey next)
     is-at = record { process = mv.process; is_open = mv.is_open; at = mv.stage_at }
 
     new-next : (row : Option Named) → hold_at next ≡ Some g.hold → HasNew c s.words calm g.words g.hold g.work stage row
@@ -461,7 +469,7 @@ module _ (read : ChildrenAreRead) (trees : KeptTreesFollow) (effects : EffectsFo
       before : Each (IsSame calm g.first) rows
       before = each-with (IsSame g.first calm) (IsSame calm g.first) rows (λ row among same j low high. sym (same j low high)) g.was
 
-      is-done : IsDone c g.hold g.work g.first next mv.words
+      is-done : IsWorkDone c g.hold g.work g.first next mv.words
       is-done = done c g.hold g.work g.first mv.words next x.full (no-scan c calm g.hold g.work g.begins) x.root (omega (arith, g.first_long)) g.knows
           (fits-kept c g.hold g.work calm g.first g.begins.byte
           (way_byte shape calm (key_of call) (upper_row g.hold).base (upper_row g.hold).kind g.begins.byte g.begins.leads) before g.begins.finds
@@ -475,22 +483,25 @@ module _ (read : ChildrenAreRead) (trees : KeptTreesFollow) (effects : EffectsFo
       no-place : (h : Hold) → hold_at next ≡ Some h → ⊥
       no-place h place = none-some h (sym (release-none g.hold next release) ∙ place)
 
-      abbrev rests : IsAtRest shape mv.made.claims after
-      rests = mv.made.follows.rests
+      abbrev rests : IsAtRest shape mv.made.goes.claims after
+      rests = mv.made.goes.follows.rests
 
-      hangs : (work : Work) (row : Option Named) → BeginsWork c after g.hold work → IsDone c g.hold work g.first next mv.words
-          → HasNew c s.words calm g.words g.hold work stage row → ((b : ℕ) (l : Kind) → IsNew c s.words calm g.words g.hold work stage b l
-          → IsReady c t.words after b l × SameRow mv.words after b l) → IsHanging c t.words after row next
+      hangs : (work : Work) (row : Option Named) → BeginsWork c after g.hold work → IsWorkDone c g.hold work g.first next mv.words
+          → HasNew c s.words calm g.words g.hold work stage row
+          → ((b : ℕ) (l : Kind) → FillsFresh c s.words calm g.words g.hold work stage b l
+          → HasFilledFresh c t.words after b l × SameRow mv.words after b l) → IsHanging c t.words after row next
       hangs (work.Write slot word old) None b is new kept =
           let leads = subst (λ z. LeadsTo shape after (key_of call) (upper_of g.hold.row z).base
           (upper_of g.hold.row z).kind b.byte) b.finds.0 b.leads in
-          write-hangs c mv.made.claims t.words after g.first mv.words rests g.hold next g.first_long rows-then was-then mv.same b.finds.0 b.byte slot word old
+          write-hangs c mv.made.goes.claims t.words after g.first mv.words rests g.hold next g.first_long rows-then was-then mv.same
+          b.finds.0 b.byte slot word old
           b.call leads b.finds.1 b.finds.2 is.2.0 is.2.1
       hangs (work.Write slot word old) (Some row) b is new kept = absurd new.at
       hangs (work.Put keys) None b is new kept =
           let leads = subst (λ z. LeadsTo shape after (key_of call) (upper_of g.hold.row z).base
           (upper_of g.hold.row z).kind b.byte) b.finds.0 b.leads in
-          put-hangs c mv.made.claims t.words after g.first mv.words rests g.hold next g.first_long rows-then was-then mv.same b.finds.0 b.byte leads b.finds.1
+          put-hangs c mv.made.goes.claims t.words after g.first mv.words rests g.hold next g.first_long rows-then was-then mv.same
+          b.finds.0 b.byte leads b.finds.1
           b.words.0 b.words.1.absent is.2.0 is.2.1
       hangs (work.Put keys) (Some row) b is new kept = absurd new.at
       hangs (work.Pair pair) None b is new kept = absurd (true-false refl new.0)
@@ -504,7 +515,8 @@ module _ (read : ChildrenAreRead) (trees : KeptTreesFollow) (effects : EffectsFo
 
           inside : pair.slot < length g.words
           inside =
-              let place = slot-inside c mv.made.claims t.words after g.first mv.words rests g.hold next g.first_long rows-then was-then mv.same
+              let place = slot-inside c mv.made.goes.claims t.words after g.first mv.words rests g.hold next g.first_long rows-then
+              was-then mv.same
               up.base up.kind b.byte
               pair.slot b.leads.reached small b.finds.0 in
               omega (arith, place.2, g.first_long, g.long)
@@ -527,9 +539,9 @@ module _ (read : ChildrenAreRead) (trees : KeptTreesFollow) (effects : EffectsFo
                   let same : base_of shape Four is.0 ≡ row.0 = omega (arith, hung.hangs, wrote) in
                   let both = kept row.0 row.1 new in
                   subst (λ z. IsHanging c t.words after (Some (row.0, z)) next) (sym kind)
-                  (pair-hangs c mv.made.claims t.words after g.first mv.words rests g.hold next g.first_long rows-then was-then mv.same
+                  (pair-hangs c mv.made.goes.claims t.words after g.first mv.words rests g.hold next g.first_long rows-then was-then mv.same
                   pair b.byte row.0 b.leads
-                  b.finds.0 b.finds.1 b.words.0 b.words.1 b.words.3 (subst (IsReady c t.words after row.0) kind both.0)
+                  b.finds.0 b.finds.1 b.words.0 b.words.1 b.words.3 (subst (HasFilledFresh c t.words after row.0) kind both.0)
                   (subst (SameRow mv.words after row.0) kind both.1) apart goes
                   (subst (λ z. PairHangs shape g.first mv.words z pair.slot pair.level
                   (take pair.level (key_bytes (key_of call))) (old_child pair)
@@ -545,7 +557,8 @@ module _ (read : ChildrenAreRead) (trees : KeptTreesFollow) (effects : EffectsFo
 
           inside : slot < length g.words
           inside =
-              let place = slot-inside c mv.made.claims t.words after g.first mv.words rests g.hold next g.first_long rows-then was-then mv.same
+              let place = slot-inside c mv.made.goes.claims t.words after g.first mv.words rests g.hold next g.first_long rows-then
+              was-then mv.same
               up.base up.kind b.byte
               slot b.leads.reached small b.finds.1 in
               omega (arith, place.2, g.first_long, g.long)
@@ -568,7 +581,8 @@ module _ (read : ChildrenAreRead) (trees : KeptTreesFollow) (effects : EffectsFo
               at-done (inr (room, gone, hung)) =
                   let same : base_of shape (next_kind g.hold.row.kind) is.0 ≡ row.0 = omega (arith, hung.hangs, wrote) in
                   let both = kept row.0 row.1 new in
-                  grown-hangs c mv.made.claims t.words after g.first mv.words rests g.hold next g.first_long rows-then was-then mv.same slot b.byte row.0 row.1
+                  grown-hangs c mv.made.goes.claims t.words after g.first mv.words rests g.hold next g.first_long rows-then was-then
+                  mv.same slot b.byte row.0 row.1
                   b.leads b.finds.0 b.finds.1 b.finds.2 b.finds.3 b.words.0 b.words.1.absent b.words.3 kind both.0 both.1 apart goes
                   (subst (λ z. GrownHangs shape g.first mv.words g.hold.row.base g.hold.row.kind z slot
                   (info_word (next_kind g.hold.row.kind) (row_at g.hold.row).level

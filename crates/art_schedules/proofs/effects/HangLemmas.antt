@@ -40,12 +40,13 @@ use Rattle.art_serial.proofs.trees.Changes.{way_byte}
 use Rattle.art_versions.specs.versions.Locking.{rows_of_hold}
 use Rattle.art_versions.specs.versions.Holding.{Each}
 use Rattle.art_schedules.specs.changes.Effects.{Effect, PutsLeaf, RemovesLeaf, HangsPair, HangsGrown, IsGone}
-use Rattle.art_schedules.specs.changes.Written.{HasSlot}
 use Rattle.art_schedules.proofs.changes.WrittenLemmas.{stores-are-slots, hung-rows-are-slots, children-are-of-rows, puts-are-children}
 use Rattle.art_schedules.specs.work.Works.{IsInsert, PairHangs, GrownHangs}
 use Rattle.art_schedules.specs.effects.Begins.{upper_of, upper_row, IsOverwritten}
-use Rattle.art_schedules.specs.effects.AtWork.{IsInTree, IsSame, IsOld, IsReady, IsEffectOf, IsReleasing, Last, Lower, Gone, IsHanging}
+use Rattle.art_schedules.specs.effects.AtWork.{IsInTree, IsSame, IsOld, IsEffectOf, IsReleasing, Last, Lower, Gone, IsHanging}
+use Rattle.art_schedules.specs.effects.AtWork.{HasFilledFresh}
 use Rattle.art_schedules.proofs.effects.KeptLemmas.{upper-each, info-kept}
+use Rattle.art_schedules.specs.changes.Written.{HasWordAt}
 
 module _ (c : Setting) (n : ℕ) (real after first words : List ℕ) (rest : IsAtRest c.shape n after) (h : Hold) (at : Stage)
     (long : length first ≡ table_words c.shape) (rows : Each (IsInTree c after) (rows_of_hold h)) (was : Each (IsSame first after) (rows_of_hold h))
@@ -87,7 +88,7 @@ module _ (c : Setting) (n : ℕ) (real after first words : List ℕ) (rest : IsA
     small : byte < 256
     small = way_byte s after key h.row.base h.row.kind byte leads
 
-    has : HasSlot after real h.row.base h.row.kind byte slot word
+    has : HasWordAt after real h.row.base h.row.kind byte slot word
     has = stores-are-slots first after real h.row.base h.row.kind byte slot word small has_slot
         (slot-inside h.row.base h.row.kind byte slot leads.reached small has_slot).2
         was.0 (subst (λ ws. SameRow ws real h.row.base h.row.kind) stored same.0)
@@ -107,7 +108,7 @@ module _ (c : Setting) (n : ℕ) (real after first words : List ℕ) (rest : IsA
       pending = (
         leads,
         was-old,
-        inr (record { small = (low, few); slot = slot; has = subst (HasSlot after real h.row.base h.row.kind byte slot) wd has }),
+        inr (record { small = (low, few); slot = slot; has = subst (HasWordAt after real h.row.base h.row.kind byte slot) wd has }),
       );
       does = does;
       fresh_row = refl;
@@ -136,7 +137,7 @@ module _ (c : Setting) (n : ℕ) (real after first words : List ℕ) (rest : IsA
       base = refl;
       kind = refl;
       inside = rows.0;
-      pending = (leads, was-old, (slot, subst (HasSlot after real h.row.base h.row.kind byte slot) (sym (same_Some 0 word wd)) has));
+      pending = (leads, was-old, (slot, subst (HasWordAt after real h.row.base h.row.kind byte slot) (sym (same_Some 0 word wd)) has));
       does = subst (λ z. IsEffectOf z old (RemovesLeaf h.row.base h.row.kind byte key)) (sym e)
           (sym (ap key_of e), λ m. ap (λ z. below z m ++ keys_above z m) (ap key_of e));
       fresh_row = refl;
@@ -208,7 +209,7 @@ module _ (c : Setting) (n : ℕ) (real after first words : List ℕ) (rest : IsA
   -- ---- a fresh row is hung in the upper row
 
   module _ (byte slot fresh : ℕ) (kind : Kind) (leads : LeadsTo s after key up.base up.kind byte) (has_slot : slot_of after up.base up.kind byte ≡ Some slot)
-      (insert : IsInsert c.call) (ready : IsReady c real after fresh kind) (filled : SameRow words after fresh kind)
+      (insert : IsInsert c.call) (ready : HasFilledFresh c real after fresh kind) (filled : SameRow words after fresh kind)
       (apart : (a : Held) → h.above ≡ Some a → h.row.base ≢ a.base)
       (others : (word : ℕ) → word ≢ slot → IsOutside fresh kind word → slice_index words word ≡ slice_index first word)
       (hangs : slice_index words slot ≡ row_word fresh) where
@@ -218,7 +219,7 @@ module _ (c : Setting) (n : ℕ) (real after first words : List ℕ) (rest : IsA
     fresh-kind : kind_at s fresh ≡ Some kind
     fresh-kind = ap (kind_at s) ready.claimed.is ∙ kind_at-base_of s kind ready.claimed.number ready.claimed.within
 
-    up-slot : HasSlot after real up.base up.kind byte slot (row_word fresh)
+    up-slot : HasWordAt after real up.base up.kind byte slot (row_word fresh)
     up-slot = hung-rows-are-slots s n first words after real up.base up.kind byte slot fresh kind rest leads.reached up-small has_slot
         (record { same = λ word late ne out. others word ne out; hangs = hangs }) (upper-each (IsSame first after) h was)
         (upper-each (IsSame words real) h same) ready.claimed ready.unreached
@@ -248,7 +249,7 @@ module _ (c : Setting) (n : ℕ) (real after first words : List ℕ) (rest : IsA
 
   module _ (p : Pair) (byte fresh : ℕ) (leads : LeadsTo s after key up.base up.kind byte) (has_slot : slot_of after up.base up.kind byte ≡ Some p.slot)
       (parts : Parts after key p.level p.byte p.child) (insert : IsInsert c.call) (child : child_of s (slice_index after p.slot) ≡ p.child)
-      (small : p.byte < 256) (ready : IsReady c real after fresh Four) (filled : SameRow words after fresh Four)
+      (small : p.byte < 256) (ready : HasFilledFresh c real after fresh Four) (filled : SameRow words after fresh Four)
       (apart : (a : Held) → h.above ≡ Some a → h.row.base ≢ a.base) (is : at ≡ Unlock h (Some no_value))
       (hung : PairHangs s first words fresh p.slot p.level (take p.level (key_bytes key)) (old_child p) (new_child c p)) where
     on : child_on s after up.base up.kind byte ≡ p.child
@@ -310,7 +311,8 @@ module _ (c : Setting) (n : ℕ) (real after first words : List ℕ) (rest : IsA
       (insert : IsInsert c.call)
       (absent : slot_of after h.row.base h.row.kind (byte_in c h.row) ≡ None) (child : child_of s (slice_index after slot) ≡ Row h.row.base h.row.kind)
       (larger : kind ≡ next_kind h.row.kind)
-      (ready : IsReady c real after fresh kind) (filled : SameRow words after fresh kind) (apart : (a : Held) → h.above ≡ Some a → h.row.base ≢ a.base)
+      (ready : HasFilledFresh c real after fresh kind) (filled : SameRow words after fresh kind)
+      (apart : (a : Held) → h.above ≡ Some a → h.row.base ≢ a.base)
       (is : at ≡ Obsolete h)
       (hung : GrownHangs s first words h.row.base h.row.kind fresh slot
       (info_word (next_kind h.row.kind) (row_at h.row).level (row_at h.row).path) (byte_in c h.row) (new_leaf c.call)) where
@@ -320,8 +322,8 @@ module _ (c : Setting) (n : ℕ) (real after first words : List ℕ) (rest : IsA
     y-small : y < 256
     y-small = key_byte-small key (row_at h.row).level
 
-    ready-next : IsReady c real after fresh (next_kind h.row.kind)
-    ready-next = subst (IsReady c real after fresh) larger ready
+    ready-next : HasFilledFresh c real after fresh (next_kind h.row.kind)
+    ready-next = subst (HasFilledFresh c real after fresh) larger ready
 
     filled-next : SameRow words after fresh (next_kind h.row.kind)
     filled-next = subst (SameRow words after fresh) larger filled

@@ -28,12 +28,12 @@ use Rattle.art_versions.specs.versions.Locking.{all_of, rows_of_hold}
 use Rattle.art_versions.specs.versions.Holding.{Each, Named}
 use Rattle.art_schedules.specs.changes.Effects.{Effect, Keeps, Fills, PutsLeaf, RemovesLeaf, HangsPair, HangsGrown, base_of_effect, kind_of_effect, IsGone}
 use Rattle.art_schedules.specs.changes.Follows.{Follows}
-use Rattle.art_schedules.specs.changes.Written.{HasSlot}
 use Rattle.art_schedules.proofs.changes.EffectLemmas.{parted-small}
 use Rattle.art_schedules.proofs.changes.WrittenLemmas.{children-are-of-rows}
 use Rattle.art_schedules.specs.work.Works.{LacksByte, FitsWords}
 use Rattle.art_schedules.specs.effects.Begins.{upper_of, upper_row, IsOverwritten, FindsSlot, BeginsWork}
-use Rattle.art_schedules.specs.effects.AtWork.{IsInTree, IsSame, IsOld, IsReady, fresh_of, IsPending}
+use Rattle.art_schedules.specs.effects.AtWork.{IsInTree, IsSame, IsOld, fresh_of, IsPending, HasFilledFresh}
+use Rattle.art_schedules.specs.changes.Written.{HasWordAt}
 
 -- what is so of each row is so of the upper one
 pub upper-each : (P : Held → Type 0) (h : Hold) → Each P (rows_of_hold h) → P (upper_row h)
@@ -162,7 +162,7 @@ module _ (c : Setting) (n : ℕ) (calm after : List ℕ) (pairs : Contents) (gon
   old-kept key base kind x (Some value) byte same is = child-same c.shape calm after base kind x byte same ∙ is
 
   slot-kept : (real later : List ℕ) (base : ℕ) (kind : Kind) (x slot word : ℕ) → x < 256 → SameRow calm after base kind → SameRow real later base kind
-      → HasSlot calm real base kind x slot word → HasSlot after later base kind x slot word
+      → HasWordAt calm real base kind x slot word → HasWordAt after later base kind x slot word
   slot-kept real later base kind x slot word byte same own has =
       let at = slot-same calm after base kind x byte (row-keys calm after base kind same) ∙ has.at in
       let place : IsSlot base kind slot = slot-is calm base kind x slot byte has.at in
@@ -180,7 +180,7 @@ module _ (c : Setting) (n : ℕ) (calm after : List ℕ) (pairs : Contents) (gon
   -- the row that it brings
   abbrev pub NewStays : Option Named → List ℕ → Type 0
   NewStays None later = Unit {0}
-  NewStays (Some row) later = IsReady c later after row.0 row.1 × SameRow calm after row.0 row.1
+  NewStays (Some row) later = HasFilledFresh c later after row.0 row.1 × SameRow calm after row.0 row.1
 
   pub pending-kept : (real later : List ℕ) (e : Effect) (old : Option ℕ) → IsPending c real calm e old
       → SameRow calm after (base_of_effect e) (kind_of_effect e) → SameRow real later (base_of_effect e) (kind_of_effect e) → (gone (base_of_effect e) → ⊥)

@@ -94,7 +94,8 @@ module _ (c : Setting) (n : ℕ) (real calm : List ℕ) (rest : IsAtRest c.shape
       (above, none, hangs, leads, empty, slot, ready, copy) is =
       let mine = rest.claimed full full_kind leads.reached in
       let its = rest.claimed lower.base lower.kind reached in
-      let kinds = (base_of-once c.shape full_kind lower.kind mine.0 its.0 mine.2 its.2 (sym mine.3 ∙ (sym is ∙ its.3))).0 in
+      let kinds = (base_of-once c.shape full_kind lower.kind mine.number its.number
+      mine.within its.within (sym mine.is ∙ (sym is ∙ its.is))).0 in
       record {
         above = row;
         is = refl;

@@ -30,7 +30,7 @@ use Rattle.art_stages.specs.Calls.{OnKey}
 use Rattle.art_core.specs.declared.process.Process.{Process}
 use Rattle.art_core.specs.Core.{Plan, State}
 use Rattle.art_core.specs.Meaning.{Reached, below, slot_of, child_on}
-use Rattle.art_serial.specs.trees.Trees.{IsAtRest, SameRow}
+use Rattle.art_serial.specs.trees.Trees.{IsAtRest, SameRow, IsClaimed}
 use Rattle.art_serial.specs.trees.Children.{ChildrenAreRead}
 use Rattle.art_serial.proofs.alone.SlotLemmas as slots
 use Rattle.art_serial.proofs.alone.SlotLemmas.{slot-is}
@@ -38,7 +38,7 @@ use Rattle.art_serial.proofs.trees.Changes.{way_byte}
 use Rattle.art_versions.specs.versions.Locking.{lock_of, locks_of, rows_of_hold}
 use Rattle.art_versions.specs.versions.Holding.{Named, Each, IsNamed, IsSlot, Knows, child_rows, holds, fills}
 use Rattle.art_versions.specs.versions.Effects.{IsAmong, IsBehindVersion}
-use Rattle.art_versions.specs.versions.Versions.{IsOpen, IsClaimed, IsSettled, stage_of, held_by, filled_by}
+use Rattle.art_versions.specs.versions.Versions.{IsOpen, IsSettled, stage_of, held_by, filled_by, IsAtStage}
 use Rattle.art_versions.specs.versions.Steady as steady
 use Rattle.art_versions.proofs.versions.MoveLemmas.{settled-row, true-false}
 use Rattle.art_versions.proofs.versions.WithLemmas.{with-here}
@@ -48,14 +48,14 @@ use Rattle.art_schedules.specs.calm.Changes.{RowChange, RowsStay, RowWritten, Ro
 use Rattle.art_schedules.proofs.calm.CalmLemmas.{claimed-row}
 use Rattle.art_schedules.proofs.calm.VersionLemmas.{locked-same, obsolete-busy}
 use Rattle.art_schedules.specs.changes.Effects.{Effect, Keeps, Fills, PutsLeaf, RemovesLeaf, HangsPair, HangsGrown, base_of_effect, kind_of_effect, IsGone}
-use Rattle.art_schedules.specs.changes.Courses.{IsGoneBy, IsFreshBy}
+use Rattle.art_schedules.specs.changes.Courses.{IsGoneBy, ComesInBy}
 use Rattle.art_schedules.specs.changes.Written.{IsUnreached}
 use Rattle.art_schedules.proofs.changes.RowLemmas.{steady-row}
 use Rattle.art_schedules.proofs.work.WorkLemmas.{holds-work}
 use Rattle.art_schedules.specs.effects.AtWork.{IsInTree, IsSame, IsClaiming, claims_row, FillsAt, HasNew, IsGoing}
-use Rattle.art_schedules.specs.effects.AtWork.{IsReady, fresh_of, IsPending, IsReleasing, Last, Lower, Gone}
-use Rattle.art_schedules.specs.effects.AtWork.{IsHanging, AtWork, Claiming, Going, Hanging, AtEnd, Answering, Leaving}
-use Rattle.art_schedules.specs.effects.Outcomes.{Makes, IsEffectBy, IsAt, HoldsReached, IsOther}
+use Rattle.art_schedules.specs.effects.AtWork.{fresh_of, IsPending, IsReleasing, Last, Lower, Gone}
+use Rattle.art_schedules.specs.effects.AtWork.{IsHanging, AtWork, Claiming, Going, Hanging, AtEnd, Answering, Leaving, HasFilledFresh}
+use Rattle.art_schedules.specs.effects.Outcomes.{Makes, IsEffectBy, HoldsReached, IsOther}
 use Rattle.art_schedules.specs.effects.Marks.{IsMarkedBy, IsMarked}
 use Rattle.art_schedules.specs.effects.Laws.{OthersKeepWork, OthersKeepMarked, OthersKeepEnds}
 use Rattle.art_schedules.proofs.effects.AroundLemmas.{Around, around, other-open, others-row, others-stay, others-calm}
@@ -110,16 +110,14 @@ module _ (read : ChildrenAreRead) (plan : Plan) (p : ℕ) (s t : State) (calm af
   held-row row among = others-row plan p s t calm after x r ne call w o (lock_of row) among
 
   not-gone : (row : Held) → HoldsRow row → is_obsolete row.kept ≡ false → IsGoneBy effect row.base → ⊥
-  not-gone row among live = go effect made.by
-    where
-      go : (e : Option Effect) → IsEffectBy variant shape s p calm after e → IsGoneBy e row.base → ⊥
-      go None by gone = gone
-      go (Some e) by gone =
-          true-false (by.gone row.base gone) (ap is_obsolete (x.before.locked r call w o (lock_of row) among) ∙ (locked-same row.kept ∙ live))
+  not-gone row among live gone =
+      true-false (made.goes.gone row.base gone)
+      (ap is_obsolete (x.before.locked r call w o (lock_of row) among) ∙ (locked-same row.kept ∙ live))
 
   inside : (row : Held) → HoldsRow row → IsInTree c calm row → IsInTree c after row
   inside row among here =
-      inside-kept c made.claims calm after _ (IsGoneBy effect) (IsFreshBy effect) made.follows row here (not-gone row among here.live)
+      inside-kept c made.goes.claims calm after _ (IsGoneBy effect) (ComesInBy effect) made.goes.follows row here
+      (not-gone row among here.live)
 
   same-on : (row : Held) → HoldsRow row → IsSame calm s.words row → IsSame after t.words row
   same-on row among same j low high = real-row row among j low high ∙ (same j low high ∙ sym (calm-row row among j low high))
@@ -156,7 +154,7 @@ module _ (read : ChildrenAreRead) (plan : Plan) (p : ℕ) (s t : State) (calm af
   abbrev IsOwned : ℕ → Kind → Type 0
   IsOwned b l = (filled_by variant shape call w ≡ (b, l) ∷ []) ⊎ IsSettled variant shape s b l
 
-  fresh-calm : (b : ℕ) (l : Kind) → kind_at shape b ≡ Some l → IsUnreached shape calm b → IsOwned b l → steady.SameRow calm after b l
+  fresh-calm : (b : ℕ) (l : Kind) → kind_at shape b ≡ Some l → IsUnreached shape calm b → IsOwned b l → steady.SameWords calm after b l
   fresh-calm b l row none owned word low high = go x.changes.change
     where
       late : 5 ≤ word
@@ -218,15 +216,16 @@ module _ (read : ChildrenAreRead) (plan : Plan) (p : ℕ) (s t : State) (calm af
   claims-rise b l claimed =
       record { number = claimed.number; claimed = omega (arith, claimed.claimed, x.steady.claims l); within = claimed.within; is = claimed.is }
 
-  new-stays : (b : ℕ) (l : Kind) → IsReady c s.words calm b l → IsOwned b l → (IsFreshBy effect b l → ⊥)
-      → IsReady c t.words after b l × SameRow calm after b l
+  new-stays : (b : ℕ) (l : Kind) → HasFilledFresh c s.words calm b l → IsOwned b l → (ComesInBy effect b l → ⊥)
+      → HasFilledFresh c t.words after b l × SameRow calm after b l
   new-stays b l ready owned other =
       let row = claimed-row shape s.words b l ready.claimed in
       let same = fresh-calm b l row ready.unreached owned in
       let begins : ℕ = b in (
         record {
           claimed = claims-rise b l ready.claimed;
-          unreached = unreached-kept shape made.claims calm after _ (IsGoneBy effect) (IsFreshBy effect) made.follows b ready.unreached (came b l ready other);
+          unreached = unreached-kept shape made.goes.claims calm after _ (IsGoneBy effect) (ComesInBy effect) made.goes.follows b
+              ready.unreached (came b l ready other);
           live = ap is_obsolete (same b (omega arith) (omega (arith, some-words l))) ∙ ready.live;
           live_now = live-then b l row ready.unreached ready.live_now;
         },
@@ -234,13 +233,13 @@ module _ (read : ChildrenAreRead) (plan : Plan) (p : ℕ) (s t : State) (calm af
       )
     where
       -- a row that comes is of the kind that it was claimed as
-      came : (b : ℕ) (l : Kind) → IsReady c s.words calm b l → (IsFreshBy effect b l → ⊥) → (i : Kind) → IsFreshBy effect b i → ⊥
-      came b l ready other i fresh = other (subst (IsFreshBy effect b) (kinds i fresh) fresh)
+      came : (b : ℕ) (l : Kind) → HasFilledFresh c s.words calm b l → (ComesInBy effect b l → ⊥) → (i : Kind) → ComesInBy effect b i → ⊥
+      came b l ready other i fresh = other (subst (ComesInBy effect b) (kinds i fresh) fresh)
         where
-          kinds : (i : Kind) → IsFreshBy effect b i → i ≡ l
+          kinds : (i : Kind) → ComesInBy effect b i → i ≡ l
           kinds i fresh =
               same_Some i l (sym (settled-row variant shape t b i
-              (x.calm_behind.reached b i ((made.follows.rows b i).1 (inr fresh)))) ∙ claimed-row shape s.words b l ready.claimed)
+              (x.calm_behind.reached b i ((made.goes.follows.rows b i).1 (inr fresh)))) ∙ claimed-row shape s.words b l ready.claimed)
 
   -- ---- before the claim, and before the first release
 
@@ -271,7 +270,8 @@ module _ (read : ChildrenAreRead) (plan : Plan) (p : ℕ) (s t : State) (calm af
           work = g.work;
           at = g.at;
           claims = g.claims;
-          begins = begins-kept c made.claims calm after _ (IsGoneBy effect) (IsFreshBy effect) made.follows g.hold g.work (calms g.hold is)
+          begins = begins-kept c made.goes.claims calm after _ (IsGoneBy effect) (ComesInBy effect) made.goes.follows g.hold g.work
+              (calms g.hold is)
               (stays g.hold is g.rows) g.begins;
           rows = rows-on g.hold is g.rows;
           same = each-with (IsSame calm s.words) (IsSame after t.words) (rows_of_hold g.hold)
@@ -308,7 +308,8 @@ module _ (read : ChildrenAreRead) (plan : Plan) (p : ℕ) (s t : State) (calm af
         let b = row.0 in
         let l = row.1 in
         let its = claimed-row shape s.words b l new.claimed in
-        let ready : IsReady c s.words calm b l = record { claimed = new.claimed; unreached = new.unreached; live = new.live; live_now = new.live_now } in
+        let ready : HasFilledFresh c s.words calm b l = record
+        { claimed = new.claimed; unreached = new.unreached; live = new.live; live_now = new.live_now } in
         let kept = new-stays b l ready (owned-at h work b l its new.at) other in
         record {
           at = new.at;
@@ -325,7 +326,8 @@ module _ (read : ChildrenAreRead) (plan : Plan) (p : ℕ) (s t : State) (calm af
         record {
           hold = g.hold;
           work = g.work;
-          begins = begins-kept c made.claims calm after _ (IsGoneBy effect) (IsFreshBy effect) made.follows g.hold g.work (calms g.hold is)
+          begins = begins-kept c made.goes.claims calm after _ (IsGoneBy effect) (ComesInBy effect) made.goes.follows g.hold g.work
+              (calms g.hold is)
               (stays g.hold is g.rows) g.begins;
           rows = rows-on g.hold is g.rows;
           place = g.place;
@@ -352,7 +354,8 @@ module _ (read : ChildrenAreRead) (plan : Plan) (p : ℕ) (s t : State) (calm af
         (subst (λ z. Each (IsNamed (IsSettled variant shape s)) (child_rows z)) child good).0
 
     pending-new : (e : Effect) (old : Option ℕ) → kind_at shape (base_of_effect e) ≡ Some (kind_of_effect e) → IsPending c s.words calm e old
-        → IsOther effect (fresh_of e) → NewStays c made.claims calm after _ (IsGoneBy effect) (IsFreshBy effect) made.follows (fresh_of e) t.words
+        → IsOther effect (fresh_of e)
+        → NewStays c made.goes.claims calm after _ (IsGoneBy effect) (ComesInBy effect) made.goes.follows (fresh_of e) t.words
     pending-new (Keeps base kind) old row pending other = tt
     pending-new (Fills base kind) old row pending other = tt
     pending-new (PutsLeaf base kind y key value) old row pending other = tt
@@ -402,7 +405,8 @@ module _ (read : ChildrenAreRead) (plan : Plan) (p : ℕ) (s t : State) (calm af
         base = g.base;
         kind = g.kind;
         inside = inside g.row among g.inside;
-        pending = pending-kept c made.claims calm after _ (IsGoneBy effect) (IsFreshBy effect) made.follows s.words t.words g.effect g.old g.pending
+        pending = pending-kept c made.goes.claims calm after _ (IsGoneBy effect) (ComesInBy effect) made.goes.follows s.words t.words
+            g.effect g.old g.pending
             (on-row calm after (calm-row g.row among)) (on-row s.words t.words (real-row g.row among))
             (λ gone. not-gone g.row among g.inside.live (subst (IsGoneBy effect) g.base gone))
             (pending-new g.effect g.old its g.pending (subst (IsOther effect) g.fresh_row other)) (goes g.at);
@@ -431,7 +435,7 @@ module _ (read : ChildrenAreRead) (plan : Plan) (p : ℕ) (s t : State) (calm af
         holds-lower lower is = holds-row (record { row = lower; above = Some g.row }) is lower (lower-row lower)
 
         goes : IsReleasing c s.words calm g.row g.effect (Value g.old) stage
-            → GoneStays c made.claims calm after _ (IsGoneBy effect) (IsFreshBy effect) made.follows g.effect
+            → GoneStays c made.goes.claims calm after _ (IsGoneBy effect) (ComesInBy effect) made.goes.follows g.effect
         goes (Last is obsolete) b l reached gone =
             let which = pending-gone g.row among g.effect g.old g.base g.pending b gone in
             let row = settled-row variant shape s b l (x.calm_before.reached b l reached) in
@@ -473,7 +477,7 @@ module _ (read : ChildrenAreRead) (plan : Plan) (p : ℕ) (s t : State) (calm af
         Leaving out h is unlock (rows-on h held rows)
         (each-with (IsSame calm s.words) (IsSame after t.words) (rows_of_hold h) (λ row among same. same-on row (holds-row h held row among) same) same)
 
-    pub stays-at : IsAt variant shape t r call stage
+    pub stays-at : IsAtStage variant shape t r call (OnKey stage)
     stays-at = record { process = w; is_open = other-open plan p s t x.move r ne call w o; at = at }
 
 -- ---- in a run

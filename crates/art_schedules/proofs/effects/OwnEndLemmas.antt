@@ -39,19 +39,19 @@ use Rattle.art_serial.proofs.trees.Changes.{way_byte}
 use Rattle.art_versions.specs.versions.Locking.{lock_of, locks_of, rows_of_hold}
 use Rattle.art_versions.specs.versions.Holding.{Named, Each, holds}
 use Rattle.art_versions.specs.versions.Effects.{IsAmong}
-use Rattle.art_versions.specs.versions.Versions.{IsOpen, AreDistinct, stage_of, held_by}
+use Rattle.art_versions.specs.versions.Versions.{IsOpen, AreDistinct, stage_of, held_by, IsAtStage}
 use Rattle.art_versions.proofs.versions.MoveLemmas.{settled-row}
 use Rattle.art_schedules.proofs.calm.CalmLemmas.{claimed-row}
 use Rattle.art_schedules.proofs.calm.UseLemmas.{without-store}
-use Rattle.art_schedules.specs.changes.Effects.{Effect, Keeps, Fills, PutsLeaf, RemovesLeaf, HangsPair, HangsGrown, base_of_effect, kind_of_effect, IsGone}
-use Rattle.art_schedules.specs.changes.Effects.{IsFresh}
-use Rattle.art_schedules.specs.changes.Courses.{IsGoneBy, IsFreshBy}
+use Rattle.art_schedules.specs.changes.Effects.{Effect, Keeps, Fills, PutsLeaf, RemovesLeaf, HangsPair, HangsGrown, base_of_effect}
+use Rattle.art_schedules.specs.changes.Effects.{kind_of_effect, IsGone, ComesIn}
+use Rattle.art_schedules.specs.changes.Courses.{IsGoneBy, ComesInBy}
 use Rattle.art_schedules.specs.changes.Laws.{EffectsFollow, KeptTreesFollow, WaysSayValues}
 use Rattle.art_schedules.specs.changes.Written.{IsUnreached}
-use Rattle.art_schedules.specs.effects.AtWork.{IsInTree, IsSame, IsReady, fresh_of, IsPending, IsReleasing, Last, Lower, Gone, IsHanging, Hanging}
-use Rattle.art_schedules.specs.effects.AtWork.{AtEnd, Answering, Leaving}
+use Rattle.art_schedules.specs.effects.AtWork.{IsInTree, IsSame, fresh_of, IsPending, IsReleasing, Last, Lower, Gone, IsHanging, Hanging}
+use Rattle.art_schedules.specs.effects.AtWork.{AtEnd, Answering, Leaving, HasFilledFresh}
 use Rattle.art_schedules.specs.effects.Marks.{obsolete_by, IsMarkedBy, WorkerStep}
-use Rattle.art_schedules.specs.effects.Outcomes.{Makes, IsAt, Works, TakesEffect, EndStep, Leaves, Answers as AnswersNow}
+use Rattle.art_schedules.specs.effects.Outcomes.{Makes, Works, TakesEffect, EndStep, Leaves, Answers as AnswersNow}
 use Rattle.art_schedules.proofs.effects.AroundLemmas.{Around}
 use Rattle.art_schedules.proofs.effects.KeptLemmas.{inside-kept, unreached-kept, pending-kept, NewStays, GoneStays}
 use Rattle.art_schedules.proofs.effects.ReleaseLemmas.{kept-by-words, its-row, own, elsewhere, outside-same, kept-unchanged, takes-effect, is-obsolete}
@@ -81,7 +81,8 @@ module _ (read : ChildrenAreRead) (trees : KeptTreesFollow) (effects : EffectsFo
   holds-row h is row among = subst (IsAmong (lock_of row)) (sym is ∙ ap (holds c) (sym at)) among
 
   inside : Kept → (row : Held) → IsInTree c calm row → IsInTree c after row
-  inside made row here = inside-kept c made.claims calm after _ (IsGoneBy None) (IsFreshBy None) made.follows row here (λ none. none)
+  inside made row here = inside-kept c made.goes.claims calm after _ (IsGoneBy None) (ComesInBy None) made.goes.follows row here
+      (λ none. none)
 
   -- ---- one row is released, while the upper one is held
 
@@ -129,7 +130,8 @@ module _ (read : ChildrenAreRead) (trees : KeptTreesFollow) (effects : EffectsFo
 
   -- where the call is behind the release
   released-at : (row : Held) (among : HoldsRow row) (live : is_obsolete row.kept ≡ false) (value : ℕ) (mark : Option Point)
-      → turn_at c stage ≡ Asks (Store row.base value) mark → (next : Stage) → stage_after c stage 0 ≡ next → IsAt variant shape t p call next
+      → turn_at c stage ≡ Asks (Store row.base value) mark → (next : Stage) → stage_after c stage 0 ≡ next
+      → IsAtStage variant shape t p call (OnKey next)
   released-at row among live value mark turn next is =
       let own = own read trees effects plan p s t calm after x k rest m means call q o stage at row among live value mark turn in record {
         process = own.process;
@@ -157,7 +159,8 @@ module _ (read : ChildrenAreRead) (trees : KeptTreesFollow) (effects : EffectsFo
           (Some point.Unlock) turn
           own-same
 
-      then : IsInTree c calm h.row → (above : Option Held) → h.above ≡ above → IsAt variant shape t p call (release_at (locks variant) above (Some out))
+      then : IsInTree c calm h.row → (above : Option Held) → h.above ≡ above
+          → IsAtStage variant shape t p call (OnKey (release_at (locks variant) above (Some out)))
       then here above e = released-at h.row among here.live (released_word h.row.kept) (Some point.Unlock) turn
           (release_at (locks variant) above (Some out))
           (ap (λ z. stage_after c z 0) unlock ∙ ap (λ z. release_at (locks variant) z (Some out)) e)
@@ -189,10 +192,10 @@ module _ (read : ChildrenAreRead) (trees : KeptTreesFollow) (effects : EffectsFo
       → ((b : ℕ) (l : Kind) → kind_at shape b ≡ Some l → IsUnreached shape calm b → (word : ℕ) → b ≤ word → word < b + row_words l
       → slice_index after word ≡ slice_index calm word)
       → ((b : ℕ) (l : Kind) → IsUnreached shape calm b → slice_index t.words b ≡ slice_index s.words b) → (made : Kept)
-      → NewStays c made.claims calm after _ (IsGoneBy None) (IsFreshBy None) made.follows (fresh_of e) t.words
+      → NewStays c made.goes.claims calm after _ (IsGoneBy None) (ComesInBy None) made.goes.follows (fresh_of e) t.words
   new-own made0 e old pending same version made = go e pending
     where
-      one : (b : ℕ) (l : Kind) → IsReady c s.words calm b l → IsReady c t.words after b l × SameRow calm after b l
+      one : (b : ℕ) (l : Kind) → HasFilledFresh c s.words calm b l → HasFilledFresh c t.words after b l × SameRow calm after b l
       one b l ready =
           let row = claimed-row shape s.words b l ready.claimed in (
             record {
@@ -203,7 +206,8 @@ module _ (read : ChildrenAreRead) (trees : KeptTreesFollow) (effects : EffectsFo
                 is = ready.claimed.is;
               };
               unreached =
-                  unreached-kept shape made.claims calm after _ (IsGoneBy None) (IsFreshBy None) made.follows b ready.unreached (λ i none. none);
+                  unreached-kept shape made.goes.claims calm after _ (IsGoneBy None) (ComesInBy None) made.goes.follows b ready.unreached
+                  (λ i none. none);
               live = ap is_obsolete (same b l row ready.unreached b (omega arith) (omega (arith, some-words l))) ∙ ready.live;
               live_now = ap is_obsolete (version b l ready.unreached) ∙ ready.live_now;
             },
@@ -211,7 +215,7 @@ module _ (read : ChildrenAreRead) (trees : KeptTreesFollow) (effects : EffectsFo
           )
 
       go : (e : Effect) → IsPending c s.words calm e old
-          → NewStays c made.claims calm after _ (IsGoneBy None) (IsFreshBy None) made.follows (fresh_of e) t.words
+          → NewStays c made.goes.claims calm after _ (IsGoneBy None) (ComesInBy None) made.goes.follows (fresh_of e) t.words
       go (Keeps base kind) pending = tt
       go (Fills base kind) pending = tt
       go (PutsLeaf base kind y key value) pending = tt
@@ -221,8 +225,8 @@ module _ (read : ChildrenAreRead) (trees : KeptTreesFollow) (effects : EffectsFo
 
   -- the row that comes is not obsolete, if none that is ready is
   fresh-live : (e : Effect) (old : Option ℕ) → IsPending c s.words calm e old
-      → ((b : ℕ) (l : Kind) → IsReady c s.words calm b l → is_obsolete (slice_index t.words b) ≡ false)
-      → (b : ℕ) (l : Kind) → IsFresh e b l → is_obsolete (slice_index t.words b) ≡ false
+      → ((b : ℕ) (l : Kind) → HasFilledFresh c s.words calm b l → is_obsolete (slice_index t.words b) ≡ false)
+      → (b : ℕ) (l : Kind) → ComesIn e b l → is_obsolete (slice_index t.words b) ≡ false
   fresh-live (Keeps base kind) old pending live b l none = absurd none
   fresh-live (Fills base kind) old pending live b l none = absurd none
   fresh-live (PutsLeaf base kind y key value) old pending live b l none = absurd none
@@ -244,7 +248,7 @@ module _ (read : ChildrenAreRead) (trees : KeptTreesFollow) (effects : EffectsFo
     lower-released : (lower : Held) → holds c (OnKey stage) ≡ locks_of (rows_of_hold (record { row = lower; above = Some g.row }))
         → IsInTree c calm lower → (value : ℕ) (mark : Option Point) → turn_at c stage ≡ Asks (Store lower.base value) mark → (made : Kept)
         → stage_after c stage 0 ≡ Unlock (hold_alone g.row) (Some (Value g.old))
-        → GoneStays c made.claims calm after _ (IsGoneBy None) (IsFreshBy None) made.follows g.effect
+        → GoneStays c made.goes.claims calm after _ (IsGoneBy None) (ComesInBy None) made.goes.follows g.effect
         → ((b : ℕ) → IsGone g.effect b → is_obsolete (slice_index t.words b) ≡ true)
         → left ≡ None → ((b : ℕ) → obsolete_by stage ≡ Some b → IsGone g.effect b) → Step
     lower-released lower is here value mark turn made next goes gone none marks =
@@ -269,7 +273,8 @@ module _ (read : ChildrenAreRead) (trees : KeptTreesFollow) (effects : EffectsFo
                 base = g.base;
                 kind = g.kind;
                 inside = inside made g.row g.inside;
-                pending = pending-kept c made.claims calm after _ (IsGoneBy None) (IsFreshBy None) made.follows s.words t.words g.effect g.old g.pending
+                pending = pending-kept c made.goes.claims calm after _ (IsGoneBy None) (ComesInBy None) made.goes.follows s.words t.words
+                    g.effect g.old g.pending
                     (on-row calm after calms) (on-row s.words t.words reals) (λ none. none)
                     (new-own made g.effect g.old g.pending fresh-words fresh-versions made) goes;
                 does = g.does;
@@ -353,6 +358,6 @@ holds-above c real calm n stage fresh rest g b gone a y above l reached small ha
     same (HangsGrown base kind x key value full full_kind z row larger) old (upper, none, own, leads, empty, slot, ready, copy) is =
         let mine = rest.claimed full full_kind leads.reached in
         let its = rest.claimed b l (below reached y small hangs) in
-        let kinds = (base_of-once c.shape full_kind l mine.0 its.0 mine.2 its.2 (sym mine.3 ∙ (sym is ∙ its.3))).0 in
+        let kinds = (base_of-once c.shape full_kind l mine.number its.number mine.within its.within (sym mine.is ∙ (sym is ∙ its.is))).0 in
         (rest.tree.once base a x y b kind above l upper.reached reached (way_byte c.shape calm key base kind x upper) small
         (own ∙ (ap (λ z. Row z full_kind) (sym is) ∙ ap (Row b) kinds)) hangs).0

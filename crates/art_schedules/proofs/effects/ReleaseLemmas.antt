@@ -25,7 +25,7 @@ use Rattle.art_stages.specs.Calls.{OnKey, call_turn}
 use Rattle.art_core.specs.declared.process.Process.{Process}
 use Rattle.art_core.specs.Core.{Plan, State}
 use Rattle.art_core.specs.Meaning.{Means}
-use Rattle.art_serial.specs.trees.Trees.{IsAtRest, SameRow, IsFree}
+use Rattle.art_serial.specs.trees.Trees.{IsAtRest, SameRow, IsFree, IsClaimed}
 use Rattle.art_serial.specs.trees.Children.{ChildrenAreRead}
 use Rattle.art_serial.proofs.alone.SlotLemmas.{IsSlot, slot-is}
 use Rattle.art_serial.proofs.writes.StoreLemmas.{stored-at}
@@ -34,7 +34,7 @@ use Rattle.art_serial.proofs.trees.Changes.{way_byte}
 use Rattle.art_versions.specs.versions.Locking.{lock_of}
 use Rattle.art_versions.specs.versions.Holding.{IsKept}
 use Rattle.art_versions.specs.versions.Effects.{IsAmong, IsBehindVersion}
-use Rattle.art_versions.specs.versions.Versions.{IsOpen, IsClaimed, IsSettled, stage_of, held_by}
+use Rattle.art_versions.specs.versions.Versions.{IsOpen, IsSettled, stage_of, held_by}
 use Rattle.art_versions.specs.versions.Steady as steady
 use Rattle.art_versions.proofs.versions.ChangeLemmas.{index-other}
 use Rattle.art_versions.proofs.versions.KnownLemmas.{held-is-kept}
@@ -48,18 +48,18 @@ use Rattle.art_schedules.specs.changes.Effects.{Effect, Keeps, Fills, PutsLeaf, 
 use Rattle.art_schedules.specs.changes.Effects.{HasEffect}
 use Rattle.art_schedules.specs.changes.Follows.{HasFewClaims}
 use Rattle.art_schedules.specs.changes.Laws.{EffectsFollow, KeptTreesFollow}
-use Rattle.art_schedules.specs.changes.Written.{HasSlot, IsUnreached}
+use Rattle.art_schedules.specs.changes.Written.{IsUnreached, HasWordAt}
 use Rattle.art_schedules.proofs.changes.FollowLemmas.{low-words-keep}
 use Rattle.art_schedules.proofs.changes.RowLemmas.{rows-are-by-words, steady-row}
 use Rattle.art_schedules.proofs.changes.WorkedLemmas.{stored-leaves-are-put, stored-zeros-remove, written-pairs-are-hung, written-rows-are-hung}
 use Rattle.art_schedules.proofs.changes.WrittenLemmas.{children-are-of-rows}
-use Rattle.art_schedules.specs.effects.AtWork.{IsSame, IsOld, IsStored, IsPending}
+use Rattle.art_schedules.specs.effects.AtWork.{IsSame, IsOld, IsPending, HasStoredLeaf}
 use Rattle.art_schedules.specs.effects.Outcomes.{Makes}
 use Rattle.art_schedules.proofs.effects.AroundLemmas.{Around, OwnAccess, own-access}
 
 -- the slot in words that say the same of its row
 slot-later : (calm real later : List ℕ) (base : ℕ) (kind : Kind) (y slot word : ℕ) → y < 256 → SameRow real later base kind
-    → HasSlot calm real base kind y slot word → HasSlot calm later base kind y slot word
+    → HasWordAt calm real base kind y slot word → HasWordAt calm later base kind y slot word
 slot-later calm real later base kind y slot word small same has =
     let place : IsSlot base kind slot = slot-is calm base kind y slot small has.at in
     record {
@@ -85,7 +85,7 @@ pending-effect read c n real calm after (PutsLeaf base kind y key value) old res
     small : y < 256
     small = way_byte c.shape calm key base kind y leads
 
-    go : (HasNewChild c.shape calm real base kind y (Leaf key value)) ⊎ IsStored calm real base kind y key value
+    go : (HasNewChild c.shape calm real base kind y (Leaf key value)) ⊎ HasStoredLeaf calm real base kind y key value
         → HasEffect c.shape calm after (PutsLeaf base kind y key value)
     go (inl put) = record {
       leads = leads;
@@ -142,9 +142,12 @@ module _ (read : ChildrenAreRead) (trees : KeptTreesFollow) (effects : EffectsFo
   -- no word of a row has changed
   pub kept-by-words : ((word : ℕ) → 5 ≤ word → slice_index after word ≡ slice_index calm word) → Makes variant shape s p calm after m None
   kept-by-words same = record {
-    claims = x.count + 2;
-    follows = trees shape k (x.count + 2) calm after m rest means
-        (low-words-keep shape k calm after rest as-long x.calm_behind.small claims-rise same) few-claims;
+    goes = record {
+      claims = x.count + 2;
+      follows = trees shape k (x.count + 2) calm after m rest means
+          (low-words-keep shape k calm after rest as-long x.calm_behind.small claims-rise same) few-claims;
+      gone = λ b none. absurd none;
+    };
     by = tt;
   }
 
@@ -164,8 +167,12 @@ module _ (read : ChildrenAreRead) (trees : KeptTreesFollow) (effects : EffectsFo
         | inr more ↦ omega (arith, e, more, behind.1)
       ])) (ap is_obsolete same ∙ live) in
       record {
-        claims = x.count + 2;
-        follows = effects shape k (x.count + 2) calm after m (Fills base kind) rest means one few-claims (claimed-then base kind claimed, none);
+        goes = record {
+          claims = x.count + 2;
+          follows = effects shape k (x.count + 2) calm after m (Fills base kind) rest means one few-claims
+              (claimed-then base kind claimed, none);
+          gone = λ b none. absurd none;
+        };
         by = tt;
       }
 
@@ -216,7 +223,7 @@ module _ (read : ChildrenAreRead) (trees : KeptTreesFollow) (effects : EffectsFo
       free : is_busy (slice_index t.words row.base) ≡ false
       free = ap is_busy (at-base value mark turn) ∙ free-busy value (released-free row.kept free-version) (obsolete_released row.kept ∙ live)
 
-      after-row : steady.SameRow t.words after row.base row.kind
+      after-row : steady.SameWords t.words after row.base row.kind
       after-row = x.calm_behind.free row.base row.kind its-row free
 
       pub real-after : SameRow s.words after row.base row.kind
@@ -229,9 +236,12 @@ module _ (read : ChildrenAreRead) (trees : KeptTreesFollow) (effects : EffectsFo
 
       pub kept-unchanged : IsSame calm s.words row → Makes variant shape s p calm after m None
       kept-unchanged same = record {
-        claims = x.count + 2;
-        follows = effects shape k (x.count + 2) calm after m (Keeps row.base row.kind) rest means one few-claims
-            (claimed-then row.base row.kind kept.1.claimed, λ j low high. real-after j low high ∙ same j low high);
+        goes = record {
+          claims = x.count + 2;
+          follows = effects shape k (x.count + 2) calm after m (Keeps row.base row.kind) rest means one few-claims
+              (claimed-then row.base row.kind kept.1.claimed, λ j low high. real-after j low high ∙ same j low high);
+          gone = λ b none. absurd none;
+        };
         by = tt;
       }
 
@@ -244,12 +254,14 @@ module _ (read : ChildrenAreRead) (trees : KeptTreesFollow) (effects : EffectsFo
           subst (λ b. SameRow s.words after b (kind_of_effect e)) (sym base) (subst (SameRow s.words after row.base) (sym kind) real-after) in
           let has = pending-effect read c k s.words calm after e old rest its same claimed-then pending in
           record {
-            claims = x.count + 2;
-            follows = effects shape k (x.count + 2) calm after m e rest means its few-claims has;
+            goes = record {
+              claims = x.count + 2;
+              follows = effects shape k (x.count + 2) calm after m e rest means its few-claims has;
+              gone = gone;
+            };
             by = record {
               has = has;
               held = (record { holder = p; call = call; process = q; is_open = o; row = lock_of row; among = among; is = sym base }, refl);
-              gone = gone;
             };
           }
 

@@ -10,14 +10,14 @@ use Rattle.art_stages.specs.declared.stage.ScanStep.TheVariants.{Release, Over}
 use Rattle.art_stages.specs.Stages.{setting}
 use Rattle.art_stages.specs.Scans.{Walk, at, scan_turn}
 use Rattle.art_stages.specs.Calls.{OnScan, call_begun}
-use Rattle.art_schedules.specs.coupled.Walks.{Alone, here, IsWalked, WalksAreTheMaps}
-use Rattle.art_schedules.specs.locked_scans.Walking.{unwaited, rows_at}
+use Rattle.art_schedules.specs.coupled.Walks.{Alone, here, WalksAreTheMaps, IsOver}
+use Rattle.art_schedules.specs.locked_scans.Walking.{unwaited, rows_of_scan}
 use Rattle.art_schedules.specs.locked_scans.Laws.{ScansBegin, WalkedScansFind, FoundScansAnswer}
 
 pub scans-begin : ScansBegin
 scans-begin shape low high calm words long = (refl, record { now = calm; alone = here; long = long; same = λ word of. absurd of.1; own = tt })
 
-walked-unwaited : (step : ScanStep) (w : Walk) → IsWalked step → unwaited (at step w) ≡ at step w
+walked-unwaited : (step : ScanStep) (w : Walk) → IsOver step → unwaited (at step w) ≡ at step w
 walked-unwaited (Release n) w k = refl
 walked-unwaited Over w k = refl
 walked-unwaited step w k = absurd k
@@ -27,15 +27,16 @@ walked-scans-find maps shape low high n calm words m x rest means few k walked =
     let c = setting shape Coupled (Scan low high) in
     record {
       walked = walked;
-      is = maps shape low high n calm k.now m (rows_at shape low high x) x rest means few
-          (subst (λ y. Alone c (rows_at shape low high x) (call_begun c) calm (OnScan low high y) k.now) (walked-unwaited x.step x.walk walked) k.alone) walked;
+      is = maps shape low high n calm k.now m (rows_of_scan shape low high x) x rest means few
+          (subst (λ y. Alone c (rows_of_scan shape low high x) (call_begun c) calm (OnScan low high y) k.now)
+          (walked-unwaited x.step x.walk walked) k.alone) walked;
       own = k.own;
     }
 
 pub found-scans-answer : FoundScansAnswer
 found-scans-answer shape low high calm words r answer x k e = go x.step x.walk k.walked k.is e
   where
-    go : (step : ScanStep) (w : Walk) → IsWalked step → r ≡ reply.Pairs w.pairs
+    go : (step : ScanStep) (w : Walk) → IsOver step → r ≡ reply.Pairs w.pairs
         → scan_turn (setting shape Coupled (Scan low high)) (at step w) ≡ Answers answer → answer ≡ r
     go (Release n) w walked is e = absurd (asks-answers e)
     go Over w walked is e = sym (answers-same e) ∙ sym is

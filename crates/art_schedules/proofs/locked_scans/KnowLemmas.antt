@@ -31,25 +31,24 @@ use Rattle.art_serial.specs.trees.Trees.{IsAtRest, SameRow}
 use Rattle.art_versions.specs.versions.Holding.{holds}
 use Rattle.art_versions.specs.versions.Locking.{lock_of, locks_of, scan_locked}
 use Rattle.art_versions.specs.versions.Effects.{IsAmong}
-use Rattle.art_versions.specs.versions.Versions.{IsSettled, stage_of}
+use Rattle.art_versions.specs.versions.Versions.{IsSettled, stage_of, IsAtStage}
 use Rattle.art_versions.proofs.versions.KnownLemmas.{among-each, held-is-kept, among-front}
 use Rattle.art_versions.proofs.versions.MoveLemmas.{settled-row}
 use Rattle.art_schedules.specs.calm.Calm.{calm_of}
 use Rattle.art_schedules.specs.changes.Effects.{Effect}
-use Rattle.art_schedules.specs.changes.Courses.{IsGoneBy, IsFreshBy}
+use Rattle.art_schedules.specs.changes.Courses.{IsGoneBy, ComesInBy}
 use Rattle.art_schedules.specs.changes.Follows.{Follows}
 use Rattle.art_schedules.specs.changes.Laws.{KeptTreesFollow}
 use Rattle.art_schedules.specs.work.Own.{ReadsHeld, is_lock}
 use Rattle.art_schedules.proofs.work.WalkLemmas.{reads-held}
 use Rattle.art_schedules.specs.coupled.Knows.{IsOwn}
-use Rattle.art_schedules.specs.coupled.Moments.{IsStepOf}
 use Rattle.art_schedules.specs.coupled.Scanning.{KnowsTree, StaysAt}
-use Rattle.art_schedules.specs.coupled.Walks.{IsWalked, SameOn}
+use Rattle.art_schedules.specs.coupled.Walks.{SameOn, IsOver}
 use Rattle.art_schedules.proofs.coupled.MadeLemmas.{Facts, facts, others-open}
 use Rattle.art_schedules.proofs.coupled.RowLemmas.{kept-row}
 use Rattle.art_schedules.proofs.coupled.ScanLemmas.{scans-know-trees}
 use Rattle.art_schedules.proofs.coupled.TreeLemmas.{scans-keep-trees}
-use Rattle.art_schedules.specs.locked_scans.Walking.{rows_at, HasWalked, IsAtScan, ScanGoes, ScanComes}
+use Rattle.art_schedules.specs.locked_scans.Walking.{HasWalked, ScanGoes, ScanComes, rows_of_scan}
 use Rattle.art_schedules.specs.locked_scans.Laws.{ScansComeOn, OthersLeaveTrees, WalkingScansAsk}
 use Rattle.art_schedules.proofs.locked_scans.PlainLemmas.{IsRead}
 use Rattle.art_schedules.proofs.locked_scans.RunLemmas.{calm-on}
@@ -57,12 +56,14 @@ use Rattle.art_schedules.proofs.locked_scans.OwnLemmas.{held-word, next-on, behi
 use Rattle.art_schedules.proofs.locked_scans.TreeLemmas.{scans-take-live}
 use Rattle.art_schedules.proofs.work.LockedLemmas.{lock-last, among-lock}
 use Rattle.art_schedules.proofs.coupled.OwnLemmas.{own-word}
+use Rattle.art_schedules.specs.coupled.Moments.{IsCoupledStep}
 
 same-scan : {low high : ℕ} {x y : ScanAt} → OnScan low high x ≡ OnScan low high y → x ≡ y
 same-scan e = cc
 
 -- the rows of a walk are held
-walk-among : (step : ScanStep) (w : Walk) → (IsWalked step → ⊥) → (h : Held) → IsAmong h w.rows → IsAmong (lock_of h) (locks_of (scan_locked step w))
+walk-among : (step : ScanStep) (w : Walk) → (IsOver step → ⊥) → (h : Held) → IsAmong h w.rows
+    → IsAmong (lock_of h) (locks_of (scan_locked step w))
 walk-among (Info base kind kept) w open-yet h a = among-lock h (w.rows ++ held base kind 0 kept ∷ []) (among-front h w.rows (held base kind 0 kept ∷ []) a)
 walk-among (Release n) w open-yet h a = absurd (open-yet tt)
 walk-among Over w open-yet h a = absurd (open-yet tt)
@@ -83,16 +84,18 @@ info-among step w base kind kept e =
 
 -- ---- the rows that are held stay
 
-module _ (shape : Shape) (low high : ℕ) (calm after : List ℕ) (effect : Option Effect) (x : ScanAt) (same : SameOn (rows_at shape low high x) calm after)
-    (kinds : (h : Held) → IsAmong h (rows_at shape low high x) → kind_at shape h.base ≡ Some h.kind)
-    (left : (h : Held) → IsAmong h (rows_at shape low high x) → IsGoneBy effect h.base → ⊥) where
-  stays-at : (h : Held) → IsAmong (lock_of h) (rows_at shape low high x) → StaysAt shape calm after effect h.base
+module _ (shape : Shape) (low high : ℕ) (calm after : List ℕ) (effect : Option Effect) (x : ScanAt)
+    (same : SameOn (rows_of_scan shape low high x) calm after)
+    (kinds : (h : Held) → IsAmong h (rows_of_scan shape low high x) → kind_at shape h.base ≡ Some h.kind)
+    (left : (h : Held) → IsAmong h (rows_of_scan shape low high x) → IsGoneBy effect h.base → ⊥) where
+  stays-at : (h : Held) → IsAmong (lock_of h) (rows_of_scan shape low high x) → StaysAt shape calm after effect h.base
   stays-at h a kind e =
       let is : h.kind ≡ kind = same_Some h.kind kind (sym (kinds (lock_of h) a) ∙ e) in
       (subst (λ k. SameRow calm after h.base k) is (λ j from to. same (h.base + j) (lock_of h, a, omega arith, omega (arith, to))), left (lock_of h) a)
 
-  tree-stays : (claims n : ℕ) (pairs : Contents) → IsAtRest shape claims calm → Follows shape n calm after pairs (IsGoneBy effect) (IsFreshBy effect)
-      → ReadsHeld (OnScan low high x) → (IsWalked x.step → ⊥) → KnowsTree shape calm x → KnowsTree shape after x
+  tree-stays : (claims n : ℕ) (pairs : Contents) → IsAtRest shape claims calm
+      → Follows shape n calm after pairs (IsGoneBy effect) (ComesInBy effect)
+      → ReadsHeld (OnScan low high x) → (IsOver x.step → ⊥) → KnowsTree shape calm x → KnowsTree shape after x
   tree-stays claims n pairs rest follows reads open-yet k =
       scans-keep-trees shape low high claims n calm after pairs effect x rest follows reads
       (λ h a. stays-at h (walk-among x.step x.walk open-yet h a))
@@ -105,7 +108,7 @@ others-leave-trees plan start words schedule p s t claims m r low high x n pairs
     let f = facts plan start words schedule p s t claims m h in
     let call = Scan low high in
     let c = setting plan.shape Coupled call in
-    let later = others-open plan p r s t call here.process h.made apart here.is_open in
+    let later = others-open plan p r s t call here.process h.run.made apart here.is_open in
     let on = subst (λ y. SameOn (holds c y) calm after) here.at (calm-on plan.shape s t p words calm after f r call here.process later) in
     tree-stays plan.shape low high calm after effect x on
     (λ y a. settled-row Coupled plan.shape s y.base y.kind
@@ -120,7 +123,7 @@ keys-ask Sixteen n = (_, _, refl)
 keys-ask FortyEight n = (_, _, refl)
 keys-ask Full n = (_, _, refl)
 
-scan-asks : (shape : Shape) (low high : ℕ) (step : ScanStep) (w : Walk) → (IsWalked step → ⊥)
+scan-asks : (shape : Shape) (low high : ℕ) (step : ScanStep) (w : Walk) → (IsOver step → ⊥)
     → (a : Access) × (mark : Option Point) × (scan_turn (setting shape Coupled (Scan low high)) (at step w) ≡ Asks a mark)
 scan-asks shape low high (Lock entry true) w open-yet = (_, _, refl)
 scan-asks shape low high (Lock entry false) w open-yet = (_, _, refl)
@@ -138,7 +141,8 @@ scan-asks shape low high Over w open-yet = absurd (open-yet tt)
 pub walking-scans-ask : WalkingScansAsk
 walking-scans-ask shape low high x answer walking e = let y = scan-asks shape low high x.step x.walk walking in asks-answers (sym y.2 ∙ e)
 
-is-read : (shape : Shape) (calm : List ℕ) (low high : ℕ) (step : ScanStep) (w : Walk) → (IsWalked step → ⊥) → is_lock (OnScan low high (at step w)) ≡ false
+is-read : (shape : Shape) (calm : List ℕ) (low high : ℕ) (step : ScanStep) (w : Walk) → (IsOver step → ⊥)
+    → is_lock (OnScan low high (at step w)) ≡ false
     → KnowsTree shape calm (at step w) → IsRead step
 is-read shape calm low high (Lock entry first) w open-yet e k = absurd (false≢true (sym e))
 is-read shape calm low high (Exchange entry v) w open-yet e k = absurd (false≢true (sym e))
@@ -148,14 +152,16 @@ is-read shape calm low high Over w open-yet e k = absurd (open-yet tt)
 is-read shape calm low high step w open-yet e k = tt
 
 -- a process is at one stage
-one-stage : (shape : Shape) (t : State) (p low high : ℕ) (x y : ScanAt) → IsAtScan shape t p low high x → IsAtScan shape t p low high y → x ≡ y
+one-stage : (shape : Shape) (t : State) (p low high : ℕ) (x y : ScanAt) → IsAtStage Coupled shape t p (Scan low high) (OnScan low high x)
+    → IsAtStage Coupled shape t p (Scan low high) (OnScan low high y) → x ≡ y
 one-stage shape t p low high x y a b =
     let process : a.process ≡ b.process = same_Some a.process b.process (sym a.is_open.own ∙ b.is_open.own) in
     same-scan (sym a.at ∙ (ap (λ q. stage_of Coupled shape (Scan low high) q) process ∙ b.at))
 
 module _ (trees : KeptTreesFollow) (plan : Plan) (start : Contents) (words schedule : List ℕ) (p : ℕ) (s t : State) (claims : ℕ) (m : Contents) (low high : ℕ)
-    (h : IsStepOf plan start words schedule p s t claims m) (step : ScanStep) (w : Walk) (here : IsAtScan plan.shape s p low high (at step w))
-    (open-yet : IsWalked step → ⊥) (walked : HasWalked plan.shape low high (calm_of plan words schedule) s.words (at step w))
+    (h : IsCoupledStep plan start words schedule p s t claims m) (step : ScanStep) (w : Walk)
+    (here : IsAtStage Coupled plan.shape s p (Scan low high) (OnScan low high (at step w)))
+    (open-yet : IsOver step → ⊥) (walked : HasWalked plan.shape low high (calm_of plan words schedule) s.words (at step w))
     (k : KnowsTree plan.shape (calm_of plan words schedule) (at step w)) (a : Access) (mark : Option Point)
     (turn : scan_turn (setting plan.shape Coupled (Scan low high)) (at step w) ≡ Asks a mark)
     (goes : ScanGoes plan.shape low high t p (calm_of plan words schedule) (calm_of plan words (schedule ++ p ∷ []))) where
@@ -174,7 +180,7 @@ module _ (trees : KeptTreesFollow) (plan : Plan) (start : Contents) (words sched
   f : Facts plan.shape s t p words calm after
   f = facts plan start words schedule p s t claims m h
 
-  next-at : IsAtScan plan.shape t p low high next
+  next-at : IsAtStage Coupled plan.shape t p (Scan low high) (OnScan low high next)
   next-at = behind-at plan start words schedule p s t claims m low high h step w here a mark turn
 
   tree-then : KnowsTree plan.shape calm next
@@ -182,16 +188,18 @@ module _ (trees : KeptTreesFollow) (plan : Plan) (start : Contents) (words sched
       (subst ReadsHeld here.at (reads-held plan.shape (Scan low high) here.process.got)) k (λ word l free e.
       let load : a ≡ Load word = asks-same (sym turn ∙ e) in
       let read = is-read plan.shape calm low high step w open-yet free k in
-      let own = held-word plan start words schedule p s t claims m low high h step w here a mark turn word load read h.before.within.shape.root in
+      let own = held-word plan start words schedule p s t claims m low high h step w here a mark turn word load read
+      h.run.before.within.shape.root in
       ap (λ b. told b (slice_index s.words (word_of b))) load
-      ∙ own-word calm s.words own.row (among-each (IsOwn calm s.words) own.row (rows_at plan.shape low high (at step w)) own.among walked.own) word own.behind)
+      ∙ own-word calm s.words own.row
+      (among-each (IsOwn calm s.words) own.row (rows_of_scan plan.shape low high (at step w)) own.among walked.own) word own.behind)
 
   few : (kind : Kind) → slice_index after (claims_of kind) ≤ f.count + 2
   few kind =
       let few = f.behind.claims kind in
       omega (arith, few, f.then.low (claims_of kind) (claims-few kind))
 
-  tree-behind : (IsWalked next.step → ⊥) → KnowsTree plan.shape after next
+  tree-behind : (IsOver next.step → ⊥) → KnowsTree plan.shape after next
   tree-behind later =
       tree-stays plan.shape low high calm after None next
       (next-on plan start words schedule p s t claims m low high h step w here a mark turn)
@@ -206,7 +214,7 @@ module _ (trees : KeptTreesFollow) (plan : Plan) (start : Contents) (words sched
       let same = one-stage plan.shape t p low high next goes.next next-at goes.at in
       record {
         goes = goes;
-        tree = subst (λ y. (IsWalked y.step → ⊥) → KnowsTree plan.shape after y) same tree-behind;
+        tree = subst (λ y. (IsOver y.step → ⊥) → KnowsTree plan.shape after y) same tree-behind;
       }
 
 pub scans-come-on : KeptTreesFollow → ScansComeOn

@@ -42,7 +42,7 @@ use Rattle.art_serial.proofs.words.VersionLemmas.{taken-locked}
 use Rattle.art_versions.specs.versions.Holding.{Each, Knows, holds, fills, IsKept}
 use Rattle.art_versions.specs.versions.Locking.{lock_of, locks_of}
 use Rattle.art_versions.specs.versions.Effects.{IsAmong, IsWith, Does, Reads, Writes, Fills, Ends, Releases, Takes, Claims, Answered}
-use Rattle.art_versions.specs.versions.Versions.{IsSettled, held_by, filled_by}
+use Rattle.art_versions.specs.versions.Versions.{IsSettled, held_by, filled_by, IsAtStage}
 use Rattle.art_versions.proofs.versions.KnownLemmas.{among-each, held-is-kept, each-among}
 use Rattle.art_versions.proofs.versions.MoveLemmas.{settled-row, no-items}
 use Rattle.art_versions.proofs.versions.ScanLemmas.{coupled-scan-does}
@@ -58,12 +58,12 @@ use Rattle.art_schedules.proofs.work.OwnLemmas.{rows-known}
 use Rattle.art_schedules.proofs.work.LockedLemmas.{locked-own}
 use Rattle.art_schedules.proofs.work.WalkLemmas.{reads-held}
 use Rattle.art_schedules.specs.coupled.Knows.{IsOwn}
-use Rattle.art_schedules.specs.coupled.Moments.{IsStepOf, TakesLive}
-use Rattle.art_schedules.specs.coupled.Walks.{IsOfRows, Alone, IsWalked, SameOn}
+use Rattle.art_schedules.specs.coupled.Moments.{TakesLive, IsCoupledStep}
+use Rattle.art_schedules.specs.coupled.Walks.{IsOfRows, Alone, SameOn, IsOver}
 use Rattle.art_schedules.proofs.coupled.MadeLemmas.{Facts, facts, IsMade, made}
 use Rattle.art_schedules.proofs.coupled.RowLemmas.{kept-row, own-same, keeps-without, keeps-released}
 use Rattle.art_schedules.proofs.coupled.StayLemmas.{own-still}
-use Rattle.art_schedules.specs.locked_scans.Walking.{unwaited, rows_at, HasWalked, HasFound, IsAtScan, ScanGoes, ScanStays}
+use Rattle.art_schedules.specs.locked_scans.Walking.{unwaited, HasWalked, ScanGoes, ScanStays, HasPairsFound, rows_of_scan}
 use Rattle.art_schedules.specs.locked_scans.Laws.{ScansGoOn, FoundScansStay}
 use Rattle.art_schedules.proofs.locked_scans.AloneLemmas.{failed-keeps, alone-more, alone-outside, follows}
 use Rattle.art_schedules.proofs.locked_scans.PlainLemmas.{IsRead, plain-unwaited, entered, reads-plain}
@@ -81,7 +81,7 @@ module _ (shape : Shape) (low high : ℕ) where
   Walked calm words x = HasWalked shape low high calm words x
 
   abbrev rows : ScanAt → List Held
-  rows x = rows_at shape low high x
+  rows x = rows_of_scan shape low high x
 
   -- what a scan has walked, by the rows that it holds
   build : (calm words now : List ℕ) (x : ScanAt) (all : List Held) → rows x ≡ all → unwaited x ≡ x → Alone c all begun calm (OnScan low high x) now
@@ -130,7 +130,7 @@ module _ (shape : Shape) (low high : ℕ) where
   reads-unwaited step w k = absurd k
 
 module _ (plan : Plan) (start : Contents) (words schedule : List ℕ) (p : ℕ) (s t : State) (claims : ℕ) (m : Contents) (low high : ℕ)
-    (h : IsStepOf plan start words schedule p s t claims m) where
+    (h : IsCoupledStep plan start words schedule p s t claims m) where
   abbrev shape : Shape
   shape = plan.shape
 
@@ -152,12 +152,12 @@ module _ (plan : Plan) (start : Contents) (words schedule : List ℕ) (p : ℕ) 
   abbrev Settled : ℕ → Kind → Type 0
   Settled = IsSettled Coupled shape s
 
-  module _ (step : ScanStep) (w : Walk) (here : IsAtScan shape s p low high (at step w)) where
+  module _ (step : ScanStep) (w : Walk) (here : IsAtStage Coupled shape s p (Scan low high) (OnScan low high (at step w))) where
     abbrev x : ScanAt
     x = at step w
 
     abbrev mine : List Held
-    mine = rows_at shape low high x
+    mine = rows_of_scan shape low high x
 
     knows : Knows Settled its (OnScan low high x)
     knows = subst (Knows Settled its) here.at (f.sound.knows p call here.process here.is_open)
@@ -188,13 +188,13 @@ module _ (plan : Plan) (start : Contents) (words schedule : List ℕ) (p : ℕ) 
       next = scan_after its low high x got
 
       access : IsMade shape s t p call here.process a
-      access = made plan p s t call here.process a mark h.coupled h.made here.is_open (ap (call_turn its) here.at ∙ turn)
+      access = made plan p s t call here.process a mark h.coupled h.run.made here.is_open (ap (call_turn its) here.at ∙ turn)
 
-      pub behind-at : IsAtScan shape t p low high next
+      pub behind-at : IsAtStage Coupled shape t p (Scan low high) (OnScan low high next)
       behind-at = record { process = access.process; is_open = access.is_open; at = access.at ∙ ap (λ z. call_after its z got) here.at }
 
       -- calm has the same words of the rows that it holds behind the step
-      pub next-on : SameOn (rows_at shape low high next) calm after
+      pub next-on : SameOn (rows_of_scan shape low high next) calm after
       next-on = subst (λ z. SameOn (holds its z) calm after) behind-at.at (calm-on shape s t p words calm after f p call behind-at.process behind-at.is_open)
 
       -- what it has walked on the calm of before it has walked on that of behind it
@@ -209,7 +209,7 @@ module _ (plan : Plan) (start : Contents) (words schedule : List ℕ) (p : ℕ) 
           (y.0, among-here y.0 y.1, y.2))
 
       keeps : ((word value : ℕ) (l : Option Point) → Asks a mark ≡ Asks (Store word value) l → ⊥) → KeepsTree shape calm after
-      keeps none = keeps-without shape s t p words calm after f call here.process here.is_open claims h.rests h.small
+      keeps none = keeps-without shape s t p words calm after f call here.process here.is_open claims h.rests f.then.small
           (λ word value l e. none word value l (sym turn ∙ (sym (ap (call_turn its) here.at) ∙ e)))
 
       goes : ((word value : ℕ) (l : Option Point) → Asks a mark ≡ Asks (Store word value) l → ⊥) → HasWalked shape low high calm t.words next
@@ -235,10 +235,10 @@ module _ (plan : Plan) (start : Contents) (words schedule : List ℕ) (p : ℕ) 
             go (Replies r e) = absurd (asks-answers (sym turns ∙ e))
 
         -- it holds the same rows behind the step
-        held-same : rows_at shape low high next ≡ mine
+        held-same : rows_of_scan shape low high next ≡ mine
         held-same = go does
           where
-            go : Does Settled its (OnScan low high x) → rows_at shape low high next ≡ mine
+            go : Does Settled its (OnScan low high x) → rows_of_scan shape low high next ≡ mine
             go (Reads other l e has) =
                 let is : other ≡ word = load-word (sym e ∙ turns) in
                 let value : slice_index s.words other ≡ got = ap (slice_index s.words) is ∙ sym (ap (λ b. told b (slice_index s.words (word_of b))) load) in
@@ -281,7 +281,8 @@ module _ (plan : Plan) (start : Contents) (words schedule : List ℕ) (p : ℕ) 
     again words v k = record { now = k.now; alone = k.alone; long = k.long; same = k.same; own = k.own }
 
     locks-go : (first : Bool) (mark : Option Point) → scan_turn its (at (Lock entry first) w) ≡ Asks (Load (entry_base its entry)) mark
-        → IsAtScan shape s p low high (at (Lock entry first) w) → HasWalked shape low high calm s.words (at (Lock entry first) w)
+        → IsAtStage Coupled shape s p (Scan low high) (OnScan low high (at (Lock entry first) w))
+        → HasWalked shape low high calm s.words (at (Lock entry first) w)
         → ScanGoes shape low high t p calm after
     locks-go first mark turn here k =
         let a = Load (entry_base its entry) in
@@ -297,7 +298,8 @@ module _ (plan : Plan) (start : Contents) (words schedule : List ℕ) (p : ℕ) 
 
     -- ---- a row is taken
 
-    module _ (v : ℕ) (here : IsAtScan shape s p low high (at (Exchange entry v) w)) (k : HasWalked shape low high calm s.words (at (Exchange entry v) w))
+    module _ (v : ℕ) (here : IsAtStage Coupled shape s p (Scan low high) (OnScan low high (at (Exchange entry v) w)))
+        (k : HasWalked shape low high calm s.words (at (Exchange entry v) w))
         (live : TakesLive shape s p) where
       abbrev base : ℕ
       base = entry_base its entry
@@ -306,7 +308,7 @@ module _ (plan : Plan) (start : Contents) (words schedule : List ℕ) (p : ℕ) 
       swap = Swap base v (locked_word v)
 
       abbrev old : List Held
-      old = rows_at shape low high (at (Exchange entry v) w)
+      old = rows_of_scan shape low high (at (Exchange entry v) w)
 
       swapped : IsMade shape s t p call here.process swap
       swapped = access (Exchange entry v) w here swap None refl
@@ -404,7 +406,7 @@ module _ (plan : Plan) (start : Contents) (words schedule : List ℕ) (p : ℕ) 
               stay : (z : Held) → kind_at shape z.base ≡ Some z.kind → SameRow s.words t.words z.base z.kind
               stay z e = words-same (Exchange entry v) w here swap None refl (λ word value l f. absurd (exchange-store f)) z.base z.kind e
 
-          taken : rows_at shape low high last ≡ all → HasWalked shape low high calm t.words last
+          taken : rows_of_scan shape low high last ≡ all → HasWalked shape low high calm t.words last
           taken holding =
               let z = follows its (call_begun its) calm all s.words swap None loaded.0 loaded.2 loaded.1 refl of-all in
               build shape low high calm t.words (words_after swap (words_after (Load base) k.now)) last all holding
@@ -430,7 +432,7 @@ module _ (plan : Plan) (start : Contents) (words schedule : List ℕ) (p : ℕ) 
                 let based : y.base ≡ base = sym (exchange-word (sym turn ∙ e)) in
                 let version : y.kept ≡ v = sym (exchanges-same (sym turn ∙ e)).1 in
                 taken y all based version with kept
-                (sym (ap (λ z. rows_at shape low high z) to-last)
+                (sym (ap (λ z. rows_of_scan shape low high z) to-last)
                 ∙ (ap (λ u. holds its (call_after its (OnScan low high (at (Exchange entry v) w)) u)) (is ∙ sym version)
                 ∙ (on (λ z a. apart y all based version with kept z a)).1))
 
@@ -445,15 +447,17 @@ module _ (plan : Plan) (start : Contents) (words schedule : List ℕ) (p : ℕ) 
   -- ---- the steps
 
   some-rows : 1 ≤ shape.rows256
-  some-rows = h.before.within.shape.root
+  some-rows = h.run.before.within.shape.root
 
-  reads-go : (step : ScanStep) (w : Walk) → IsRead step → IsAtScan shape s p low high (at step w) → HasWalked shape low high calm s.words (at step w)
+  reads-go : (step : ScanStep) (w : Walk) → IsRead step → IsAtStage Coupled shape s p (Scan low high) (OnScan low high (at step w))
+      → HasWalked shape low high calm s.words (at step w)
       → ScanGoes shape low high t p calm after
   reads-go step w read here k =
       let l = reads-load shape low high step w read in
       reads step w here (Load l.0) l.1 l.2 l.0 refl read some-rows k
 
-  pub step-goes : (step : ScanStep) (w : Walk) → TakesLive shape s p → IsAtScan shape s p low high (at step w) → (IsWalked step → ⊥)
+  pub step-goes : (step : ScanStep) (w : Walk) → TakesLive shape s p
+      → IsAtStage Coupled shape s p (Scan low high) (OnScan low high (at step w)) → (IsOver step → ⊥)
       → HasWalked shape low high calm s.words (at step w) → ScanGoes shape low high t p calm after
   step-goes (Lock entry true) w live here unended k = locks-go entry w true _ refl here k
   step-goes (Lock entry false) w live here unended k = locks-go entry w false _ refl here k
@@ -470,7 +474,7 @@ module _ (plan : Plan) (start : Contents) (words schedule : List ℕ) (p : ℕ) 
 
   -- ---- rows are released
 
-  is-walked : (hs : List Held) (pairs : List (ℕ × ℕ)) → IsWalked (release_rows hs pairs).step
+  is-walked : (hs : List Held) (pairs : List (ℕ × ℕ)) → IsOver (release_rows hs pairs).step
   is-walked [] pairs = tt
   is-walked (y ∷ hs) pairs = tt
 
@@ -478,16 +482,17 @@ module _ (plan : Plan) (start : Contents) (words schedule : List ℕ) (p : ℕ) 
   same-pairs [] pairs = refl
   same-pairs (y ∷ hs) pairs = refl
 
-  left-rows : (hs : List Held) (pairs : List (ℕ × ℕ)) → rows_at shape low high (release_rows hs pairs) ≡ locks_of hs
+  left-rows : (hs : List Held) (pairs : List (ℕ × ℕ)) → rows_of_scan shape low high (release_rows hs pairs) ≡ locks_of hs
   left-rows [] pairs = refl
   left-rows (y ∷ hs) pairs = refl
 
-  pub releases : (n : Held) (w : Walk) (r : Reply) → IsAtScan shape s p low high (at (Release n) w)
-      → HasFound shape low high calm s.words r (at (Release n) w) → ScanStays shape low high t p calm after r
+  pub releases : (n : Held) (w : Walk) (r : Reply) → IsAtStage Coupled shape s p (Scan low high) (OnScan low high (at (Release n) w))
+      → HasPairsFound shape low high calm s.words r (at (Release n) w) → ScanStays shape low high t p calm after r
   releases n w r here k = record {
     next = release_rows w.rows w.pairs;
     at = behind-at (Release n) w here (Store n.base (released_word n.kept)) (Some point.Unlock) refl;
-    keeps = keeps-released shape s t p words calm after f call here.process here.is_open claims h.rests h.small (lock_of n) held-here k.own.0
+    keeps = keeps-released shape s t p words calm after f call here.process here.is_open claims h.rests f.then.small (lock_of n) held-here
+        k.own.0
         (stay (lock_of n) row) wrote (Some point.Unlock) (ap (call_turn its) here.at);
     found = record {
       walked = is-walked w.rows w.pairs;
@@ -525,8 +530,8 @@ scans-go-on plan start words schedule p s t claims m low high x h live here unen
 pub found-scans-stay : FoundScansStay
 found-scans-stay plan start words schedule p s t claims m low high x r a mark h here k turn = go x.step x.walk here k k.walked turn
   where
-    go : (step : ScanStep) (w : Walk) → IsAtScan plan.shape s p low high (at step w)
-        → HasFound plan.shape low high (calm_of plan words schedule) s.words r (at step w) → IsWalked step
+    go : (step : ScanStep) (w : Walk) → IsAtStage Coupled plan.shape s p (Scan low high) (OnScan low high (at step w))
+        → HasPairsFound plan.shape low high (calm_of plan words schedule) s.words r (at step w) → IsOver step
         → scan_turn (setting plan.shape Coupled (Scan low high)) (at step w) ≡ Asks a mark
         → ScanStays plan.shape low high t p (calm_of plan words schedule) (calm_of plan words (schedule ++ p ∷ [])) r
     go (Release n) w here k walked turn = releases plan start words schedule p s t claims m low high h n w r here k

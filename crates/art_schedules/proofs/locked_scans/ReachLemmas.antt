@@ -24,11 +24,11 @@ use Rattle.art_stages.specs.Calls.{call_turn}
 use Rattle.art_core.specs.Meaning.{Reached, root, below}
 use Rattle.art_schedules.specs.calm.Calm.{calm_of}
 use Rattle.art_schedules.specs.coupled.Scanning.{KnowsEntry, KnowsTree}
-use Rattle.art_schedules.specs.coupled.Walks.{IsWalked}
 use Rattle.art_schedules.proofs.coupled.MadeLemmas.{facts}
 use Rattle.art_schedules.proofs.coupled.RowLemmas.{its-turn}
 use Rattle.art_schedules.specs.locked_scans.Laws.{ScansTakeReached}
 use Rattle.art_schedules.proofs.locked_scans.TreeLemmas.{keys-swap}
+use Rattle.art_schedules.specs.coupled.Walks.{IsOver}
 
 module _ (shape : Shape) (calm : List ℕ) (low high : ℕ) where
   abbrev c : Setting
@@ -39,7 +39,7 @@ module _ (shape : Shape) (calm : List ℕ) (low high : ℕ) where
   entry-reached rows (Below base kind) k = (kind, below k.reached k.byte k.is_byte k.hangs)
 
   -- the row that it takes
-  taken-reached : (step : ScanStep) (w : Walk) → ((IsWalked step → ⊥) → KnowsTree shape calm (at step w)) → (base v to : ℕ) (l : Option Point)
+  taken-reached : (step : ScanStep) (w : Walk) → ((IsOver step → ⊥) → KnowsTree shape calm (at step w)) → (base v to : ℕ) (l : Option Point)
       → scan_turn c (at step w) ≡ Asks (Swap base v to) l → (kind : Kind) × Reached shape calm base kind
   taken-reached (Lock entry true) w k base v to l e = absurd (load-exchange e)
   taken-reached (Lock entry false) w k base v to l e = absurd (load-exchange e)

@@ -25,7 +25,7 @@ use Rattle.art_schedules.proofs.coupled.MadeLemmas.{Facts, facts, others-open}
 use Rattle.art_schedules.proofs.coupled.RowLemmas.{others-same}
 use Rattle.art_schedules.proofs.coupled.StayLemmas.{own-still}
 use Rattle.art_schedules.proofs.coupled.WalkLemmas.{walks-stay}
-use Rattle.art_schedules.specs.locked_scans.Walking.{unwaited, rows_at, HasWalked}
+use Rattle.art_schedules.specs.locked_scans.Walking.{unwaited, HasWalked, rows_of_scan}
 use Rattle.art_schedules.specs.locked_scans.Laws.{OthersLeaveScans}
 
 -- words that are the same on rows are so on each of them
@@ -45,17 +45,18 @@ module _ (shape : Shape) (low high : ℕ) where
   c = setting shape Coupled (Scan low high)
 
   pub carry : (calm after words later : List ℕ) (x : ScanAt) → length after ≡ length calm → length later ≡ length words
-      → SameOn (rows_at shape low high x) calm after → SameOn (rows_at shape low high x) words later → HasWalked shape low high calm words x
+      → SameOn (rows_of_scan shape low high x) calm after → SameOn (rows_of_scan shape low high x) words later
+      → HasWalked shape low high calm words x
       → HasWalked shape low high after later x
   carry calm after words later x long real-long on real k =
-      let y = walks-stay c (rows_at shape low high x) (call_begun c) (OnScan low high (unwaited x)) calm after k.now long on k.alone in
+      let y = walks-stay c (rows_of_scan shape low high x) (call_begun c) (OnScan low high (unwaited x)) calm after k.now long on k.alone in
       record {
         now = y.0;
         alone = y.1;
         long = real-long ∙ (k.long ∙ sym y.3);
         same = λ word of. real word of ∙ (k.same word of ∙ sym (y.2 word of));
-        own = rows-own calm after words later (rows_at shape low high x) (λ h a.
-            (on-row (rows_at shape low high x) calm after on h a, on-row (rows_at shape low high x) words later real h a)) k.own;
+        own = rows-own calm after words later (rows_of_scan shape low high x) (λ h a.
+            (on-row (rows_of_scan shape low high x) calm after on h a, on-row (rows_of_scan shape low high x) words later real h a)) k.own;
       }
 
 module _ (shape : Shape) (s t : State) (p : ℕ) (first calm after : List ℕ) (f : Facts shape s t p first calm after) where
@@ -82,7 +83,7 @@ others-leave-scans plan start words schedule p s t claims m r low high x h apart
     let calm = calm_of plan words schedule in
     let after = calm_of plan words (schedule ++ p ∷ []) in
     let f = facts plan start words schedule p s t claims m h in
-    let then = others-open plan p r s t (Scan low high) at.process h.made apart at.is_open in
+    let then = others-open plan p r s t (Scan low high) at.process h.run.made apart at.is_open in
     let c = setting plan.shape Coupled (Scan low high) in
     let on = subst (λ y. SameOn (holds c y) calm after) at.at (calm-on plan.shape s t p words calm after f r (Scan low high) at.process then) in
     let real = subst (λ y. SameOn (holds c y) s.words t.words) at.at
@@ -92,7 +93,10 @@ others-leave-scans plan start words schedule p s t claims m r low high x h apart
       λ reply k. record {
         walked = k.walked;
         is = k.is;
-        own = rows-own calm after s.words t.words (rows_at plan.shape low high x) (λ y a.
-            (on-row (rows_at plan.shape low high x) calm after on y a, on-row (rows_at plan.shape low high x) s.words t.words real y a)) k.own;
+        own = rows-own calm after s.words t.words (rows_of_scan plan.shape low high x) (λ y a. (
+          on-row (rows_of_scan plan.shape low high x) calm after on y a,
+          on-row (rows_of_scan plan.shape low high x) s.words t.words
+              real y a,
+        )) k.own;
       },
     )

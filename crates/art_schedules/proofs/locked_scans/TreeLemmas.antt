@@ -18,13 +18,12 @@ use Rattle.art_steps.proofs.TurnLemmas.{asks-answers, load-exchange, store-excha
 use Rattle.art_stages.specs.declared.stage.Held.{Held}
 use Rattle.art_stages.specs.declared.stage.Entry.{Entry}
 use Rattle.art_stages.specs.declared.stage.Entry.TheVariants.{Root, Below}
-use Rattle.art_stages.specs.declared.stage.Stage.{Stage}
 use Rattle.art_stages.specs.declared.stage.ScanStep.{ScanStep}
 use Rattle.art_stages.specs.declared.stage.ScanStep.TheVariants.{Lock, Exchange, Wait, Info, Keys, FirstKeys, SecondKeys, Index, Child as LoadChild, Release}
 use Rattle.art_stages.specs.declared.stage.ScanStep.TheVariants.{Over}
 use Rattle.art_stages.specs.Stages.{setting}
 use Rattle.art_stages.specs.Scans.{Walk, ScanAt, at, scan_turn, entry_base, keys_turn}
-use Rattle.art_stages.specs.Calls.{OnKey, OnScan, call_turn}
+use Rattle.art_stages.specs.Calls.{OnScan, call_turn}
 use Rattle.art_core.specs.Core.{State}
 use Rattle.art_core.specs.Meaning.{root, below}
 use Rattle.art_serial.specs.trees.Trees.{IsAtRest}
@@ -32,19 +31,16 @@ use Rattle.art_serial.proofs.alone.WayLemmas.{leads-root}
 use Rattle.art_versions.specs.versions.Holding.{holds}
 use Rattle.art_versions.specs.versions.Locking.{lock_of}
 use Rattle.art_versions.specs.versions.Effects.{IsAmong}
-use Rattle.art_versions.specs.versions.Versions.{stage_of, held_by}
+use Rattle.art_versions.specs.versions.Versions.{stage_of, held_by, IsAtStage}
 use Rattle.art_schedules.specs.calm.Calm.{calm_of}
 use Rattle.art_schedules.specs.coupled.Moments.{IsLeaving, ObsoleteLeave}
 use Rattle.art_schedules.specs.coupled.Scanning.{KnowsStep, KnowsTree}
-use Rattle.art_schedules.specs.coupled.Walks.{IsWalked}
 use Rattle.art_schedules.proofs.coupled.MadeLemmas.{Facts, facts}
 use Rattle.art_schedules.proofs.coupled.RowLemmas.{its-turn}
-use Rattle.art_schedules.specs.locked_scans.Walking.{IsAtScan}
 use Rattle.art_schedules.specs.locked_scans.Laws.{ScansTakeLive}
 use Rattle.art_schedules.proofs.work.LockedLemmas.{among-lock}
-
-key-scan : {stage : Stage} {low high : ℕ} {x : ScanAt} → OnKey stage ≡ OnScan low high x → ⊥
-key-scan e = cc
+use Rattle.art_schedules.specs.coupled.Walks.{IsOver}
+use Rattle.art_schedules.proofs.work.CallLemmas.{key-scan}
 
 pub keys-swap : (kind : Kind) (n : Held) (word v w : ℕ) (l : Option Point) → keys_turn kind n ≡ Asks (Swap word v w) l → ⊥
 keys-swap Four n word v w l e = load-exchange e
@@ -57,7 +53,7 @@ module _ (shape : Shape) (s t : State) (p : ℕ) (first calm after : List ℕ) (
   abbrev its : Setting
   its = setting shape Coupled (Scan low high)
 
-  module _ (x : ScanAt) (here : IsAtScan shape s p low high x) where
+  module _ (x : ScanAt) (here : IsAtStage Coupled shape s p (Scan low high) (OnScan low high x)) where
     -- a scan does not release a row for good
     not-there : (base : ℕ) (kind : Kind) → (l : IsLeaving shape s calm leaving base kind) → l.process ≡ p → ⊥
     not-there base kind l same =
@@ -79,7 +75,8 @@ module _ (shape : Shape) (s t : State) (p : ℕ) (first calm after : List ℕ) (
       absurd (omega (arith, level, less))
 
   module _ (w : Walk) where
-    dead-entry : (v : ℕ) (entry : Entry) (here : IsAtScan shape s p low high (at (Exchange entry v) w)) → KnowsStep shape calm w.rows (Exchange entry v)
+    dead-entry : (v : ℕ) (entry : Entry) (here : IsAtStage Coupled shape s p (Scan low high) (OnScan low high (at (Exchange entry v) w)))
+        → KnowsStep shape calm w.rows (Exchange entry v)
         → is_obsolete (slice_index s.words (entry_base its entry)) ≡ true → ⊥
     dead-entry v Root here k dead = dead-root dead
     dead-entry v (Below base kind) here k dead =
@@ -91,7 +88,8 @@ module _ (shape : Shape) (s t : State) (p : ℕ) (first calm after : List ℕ) (
         (its-row (at (Exchange (Below base kind) v) w) here base kind l)
         (subst (λ y. IsAmong (lock_of k.walked.0) (holds its y)) (sym here.at) (among-lock k.walked.0 w.rows k.walked.1)) (same ∙ sym k.walked.2))
 
-    live-step : (step : ScanStep) → IsAtScan shape s p low high (at step w) → ((IsWalked step → ⊥) → KnowsTree shape calm (at step w)) → (h : Held)
+    live-step : (step : ScanStep) → IsAtStage Coupled shape s p (Scan low high) (OnScan low high (at step w))
+        → ((IsOver step → ⊥) → KnowsTree shape calm (at step w)) → (h : Held)
         (l : Option Point)
         → scan_turn its (at step w) ≡ Asks (Swap h.base h.kept (locked_word h.kept)) l → slice_index s.words h.base ≡ h.kept → is_obsolete h.kept ≡ true → ⊥
     live-step (Lock entry true) here k h l e is dead = load-exchange e

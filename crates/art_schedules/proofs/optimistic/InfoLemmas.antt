@@ -35,7 +35,7 @@ use Rattle.art_stages.specs.Stages.{row_at, byte_in, keys_in, place_in, leaf_pla
 use Rattle.art_stages.specs.Automaton.{turn_at, find_turn, pair_turn, put_keys_turn, grow_keys_turn, grow_leaf_turn, grow_count_turn}
 use Rattle.art_stages.specs.Calls.{CallAt, OnKey, OnScan, call_turn}
 use Rattle.art_core.specs.declared.process.Process.{Process}
-use Rattle.art_core.specs.Core.{State, opened_on}
+use Rattle.art_core.specs.Core.{State}
 use Rattle.art_core.specs.Meaning.{Reached}
 use Rattle.art_versions.specs.versions.Holding.{OfRows, Named, Each, IsSlot, IsKept, IsCopied, HangsIn, KnowsKey, Knows, holds, fills, row_filled}
 use Rattle.art_versions.specs.versions.Locking.{all_of}
@@ -46,7 +46,7 @@ use Rattle.art_versions.proofs.versions.MoveLemmas.{settled-row}
 use Rattle.art_schedules.specs.calm.Calm.{is_busy, IsCalm, calm_of}
 use Rattle.art_schedules.specs.calm.Changes.{RowChange, RowsStay, RowWritten, RowFilled, RowTaken, RowReleased, CalmStep}
 use Rattle.art_schedules.proofs.calm.VersionLemmas.{version-change, VersionChange, Stays, IsTaken, IsReleased}
-use Rattle.art_schedules.proofs.calm.InductionLemmas.{run-begins, last-step, step-of-run}
+use Rattle.art_schedules.proofs.calm.InductionLemmas.{step-of-run}
 use Rattle.art_schedules.proofs.calm.RunLemmas.{along-calm, calm-at}
 use Rattle.art_schedules.specs.optimistic.Laws.{InfosStayInRuns, CalmAgrees}
 
@@ -318,10 +318,9 @@ module _ (shape : Shape) (n : ℕ) (s : State) (sound : IsSound Optimistic shape
 -- ---- runs
 
 pub infos-stay : InfosStayInRuns
-infos-stay plan start words schedule p s t run v e =
-    (let before = run-begins plan start words schedule (p ∷ []) s t run e in
-    let made = step-of-run Optimistic (inr refl) plan start words schedule p s t before v (last-step plan (opened_on plan words) s t schedule p e run.gives) in
-    info-stays plan.shape made.count s made.before p t made.rows)
+infos-stay plan start words schedule p s t h v =
+    let made = step-of-run Optimistic (inr refl) plan start words schedule p s t h.before v h.made in
+    info-stays plan.shape made.count s made.before p t made.rows
 
 pub calm-agrees : CalmAgrees
 calm-agrees plan start words schedule s run v = record { free = calm.free; info = λ base kind reached. infos base kind (settled base kind reached) }

@@ -13,7 +13,7 @@ use Rattle.art_stages.specs.declared.stage.Stage.{Stage}
 use Rattle.art_stages.specs.Stages.{setting}
 use Rattle.art_stages.specs.Calls.{OnKey}
 use Rattle.art_core.specs.declared.process.Process.{Process}
-use Rattle.art_core.specs.Core.{State, opened_on}
+use Rattle.art_core.specs.Core.{State}
 use Rattle.art_serial.specs.trees.Trees.{SameRow}
 use Rattle.art_versions.specs.versions.Holding.{Each, IsKept, Knows, holds}
 use Rattle.art_versions.specs.versions.Locking.{lock_of, rows_held}
@@ -25,12 +25,11 @@ use Rattle.art_versions.proofs.versions.MoveLemmas.{settled-row}
 use Rattle.art_versions.proofs.versions.RunLemmas.{written-at}
 use Rattle.art_schedules.specs.calm.Calm.{calm_of}
 use Rattle.art_schedules.specs.calm.Changes.{CalmStep}
-use Rattle.art_schedules.proofs.calm.InductionLemmas.{run-begins, last-step, step-of-run}
+use Rattle.art_schedules.proofs.calm.InductionLemmas.{step-of-run}
 use Rattle.art_schedules.proofs.calm.RunLemmas.{step-at}
-use Rattle.art_schedules.specs.changes.Courses.{IsGoneBy}
+use Rattle.art_schedules.specs.changes.Courses.{IsGoneBy, IsStill}
 use Rattle.art_schedules.specs.changes.Effects.{Effect}
 use Rattle.art_schedules.proofs.changes.RowLemmas.{steady-row}
-use Rattle.art_schedules.specs.optimistic.Laws.{IsStill}
 use Rattle.art_schedules.specs.optimistic.Steps.{OtherStepsKeepWays}
 use Rattle.art_schedules.proofs.optimistic.InfoLemmas.{infos-stay, calm-agrees}
 use Rattle.art_schedules.proofs.optimistic.StayLemmas.{ways-are-kept}
@@ -78,17 +77,16 @@ module _ (shape : Shape) (n k : ℕ) (s t : State) (before : IsSound Optimistic 
       record { row = x.row; same = x.same; stays = x.stays })
 
 pub other-steps-keep-ways : OtherStepsKeepWays
-other-steps-keep-ways plan start words schedule mover s t run v e n pairs effect follows leaving p call q stage found other at is knows =
-    let past = run-begins plan start words schedule (mover ∷ []) s t run e in
-    let made = step-of-run Optimistic (inr refl) plan start words schedule mover s t past v (last-step plan
-    (opened_on plan words) s t schedule mover e run.gives) in
-    let change = subst (λ x. CalmStep x plan.shape s mover t (calm_of plan words schedule) (calm_of plan words (schedule ++ mover ∷ []))) v
-    (step-at plan start words schedule mover s t run (inr v) e) in
-    let rows = subst (λ x. Knows (IsSettled Optimistic plan.shape s) (setting plan.shape Optimistic call) x) at.1 (made.before.knows p call q at.0) in
-    ways-are-kept plan.shape call n (calm_of plan words schedule) (calm_of plan words (schedule ++ mover ∷ [])) pairs effect s t found stage follows
-    (calm-agrees plan start words schedule s past v) (calm-agrees plan start words (schedule ++ mover ∷ []) t run v) made.steady
-    (infos-stay plan start words schedule mover s t run v e) leaving rows
-    (all-still plan.shape made.count (made.count + 1) s t made.before made.behind mover
-    (written-at Optimistic (inr refl) plan start words schedule mover s t run v e) (calm_of plan words schedule) (calm_of plan words
-    (schedule ++ mover ∷ [])) change
-    effect leaving p call q other at.0 is stage at.1) knows
+other-steps-keep-ways plan start words schedule p s t h v pairs effect goes r call stage found other at is knows =
+    let made = step-of-run Optimistic (inr refl) plan start words schedule p s t h.before v h.made in
+    let change = subst (λ x. CalmStep x plan.shape s p t (calm_of plan words schedule) (calm_of plan words (schedule ++ p ∷ []))) v
+    (step-at plan start words schedule p s t h.behind (inr v) h.before.gives) in
+    let rows = subst (λ x. Knows (IsSettled Optimistic plan.shape s) (setting plan.shape Optimistic call) x) at.at
+    (made.before.knows r call at.process at.is_open) in
+    ways-are-kept plan.shape call (calm_of plan words schedule) (calm_of plan words (schedule ++ p ∷ [])) pairs effect s t found stage goes
+    (calm-agrees plan start words schedule s h.before v) (calm-agrees plan start words (schedule ++ p ∷ []) t h.behind v) made.steady
+    (infos-stay plan start words schedule p s t h v) rows
+    (all-still plan.shape made.count (made.count + 1) s t made.before made.behind p
+    (written-at Optimistic (inr refl) plan start words schedule p s t h.behind v h.before.gives) (calm_of plan words schedule)
+    (calm_of plan words
+    (schedule ++ p ∷ [])) change effect goes.gone r call at.process other at.is_open is stage at.at) knows

@@ -2,13 +2,12 @@
 use Rattle.std.proofs.Common.{◌≡◌, ◌≢◌, ◌⊎◌, inl, inr, ℕ, ◌+◌, ◌-◌, ◌%◌, ◌<◌, ◌≤◌, ◌==◌, List, [], ◌∷◌, ◌++◌, length, slice_index, Option, Some, None}
 use Rattle.std.proofs.Common.{Bool, true, false, refl, sym, ap, ◌∙◌, subst, arith, eqb-true, option_map, if◌then◌else◌}
 use Rattle.std.specs.Prelude.{nat_le}
-use Rattle.std.proofs.lemmas.Bool.{false≢true, eqb-false}
+use Rattle.std.proofs.lemmas.Bool.{eqb-false}
 use Rattle.std.proofs.lemmas.Option.{none-some}
 use Rattle.events.specs.declared.event.Call.{Call}
-use Rattle.events.specs.declared.event.Call.TheVariants.{Get, Insert, Remove, Scan, Replace}
 use Rattle.events.specs.declared.event.Reply.{Reply}
 use Rattle.events.specs.declared.event.Reply.TheVariants as reply
-use Rattle.map_object.specs.MapObject.{Contents, value_at, put, is_just, value_reply, after, Does}
+use Rattle.map_object.specs.MapObject.{Contents, value_at, value_reply, Does}
 use Rattle.art_rows.specs.declared.table.Shape.{Shape}
 use Rattle.art_rows.specs.declared.table.Kind.{Kind}
 use Rattle.art_rows.specs.declared.table.Kind.TheVariants.{Four, Sixteen, FortyEight, Full}
@@ -41,7 +40,7 @@ use Rattle.art_stages.specs.Automaton.{after_with, seek_unlocked, insert_unlocke
 use Rattle.art_stages.specs.Automaton.{words_at, among_at, find_at, below_at, hold_alone, no_value}
 use Rattle.art_stages.specs.Automaton.{pair_work, beside_work, leaf_work, keys_one, release_at, taken_at}
 use Rattle.art_stages.specs.Automaton.{take_alone}
-use Rattle.art_core.specs.Meaning.{Reached, below, child_on, child_in, slot_of, Means}
+use Rattle.art_core.specs.Meaning.{Reached, below, child_on, child_in, Means}
 use Rattle.art_core.specs.Forms.{HasForm, level_in, path_in}
 use Rattle.art_serial.specs.trees.Trees.{IsAtRest, LeadsTo, WaysLeadToValues, LeavesAreSmall}
 use Rattle.art_serial.specs.alone.Laws.{is_seek}
@@ -57,53 +56,18 @@ use Rattle.art_versions.proofs.versions.KeyLemmas.{slot-behind}
 use Rattle.art_versions.proofs.versions.WordFacts.{not-full, count-most}
 use Rattle.art_schedules.specs.calm.Calm.{is_busy}
 use Rattle.art_schedules.proofs.changes.SayingLemmas.{ways-are-paths}
-use Rattle.art_schedules.specs.work.Works.{RowsOf, IsInsert, LacksByte}
+use Rattle.art_schedules.specs.work.Works.{RowsOf, LacksByte}
 use Rattle.art_schedules.specs.effects.Begins.{BeginsWork, IsOverwritten}
-use Rattle.art_schedules.specs.optimistic.Knows.{IsOnWay, slot_in, HasChild, Hangs, Stands, IsBelow, HangsBelow, KnowsPlace, KnowsKeys, KnowsFinding}
+use Rattle.art_schedules.specs.optimistic.Knows.{Stands, IsBelow, HangsBelow, KnowsPlace}
 use Rattle.art_schedules.specs.optimistic.Knows.{KnowsStage}
 use Rattle.art_schedules.specs.optimistic.Knows.{KnowsAt, IsReachedHere, AllStand, hold_taken, IsPast, IsOwn, KnowsWay}
 use Rattle.art_schedules.specs.optimistic.Goes.{Agrees, Gets, Goes, GoesOn, Works, Finds}
 use Rattle.art_schedules.specs.optimistic.Laws.{WaysBegin, WaysGoOn, FindingsStay}
 use Rattle.art_schedules.proofs.calm.VersionLemmas.{unmarked-free}
+use Rattle.art_schedules.specs.work.Ways.{IsOnWay, slot_in, HasChild, Hangs, KnowsKeys, KnowsFinding}
+use Rattle.art_schedules.proofs.work.CallLemmas.{insert-of, seek-of, key-small, kept-after, full-slot}
 
 -- ---- words, bytes and calls
-
-insert-of : (call : Call) → is_tree_call call ≡ true → is_insert call ≡ true → IsInsert call
-insert-of (Insert key value) tree e = record { key = key; value = value; is = refl; small = grind (arith, tree) }
-insert-of (Get key) tree e = absurd (false≢true e)
-insert-of (Remove key) tree e = absurd (false≢true e)
-insert-of (Scan low high) tree e = absurd (false≢true e)
-insert-of (Replace key old new) tree e = absurd (false≢true e)
-
-seek-of : (call : Call) → is_insert call ≡ false → is_scan call ≡ false → is_seek call ≡ true
-seek-of (Insert key value) e f = absurd (false≢true (sym e))
-seek-of (Get key) e f = refl
-seek-of (Remove key) e f = refl
-seek-of (Scan low high) e f = absurd (false≢true (sym f))
-seek-of (Replace key old new) e f = refl
-
-key-small : (call : Call) → is_tree_call call ≡ true → is_scan call ≡ false → key_of call < 4294967296
-key-small (Insert key value) tree f = grind (arith, tree)
-key-small (Get key) tree f = grind (arith, tree)
-key-small (Remove key) tree f = grind (arith, tree)
-key-small (Scan low high) tree f = absurd (false≢true (sym f))
-key-small (Replace key old new) tree f = grind (arith, tree)
-
--- a call that finds its key and overwrites nothing leaves the map
-kept-after : (m : Contents) (call : Call) (v : ℕ) → is_seek call ≡ true → overwriting call v ≡ None → value_at m (key_of call) ≡ Some v → after m call ≡ m
-kept-after m (Get key) v seek none has = refl
-kept-after m (Remove key) v seek none has = absurd (none-some 0 (sym none))
-kept-after m (Replace key old new) v seek none has = ap (λ o. if is_just o old then put key new m else m) has ∙ go (v == old) refl none
-  where
-    go : (b : Bool) → (v == old) ≡ b → (if b then Some (child_word (Leaf key new)) else None) ≡ None → (if b then put key new m else m) ≡ m
-    go true e f = absurd (none-some _ (sym f))
-    go false e f = refl
-kept-after m (Insert key value) v seek none has = absurd (false≢true seek)
-kept-after m (Scan low high) v seek none has = absurd (false≢true seek)
-
--- a key's slot in a row of kind 256
-full-slot : (calm : List ℕ) (base : ℕ) (kind : Kind) (x : ℕ) → kind ≡ Full → slot_of calm base kind x ≡ None → ⊥
-full-slot calm base kind x is none = none-some _ (sym none ∙ ap (λ k. slot_of calm base k x) is)
 
 row-child : {base : ℕ} {kind : Kind} → ChildRow base kind ≢ Empty
 row-child e = cc

@@ -47,17 +47,18 @@ use Rattle.art_serial.specs.trees.Trees.{IsAtRest, SameRow, WaysLeadToValues, Le
 use Rattle.art_serial.proofs.writes.StoreLemmas.{stored-at}
 use Rattle.art_serial.proofs.serial.OrderlyLemmas.{set-here}
 use Rattle.art_serial.proofs.words.VersionLemmas.{obsolete_released}
+use Rattle.art_serial.specs.writes.Writes.{IsOutside}
 use Rattle.art_versions.specs.versions.Effects.{IsAmong}
 use Rattle.art_versions.specs.versions.Holding.{Each, IsKept, Fits, FitsTaking, Knows, KnowsKey, holds, rows_kept}
 use Rattle.art_versions.specs.versions.Locking.{lock_of, all_of, rows_held}
-use Rattle.art_versions.specs.versions.Versions.{IsOpen, IsSettled, stage_of, held_by}
+use Rattle.art_versions.specs.versions.Versions.{IsOpen, IsSettled, stage_of, held_by, IsAtStage}
 use Rattle.art_versions.proofs.versions.ChangeLemmas.{index-other}
 use Rattle.art_versions.proofs.versions.KnownLemmas.{knows-more}
 use Rattle.art_versions.proofs.versions.MoveLemmas.{settled-row}
 use Rattle.art_versions.proofs.versions.StepLemmas.{after-more, next-turn}
 use Rattle.art_versions.proofs.versions.WordFacts.{version-free}
 use Rattle.art_schedules.specs.calm.Calm.{is_busy, calm_of, IsCalm}
-use Rattle.art_schedules.specs.calm.Changes.{CalmStep, IsOutside}
+use Rattle.art_schedules.specs.calm.Changes.{CalmStep}
 use Rattle.art_schedules.proofs.calm.InductionLemmas.{run-begins, last-step, step-of-run}
 use Rattle.art_schedules.proofs.calm.RunLemmas.{step-at, calm-at}
 use Rattle.art_schedules.proofs.calm.UseLemmas.{without-store, with-released}
@@ -67,7 +68,7 @@ use Rattle.art_schedules.specs.work.Works.{RowsOf}
 use Rattle.art_schedules.specs.effects.Begins.{BeginsWork}
 use Rattle.art_schedules.specs.optimistic.Knows.{KnowsStage, KnowsReply, KnowsTaking, IsReachedHere, KnowsWay, Stands, AllStand, hold_taken, IsPast, IsOwn}
 use Rattle.art_schedules.specs.optimistic.Goes.{Agrees, Gets, Goes, GoesOn, Works}
-use Rattle.art_schedules.specs.optimistic.Steps.{IsAtStage, StepsOn, OwnStepsGoOn, OwnFindingsStay}
+use Rattle.art_schedules.specs.optimistic.Steps.{StepsOn, OwnStepsGoOn, OwnFindingsStay}
 use Rattle.art_schedules.proofs.calm.VersionLemmas.{unmarked-free}
 use Rattle.art_schedules.proofs.optimistic.InfoLemmas.{calm-agrees}
 use Rattle.art_schedules.proofs.optimistic.OwnLemmas.{ways-go-on, findings-stay}
@@ -76,16 +77,15 @@ use Rattle.art_schedules.proofs.optimistic.OwnLemmas.{ways-go-on, findings-stay}
 
 -- The process makes the access that its stage asks for, and is at the stage behind it.
 record Made (shape : Shape) (s : State) (p : ℕ) (t : State) (call : Call) (stage : Stage) (a : Access) : Type 0 where
-  process : Process
-  at : IsAtStage shape t p call process (stage_after (setting shape Optimistic call) stage (got_by a s.words))
+  at : IsAtStage Optimistic shape t p call (OnKey (stage_after (setting shape Optimistic call) stage (got_by a s.words)))
   words : t.words ≡ words_after a s.words
 
-makes : (plan : Plan) (s t : State) (p : ℕ) (call : Call) (q : Process) (stage : Stage) (a : Access) (mark : Option Point) → plan.variant ≡ Optimistic
-    → step plan s p ≡ Some t → IsAtStage plan.shape s p call q stage → turn_at (setting plan.shape Optimistic call) stage ≡ Asks a mark
+makes : (plan : Plan) (s t : State) (p : ℕ) (call : Call) (stage : Stage) (a : Access) (mark : Option Point) → plan.variant ≡ Optimistic
+    → step plan s p ≡ Some t → IsAtStage Optimistic plan.shape s p call (OnKey stage)
+    → turn_at (setting plan.shape Optimistic call) stage ≡ Asks a mark
     → Made plan.shape s p t call stage a
-makes plan s t p call q stage a mark v e at turn = record {
-  process = later;
-  at = (record { own = own; is_open = at.0.is_open }, there);
+makes plan s t p call stage a mark v e at turn = record {
+  at = record { process = later; is_open = record { own = own; is_open = at.is_open.is_open }; at = there };
   words = ap
       (λ u. u.words) now;
 }
@@ -93,28 +93,30 @@ makes plan s t p call q stage a mark v e at turn = record {
     c : Setting
     c = setting plan.shape Optimistic call
 
-    asks : act plan.shape plan.variant call q.got ≡ Asks a mark
-    asks = ap (λ x. act plan.shape x call q.got) v ∙ (next-turn Optimistic plan.shape call q ∙ (ap (call_turn c) at.1 ∙ turn))
+    asks : act plan.shape plan.variant call at.process.got ≡ Asks a mark
+    asks = ap (λ x. act plan.shape x call at.process.got) v
+        ∙ (next-turn Optimistic plan.shape call at.process ∙ (ap (call_turn c) at.at ∙ turn))
 
-    its-process : (is-moved plan s p t e).process ≡ q
-    its-process = same_Some _ q (sym (is-moved plan s p t e).here ∙ at.0.own)
+    its-process : (is-moved plan s p t e).process ≡ at.process
+    its-process = same_Some _ at.process (sym (is-moved plan s p t e).here ∙ at.is_open.own)
 
     its-move : (is-moved plan s p t e).move ≡ Makes a
     its-move = same_Some _ (Makes a) (sym (is-moved plan s p t e).is_next
         ∙ (ap (λ x. move_from plan p x x.call) its-process
-        ∙ (ap (move_from plan p q) at.0.is_open ∙ ap (λ x. Some (move_of x)) asks)))
+        ∙ (ap (move_from plan p at.process) at.is_open.is_open ∙ ap (λ x. Some (move_of x)) asks)))
 
-    now : t ≡ moved s p q (Makes a)
-    now = (is-moved plan s p t e).is ∙ (ap (λ x. moved s p x (is-moved plan s p t e).move) its-process ∙ ap (moved s p q) its-move)
+    now : t ≡ moved s p at.process (Makes a)
+    now = (is-moved plan s p t e).is ∙ (ap (λ x. moved s p x (is-moved plan s p t e).move) its-process ∙ ap (moved s p at.process) its-move)
 
     later : Process
-    later = after_move p (Makes a) (slice_index s.words (word_of a)) q
+    later = after_move p (Makes a) (slice_index s.words (word_of a)) at.process
 
     own : slice_get t.processes p ≡ Some later
-    own = ap (λ u. slice_get u.processes p) now ∙ set-here s.processes p q later at.0.own
+    own = ap (λ u. slice_get u.processes p) now ∙ set-here s.processes p at.process later at.is_open.own
 
     there : stage_of Optimistic plan.shape call later ≡ OnKey (stage_after c stage (got_by a s.words))
-    there = after-more c (call_begun c) q.got (told a (slice_index s.words (word_of a))) ∙ ap (λ x. call_after c x (got_by a s.words)) at.1
+    there = after-more c (call_begun c) at.process.got (told a (slice_index s.words (word_of a))) ∙ ap
+        (λ x. call_after c x (got_by a s.words)) at.at
 
 -- ---- which access it is
 
@@ -200,19 +202,19 @@ module _ (plan : Plan) (start : Contents) (first schedule : List ℕ) (p : ℕ) 
     fresh = rest.fresh;
   })
 
-  module _ (call : Call) (q : Process) (stage : Stage) (at : IsAtStage shape s p call q stage) where
+  module _ (call : Call) (stage : Stage) (at : IsAtStage Optimistic shape s p call (OnKey stage)) where
     abbrev c : Setting
     c = setting shape Optimistic call
 
     settled : KnowsKey (IsSettled Optimistic shape s) c stage
-    settled = subst (λ x. Knows (IsSettled Optimistic shape s) c x) at.1 (made.before.knows p call q at.0)
+    settled = subst (λ x. Knows (IsSettled Optimistic shape s) c x) at.at (made.before.knows p call at.process at.is_open)
 
     rows : KnowsKey (RowsOf shape) c stage
     rows = knows-more (IsSettled Optimistic shape s) (RowsOf shape) c (λ b k x. settled-row Optimistic shape s b k x) (OnKey stage) settled
 
     its-turn : (a : Access) (mark : Option Point) → turn_at c stage ≡ Asks a mark
-        → call_turn c (stage_of Optimistic shape call q) ≡ Asks a mark
-    its-turn a mark turn = ap (call_turn c) at.1 ∙ turn
+        → call_turn c (stage_of Optimistic shape call at.process) ≡ Asks a mark
+    its-turn a mark turn = ap (call_turn c) at.at ∙ turn
 
     gets : (a : Access) (mark : Option Point) → turn_at c stage ≡ Asks a mark → Gets c s.words stage (got_by a s.words)
     gets a mark turn b l other = ap (λ x. got_by x s.words) (asks-same (sym turn ∙ other))
@@ -227,17 +229,18 @@ module _ (plan : Plan) (start : Contents) (first schedule : List ℕ) (p : ℕ) 
     loads word mark turn = record {
       made_access = x;
       words = same;
-      calm_is = calm-same call q at.0 (λ w u l f. load-store (sym (its-turn (Load word) mark turn) ∙ f)) (λ w small. ap (λ l. slice_index l w) same);
+      calm_is = calm-same call at.process at.is_open (λ w u l f. load-store (sym (its-turn (Load word) mark turn) ∙ f))
+          (λ w small. ap (λ l. slice_index l w) same);
     }
       where
         x : Made shape s p t call stage (Load word)
-        x = makes plan s t p call q stage (Load word) mark v moves at turn
+        x = makes plan s t p call stage (Load word) mark v moves at turn
 
         same : t.words ≡ s.words
         same = x.words ∙ set-get_or s.words word 0
 
     abbrev steps-on : (a : Access) → Made shape s p t call stage a → KeepsTree shape calm after → StepsOn plan first schedule p t call
-    steps-on a x k = record { process = x.process; next = stage_after c stage (got_by a s.words); at = x.at; keeps = k }
+    steps-on a x k = record { next = stage_after c stage (got_by a s.words); at = x.at; keeps = k }
 
     -- ---- where the call has found nothing yet
 
@@ -281,7 +284,7 @@ module _ (plan : Plan) (start : Contents) (first schedule : List ℕ) (p : ℕ) 
         value = slice_index s.words x.row.base
 
         did : Made shape s p t call stage (Swap x.row.base x.row.kept (locked_word x.row.kept))
-        did = makes plan s t p call q stage _ _ v moves at turn
+        did = makes plan s t p call stage _ _ v moves at turn
 
         words-if : Bool → List ℕ
         words-if b = slice_set s.words x.row.base (if b then locked_word x.row.kept else value)
@@ -311,7 +314,7 @@ module _ (plan : Plan) (start : Contents) (first schedule : List ℕ) (p : ℕ) 
         other-word word d = ap (λ l. slice_index l word) did.words ∙ index-other s.words x.row.base _ word d
 
         calm-is : after ≡ calm
-        calm-is = calm-same call q at.0 (λ w u l f. exchange-store (sym (its-turn _ _ turn) ∙ f))
+        calm-is = calm-same call at.process at.is_open (λ w u l f. exchange-store (sym (its-turn _ _ turn) ∙ f))
             (λ w small. other-word w (λ f. omega (arith, f, small, high)))
 
         -- it was not as it had been
@@ -416,7 +419,7 @@ module _ (plan : Plan) (start : Contents) (first schedule : List ℕ) (p : ℕ) 
         let-go = ap (turn_at c) is
 
         did-go : Made shape s p t call stage (Store h.row.base (released_word h.row.kept))
-        did-go = makes plan s t p call q stage _ _ v moves at let-go
+        did-go = makes plan s t p call stage _ _ v moves at let-go
 
         kept-row : IsKept false (IsSettled Optimistic shape s) h.row
         kept-row = (subst (λ y. Each (IsKept false (IsSettled Optimistic shape s)) (rows_kept false (is_insert call) y)) is settled.kept).0
@@ -448,13 +451,15 @@ module _ (plan : Plan) (start : Contents) (first schedule : List ℕ) (p : ℕ) 
             ∙ (ap (λ l. slice_index l (h.row.base + j)) did-go.words
             ∙ (index-other s.words h.row.base (released_word h.row.kept) (h.row.base + j) (λ f. omega (arith, f, low)) ∙ own-row.0 j low less))
 
-        among : IsAmong (lock_of h.row) (held_by Optimistic shape call q)
-        among = subst (λ y. IsAmong (lock_of h.row) (holds c y)) (sym at.1) (subst (λ y. IsAmong (lock_of h.row) (holds c (OnKey y))) (sym is) (inl refl))
+        among : IsAmong (lock_of h.row) (held_by Optimistic shape call at.process)
+        among = subst (λ y. IsAmong (lock_of h.row) (holds c y)) (sym at.at)
+            (subst (λ y. IsAmong (lock_of h.row) (holds c (OnKey y))) (sym is) (inl refl))
 
         others : (b : ℕ) (kind : Kind) (j : ℕ) → kind_at shape b ≡ Some kind → b ≢ h.row.base → j < row_words kind
             → slice_index after (b + j) ≡ slice_index calm (b + j)
         others b kind j there d less =
-            with-released Optimistic shape made.count s made.before p t calm after change call q at.0 h.row.base (released_word h.row.kept) (Some point.Unlock)
+            with-released Optimistic shape made.count s made.before p t calm after change call at.process at.is_open h.row.base
+            (released_word h.row.kept) (Some point.Unlock)
             (its-turn _ _ let-go) (lock_of h.row) among refl (b + j) (omega (arith, row_begins shape b kind there)) (outside (b + j) (omega arith)
             (omega (arith, less)))
           where
@@ -519,11 +524,11 @@ module _ (plan : Plan) (start : Contents) (first schedule : List ℕ) (p : ℕ) 
           go (GivesRow h is none) = gives-back h is none
 
 pub own-steps-go-on : WaysLeadToValues → LeavesAreSmall → OwnStepsGoOn
-own-steps-go-on ways leaves plan start words schedule p s t run v e call q stage at tree key-call n m rest means k =
-    goes plan start words schedule p s t run v e call q stage at tree key-call n m rest means k ways leaves
+own-steps-go-on ways leaves plan start words schedule p s t h v call stage at tree key-call n m rest means k =
+    goes plan start words schedule p s t h.behind v h.before.gives call stage at tree key-call n m rest means k ways leaves
 
 pub own-findings-stay : OwnFindingsStay
-own-findings-stay plan start words schedule p s t run v e call q stage at a mark turn n rest r k = go stage refl
+own-findings-stay plan start words schedule p s t h v call stage at a mark turn n rest r k = go stage refl
   where
     c : Setting
     c = setting plan.shape Optimistic call
@@ -536,11 +541,11 @@ own-findings-stay plan start words schedule p s t run v e call q stage at a mark
 
     loaded : (word : ℕ) (m : Option Point) → turn_at c stage ≡ Asks (Load word) m → Result
     loaded word m f =
-        let u = loads plan start words schedule p s t run v e call q stage at word m f in
+        let u = loads plan start words schedule p s t h.behind v h.before.gives call stage at word m f in
         let x = findings-stay plan.shape call (calm_of plan words schedule) s.words stage (slice_index s.words word) r k
-        (gets plan start words schedule p s t run v e call q stage at (Load word) m f) in (
-          steps-on plan start words schedule p s t run v e call q stage at (Load word) u.made_access
-              (keeps plan start words schedule p s t run v e n rest u.calm_is),
+        (gets plan start words schedule p s t h.behind v h.before.gives call stage at (Load word) m f) in (
+          steps-on plan start words schedule p s t h.behind v h.before.gives call stage at (Load word) u.made_access
+              (keeps plan start words schedule p s t h.behind v h.before.gives n rest u.calm_is),
           subst (λ l. Both (calm_of plan words (schedule ++ p ∷ [])) l (stage_after c stage (slice_index s.words word))) (sym u.words)
               (subst (λ l. Both l s.words (stage_after c stage (slice_index s.words word))) (sym u.calm_is) x),
         )

@@ -15,7 +15,6 @@ use Rattle.art_stages.specs.declared.stage.ScanStep.TheVariants.{Lock, Exchange,
 use Rattle.art_stages.specs.declared.stage.ScanStep.TheVariants.{FirstKeys, SecondKeys, Index, Child as LoadChild, Release, Over}
 use Rattle.art_stages.specs.Stages.{setting}
 use Rattle.art_stages.specs.Scans.{Walk, at, scan_turn, keys_turn}
-use Rattle.art_core.specs.Core.{opened_on}
 use Rattle.art_schedules.specs.calm.Calm.{calm_of, IsCalm}
 use Rattle.art_schedules.specs.calm.Changes.{CalmChange, CalmStays, CalmFilled, CalmReleased}
 use Rattle.art_schedules.proofs.calm.InductionLemmas.{run-begins, last-step, step-of-run}
@@ -47,7 +46,7 @@ scans-store-nothing shape call low high scan word value mark e = go scan.step sc
     go Over w e = answers-asks e
 
 pub quiet-steps-keep-trees : QuietStepsKeepTrees
-quiet-steps-keep-trees plan start words schedule p s t run full e quiet n rest =
+quiet-steps-keep-trees plan start words schedule p s t h quiet n rest =
     low-words-keep plan.shape n calm after rest (there.long ∙ sym here.long) there.small
     (λ kind. omega (arith, here.low (claims_of kind) (claims-few kind), there.low (claims_of kind) (claims-few kind), made.steady.claims kind))
     (stays change.change)
@@ -58,20 +57,17 @@ quiet-steps-keep-trees plan start words schedule p s t run full e quiet n rest =
     after : List ℕ
     after = calm_of plan words (schedule ++ p ∷ [])
 
-    past : Rattle.art_core.specs.Plans.IsRun plan start words schedule s
-    past = run-begins plan start words schedule (p ∷ []) s t run e
-
     here : IsCalm plan.variant plan.shape words s calm
-    here = calm-at plan start words schedule s past full
+    here = calm-at plan start words schedule s h.before h.full
 
     there : IsCalm plan.variant plan.shape words t after
-    there = calm-at plan start words (schedule ++ p ∷ []) t run full
+    there = calm-at plan start words (schedule ++ p ∷ []) t h.behind h.full
 
     made : Rattle.art_schedules.proofs.calm.InductionLemmas.IsStep plan.variant plan s p t
-    made = step-of-run plan.variant full plan start words schedule p s t past refl (last-step plan (opened_on plan words) s t schedule p e run.gives)
+    made = step-of-run plan.variant h.full plan start words schedule p s t h.before refl h.made
 
     change : Rattle.art_schedules.specs.calm.Changes.CalmStep plan.variant plan.shape s p t calm after
-    change = step-at plan start words schedule p s t run full e
+    change = step-at plan start words schedule p s t h.behind h.full h.before.gives
 
     stays : CalmChange plan.variant plan.shape s p t calm after → (word : ℕ) → 5 ≤ word → slice_index after word ≡ slice_index calm word
     stays (CalmStays same) = same

@@ -44,17 +44,18 @@ use Rattle.art_versions.proofs.versions.MoveLemmas.{settled-row}
 use Rattle.art_schedules.specs.calm.Calm.{is_busy}
 use Rattle.art_schedules.proofs.calm.VersionLemmas.{free-parts}
 use Rattle.art_schedules.specs.work.Works.{LacksByte}
-use Rattle.art_schedules.specs.changes.Courses.{IsGoneBy, IsFreshBy}
+use Rattle.art_schedules.specs.changes.Courses.{IsGoneBy, ComesInBy, IsStill, pairs_by}
 use Rattle.art_schedules.specs.changes.Effects.{Effect}
 use Rattle.art_schedules.specs.changes.Follows.{Follows}
 use Rattle.art_schedules.proofs.changes.SayingLemmas.{same-rows-say-the-same}
 use Rattle.art_schedules.specs.effects.Begins.{BeginsWork, IsOverwritten, upper_of}
-use Rattle.art_schedules.specs.optimistic.Knows.{IsOnWay, HasChild, Hangs, Stands, IsBelow, HangsBelow, KnowsPlace, KnowsFinding, KnowsStage}
+use Rattle.art_schedules.specs.optimistic.Knows.{Stands, IsBelow, HangsBelow, KnowsPlace, KnowsStage}
 use Rattle.art_schedules.specs.optimistic.Knows.{KnowsReply, KnowsAt, IsReachedHere, AllStand, hold_taken}
-use Rattle.art_schedules.specs.optimistic.Knows.{PathFollows, PathDiffers, IsReachedBelow, IsPast, IsOwn, slot_in}
+use Rattle.art_schedules.specs.optimistic.Knows.{PathFollows, PathDiffers, IsReachedBelow, IsPast, IsOwn}
 use Rattle.art_schedules.specs.optimistic.Goes.{Agrees}
-use Rattle.art_schedules.specs.optimistic.Laws.{IsStill, InfosStay, WaysAreKept}
+use Rattle.art_schedules.specs.optimistic.Laws.{InfosStay, WaysAreKept}
 use Rattle.art_schedules.proofs.calm.VersionLemmas.{unmarked-free}
+use Rattle.art_schedules.specs.work.Ways.{IsOnWay, slot_in, HasChild, Hangs, KnowsFinding}
 
 -- the word of a row at another place
 placed-word : (calm after : List ℕ) (base : ℕ) (kind : Kind) (word j : ℕ) → SameRow calm after base kind → word ≡ base + j → 1 ≤ j → j < row_words kind
@@ -200,7 +201,7 @@ module _ (c : Setting) (n : ℕ) (calm after : List ℕ) (pairs : Contents) (gon
 -- ---- a step, with the states before and behind it
 
 module _ (shape : Shape) (call : Call) (n : ℕ) (calm after : List ℕ) (pairs : Contents) (effect : Option Effect) (s t : State)
-    (follows : Follows shape n calm after pairs (IsGoneBy effect) (IsFreshBy effect)) (agree : Agrees shape s.words calm)
+    (follows : Follows shape n calm after pairs (IsGoneBy effect) (ComesInBy effect)) (agree : Agrees shape s.words calm)
     (agree-then : Agrees shape t.words after)
     (steady : IsSteady Optimistic shape s t) (infos : InfosStay shape s t)
     (leaving : (base : ℕ) → IsGoneBy effect base → is_obsolete (slice_index t.words base) ≡ true) where
@@ -240,7 +241,7 @@ module _ (shape : Shape) (call : Call) (n : ℕ) (calm after : List ℕ) (pairs 
       stays g = false≢true (sym (ap is_obsolete st ∙ (free-parts h.kept free).1) ∙ leaving h.base g)
 
   hangs : (h : Held) (slot : ℕ) (child : Child) → S h → Hangs c calm h slot child → Hangs c after h slot child
-  hangs h slot child = hangs-still c n calm after pairs (IsGoneBy effect) (IsFreshBy effect) follows h slot child
+  hangs h slot child = hangs-still c n calm after pairs (IsGoneBy effect) (ComesInBy effect) follows h slot child
 
   below-kept : (d : Down) → Kept d.above → Past d.above → IsBelow c calm s.words d → IsBelow c after t.words d
   below-kept d kept past k st =
@@ -257,7 +258,8 @@ module _ (shape : Shape) (call : Call) (n : ℕ) (calm after : List ℕ) (pairs 
   place-kept : (p : Position) → Each Kept (p.row ∷ all_of p.above) → Each Past (p.row ∷ all_of p.above) → KnowsPlace c calm s.words p
       → KnowsPlace c after t.words p
   place-kept p kept past (led, up) = (
-    (λ st. let x = back p.row kept.0 past.0 st in on-way c n calm after pairs (IsGoneBy effect) (IsFreshBy effect) follows p.row x.1 (led x.0)),
+    (λ st. let x = back p.row kept.0 past.0 st in on-way c n calm after pairs (IsGoneBy effect) (ComesInBy effect) follows p.row x.1
+        (led x.0)),
     above-kept p.row p.slot p.above kept.1 past.1 up,
   )
 
@@ -290,15 +292,15 @@ module _ (shape : Shape) (call : Call) (n : ℕ) (calm after : List ℕ) (pairs 
       → AllStand t.words row under → BeginsWork c after (hold_taken row above under) w
   taking-kept row above None w kept past still k st =
       let x = back row kept.0 past.0 st in
-      begins-still c n calm after pairs (IsGoneBy effect) (IsFreshBy effect) follows row above w (x.1, still) (k x.0)
+      begins-still c n calm after pairs (IsGoneBy effect) (ComesInBy effect) follows row above w (x.1, still) (k x.0)
   taking-kept row None (Some b) w kept past still k st =
       let x = back row kept.0 past.0 st.0 in
       let y = back b kept.1.0 past.1.0 st.1 in
-      begins-still c n calm after pairs (IsGoneBy effect) (IsFreshBy effect) follows b (Some row) w (y.1, (x.1, tt)) (k (x.0, y.0))
+      begins-still c n calm after pairs (IsGoneBy effect) (ComesInBy effect) follows b (Some row) w (y.1, (x.1, tt)) (k (x.0, y.0))
   taking-kept row (Some a) (Some b) w kept past still k st =
       let x = back row kept.0 past.0 st.0 in
       let y = back b kept.1.1.0 past.1.1.0 st.1 in
-      begins-still c n calm after pairs (IsGoneBy effect) (IsFreshBy effect) follows b (Some row) w (y.1, (x.1, tt)) (k (x.0, y.0))
+      begins-still c n calm after pairs (IsGoneBy effect) (ComesInBy effect) follows b (Some row) w (y.1, (x.1, tt)) (k (x.0, y.0))
 
   here-kept : (h : Held) → Kept h → Past h → IsReachedHere c calm s.words h → IsReachedHere c after t.words h
   here-kept h kept past k = λ st.
@@ -337,17 +339,17 @@ module _ (shape : Shape) (call : Call) (n : ℕ) (calm after : List ℕ) (pairs 
     place-kept p kept past k.0,
     k.1,
     says p.row kept.0 past.0 _ _ (λ x a. (
-      a.0 ∙ sym (index-still c n calm after pairs (IsGoneBy effect) (IsFreshBy effect) follows p.row x k.1),
-      slot-still c n calm after pairs (IsGoneBy effect) (IsFreshBy effect) follows p.row x ∙ a.1,
+      a.0 ∙ sym (index-still c n calm after pairs (IsGoneBy effect) (ComesInBy effect) follows p.row x k.1),
+      slot-still c n calm after pairs (IsGoneBy effect) (ComesInBy effect) follows p.row x ∙ a.1,
     )) k.2,
   )
   stage-kept i (Slot p slot) kept past still k = (
     place-kept p kept past k.0,
-    says p.row kept.0 past.0 _ _ (λ x a. slot-still c n calm after pairs (IsGoneBy effect) (IsFreshBy effect) follows p.row x ∙ a) k.1,
+    says p.row kept.0 past.0 _ _ (λ x a. slot-still c n calm after pairs (IsGoneBy effect) (ComesInBy effect) follows p.row x ∙ a) k.1,
   )
   stage-kept i (Check p f) kept past still k = (
     place-kept p kept past k.0,
-    says p.row kept.0 past.0 _ _ (λ x a. finding-still c n calm after pairs (IsGoneBy effect) (IsFreshBy effect) follows i p.row f x a) k.1,
+    says p.row kept.0 past.0 _ _ (λ x a. finding-still c n calm after pairs (IsGoneBy effect) (ComesInBy effect) follows i p.row f x a) k.1,
   )
   stage-kept i (Take x) kept past still k =
       (here-kept x.row kept.0 past.0 k.0, under-kept x.row x.held x.below kept past k.1, taking-kept x.row x.held x.below x.work kept past still k.2)
@@ -384,9 +386,13 @@ module _ (shape : Shape) (call : Call) (n : ℕ) (calm after : List ℕ) (pairs 
   )
 
 pub ways-are-kept : WaysAreKept
-ways-are-kept shape call n calm after pairs effect s t found stage follows agree agree-then steady infos leaving rows still k = record {
-  way = at-kept shape call n calm after pairs effect s t follows agree agree-then steady infos leaving found (is_insert call) stage rows.kept k.kept
-      (rows-still shape call n calm after pairs effect s t follows agree agree-then steady infos leaving _ still) k.way;
-  kept = past-kept shape call n calm after pairs effect s t follows agree agree-then steady infos leaving _ rows.kept k.kept;
-  rows = own-kept shape call n calm after pairs effect s t follows agree agree-then steady infos leaving _ still k.rows;
+ways-are-kept shape call calm after pairs effect s t found stage goes agree agree-then steady infos rows still k = record {
+  way = at-kept shape call goes.claims calm after (pairs_by effect pairs) effect s t goes.follows agree agree-then steady infos goes.gone
+      found (is_insert call) stage rows.kept k.kept
+      (rows-still shape call goes.claims calm after (pairs_by effect pairs) effect s t goes.follows agree agree-then steady infos goes.gone
+      _ still) k.way;
+  kept = past-kept shape call goes.claims calm after (pairs_by effect pairs) effect s t goes.follows agree agree-then steady infos
+      goes.gone _ rows.kept k.kept;
+  rows = own-kept shape call goes.claims calm after (pairs_by effect pairs) effect s t goes.follows agree agree-then steady infos goes.gone
+      _ still k.rows;
 }

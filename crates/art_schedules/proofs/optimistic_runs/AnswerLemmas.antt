@@ -24,15 +24,14 @@ use Rattle.art_versions.specs.versions.Versions.{IsOpen, stage_of}
 use Rattle.art_versions.proofs.versions.StepLemmas.{next-turn}
 use Rattle.art_schedules.specs.calm.Calm.{calm_of}
 use Rattle.art_schedules.specs.stories.Stories.{Status, Before, Found, HasNotChanged, HasReply, Tale, IsInCall}
-use Rattle.art_schedules.specs.stories.Fitting.{IsToldStep, AllFit, IsAnswered, Stays, FindsAt, AnswersCall, MeansAt}
+use Rattle.art_schedules.specs.stories.Fitting.{IsToldStep, AllFit, Stays, FindsAt, AnswersCall, MeansAt, HasItsReply, the_plan}
 use Rattle.art_schedules.specs.optimistic.Knows.{KnowsWay}
 use Rattle.art_schedules.specs.scan_points.ScanPoints.{HasScanPoint}
 use Rattle.art_schedules.specs.effects.AtWork.{AtWork, AtEnd, Answering, Leaving}
 use Rattle.art_schedules.specs.effects.Outcomes as outcomes
 use Rattle.art_schedules.specs.effects.Outcomes.{WorkStep}
-use Rattle.art_schedules.specs.optimistic_runs.OptimisticFits.{Ghosts, IsWorld, IsFit, Seeks, Works, Finds, Ends, Walks, OptimisticFits, the_plan}
+use Rattle.art_schedules.specs.optimistic_runs.OptimisticFits.{Ghosts, IsWorld, IsFit, Seeks, Works, Finds, Ends, Walks, OptimisticFits}
 use Rattle.art_schedules.proofs.optimistic_runs.PartLaws.{LawsOfParts}
-use Rattle.art_schedules.proofs.optimistic_runs.LedLemmas as led
 
 -- an end is answered what it has
 end-answers : (shape : Shape) (real calm : List ℕ) (call : Call) (reply answer : Reply) (stage : Stage)
@@ -60,11 +59,13 @@ found-answers shape calm words call reply answer stage k e = absurd k.way
 
 module _ (laws : LawsOfParts) (shape : Shape) (scripts : List (List Call)) (start : Contents) (words : List ℕ)
     (schedule : List ℕ) (tale : Tale) (p : ℕ) (s t : State) (g : Ghosts)
-    (told : IsToldStep (the_plan shape scripts) start words schedule tale p s t (calm_of (the_plan shape scripts) words schedule)
-    (calm_of (the_plan shape scripts) words (schedule ++ p ∷ [])))
-    (world : IsWorld shape g s) (all : AllFit (OptimisticFits shape g) schedule s (calm_of (the_plan shape scripts) words schedule)) where
+    (told : IsToldStep (the_plan Optimistic shape scripts) start words schedule tale p s t
+    (calm_of (the_plan Optimistic shape scripts) words schedule)
+    (calm_of (the_plan Optimistic shape scripts) words (schedule ++ p ∷ [])))
+    (world : IsWorld shape g s)
+    (all : AllFit (OptimisticFits shape g) schedule s (calm_of (the_plan Optimistic shape scripts) words schedule)) where
   abbrev plan : Plan
-  plan = the_plan shape scripts
+  plan = the_plan Optimistic shape scripts
 
   abbrev calm : List ℕ
   calm = calm_of plan words schedule
@@ -77,7 +78,7 @@ module _ (laws : LawsOfParts) (shape : Shape) (scripts : List (List Call)) (star
 
   module _ (call : Call) (q : Process) (status : Status) (reply : Reply) (x : AnswersCall plan s p t call q reply) (tree : is_tree_call call ≡ true) where
     abbrev Answer : Type 0
-    Answer = IsAnswered plan words schedule tale p call q status reply
+    Answer = HasItsReply plan words schedule tale p call q status reply
 
     turn : (stage : Stage) → stage_of Optimistic shape call q ≡ OnKey stage → turn_at (setting shape Optimistic call) stage ≡ Answers reply
     turn stage at = ap (call_turn (setting shape Optimistic call)) (sym at) ∙ x.answers
@@ -89,7 +90,7 @@ module _ (laws : LawsOfParts) (shape : Shape) (scripts : List (List Call)) (star
     works : (stage : Stage) → stage_of Optimistic shape call q ≡ OnKey stage → AtWork (setting shape Optimistic call) s.words calm (g p) stage → ⊥
     works stage at w =
         go (laws.workers_step plan start words schedule p s t told.claims m
-        (led.is-last laws shape scripts start words schedule tale p s t g told world all) told.rests told.means call stage (g p)
+        told.step told.rests told.means call stage (g p)
         (record { process = q; is_open = x.here; at = at }) w)
       where
         go : WorkStep Optimistic shape s p t calm after m call (g p) → ⊥
@@ -106,10 +107,11 @@ module _ (laws : LawsOfParts) (shape : Shape) (scripts : List (List Call)) (star
         (Found reply, FindsAt reply point.t (subst HasNotChanged (sym e) tt) refl until within does, refl)
       where
         at-end : At plan (opened_on plan words) schedule (length schedule) s
-        at-end = subst (λ l. Gives plan (opened_on plan words) l s) (sym (take-length schedule)) told.before.gives
+        at-end = subst (λ l. Gives plan (opened_on plan words) l s) (sym (take-length schedule)) told.step.before.gives
 
         point : HasScanPoint plan words schedule (length schedule) p (length (begun q)) low high reply
-        point = laws.answered_scans_have_points plan start words schedule s told.before refl (length schedule) s at-end p low high q reply x.here.own
+        point = laws.answered_scans_have_points plan start words schedule s told.step.before refl (length schedule) s at-end p low high q
+            reply x.here.own
             (x.here.is_open ∙ ap Some is) known
 
         until : point.t ≤ length schedule
@@ -129,9 +131,10 @@ module _ (laws : LawsOfParts) (shape : Shape) (scripts : List (List Call)) (star
       where
         go : IsFit shape g s calm p call q status → Answer
         go (Seeks stage scan none at k e) =
-            let from = laws.own_steps_go_on plan start words schedule p s t told.behind refl told.before.gives call q stage (x.here, at) tree scan told.claims m
+            let from = laws.own_steps_go_on plan start words schedule p s t told.step refl call stage
+            (record { process = q; is_open = x.here; at = at }) tree scan told.claims m
             told.rests told.means k in
-            absurd (closed from.0.process from.0.at.0)
+            absurd (closed from.0.at.process from.0.at.is_open)
         go (Finds stage found scan none at k e) =
             (status, Stays refl, subst (λ y. HasReply y reply) (sym e) (found-answers shape calm s.words call found reply stage k (turn stage at)))
         go (Works stage at w e) = absurd (works stage at w)

@@ -1,6 +1,6 @@
 -- Every run of the optimistic tree is linearizable, from the laws of the parts.
-use Rattle.std.proofs.Common.{◌≡◌, ℕ, true, List, [], ◌∷◌, ◌++◌, length, refl, sym, subst}
-use Rattle.std.specs.Prelude.{slice_get, IsTrue, All, Option, Some, None}
+use Rattle.std.proofs.Common.{◌≡◌, ℕ, List, [], ◌∷◌, ◌++◌, length, refl, sym, subst}
+use Rattle.std.specs.Prelude.{None}
 use Rattle.std.proofs.lemmas.Option.{none-some}
 use Rattle.events.specs.declared.event.Call.{Call}
 use Rattle.events.specs.declared.event.Call.TheVariants.{Get, Insert, Remove, Scan, Replace}
@@ -10,39 +10,30 @@ use Rattle.art_rows.specs.declared.table.Shape.{Shape}
 use Rattle.art_steps.specs.declared.variant.Variant.{Variant}
 use Rattle.art_steps.specs.declared.variant.Variant.TheVariants.{Optimistic}
 use Rattle.art_steps.specs.declared.access.Access.{Access}
-use Rattle.art_steps.specs.TreeCalls.{is_tree_call}
 use Rattle.art_stages.specs.declared.stage.Stage.TheVariants.{Wait}
 use Rattle.art_stages.specs.declared.stage.Target.TheVariants.{Root}
 use Rattle.art_core.specs.declared.process.Process.{Process}
-use Rattle.art_core.specs.Core.{Plan, State, begun, next_call, next_in}
+use Rattle.art_core.specs.Core.{Plan, State}
 use Rattle.art_core.specs.Claims.{OptimisticIsLinearizable}
-use Rattle.art_core.specs.Plans.{IsPlan}
-use Rattle.list_laws.proofs.Lists.{All-at}
 use Rattle.art_schedules.specs.calm.Calm.{calm_of}
 use Rattle.art_schedules.specs.stories.Laws.{StartsAreAtRest, StoriesGiveOrders}
 use Rattle.art_schedules.specs.stories.Stories.{Status, Before, Tale}
-use Rattle.art_schedules.specs.stories.Fitting.{IsToldStep, GoesOn, AllFit, AreLed, IsLedOn, IsAnswered, OwnStep, BeginsCall, MakesAccess, AnswersCall}
+use Rattle.art_schedules.specs.stories.Fitting.{IsToldStep, AllFit, AreLed, IsLedOn, OwnStep, BeginsCall, MakesAccess, AnswersCall}
+use Rattle.art_schedules.specs.stories.Fitting.{HasItsReply, set_at, the_plan}
 use Rattle.art_schedules.proofs.stories.ClaimLemmas.{optimistic-from-ghosts}
 use Rattle.art_schedules.specs.effects.Outcomes.{Makes}
-use Rattle.art_schedules.specs.optimistic_runs.OptimisticFits.{Ghosts, set_at, IsWorld, IsFit, Seeks, Walks, OptimisticFits, the_plan, CallsAreLed}
+use Rattle.art_schedules.specs.optimistic_runs.OptimisticFits.{Ghosts, IsWorld, IsFit, Seeks, Walks, OptimisticFits, OptimisticAreLed}
 use Rattle.art_schedules.proofs.optimistic_runs.PartLaws.{LawsOfParts}
-use Rattle.art_schedules.proofs.optimistic_runs.SmallLemmas.{set-here}
 use Rattle.art_schedules.proofs.optimistic_runs.LedLemmas as led
 use Rattle.art_schedules.proofs.optimistic_runs.OwnLemmas.{own-step}
 use Rattle.art_schedules.proofs.optimistic_runs.AnswerLemmas.{answered}
-
--- the next call is one of the script
-next-tree : (plan : Plan) → IsPlan plan → (p : ℕ) (q : Process) (call : Call) → next_call plan p q ≡ Some call → is_tree_call call ≡ true
-next-tree plan within p q call e = go (slice_get plan.scripts p) refl e
-  where
-    go : (o : Option (List Call)) → slice_get plan.scripts p ≡ o → next_in o (length (begun q)) ≡ Some call → is_tree_call call ≡ true
-    go None f g = absurd (none-some call g)
-    go (Some script) f g = (All-at (λ call. IsTrue (is_tree_call call)) script (length (begun q)) call
-        (All-at (λ script. All (λ call. IsTrue (is_tree_call call)) script) plan.scripts p script within.calls f) g)
+use Rattle.art_schedules.specs.changes.Courses.{TreeGoesOn}
+use Rattle.art_schedules.proofs.calls.ScriptLemmas.{next-tree}
+use Rattle.art_schedules.proofs.stories.OpenLemmas.{set-here}
 
 module _ (laws : LawsOfParts) (shape : Shape) (scripts : List (List Call)) (start : Contents) (words : List ℕ) where
   abbrev plan : Plan
-  plan = the_plan shape scripts
+  plan = the_plan Optimistic shape scripts
 
   abbrev World : Ghosts → List ℕ → State → List ℕ → Type 0
   World g schedule s calm = IsWorld shape g s
@@ -72,14 +63,15 @@ module _ (laws : LawsOfParts) (shape : Shape) (scripts : List (List Call)) (star
     abbrev BeginClause : List ℕ → List ℕ → Type 0
     BeginClause x y =
         (told : IsToldStep plan start words schedule tale p s t x y) → IsWorld shape g s → AllFit (OptimisticFits shape g) schedule s x
-        → (call : Call) (q later : Process) → BeginsCall plan s p t call q later → GoesOn shape t x y (tale.pairs (length schedule)) None
+        → (call : Call) (q later : Process) → BeginsCall plan s p t call q later
+        → TreeGoesOn shape t.words x y (tale.pairs (length schedule)) None
         → IsLedOn Ghosts World (OptimisticFits shape) g schedule p s t x y (λ next. OptimisticFits shape next (schedule ++ p ∷ []) t y p call later Before)
 
     pub begins : BeginClause here there
     begins told world all call q later b goes =
         led.led laws shape scripts start words schedule tale p s t g told world all None makes tt None (led.NoFresh refl)
         (λ ghost. OptimisticFits shape ghost (schedule ++ p ∷ []) t there p call later Before)
-        (record { tree = next-tree plan told.before.within p q call b.next; fit = fit call b })
+        (record { tree = next-tree plan told.step.before.within.calls p q call b.next; fit = fit call b })
       where
         makes : Makes Optimistic shape s p here there (tale.pairs (length schedule)) None
         makes = led.goes-makes laws shape scripts start words schedule tale p s t g told world all goes
@@ -98,18 +90,19 @@ module _ (laws : LawsOfParts) (shape : Shape) (scripts : List (List Call)) (star
     AnswerClause x y =
         (told : IsToldStep plan start words schedule tale p s t x y) → IsWorld shape g s → AllFit (OptimisticFits shape g) schedule s x
         → (call : Call) (q : Process) (status : Status) (reply : Reply) → AnswersCall plan s p t call q reply
-        → OptimisticFits shape g schedule s x p call q status → GoesOn shape t x y (tale.pairs (length schedule)) None
-        → IsLedOn Ghosts World (OptimisticFits shape) g schedule p s t x y (λ next. IsAnswered plan words schedule tale p call q status reply)
+        → OptimisticFits shape g schedule s x p call q status → TreeGoesOn shape t.words x y (tale.pairs (length schedule)) None
+        → IsLedOn Ghosts World (OptimisticFits shape) g schedule p s t x y
+        (λ next. HasItsReply plan words schedule tale p call q status reply)
 
     pub answers : AnswerClause here there
     answers told world all call q status reply x f goes =
         led.led laws shape scripts start words schedule tale p s t g told world all None
         (led.goes-makes laws shape scripts start words schedule tale p s t g told world all goes) tt None (led.NoFresh refl)
-        (λ ghost. IsAnswered plan words schedule tale p call q status reply)
+        (λ ghost. HasItsReply plan words schedule tale p call q status reply)
         (answered laws shape scripts start words schedule tale p s t g told world all call q status reply x f.tree f)
 
   -- What fits each call is kept.
-  pub calls-are-led : CallsAreLed shape scripts start words
+  pub calls-are-led : OptimisticAreLed shape scripts start words
   calls-are-led = record {
     first = λ run rest means. (
       λ p. None,

@@ -16,27 +16,29 @@ use Rattle.art_stages.specs.Calls.{CallAt, OnKey, OnScan}
 use Rattle.art_core.specs.declared.process.Process.{Process}
 use Rattle.art_core.specs.Core.{Plan, State}
 use Rattle.art_core.specs.Meaning.{Reached}
+use Rattle.art_serial.specs.trees.Trees.{IsClaimed}
 use Rattle.art_versions.specs.versions.Effects.{IsAmong}
 use Rattle.art_versions.specs.versions.Holding.{Named, holds}
 use Rattle.art_versions.specs.versions.Locking.{rows_held}
-use Rattle.art_versions.specs.versions.Versions.{IsOpen, IsClaimed, stage_of}
+use Rattle.art_versions.specs.versions.Versions.{IsOpen, stage_of}
 use Rattle.art_versions.proofs.versions.KnownLemmas.{each-map}
 use Rattle.art_schedules.specs.calm.Calm.{calm_of}
 use Rattle.art_schedules.proofs.calm.CalmLemmas.{claimed-row}
 use Rattle.art_schedules.proofs.calm.InductionLemmas.{IsStep, step-of-run}
 use Rattle.art_schedules.specs.changes.Effects.{Effect}
-use Rattle.art_schedules.specs.changes.Courses.{IsGoneBy}
+use Rattle.art_schedules.specs.changes.Courses.{IsGoneBy, TreeGoesOn}
 use Rattle.art_schedules.specs.changes.Follows.{KeepsTree}
 use Rattle.art_schedules.specs.stories.Stories.{Status, Tale}
-use Rattle.art_schedules.specs.stories.Fitting.{IsToldStep, GoesOn, AllFit, IsLedOn}
+use Rattle.art_schedules.specs.stories.Fitting.{IsToldStep, AllFit, IsLedOn, set_at, the_plan}
 use Rattle.art_schedules.proofs.stories.TreeLemmas.{tree-kept}
 use Rattle.art_schedules.specs.optimistic.Knows.{KnowsWay}
 use Rattle.art_schedules.specs.effects.AtWork.{AtWork, fresh_of}
-use Rattle.art_schedules.specs.effects.Outcomes.{IsLastStep, Makes, HoldsReached, IsOther, AreApart, pairs_by}
-use Rattle.art_schedules.specs.optimistic_runs.OptimisticFits.{Ghosts, set_at, IsWorld, IsFit, Seeks, Works, Finds, Ends, Walks, OptimisticFits, the_plan}
+use Rattle.art_schedules.specs.effects.Outcomes.{Makes, HoldsReached, IsOther, AreTwoRows}
+use Rattle.art_schedules.specs.optimistic_runs.OptimisticFits.{Ghosts, IsWorld, IsFit, Seeks, Works, Finds, Ends, Walks, OptimisticFits}
 use Rattle.art_schedules.proofs.optimistic_runs.PartLaws.{LawsOfParts}
-use Rattle.art_schedules.proofs.optimistic_runs.SmallLemmas.{set-cases, set-other, among-locks, apart-none, apart-by}
+use Rattle.art_schedules.proofs.optimistic_runs.SmallLemmas.{among-locks, apart-none, apart-by}
 use Rattle.art_schedules.proofs.changes.EffectLemmas.{gone-reached}
+use Rattle.art_schedules.proofs.stories.OpenLemmas.{set-cases, set-other}
 
 -- the fresh row behind a step: as before, or none, or one that was claimed in it
 pub data FreshBehind (shape : Shape) (s t : State) (before fresh : Option Named) : Type 0 where
@@ -52,7 +54,7 @@ IsFreshOf (Some e) fresh = fresh ≡ fresh_of e
 
 module _ (laws : LawsOfParts) (shape : Shape) (scripts : List (List Call)) (start : Contents) (words : List ℕ) where
   abbrev plan : Plan
-  plan = the_plan shape scripts
+  plan = the_plan Optimistic shape scripts
 
   abbrev World : Ghosts → List ℕ → State → List ℕ → Type 0
   World g schedule s calm = IsWorld shape g s
@@ -69,14 +71,11 @@ module _ (laws : LawsOfParts) (shape : Shape) (scripts : List (List Call)) (star
     abbrev m : Contents
     m = tale.pairs (length schedule)
 
-    pub is-last : IsLastStep plan start words schedule p s t
-    is-last = record { full = inr refl; gives = told.before.gives; run = told.behind }
-
     pub fact : IsStep Optimistic plan s p t
-    fact = step-of-run Optimistic (inr refl) plan start words schedule p s t told.before refl told.made
+    fact = step-of-run Optimistic (inr refl) plan start words schedule p s t told.step.before refl told.step.made
 
-    pub goes-makes : GoesOn shape t calm after m None → Makes Optimistic shape s p calm after m None
-    goes-makes k = record { claims = k.claims; follows = k.follows; by = tt }
+    pub goes-makes : TreeGoesOn shape t.words calm after m None → Makes Optimistic shape s p calm after m None
+    goes-makes k = record { goes = record { claims = k.claims; follows = k.follows; gone = λ b none. absurd none }; by = tt }
 
     pub keeps-makes : KeepsTree shape calm after → Makes Optimistic shape s p calm after m None
     keeps-makes k = goes-makes (tree-kept plan (inr refl) start words schedule tale p s t calm after told laws.kept_trees_follow k)
@@ -86,11 +85,12 @@ module _ (laws : LawsOfParts) (shape : Shape) (scripts : List (List Call)) (star
     gone-behind None makes b gone = absurd gone
     gone-behind (Some e) makes b gone =
         let (k, r) = gone-reached shape calm after e makes.by.has b gone in
-        told.change.obsolete b k (claimed-row shape s.words b k (told.calm_before.reached b k r).claimed) (makes.by.gone b gone)
+        told.change.obsolete b k (claimed-row shape s.words b k (told.calm_before.reached b k r).claimed) (makes.goes.gone b gone)
 
-    pub makes-goes : (effect : Option Effect) → Makes Optimistic shape s p calm after m effect → GoesOn shape t calm after m effect
-    makes-goes None makes = record { claims = makes.claims; follows = makes.follows; gone = λ b x. absurd x }
-    makes-goes (Some e) makes = record { claims = makes.claims; follows = makes.follows; gone = gone-behind (Some e) makes }
+    pub makes-goes : (effect : Option Effect) → Makes Optimistic shape s p calm after m effect
+        → TreeGoesOn shape t.words calm after m effect
+    makes-goes None makes = record { claims = makes.goes.claims; follows = makes.goes.follows; gone = λ b x. absurd x }
+    makes-goes (Some e) makes = record { claims = makes.goes.claims; follows = makes.goes.follows; gone = gone-behind (Some e) makes }
 
     -- each row that the process holds is one of the calm tree
     pub holds-reached : HoldsReached Optimistic shape s p calm
@@ -128,7 +128,7 @@ module _ (laws : LawsOfParts) (shape : Shape) (scripts : List (List Call)) (star
           go : (e : Option Effect) → IsFreshOf e (g p) → IsOther e (g r)
           go None is = none (g r)
           go (Some e) is =
-              laws.effects_bring_theirs e (g r) (subst (λ o. AreApart o (g r)) is (world.apart p r (λ x. apart (sym x))))
+              laws.effects_bring_theirs e (g r) (subst (λ o. AreTwoRows o (g r)) is (world.apart p r (λ x. apart (sym x))))
 
       other-fits : (r : ℕ) (call : Call) (q : Process) (status : Status) → r ≢ p → IsOpen s r call q → IsOpen t r call q
           → OptimisticFits shape g schedule s calm r call q status → OptimisticFits shape (set_at g p f) (schedule ++ p ∷ []) t after r call q status
@@ -140,8 +140,8 @@ module _ (laws : LawsOfParts) (shape : Shape) (scripts : List (List Call)) (star
           way : (found : Option Reply) (stage : Stage) → stage_of Optimistic shape call q ≡ OnKey stage
               → KnowsWay (setting shape Optimistic call) calm s.words found stage → KnowsWay (setting shape Optimistic call) after t.words found stage
           way found stage at k =
-              laws.other_steps_keep_ways plan start words schedule p s t told.behind refl told.before.gives makes.claims (pairs_by effect m) effect
-              makes.follows (gone-behind effect makes) r call q stage found apart (o, at) behind k
+              laws.other_steps_keep_ways plan start words schedule p s t told.step refl m effect
+              (makes-goes effect makes) r call stage found apart (record { process = q; is_open = o; at = at }) behind k
 
           go : IsFit shape g s calm r call q status → IsFit shape (set_at g p f) t after r call q status
           go (Seeks stage scan none at k e) = Seeks stage scan (same ∙ none) at (way None stage at k) e
@@ -149,12 +149,14 @@ module _ (laws : LawsOfParts) (shape : Shape) (scripts : List (List Call)) (star
           go (Works stage at w e) =
               Works stage at
               (subst (λ y. AtWork (setting shape Optimistic call) t.words after y stage) (sym same)
-              (laws.others_keep_work plan start words schedule p s t told.claims m effect is-last told.rests makes holds-reached r apart call stage (g r)
+              (laws.others_keep_work plan start words schedule p s t told.claims m effect told.step told.rests makes holds-reached r apart
+              call stage (g r)
               (record { process = q; is_open = o; at = at }) (is-other r apart) w).1)
               e
           go (Ends stage reply none at end e) =
               Ends stage reply (same ∙ none) at
-              (laws.others_keep_ends plan start words schedule p s t told.claims m effect is-last told.rests makes holds-reached r apart call stage reply
+              (laws.others_keep_ends plan start words schedule p s t told.claims m effect told.step told.rests makes holds-reached r apart
+              call stage reply
               (record { process = q; is_open = o; at = at }) end).1
               e
           go (Walks low high at none is stage e) = Walks low high at (same ∙ none) is stage e
@@ -180,11 +182,14 @@ module _ (laws : LawsOfParts) (shape : Shape) (scripts : List (List Call)) (star
           claimed r row e = ⊎_elim (λ x. own-claimed row fresh (sym x.1 ∙ e)) (λ x. claims-rise row.0 row.1 (world.claimed r row (sym x.1 ∙ e)))
               (set-cases g p f r)
 
-          own-apart : (r : ℕ) → r ≢ p → FreshBehind shape s t (g p) f → AreApart f (g r) × AreApart (g r) f
-          own-apart r ne (SameFresh e) =
-              (subst (λ o. AreApart o (g r)) (sym e) (world.apart p r (λ x. ne (sym x))), subst (AreApart (g r)) (sym e) (world.apart r p ne))
+          own-apart : (r : ℕ) → r ≢ p → FreshBehind shape s t (g p) f → AreTwoRows f (g r) × AreTwoRows (g r) f
+          own-apart r ne (SameFresh e) = (
+            subst (λ o. AreTwoRows o (g r)) (sym e) (world.apart p r (λ x. ne (sym x))),
+            subst (AreTwoRows (g r)) (sym e)
+                (world.apart r p ne),
+          )
           own-apart r ne (NoFresh e) =
-              (subst (λ o. AreApart o (g r)) (sym e) tt, subst (AreApart (g r)) (sym e) (apart-none (g r)))
+              (subst (λ o. AreTwoRows o (g r)) (sym e) tt, subst (AreTwoRows (g r)) (sym e) (apart-none (g r)))
           own-apart r ne (NewFresh new e not there) = (
             apart-by f (g r) (λ row other a b. clash row other a b),
             apart-by (g r) f (λ other row b a same. clash row other a b (sym same)),
@@ -197,7 +202,7 @@ module _ (laws : LawsOfParts) (shape : Shape) (scripts : List (List Call)) (star
                   (sym same ∙ ap (λ (y : Named). y.0) (sym (same_Some new row (sym e ∙ a))))
                   (world.claimed r other b))
 
-          apart : (q r : ℕ) → q ≢ r → AreApart (set_at g p f q) (set_at g p f r)
+          apart : (q r : ℕ) → q ≢ r → AreTwoRows (set_at g p f q) (set_at g p f r)
           apart q r ne = ⊎_elim
               (λ x. ⊎_elim
               (λ y. absurd (ne (x.0 ∙ sym y.0)))
@@ -209,5 +214,6 @@ module _ (laws : LawsOfParts) (shape : Shape) (scripts : List (List Call)) (star
               (set-cases g p f r))
               (set-cases g p f q)
             where
-              put : (q r : ℕ) {a b : Option Named} → a ≡ set_at g p f q → b ≡ set_at g p f r → AreApart a b → AreApart (set_at g p f q) (set_at g p f r)
-              put q r {a} {b} x y h = subst (AreApart (set_at g p f q)) y (subst (λ o. AreApart o b) x h)
+              put : (q r : ℕ) {a b : Option Named} → a ≡ set_at g p f q → b ≡ set_at g p f r → AreTwoRows a b
+                  → AreTwoRows (set_at g p f q) (set_at g p f r)
+              put q r {a} {b} x y h = subst (AreTwoRows (set_at g p f q)) y (subst (λ o. AreTwoRows o b) x h)

@@ -26,9 +26,10 @@ use Rattle.art_stages.specs.Calls.{OnKey, OnScan, call_turn, call_after}
 use Rattle.art_core.specs.declared.process.Process.{Process}
 use Rattle.art_core.specs.Accesses.{got_by}
 use Rattle.art_core.specs.Core.{Plan, State, begun, opened_on}
+use Rattle.art_serial.specs.trees.Trees.{IsClaimed}
 use Rattle.art_versions.specs.versions.Holding.{Named, Each, Knows, IsKept}
 use Rattle.art_versions.specs.versions.Locking.{rows_of_hold}
-use Rattle.art_versions.specs.versions.Versions.{IsOpen, IsClaimed, stage_of}
+use Rattle.art_versions.specs.versions.Versions.{IsOpen, stage_of}
 use Rattle.art_versions.proofs.versions.KnownLemmas.{each-map}
 use Rattle.art_schedules.specs.calm.Calm.{calm_of}
 use Rattle.art_schedules.proofs.calm.CalmLemmas.{kept-live}
@@ -37,7 +38,8 @@ use Rattle.art_schedules.proofs.work.OwnLemmas.{rows-known}
 use Rattle.art_schedules.specs.changes.Effects.{Effect}
 use Rattle.art_schedules.specs.changes.Follows.{KeepsTree}
 use Rattle.art_schedules.specs.stories.Stories.{Status, Before, Found, Changed, HasNotChanged, Tale}
-use Rattle.art_schedules.specs.stories.Fitting.{IsToldStep, AllFit, IsLedOn, OwnStep, Keeps, Changes, Next, Stays, Forgets, FindsNow, MakesAccess}
+use Rattle.art_schedules.specs.stories.Fitting.{IsToldStep, AllFit, IsLedOn, OwnStep, Keeps, Changes, Next, Stays, Forgets, FindsNow}
+use Rattle.art_schedules.specs.stories.Fitting.{MakesAccess, set_at, the_plan}
 use Rattle.art_schedules.specs.optimistic.Knows.{KnowsWay, IsOwn}
 use Rattle.art_schedules.specs.optimistic.Goes as goes
 use Rattle.art_schedules.specs.optimistic.Steps.{StepsOn, IsQuiet}
@@ -45,21 +47,24 @@ use Rattle.art_schedules.specs.effects.Begins.{BeginsWork}
 use Rattle.art_schedules.specs.effects.AtWork.{AtWork, AtEnd}
 use Rattle.art_schedules.specs.effects.Outcomes as outcomes
 use Rattle.art_schedules.specs.effects.Outcomes.{Makes, WorkStep, EndStep}
-use Rattle.art_schedules.specs.optimistic_runs.OptimisticFits.{Ghosts, set_at, IsWorld, IsFit, Seeks, Works, Finds, Ends, Walks, OptimisticFits, the_plan}
+use Rattle.art_schedules.specs.optimistic_runs.OptimisticFits.{Ghosts, IsWorld, IsFit, Seeks, Works, Finds, Ends, Walks, OptimisticFits}
 use Rattle.art_schedules.proofs.optimistic_runs.PartLaws.{LawsOfParts}
-use Rattle.art_schedules.proofs.optimistic_runs.SmallLemmas.{set-here, same-stage, work-kept, each-both}
+use Rattle.art_schedules.proofs.optimistic_runs.SmallLemmas.{work-kept, each-both}
 use Rattle.art_schedules.proofs.optimistic_runs.LedLemmas as led
+use Rattle.art_schedules.proofs.stories.OpenLemmas.{set-here, same-stage}
 
 over-asks : (shape : Shape) (call : Call) (o : Outcome) (a : Access) (mark : Option Point) → turn_at (setting shape Optimistic call) (Over o) ≡ Asks a mark → ⊥
 over-asks shape call o a mark e = cc
 
 module _ (laws : LawsOfParts) (shape : Shape) (scripts : List (List Call)) (start : Contents) (words : List ℕ)
     (schedule : List ℕ) (tale : Tale) (p : ℕ) (s t : State) (g : Ghosts)
-    (told : IsToldStep (the_plan shape scripts) start words schedule tale p s t (calm_of (the_plan shape scripts) words schedule)
-    (calm_of (the_plan shape scripts) words (schedule ++ p ∷ [])))
-    (world : IsWorld shape g s) (all : AllFit (OptimisticFits shape g) schedule s (calm_of (the_plan shape scripts) words schedule)) where
+    (told : IsToldStep (the_plan Optimistic shape scripts) start words schedule tale p s t
+    (calm_of (the_plan Optimistic shape scripts) words schedule)
+    (calm_of (the_plan Optimistic shape scripts) words (schedule ++ p ∷ [])))
+    (world : IsWorld shape g s)
+    (all : AllFit (OptimisticFits shape g) schedule s (calm_of (the_plan Optimistic shape scripts) words schedule)) where
   abbrev plan : Plan
-  plan = the_plan shape scripts
+  plan = the_plan Optimistic shape scripts
 
   abbrev calm : List ℕ
   calm = calm_of plan words schedule
@@ -83,7 +88,7 @@ module _ (laws : LawsOfParts) (shape : Shape) (scripts : List (List Call)) (star
 
     at-next : (other : Process) → IsOpen t p call other → (next : Stage) → stage_of Optimistic shape call other ≡ OnKey next
         → stage_of Optimistic shape call later ≡ OnKey next
-    at-next other o next e = same-stage shape t p call call later other made.behind o ∙ e
+    at-next other o next e = same-stage Optimistic shape t p call call later other made.behind o ∙ e
 
     none-now : set_at g p None p ≡ None
     none-now = set-here g p None
@@ -110,7 +115,8 @@ module _ (laws : LawsOfParts) (shape : Shape) (scripts : List (List Call)) (star
     seeks stage scan none at knows e = go from.1
       where
         from : (x : StepsOn plan words schedule p t call) × goes.Goes (setting shape Optimistic call) after t.words m x.next
-        from = laws.own_steps_go_on plan start words schedule p s t told.behind refl told.before.gives call q stage (made.here, at) tree scan told.claims m
+        from = laws.own_steps_go_on plan start words schedule p s t told.step refl call stage
+            (record { process = q; is_open = made.here; at = at }) tree scan told.claims m
             told.rests told.means knows
 
         next : Stage
@@ -120,7 +126,7 @@ module _ (laws : LawsOfParts) (shape : Shape) (scripts : List (List Call)) (star
         makes = makes-of from.0.keeps
 
         there : stage_of Optimistic shape call later ≡ OnKey from.0.next
-        there = at-next from.0.process from.0.at.0 from.0.next from.0.at.1
+        there = at-next from.0.at.process from.0.at.is_open from.0.next from.0.at.at
 
         works : (h : Hold) (w : Work) → from.0.next ≡ work_at (setting shape Optimistic call) h w → BeginsWork (setting shape Optimistic call) after h w
             → Each (IsOwn shape after t.words) (rows_of_hold h) → AtWork (setting shape Optimistic call) t.words after None from.0.next
@@ -159,14 +165,15 @@ module _ (laws : LawsOfParts) (shape : Shape) (scripts : List (List Call)) (star
       where
         from : (x : StepsOn plan words schedule p t call)
             × (KnowsWay (setting shape Optimistic call) after t.words (Some reply) x.next ⊎ KnowsWay (setting shape Optimistic call) after t.words None x.next)
-        from = laws.own_findings_stay plan start words schedule p s t told.behind refl told.before.gives call q stage (made.here, at) a made.mark
+        from = laws.own_findings_stay plan start words schedule p s t told.step refl call stage
+            (record { process = q; is_open = made.here; at = at }) a made.mark
             (ap (call_turn (setting shape Optimistic call)) (sym at) ∙ made.asks) told.claims told.rests reply knows
 
         makes : Makes Optimistic shape s p calm after m None
         makes = makes-of from.0.keeps
 
         there : stage_of Optimistic shape call later ≡ OnKey from.0.next
-        there = at-next from.0.process from.0.at.0 from.0.next from.0.at.1
+        there = at-next from.0.at.process from.0.at.is_open from.0.next from.0.at.at
 
     -- ---- behind its effect, or refused
 
@@ -174,7 +181,7 @@ module _ (laws : LawsOfParts) (shape : Shape) (scripts : List (List Call)) (star
         → AtEnd (setting shape Optimistic call) s.words calm reply stage → (status ≡ Changed reply) ⊎ ((reply ≡ Refused) × (status ≡ Found Refused)) → Answer
     ends stage reply none at end e =
         go (laws.leavers_step plan start words schedule p s t told.claims m
-        (led.is-last laws shape scripts start words schedule tale p s t g told world all) told.rests told.means call stage reply
+        told.step told.rests told.means call stage reply
         (record { process = q; is_open = made.here; at = at }) end)
       where
         go : EndStep Optimistic shape s p t calm after m call reply stage → Answer
@@ -190,7 +197,7 @@ module _ (laws : LawsOfParts) (shape : Shape) (scripts : List (List Call)) (star
         → status ≡ Before → Answer
     works stage at w e =
         go (laws.workers_step plan start words schedule p s t told.claims m
-        (led.is-last laws shape scripts start words schedule tale p s t g told world all) told.rests told.means call stage (g p)
+        told.step told.rests told.means call stage (g p)
         (record { process = q; is_open = made.here; at = at }) w)
       where
         fresh-claimed : (fresh : Option Named) (next : Stage) → AtWork (setting shape Optimistic call) t.words after fresh next → (row : Named)
@@ -230,10 +237,11 @@ module _ (laws : LawsOfParts) (shape : Shape) (scripts : List (List Call)) (star
         quiet : IsQuiet Optimistic shape s p
         quiet other w o word value mark turn =
             laws.scans_store_nothing shape other low high at word value mark
-            (ap (call_turn (setting shape Optimistic other)) (sym (same-stage shape s p other call w q o made.here ∙ stage)) ∙ turn)
+            (ap (call_turn (setting shape Optimistic other)) (sym (same-stage Optimistic shape s p other call w q o made.here ∙ stage))
+            ∙ turn)
 
         makes : Makes Optimistic shape s p calm after m None
-        makes = makes-of (laws.quiet_steps_keep_trees plan start words schedule p s t told.behind (inr refl) told.before.gives quiet told.claims told.rests)
+        makes = makes-of (laws.quiet_steps_keep_trees plan start words schedule p s t told.step quiet told.claims told.rests)
 
     pub own-step : OptimisticFits shape g schedule s calm p call q status → Answer
     own-step x = go x.fit

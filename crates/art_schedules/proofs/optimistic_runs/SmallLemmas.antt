@@ -1,47 +1,18 @@
 -- Small facts of stages, of ghosts, of rows that are held, and of calls that are open.
-use Rattle.std.proofs.Common.{◌≡◌, ◌≢◌, ◌⊎◌, ℕ, zero, suc, Bool, false, List, [], ◌∷◌, refl, sym, ap, subst, ◌∙◌, inl, inr, ⊎_elim}
-use Rattle.std.specs.Prelude.{Option, Some, None, if◌then◌else◌}
-use Rattle.std.proofs.lemmas.Bool.Decides.{eqb_tells}
-use Rattle.events.specs.declared.event.Call.{Call}
-use Rattle.art_rows.specs.declared.table.Shape.{Shape}
+use Rattle.std.proofs.Common.{◌≡◌, ◌≢◌, ℕ, zero, suc, Bool, false, List, [], ◌∷◌, refl, sym, subst, inl, inr}
+use Rattle.std.specs.Prelude.{Option, Some, None}
 use Rattle.art_rows.specs.declared.table.Kind.{Kind}
 use Rattle.art_rows.specs.declared.table.Kind.TheVariants.{Four, Sixteen, FortyEight, Full}
-use Rattle.art_steps.specs.declared.variant.Variant.TheVariants.{Optimistic}
 use Rattle.art_steps.specs.Rows.{Setting}
 use Rattle.art_stages.specs.declared.stage.Held.{Held}
 use Rattle.art_stages.specs.declared.stage.Hold.{Hold}
-use Rattle.art_stages.specs.declared.stage.Stage.{Stage}
 use Rattle.art_stages.specs.declared.stage.Work.{Work}
 use Rattle.art_stages.specs.declared.stage.Work.TheVariants as work
 use Rattle.art_stages.specs.Automaton.{work_at, moves_at, put_at}
-use Rattle.art_stages.specs.Calls.{OnKey, OnScan}
-use Rattle.art_stages.specs.Scans.{ScanAt}
-use Rattle.art_core.specs.declared.process.Process.{Process}
-use Rattle.art_core.specs.Core.{State}
 use Rattle.art_versions.specs.versions.Effects.{IsAmong}
 use Rattle.art_versions.specs.versions.Holding.{Named, Each, rows_kept}
 use Rattle.art_versions.specs.versions.Locking.{locks_of, rows_of_hold}
-use Rattle.art_versions.specs.versions.Versions.{IsOpen, stage_of}
-use Rattle.art_versions.proofs.versions.KnownLemmas.{same-process, same-call}
-use Rattle.art_schedules.specs.effects.Outcomes.{AreApart}
-use Rattle.art_schedules.specs.optimistic_runs.OptimisticFits.{Ghosts, set_at}
-
-pub set-cases : (f : Ghosts) (p : ℕ) (a : Option Named) (r : ℕ) → ((r ≡ p) × (set_at f p a r ≡ a)) ⊎ ((r ≢ p) × (set_at f p a r ≡ f r))
-set-cases f p a r = ⊎_elim (λ x. inl (x.1, ap (λ b. if b then a else f r) x.0)) (λ x. inr (x.1, ap (λ b. if b then a else f r) x.0)) (eqb_tells r p)
-
-pub set-here : (f : Ghosts) (p : ℕ) (a : Option Named) → set_at f p a p ≡ a
-set-here f p a = ⊎_elim (λ x. x.1) (λ x. absurd (x.0 refl)) (set-cases f p a p)
-
-pub set-other : (f : Ghosts) (p : ℕ) (a : Option Named) (r : ℕ) → r ≢ p → set_at f p a r ≡ f r
-set-other f p a r apart = ⊎_elim (λ x. absurd (apart x.0)) (λ x. x.1) (set-cases f p a r)
-
-pub same-stage : (shape : Shape) (s : State) (p : ℕ) (call other : Call) (q w : Process) → IsOpen s p call q → IsOpen s p other w
-    → stage_of Optimistic shape call q ≡ stage_of Optimistic shape other w
-same-stage shape s p call other q w o x =
-    ap (λ y. stage_of Optimistic shape y q) (same-call s p call other q w o x) ∙ ap (stage_of Optimistic shape other) (same-process s p call other q w o x)
-
-pub key-scan : {a : Stage} {low high : ℕ} {b : ScanAt} → OnKey a ≡ OnScan low high b → ⊥
-key-scan e = cc
+use Rattle.art_schedules.specs.effects.Outcomes.{AreTwoRows}
 
 -- where work begins, the rows of the hold are those whose versions are kept
 pub work-kept : (i : Bool) (c : Setting) (h : Hold) (w : Work) → rows_kept false i (work_at c h w) ≡ rows_of_hold h
@@ -72,11 +43,12 @@ each-both P Q [] e f = tt
 each-both P Q (x ∷ xs) e f = ((e.0, f.0), each-both P Q xs e.1 f.1)
 
 -- rows are apart either way, and apart from none
-pub apart-none : (o : Option Named) → AreApart o None
+pub apart-none : (o : Option Named) → AreTwoRows o None
 apart-none None = tt
 apart-none (Some row) = tt
 
-pub apart-by : (o other : Option Named) → ((row with-row : Named) → o ≡ Some row → other ≡ Some with-row → row.0 ≢ with-row.0) → AreApart o other
+pub apart-by : (o other : Option Named) → ((row with-row : Named) → o ≡ Some row → other ≡ Some with-row → row.0 ≢ with-row.0)
+    → AreTwoRows o other
 apart-by None other f = tt
 apart-by (Some row) None f = tt
 apart-by (Some row) (Some other) f = f row other refl refl

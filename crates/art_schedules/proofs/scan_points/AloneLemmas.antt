@@ -31,7 +31,6 @@ use Rattle.art_core.specs.Core.{Plan}
 use Rattle.art_core.specs.Moments.{next_word, alone, AnswersAlone, Reads}
 use Rattle.art_serial.specs.alone.Alone.{RunsAlone, ends, goes}
 use Rattle.art_serial.proofs.alone.AloneLemmas.{same-runs}
-use Rattle.art_versions.specs.versions.Steady.{SameRow}
 use Rattle.art_schedules.specs.calm.Calm.{is_busy}
 use Rattle.art_schedules.proofs.calm.VersionLemmas.{unmarked-free}
 use Rattle.art_versions.proofs.moments.TimeLemmas.{take-more, index-more, index-last}
@@ -41,6 +40,7 @@ use Rattle.art_versions.proofs.moments.ScanLemmas.{all-fold, all-append, at-end,
 use Rattle.art_versions.proofs.moments.ValidLemmas.{turn-is, validated}
 use Rattle.art_versions.proofs.moments.AloneLemmas.{answers-alone}
 use Rattle.art_versions.proofs.moments.MomentLemmas.{index-behind, take-behind}
+use Rattle.art_versions.specs.versions.Steady.{SameWords}
 
 module _ (plan : Plan) (call : Call) (words : List ℕ) where
   abbrev turn-of : List ℕ → Turn
@@ -131,7 +131,8 @@ module _ (plan : Plan) (lo hi : ℕ) (v : plan.variant ≡ Optimistic) (some : 1
 
   -- Where other words have each row that is not busy, the scan has the same answer alone on them.
   pub moves : (words calm : List ℕ)
-      → ((base : ℕ) (kind : Kind) → kind_at plan.shape base ≡ Some kind → is_busy (slice_index words base) ≡ false → SameRow words calm base kind)
+      → ((base : ℕ) (kind : Kind) → kind_at plan.shape base ≡ Some kind → is_busy (slice_index words base) ≡ false
+      → SameWords words calm base kind)
       → (reply : Reply) → AnswersAlone plan scan words reply → AnswersAlone plan scan calm reply
   moves words calm free reply (n, e) =
       answers-alone plan lo hi v some x.attempt calm val.stands holds reply

@@ -48,12 +48,13 @@ use Rattle.art_schedules.specs.changes.Effects.{Effect}
 use Rattle.art_schedules.specs.changes.Laws.{KeptTreesFollow}
 use Rattle.art_schedules.proofs.changes.FollowLemmas.{low-words-keep}
 use Rattle.art_schedules.specs.stories.Stories.{Status, Before, Changed, HasReply, Tale, HasStatus, IsStory, HasStory}
-use Rattle.art_schedules.specs.stories.Fitting.{MeansAt, IsToldStep, pairs_by, GoesOn, Next, OwnStep, Keeps, Changes, MakesAccess, AnswersCall, AllFit}
-use Rattle.art_schedules.specs.stories.Fitting.{turn_of, IsAnswered, OfState, OfCall, IsLedOn, AreLed}
+use Rattle.art_schedules.specs.stories.Fitting.{MeansAt, IsToldStep, Next, OwnStep, Keeps, Changes, MakesAccess, AnswersCall, AllFit}
+use Rattle.art_schedules.specs.stories.Fitting.{turn_of, OfState, OfCall, IsLedOn, AreLed, HasItsReply}
 use Rattle.art_schedules.specs.stories.Laws.{StartsAreAtRest, StoriesGiveOrders}
 use Rattle.art_schedules.proofs.stories.GrowthLemmas.{Continues, continued, continues, story-more, status-next, status-goes, status-changed, status-begun}
 use Rattle.art_schedules.proofs.stories.GrowthLemmas.{kept-so-far, in-now}
 use Rattle.art_schedules.proofs.stories.StoryLemmas.{story-few}
+use Rattle.art_schedules.specs.changes.Courses.{pairs_by, TreeGoesOn}
 
 -- an open call whose reply is known answers it, and one that asks for an access has none
 answers-known : (plan : Plan) (got : List ℕ) (call : Call) (reply : Reply) → known_reply plan got (Some call) ≡ Some reply
@@ -142,9 +143,7 @@ module _ (starts : StartsAreAtRest) (trees : KeptTreesFollow) (plan : Plan) (ful
 
     told : IsToldStep plan start words schedule h.tale p s t calm after
     told = record {
-      before = before;
-      behind = behind;
-      made = made;
+      step = record { full = full; before = before; behind = behind; made = made };
       calm_is = refl;
       after_is = refl;
       calm_before = calm-at plan start words schedule s before full;
@@ -162,7 +161,7 @@ module _ (starts : StartsAreAtRest) (trees : KeptTreesFollow) (plan : Plan) (ful
 
     -- where the process of the step asks for no access, calm's tree stays
     low-goes : (w : Process) → slice_get s.processes p ≡ Some w → (move : Move) → word_of_move move ≡ 0 → t ≡ moved s p w move
-        → ((a : Access) → AsksFor plan.variant plan.shape s p a → ⊥) → GoesOn plan.shape t calm after m None
+        → ((a : Access) → AsksFor plan.variant plan.shape s p a → ⊥) → TreeGoesOn plan.shape t.words calm after m None
     low-goes w own move word is none = record {
       claims = told.claims;
       follows = trees plan.shape told.claims told.claims calm after m told.rests told.means
@@ -192,7 +191,7 @@ module _ (starts : StartsAreAtRest) (trees : KeptTreesFollow) (plan : Plan) (ful
 
     -- one step more, where it changes the pairs by the effect, or keeps them
     module _ (w : Process) (own : slice_get s.processes p ≡ Some w) (move : Move) (is : t ≡ moved s p w move) (change : Bool) (effect : Option Effect)
-        (goes : GoesOn plan.shape t calm after m effect) where
+        (goes : TreeGoesOn plan.shape t.words calm after m effect) where
       abbrev next : Contents
       next = pairs_by effect m
 
@@ -308,7 +307,7 @@ module _ (starts : StartsAreAtRest) (trees : KeptTreesFollow) (plan : Plan) (ful
       none-asked a asks =
           none-some asks.call (sym idle ∙ (ap (λ (x : Process). x.call) (one-process w asks.process asks.call own asks.is_open) ∙ asks.is_open.is_open))
 
-      stays : GoesOn plan.shape t calm after m None
+      stays : TreeGoesOn plan.shape t.words calm after m None
       stays = low-goes w own (Invokes call) refl is none-asked
 
       count : length (begun begun-as) ≡ length (begun w) + 1
@@ -350,7 +349,7 @@ module _ (starts : StartsAreAtRest) (trees : KeptTreesFollow) (plan : Plan) (ful
           (subst (λ c. turn_of plan c w ≡ Answers reply) is-call (answers-turn call w reply known)) in
           asks-answers (sym asks.turn ∙ turn)
 
-      tree-stays : GoesOn plan.shape t calm after m None
+      tree-stays : TreeGoesOn plan.shape t.words calm after m None
       tree-stays = low-goes w own (Responds reply) refl is not-asked
 
       answering : AnswersCall plan s p t call w reply
@@ -365,7 +364,8 @@ module _ (starts : StartsAreAtRest) (trees : KeptTreesFollow) (plan : Plan) (ful
 
       module _ (status : Status) (f : Fits h.ghost schedule s calm p call w status)
           (has : HasStatus plan first schedule h.tale n p (length (begun w)) call status) where
-        on-answer : IsLedOn Ghost World Fits h.ghost schedule p s t calm after (λ g. IsAnswered plan words schedule h.tale p call w status reply)
+        on-answer : IsLedOn Ghost World Fits h.ghost schedule p s t calm after
+            (λ g. HasItsReply plan words schedule h.tale p call w status reply)
         on-answer = led.answers schedule h.tale p s t calm after h.ghost told h.world all-fit call w status reply answering f tree-stays
 
         abbrev HasAnswer : Call → Process → Reply → Type 0
@@ -386,7 +386,8 @@ module _ (starts : StartsAreAtRest) (trees : KeptTreesFollow) (plan : Plan) (ful
 
         answers-call : IsTold (schedule ++ p ∷ []) t
         answers-call =
-            told-more w own (Responds reply) is false None tree-stays (λ g. IsAnswered plan words schedule h.tale p call w status reply) on-answer
+            told-more w own (Responds reply) is false None tree-stays (λ g. HasItsReply plan words schedule h.tale p call w status reply)
+            on-answer
             (λ e. refl) (λ e. absurd (false≢true e))
             (λ other e. absurd (none-some other e)) its-answer
 

@@ -18,7 +18,8 @@ use Rattle.art_schedules.specs.calls.RunCalls.{IsIn, EndsAt}
 use Rattle.art_schedules.specs.calls.Effects.{IsInCallAt}
 use Rattle.art_schedules.proofs.calls.MomentLemmas.{stage-rises, stage-open, stage-idle}
 use Rattle.art_versions.specs.versions.Versions.{IsOpen}
-use Rattle.art_schedules.specs.stories.Stories.{Status, Before, Found, Changed, HasNotChanged, HasReply, Tale, IsInCall, IsOwn, HasKept, HasStatus, IsStory}
+use Rattle.art_schedules.specs.stories.Stories.{Status, Before, Found, Changed, HasNotChanged, HasReply, Tale, IsInCall, HasKept, HasStatus}
+use Rattle.art_schedules.specs.stories.Stories.{IsStory, IsOwnStep}
 use Rattle.art_schedules.specs.stories.Fitting.{Next, Stays, Forgets, FindsNow, FindsAt}
 
 -- The later tale is the same up to moment n, where this is told of step n and of the pairs behind it.
@@ -66,10 +67,12 @@ module _ (plan : Plan) (start : Contents) (first : State) (schedule : List ℕ) 
   turn-last : slice_get longer n ≡ Some p
   turn-last = slice_get-middle schedule p []
 
-  own-front : (u r calls : ℕ) (call : Call) → u < n → IsOwn plan first longer r calls call u → IsOwn plan first schedule r calls call u
+  own-front : (u r calls : ℕ) (call : Call) → u < n → IsOwnStep plan first longer r calls call u
+      → IsOwnStep plan first schedule r calls call u
   own-front u r calls call less own = (sym (turn-front u less) ∙ own.0, front-in u r calls call (omega arith) own.1)
 
-  own-back : (u r calls : ℕ) (call : Call) → u < n → IsOwn plan first schedule r calls call u → IsOwn plan first longer r calls call u
+  own-back : (u r calls : ℕ) (call : Call) → u < n → IsOwnStep plan first schedule r calls call u
+      → IsOwnStep plan first longer r calls call u
   own-back u r calls call less own = (turn-front u less ∙ own.0, back-in u r calls call (omega arith) own.1)
 
   module _ (s : State) (gives : Gives plan first schedule s) where
@@ -126,7 +129,7 @@ module _ (plan : Plan) (start : Contents) (first : State) (schedule : List ℕ) 
     }
 
     -- whoever makes step n as one of a call is p
-    its-turn : (r calls : ℕ) (call : Call) → IsOwn plan first longer r calls call n → r ≡ p
+    its-turn : (r calls : ℕ) (call : Call) → IsOwnStep plan first longer r calls call n → r ≡ p
     its-turn r calls call own = same_Some r p (sym own.0 ∙ turn-last)
 
     -- a step that is not the call's, or keeps the pairs, leaves its status
@@ -135,11 +138,11 @@ module _ (plan : Plan) (start : Contents) (first : State) (schedule : List ℕ) 
         → HasStatus plan first longer later (n + 1) r calls call status
     status-next r calls call status none h = go status (status-more n r calls call status (omega arith) h)
       where
-        last : (u : ℕ) → u < n + 1 → IsOwn plan first longer r calls call u → (u < n) ⊎ (later.changes u ≡ false)
+        last : (u : ℕ) → u < n + 1 → IsOwnStep plan first longer r calls call u → (u < n) ⊎ (later.changes u ≡ false)
         last u less own = ⊎_elim (λ l. inl l)
             (λ more.
             let e : u ≡ n = omega arith in
-            let is = its-turn r calls call (subst (IsOwn plan first longer r calls call) e own) in
+            let is = its-turn r calls call (subst (IsOwnStep plan first longer r calls call) e own) in
             inr (ap later.changes e ∙ (c.here ∙ none is)))
             (cases_lt u n)
 

@@ -15,12 +15,13 @@ use Rattle.points.specs.Points.{Leaves}
 use Rattle.art_core.specs.Core.{Plan, State, opened_on}
 use Rattle.art_core.specs.Runs.{Gives, At}
 use Rattle.art_schedules.specs.calls.RunCalls.{EndsWith, IsWithin, RunCall, IsRunCall}
-use Rattle.art_schedules.specs.calls.Effects.{IsStepOf, ChangesNothing, HasEffect, Changes, Finds, Pends}
+use Rattle.art_schedules.specs.calls.Effects.{IsStepOf, ChangesNothing, Changes, Finds, Pends, HasOwnEffect}
 use Rattle.art_schedules.specs.calls.Laws.{EffectsGiveOrders}
 use Rattle.art_core.specs.Plans.{IsRun}
 use Rattle.art_schedules.proofs.calls.FewLemmas.{effects-few}
 use Rattle.art_schedules.proofs.calls.MomentLemmas.{earlier-moment}
-use Rattle.art_schedules.specs.stories.Stories.{Status, Before, Found, Changed, HasReply, Tale, IsInCall, IsOwn, HasKept, HasChanged, HasStatus, IsStory}
+use Rattle.art_schedules.specs.stories.Stories.{Status, Before, Found, Changed, HasReply, Tale, IsInCall, HasKept, HasChanged, HasStatus}
+use Rattle.art_schedules.specs.stories.Stories.{IsStory, IsOwnStep}
 use Rattle.art_schedules.specs.stories.Laws.{StoriesGiveEffects, StoriesGiveOrders}
 
 module _ (plan : Plan) (start : Contents) (first s : State) (schedule : List ℕ) (tale : Tale) (gives : At plan first schedule (length schedule) s)
@@ -31,7 +32,7 @@ module _ (plan : Plan) (start : Contents) (first s : State) (schedule : List ℕ
       let (now, at) = earlier-moment plan first schedule (length schedule) u s le gives in
       record { now = now; at = at; is_in = is.during u now at within }
 
-  own-step : (u : ℕ) → IsStepOf schedule c u → IsOwn plan first schedule c.process c.calls a.call u
+  own-step : (u : ℕ) → IsStepOf schedule c u → IsOwnStep plan first schedule c.process c.calls a.call u
   own-step u own = (own.0, in-call u (omega (arith, slice_get_within schedule u c.process own.0)) own.1)
 
   is-within : (u : ℕ) → IsInCall plan first schedule u c.process c.calls a.call → IsWithin c u
@@ -44,7 +45,7 @@ module _ (plan : Plan) (start : Contents) (first s : State) (schedule : List ℕ
 
     changed : (reply : Reply) → HasChanged plan first schedule tale t c.process c.calls a.call reply
         → ((m next : Contents) → Does m a.call reply next → Leaves m a next)
-        → HasEffect schedule tale.pairs tale.changes a c
+        → HasOwnEffect schedule tale.pairs tale.changes a c
     changed reply h leaves = Changes (record {
       t = h.step;
       own = (h.own.0, is-within h.step h.own.1);
@@ -56,7 +57,7 @@ module _ (plan : Plan) (start : Contents) (first s : State) (schedule : List ℕ
     -- of an answered call
     answered : (response : Response) → a.response ≡ Some response → (status : Status)
         → HasStatus plan first schedule tale t c.process c.calls a.call status
-        → HasReply status response.reply → HasEffect schedule tale.pairs tale.changes a c
+        → HasReply status response.reply → HasOwnEffect schedule tale.pairs tale.changes a c
     answered response e Before h same = absurd same
     answered response e (Found reply) h same = Finds (record {
       t = h.moment;
@@ -72,16 +73,16 @@ module _ (plan : Plan) (start : Contents) (first s : State) (schedule : List ℕ
 
     -- of one that is pending
     pending : a.response ≡ None → (status : Status) → HasStatus plan first schedule tale t c.process c.calls a.call status
-        → HasEffect schedule tale.pairs tale.changes a c
+        → HasOwnEffect schedule tale.pairs tale.changes a c
     pending e Before h = Pends e (nothing h)
     pending e (Found reply) h = Pends e (nothing h.kept)
     pending e (Changed reply) h = changed reply h (λ m next does. rw e ((tt, does.1 ∙ after_reply-answer m a.call reply h.accepted)))
 
-  call-effect : HasEffect schedule tale.pairs tale.changes a c
+  call-effect : HasOwnEffect schedule tale.pairs tale.changes a c
   call-effect = go a.response refl c.ends refl is.ends
     where
       go : (response : Option Response) → a.response ≡ response → (ends : Option ℕ) → c.ends ≡ ends → EndsWith plan first schedule c a.call response ends
-          → HasEffect schedule tale.pairs tale.changes a c
+          → HasOwnEffect schedule tale.pairs tale.changes a c
       go None e None f ends =
           let until : IfSome c.ends (λ e. length schedule ≤ e) = subst (λ o. IfSome o (λ e. length schedule ≤ e)) (sym f) tt in
           let (status, h) = story.statuses (length schedule) c.process c.calls a.call (omega arith)

@@ -16,7 +16,8 @@ use Rattle.art_schedules.specs.changes.Laws.{EffectsFollow, KeptTreesFollow}
 use Rattle.art_schedules.specs.changes.Rows.{OneRow}
 use Rattle.art_schedules.proofs.changes.FollowLemmas.{low-words-keep}
 use Rattle.art_schedules.specs.stories.Stories.{Tale}
-use Rattle.art_schedules.specs.stories.Fitting.{IsToldStep, GoesOn}
+use Rattle.art_schedules.specs.stories.Fitting.{IsToldStep}
+use Rattle.art_schedules.specs.changes.Courses.{TreeGoesOn}
 
 -- so many claims of each kind were made at most
 abbrev pub all_claims : List ℕ → ℕ
@@ -33,7 +34,7 @@ module _ (plan : Plan) (full : IsFull plan.variant) (start : Contents) (words sc
   -- claims do not fall, in calm as in the words
   pub claims-rise : (k : Kind) → slice_index calm (claims_of k) ≤ slice_index after (claims_of k)
   claims-rise k =
-      let steady = (step-of-run plan.variant full plan start words schedule p s t told.before refl told.made).steady in
+      let steady = (step-of-run plan.variant full plan start words schedule p s t told.step.before refl told.step.made).steady in
       omega (arith, steady.claims k, told.calm_before.low (claims_of k) (claims-few k), told.calm_behind.low (claims_of k) (claims-few k))
 
   pub same-length : length after ≡ length calm
@@ -44,7 +45,8 @@ module _ (plan : Plan) (full : IsFull plan.variant) (start : Contents) (words sc
   rows-keep same = low-words-keep plan.shape told.claims calm after told.rests same-length told.calm_behind.small claims-rise same
 
   -- as where the rows of the tree say the same;
-  pub tree-kept : KeptTreesFollow → KeepsTree plan.shape calm after → GoesOn plan.shape t calm after (tale.pairs (length schedule)) None
+  pub tree-kept : KeptTreesFollow → KeepsTree plan.shape calm after
+      → TreeGoesOn plan.shape t.words calm after (tale.pairs (length schedule)) None
   tree-kept trees keeps = record {
     claims = all_claims after;
     follows = trees plan.shape told.claims (all_claims after) calm after (tale.pairs (length schedule)) told.rests told.means keeps (few-claims after);
@@ -54,7 +56,7 @@ module _ (plan : Plan) (full : IsFull plan.variant) (start : Contents) (words sc
   -- and where one row changes, it goes on by the effect of that.
   pub tree-changed : EffectsFollow → (effect : Effect) → OneRow plan.shape calm after (base_of_effect effect) (kind_of_effect effect)
       → HasEffect plan.shape calm after effect → ((b : ℕ) → IsGone effect b → is_obsolete (slice_index t.words b) ≡ true)
-      → GoesOn plan.shape t calm after (tale.pairs (length schedule)) (Some effect)
+      → TreeGoesOn plan.shape t.words calm after (tale.pairs (length schedule)) (Some effect)
   tree-changed effects effect row has gone = record {
     claims = all_claims after;
     follows = effects plan.shape told.claims (all_claims after) calm after (tale.pairs (length schedule)) effect told.rests told.means row

@@ -28,16 +28,18 @@ use Rattle.art_serial.proofs.words.KeyLemmas.{less, not_less}
 use Rattle.art_serial.proofs.words.TableLemmas.{row_ends}
 use Rattle.art_serial.specs.writes.Writes.{IsOutside}
 use Rattle.art_serial.proofs.writes.StoreLemmas.{stored-at, stored-other, stored-long}
+use Rattle.art_serial.specs.trees.Trees.{IsUnused}
 use Rattle.art_versions.specs.versions.Locking.{all_of}
 use Rattle.art_versions.specs.versions.Holding.{Each, IsKept, IsSlot, HasSlot, HangsIn, KnowsKey}
 use Rattle.art_versions.specs.versions.Laws.{IsFull}
 use Rattle.art_versions.proofs.versions.KeyLemmas.{slot-behind}
-use Rattle.art_schedules.specs.work.Solo.{IsUnused, Step, loads, stores, claims, Solo, here, further}
+use Rattle.art_schedules.specs.work.Solo.{Step, loads, stores, claims, Solo, here, further}
 use Rattle.art_schedules.specs.work.Works.{RowsOf, IsRelease, IsRefusal}
 use Rattle.art_schedules.proofs.work.SoloLemmas.{runs-behind, solos-keep}
 use Rattle.art_schedules.proofs.work.WorkLemmas.{IsPlain, behind-plain, is_release, Next, IsEnd}
 use Rattle.art_schedules.proofs.work.GoingLemmas.{IsBehind, Going, IsAlong, going-first, going-ends, along-on, at-end, behind-on}
 use Rattle.art_schedules.proofs.work.EndLemmas.{releases, behind-no, end-releases, at-release}
+use Rattle.art_schedules.proofs.work.CallLemmas.{key-same}
 
 pub step-claim : (c : Setting) {at next : CallAt} {words later : List ℕ} (kind : Kind) (mark : Option Point) → call_turn c at ≡ Asks (Add (claims_of kind)) mark
     → Step c at words next later → (number : ℕ) × (next ≡ call_after c at number) × (later ≡ words) × IsUnused c.shape words kind number
@@ -45,9 +47,6 @@ step-claim c kind mark asks (loads w m h) = absurd (load-add (sym h ∙ asks))
 step-claim c kind mark asks (stores w v m h) = absurd (store-add (sym h ∙ asks))
 step-claim c {words = words} kind mark asks (claims k n m h u) =
     (n, refl, refl, subst (λ k. IsUnused c.shape words k n) (claims-once k kind (add-word (sym h ∙ asks))) u)
-
-key-same : {a b : Stage} → OnKey a ≡ OnKey b → a ≡ b
-key-same e = cc
 
 true-false : true ≡ false → ⊥
 true-false e = cc

@@ -11,14 +11,14 @@ use Rattle.art_stages.specs.Calls.{OnKey}
 use Rattle.art_versions.specs.versions.Holding.{Knows}
 use Rattle.art_versions.specs.versions.Laws.{IsFull}
 use Rattle.art_schedules.specs.work.Solo.{Solo}
-use Rattle.art_schedules.specs.work.Works.{RowsOf, FitsWords, FindsUnused, IsRelease, IsDone, IsDoneBy}
+use Rattle.art_schedules.specs.work.Works.{RowsOf, FitsWords, FindsUnused, IsRelease, IsDoneBy, IsWorkDone}
 use Rattle.art_schedules.proofs.work.DoneLemmas.{write-done, write-comes, put-done, put-comes}
 use Rattle.art_schedules.proofs.work.PairDoneLemmas.{pair-done, pair-comes}
 use Rattle.art_schedules.proofs.work.GrowDoneLemmas.{grow-done, grow-comes}
 
 pub work-done : (c : Setting) (h : Hold) (work : Work) (w0 words : List ℕ) (at : Stage) → IsFull c.variant → is_scan c.call ≡ false → 1 ≤ c.shape.rows256
     → table_words c.shape ≤ length w0 → Knows (RowsOf c.shape) c (OnKey (work_at c h work)) → FitsWords c h work w0
-    → Solo c (OnKey (work_at c h work)) w0 (OnKey at) words → IsRelease h at → IsDone c h work w0 at words
+    → Solo c (OnKey (work_at c h work)) w0 (OnKey at) words → IsRelease h at → IsWorkDone c h work w0 at words
 work-done c h (work.Write slot word value) w0 words at full key some long k found solo r =
     (0, tt, write-done c full some key h slot word value w0 words at k solo r)
 work-done c h (work.Pair p) w0 words at full key some long k found solo r = pair-done c full some key h p w0 long k found words at solo r

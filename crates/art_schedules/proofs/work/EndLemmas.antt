@@ -30,6 +30,7 @@ use Rattle.art_versions.specs.versions.Laws.{IsFull}
 use Rattle.art_schedules.specs.work.Works.{RowsOf, IsRelease}
 use Rattle.art_schedules.proofs.work.WorkLemmas.{IsPlain, plain-or, not-plain, IsEnd, Next, is_release, at-work}
 use Rattle.art_schedules.proofs.work.GoingLemmas.{AreRows, unlocked-plain, IsBehind, Going, IsAlong}
+use Rattle.art_schedules.proofs.work.CallLemmas.{key-same}
 
 -- a part that comes to a reply is a call that runs alone to it
 pub comes-run : (m : Part Reply) (again : Rest) {words later : List ℕ} (r : Reply) → Comes m words r later → RunsAlone (m again ends) words later r
@@ -105,9 +106,6 @@ words-by s words target first long plain rest other = ext_get_or 0 words target 
   | inl p ↦ plain i p
   | inr n ↦ rest i (not-plain s i n) ∙ sym (other i (not-plain s i n))
 ])
-
-key-same : {a b : Stage} → OnKey a ≡ OnKey b → a ≡ b
-key-same e = cc
 
 true-false : true ≡ false → ⊥
 true-false e = cc

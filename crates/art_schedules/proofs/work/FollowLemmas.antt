@@ -18,12 +18,13 @@ use Rattle.art_core.specs.Accesses.{got_by, words_after}
 use Rattle.art_serial.proofs.alone.AloneLemmas.{load-same}
 use Rattle.art_serial.proofs.words.TableLemmas.{row_begins, kind_at-base_of}
 use Rattle.art_serial.proofs.writes.StoreLemmas.{stored-other, stored-long}
+use Rattle.art_serial.specs.trees.Trees.{IsUnused}
 use Rattle.art_versions.specs.versions.Holding.{Named, Knows, holds, fills}
 use Rattle.art_versions.specs.versions.Effects.{IsAmong, Does, Reads, Writes, Fills, Ends, Releases, Takes, Claims, Answered}
 use Rattle.art_versions.specs.versions.Laws.{IsFull}
 use Rattle.art_versions.proofs.versions.KnownLemmas.{held-is-kept}
 use Rattle.art_versions.proofs.versions.WithLemmas.{with-more}
-use Rattle.art_schedules.specs.work.Solo.{IsUnused, loads, stores, claims, Solo, further}
+use Rattle.art_schedules.specs.work.Solo.{loads, stores, claims, Solo, further}
 use Rattle.art_schedules.specs.work.Own.{IsHeldWord, IsFilledWord, TouchesOwn, LoadsHeld, StoresOwn, ClaimsRow, ReleasesHeld, Replies}
 use Rattle.art_schedules.specs.work.Works.{RowsOf}
 use Rattle.art_schedules.specs.work.Follow.{AgreesOn, CanFollow, Followed}

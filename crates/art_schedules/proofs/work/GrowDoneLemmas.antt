@@ -30,10 +30,11 @@ use Rattle.art_serial.proofs.writes.StoreLemmas.{stored-at, stored-other, stored
 use Rattle.art_serial.proofs.writes.PairLemmas.{byte_at-small}
 use Rattle.art_serial.proofs.writes.SameLemmas.{keys-same, count-same, slot-same, child-same, form-same}
 use Rattle.art_serial.proofs.writes.GrowWholeLemmas.{row_grown}
+use Rattle.art_serial.specs.trees.Trees.{IsUnused}
 use Rattle.art_versions.specs.versions.Holding.{KnowsKey}
 use Rattle.art_versions.specs.versions.Laws.{IsFull}
-use Rattle.art_schedules.specs.work.Solo.{IsUnused, Solo}
-use Rattle.art_schedules.specs.work.Works.{RowsOf, FitsWords, GrownHangs, IsRelease, IsDone, IsDoneBy}
+use Rattle.art_schedules.specs.work.Solo.{Solo}
+use Rattle.art_schedules.specs.work.Works.{RowsOf, FitsWords, GrownHangs, IsRelease, IsDoneBy, IsWorkDone}
 use Rattle.art_schedules.proofs.work.WorkLemmas.{IsPlain, behind-plain, plain-or, not-plain, Next, grow_info}
 use Rattle.art_schedules.proofs.work.GoingLemmas.{Going}
 use Rattle.art_schedules.proofs.work.EndLemmas.{comes-run, obsolete-end}
@@ -212,7 +213,7 @@ module _ (c : Setting) (full : IsFull c.variant) (some : 1 ≤ c.shape.rows256) 
       inr (did.0.room, did.2, hangs number did.0 at words did.1 plain)
 
   pub grow-done : (words : List ℕ) (at : Stage) → Solo c (OnKey (ClaimGrow h slot keys)) w0 (OnKey at) words → IsRelease h at
-      → IsDone c h (work.Grow slot keys) w0 at words
+      → IsWorkDone c h (work.Grow slot keys) w0 at words
   grow-done words at solo r =
       let end = claim-end c full some key h next true (ClaimGrow h slot keys) behind w0 refl (λ number. refl) begins refl at words solo r in
       (end.0, end.1, done-by end.0 at words end.2)

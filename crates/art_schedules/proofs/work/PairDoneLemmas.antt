@@ -28,10 +28,11 @@ use Rattle.art_serial.specs.writes.Writes.{HasSameFields, HasPair, IsOutside}
 use Rattle.art_serial.proofs.writes.StoreLemmas.{stored-at, stored-long}
 use Rattle.art_serial.proofs.writes.PairLemmas.{byte_at-small, pair_is_hung}
 use Rattle.art_serial.proofs.writes.SameLemmas.{child-same, form-same}
+use Rattle.art_serial.specs.trees.Trees.{IsUnused}
 use Rattle.art_versions.specs.versions.Holding.{KnowsKey}
 use Rattle.art_versions.specs.versions.Laws.{IsFull}
-use Rattle.art_schedules.specs.work.Solo.{IsUnused, Solo}
-use Rattle.art_schedules.specs.work.Works.{RowsOf, FitsWords, PairHangs, IsRelease, IsDone, IsDoneBy}
+use Rattle.art_schedules.specs.work.Solo.{Solo}
+use Rattle.art_schedules.specs.work.Works.{RowsOf, FitsWords, PairHangs, IsRelease, IsDoneBy, IsWorkDone}
 use Rattle.art_schedules.proofs.work.WorkLemmas.{IsPlain, behind-plain, plain-or, not-plain, Next, pairs}
 use Rattle.art_schedules.proofs.work.GoingLemmas.{Going}
 use Rattle.art_schedules.proofs.work.EndLemmas.{comes-run, finish-comes, none-outcome, unlock-end}
@@ -138,7 +139,8 @@ module _ (c : Setting) (full : IsFull c.variant) (some : 1 ≤ c.shape.rows256) 
       (run-of number did.0) in
       inr (did.0.room, end.1 ∙ ap (λ o. Unlock h (Some o)) (none-outcome end.0 end.2), hangs number did.0 at words did.1 end.3)
 
-  pub pair-done : (words : List ℕ) (at : Stage) → Solo c (OnKey (ClaimPair h p)) w0 (OnKey at) words → IsRelease h at → IsDone c h (work.Pair p) w0 at words
+  pub pair-done : (words : List ℕ) (at : Stage) → Solo c (OnKey (ClaimPair h p)) w0 (OnKey at) words → IsRelease h at
+      → IsWorkDone c h (work.Pair p) w0 at words
   pair-done words at solo r =
       let end = claim-end c full some key h Four false (ClaimPair h p) behind w0 refl (λ number. refl) begins refl at words solo r in
       (end.0, end.1, done-by end.0 at words end.2)

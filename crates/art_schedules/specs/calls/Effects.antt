@@ -32,10 +32,10 @@ pub record FindsPairs (schedule : List ℕ) (pairs : ℕ → Contents) (changes 
   pub nothing : ChangesNothing schedule changes c
 
 -- what a call does: it changes the pairs once, or finds them once, or has done neither yet
-pub data HasEffect (schedule : List ℕ) (pairs : ℕ → Contents) (changes : ℕ → Bool) (a : Operation) (c : RunCall) : Type 0 where
-  Changes : ChangesOnce schedule pairs changes a c → HasEffect schedule pairs changes a c
-  Finds : FindsPairs schedule pairs changes a c → HasEffect schedule pairs changes a c
-  Pends : a.response ≡ None → ChangesNothing schedule changes c → HasEffect schedule pairs changes a c
+pub data HasOwnEffect (schedule : List ℕ) (pairs : ℕ → Contents) (changes : ℕ → Bool) (a : Operation) (c : RunCall) : Type 0 where
+  Changes : ChangesOnce schedule pairs changes a c → HasOwnEffect schedule pairs changes a c
+  Finds : FindsPairs schedule pairs changes a c → HasOwnEffect schedule pairs changes a c
+  Pends : a.response ≡ None → ChangesNothing schedule changes c → HasOwnEffect schedule pairs changes a c
 
 -- a moment of the schedule at which process p is in a call
 abbrev pub IsInCallAt : Plan → State → List ℕ → ℕ → ℕ → Type 0
@@ -49,4 +49,4 @@ pub record HaveEffects (plan : Plan) (start : Contents) (first : State) (schedul
   pub begins : pairs 0 ≡ start
   pub stay : (t : ℕ) → t < length schedule → changes t ≡ false → pairs (t + 1) ≡ pairs t
   pub in_call : (t p : ℕ) → slice_get schedule t ≡ Some p → changes t ≡ true → IsInCallAt plan first schedule t p
-  pub each : (a : Operation) (c : RunCall) → IsRunCall plan first schedule a c → HasEffect schedule pairs changes a c
+  pub each : (a : Operation) (c : RunCall) → IsRunCall plan first schedule a c → HasOwnEffect schedule pairs changes a c

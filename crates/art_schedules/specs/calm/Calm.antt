@@ -1,10 +1,10 @@
 -- Calm: beside the words of a table, a list in which each row that is locked or obsolete has the words that it had before.
-use Rattle.std.specs.Prelude.{◌≡◌, ◌⊎◌, ℕ, zero, suc, ◌+◌, ◌^◌, ◌<◌, ◌≤◌, Bool, true, false, ◌||◌, ◌&&◌, nat_lt, if◌then◌else◌, List, [], ◌∷◌, length, map}
+use Rattle.std.specs.Prelude.{◌≡◌, ◌⊎◌, ℕ, zero, suc, ◌+◌, ◌^◌, ◌<◌, Bool, true, false, ◌||◌, ◌&&◌, nat_lt, if◌then◌else◌, List, [], ◌∷◌, length, map}
 use Rattle.std.specs.Prelude.{slice_index, All, Option, Some, None}
 use Rattle.events.specs.declared.event.Call.{Call}
 use Rattle.art_rows.specs.declared.table.Shape.{Shape}
 use Rattle.art_rows.specs.declared.table.Kind.{Kind}
-use Rattle.art_rows.specs.Table.{row_words, rows_of, table_words, claims_of, base_of, kind_at}
+use Rattle.art_rows.specs.Table.{row_words, table_words, kind_at}
 use Rattle.art_rows.specs.Words.{is_locked, is_obsolete}
 use Rattle.art_steps.specs.declared.variant.Variant.{Variant}
 use Rattle.art_steps.specs.declared.variant.Variant.TheVariants.{Optimistic}
@@ -13,9 +13,10 @@ use Rattle.art_stages.specs.declared.stage.Held.{Held}
 use Rattle.art_core.specs.declared.process.Process.{Process}
 use Rattle.art_core.specs.Core.{Plan, State, opened_on, step}
 use Rattle.art_core.specs.Meaning.{Reached, AllUnlocked}
+use Rattle.art_serial.specs.trees.Trees.{AreZeroPastClaims}
 use Rattle.art_versions.specs.versions.Effects.{IsGoodAt, IsAmong}
 use Rattle.art_versions.specs.versions.Versions.{IsOpen, held_by, filled_by, IsSettled}
-use Rattle.art_versions.specs.versions.Steady.{SameRow}
+use Rattle.art_versions.specs.versions.Steady.{SameWords}
 
 -- A row is busy where its version is locked or obsolete.
 abbrev pub is_busy : ℕ → Bool
@@ -61,10 +62,11 @@ pub record IsCalm (variant : Variant) (shape : Shape) (first : List ℕ) (s : St
   pub small : All (λ w. w < 2 ^ 64) calm
   -- the clock, the claims and the rows that are not busy are as in the words
   pub low : (word : ℕ) → word < 5 → slice_index calm word ≡ slice_index s.words word
-  pub free : (base : ℕ) (kind : Kind) → kind_at shape base ≡ Some kind → is_busy (slice_index s.words base) ≡ false → SameRow s.words calm base kind
+  pub free : (base : ℕ) (kind : Kind) → kind_at shape base ≡ Some kind → is_busy (slice_index s.words base) ≡ false
+      → SameWords s.words calm base kind
   -- and so is a row that a process fills
   pub filled : (p : ℕ) (call : Call) (q : Process) → IsOpen s p call q → (base : ℕ) (kind : Kind)
-      → filled_by variant shape call q ≡ (base, kind) ∷ [] → SameRow s.words calm base kind
+      → filled_by variant shape call q ≡ (base, kind) ∷ [] → SameWords s.words calm base kind
   -- no row is locked
   pub unlocked : AllUnlocked shape calm
   -- a row is obsolete only if it was so at first
@@ -76,8 +78,7 @@ pub record IsCalm (variant : Variant) (shape : Shape) (first : List ℕ) (s : St
   -- a busy row was claimed, and nobody fills it
   pub settled : (base : ℕ) (kind : Kind) → kind_at shape base ≡ Some kind → is_busy (slice_index s.words base) ≡ true → IsSettled variant shape s base kind
   -- a row that was not claimed has only zeros
-  pub fresh : (kind : Kind) (number word : ℕ) → slice_index calm (claims_of kind) ≤ number → number < rows_of shape kind → base_of shape kind number ≤ word
-      → word < base_of shape kind number + row_words kind → slice_index calm word ≡ 0
+  pub fresh : AreZeroPastClaims shape calm
   -- a row that a child word names was claimed, and nobody fills it; so each row that is reached from the root
   pub children : (word : ℕ) → IsGoodAt (IsSettled variant shape s) shape word (slice_index calm word)
   pub reached : (base : ℕ) (kind : Kind) → Reached shape calm base kind → IsSettled variant shape s base kind

@@ -1,9 +1,10 @@
 -- What a step of a full tree changes: in the words of rows, and in calm.
-use Rattle.std.specs.Prelude.{◌≡◌, ◌≢◌, ◌⊎◌, ℕ, ◌+◌, ◌<◌, ◌≤◌, true, false, List, [], ◌∷◌, slice_index, Option, Some}
+use Rattle.std.specs.Prelude.{◌≡◌, ◌≢◌, ◌⊎◌, ℕ, ◌+◌, ◌≤◌, true, false, List, [], ◌∷◌, slice_index, Option, Some, ◌++◌}
 use Rattle.events.specs.declared.event.Call.{Call}
+use Rattle.map_object.specs.MapObject.{Contents}
 use Rattle.art_rows.specs.declared.table.Shape.{Shape}
 use Rattle.art_rows.specs.declared.table.Kind.{Kind}
-use Rattle.art_rows.specs.Table.{row_words, kind_at}
+use Rattle.art_rows.specs.Table.{kind_at}
 use Rattle.art_rows.specs.Words.{is_obsolete, locked_word, released_word, obsolete_word}
 use Rattle.art_steps.specs.declared.variant.Variant.{Variant}
 use Rattle.art_steps.specs.declared.access.Access.{Access}
@@ -15,12 +16,22 @@ use Rattle.art_stages.specs.declared.stage.Held.{Held}
 use Rattle.art_stages.specs.Calls.{call_turn}
 use Rattle.art_stages.specs.Stages.{setting}
 use Rattle.art_core.specs.declared.process.Process.{Process}
-use Rattle.art_core.specs.Core.{State}
+use Rattle.art_core.specs.Core.{State, Plan, step}
+use Rattle.art_core.specs.Plans.{IsRun}
+use Rattle.art_serial.specs.writes.Writes.{IsOutside}
 use Rattle.art_versions.specs.versions.Holding.{IsKept}
 use Rattle.art_versions.specs.versions.Effects.{IsAmong, IsWith, IsBehindVersion}
 use Rattle.art_versions.specs.versions.Versions.{IsOpen, IsHeld, stage_of, held_by, filled_by, IsSettled}
-use Rattle.art_versions.specs.versions.Steady.{SameRow}
+use Rattle.art_versions.specs.versions.Steady.{SameWords}
+use Rattle.art_versions.specs.versions.Laws.{IsFull}
 use Rattle.art_schedules.specs.calm.Calm.{is_busy}
+
+-- process p steps from s to t, at the end of a run of a full tree
+pub record IsRunStep (plan : Plan) (start : Contents) (words schedule : List ℕ) (p : ℕ) (s t : State) : Type 0 where
+  pub full : IsFull plan.variant
+  pub before : IsRun plan start words schedule s
+  pub behind : IsRun plan start words (schedule ++ p ∷ []) t
+  pub made : step plan s p ≡ Some t
 
 -- no other word changes
 abbrev pub ChangesOnly : State → State → ℕ → Type 0
@@ -59,10 +70,6 @@ pub data RowChange (variant : Variant) (shape : Shape) (s : State) (p : ℕ) (la
       → IsKept (locks variant) (IsSettled variant shape s) h → (value ≡ released_word h.kept) ⊎ (value ≡ obsolete_word h.kept)
       → slice_index later.words h.base ≡ value → ChangesOnly s later h.base → RowChange variant shape s p later
 
--- the word is of no row between these
-abbrev pub IsOutside : ℕ → Kind → ℕ → Type 0
-IsOutside base kind word = (word < base) ⊎ (base + row_words kind ≤ word)
-
 -- How calm changes in a step of process p: by no word of a row, by a word of the row that p fills, or by the words of one row, which p held and released,
 -- not as obsolete.
 pub data CalmChange (variant : Variant) (shape : Shape) (s : State) (p : ℕ) (later : State) (calm after : List ℕ) : Type 0 where
@@ -72,7 +79,7 @@ pub data CalmChange (variant : Variant) (shape : Shape) (s : State) (p : ℕ) (l
       → ((other : ℕ) → 5 ≤ other → other ≢ word → slice_index after other ≡ slice_index calm other) → CalmChange variant shape s p later calm after
   CalmReleased : (h : Held) → (asks : AsksFor variant shape s p (Store h.base (released_word h.kept))) → (rest : List Held)
       → IsWith h rest (held_by variant shape asks.call asks.process) → HoldsThen variant shape later p asks.call rest
-      → IsKept (locks variant) (IsSettled variant shape s) h → is_obsolete h.kept ≡ false → SameRow later.words after h.base h.kind
+      → IsKept (locks variant) (IsSettled variant shape s) h → is_obsolete h.kept ≡ false → SameWords later.words after h.base h.kind
       → ((other : ℕ) → 5 ≤ other → IsOutside h.base h.kind other → slice_index after other ≡ slice_index calm other)
       → CalmChange variant shape s p later calm after
 
@@ -81,8 +88,9 @@ pub record CalmStep (variant : Variant) (shape : Shape) (s : State) (p : ℕ) (l
   pub rows : RowChange variant shape s p later
   pub change : CalmChange variant shape s p later calm after
   -- a row that is busy behind the step has the same words in calm: one that is held, or obsolete, then
-  pub busy : (base : ℕ) (kind : Kind) → kind_at shape base ≡ Some kind → is_busy (slice_index later.words base) ≡ true → SameRow calm after base kind
-  pub held : (base : ℕ) (kind : Kind) → kind_at shape base ≡ Some kind → IsHeld variant shape later base → SameRow calm after base kind
+  pub busy : (base : ℕ) (kind : Kind) → kind_at shape base ≡ Some kind → is_busy (slice_index later.words base) ≡ true
+      → SameWords calm after base kind
+  pub held : (base : ℕ) (kind : Kind) → kind_at shape base ≡ Some kind → IsHeld variant shape later base → SameWords calm after base kind
   -- an obsolete row stays obsolete
   pub obsolete : (base : ℕ) (kind : Kind) → kind_at shape base ≡ Some kind → is_obsolete (slice_index s.words base) ≡ true
       → is_obsolete (slice_index later.words base) ≡ true

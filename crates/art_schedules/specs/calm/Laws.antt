@@ -7,7 +7,7 @@ use Rattle.art_core.specs.Core.{Plan, State, opened_on}
 use Rattle.art_core.specs.Runs.{Gives}
 use Rattle.art_core.specs.Plans.{IsRun}
 use Rattle.art_versions.specs.versions.Laws.{IsFull}
-use Rattle.art_versions.specs.versions.Steady.{SameRow}
+use Rattle.art_versions.specs.versions.Steady.{SameWords}
 use Rattle.art_schedules.specs.calm.Calm.{is_busy, calm_after, calm_of, IsCalm}
 use Rattle.art_schedules.specs.calm.Changes.{CalmStep}
 
@@ -39,7 +39,7 @@ pub record IsOfMoment (plan : Plan) (words schedule calm : List ℕ) (base : ℕ
   pub state : State
   pub gives : Gives plan (opened_on plan words) earlier state
   pub free : (is_busy (slice_index state.words base) ≡ false) ⊎ (earlier ≡ [])
-  pub same : SameRow state.words calm base kind
+  pub same : SameWords state.words calm base kind
 
 -- Each row of calm has the words of one moment.
 abbrev pub CalmRowsAreOfMoments : Type 0

@@ -7,8 +7,7 @@ use Rattle.art_rows.specs.declared.table.Kind.TheVariants.{Four}
 use Rattle.art_rows.specs.declared.table.Child.TheVariants.{Empty, Row, Leaf}
 use Rattle.art_rows.specs.Words.{key_bytes}
 use Rattle.art_core.specs.Meaning.{Reached, child_on}
-use Rattle.art_serial.specs.trees.Trees.{SameRow, LeadsTo, IsFree, IsPair, Parts, IsGrown}
-use Rattle.art_versions.specs.versions.Versions.{IsClaimed}
+use Rattle.art_serial.specs.trees.Trees.{SameRow, LeadsTo, IsFree, IsPair, Parts, IsGrown, IsClaimed}
 use Rattle.art_schedules.specs.changes.Rows.{HasNewChild, IsFilled}
 
 -- The row that changes is (base, kind) in each; x is the byte of it that has another child.
@@ -59,13 +58,13 @@ IsGone (HangsPair base kind x key value fresh d a) b = ⊥
 IsGone (HangsGrown base kind x key value full full_kind y fresh larger) b = b ≡ full
 
 -- the row comes into the tree by it
-abbrev pub IsFresh : Effect → ℕ → Kind → Type 0
-IsFresh (Keeps base kind) b k = ⊥
-IsFresh (Fills base kind) b k = ⊥
-IsFresh (PutsLeaf base kind x key value) b k = ⊥
-IsFresh (RemovesLeaf base kind x key) b k = ⊥
-IsFresh (HangsPair base kind x key value fresh d a) b k = (b ≡ fresh) × (k ≡ Four)
-IsFresh (HangsGrown base kind x key value full full_kind y fresh larger) b k = (b ≡ fresh) × (k ≡ larger)
+abbrev pub ComesIn : Effect → ℕ → Kind → Type 0
+ComesIn (Keeps base kind) b k = ⊥
+ComesIn (Fills base kind) b k = ⊥
+ComesIn (PutsLeaf base kind x key value) b k = ⊥
+ComesIn (RemovesLeaf base kind x key) b k = ⊥
+ComesIn (HangsPair base kind x key value fresh d a) b k = (b ≡ fresh) × (k ≡ Four)
+ComesIn (HangsGrown base kind x key value full full_kind y fresh larger) b k = (b ≡ fresh) × (k ≡ larger)
 
 -- The key's leaf is put on its byte, which was empty or had the key's leaf.
 pub record IsPutOn (s : Shape) (calm later : List ℕ) (base : ℕ) (kind : Kind) (x key value : ℕ) : Type 0 where

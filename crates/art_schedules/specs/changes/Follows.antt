@@ -1,13 +1,13 @@
 -- What a change leaves of a calm tree.
-use Rattle.std.specs.Prelude.{◌≡◌, ◌⊎◌, ◌↔◌, ℕ, ◌+◌, ◌<◌, ◌≤◌, ◌^◌, false, List, length, slice_index, All}
+use Rattle.std.specs.Prelude.{◌≡◌, ◌⊎◌, ◌↔◌, ℕ, ◌<◌, ◌≤◌, ◌^◌, false, List, length, slice_index, All}
 use Rattle.map_object.specs.MapObject.{Contents}
 use Rattle.art_rows.specs.declared.table.Shape.{Shape}
 use Rattle.art_rows.specs.declared.table.Kind.{Kind}
-use Rattle.art_rows.specs.Table.{row_words, rows_of, claims_of, base_of, info_at}
+use Rattle.art_rows.specs.Table.{claims_of, info_at}
 use Rattle.art_rows.specs.Words.{is_obsolete}
 use Rattle.art_core.specs.Meaning.{Reached, Means, AllUnlocked}
 use Rattle.art_core.specs.Forms.{level_in, path_in}
-use Rattle.art_serial.specs.trees.Trees.{IsAtRest, SameTree, LeadsTo}
+use Rattle.art_serial.specs.trees.Trees.{IsAtRest, SameTree, LeadsTo, AreZeroPastClaims}
 
 -- at most so many claims of each kind were made
 abbrev pub HasFewClaims : ℕ → List ℕ → Type 0
@@ -25,13 +25,6 @@ pub record Follows (s : Shape) (n : ℕ) (calm later : List ℕ) (pairs : Conten
   pub ways : (key b : ℕ) (k : Kind) (x : ℕ) → LeadsTo s calm key b k x → (gone b → ⊥) → LeadsTo s later key b k x
   pub ways_before : (key b : ℕ) (k : Kind) (x : ℕ) → LeadsTo s later key b k x → LeadsTo s calm key b k x ⊎ fresh b k
 
--- no row
-abbrev pub NoBase : ℕ → Type 0
-NoBase b = ⊥
-
-abbrev pub NoRow : ℕ → Kind → Type 0
-NoRow b k = ⊥
-
 -- The later words say the same of each row of the calm tree, but for its version: other rows, the clock and the counts of claims may have changed.
 -- No row is locked, none of the tree is obsolete, claims have not fallen, and a row that was not claimed has only zeros.
 pub record KeepsTree (s : Shape) (calm later : List ℕ) : Type 0 where
@@ -41,5 +34,4 @@ pub record KeepsTree (s : Shape) (calm later : List ℕ) : Type 0 where
   pub same : SameTree s calm later
   pub unlocked : AllUnlocked s later
   pub live : (base : ℕ) (kind : Kind) → Reached s calm base kind → is_obsolete (slice_index later base) ≡ false
-  pub fresh : (kind : Kind) (number word : ℕ) → slice_index later (claims_of kind) ≤ number → number < rows_of s kind → base_of s kind number ≤ word
-      → word < base_of s kind number + row_words kind → slice_index later word ≡ 0
+  pub fresh : AreZeroPastClaims s later

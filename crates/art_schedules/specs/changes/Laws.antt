@@ -11,20 +11,21 @@ use Rattle.art_core.specs.Forms.{IsTree, level_in, path_in}
 use Rattle.art_serial.specs.trees.Trees.{IsAtRest, SameRow, LeadsTo}
 use Rattle.art_serial.specs.trees.Children.{IsWritable}
 use Rattle.art_schedules.specs.changes.Rows.{OneRow, SameOutside, HasNewChild}
-use Rattle.art_schedules.specs.changes.Effects.{Effect, base_of_effect, kind_of_effect, pairs_after, IsGone, IsFresh, HasEffect}
-use Rattle.art_schedules.specs.changes.Follows.{HasFewClaims, Follows, NoBase, NoRow, KeepsTree}
+use Rattle.art_schedules.specs.changes.Effects.{Effect, base_of_effect, kind_of_effect, pairs_after, IsGone, HasEffect, ComesIn}
+use Rattle.art_schedules.specs.changes.Follows.{HasFewClaims, Follows, KeepsTree}
 use Rattle.art_schedules.specs.changes.Sayings.{IsSaidBy, SaysTheSame}
+use Rattle.art_schedules.specs.changes.Courses.{IsGoneBy, ComesInBy}
 
 -- A change of one row that has an effect leaves a tree at rest, which means the map after the effect.
 abbrev pub EffectsFollow : Type 0
 EffectsFollow = (s : Shape) (n claims : ℕ) (calm later : List ℕ) (m : Contents) (effect : Effect) → IsAtRest s n calm → Means s calm m
     → OneRow s calm later (base_of_effect effect) (kind_of_effect effect) → HasFewClaims claims later → HasEffect s calm later effect
-    → Follows s claims calm later (pairs_after effect m) (IsGone effect) (IsFresh effect)
+    → Follows s claims calm later (pairs_after effect m) (IsGone effect) (ComesIn effect)
 
 -- Where the rows of the tree say the same, the tree is the same, whatever the other words are.
 abbrev pub KeptTreesFollow : Type 0
 KeptTreesFollow = (s : Shape) (n claims : ℕ) (calm later : List ℕ) (m : Contents) → IsAtRest s n calm → Means s calm m → KeepsTree s calm later
-    → HasFewClaims claims later → Follows s claims calm later m NoBase NoRow
+    → HasFewClaims claims later → Follows s claims calm later m (IsGoneBy None) (ComesInBy None)
 
 -- Where only the clock and counts of claims have changed, the rows of the tree say the same.
 abbrev pub LowWordsKeep : Type 0

@@ -8,7 +8,7 @@ use Rattle.art_rows.specs.Words.{is_locked, is_obsolete}
 use Rattle.art_core.specs.Meaning.{child_on}
 use Rattle.art_core.specs.Forms.{HasForm}
 use Rattle.art_serial.specs.writes.Writes.{IsOutside}
-use Rattle.art_versions.specs.versions.Versions.{IsClaimed}
+use Rattle.art_serial.specs.trees.Trees.{IsClaimed}
 
 -- Each word of each other row is the same, claims may have risen, and the row is neither locked nor obsolete. Of the clock nothing is said.
 pub record OneRow (s : Shape) (calm later : List ℕ) (base : ℕ) (kind : Kind) : Type 0 where

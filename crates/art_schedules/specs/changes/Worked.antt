@@ -11,18 +11,19 @@ use Rattle.art_serial.specs.trees.Trees.{IsAtRest, SameRow, LeadsTo, IsFree, Par
 use Rattle.art_serial.specs.writes.Writes.{HasPut}
 use Rattle.art_schedules.specs.changes.Rows.{OneRow, IsFilled}
 use Rattle.art_schedules.specs.changes.Effects.{PutsLeaf, RemovesLeaf, HangsPair, HangsGrown, HasEffect}
-use Rattle.art_schedules.specs.changes.Written.{IsUnreached, HasSlot, IsPairRow, IsCopy}
+use Rattle.art_schedules.specs.changes.Written.{IsUnreached, IsPairRow, IsCopy, HasWordAt}
 
 -- A leaf stored in its slot, over nothing or over the key's leaf, is put;
 abbrev pub StoredLeavesArePut : Type 0
 StoredLeavesArePut = (s : Shape) (n : ℕ) (calm later : List ℕ) (base : ℕ) (kind : Kind) (x slot key value : ℕ) → IsAtRest s n calm
     → OneRow s calm later base kind → LeadsTo s calm key base kind x → IsFree s calm key base kind x → key < 2 ^ 32 → value < 2 ^ 30
-    → HasSlot calm later base kind x slot (leaf_word key value) → HasEffect s calm later (PutsLeaf base kind x key value)
+    → HasWordAt calm later base kind x slot (leaf_word key value) → HasEffect s calm later (PutsLeaf base kind x key value)
 
 -- 0 stored there removes it.
 abbrev pub StoredZerosRemove : Type 0
 StoredZerosRemove = (s : Shape) (n : ℕ) (calm later : List ℕ) (base : ℕ) (kind : Kind) (x slot key : ℕ) → IsAtRest s n calm
-    → OneRow s calm later base kind → LeadsTo s calm key base kind x → IsFree s calm key base kind x → HasSlot calm later base kind x slot 0
+    → OneRow s calm later base kind → LeadsTo s calm key base kind x → IsFree s calm key base kind x
+    → HasWordAt calm later base kind x slot 0
     → HasEffect s calm later (RemovesLeaf base kind x key)
 
 -- A leaf that was put beside the other children is put.
@@ -35,7 +36,7 @@ WrittenLeavesArePut = (s : Shape) (calm later words written : List ℕ) (base : 
 abbrev pub WrittenPairsAreHung : Type 0
 WrittenPairsAreHung = (s : Shape) (n : ℕ) (calm later written : List ℕ) (base : ℕ) (kind : Kind) (x slot key value fresh d a : ℕ) → IsAtRest s n calm
     → OneRow s calm later base kind → LeadsTo s calm key base kind x → Parts calm key d a (child_on s calm base kind x)
-    → HasSlot calm later base kind x slot (row_word fresh)
+    → HasWordAt calm later base kind x slot (row_word fresh)
     → IsPairRow s written fresh d (take d (key_bytes key)) (record { byte = a; child = child_on s calm base kind x })
     (record { byte = slice_index (key_bytes key) d; child = Leaf key value })
     → SameRow written calm fresh Four → IsUnreached s calm fresh → IsFilled s calm later fresh Four
@@ -46,7 +47,7 @@ abbrev pub WrittenRowsAreHung : Type 0
 WrittenRowsAreHung = (s : Shape) (n : ℕ) (calm later words written : List ℕ) (base : ℕ) (kind : Kind) (x slot key value full : ℕ) (full_kind : Kind)
     (y fresh : ℕ) (larger : Kind) → IsAtRest s n calm → OneRow s calm later base kind → LeadsTo s calm key base kind x
     → child_on s calm base kind x ≡ Row full full_kind → LeadsTo s calm key full full_kind y → child_on s calm full full_kind y ≡ Empty
-    → HasSlot calm later base kind x slot (row_word fresh)
+    → HasWordAt calm later base kind x slot (row_word fresh)
     → IsCopy s words written full full_kind fresh larger (info_word larger (level_in calm full full_kind) (path_in calm full full_kind)) y (Leaf key value)
     → SameRow words calm full full_kind → SameRow written calm fresh larger → IsUnreached s calm fresh → IsFilled s calm later fresh larger
     → HasEffect s calm later (HangsGrown base kind x key value full full_kind y fresh larger)

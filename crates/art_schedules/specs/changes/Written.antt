@@ -11,9 +11,8 @@ use Rattle.art_rows.specs.Words.{key_bytes, info_word, row_word}
 use Rattle.art_steps.specs.Updates.{Under}
 use Rattle.art_core.specs.Meaning.{Reached, slot_of, child_on}
 use Rattle.art_core.specs.Forms.{HasForm, level_in, path_in}
-use Rattle.art_serial.specs.trees.Trees.{IsAtRest, SameRow, IsPair, IsGrown}
+use Rattle.art_serial.specs.trees.Trees.{IsAtRest, SameRow, IsPair, IsGrown, IsClaimed}
 use Rattle.art_serial.specs.writes.Writes.{HasPut, IsOutside, HasPair, HasFresh}
-use Rattle.art_versions.specs.versions.Versions.{IsClaimed}
 use Rattle.art_schedules.specs.changes.Rows.{HasNewChild}
 
 -- no row of the tree begins there
@@ -23,7 +22,7 @@ IsUnreached s calm row = (k : Kind) → Reached s calm row k → ⊥
 -- ---- a child in a row that is held
 
 -- Of the row's words behind the version only the slot of the byte has changed: it is this word.
-pub record HasSlot (calm later : List ℕ) (base : ℕ) (kind : Kind) (x slot word : ℕ) : Type 0 where
+pub record HasWordAt (calm later : List ℕ) (base : ℕ) (kind : Kind) (x slot word : ℕ) : Type 0 where
   pub at : slot_of calm base kind x ≡ Some slot
   pub others : (j : ℕ) → 1 ≤ j → j < row_words kind → base + j ≢ slot → slice_index later (base + j) ≡ slice_index calm (base + j)
   pub here : slice_index later slot ≡ word
@@ -36,13 +35,14 @@ pub record IsHungIn (words written : List ℕ) (fresh : ℕ) (kind : Kind) (slot
 -- A word that was stored in the slot is the slot's,
 abbrev pub StoresAreSlots : Type 0
 StoresAreSlots = (words calm later : List ℕ) (base : ℕ) (kind : Kind) (x slot word : ℕ) → x < 256 → slot_of calm base kind x ≡ Some slot → slot < length words
-    → SameRow words calm base kind → SameRow (slice_set words slot word) later base kind → HasSlot calm later base kind x slot word
+    → SameRow words calm base kind → SameRow (slice_set words slot word) later base kind → HasWordAt calm later base kind x slot word
 
 -- and so is the word of a row that was hung there.
 abbrev pub HungRowsAreSlots : Type 0
 HungRowsAreSlots = (s : Shape) (n : ℕ) (words written calm later : List ℕ) (base : ℕ) (kind : Kind) (x slot fresh : ℕ) (larger : Kind) → IsAtRest s n calm
     → Reached s calm base kind → x < 256 → slot_of calm base kind x ≡ Some slot → IsHungIn words written fresh larger slot → SameRow words calm base kind
-    → SameRow written later base kind → IsClaimed s later fresh larger → IsUnreached s calm fresh → HasSlot calm later base kind x slot (row_word fresh)
+    → SameRow written later base kind → IsClaimed s later fresh larger → IsUnreached s calm fresh
+    → HasWordAt calm later base kind x slot (row_word fresh)
 
 -- A row that has a new child has it in all words that say the same of the row.
 abbrev pub ChildrenAreOfRows : Type 0

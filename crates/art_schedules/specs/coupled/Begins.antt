@@ -1,35 +1,19 @@
 -- What is so of a calm table, and of the map that it means, when the work of a call begins. Work is the same in both full trees.
-use Rattle.std.specs.Prelude.{◌≡◌, ◌⊎◌, ℕ, List, slice_index, Option, Some, None, false}
+use Rattle.std.specs.Prelude.{◌≡◌, ◌⊎◌, ℕ, List, Option, Some, None, false}
 use Rattle.events.specs.declared.event.Call.{Call}
 use Rattle.map_object.specs.MapObject.{Contents, value_at}
 use Rattle.art_rows.specs.declared.table.Child.{Child}
 use Rattle.art_rows.specs.declared.table.Child.TheVariants.{Empty, Row as ChildRow, Leaf}
-use Rattle.art_rows.specs.Table.{info_at}
-use Rattle.art_rows.specs.Words.{child_of, child_word}
+use Rattle.art_rows.specs.Words.{child_word}
 use Rattle.art_steps.specs.Rows.{Setting, key_of, is_insert}
 use Rattle.art_steps.specs.Updates.{new_leaf, overwriting}
 use Rattle.art_stages.specs.declared.stage.Held.{Held}
 use Rattle.art_stages.specs.declared.stage.Hold.{Hold}
 use Rattle.art_stages.specs.declared.stage.Work.{Work}
 use Rattle.art_stages.specs.declared.stage.Work.TheVariants as work
-use Rattle.art_stages.specs.Stages.{byte_in}
-use Rattle.art_core.specs.Meaning.{slot_of}
-use Rattle.art_serial.specs.trees.Trees.{LeadsTo, Parts}
+use Rattle.art_serial.specs.trees.Trees.{Parts}
 use Rattle.art_schedules.specs.work.Works.{IsInsert, FitsWords}
-
--- The key's way leads to the row, whose info the call has read, so that level, path and byte are those of the calm table.
-pub record IsOnWay (c : Setting) (calm : List ℕ) (n : Held) : Type 0 where
-  pub leads : LeadsTo c.shape calm (key_of c.call) n.base n.kind (byte_in c n)
-  pub info : slice_index calm (info_at n.base) ≡ n.info
-
--- The row has the slot for the key's byte, and in it this child.
-pub record HasChild (c : Setting) (calm : List ℕ) (n : Held) (slot : ℕ) (child : Child) : Type 0 where
-  pub at : slot_of calm n.base n.kind (byte_in c n) ≡ Some slot
-  pub has : child_of c.shape (slice_index calm slot) ≡ child
-
--- The key's way leads to the row, on whose byte of the key this child hangs, in this slot.
-abbrev pub Hangs : Setting → List ℕ → Held → ℕ → Child → Type 0
-Hangs c calm n slot child = IsOnWay c calm n × HasChild c calm n slot child
+use Rattle.art_schedules.specs.work.Ways.{IsOnWay, Hangs}
 
 -- the word that is written over such a child, and the value that the key had: an insert writes its leaf, another call what overwrites the key's leaf
 abbrev pub Overwrites : Call → ℕ → Option ℕ → Child → Type 0

@@ -1,5 +1,5 @@
 -- Rows that a call holds under lock coupling: those of the calm tree alone, and none that was obsolete when it was taken.
-use Rattle.std.specs.Prelude.{◌≡◌, ◌≢◌, ℕ, List, [], ◌∷◌, ◌++◌, false, true, slice_index, Option, None}
+use Rattle.std.specs.Prelude.{◌≡◌, ◌≢◌, ℕ, List, [], ◌∷◌, ◌++◌, false, slice_index, Option, None}
 use Rattle.events.specs.declared.event.Call.{Call}
 use Rattle.events.specs.declared.event.Reply.{Reply}
 use Rattle.map_object.specs.MapObject.{Contents}
@@ -13,18 +13,18 @@ use Rattle.art_stages.specs.declared.stage.Held.{Held}
 use Rattle.art_stages.specs.declared.stage.Stage.{Stage}
 use Rattle.art_stages.specs.Stages.{setting}
 use Rattle.art_stages.specs.Automaton.{turn_at}
+use Rattle.art_stages.specs.Calls.{OnKey}
 use Rattle.art_core.specs.declared.process.Process.{Process}
 use Rattle.art_core.specs.Core.{Plan, State}
 use Rattle.art_core.specs.Meaning.{Reached}
 use Rattle.art_versions.specs.versions.Effects.{IsAmong}
-use Rattle.art_versions.specs.versions.Versions.{IsOpen, held_by}
+use Rattle.art_versions.specs.versions.Versions.{IsOpen, held_by, IsAtStage}
 use Rattle.art_schedules.specs.calm.Calm.{calm_of}
 use Rattle.art_schedules.specs.calm.Changes.{AsksFor}
 use Rattle.art_schedules.specs.changes.Effects.{Effect}
-use Rattle.art_schedules.specs.changes.Courses.{IsGoneBy, IsFreshBy}
-use Rattle.art_schedules.specs.changes.Follows.{Follows}
+use Rattle.art_schedules.specs.changes.Courses.{TreeGoesOn}
 use Rattle.art_schedules.specs.coupled.Knows.{KnowsWay}
-use Rattle.art_schedules.specs.coupled.Moments.{IsStepOf, IsAtStage, TakesLive}
+use Rattle.art_schedules.specs.coupled.Moments.{TakesLive, IsCoupledStep}
 
 -- the row is one of the calm tree, and was not obsolete when it was taken
 pub record IsGoodRow (shape : Shape) (calm : List ℕ) (h : Held) : Type 0 where
@@ -47,26 +47,26 @@ TakesReached shape s p calm = (h : Held) → AsksFor Coupled shape s p (Swap h.b
 -- A call on its way takes rows of the calm tree alone.
 abbrev pub WaysTakeReached : Type 0
 WaysTakeReached = (plan : Plan) (start : Contents) (words schedule : List ℕ) (p : ℕ) (s t : State) (claims : ℕ) (m : Contents) (call : Call) (stage : Stage)
-    (found : Option Reply) → IsStepOf plan start words schedule p s t claims m → IsAtStage plan.shape s p call stage
+    (found : Option Reply) → IsCoupledStep plan start words schedule p s t claims m → IsAtStage Coupled plan.shape s p call (OnKey stage)
     → KnowsWay (setting plan.shape Coupled call) (calm_of plan words schedule) s.words found stage
     → TakesReached plan.shape s p (calm_of plan words schedule)
 
 -- Where a process takes live rows of the calm tree alone, each row that it holds behind its step is one of the tree of then, and was live when it was taken.
 -- The calm tree changes by an effect, or by none; the row that leaves it, if one does, is obsolete then.
 abbrev pub GoodRowsStay : Type 0
-GoodRowsStay = (plan : Plan) (start : Contents) (words schedule : List ℕ) (p : ℕ) (s t : State) (claims : ℕ) (m : Contents) (n : ℕ) (pairs : Contents)
-    (effect : Option Effect) → IsStepOf plan start words schedule p s t claims m
-    → Follows plan.shape n (calm_of plan words schedule) (calm_of plan words (schedule ++ p ∷ [])) pairs (IsGoneBy effect) (IsFreshBy effect)
-    → ((b : ℕ) → IsGoneBy effect b → is_obsolete (slice_index t.words b) ≡ true) → GoodOf plan.shape s p (calm_of plan words schedule)
+GoodRowsStay = (plan : Plan) (start : Contents) (words schedule : List ℕ) (p : ℕ) (s t : State) (claims : ℕ) (m pairs : Contents)
+    (effect : Option Effect) → IsCoupledStep plan start words schedule p s t claims m
+    → TreeGoesOn plan.shape t.words (calm_of plan words schedule) (calm_of plan words (schedule ++ p ∷ [])) pairs effect
+    → GoodOf plan.shape s p (calm_of plan words schedule)
     → TakesLive plan.shape s p → TakesReached plan.shape s p (calm_of plan words schedule)
     → GoodOf plan.shape t p (calm_of plan words (schedule ++ p ∷ []))
 
 -- So are the rows that the other processes hold.
 abbrev pub OthersLeaveGood : Type 0
-OthersLeaveGood = (plan : Plan) (start : Contents) (words schedule : List ℕ) (p : ℕ) (s t : State) (claims : ℕ) (m : Contents) (n : ℕ) (pairs : Contents)
-    (effect : Option Effect) → IsStepOf plan start words schedule p s t claims m
-    → Follows plan.shape n (calm_of plan words schedule) (calm_of plan words (schedule ++ p ∷ [])) pairs (IsGoneBy effect) (IsFreshBy effect)
-    → ((b : ℕ) → IsGoneBy effect b → is_obsolete (slice_index t.words b) ≡ true) → (r : ℕ) (call : Call) (q : Process) → r ≢ p → IsOpen s r call q
+OthersLeaveGood = (plan : Plan) (start : Contents) (words schedule : List ℕ) (p : ℕ) (s t : State) (claims : ℕ) (m pairs : Contents)
+    (effect : Option Effect) → IsCoupledStep plan start words schedule p s t claims m
+    → TreeGoesOn plan.shape t.words (calm_of plan words schedule) (calm_of plan words (schedule ++ p ∷ [])) pairs effect
+    → (r : ℕ) (call : Call) (q : Process) → r ≢ p → IsOpen s r call q
     → HoldsGood plan.shape (calm_of plan words schedule) call q → HoldsGood plan.shape (calm_of plan words (schedule ++ p ∷ [])) call q
 
 -- A call on its way that has found nothing is not answered.

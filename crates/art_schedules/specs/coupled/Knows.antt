@@ -8,9 +8,6 @@ use Rattle.art_rows.specs.Table.{keys_at, index_at, count_at}
 use Rattle.art_rows.specs.Words.{is_obsolete, key_bytes, first_difference}
 use Rattle.art_steps.specs.Rows.{Setting, key_of, is_insert}
 use Rattle.art_stages.specs.declared.stage.Held.{Held}
-use Rattle.art_stages.specs.declared.stage.Finding.{Finding}
-use Rattle.art_stages.specs.declared.stage.Finding.TheVariants.{Has, Lacks}
-use Rattle.art_stages.specs.declared.stage.Keys.{Keys}
 use Rattle.art_stages.specs.declared.stage.Position.{Position}
 use Rattle.art_stages.specs.declared.stage.Down.{Down}
 use Rattle.art_stages.specs.declared.stage.Target.{Target}
@@ -19,13 +16,12 @@ use Rattle.art_stages.specs.declared.stage.Outcome.{Outcome}
 use Rattle.art_stages.specs.declared.stage.Stage.{Stage}
 use Rattle.art_stages.specs.declared.stage.Stage.TheVariants.{Lock, Exchange, Between, Info, Find, FindKeys, FindMore, FindCount, Slot, LetGo, Unlock, Over}
 use Rattle.art_stages.specs.Stages.{byte_in, reply_for}
-use Rattle.art_core.specs.Meaning.{Reached, slot_of}
+use Rattle.art_core.specs.Meaning.{Reached}
 use Rattle.art_core.specs.Forms.{level_in, path_in}
 use Rattle.art_serial.specs.trees.Trees.{SameRow, LeadsTo}
 use Rattle.art_versions.specs.versions.Holding.{Each}
 use Rattle.art_versions.specs.versions.Locking.{rows_held}
-use Rattle.art_schedules.specs.work.Works.{LacksByte}
-use Rattle.art_schedules.specs.coupled.Begins.{IsOnWay, HasChild, Hangs}
+use Rattle.art_schedules.specs.work.Ways.{slot_in, KnowsFinding, IsOnWay, Hangs}
 
 -- A row that the call holds and has not written to: behind its version the words are the calm ones, and it was not obsolete when it was locked.
 pub record IsOwn (calm words : List ℕ) (n : Held) : Type 0 where
@@ -50,20 +46,6 @@ HangsBelow c calm n slot (Some above) = Hangs c calm above slot (ChildRow n.base
 abbrev pub KnowsPlace : Bool → Setting → List ℕ → Position → Type 0
 KnowsPlace true c calm p = IsOnWay c calm p.row × HangsBelow c calm p.row p.slot p.above
 KnowsPlace false c calm p = IsOnWay c calm p.row
-
--- the row has the slot for the key's byte, or no slot
-abbrev pub slot_in : Setting → List ℕ → Held → Option ℕ
-slot_in c calm n = slot_of calm n.base n.kind (byte_in c n)
-
--- what was read of a row that has not the byte: only an insert has to know it
-abbrev pub KnowsKeys : Bool → Setting → List ℕ → Held → Keys → Type 0
-KnowsKeys true c calm n keys = LacksByte c n keys calm
-KnowsKeys false c calm n keys = slot_in c calm n ≡ None
-
--- What FIND saw is so of the calm row.
-abbrev pub KnowsFinding : Bool → Setting → List ℕ → Held → Finding → Type 0
-KnowsFinding i c calm n (Has slot child) = HasChild c calm n slot child
-KnowsFinding i c calm n (Lacks keys) = KnowsKeys i c calm n keys
 
 -- Once a get, a remove or a replace has let the row above go, the key's way leads to the row below, where the key may be;
 abbrev pub KnowsInfo : Bool → Setting → List ℕ → Down → Type 0

@@ -1,5 +1,5 @@
 -- Laws of calls under lock coupling.
-use Rattle.std.specs.Prelude.{◌≡◌, ◌≢◌, ℕ, List, [], ◌∷◌, ◌++◌, slice_index, true, false, Option, Some, None}
+use Rattle.std.specs.Prelude.{◌≡◌, ◌≢◌, ℕ, List, [], ◌∷◌, ◌++◌, true, false, Option, Some, None}
 use Rattle.events.specs.declared.event.Call.{Call}
 use Rattle.events.specs.declared.event.Reply.{Reply}
 use Rattle.map_object.specs.MapObject.{Contents}
@@ -15,7 +15,7 @@ use Rattle.art_serial.specs.trees.Trees.{IsAtRest}
 use Rattle.art_stages.specs.declared.stage.Held.{Held}
 use Rattle.art_versions.specs.versions.Holding.{Fits, holds}
 use Rattle.art_versions.specs.versions.Effects.{IsAmong}
-use Rattle.art_rows.specs.Words.{is_obsolete}
+use Rattle.art_versions.specs.versions.Versions.{IsAtStage}
 use Rattle.art_steps.specs.declared.access.Access.{Access}
 use Rattle.art_steps.specs.declared.access.Point.{Point}
 use Rattle.art_steps.specs.Steps.{Asks, Answers}
@@ -26,9 +26,8 @@ use Rattle.art_core.specs.Core.{Plan, State}
 use Rattle.art_schedules.specs.calm.Calm.{calm_of}
 use Rattle.art_schedules.specs.work.Own.{is_work}
 use Rattle.art_schedules.specs.changes.Effects.{Effect}
-use Rattle.art_schedules.specs.changes.Courses.{IsGoneBy, IsFreshBy}
-use Rattle.art_schedules.specs.changes.Follows.{Follows}
-use Rattle.art_schedules.specs.coupled.Moments.{IsStepOf, IsAtStage, ObsoleteLeave, GoesFrom, StaysFrom, HeldAreLive, TakesLive, LeavesBy}
+use Rattle.art_schedules.specs.changes.Courses.{TreeGoesOn}
+use Rattle.art_schedules.specs.coupled.Moments.{ObsoleteLeave, GoesFrom, StaysFrom, HeldAreLive, TakesLive, LeavesBy, IsCoupledStep}
 use Rattle.art_schedules.specs.coupled.Knows.{KnowsWay}
 use Rattle.art_schedules.specs.coupled.Goes.{Gets, Goes}
 
@@ -53,16 +52,17 @@ CallsBegin = (shape : Shape) (call : Call) (calm words : List ℕ) → is_scan c
 -- In a run: a step of a call that knows its way.
 abbrev pub CallsGoOn : Type 0
 CallsGoOn = (plan : Plan) (start : Contents) (words schedule : List ℕ) (p : ℕ) (s t : State) (claims : ℕ) (m : Contents) (leaving : ℕ → Option ℕ) (call : Call)
-    (stage : Stage) → IsStepOf plan start words schedule p s t claims m → ObsoleteLeave plan.shape s (calm_of plan words schedule) leaving
-    → is_tree_call call ≡ true → is_scan call ≡ false → IsAtStage plan.shape s p call stage
+    (stage : Stage) → IsCoupledStep plan start words schedule p s t claims m
+    → ObsoleteLeave plan.shape s (calm_of plan words schedule) leaving
+    → is_tree_call call ≡ true → is_scan call ≡ false → IsAtStage Coupled plan.shape s p call (OnKey stage)
     → KnowsWay (setting plan.shape Coupled call) (calm_of plan words schedule) s.words None stage
     → GoesFrom plan.shape call t p (calm_of plan words schedule) (calm_of plan words (schedule ++ p ∷ [])) m
 
 -- A step of a call that has found its reply, other than the one that answers it.
 abbrev pub CallsStay : Type 0
 CallsStay = (plan : Plan) (start : Contents) (words schedule : List ℕ) (p : ℕ) (s t : State) (claims : ℕ) (m : Contents) (leaving : ℕ → Option ℕ) (call : Call)
-    (stage : Stage) (reply : Reply) (a : Access) (mark : Option Point) → IsStepOf plan start words schedule p s t claims m
-    → ObsoleteLeave plan.shape s (calm_of plan words schedule) leaving → IsAtStage plan.shape s p call stage
+    (stage : Stage) (reply : Reply) (a : Access) (mark : Option Point) → IsCoupledStep plan start words schedule p s t claims m
+    → ObsoleteLeave plan.shape s (calm_of plan words schedule) leaving → IsAtStage Coupled plan.shape s p call (OnKey stage)
     → KnowsWay (setting plan.shape Coupled call) (calm_of plan words schedule) s.words (Some reply) stage
     → turn_at (setting plan.shape Coupled call) stage ≡ Asks a mark
     → StaysFrom plan.shape call t p (calm_of plan words schedule) (calm_of plan words (schedule ++ p ∷ [])) reply
@@ -75,11 +75,13 @@ FoundIsAnswered = (shape : Shape) (call : Call) (calm words : List ℕ) (stage :
 -- A step of another process, in which the calm tree changes by an effect, or by none. The row that leaves it, if one does, is obsolete then.
 abbrev pub OthersLeaveWays : Type 0
 OthersLeaveWays = (plan : Plan) (start : Contents) (words schedule : List ℕ) (p : ℕ) (s t : State) (claims : ℕ) (m : Contents) (r : ℕ) (call : Call)
-    (stage : Stage) (found : Option Reply) (n : ℕ) (pairs : Contents) (effect : Option Effect) → IsStepOf plan start words schedule p s t claims m → r ≢ p
-    → IsAtStage plan.shape s r call stage → KnowsWay (setting plan.shape Coupled call) (calm_of plan words schedule) s.words found stage
-    → Follows plan.shape n (calm_of plan words schedule) (calm_of plan words (schedule ++ p ∷ [])) pairs (IsGoneBy effect) (IsFreshBy effect)
-    → ((b : ℕ) → IsGoneBy effect b → is_obsolete (slice_index t.words b) ≡ true)
-    → IsAtStage plan.shape t r call stage × KnowsWay (setting plan.shape Coupled call) (calm_of plan words (schedule ++ p ∷ [])) t.words found stage
+    (stage : Stage) (found : Option Reply) (pairs : Contents) (effect : Option Effect)
+    → IsCoupledStep plan start words schedule p s t claims m → r ≢ p
+    → IsAtStage Coupled plan.shape s r call (OnKey stage)
+    → KnowsWay (setting plan.shape Coupled call) (calm_of plan words schedule) s.words found stage
+    → TreeGoesOn plan.shape t.words (calm_of plan words schedule) (calm_of plan words (schedule ++ p ∷ [])) pairs effect
+    → IsAtStage Coupled plan.shape t r call (OnKey stage)
+    × KnowsWay (setting plan.shape Coupled call) (calm_of plan words (schedule ++ p ∷ [])) t.words found stage
 
 -- A call on its way holds rows of the calm tree alone.
 abbrev pub WaysHoldReached : Type 0
@@ -92,25 +94,27 @@ WaysHoldReached = (shape : Shape) (call : Call) (calm words : List ℕ) (stage :
 -- A call on its way takes no row that is obsolete.
 abbrev pub WaysTakeLive : Type 0
 WaysTakeLive = (plan : Plan) (start : Contents) (words schedule : List ℕ) (p : ℕ) (s t : State) (claims : ℕ) (m : Contents)
-    (leaving : ℕ → Option ℕ) (call : Call) (stage : Stage) (found : Option Reply) → IsStepOf plan start words schedule p s t claims m
-    → ObsoleteLeave plan.shape s (calm_of plan words schedule) leaving → IsAtStage plan.shape s p call stage
+    (leaving : ℕ → Option ℕ) (call : Call) (stage : Stage) (found : Option Reply) → IsCoupledStep plan start words schedule p s t claims m
+    → ObsoleteLeave plan.shape s (calm_of plan words schedule) leaving → IsAtStage Coupled plan.shape s p call (OnKey stage)
     → KnowsWay (setting plan.shape Coupled call) (calm_of plan words schedule) s.words found stage → TakesLive plan.shape s p
 
 -- A call at work takes no row.
 abbrev pub WorkTakesLive : Type 0
 WorkTakesLive = (plan : Plan) (start : Contents) (words schedule : List ℕ) (p : ℕ) (s t : State) (claims : ℕ) (m : Contents) (call : Call) (stage : Stage)
-    → IsStepOf plan start words schedule p s t claims m → IsAtStage plan.shape s p call stage → is_work stage ≡ true → TakesLive plan.shape s p
+    → IsCoupledStep plan start words schedule p s t claims m → IsAtStage Coupled plan.shape s p call (OnKey stage) → is_work stage ≡ true
+    → TakesLive plan.shape s p
 
 -- Where no row that is taken is obsolete, none is that is held.
 abbrev pub HeldRowsLive : Type 0
 HeldRowsLive = (plan : Plan) (start : Contents) (words schedule : List ℕ) (p : ℕ) (s t : State) (claims : ℕ) (m : Contents)
-    → IsStepOf plan start words schedule p s t claims m → HeldAreLive plan.shape s → TakesLive plan.shape s p → HeldAreLive plan.shape t
+    → IsCoupledStep plan start words schedule p s t claims m → HeldAreLive plan.shape s → TakesLive plan.shape s p
+    → HeldAreLive plan.shape t
 
 -- A row of the calm tree that is obsolete is about to leave it, in each state.
 abbrev pub ObsoleteRowsLeave : Type 0
 ObsoleteRowsLeave = (plan : Plan) (start : Contents) (words schedule : List ℕ) (p : ℕ) (s t : State) (claims : ℕ) (m : Contents) (leaving next : ℕ → Option ℕ)
-    (n : ℕ) (pairs : Contents) (effect : Option Effect) → IsStepOf plan start words schedule p s t claims m
-    → Follows plan.shape n (calm_of plan words schedule) (calm_of plan words (schedule ++ p ∷ [])) pairs (IsGoneBy effect) (IsFreshBy effect)
+    (pairs : Contents) (effect : Option Effect) → IsCoupledStep plan start words schedule p s t claims m
+    → TreeGoesOn plan.shape t.words (calm_of plan words schedule) (calm_of plan words (schedule ++ p ∷ [])) pairs effect
     → HeldAreLive plan.shape s → LeavesBy plan.shape s t p (calm_of plan words schedule) effect leaving next
     → ObsoleteLeave plan.shape s (calm_of plan words schedule) leaving → ObsoleteLeave plan.shape t (calm_of plan words (schedule ++ p ∷ [])) next
 

@@ -1,5 +1,5 @@
 -- Steps of a run of the coupled tree, and what a call on a key does in one.
-use Rattle.std.specs.Prelude.{◌≡◌, ◌≢◌, ℕ, ◌<◌, ◌^◌, true, false, List, [], ◌∷◌, ◌++◌, slice_index, All, Option, Some}
+use Rattle.std.specs.Prelude.{◌≡◌, ◌≢◌, ℕ, ◌<◌, true, false, List, slice_index, Option, Some}
 use Rattle.events.specs.declared.event.Call.{Call}
 use Rattle.events.specs.declared.event.Reply.{Reply}
 use Rattle.map_object.specs.MapObject.{Contents}
@@ -17,35 +17,26 @@ use Rattle.art_stages.specs.declared.stage.Stage.TheVariants.{Unlock, Obsolete}
 use Rattle.art_stages.specs.Stages.{setting}
 use Rattle.art_stages.specs.Calls.{OnKey}
 use Rattle.art_core.specs.declared.process.Process.{Process}
-use Rattle.art_core.specs.Core.{Plan, State, step}
-use Rattle.art_core.specs.Plans.{IsRun}
+use Rattle.art_core.specs.Core.{Plan, State}
 use Rattle.art_core.specs.Meaning.{Reached, child_on, Means}
 use Rattle.art_serial.specs.trees.Trees.{IsAtRest}
 use Rattle.art_versions.specs.versions.Effects.{IsAmong}
-use Rattle.art_versions.specs.versions.Versions.{IsOpen, stage_of, held_by}
+use Rattle.art_versions.specs.versions.Versions.{IsOpen, held_by, IsAtStage}
 use Rattle.art_schedules.specs.calm.Calm.{calm_of}
-use Rattle.art_schedules.specs.calm.Changes.{AsksFor}
+use Rattle.art_schedules.specs.calm.Changes.{AsksFor, IsRunStep}
 use Rattle.art_schedules.specs.changes.Effects.{Effect}
-use Rattle.art_schedules.specs.changes.Courses.{IsGoneBy, IsFreshBy}
+use Rattle.art_schedules.specs.changes.Courses.{IsGoneBy, ComesInBy}
 use Rattle.art_schedules.specs.changes.Follows.{KeepsTree}
 use Rattle.art_schedules.specs.coupled.Knows.{KnowsWay}
 use Rattle.art_schedules.specs.coupled.Goes.{Goes}
 
 -- A step of a run of the coupled tree, before which calm is a tree at rest that means these pairs.
-pub record IsStepOf (plan : Plan) (start : Contents) (words schedule : List ℕ) (p : ℕ) (s t : State) (claims : ℕ) (m : Contents) : Type 0 where
+pub record IsCoupledStep (plan : Plan) (start : Contents) (words schedule : List ℕ) (p : ℕ) (s t : State) (claims : ℕ)
+    (m : Contents) : Type 0 where
   pub coupled : plan.variant ≡ Coupled
-  pub before : IsRun plan start words schedule s
-  pub behind : IsRun plan start words (schedule ++ p ∷ []) t
-  pub made : step plan s p ≡ Some t
+  pub run : IsRunStep plan start words schedule p s t
   pub rests : IsAtRest plan.shape claims (calm_of plan words schedule)
   pub means : Means plan.shape (calm_of plan words schedule) m
-  pub small : All (λ w. w < 2 ^ 64) (calm_of plan words (schedule ++ p ∷ []))
-
--- the process is in a call on a key, at this stage
-pub record IsAtStage (shape : Shape) (s : State) (p : ℕ) (call : Call) (stage : Stage) : Type 0 where
-  pub process : Process
-  pub is_open : IsOpen s p call process
-  pub at : stage_of Coupled shape call process ≡ OnKey stage
 
 -- the row hangs in the calm tree on a row that a process releases, having made it obsolete
 pub record IsLeaving (shape : Shape) (s : State) (calm : List ℕ) (leaving : ℕ → Option ℕ) (base : ℕ) (kind : Kind) : Type 0 where
@@ -53,7 +44,7 @@ pub record IsLeaving (shape : Shape) (s : State) (calm : List ℕ) (leaving : �
   pub call : Call
   pub hold : Hold
   pub outcome : Option Outcome
-  pub at : IsAtStage shape s process call (Unlock hold outcome)
+  pub at : IsAtStage Coupled shape s process call (OnKey (Unlock hold outcome))
   pub leaves : leaving process ≡ Some base
   pub byte : ℕ
   pub is_byte : byte < 256
@@ -69,14 +60,14 @@ ObsoleteLeave shape s calm leaving = (base : ℕ) (kind : Kind) → Reached shap
 -- Behind its step the call is at the next stage, and the calm tree is as it was; it knows its way there, or its work begins, or it has found its reply.
 pub record GoesFrom (shape : Shape) (call : Call) (t : State) (p : ℕ) (calm after : List ℕ) (m : Contents) : Type 0 where
   pub next : Stage
-  pub at : IsAtStage shape t p call next
+  pub at : IsAtStage Coupled shape t p call (OnKey next)
   pub keeps : KeepsTree shape calm after
   pub goes : Goes (setting shape Coupled call) after t.words m next
 
 -- The same of a call that has found its reply.
 pub record StaysFrom (shape : Shape) (call : Call) (t : State) (p : ℕ) (calm after : List ℕ) (reply : Reply) : Type 0 where
   pub next : Stage
-  pub at : IsAtStage shape t p call next
+  pub at : IsAtStage Coupled shape t p call (OnKey next)
   pub keeps : KeepsTree shape calm after
   pub knows : KnowsWay (setting shape Coupled call) after t.words (Some reply) next
 
@@ -103,11 +94,11 @@ pub record MakesLeave (shape : Shape) (calm : List ℕ) (h : Hold) (named : Opti
   pub names : named ≡ Some h.row.base
 
 -- What a step of process p has to do with the rows that are obsolete: one that it makes obsolete is named, one that was named leaves the calm tree as p
--- releases the row above; what leaves it is obsolete behind the step, and what comes into it is not.
+-- releases the row above; what comes into it is not obsolete behind the step.
 pub record LeavesBy (shape : Shape) (s t : State) (p : ℕ) (calm : List ℕ) (effect : Option Effect) (leaving next : ℕ → Option ℕ) : Type 0 where
   pub others : (r : ℕ) → r ≢ p → next r ≡ leaving r
-  pub makes : (call : Call) (h : Hold) → IsAtStage shape s p call (Obsolete h) → MakesLeave shape calm h (next p)
-  pub leaves : (call : Call) (h : Hold) (outcome : Option Outcome) (base : ℕ) → IsAtStage shape s p call (Unlock h outcome) → leaving p ≡ Some base
+  pub makes : (call : Call) (h : Hold) → IsAtStage Coupled shape s p call (OnKey (Obsolete h)) → MakesLeave shape calm h (next p)
+  pub leaves : (call : Call) (h : Hold) (outcome : Option Outcome) (base : ℕ) → IsAtStage Coupled shape s p call (OnKey (Unlock h outcome))
+      → leaving p ≡ Some base
       → IsGoneBy effect base
-  pub gone : (base : ℕ) → IsGoneBy effect base → is_obsolete (slice_index t.words base) ≡ true
-  pub fresh : (base : ℕ) (kind : Kind) → IsFreshBy effect base kind → is_obsolete (slice_index t.words base) ≡ false
+  pub fresh : (base : ℕ) (kind : Kind) → ComesInBy effect base kind → is_obsolete (slice_index t.words base) ≡ false

@@ -24,7 +24,7 @@ use Rattle.art_core.specs.Meaning.{Reached, slot_of, child_on}
 use Rattle.art_serial.specs.trees.Trees.{IsAtRest, SameRow}
 use Rattle.map_object.specs.MapObject.{Contents}
 use Rattle.art_schedules.specs.changes.Effects.{Effect}
-use Rattle.art_schedules.specs.changes.Courses.{IsGoneBy, IsFreshBy}
+use Rattle.art_schedules.specs.changes.Courses.{IsGoneBy, ComesInBy}
 use Rattle.art_schedules.specs.changes.Follows.{Follows}
 use Rattle.art_versions.specs.versions.Effects.{IsAmong}
 use Rattle.art_versions.specs.versions.Holding.{Each}
@@ -95,7 +95,7 @@ StaysAt shape calm after effect base = (kind : Kind) → kind_at shape base ≡ 
 abbrev pub ScansKeepTrees : Type 0
 ScansKeepTrees = (shape : Shape) (low high claims n : ℕ) (calm after : List ℕ) (pairs : Contents) (effect : Option Effect) (at : ScanAt)
     → IsAtRest shape claims calm
-    → Follows shape n calm after pairs (IsGoneBy effect) (IsFreshBy effect) → ReadsHeld (OnScan low high at)
+    → Follows shape n calm after pairs (IsGoneBy effect) (ComesInBy effect) → ReadsHeld (OnScan low high at)
     → ((h : Held) → IsAmong h at.walk.rows → StaysAt shape calm after effect h.base)
     → ((base : ℕ) (kind : Kind) (kept : ℕ) → at.step ≡ scan.Info base kind kept → StaysAt shape calm after effect base)
     → KnowsTree shape calm at → KnowsTree shape after at

@@ -6,26 +6,18 @@ use Rattle.events.specs.declared.event.Reply.{Reply}
 use Rattle.art_rows.specs.declared.table.Shape.{Shape}
 use Rattle.art_steps.specs.declared.variant.Variant.TheVariants.{Coupled}
 use Rattle.art_steps.specs.Rows.{is_insert}
-use Rattle.art_stages.specs.declared.stage.Held.{Held}
 use Rattle.art_stages.specs.declared.stage.Stage.{Stage}
 use Rattle.art_stages.specs.Stages.{setting}
-use Rattle.art_serial.specs.trees.Trees.{SameRow}
 use Rattle.art_versions.specs.versions.Holding.{Each}
 use Rattle.art_versions.specs.versions.Locking.{rows_held}
 use Rattle.art_schedules.specs.changes.Effects.{Effect}
-use Rattle.art_schedules.specs.changes.Courses.{IsGoneBy, IsFreshBy}
+use Rattle.art_schedules.specs.changes.Courses.{IsGoneBy, ComesInBy, IsStill}
 use Rattle.art_schedules.specs.changes.Follows.{Follows}
 use Rattle.art_schedules.specs.coupled.Knows.{KnowsWay}
-
--- Behind its version the calm words of the row stay, and its words, and the row does not leave the calm tree.
-pub record IsStill (calm words after later : List ℕ) (effect : Option Effect) (n : Held) : Type 0 where
-  pub row : SameRow calm after n.base n.kind
-  pub same : SameRow words later n.base n.kind
-  pub stays : IsGoneBy effect n.base → ⊥
 
 -- Where the calm tree changes by an effect, or by none, a call whose rows are still knows what it knew.
 abbrev pub WaysAreKept : Type 0
 WaysAreKept = (shape : Shape) (call : Call) (n : ℕ) (calm words after later : List ℕ) (pairs : Contents) (effect : Option Effect) (found : Option Reply)
-    (stage : Stage) → Follows shape n calm after pairs (IsGoneBy effect) (IsFreshBy effect)
+    (stage : Stage) → Follows shape n calm after pairs (IsGoneBy effect) (ComesInBy effect)
     → Each (IsStill calm words after later effect) (rows_held true (is_insert call) stage) → KnowsWay (setting shape Coupled call) calm words found stage
     → KnowsWay (setting shape Coupled call) after later found stage

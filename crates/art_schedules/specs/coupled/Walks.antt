@@ -35,10 +35,10 @@ pub data Alone (c : Setting) (rows : List Held) (at0 : CallAt) (w0 : List ℕ) :
       → IsOfRows rows (word_of a) → Alone c rows at0 w0 (call_after c at (got_by a now)) (words_after a now)
 
 -- the walk is over
-abbrev pub IsWalked : ScanStep → Type 0
-IsWalked (Release n) = Unit {0}
-IsWalked Over = Unit {0}
-IsWalked step = ⊥
+abbrev pub IsOver : ScanStep → Type 0
+IsOver (Release n) = Unit {0}
+IsOver Over = Unit {0}
+IsOver step = ⊥
 
 -- words that are as these are on the rows
 abbrev pub SameOn : List Held → List ℕ → List ℕ → Type 0
@@ -50,7 +50,7 @@ WalksAreTheMaps = (shape : Shape) (low high n : ℕ) (calm now : List ℕ) (m : 
     → Means shape calm m
     → length m ≤ pair_limit → Alone (setting shape Coupled (Scan low high)) rows (call_begun (setting shape Coupled (Scan low high))) calm (OnScan low high at)
     now
-    → IsWalked at.step → reply_to m (Scan low high) ≡ reply.Pairs at.walk.pairs
+    → IsOver at.step → reply_to m (Scan low high) ≡ reply.Pairs at.walk.pairs
 
 -- It comes to the same stage on other words that are the same on these rows.
 abbrev pub WalksStay : Type 0

@@ -1,5 +1,5 @@
 -- What fits an open call of the coupled tree, by its stage and its status.
-use Rattle.std.specs.Prelude.{◌≡◌, ◌⊎◌, ℕ, ◌==◌, if◌then◌else◌, true, false, List, Option, Some, None}
+use Rattle.std.specs.Prelude.{◌≡◌, ◌⊎◌, ℕ, true, false, List, Option, Some, None}
 use Rattle.events.specs.declared.event.Call.{Call}
 use Rattle.events.specs.declared.event.Reply.{Reply}
 use Rattle.events.specs.declared.event.Reply.TheVariants.{Refused}
@@ -13,14 +13,16 @@ use Rattle.art_stages.specs.Scans.{ScanAt}
 use Rattle.art_stages.specs.Calls.{OnKey, OnScan}
 use Rattle.art_core.specs.declared.process.Process.{Process}
 use Rattle.art_core.specs.Core.{State}
+use Rattle.art_serial.specs.trees.Trees.{IsClaimed}
 use Rattle.art_versions.specs.versions.Holding.{Named}
-use Rattle.art_versions.specs.versions.Versions.{IsClaimed, stage_of}
+use Rattle.art_versions.specs.versions.Versions.{stage_of}
 use Rattle.art_schedules.specs.stories.Stories.{Status, Before, Found, Changed}
 use Rattle.art_schedules.specs.coupled.Knows.{KnowsWay}
 use Rattle.art_schedules.specs.coupled.Moments.{ObsoleteLeave}
 use Rattle.art_schedules.specs.coupled.Good.{HoldsGood}
 use Rattle.art_schedules.specs.effects.AtWork.{AtWork, AtEnd}
 use Rattle.art_schedules.specs.effects.Marks.{IsMarked}
+use Rattle.art_schedules.specs.stories.Fitting.{set_at}
 
 -- ---- what is so of the whole state
 
@@ -28,10 +30,6 @@ use Rattle.art_schedules.specs.effects.Marks.{IsMarked}
 pub record Ghosts : Type 0 where
   pub fresh : ℕ → Option Named
   pub leaving : ℕ → Option ℕ
-
--- with another value at one number
-abbrev pub set_at : {A : Type 0} → (ℕ → A) → ℕ → A → ℕ → A
-set_at f p a r = if r == p then a else f r
 
 abbrev pub ghosts_with : Ghosts → ℕ → Option Named → Option ℕ → Ghosts
 ghosts_with g p fresh left = record { fresh = set_at g.fresh p fresh; leaving = set_at g.leaving p left }

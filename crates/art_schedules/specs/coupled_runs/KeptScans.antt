@@ -17,7 +17,7 @@ use Rattle.art_schedules.specs.effects.Outcomes.{Makes}
 use Rattle.art_schedules.specs.coupled.Moments.{ObsoleteLeave, TakesLive}
 use Rattle.art_schedules.specs.coupled.Good.{HoldsGood, TakesReached}
 use Rattle.art_schedules.specs.stories.Stories.{Status, Before, Tale}
-use Rattle.art_schedules.specs.stories.Fitting.{IsToldStep, Next, IsAnswered, BeginsCall, MakesAccess, AnswersCall}
+use Rattle.art_schedules.specs.stories.Fitting.{IsToldStep, Next, BeginsCall, MakesAccess, AnswersCall, HasItsReply}
 use Rattle.art_schedules.specs.coupled_runs.CoupledFits.{OfScans}
 
 -- What a step of a scan is to give: the status behind it, calm's tree as it was, and no row taken but live ones of calm's tree.
@@ -49,4 +49,4 @@ pub record ScansAreKept (plan : Plan) (start : Contents) (words : List ℕ) (Sca
       → Scans schedule s calm r call q status → Scans (schedule ++ p ∷ []) t after r call q status
   pub answers : (schedule : List ℕ) (tale : Tale) (p : ℕ) (s t : State) (calm after : List ℕ) → IsToldStep plan start words schedule tale p s t calm after
       → (call : Call) (q : Process) (status : Status) (reply : Reply) → AnswersCall plan s p t call q reply → Scans schedule s calm p call q status
-      → IsAnswered plan words schedule tale p call q status reply
+      → HasItsReply plan words schedule tale p call q status reply

@@ -10,16 +10,16 @@ use Rattle.art_core.specs.declared.process.Process.{Process}
 use Rattle.art_core.specs.Core.{State}
 use Rattle.art_versions.specs.versions.Versions.{stage_of}
 use Rattle.art_schedules.specs.stories.Stories.{Status, Before, Found, Changed}
-use Rattle.art_schedules.specs.coupled.Walks.{IsWalked}
 use Rattle.art_schedules.specs.coupled.Scanning.{KnowsTree}
-use Rattle.art_schedules.specs.locked_scans.Walking.{HasWalked, HasFound}
+use Rattle.art_schedules.specs.locked_scans.Walking.{HasWalked, HasPairsFound}
 use Rattle.art_schedules.specs.coupled_runs.CoupledFits.{OfScans}
+use Rattle.art_schedules.specs.coupled.Walks.{IsOver}
 
 -- What is known of a scan, by its status: before the end of its walk, how it has come to its stage and what it knows of the calm tree; then its reply, which
 -- is that of the map at the end of its walk. It changes nothing.
 abbrev pub KnowsScan : Shape → ℕ → ℕ → List ℕ → List ℕ → ScanAt → Status → Type 0
-KnowsScan shape low high calm words x Before = (IsWalked x.step → ⊥) × HasWalked shape low high calm words x × KnowsTree shape calm x
-KnowsScan shape low high calm words x (Found reply) = HasFound shape low high calm words reply x
+KnowsScan shape low high calm words x Before = (IsOver x.step → ⊥) × HasWalked shape low high calm words x × KnowsTree shape calm x
+KnowsScan shape low high calm words x (Found reply) = HasPairsFound shape low high calm words reply x
 KnowsScan shape low high calm words x (Changed reply) = ⊥
 
 -- An open scan with its stage, and what is known of it there. That the rows which it holds are rows of the calm tree is said of every call.

@@ -27,14 +27,13 @@ use Rattle.art_stages.specs.Automaton.{work_at, hold_alone}
 use Rattle.art_stages.specs.Calls.{OnKey}
 use Rattle.art_core.specs.Meaning.{Reached, child_on}
 use Rattle.art_core.specs.Forms.{level_in, path_in}
-use Rattle.art_serial.specs.trees.Trees.{SameRow, LeadsTo, Parts}
+use Rattle.art_serial.specs.trees.Trees.{SameRow, LeadsTo, Parts, IsClaimed}
 use Rattle.art_versions.specs.versions.Locking.{rows_of_hold}
 use Rattle.art_versions.specs.versions.Holding.{Named, Each, Knows}
-use Rattle.art_versions.specs.versions.Versions.{IsClaimed}
 use Rattle.art_schedules.specs.changes.Rows.{HasNewChild}
 use Rattle.art_schedules.specs.changes.Effects.{Effect, Keeps, Fills, PutsLeaf, RemovesLeaf, HangsPair, HangsGrown, base_of_effect, kind_of_effect, pairs_after}
 use Rattle.art_schedules.specs.changes.Effects.{IsGone}
-use Rattle.art_schedules.specs.changes.Written.{IsUnreached, HasSlot, IsPairRow, IsCopy}
+use Rattle.art_schedules.specs.changes.Written.{IsUnreached, IsPairRow, IsCopy, HasWordAt}
 use Rattle.art_schedules.specs.work.Solo.{Solo}
 use Rattle.art_schedules.specs.work.Works.{RowsOf}
 use Rattle.art_schedules.specs.effects.Begins.{BeginsWork}
@@ -117,7 +116,8 @@ FillsAt h (work.Grow slot keys) base kind stage =
     (kind ≡ next_kind h.row.kind) × (growing_at stage ≡ Some (record { hold = h; slot = slot; keys = keys; base = base }))
 
 -- A fresh row, which calm's tree does not reach, was claimed, and calm has the words that were written in it.
-pub record IsNew (c : Setting) (real calm words : List ℕ) (h : Hold) (work : Work) (stage : Stage) (base : ℕ) (kind : Kind) : Type 0 where
+pub record FillsFresh (c : Setting) (real calm words : List ℕ) (h : Hold) (work : Work) (stage : Stage) (base : ℕ) (kind : Kind) : Type
+    0 where
   pub at : FillsAt h work base kind stage
   pub claimed : IsClaimed c.shape real base kind
   pub unreached : IsUnreached c.shape calm base
@@ -138,7 +138,7 @@ writes_at stage = false
 
 abbrev pub HasNew : Setting → List ℕ → List ℕ → List ℕ → Hold → Work → Stage → Option Named → Type 0
 HasNew c real calm words h work stage None = (claims_row work ≡ false) × (writes_at stage ≡ true)
-HasNew c real calm words h work stage (Some row) = IsNew c real calm words h work stage row.0 row.1
+HasNew c real calm words h work stage (Some row) = FillsFresh c real calm words h work stage row.0 row.1
 
 -- By itself the call came from the first words, which are calm's on its rows, to this stage with words that are the real ones on its rows.
 pub record IsGoing (c : Setting) (real calm : List ℕ) (fresh : Option Named) (stage : Stage) : Type 0 where
@@ -165,7 +165,7 @@ IsOld c calm key base kind x None = child_on c.shape calm base kind x ≡ Empty
 IsOld c calm key base kind x (Some value) = child_on c.shape calm base kind x ≡ Leaf key value
 
 -- a fresh row that calm's tree does not reach, and that nobody made obsolete
-pub record IsReady (c : Setting) (real calm : List ℕ) (base : ℕ) (kind : Kind) : Type 0 where
+pub record HasFilledFresh (c : Setting) (real calm : List ℕ) (base : ℕ) (kind : Kind) : Type 0 where
   pub claimed : IsClaimed c.shape real base kind
   pub unreached : IsUnreached c.shape calm base
   pub live : is_obsolete (slice_index calm base) ≡ false
@@ -181,10 +181,10 @@ fresh_of (HangsPair base kind x key value fresh d a) = Some (fresh, Four)
 fresh_of (HangsGrown base kind x key value full full_kind y fresh larger) = Some (fresh, larger)
 
 -- the leaf was stored in the byte's slot
-pub record IsStored (calm real : List ℕ) (base : ℕ) (kind : Kind) (x key value : ℕ) : Type 0 where
+pub record HasStoredLeaf (calm real : List ℕ) (base : ℕ) (kind : Kind) (x key value : ℕ) : Type 0 where
   pub small : (key < 2 ^ 32) × (value < 2 ^ 30)
   pub slot : ℕ
-  pub has : HasSlot calm real base kind x slot (leaf_word key value)
+  pub has : HasWordAt calm real base kind x slot (leaf_word key value)
 
 -- What calm and the real words of the row say, so that its release has this effect on calm's tree: old is what the map has at the key before it.
 abbrev pub IsPending : Setting → List ℕ → List ℕ → Effect → Option ℕ → Type 0
@@ -192,18 +192,18 @@ IsPending c real calm (Keeps base kind) old = ⊥
 IsPending c real calm (Fills base kind) old = ⊥
 IsPending c real calm (PutsLeaf base kind x key value) old =
     LeadsTo c.shape calm key base kind x × IsOld c calm key base kind x old
-    × (HasNewChild c.shape calm real base kind x (Leaf key value) ⊎ IsStored calm real base kind x key value)
+    × (HasNewChild c.shape calm real base kind x (Leaf key value) ⊎ HasStoredLeaf calm real base kind x key value)
 IsPending c real calm (RemovesLeaf base kind x key) old =
-    LeadsTo c.shape calm key base kind x × IsOld c calm key base kind x old × ((slot : ℕ) × HasSlot calm real base kind x slot 0)
+    LeadsTo c.shape calm key base kind x × IsOld c calm key base kind x old × ((slot : ℕ) × HasWordAt calm real base kind x slot 0)
 IsPending c real calm (HangsPair base kind x key value fresh d a) old =
     LeadsTo c.shape calm key base kind x × (old ≡ None) × Parts calm key d a (child_on c.shape calm base kind x)
-    × ((slot : ℕ) × HasSlot calm real base kind x slot (row_word fresh)) × IsReady c real calm fresh Four
+    × ((slot : ℕ) × HasWordAt calm real base kind x slot (row_word fresh)) × HasFilledFresh c real calm fresh Four
     × IsPairRow c.shape calm fresh d (take d (key_bytes key)) (record { byte = a; child = child_on c.shape calm base kind x })
     (record { byte = slice_index (key_bytes key) d; child = Leaf key value })
 IsPending c real calm (HangsGrown base kind x key value full full_kind y fresh larger) old =
     LeadsTo c.shape calm key base kind x × (old ≡ None) × (child_on c.shape calm base kind x ≡ Row full full_kind)
     × LeadsTo c.shape calm key full full_kind y × (child_on c.shape calm full full_kind y ≡ Empty)
-    × ((slot : ℕ) × HasSlot calm real base kind x slot (row_word fresh)) × IsReady c real calm fresh larger
+    × ((slot : ℕ) × HasWordAt calm real base kind x slot (row_word fresh)) × HasFilledFresh c real calm fresh larger
     × IsCopy c.shape calm calm full full_kind fresh larger (info_word larger (level_in calm full full_kind) (path_in calm full full_kind)) y (Leaf key value)
 
 abbrev pub key_of_effect : Effect → ℕ

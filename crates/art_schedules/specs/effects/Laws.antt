@@ -21,18 +21,19 @@ use Rattle.art_stages.specs.Automaton.{turn_at, work_at}
 use Rattle.art_stages.specs.Calls.{OnKey}
 use Rattle.art_core.specs.Core.{Plan, State}
 use Rattle.art_core.specs.Meaning.{Reached, Means, child_on}
-use Rattle.art_serial.specs.trees.Trees.{IsAtRest}
+use Rattle.art_serial.specs.trees.Trees.{IsAtRest, IsClaimed}
 use Rattle.art_versions.specs.versions.Locking.{rows_of_hold, lock_of}
 use Rattle.art_versions.specs.versions.Holding.{Named, Each, Knows, holds}
 use Rattle.art_versions.specs.versions.Effects.{IsAmong}
-use Rattle.art_versions.specs.versions.Versions.{IsClaimed}
+use Rattle.art_versions.specs.versions.Versions.{IsAtStage}
 use Rattle.art_schedules.specs.calm.Calm.{calm_of}
 use Rattle.art_schedules.specs.changes.Effects.{Effect, IsGone}
 use Rattle.art_schedules.specs.work.Works.{RowsOf}
 use Rattle.art_schedules.specs.effects.Begins.{BeginsWork}
 use Rattle.art_schedules.specs.effects.AtWork.{IsInTree, IsSame, fresh_of, AtWork, AtEnd, IsHanging}
-use Rattle.art_schedules.specs.effects.Outcomes.{IsLastStep, Makes, IsAt, HoldsReached, IsOther, GoesOn, AreApart, WorkStep, EndStep}
+use Rattle.art_schedules.specs.effects.Outcomes.{Makes, HoldsReached, IsOther, WorkStep, EndStep, FreshGoesOn, AreTwoRows}
 use Rattle.art_schedules.specs.effects.Marks.{IsMarked, WorkerStep, HangsOnAbove, EnderStep}
+use Rattle.art_schedules.specs.calm.Changes.{IsRunStep}
 
 -- A call whose work begins is none that scans.
 abbrev pub WorkersDoNotScan : Type 0
@@ -57,37 +58,40 @@ LeaversHoldReached = (c : Setting) (real calm : List ℕ) (stage : Stage) (reply
 -- A step of another process, which holds rows of calm's tree alone and brings no row into it that is this call's fresh one, keeps a call at work.
 abbrev pub OthersKeepWork : Type 0
 OthersKeepWork = (plan : Plan) (start : Contents) (words schedule : List ℕ) (p : ℕ) (s t : State) (n : ℕ) (m : Contents) (effect : Option Effect)
-    → IsLastStep plan start words schedule p s t → IsAtRest plan.shape n (calm_of plan words schedule)
+    → IsRunStep plan start words schedule p s t → IsAtRest plan.shape n (calm_of plan words schedule)
     → Makes plan.variant plan.shape s p (calm_of plan words schedule) (calm_of plan words (schedule ++ p ∷ [])) m effect
     → HoldsReached plan.variant plan.shape s p (calm_of plan words schedule) → (r : ℕ) → r ≢ p → (call : Call) (stage : Stage) (fresh : Option Named)
-    → IsAt plan.variant plan.shape s r call stage → IsOther effect fresh
+    → IsAtStage plan.variant plan.shape s r call (OnKey stage) → IsOther effect fresh
     → AtWork (setting plan.shape plan.variant call) s.words (calm_of plan words schedule) fresh stage
-    → IsAt plan.variant plan.shape t r call stage
+    → IsAtStage plan.variant plan.shape t r call (OnKey stage)
     × AtWork (setting plan.shape plan.variant call) t.words (calm_of plan words (schedule ++ p ∷ [])) fresh stage
 
 -- So it keeps one at its end.
 abbrev pub OthersKeepEnds : Type 0
 OthersKeepEnds = (plan : Plan) (start : Contents) (words schedule : List ℕ) (p : ℕ) (s t : State) (n : ℕ) (m : Contents) (effect : Option Effect)
-    → IsLastStep plan start words schedule p s t → IsAtRest plan.shape n (calm_of plan words schedule)
+    → IsRunStep plan start words schedule p s t → IsAtRest plan.shape n (calm_of plan words schedule)
     → Makes plan.variant plan.shape s p (calm_of plan words schedule) (calm_of plan words (schedule ++ p ∷ [])) m effect
     → HoldsReached plan.variant plan.shape s p (calm_of plan words schedule) → (r : ℕ) → r ≢ p → (call : Call) (stage : Stage) (reply : Reply)
-    → IsAt plan.variant plan.shape s r call stage → AtEnd (setting plan.shape plan.variant call) s.words (calm_of plan words schedule) reply stage
-    → IsAt plan.variant plan.shape t r call stage
+    → IsAtStage plan.variant plan.shape s r call (OnKey stage)
+    → AtEnd (setting plan.shape plan.variant call) s.words (calm_of plan words schedule) reply stage
+    → IsAtStage plan.variant plan.shape t r call (OnKey stage)
     × AtEnd (setting plan.shape plan.variant call) t.words (calm_of plan words (schedule ++ p ∷ [])) reply stage
 
 -- A step of a call at work: it goes on and calm's tree stays, or it is refused and calm's tree stays, or this is the step at which it takes effect.
 abbrev pub WorkersStep : Type 0
 WorkersStep = (plan : Plan) (start : Contents) (words schedule : List ℕ) (p : ℕ) (s t : State) (n : ℕ) (m : Contents)
-    → IsLastStep plan start words schedule p s t → IsAtRest plan.shape n (calm_of plan words schedule) → Means plan.shape (calm_of plan words schedule) m
-    → (call : Call) (stage : Stage) (fresh : Option Named) → IsAt plan.variant plan.shape s p call stage
+    → IsRunStep plan start words schedule p s t → IsAtRest plan.shape n (calm_of plan words schedule)
+    → Means plan.shape (calm_of plan words schedule) m
+    → (call : Call) (stage : Stage) (fresh : Option Named) → IsAtStage plan.variant plan.shape s p call (OnKey stage)
     → AtWork (setting plan.shape plan.variant call) s.words (calm_of plan words schedule) fresh stage
     → WorkStep plan.variant plan.shape s p t (calm_of plan words schedule) (calm_of plan words (schedule ++ p ∷ [])) m call fresh
 
 -- A step of a call that only releases rows keeps calm's tree.
 abbrev pub LeaversStep : Type 0
 LeaversStep = (plan : Plan) (start : Contents) (words schedule : List ℕ) (p : ℕ) (s t : State) (n : ℕ) (m : Contents)
-    → IsLastStep plan start words schedule p s t → IsAtRest plan.shape n (calm_of plan words schedule) → Means plan.shape (calm_of plan words schedule) m
-    → (call : Call) (stage : Stage) (reply : Reply) → IsAt plan.variant plan.shape s p call stage
+    → IsRunStep plan start words schedule p s t → IsAtRest plan.shape n (calm_of plan words schedule)
+    → Means plan.shape (calm_of plan words schedule) m
+    → (call : Call) (stage : Stage) (reply : Reply) → IsAtStage plan.variant plan.shape s p call (OnKey stage)
     → AtEnd (setting plan.shape plan.variant call) s.words (calm_of plan words schedule) reply stage
     → EndStep plan.variant plan.shape s p t (calm_of plan words schedule) (calm_of plan words (schedule ++ p ∷ [])) m call reply stage
 
@@ -98,11 +102,12 @@ FreshIsClaimed = (c : Setting) (real calm : List ℕ) (stage : Stage) (row : Nam
 -- So two calls that have fresh rows have two, whichever of them steps,
 abbrev pub FreshRowsStayApart : Type 0
 FreshRowsStayApart = (c : Setting) (s : State) (calm : List ℕ) (stage : Stage) (fresh later other : Option Named)
-    → AtWork c s.words calm other stage → GoesOn c.shape s fresh later → AreApart fresh other → AreApart later other × AreApart other later
+    → AtWork c s.words calm other stage → FreshGoesOn c.shape s fresh later → AreTwoRows fresh other → AreTwoRows later other
+    × AreTwoRows other later
 
 -- and the row that an effect brings is none of another call.
 abbrev pub EffectsBringTheirs : Type 0
-EffectsBringTheirs = (e : Effect) (other : Option Named) → AreApart (fresh_of e) other → IsOther (Some e) other
+EffectsBringTheirs = (e : Effect) (other : Option Named) → AreTwoRows (fresh_of e) other → IsOther (Some e) other
 
 -- Where a row is to go by the effect of a call, the call holds the row above it: so no call that holds a row of which calm has another row finds that one gone.
 abbrev pub HangersHoldAbove : Type 0
@@ -115,18 +120,19 @@ HangersHoldAbove = (c : Setting) (real calm : List ℕ) (n : ℕ) (stage : Stage
 -- A step of a call at work, with its mark: the row that the call made obsolete in its step before is the one that goes by its effect.
 abbrev pub WorkersGoOn : Type 0
 WorkersGoOn = (plan : Plan) (start : Contents) (words schedule : List ℕ) (p : ℕ) (s t : State) (n : ℕ) (m : Contents)
-    → IsLastStep plan start words schedule p s t → IsAtRest plan.shape n (calm_of plan words schedule) → Means plan.shape (calm_of plan words schedule) m
-    → (call : Call) (stage : Stage) (fresh : Option Named) (left : Option ℕ) → IsAt plan.variant plan.shape s p call stage
+    → IsRunStep plan start words schedule p s t → IsAtRest plan.shape n (calm_of plan words schedule)
+    → Means plan.shape (calm_of plan words schedule) m
+    → (call : Call) (stage : Stage) (fresh : Option Named) (left : Option ℕ) → IsAtStage plan.variant plan.shape s p call (OnKey stage)
     → (work : AtWork (setting plan.shape plan.variant call) s.words (calm_of plan words schedule) fresh stage) → IsMarked left work
     → WorkerStep plan s p t (calm_of plan words schedule) (calm_of plan words (schedule ++ p ∷ [])) m call stage fresh left
 
 -- A step of another process keeps a call at work with its mark.
 abbrev pub OthersKeepMarked : Type 0
 OthersKeepMarked = (plan : Plan) (start : Contents) (words schedule : List ℕ) (p : ℕ) (s t : State) (n : ℕ) (m : Contents) (effect : Option Effect)
-    → IsLastStep plan start words schedule p s t → IsAtRest plan.shape n (calm_of plan words schedule)
+    → IsRunStep plan start words schedule p s t → IsAtRest plan.shape n (calm_of plan words schedule)
     → Makes plan.variant plan.shape s p (calm_of plan words schedule) (calm_of plan words (schedule ++ p ∷ [])) m effect
     → HoldsReached plan.variant plan.shape s p (calm_of plan words schedule) → (r : ℕ) → r ≢ p → (call : Call) (stage : Stage) (fresh : Option Named)
-    (left : Option ℕ) → IsAt plan.variant plan.shape s r call stage → IsOther effect fresh
+    (left : Option ℕ) → IsAtStage plan.variant plan.shape s r call (OnKey stage) → IsOther effect fresh
     → (work : AtWork (setting plan.shape plan.variant call) s.words (calm_of plan words schedule) fresh stage) → IsMarked left work
     → (later : AtWork (setting plan.shape plan.variant call) t.words (calm_of plan words (schedule ++ p ∷ [])) fresh stage) × IsMarked left later
 
@@ -148,8 +154,10 @@ WorkersOnlyWork = (c : Setting) (real calm : List ℕ) (fresh : Option Named) (s
 -- A step of a call at its end that does not answer it: it stays at its end, with the same reply, and calm's tree stays.
 abbrev pub EndersGoOn : Type 0
 EndersGoOn = (plan : Plan) (start : Contents) (words schedule : List ℕ) (p : ℕ) (s t : State) (n : ℕ) (m : Contents)
-    → IsLastStep plan start words schedule p s t → IsAtRest plan.shape n (calm_of plan words schedule) → Means plan.shape (calm_of plan words schedule) m
-    → (call : Call) (stage : Stage) (reply : Reply) (a : Access) (mark : Option Point) → IsAt plan.variant plan.shape s p call stage
+    → IsRunStep plan start words schedule p s t → IsAtRest plan.shape n (calm_of plan words schedule)
+    → Means plan.shape (calm_of plan words schedule) m
+    → (call : Call) (stage : Stage) (reply : Reply) (a : Access) (mark : Option Point)
+    → IsAtStage plan.variant plan.shape s p call (OnKey stage)
     → AtEnd (setting plan.shape plan.variant call) s.words (calm_of plan words schedule) reply stage
     → turn_at (setting plan.shape plan.variant call) stage ≡ Asks a mark
     → EnderStep plan s p t (calm_of plan words schedule) (calm_of plan words (schedule ++ p ∷ [])) m call reply

@@ -15,12 +15,14 @@ use Rattle.art_stages.specs.declared.stage.Outcome.{Outcome}
 use Rattle.art_stages.specs.declared.stage.Stage.{Stage}
 use Rattle.art_stages.specs.declared.stage.Stage.TheVariants.{Obsolete}
 use Rattle.art_stages.specs.Stages.{setting}
+use Rattle.art_stages.specs.Calls.{OnKey}
 use Rattle.art_core.specs.Core.{Plan, State}
 use Rattle.art_core.specs.Meaning.{Reached, child_on}
 use Rattle.art_versions.specs.versions.Holding.{Named}
+use Rattle.art_versions.specs.versions.Versions.{IsAtStage}
 use Rattle.art_schedules.specs.changes.Effects.{Effect, IsGone}
 use Rattle.art_schedules.specs.effects.AtWork.{IsReleasing, Last, Lower, Gone, AtWork, Claiming, Going, Hanging, AtEnd}
-use Rattle.art_schedules.specs.effects.Outcomes.{Makes, IsAt, WorkStep, Works, IsRefused, TakesEffect}
+use Rattle.art_schedules.specs.effects.Outcomes.{Makes, WorkStep, Works, IsRefused, TakesEffect}
 
 -- the row that the step from a stage makes obsolete
 abbrev pub obsolete_by : Stage → Option ℕ
@@ -66,6 +68,6 @@ pub record HangsOnAbove (shape : Shape) (calm : List ℕ) (h : Hold) : Type 0 wh
 -- What a step of a call at its end does that does not answer it: it releases a row, and calm's tree stays.
 pub record EnderStep (plan : Plan) (s : State) (p : ℕ) (t : State) (calm after : List ℕ) (m : Contents) (call : Call) (reply : Reply) : Type 0 where
   pub next : Stage
-  pub at : IsAt plan.variant plan.shape t p call next
+  pub at : IsAtStage plan.variant plan.shape t p call (OnKey next)
   pub ends : AtEnd (setting plan.shape plan.variant call) t.words after reply next
   pub makes : Makes plan.variant plan.shape s p calm after m None

@@ -18,14 +18,15 @@ use Rattle.art_core.specs.Meaning.{Means}
 use Rattle.art_serial.specs.trees.Trees.{IsAtRest}
 use Rattle.art_schedules.specs.calm.Calm.{calm_of}
 use Rattle.art_schedules.specs.changes.Effects.{Effect}
-use Rattle.art_schedules.specs.changes.Courses.{IsGoneBy, IsFreshBy}
+use Rattle.art_schedules.specs.changes.Courses.{IsGoneBy, ComesInBy}
 use Rattle.art_schedules.specs.changes.Follows.{Follows}
-use Rattle.art_schedules.specs.coupled.Moments.{IsStepOf, TakesLive, ObsoleteLeave}
+use Rattle.art_schedules.specs.coupled.Moments.{TakesLive, ObsoleteLeave, IsCoupledStep}
 use Rattle.art_versions.specs.versions.Effects.{IsAmong}
+use Rattle.art_versions.specs.versions.Versions.{IsAtStage}
 use Rattle.art_schedules.specs.coupled.Good.{TakesReached}
 use Rattle.art_schedules.specs.coupled.Scanning.{KnowsTree}
-use Rattle.art_schedules.specs.coupled.Walks.{IsWalked}
-use Rattle.art_schedules.specs.locked_scans.Walking.{HasWalked, HasFound, IsAtScan, ScanGoes, ScanComes, ScanStays, rows_at}
+use Rattle.art_schedules.specs.locked_scans.Walking.{HasWalked, ScanGoes, ScanComes, ScanStays, HasPairsFound, rows_of_scan}
+use Rattle.art_schedules.specs.coupled.Walks.{IsOver}
 
 -- A scan begins where it has walked nothing yet.
 abbrev pub ScansBegin : Type 0
@@ -36,68 +37,81 @@ ScansBegin = (shape : Shape) (low high : ℕ) (calm words : List ℕ) → length
 -- In a run: a step of a scan that has not come to the end of its walk, and that takes no row that is obsolete.
 abbrev pub ScansGoOn : Type 0
 ScansGoOn = (plan : Plan) (start : Contents) (words schedule : List ℕ) (p : ℕ) (s t : State) (claims : ℕ) (m : Contents) (low high : ℕ) (x : ScanAt)
-    → IsStepOf plan start words schedule p s t claims m → TakesLive plan.shape s p → IsAtScan plan.shape s p low high x → (IsWalked x.step → ⊥)
+    → IsCoupledStep plan start words schedule p s t claims m → TakesLive plan.shape s p
+    → IsAtStage Coupled plan.shape s p (Scan low high) (OnScan low high x) → (IsOver x.step → ⊥)
     → HasWalked plan.shape low high (calm_of plan words schedule) s.words x
     → ScanGoes plan.shape low high t p (calm_of plan words schedule) (calm_of plan words (schedule ++ p ∷ []))
 
 -- At the end of its walk, before it has released a row, a scan has the pairs that the map of this moment has.
 abbrev pub WalkedScansFind : Type 0
 WalkedScansFind = (shape : Shape) (low high n : ℕ) (calm words : List ℕ) (m : Contents) (x : ScanAt) → IsAtRest shape n calm → Means shape calm m
-    → length m ≤ pair_limit → HasWalked shape low high calm words x → IsWalked x.step → HasFound shape low high calm words (reply_to m (Scan low high)) x
+    → length m ≤ pair_limit → HasWalked shape low high calm words x → IsOver x.step
+    → HasPairsFound shape low high calm words (reply_to m (Scan low high)) x
 
 -- A step of a scan that has found its reply, other than the one that answers it.
 abbrev pub FoundScansStay : Type 0
 FoundScansStay = (plan : Plan) (start : Contents) (words schedule : List ℕ) (p : ℕ) (s t : State) (claims : ℕ) (m : Contents) (low high : ℕ) (x : ScanAt)
-    (r : Reply) (a : Access) (mark : Option Point) → IsStepOf plan start words schedule p s t claims m → IsAtScan plan.shape s p low high x
-    → HasFound plan.shape low high (calm_of plan words schedule) s.words r x → scan_turn (setting plan.shape Coupled (Scan low high)) x ≡ Asks a mark
+    (r : Reply) (a : Access) (mark : Option Point) → IsCoupledStep plan start words schedule p s t claims m
+    → IsAtStage Coupled plan.shape s p (Scan low high) (OnScan low high x)
+    → HasPairsFound plan.shape low high (calm_of plan words schedule) s.words r x
+    → scan_turn (setting plan.shape Coupled (Scan low high)) x ≡ Asks a mark
     → ScanStays plan.shape low high t p (calm_of plan words schedule) (calm_of plan words (schedule ++ p ∷ [])) r
 
 -- It is answered what it has found.
 abbrev pub FoundScansAnswer : Type 0
-FoundScansAnswer = (shape : Shape) (low high : ℕ) (calm words : List ℕ) (r answer : Reply) (x : ScanAt) → HasFound shape low high calm words r x
+FoundScansAnswer = (shape : Shape) (low high : ℕ) (calm words : List ℕ) (r answer : Reply) (x : ScanAt)
+    → HasPairsFound shape low high calm words r x
     → scan_turn (setting shape Coupled (Scan low high)) x ≡ Answers answer → answer ≡ r
 
 -- Before the end of its walk it is not answered.
 abbrev pub WalkingScansAsk : Type 0
-WalkingScansAsk = (shape : Shape) (low high : ℕ) (x : ScanAt) (answer : Reply) → (IsWalked x.step → ⊥)
+WalkingScansAsk = (shape : Shape) (low high : ℕ) (x : ScanAt) (answer : Reply) → (IsOver x.step → ⊥)
     → scan_turn (setting shape Coupled (Scan low high)) x ≡ Answers answer → ⊥
 
 -- A step of another process leaves a scan where it is, with what it has walked or found.
 abbrev pub OthersLeaveScans : Type 0
 OthersLeaveScans = (plan : Plan) (start : Contents) (words schedule : List ℕ) (p : ℕ) (s t : State) (claims : ℕ) (m : Contents) (r low high : ℕ) (x : ScanAt)
-    → IsStepOf plan start words schedule p s t claims m → r ≢ p → IsAtScan plan.shape s r low high x → IsAtScan plan.shape t r low high x
+    → IsCoupledStep plan start words schedule p s t claims m → r ≢ p → IsAtStage Coupled plan.shape s r (Scan low high) (OnScan low high x)
+    → IsAtStage Coupled plan.shape t r (Scan low high) (OnScan low high x)
     × (HasWalked plan.shape low high (calm_of plan words schedule) s.words x
     → HasWalked plan.shape low high (calm_of plan words (schedule ++ p ∷ [])) t.words x)
-    × ((reply : Reply) → HasFound plan.shape low high (calm_of plan words schedule) s.words reply x
-    → HasFound plan.shape low high (calm_of plan words (schedule ++ p ∷ [])) t.words reply x)
+    × ((reply : Reply) → HasPairsFound plan.shape low high (calm_of plan words schedule) s.words reply x
+    → HasPairsFound plan.shape low high (calm_of plan words (schedule ++ p ∷ [])) t.words reply x)
 
 -- ---- scans that know the calm tree
 
 -- A scan that knows the calm tree up to the end of its walk takes no row that is obsolete,
 abbrev pub ScansTakeLive : Type 0
 ScansTakeLive = (plan : Plan) (start : Contents) (words schedule : List ℕ) (p : ℕ) (s t : State) (claims : ℕ) (m : Contents) (leaving : ℕ → Option ℕ)
-    (low high : ℕ) (x : ScanAt) → IsStepOf plan start words schedule p s t claims m → ObsoleteLeave plan.shape s (calm_of plan words schedule) leaving
-    → IsAtScan plan.shape s p low high x → ((IsWalked x.step → ⊥) → KnowsTree plan.shape (calm_of plan words schedule) x) → TakesLive plan.shape s p
+    (low high : ℕ) (x : ScanAt) → IsCoupledStep plan start words schedule p s t claims m
+    → ObsoleteLeave plan.shape s (calm_of plan words schedule) leaving
+    → IsAtStage Coupled plan.shape s p (Scan low high) (OnScan low high x)
+    → ((IsOver x.step → ⊥) → KnowsTree plan.shape (calm_of plan words schedule) x) → TakesLive plan.shape s p
 
 -- and takes rows of the calm tree alone.
 abbrev pub ScansTakeReached : Type 0
 ScansTakeReached = (plan : Plan) (start : Contents) (words schedule : List ℕ) (p : ℕ) (s t : State) (claims : ℕ) (m : Contents) (low high : ℕ) (x : ScanAt)
-    → IsStepOf plan start words schedule p s t claims m → IsAtScan plan.shape s p low high x
-    → ((IsWalked x.step → ⊥) → KnowsTree plan.shape (calm_of plan words schedule) x) → TakesReached plan.shape s p (calm_of plan words schedule)
+    → IsCoupledStep plan start words schedule p s t claims m → IsAtStage Coupled plan.shape s p (Scan low high) (OnScan low high x)
+    → ((IsOver x.step → ⊥) → KnowsTree plan.shape (calm_of plan words schedule) x)
+    → TakesReached plan.shape s p (calm_of plan words schedule)
 
 -- So its steps need no further premise, and it knows the calm tree behind them.
 abbrev pub ScansComeOn : Type 0
 ScansComeOn = (plan : Plan) (start : Contents) (words schedule : List ℕ) (p : ℕ) (s t : State) (claims : ℕ) (m : Contents) (leaving : ℕ → Option ℕ)
-    (low high : ℕ) (x : ScanAt) → IsStepOf plan start words schedule p s t claims m → ObsoleteLeave plan.shape s (calm_of plan words schedule) leaving
-    → IsAtScan plan.shape s p low high x → (IsWalked x.step → ⊥) → HasWalked plan.shape low high (calm_of plan words schedule) s.words x
+    (low high : ℕ) (x : ScanAt) → IsCoupledStep plan start words schedule p s t claims m
+    → ObsoleteLeave plan.shape s (calm_of plan words schedule) leaving
+    → IsAtStage Coupled plan.shape s p (Scan low high) (OnScan low high x) → (IsOver x.step → ⊥)
+    → HasWalked plan.shape low high (calm_of plan words schedule) s.words x
     → KnowsTree plan.shape (calm_of plan words schedule) x
     → ScanComes plan.shape low high t p (calm_of plan words schedule) (calm_of plan words (schedule ++ p ∷ []))
 
 -- A step of another process, in which the calm tree changes by an effect, or by none: no row leaves it that the scan holds.
 abbrev pub OthersLeaveTrees : Type 0
 OthersLeaveTrees = (plan : Plan) (start : Contents) (words schedule : List ℕ) (p : ℕ) (s t : State) (claims : ℕ) (m : Contents) (r low high : ℕ) (x : ScanAt)
-    (n : ℕ) (pairs : Contents) (effect : Option Effect) → IsStepOf plan start words schedule p s t claims m → r ≢ p → IsAtScan plan.shape s r low high x
-    → Follows plan.shape n (calm_of plan words schedule) (calm_of plan words (schedule ++ p ∷ [])) pairs (IsGoneBy effect) (IsFreshBy effect)
-    → ((h : Held) → IsAmong h (rows_at plan.shape low high x) → IsGoneBy effect h.base → ⊥) → (IsWalked x.step → ⊥)
+    (n : ℕ) (pairs : Contents) (effect : Option Effect) → IsCoupledStep plan start words schedule p s t claims m → r ≢ p
+    → IsAtStage Coupled plan.shape s r (Scan low high) (OnScan low high x)
+    → Follows plan.shape n (calm_of plan words schedule) (calm_of plan words (schedule ++ p ∷ [])) pairs (IsGoneBy effect)
+    (ComesInBy effect)
+    → ((h : Held) → IsAmong h (rows_of_scan plan.shape low high x) → IsGoneBy effect h.base → ⊥) → (IsOver x.step → ⊥)
     → HasWalked plan.shape low high (calm_of plan words schedule) s.words x → KnowsTree plan.shape (calm_of plan words schedule) x
     → KnowsTree plan.shape (calm_of plan words (schedule ++ p ∷ [])) x

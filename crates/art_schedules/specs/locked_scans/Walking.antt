@@ -11,13 +11,12 @@ use Rattle.art_stages.specs.declared.stage.ScanStep.TheVariants.{Lock, Exchange}
 use Rattle.art_stages.specs.Stages.{setting}
 use Rattle.art_stages.specs.Scans.{ScanAt, at}
 use Rattle.art_stages.specs.Calls.{OnScan, call_begun}
-use Rattle.art_core.specs.declared.process.Process.{Process}
 use Rattle.art_core.specs.Core.{State}
 use Rattle.art_versions.specs.versions.Holding.{Each, holds}
-use Rattle.art_versions.specs.versions.Versions.{IsOpen, stage_of}
+use Rattle.art_versions.specs.versions.Versions.{IsAtStage}
 use Rattle.art_schedules.specs.changes.Follows.{KeepsTree}
 use Rattle.art_schedules.specs.coupled.Knows.{IsOwn}
-use Rattle.art_schedules.specs.coupled.Walks.{Alone, IsWalked, SameOn}
+use Rattle.art_schedules.specs.coupled.Walks.{Alone, SameOn, IsOver}
 use Rattle.art_schedules.specs.coupled.Scanning.{KnowsTree}
 
 -- The stage without the waiting at a lock: the scan has not got the row yet.
@@ -30,46 +29,41 @@ unwaited x = go x.step
     go step = at step x.walk
 
 -- the rows that the scan holds there
-abbrev pub rows_at : Shape → ℕ → ℕ → ScanAt → List Held
-rows_at shape low high x = holds (setting shape Coupled (Scan low high)) (OnScan low high x)
+abbrev pub rows_of_scan : Shape → ℕ → ℕ → ScanAt → List Held
+rows_of_scan shape low high x = holds (setting shape Coupled (Scan low high)) (OnScan low high x)
 
 -- Before its first release: alone on calm, where no lock is waited for, the scan comes to this stage, by accesses to words of the rows that it holds. On these
 -- rows the words are those that it has there; behind the versions they are calm's.
 pub record HasWalked (shape : Shape) (low high : ℕ) (calm words : List ℕ) (x : ScanAt) : Type 0 where
   pub now : List ℕ
-  pub alone : Alone (setting shape Coupled (Scan low high)) (rows_at shape low high x) (call_begun (setting shape Coupled (Scan low high))) calm
+  pub alone : Alone (setting shape Coupled (Scan low high)) (rows_of_scan shape low high x)
+      (call_begun (setting shape Coupled (Scan low high))) calm
       (OnScan low high (unwaited x)) now
   pub long : length words ≡ length now
-  pub same : SameOn (rows_at shape low high x) now words
-  pub own : Each (IsOwn calm words) (rows_at shape low high x)
+  pub same : SameOn (rows_of_scan shape low high x) now words
+  pub own : Each (IsOwn calm words) (rows_of_scan shape low high x)
 
 -- From its first release on it only releases the rows that it holds, to which it has not written, and answers this.
-pub record HasFound (shape : Shape) (low high : ℕ) (calm words : List ℕ) (r : Reply) (x : ScanAt) : Type 0 where
-  pub walked : IsWalked x.step
+pub record HasPairsFound (shape : Shape) (low high : ℕ) (calm words : List ℕ) (r : Reply) (x : ScanAt) : Type 0 where
+  pub walked : IsOver x.step
   pub is : r ≡ reply.Pairs x.walk.pairs
-  pub own : Each (IsOwn calm words) (rows_at shape low high x)
-
--- the process is in this scan, at this stage
-pub record IsAtScan (shape : Shape) (s : State) (p low high : ℕ) (x : ScanAt) : Type 0 where
-  pub process : Process
-  pub is_open : IsOpen s p (Scan low high) process
-  pub at : stage_of Coupled shape (Scan low high) process ≡ OnScan low high x
+  pub own : Each (IsOwn calm words) (rows_of_scan shape low high x)
 
 -- Behind its step the scan is at the next stage; the calm tree is as it was, and the scan has come there by itself,
 pub record ScanGoes (shape : Shape) (low high : ℕ) (t : State) (p : ℕ) (calm after : List ℕ) : Type 0 where
   pub next : ScanAt
-  pub at : IsAtScan shape t p low high next
+  pub at : IsAtStage Coupled shape t p (Scan low high) (OnScan low high next)
   pub keeps : KeepsTree shape calm after
   pub walked : HasWalked shape low high after t.words next
 
 -- where it knows the calm tree, up to the end of its walk,
 pub record ScanComes (shape : Shape) (low high : ℕ) (t : State) (p : ℕ) (calm after : List ℕ) : Type 0 where
   pub goes : ScanGoes shape low high t p calm after
-  pub tree : (IsWalked goes.next.step → ⊥) → KnowsTree shape after goes.next
+  pub tree : (IsOver goes.next.step → ⊥) → KnowsTree shape after goes.next
 
 -- or it has found its reply.
 pub record ScanStays (shape : Shape) (low high : ℕ) (t : State) (p : ℕ) (calm after : List ℕ) (r : Reply) : Type 0 where
   pub next : ScanAt
-  pub at : IsAtScan shape t p low high next
+  pub at : IsAtStage Coupled shape t p (Scan low high) (OnScan low high next)
   pub keeps : KeepsTree shape calm after
-  pub found : HasFound shape low high after t.words r next
+  pub found : HasPairsFound shape low high after t.words r next

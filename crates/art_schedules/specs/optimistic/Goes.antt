@@ -17,14 +17,15 @@ use Rattle.art_core.specs.Accesses.{got_by}
 use Rattle.art_core.specs.Meaning.{Reached}
 use Rattle.art_versions.specs.versions.Holding.{Each}
 use Rattle.art_versions.specs.versions.Locking.{rows_of_hold}
-use Rattle.art_versions.specs.versions.Steady.{SameRow}
+use Rattle.art_versions.specs.versions.Steady.{SameWords}
 use Rattle.art_schedules.specs.calm.Calm.{is_busy}
 use Rattle.art_schedules.specs.effects.Begins.{BeginsWork}
 use Rattle.art_schedules.specs.optimistic.Knows.{IsOwn, KnowsWay}
 
 -- Calm has all words of each row that is not busy, and the info word of each row of its tree, busy or not.
 pub record Agrees (shape : Shape) (words calm : List ℕ) : Type 0 where
-  pub free : (base : ℕ) (kind : Kind) → kind_at shape base ≡ Some kind → is_busy (slice_index words base) ≡ false → SameRow words calm base kind
+  pub free : (base : ℕ) (kind : Kind) → kind_at shape base ≡ Some kind → is_busy (slice_index words base) ≡ false
+      → SameWords words calm base kind
   pub info : (base : ℕ) (kind : Kind) → Reached shape calm base kind → slice_index calm (info_at base) ≡ slice_index words (info_at base)
 
 -- the access of the stage gets this word

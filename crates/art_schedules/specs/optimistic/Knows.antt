@@ -5,15 +5,11 @@ use Rattle.events.specs.declared.event.Reply.{Reply}
 use Rattle.events.specs.declared.event.Reply.TheVariants as reply
 use Rattle.art_rows.specs.declared.table.Shape.{Shape}
 use Rattle.art_rows.specs.declared.table.Kind.TheVariants.{Sixteen, FortyEight}
-use Rattle.art_rows.specs.declared.table.Child.{Child}
 use Rattle.art_rows.specs.declared.table.Child.TheVariants.{Row as ChildRow}
-use Rattle.art_rows.specs.Table.{info_at, keys_at, index_at, count_at}
-use Rattle.art_rows.specs.Words.{key_bytes, first_difference, child_of}
+use Rattle.art_rows.specs.Table.{keys_at, index_at, count_at}
+use Rattle.art_rows.specs.Words.{key_bytes, first_difference}
 use Rattle.art_steps.specs.Rows.{Setting, key_of, is_insert}
 use Rattle.art_stages.specs.declared.stage.Held.{Held}
-use Rattle.art_stages.specs.declared.stage.Keys.{Keys}
-use Rattle.art_stages.specs.declared.stage.Finding.{Finding}
-use Rattle.art_stages.specs.declared.stage.Finding.TheVariants.{Has, Lacks}
 use Rattle.art_stages.specs.declared.stage.Position.{Position}
 use Rattle.art_stages.specs.declared.stage.Down.{Down}
 use Rattle.art_stages.specs.declared.stage.Hold.{Hold}
@@ -24,31 +20,13 @@ use Rattle.art_stages.specs.declared.stage.Stage.{Stage}
 use Rattle.art_stages.specs.declared.stage.Stage.TheVariants.{Wait, Between, Info, Find, FindKeys, FindMore}
 use Rattle.art_stages.specs.declared.stage.Stage.TheVariants.{FindCount, Slot, Check, CheckLast, Take, Unlock, Over}
 use Rattle.art_stages.specs.Stages.{byte_in, reply_for}
-use Rattle.art_core.specs.Meaning.{Reached, slot_of}
+use Rattle.art_core.specs.Meaning.{Reached}
 use Rattle.art_core.specs.Forms.{path_in}
-use Rattle.art_serial.specs.trees.Trees.{SameRow, LeadsTo}
+use Rattle.art_serial.specs.trees.Trees.{SameRow}
 use Rattle.art_versions.specs.versions.Holding.{Each, rows_kept}
 use Rattle.art_versions.specs.versions.Locking.{rows_held, all_of}
-use Rattle.art_schedules.specs.work.Works.{LacksByte}
 use Rattle.art_schedules.specs.effects.Begins.{BeginsWork}
-
--- The key's way leads to the row, whose info the call has read, so that level, path and byte are those of the calm table.
-pub record IsOnWay (c : Setting) (calm : List ℕ) (n : Held) : Type 0 where
-  pub leads : LeadsTo c.shape calm (key_of c.call) n.base n.kind (byte_in c n)
-  pub info : slice_index calm (info_at n.base) ≡ n.info
-
--- the slot for the key's byte, if the calm row has one
-abbrev pub slot_in : Setting → List ℕ → Held → Option ℕ
-slot_in c calm n = slot_of calm n.base n.kind (byte_in c n)
-
--- The row has the slot for the key's byte, and in it this child.
-pub record HasChild (c : Setting) (calm : List ℕ) (n : Held) (slot : ℕ) (child : Child) : Type 0 where
-  pub at : slot_in c calm n ≡ Some slot
-  pub has : child_of c.shape (slice_index calm slot) ≡ child
-
--- The key's way leads to the row, on whose byte of the key this child hangs, in this slot.
-abbrev pub Hangs : Setting → List ℕ → Held → ℕ → Child → Type 0
-Hangs c calm n slot child = IsOnWay c calm n × HasChild c calm n slot child
+use Rattle.art_schedules.specs.work.Ways.{IsOnWay, slot_in, Hangs, KnowsFinding}
 
 -- the version that was kept is still the row's: it is neither locked nor obsolete, and calm has its words
 abbrev pub Stands : List ℕ → Held → Type 0
@@ -73,16 +51,6 @@ IsLed c calm words n = Stands words n → IsOnWay c calm n
 
 abbrev pub KnowsPlace : Setting → List ℕ → List ℕ → Position → Type 0
 KnowsPlace c calm words p = IsLed c calm words p.row × HangsBelow c calm words p.row p.slot p.above
-
--- What was read of a row that has not the byte: only an insert has to know it. The flag says that the call is an insert.
-abbrev pub KnowsKeys : Bool → Setting → List ℕ → Held → Keys → Type 0
-KnowsKeys true c calm n keys = LacksByte c n keys calm
-KnowsKeys false c calm n keys = slot_in c calm n ≡ None
-
--- What FIND saw is so of the calm row.
-abbrev pub KnowsFinding : Bool → Setting → List ℕ → Held → Finding → Type 0
-KnowsFinding i c calm n (Has slot child) = HasChild c calm n slot child
-KnowsFinding i c calm n (Lacks keys) = KnowsKeys i c calm n keys
 
 -- Behind the check of the row above, the row below is reached, if it stands; where the call is no insert, its path differs nowhere from the key,
 abbrev pub PathFollows : Bool → Setting → List ℕ → Down → Type 0

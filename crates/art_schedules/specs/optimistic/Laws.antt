@@ -1,24 +1,21 @@
 -- Laws of calls on a key of the optimistic tree.
-use Rattle.std.specs.Prelude.{◌≡◌, ◌⊎◌, ℕ, List, [], ◌∷◌, ◌++◌, slice_index, true, false, Option, Some, None}
+use Rattle.std.specs.Prelude.{◌≡◌, ◌⊎◌, ℕ, List, slice_index, true, false, Option, Some, None}
 use Rattle.events.specs.declared.event.Call.{Call}
 use Rattle.events.specs.declared.event.Reply.{Reply}
 use Rattle.map_object.specs.MapObject.{Contents}
 use Rattle.art_rows.specs.declared.table.Shape.{Shape}
 use Rattle.art_rows.specs.declared.table.Kind.{Kind}
 use Rattle.art_rows.specs.Table.{info_at}
-use Rattle.art_rows.specs.Words.{is_obsolete}
 use Rattle.art_steps.specs.declared.variant.Variant.TheVariants.{Optimistic}
 use Rattle.art_steps.specs.TreeCalls.{is_tree_call}
 use Rattle.art_steps.specs.Rows.{is_insert, is_scan}
-use Rattle.art_stages.specs.declared.stage.Held.{Held}
 use Rattle.art_stages.specs.declared.stage.Stage.{Stage}
 use Rattle.art_stages.specs.Stages.{setting}
 use Rattle.art_stages.specs.Automaton.{stage_after}
-use Rattle.art_core.specs.Core.{Plan, State, opened_on}
-use Rattle.art_core.specs.Runs.{Gives}
+use Rattle.art_core.specs.Core.{Plan, State}
 use Rattle.art_core.specs.Plans.{IsRun}
 use Rattle.art_core.specs.Meaning.{Means}
-use Rattle.art_serial.specs.trees.Trees.{IsAtRest, SameRow}
+use Rattle.art_serial.specs.trees.Trees.{IsAtRest}
 use Rattle.art_versions.specs.versions.Holding.{Each, KnowsKey}
 use Rattle.art_versions.specs.versions.Locking.{rows_held}
 use Rattle.art_versions.specs.versions.Versions.{IsSettled}
@@ -26,10 +23,10 @@ use Rattle.art_versions.specs.versions.Steady.{IsSteady}
 use Rattle.art_schedules.specs.work.Works.{RowsOf}
 use Rattle.art_schedules.specs.calm.Calm.{calm_of}
 use Rattle.art_schedules.specs.changes.Effects.{Effect}
-use Rattle.art_schedules.specs.changes.Courses.{IsGoneBy, IsFreshBy}
-use Rattle.art_schedules.specs.changes.Follows.{Follows}
+use Rattle.art_schedules.specs.changes.Courses.{IsStill, TreeGoesOn}
 use Rattle.art_schedules.specs.optimistic.Knows.{KnowsWay}
 use Rattle.art_schedules.specs.optimistic.Goes.{Agrees, Gets, Goes}
+use Rattle.art_schedules.specs.calm.Changes.{IsRunStep}
 
 -- Before its first access a call knows its way.
 abbrev pub WaysBegin : Type 0
@@ -51,12 +48,6 @@ FindingsStay = (shape : Shape) (call : Call) (calm words : List ℕ) (stage : St
     → KnowsWay (setting shape Optimistic call) calm words (Some reply) (stage_after (setting shape Optimistic call) stage w)
     ⊎ KnowsWay (setting shape Optimistic call) calm words None (stage_after (setting shape Optimistic call) stage w)
 
--- Behind its version the calm words of a row that is held stay, and its words, and the row does not leave the calm tree.
-pub record IsStill (calm words after later : List ℕ) (effect : Option Effect) (n : Held) : Type 0 where
-  pub row : SameRow calm after n.base n.kind
-  pub same : SameRow words later n.base n.kind
-  pub stays : IsGoneBy effect n.base → ⊥
-
 -- the info word of each settled row stays
 abbrev pub InfosStay : Shape → State → State → Type 0
 InfosStay shape s t = (base : ℕ) (kind : Kind) → IsSettled Optimistic shape s base kind
@@ -64,18 +55,19 @@ InfosStay shape s t = (base : ℕ) (kind : Kind) → IsSettled Optimistic shape 
 
 -- In a step of any process, by which the calm tree changes by an effect or by none, a call knows what it knew: a row leaves the tree only where it is obsolete.
 abbrev pub WaysAreKept : Type 0
-WaysAreKept = (shape : Shape) (call : Call) (n : ℕ) (calm after : List ℕ) (pairs : Contents) (effect : Option Effect) (s t : State) (found : Option Reply)
-    (stage : Stage) → Follows shape n calm after pairs (IsGoneBy effect) (IsFreshBy effect) → Agrees shape s.words calm → Agrees shape t.words after
+WaysAreKept = (shape : Shape) (call : Call) (calm after : List ℕ) (pairs : Contents) (effect : Option Effect) (s t : State)
+    (found : Option Reply)
+    (stage : Stage) → TreeGoesOn shape t.words calm after pairs effect → Agrees shape s.words calm → Agrees shape t.words after
     → IsSteady Optimistic shape s t → InfosStay shape s t
-    → ((base : ℕ) → IsGoneBy effect base → is_obsolete (slice_index t.words base) ≡ true)
     → KnowsKey (IsSettled Optimistic shape s) (setting shape Optimistic call) stage
     → Each (IsStill calm s.words after t.words effect) (rows_held false (is_insert call) stage)
     → KnowsWay (setting shape Optimistic call) calm s.words found stage → KnowsWay (setting shape Optimistic call) after t.words found stage
 
 -- In each step of a run the info word of each settled row stays.
 abbrev pub InfosStayInRuns : Type 0
-InfosStayInRuns = (plan : Plan) (start : Contents) (words schedule : List ℕ) (p : ℕ) (s t : State) → IsRun plan start words (schedule ++ p ∷ []) t
-    → plan.variant ≡ Optimistic → Gives plan (opened_on plan words) schedule s → InfosStay plan.shape s t
+InfosStayInRuns = (plan : Plan) (start : Contents) (words schedule : List ℕ) (p : ℕ) (s t : State)
+    → IsRunStep plan start words schedule p s t
+    → plan.variant ≡ Optimistic → InfosStay plan.shape s t
 
 -- In every state of a run calm agrees with the words.
 abbrev pub CalmAgrees : Type 0

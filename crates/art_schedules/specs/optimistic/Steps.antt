@@ -1,10 +1,9 @@
 -- Steps of a run of the optimistic tree, with a call on a key that is not at work.
-use Rattle.std.specs.Prelude.{◌≡◌, ◌≢◌, ◌⊎◌, ℕ, List, [], ◌∷◌, ◌++◌, slice_index, true, false, Option, Some, None}
+use Rattle.std.specs.Prelude.{◌≡◌, ◌≢◌, ◌⊎◌, ℕ, List, [], ◌∷◌, ◌++◌, true, false, Option, Some, None}
 use Rattle.events.specs.declared.event.Call.{Call}
 use Rattle.events.specs.declared.event.Reply.{Reply}
 use Rattle.map_object.specs.MapObject.{Contents}
 use Rattle.art_rows.specs.declared.table.Shape.{Shape}
-use Rattle.art_rows.specs.Words.{is_obsolete}
 use Rattle.art_steps.specs.declared.variant.Variant.{Variant}
 use Rattle.art_steps.specs.declared.variant.Variant.TheVariants.{Optimistic}
 use Rattle.art_steps.specs.declared.access.Access.{Access}
@@ -19,47 +18,40 @@ use Rattle.art_stages.specs.Automaton.{turn_at}
 use Rattle.art_stages.specs.Calls.{OnKey, OnScan, call_turn}
 use Rattle.art_stages.specs.Scans.{ScanAt}
 use Rattle.art_core.specs.declared.process.Process.{Process}
-use Rattle.art_core.specs.Core.{Plan, State, opened_on}
-use Rattle.art_core.specs.Runs.{Gives}
-use Rattle.art_core.specs.Plans.{IsRun}
+use Rattle.art_core.specs.Core.{Plan, State}
 use Rattle.art_core.specs.Meaning.{Means}
 use Rattle.art_serial.specs.trees.Trees.{IsAtRest}
-use Rattle.art_versions.specs.versions.Laws.{IsFull}
-use Rattle.art_versions.specs.versions.Versions.{IsOpen, stage_of}
+use Rattle.art_versions.specs.versions.Versions.{IsOpen, stage_of, IsAtStage}
 use Rattle.art_schedules.specs.calm.Calm.{calm_of}
 use Rattle.art_schedules.specs.changes.Effects.{Effect}
-use Rattle.art_schedules.specs.changes.Courses.{IsGoneBy, IsFreshBy}
-use Rattle.art_schedules.specs.changes.Follows.{Follows, KeepsTree}
+use Rattle.art_schedules.specs.changes.Courses.{TreeGoesOn}
+use Rattle.art_schedules.specs.changes.Follows.{KeepsTree}
 use Rattle.art_schedules.specs.optimistic.Knows.{KnowsWay}
 use Rattle.art_schedules.specs.optimistic.Goes.{Goes}
-
--- the process is in the call on a key, at this stage
-abbrev pub IsAtStage : Shape → State → ℕ → Call → Process → Stage → Type 0
-IsAtStage shape s p call q stage = IsOpen s p call q × (stage_of Optimistic shape call q ≡ OnKey stage)
+use Rattle.art_schedules.specs.calm.Changes.{IsRunStep}
 
 -- What the call knew before a step of another process it knows behind it, where the calm tree changes by an effect or by none, and a row leaves it only
 -- where it is obsolete.
 abbrev pub OtherStepsKeepWays : Type 0
-OtherStepsKeepWays = (plan : Plan) (start : Contents) (words schedule : List ℕ) (mover : ℕ) (s t : State) → IsRun plan start words (schedule ++ mover ∷ []) t
-    → plan.variant ≡ Optimistic → Gives plan (opened_on plan words) schedule s → (n : ℕ) (pairs : Contents) (effect : Option Effect)
-    → Follows plan.shape n (calm_of plan words schedule) (calm_of plan words (schedule ++ mover ∷ [])) pairs (IsGoneBy effect) (IsFreshBy effect)
-    → ((base : ℕ) → IsGoneBy effect base → is_obsolete (slice_index t.words base) ≡ true)
-    → (p : ℕ) (call : Call) (q : Process) (stage : Stage) (found : Option Reply) → p ≢ mover → IsAtStage plan.shape s p call q stage → IsOpen t p call q
-    → KnowsWay (setting plan.shape Optimistic call) (calm_of plan words schedule) s.words found stage
-    → KnowsWay (setting plan.shape Optimistic call) (calm_of plan words (schedule ++ mover ∷ [])) t.words found stage
+OtherStepsKeepWays = (plan : Plan) (start : Contents) (words schedule : List ℕ) (p : ℕ) (s t : State)
+    → IsRunStep plan start words schedule p s t
+    → plan.variant ≡ Optimistic → (pairs : Contents) (effect : Option Effect)
+    → TreeGoesOn plan.shape t.words (calm_of plan words schedule) (calm_of plan words (schedule ++ p ∷ [])) pairs effect
+    → (r : ℕ) (call : Call) (stage : Stage) (found : Option Reply) → r ≢ p → (at : IsAtStage Optimistic plan.shape s r call (OnKey stage))
+    → IsOpen t r call at.process → KnowsWay (setting plan.shape Optimistic call) (calm_of plan words schedule) s.words found stage
+    → KnowsWay (setting plan.shape Optimistic call) (calm_of plan words (schedule ++ p ∷ [])) t.words found stage
 
 -- Behind a step of its own the call is at another stage, and the calm tree is the same.
 pub record StepsOn (plan : Plan) (words schedule : List ℕ) (p : ℕ) (t : State) (call : Call) : Type 0 where
-  pub process : Process
   pub next : Stage
-  pub at : IsAtStage plan.shape t p call process next
+  pub at : IsAtStage Optimistic plan.shape t p call (OnKey next)
   pub keeps : KeepsTree plan.shape (calm_of plan words schedule) (calm_of plan words (schedule ++ p ∷ []))
 
 -- A call that knows its way goes on or starts again, or its work begins, or it finds what it will answer: at the state before this step.
 abbrev pub OwnStepsGoOn : Type 0
-OwnStepsGoOn = (plan : Plan) (start : Contents) (words schedule : List ℕ) (p : ℕ) (s t : State) → IsRun plan start words (schedule ++ p ∷ []) t
-    → plan.variant ≡ Optimistic → Gives plan (opened_on plan words) schedule s → (call : Call) (q : Process) (stage : Stage)
-    → IsAtStage plan.shape s p call q stage → is_tree_call call ≡ true → is_scan call ≡ false → (n : ℕ) (m : Contents)
+OwnStepsGoOn = (plan : Plan) (start : Contents) (words schedule : List ℕ) (p : ℕ) (s t : State) → IsRunStep plan start words schedule p s t
+    → plan.variant ≡ Optimistic → (call : Call) (stage : Stage) → IsAtStage Optimistic plan.shape s p call (OnKey stage)
+    → is_tree_call call ≡ true → is_scan call ≡ false → (n : ℕ) (m : Contents)
     → IsAtRest plan.shape n (calm_of plan words schedule) → Means plan.shape (calm_of plan words schedule) m
     → KnowsWay (setting plan.shape Optimistic call) (calm_of plan words schedule) s.words None stage
     → (x : StepsOn plan words schedule p t call)
@@ -67,9 +59,10 @@ OwnStepsGoOn = (plan : Plan) (start : Contents) (words schedule : List ℕ) (p :
 
 -- A call that has found what it will answer, and is not answered in this step, has it still, or starts again.
 abbrev pub OwnFindingsStay : Type 0
-OwnFindingsStay = (plan : Plan) (start : Contents) (words schedule : List ℕ) (p : ℕ) (s t : State) → IsRun plan start words (schedule ++ p ∷ []) t
-    → plan.variant ≡ Optimistic → Gives plan (opened_on plan words) schedule s → (call : Call) (q : Process) (stage : Stage)
-    → IsAtStage plan.shape s p call q stage → (a : Access) (mark : Option Point) → turn_at (setting plan.shape Optimistic call) stage ≡ Asks a mark
+OwnFindingsStay = (plan : Plan) (start : Contents) (words schedule : List ℕ) (p : ℕ) (s t : State)
+    → IsRunStep plan start words schedule p s t
+    → plan.variant ≡ Optimistic → (call : Call) (stage : Stage) → IsAtStage Optimistic plan.shape s p call (OnKey stage)
+    → (a : Access) (mark : Option Point) → turn_at (setting plan.shape Optimistic call) stage ≡ Asks a mark
     → (n : ℕ) → IsAtRest plan.shape n (calm_of plan words schedule) → (reply : Reply)
     → KnowsWay (setting plan.shape Optimistic call) (calm_of plan words schedule) s.words (Some reply) stage
     → (x : StepsOn plan words schedule p t call)
@@ -83,8 +76,9 @@ IsQuiet variant shape s p = (call : Call) (q : Process) → IsOpen s p call q �
 
 -- In both full trees the step of a quiet process leaves the calm tree.
 abbrev pub QuietStepsKeepTrees : Type 0
-QuietStepsKeepTrees = (plan : Plan) (start : Contents) (words schedule : List ℕ) (p : ℕ) (s t : State) → IsRun plan start words (schedule ++ p ∷ []) t
-    → IsFull plan.variant → Gives plan (opened_on plan words) schedule s → IsQuiet plan.variant plan.shape s p → (n : ℕ)
+QuietStepsKeepTrees = (plan : Plan) (start : Contents) (words schedule : List ℕ) (p : ℕ) (s t : State)
+    → IsRunStep plan start words schedule p s t
+    → IsQuiet plan.variant plan.shape s p → (n : ℕ)
     → IsAtRest plan.shape n (calm_of plan words schedule) → KeepsTree plan.shape (calm_of plan words schedule) (calm_of plan words (schedule ++ p ∷ []))
 
 -- A scan of the optimistic tree stores nothing.

@@ -1,5 +1,5 @@
 -- What fits an open call of the optimistic tree, by its stage and its status.
-use Rattle.std.specs.Prelude.{◌≡◌, ◌≢◌, ◌⊎◌, ℕ, ◌==◌, if◌then◌else◌, true, false, List, Option, Some, None}
+use Rattle.std.specs.Prelude.{◌≡◌, ◌≢◌, ◌⊎◌, ℕ, true, false, List, Option, Some, None}
 use Rattle.events.specs.declared.event.Call.{Call}
 use Rattle.events.specs.declared.event.Call.TheVariants.{Scan}
 use Rattle.events.specs.declared.event.Reply.{Reply}
@@ -14,27 +14,24 @@ use Rattle.art_stages.specs.Stages.{setting}
 use Rattle.art_stages.specs.Scans.{ScanAt}
 use Rattle.art_stages.specs.Calls.{OnKey, OnScan}
 use Rattle.art_core.specs.declared.process.Process.{Process}
-use Rattle.art_core.specs.Core.{Plan, State}
+use Rattle.art_core.specs.Core.{State}
+use Rattle.art_serial.specs.trees.Trees.{IsClaimed}
 use Rattle.art_versions.specs.versions.Holding.{Named}
-use Rattle.art_versions.specs.versions.Versions.{IsClaimed, stage_of}
+use Rattle.art_versions.specs.versions.Versions.{stage_of}
 use Rattle.art_schedules.specs.stories.Stories.{Status, Before, Found, Changed}
-use Rattle.art_schedules.specs.stories.Fitting.{AreLed}
+use Rattle.art_schedules.specs.stories.Fitting.{AreLed, the_plan}
 use Rattle.art_schedules.specs.optimistic.Knows.{KnowsWay}
 use Rattle.art_schedules.specs.effects.AtWork.{AtWork, AtEnd}
-use Rattle.art_schedules.specs.effects.Outcomes.{AreApart}
+use Rattle.art_schedules.specs.effects.Outcomes.{AreTwoRows}
 
 -- Beside a run: the fresh row of each process, from its claim to the end of its work.
 abbrev pub Ghosts : Type 0
 Ghosts = ℕ → Option Named
 
--- with another row at one process
-abbrev pub set_at : Ghosts → ℕ → Option Named → Ghosts
-set_at g p fresh r = if r == p then fresh else g r
-
 -- A fresh row was claimed, and those of two processes are two rows.
 pub record IsWorld (shape : Shape) (g : Ghosts) (s : State) : Type 0 where
   pub claimed : (p : ℕ) (row : Named) → g p ≡ Some row → IsClaimed shape s.words row.0 row.1
-  pub apart : (p r : ℕ) → p ≢ r → AreApart (g p) (g r)
+  pub apart : (p r : ℕ) → p ≢ r → AreTwoRows (g p) (g r)
 
 -- What fits an open call: on its way; behind the moment at which it found its reply; at work before its effect; behind its effect, or refused; or it scans, and
 -- nothing is known of it before it is answered.
@@ -56,10 +53,7 @@ pub record OptimisticFits (shape : Shape) (g : Ghosts) (schedule : List ℕ) (s 
   pub tree : is_tree_call call ≡ true
   pub fit : IsFit shape g s calm p call q status
 
-abbrev pub the_plan : Shape → List (List Call) → Plan
-the_plan shape scripts = record { shape = shape; variant = Optimistic; scripts = scripts }
-
 -- what fits a call, with a ghost and something of the whole state beside it, is kept by each step of a run
-abbrev pub CallsAreLed : Shape → List (List Call) → Contents → List ℕ → Type 0
-CallsAreLed shape scripts start words =
-    AreLed (the_plan shape scripts) start words Ghosts (λ g schedule s calm. IsWorld shape g s) (OptimisticFits shape)
+abbrev pub OptimisticAreLed : Shape → List (List Call) → Contents → List ℕ → Type 0
+OptimisticAreLed shape scripts start words =
+    AreLed (the_plan Optimistic shape scripts) start words Ghosts (λ g schedule s calm. IsWorld shape g s) (OptimisticFits shape)

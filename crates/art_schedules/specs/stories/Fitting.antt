@@ -1,30 +1,34 @@
 -- Statuses that fit what is known of each open call of a full tree, with calm beside it, and the steps that keep them.
-use Rattle.std.specs.Prelude.{◌≡◌, ◌≢◌, ℕ, ◌+◌, ◌≤◌, true, List, [], ◌∷◌, ◌++◌, length, take, slice_get, slice_index, Option, Some, None}
+use Rattle.std.specs.Prelude.{◌≡◌, ◌≢◌, ℕ, ◌+◌, ◌≤◌, List, [], ◌∷◌, ◌++◌, length, take, slice_get, slice_index, Option, Some, None}
+use Rattle.std.specs.Prelude.{◌==◌, if◌then◌else◌}
 use Rattle.events.specs.declared.event.Call.{Call}
 use Rattle.events.specs.declared.event.Reply.{Reply}
 use Rattle.events.specs.declared.event.Reply.TheVariants as replies
 use Rattle.events.specs.Limits.{pair_limit}
 use Rattle.map_object.specs.MapObject.{Contents, Does}
 use Rattle.art_rows.specs.declared.table.Shape.{Shape}
-use Rattle.art_rows.specs.Words.{is_obsolete}
 use Rattle.art_steps.specs.declared.access.Access.{Access}
 use Rattle.art_steps.specs.declared.access.Point.{Point}
 use Rattle.art_steps.specs.Steps.{Turn, Asks, Answers}
+use Rattle.art_steps.specs.declared.variant.Variant.{Variant}
 use Rattle.art_stages.specs.Calls.{call_turn, call_after, call_begun}
 use Rattle.art_stages.specs.Stages.{setting}
 use Rattle.art_core.specs.declared.process.Process.{Process}
 use Rattle.art_core.specs.Accesses.{got_by, words_after}
-use Rattle.art_core.specs.Core.{Plan, State, begun, next_call, opened_on, step}
+use Rattle.art_core.specs.Core.{Plan, State, begun, next_call, opened_on}
 use Rattle.art_core.specs.Plans.{IsRun}
 use Rattle.art_core.specs.Meaning.{Means}
 use Rattle.art_serial.specs.trees.Trees.{IsAtRest}
 use Rattle.art_versions.specs.versions.Versions.{IsOpen, stage_of}
 use Rattle.art_schedules.specs.calm.Calm.{calm_of, IsCalm}
-use Rattle.art_schedules.specs.calm.Changes.{CalmStep}
+use Rattle.art_schedules.specs.calm.Changes.{CalmStep, IsRunStep}
 use Rattle.art_schedules.specs.changes.Effects.{Effect, pairs_after}
-use Rattle.art_schedules.specs.changes.Follows.{Follows}
-use Rattle.art_schedules.specs.changes.Courses.{IsGoneBy, IsFreshBy}
+use Rattle.art_schedules.specs.changes.Courses.{TreeGoesOn}
 use Rattle.art_schedules.specs.stories.Stories.{Status, Before, Found, Changed, HasNotChanged, HasReply, Tale, IsInCall}
+
+-- the plan of these scripts, on a tree of this variant
+abbrev pub the_plan : Variant → Shape → List (List Call) → Plan
+the_plan variant shape scripts = record { shape = shape; variant = variant; scripts = scripts }
 
 -- At moment u of the schedule calm is a tree at rest, and means these pairs, which are no more than a scan may answer.
 pub record MeansAt (plan : Plan) (words schedule : List ℕ) (u : ℕ) (m : Contents) : Type 0 where
@@ -35,9 +39,7 @@ pub record MeansAt (plan : Plan) (words schedule : List ℕ) (u : ℕ) (m : Cont
 
 -- A step of a run of which something is told, with calm before and behind it.
 pub record IsToldStep (plan : Plan) (start : Contents) (words schedule : List ℕ) (tale : Tale) (p : ℕ) (s t : State) (calm after : List ℕ) : Type 0 where
-  pub before : IsRun plan start words schedule s
-  pub behind : IsRun plan start words (schedule ++ p ∷ []) t
-  pub made : step plan s p ≡ Some t
+  pub step : IsRunStep plan start words schedule p s t
   pub calm_is : calm ≡ calm_of plan words schedule
   pub after_is : after ≡ calm_of plan words (schedule ++ p ∷ [])
   pub calm_before : IsCalm plan.variant plan.shape words s calm
@@ -48,17 +50,6 @@ pub record IsToldStep (plan : Plan) (start : Contents) (words schedule : List �
   pub means : Means plan.shape calm (tale.pairs (length schedule))
   pub few : length (tale.pairs (length schedule)) ≤ pair_limit
   pub earlier : (u : ℕ) → u ≤ length schedule → MeansAt plan words schedule u (tale.pairs u)
-
--- the pairs after an effect, or after none
-abbrev pub pairs_by : Option Effect → Contents → Contents
-pairs_by None m = m
-pairs_by (Some effect) m = pairs_after effect m
-
--- Calm's tree goes on by this effect, or by none; a row that leaves it is obsolete behind the step.
-pub record GoesOn (shape : Shape) (t : State) (calm after : List ℕ) (m : Contents) (effect : Option Effect) : Type 0 where
-  pub claims : ℕ
-  pub follows : Follows shape claims calm after (pairs_by effect m) (IsGoneBy effect) (IsFreshBy effect)
-  pub gone : (b : ℕ) → IsGoneBy effect b → is_obsolete (slice_index t.words b) ≡ true
 
 -- What becomes of the status in a step that keeps the pairs: it stays, or what was found is forgotten, or a reply is found, in the pairs as they are now or as
 -- they were at an earlier moment within the call.
@@ -71,18 +62,19 @@ pub data Next (plan : Plan) (first : State) (schedule : List ℕ) (tale : Tale) 
       → Does (tale.pairs u) call reply (tale.pairs u) → Next plan first schedule tale p calls call status next
 
 -- Where it is answered, its status is, or becomes, one that has the reply.
-abbrev pub IsAnswered : Plan → List ℕ → List ℕ → Tale → ℕ → Call → Process → Status → Reply → Type 0
-IsAnswered plan words schedule tale p call q status reply =
+abbrev pub HasItsReply : Plan → List ℕ → List ℕ → Tale → ℕ → Call → Process → Status → Reply → Type 0
+HasItsReply plan words schedule tale p call q status reply =
     (next : Status) × Next plan (opened_on plan words) schedule tale p (length (begun q)) call status next × HasReply next reply
 
 -- What an open call does in a step of its own: it keeps the pairs, or changes them as it does with this reply. `Behind` is what has to be so behind the step,
 -- by its effect and the status then.
 pub data OwnStep (plan : Plan) (words schedule : List ℕ) (tale : Tale) (p : ℕ) (t : State) (calm after : List ℕ) (call : Call) (q : Process) (status : Status)
     (Behind : Option Effect → Status → Type 0) : Type 0 where
-  Keeps : (next : Status) → GoesOn plan.shape t calm after (tale.pairs (length schedule)) None
+  Keeps : (next : Status) → TreeGoesOn plan.shape t.words calm after (tale.pairs (length schedule)) None
       → Next plan (opened_on plan words) schedule tale p (length (begun q)) call status next → Behind None next
       → OwnStep plan words schedule tale p t calm after call q status Behind
-  Changes : (effect : Effect) → (reply : Reply) → GoesOn plan.shape t calm after (tale.pairs (length schedule)) (Some effect) → HasNotChanged status
+  Changes : (effect : Effect) → (reply : Reply) → TreeGoesOn plan.shape t.words calm after (tale.pairs (length schedule)) (Some effect)
+      → HasNotChanged status
       → Does (tale.pairs (length schedule)) call reply (pairs_after effect (tale.pairs (length schedule))) → reply ≢ replies.Refused
       → Behind (Some effect) (Changed reply) → OwnStep plan words schedule tale p t calm after call q status Behind
 
@@ -125,6 +117,10 @@ AllFit Fits schedule s calm = (p : ℕ) (call : Call) (q : Process) → IsOpen s
 
 -- ---- what fits all calls together: a ghost, which the steps change, something of the whole state, and of each call, with the ghost
 
+-- with another value at one number
+abbrev pub set_at : {A : Type 0} → (ℕ → A) → ℕ → A → ℕ → A
+set_at f p a r = if r == p then a else f r
+
 -- something of the whole state, by ghost, schedule, state and calm
 abbrev pub OfState : Type 0 → Type 1
 OfState Ghost = Ghost → List ℕ → State → List ℕ → Type 0
@@ -150,7 +146,7 @@ pub record AreLed (plan : Plan) (start : Contents) (words : List ℕ) (Ghost : T
   pub begins : (schedule : List ℕ) (tale : Tale) (p : ℕ) (s t : State) (calm after : List ℕ) (ghost : Ghost)
       → IsToldStep plan start words schedule tale p s t calm after → World ghost schedule s calm → AllFit (Fits ghost) schedule s calm
       → (call : Call) (q later : Process) → BeginsCall plan s p t call q later
-      → GoesOn plan.shape t calm after (tale.pairs (length schedule)) None
+      → TreeGoesOn plan.shape t.words calm after (tale.pairs (length schedule)) None
       → IsLedOn Ghost World Fits ghost schedule p s t calm after (λ next. Fits next (schedule ++ p ∷ []) t after p call later Before)
   pub own : (schedule : List ℕ) (tale : Tale) (p : ℕ) (s t : State) (calm after : List ℕ) (ghost : Ghost)
       → IsToldStep plan start words schedule tale p s t calm after → World ghost schedule s calm → AllFit (Fits ghost) schedule s calm
@@ -160,5 +156,5 @@ pub record AreLed (plan : Plan) (start : Contents) (words : List ℕ) (Ghost : T
   pub answers : (schedule : List ℕ) (tale : Tale) (p : ℕ) (s t : State) (calm after : List ℕ) (ghost : Ghost)
       → IsToldStep plan start words schedule tale p s t calm after → World ghost schedule s calm → AllFit (Fits ghost) schedule s calm
       → (call : Call) (q : Process) (status : Status) (reply : Reply) → AnswersCall plan s p t call q reply
-      → Fits ghost schedule s calm p call q status → GoesOn plan.shape t calm after (tale.pairs (length schedule)) None
-      → IsLedOn Ghost World Fits ghost schedule p s t calm after (λ next. IsAnswered plan words schedule tale p call q status reply)
+      → Fits ghost schedule s calm p call q status → TreeGoesOn plan.shape t.words calm after (tale.pairs (length schedule)) None
+      → IsLedOn Ghost World Fits ghost schedule p s t calm after (λ next. HasItsReply plan words schedule tale p call q status reply)

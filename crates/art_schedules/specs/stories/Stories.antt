@@ -38,12 +38,12 @@ pub record IsInCall (plan : Plan) (first : State) (schedule : List ℕ) (t p cal
   pub is_in : IsIn now p calls call
 
 -- step u is one of the call's
-abbrev pub IsOwn : Plan → State → List ℕ → ℕ → ℕ → Call → ℕ → Type 0
-IsOwn plan first schedule p calls call u = (slice_get schedule u ≡ Some p) × IsInCall plan first schedule u p calls call
+abbrev pub IsOwnStep : Plan → State → List ℕ → ℕ → ℕ → Call → ℕ → Type 0
+IsOwnStep plan first schedule p calls call u = (slice_get schedule u ≡ Some p) × IsInCall plan first schedule u p calls call
 
 -- up to moment t none of its steps has changed the pairs
 abbrev pub HasKept : Plan → State → List ℕ → Tale → ℕ → ℕ → ℕ → Call → Type 0
-HasKept plan first schedule tale t p calls call = (u : ℕ) → u < t → IsOwn plan first schedule p calls call u → tale.changes u ≡ false
+HasKept plan first schedule tale t p calls call = (u : ℕ) → u < t → IsOwnStep plan first schedule p calls call u → tale.changes u ≡ false
 
 -- None has, and at some moment within the call, up to t, the reply is legal and the call leaves the pairs as they are.
 pub record HasFound (plan : Plan) (first : State) (schedule : List ℕ) (tale : Tale) (t p calls : ℕ) (call : Call) (reply : Reply) : Type 0 where
@@ -57,11 +57,11 @@ pub record HasFound (plan : Plan) (first : State) (schedule : List ℕ) (tale : 
 pub record HasChanged (plan : Plan) (first : State) (schedule : List ℕ) (tale : Tale) (t p calls : ℕ) (call : Call) (reply : Reply) : Type 0 where
   pub step : ℕ
   pub until : step < t
-  pub own : IsOwn plan first schedule p calls call step
+  pub own : IsOwnStep plan first schedule p calls call step
   pub change : tale.changes step ≡ true
   pub does : Does (tale.pairs step) call reply (tale.pairs (step + 1))
   pub accepted : reply ≢ replies.Refused
-  pub only : (u : ℕ) → u < t → IsOwn plan first schedule p calls call u → tale.changes u ≡ true → u ≡ step
+  pub only : (u : ℕ) → u < t → IsOwnStep plan first schedule p calls call u → tale.changes u ≡ true → u ≡ step
 
 -- how far the call has come at moment t
 abbrev pub HasStatus : Plan → State → List ℕ → Tale → ℕ → ℕ → ℕ → Call → Status → Type 0

@@ -6,7 +6,8 @@ use Rattle.art_steps.specs.declared.access.Access.{Access}
 use Rattle.art_steps.specs.declared.access.Access.TheVariants.{Load, Store, Exchange, Add}
 use Rattle.art_steps.specs.Rows.{Setting}
 use Rattle.art_stages.specs.Calls.{CallAt}
-use Rattle.art_schedules.specs.work.Solo.{IsUnused, Solo}
+use Rattle.art_serial.specs.trees.Trees.{IsUnused}
+use Rattle.art_schedules.specs.work.Solo.{Solo}
 use Rattle.art_schedules.specs.work.Own.{IsHeldWord, IsFilledWord}
 
 -- The words of a run are those that the call has by itself, on the rows that it holds, but for their versions, and on the row that it fills.

@@ -21,19 +21,20 @@ use Rattle.art_stages.specs.Stages.{setting}
 use Rattle.art_stages.specs.Automaton.{work_at, stage_after}
 use Rattle.art_stages.specs.Calls.{CallAt, OnKey, rest_at, call_turn, call_after, call_behind}
 use Rattle.art_serial.specs.alone.Alone.{RunsAlone}
+use Rattle.art_serial.specs.trees.Trees.{IsUnused}
 use Rattle.art_versions.specs.versions.Holding.{Knows}
 use Rattle.art_versions.specs.versions.Laws.{IsFull}
 use Rattle.art_versions.specs.versions.Versions.{IsOpen, IsSound, stage_of}
 use Rattle.art_core.specs.declared.process.Process.{Process}
 use Rattle.art_core.specs.Core.{State}
 use Rattle.art_core.specs.Accesses.{got_by, words_after}
-use Rattle.art_schedules.specs.work.Solo.{IsUnused, Solo, numbers_of, words_alone, TellAll, Suits}
+use Rattle.art_schedules.specs.work.Solo.{Solo, numbers_of, words_alone, TellAll, Suits}
 use Rattle.art_schedules.specs.work.Own.{TouchesOwn, is_work, is_lock, ReadsHeld, is_claim}
 use Rattle.art_schedules.specs.work.Finds.{HasSeen, IsSeen, IsThere}
 use Rattle.art_stages.specs.declared.stage.Finding.{Finding}
 use Rattle.art_core.specs.Forms.{HasForm}
 use Rattle.art_schedules.specs.work.Follow.{AgreesOn, CanFollow, Followed}
-use Rattle.art_schedules.specs.work.Works.{RowsOf, FitsWords, FindsUnused, IsRelease, IsDone, IsDoneBy}
+use Rattle.art_schedules.specs.work.Works.{RowsOf, FitsWords, FindsUnused, IsRelease, IsDoneBy, IsWorkDone}
 
 -- A call that goes on by itself comes to one stage with one list of words after so many accesses, but for the numbers that its claims got.
 abbrev pub SolosAreOne : Type 0
@@ -74,7 +75,7 @@ LockedTouchesOwn = (shape : Shape) (call : Call) → 1 ≤ shape.rows256 → (at
 abbrev pub WorkIsDone : Type 0
 WorkIsDone = (c : Setting) (h : Hold) (work : Work) (w0 words : List ℕ) (at : Stage) → IsFull c.variant → is_scan c.call ≡ false → 1 ≤ c.shape.rows256
     → table_words c.shape ≤ length w0 → Knows (RowsOf c.shape) c (OnKey (work_at c h work)) → FitsWords c h work w0
-    → Solo c (OnKey (work_at c h work)) w0 (OnKey at) words → IsRelease h at → IsDone c h work w0 at words
+    → Solo c (OnKey (work_at c h work)) w0 (OnKey at) words → IsRelease h at → IsWorkDone c h work w0 at words
 
 -- By itself the work comes to its first release, whatever number of an unused row its claim gets, and leaves there what its kind says.
 abbrev pub WorkComesToRelease : Type 0

@@ -26,8 +26,8 @@ use Rattle.art_core.specs.Meaning.{slot_of, child_on}
 use Rattle.art_core.specs.Forms.{HasForm}
 use Rattle.art_serial.specs.alone.Finding as finding
 use Rattle.art_serial.specs.writes.Writes.{HasPut, IsOutside}
+use Rattle.art_serial.specs.trees.Trees.{IsUnused}
 use Rattle.art_versions.specs.versions.Holding.{OfRows}
-use Rattle.art_schedules.specs.work.Solo.{IsUnused}
 
 -- the rows of the table
 abbrev pub RowsOf : Shape → OfRows
@@ -112,5 +112,5 @@ IsDoneBy c h (work.Grow slot keys) number words at later =
     × GrownHangs c.shape words later h.row.base h.row.kind (base_of c.shape (next_kind h.row.kind) number) slot
     (info_word (next_kind h.row.kind) (row_at h.row).level (row_at h.row).path) (byte_in c h.row) (new_leaf c.call))
 
-abbrev pub IsDone : Setting → Hold → Work → List ℕ → Stage → List ℕ → Type 0
-IsDone c h work words at later = (number : ℕ) × FindsUnused c h work number words × IsDoneBy c h work number words at later
+abbrev pub IsWorkDone : Setting → Hold → Work → List ℕ → Stage → List ℕ → Type 0
+IsWorkDone c h work words at later = (number : ℕ) × FindsUnused c h work number words × IsDoneBy c h work number words at later

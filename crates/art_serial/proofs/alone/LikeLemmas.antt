@@ -35,7 +35,7 @@ Nothing w = ⊥
 
 module _ (s : Shape) (n : ℕ) (words : List ℕ) (rest : IsAtRest s n words) where
   pub sits : {base : ℕ} {kind : Kind} → Reached s words base kind → Sits s base kind
-  sits {base} {kind} r = let (number, claimed, low, is) = rest.claimed base kind r in record { number = number; low = low; is = is }
+  sits {base} {kind} r = let x = rest.claimed base kind r in record { number = x.number; low = x.within; is = x.is }
 
   -- ---- how words come to be like those at rest
 

@@ -48,10 +48,10 @@ module _ (s : Shape) (n : ℕ) (words : List ℕ) (rest : IsAtRest s n words) wh
   pub unclaimed-apart : (k l : Kind) (number b i j : ℕ) → slice_index words (claims_of k) ≤ number → number < rows_of s k → i < row_words k
       → Reached s words b l → j < row_words l → base_of s k number + i ≡ b + j → ⊥
   unclaimed-apart k l number b i j above low li r lj is =
-      let (number2, below, low2, is2) = rest.claimed b l r in
+      let its = rest.claimed b l r in
       let (kinds, numbers, bases, places) = sits-part s (base_of s k number) b i j k l (record { number = number; low = low; is = refl })
-      (record { number = number2; low = low2; is = is2 }) li lj is in
-      omega (arith, above, numbers, subst (λ q. number2 < slice_index words (claims_of q)) (sym kinds) below)
+      (record { number = its.number; low = its.within; is = its.is }) li lj is in
+      omega (arith, above, numbers, subst (λ q. its.number < slice_index words (claims_of q)) (sym kinds) its.claimed)
 
   module _ (later : List ℕ) (long : length later ≡ table_words s) (small : All (λ w. w < 18446744073709551616) later)
       (word : (w : ℕ) → Settles later w) (m : Contents) (rows : HasRows s words later m) where
@@ -90,13 +90,13 @@ module _ (s : Shape) (n : ℕ) (words : List ℕ) (rest : IsAtRest s n words) wh
       live = λ b k r. live b k ((rows.rows b k).0 r) (settled b (base-out b k (sits s n words rest ((rows.rows b k).0 r))));
       claims = λ k. subst (λ c. c ≤ n) (sym (same-claims k)) (rest.claims k);
       claimed = λ b k r.
-          let (number, below, low, is) = rest.claimed b k ((rows.rows b k).0 r) in
-          (number, subst (λ c. number < c) (sym (same-claims k)) below, low, is);
-      fresh = λ k number w above low from to.
+          let x = rest.claimed b k ((rows.rows b k).0 r) in
+          record { number = x.number; claimed = subst (λ c. x.number < c) (sym (same-claims k)) x.claimed; within = x.within; is = x.is };
+      fresh = λ k number above low w from to.
           let (i, is) = offset (base_of s k number) w from in
           let old : slice_index words (claims_of k) ≤ number = subst (λ c. c ≤ number) (same-claims k) above in
           let few : i < row_words k = omega (arith, to, is) in
-          fresh w (rest.fresh k number w old low from to)
+          fresh w (rest.fresh k number old low w from to)
           (λ l r. unclaimed-apart k l number w i 0 old low few r (omega (arith, two-words l)) (omega (arith, is)))
           (settled w (λ (b, l, j, r, one, high, at). unclaimed-apart k l number b i j old low few r high (omega (arith, is, at))));
     }

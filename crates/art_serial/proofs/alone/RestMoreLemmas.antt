@@ -7,7 +7,7 @@ use Rattle.art_rows.specs.Words.{is_locked, is_obsolete}
 use Rattle.art_rows.proofs.KindLemmas.{claims-few, two-words, claims-once}
 use Rattle.art_core.specs.Meaning.{Reached}
 use Rattle.art_core.specs.Forms.{IsTree}
-use Rattle.art_serial.specs.trees.Trees.{IsAtRest}
+use Rattle.art_serial.specs.trees.Trees.{IsAtRest, IsClaimed}
 use Rattle.art_serial.proofs.alone.PlaceLemmas.{Sits, sits-part, sits-inside, kind_at-sits}
 use Rattle.art_serial.proofs.alone.RestLemmas.{unclaimed-apart}
 use Rattle.art_serial.proofs.alone.LikeLemmas.{Like, sits, like-elsewhere}
@@ -70,7 +70,8 @@ module _ (s : Shape) (n : ℕ) (words : List ℕ) (rest : IsAtRest s n words) wh
     -- the new row's version stands
     new-live : (slice_index later (next_base s words kind) ≡ slice_index words (next_base s words kind))
         ⊎ IsTouched s words later kind (next_base s words kind) → is_obsolete (slice_index later (next_base s words kind)) ≡ false
-    new-live (inl e) = ap is_obsolete (e ∙ rest.fresh kind (slice_index words (claims_of kind)) (next_base s words kind) (omega arith) h.low (omega arith)
+    new-live (inl e) = ap is_obsolete
+        (e ∙ rest.fresh kind (slice_index words (claims_of kind)) (omega arith) h.low (next_base s words kind) (omega arith)
         (omega (arith, first-word kind)))
     new-live (inr (counts e)) = absurd (omega (arith, behind kind kind (next_base s words kind) fresh-sits, e))
     new-live (inr (version l r free)) =
@@ -98,19 +99,25 @@ module _ (s : Shape) (n : ℕ) (words : List ℕ) (rest : IsAtRest s n words) wh
     more-claims k (inr (new j low high e)) = absurd (omega (arith, behind k kind (next_base s words kind) fresh-sits, e))
 
     claimed : (b : ℕ) (k : Kind) → Reached s words b k ⊎ ((b ≡ next_base s words kind) × (k ≡ kind))
-        → (number : ℕ) × (number < slice_index later (claims_of k)) × (number < rows_of s k) × (b ≡ base_of s k number)
+        → IsClaimed s later b k
     claimed b k (inl old) =
-        let (number, below, low, is) = rest.claimed b k old in
-        (number, omega (arith, below, (more-claims k (h.word (claims_of k))).0), low, is)
+        let x = rest.claimed b k old in
+        record {
+          number = x.number;
+          claimed = omega (arith, x.claimed, (more-claims k (h.word (claims_of k))).0);
+          within = x.within;
+          is = x.is;
+        }
     claimed b k (inr (is, kinds)) =
-        subst (λ q. (number : ℕ) × (number < slice_index later (claims_of q)) × (number < rows_of s q) × (b ≡ base_of s q number)) (sym kinds)
-        (slice_index words (claims_of kind), omega (arith, h.claimed), h.low, is)
+        subst (IsClaimed s later b) (sym kinds)
+        (record { number = slice_index words (claims_of kind); claimed = omega (arith, h.claimed); within = h.low; is = is })
 
     fresh : (k : Kind) (number i : ℕ) → slice_index later (claims_of k) ≤ number → number < rows_of s k → i < row_words k
         → (slice_index later (base_of s k number + i) ≡ slice_index words (base_of s k number + i)) ⊎ IsTouched s words later kind (base_of s k number + i)
         → slice_index later (base_of s k number + i) ≡ 0
     fresh k number i above low li (inl e) =
-        e ∙ rest.fresh k number (base_of s k number + i) (omega (arith, above, (more-claims k (h.word (claims_of k))).0)) low (omega arith) (omega (arith, li))
+        e ∙ rest.fresh k number (omega (arith, above, (more-claims k (h.word (claims_of k))).0)) low (base_of s k number + i) (omega arith)
+        (omega (arith, li))
     fresh k number i above low li (inr t) = absurd (apart t)
       where
         old : slice_index words (claims_of k) ≤ number
@@ -134,7 +141,7 @@ module _ (s : Shape) (n : ℕ) (words : List ℕ) (rest : IsAtRest s n words) wh
       live = λ b k r. live b k r (h.rows b k r);
       claims = λ k. omega (arith, rest.claims k, (more-claims k (h.word (claims_of k))).1);
       claimed = λ b k r. claimed b k (h.rows b k r);
-      fresh = λ k number w above low from to.
+      fresh = λ k number above low w from to.
           let (i, is) = offset (base_of s k number) w from in
           ap (λ q. slice_index later q) is ∙ fresh k number i above low (omega (arith, to, is)) (h.word (base_of s k number + i));
     }

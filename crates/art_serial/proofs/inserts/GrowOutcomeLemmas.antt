@@ -37,9 +37,10 @@ use Rattle.art_serial.proofs.inserts.NearLemmas.{Near, near-out, near-plain, nea
 use Rattle.art_serial.proofs.inserts.NearLemmas.{behind-plain}
 use Rattle.art_serial.proofs.inserts.OutcomeLemmas.{split, child-same, no-row, Claimed, settle-claimed, Outcome, refused}
 use Rattle.art_serial.proofs.inserts.HungLemmas.{word-changes}
-use Rattle.art_serial.proofs.inserts.SmallLemmas.{bytes-small, path_byte-small}
+use Rattle.art_serial.proofs.inserts.SmallLemmas.{path_byte-small}
 use Rattle.art_serial.proofs.inserts.SettledLemmas.{settled-words-rest}
 use Rattle.art_serial.proofs.words.KeyLemmas.{is_less}
+use Rattle.art_serial.proofs.words.ByteLemmas.{bytes-small}
 
 obsolete-small : (v : ℕ) → obsolete_word v < 18446744073709551616
 obsolete-small v = omega arith
@@ -105,10 +106,11 @@ module _ (trees : SameTreesAreOne) (hangs : GrownRowsAreHung) (written : RowsAre
 
       row-apart : (b i j : ℕ) (k : Kind) → Reached s words b k → i < row_words k → j < row_words larger → b + i ≡ row + j → ⊥
       row-apart b i j k q li lj e =
-          let (number2, below, low2, is2) = rest.claimed b k q in
-          let (kinds, numbers, bases, places) = sits-part s b row i j k larger (record { number = number2; low = low2; is = is2 })
+          let its = rest.claimed b k q in
+          let (kinds, numbers, bases, places) = sits-part s b row i j k larger
+          (record { number = its.number; low = its.within; is = its.is })
           (record { number = number; low = low; is = refl }) li lj e in
-          omega (arith, numbers, was, subst (λ q. number2 < slice_index words (claims_of q)) kinds below)
+          omega (arith, numbers, was, subst (λ q. its.number < slice_index words (claims_of q)) kinds its.claimed)
 
       is-slot : IsSlot a.base a.kind slot
       is-slot = slot-is words a.base a.kind y slot y_byte at
@@ -188,7 +190,8 @@ module _ (trees : SameTreesAreOne) (hangs : GrownRowsAreHung) (written : RowsAre
           get_or-set_other claimed (info_at row) w info 0 (λ is. omega (arith, is, from))
           ∙ (get_or-set_other now (claims_of larger) w ((number + 1) % 18446744073709551616) 0
           (λ is. omega (arith, is, from, claims-few larger, (sits-inside s row 0 larger row-sits (omega (arith, two-words larger))).0))
-          ∙ (near-plain s n words rest w near plain (λ o. o) ∙ rest.fresh larger number w (omega (arith, was)) low (omega (arith, from)) to))
+          ∙ (near-plain s n words rest w near plain (λ o. o) ∙ rest.fresh larger number (omega (arith, was)) low w (omega (arith, from))
+          to))
         where
           plain : (k : Kind) → Sits s w k → ⊥
           plain k q = behind-plain s n words rest row (w - row) larger row-sits (omega (arith, from)) (omega (arith, from, to)) k
@@ -318,7 +321,7 @@ module _ (trees : SameTreesAreOne) (hangs : GrownRowsAreHung) (written : RowsAre
           low-claims = omega (arith, claims-few larger, (sits-inside s row 0 larger row-sits (omega (arith, two-words larger))).0)
 
       new : IsNewRow s words later row larger
-      new = (number, omega (arith, was), omega (arith, was, more), low, refl)
+      new = (record { number = number; claimed = omega (arith, was, more); within = low; is = refl }, omega (arith, was))
 
       within : (w : ℕ) → Extra w → IsInside s words w ⊎ IsNew s words later w
       within w (inl is) = inl (a.base, a.kind, is-slot.place, above.reached, early, is-slot.high, is ∙ is-slot.is)

@@ -20,7 +20,7 @@ use Rattle.art_serial.proofs.alone.PlaceLemmas.{Sits, sits-inside}
 use Rattle.art_serial.proofs.alone.SlotLemmas.{slot-is, slot-same, row-keys}
 use Rattle.art_serial.proofs.alone.LikeLemmas.{Nothing, sits}
 use Rattle.art_serial.proofs.alone.RowRunLemmas.{with_unlocked, with_claim}
-use Rattle.art_serial.specs.inserts.Settled.{IsInside, IsNew, IsReleased, IsSettled}
+use Rattle.art_serial.specs.inserts.Settled.{IsInside, IsNew, IsReleased, IsAfterInsert}
 use Rattle.art_serial.proofs.inserts.NearLemmas.{Near, Version, near-out, near-plain, near-live, near-behind, near-unlocked, Among, AreHeld, unlocked-other}
 use Rattle.art_serial.proofs.inserts.SettledLemmas.{settled-words-rest}
 
@@ -68,8 +68,8 @@ module _ (s : Shape) (n : ℕ) (words : List ℕ) (rest : IsAtRest s n words) wh
   inside-high w (b, k, j, r, low, high, is) = omega (arith, (sits-inside s b j k (sits s n words rest r) high).0, is)
 
   new-high : (later : List ℕ) (w : ℕ) → IsNew s words later w → 5 ≤ w
-  new-high later w (b, k, j, (number, low, high, inside, is_base), one, few, is) =
-      omega (arith, (sits-inside s b j k (record { number = number; low = inside; is = is_base }) few).0, is)
+  new-high later w (b, k, j, (x, low), one, few, is) =
+      omega (arith, (sits-inside s b j k (record { number = x.number; low = x.within; is = x.is }) few).0, is)
 
   -- the count of a kind's claims is written, and others
   abbrev pub Claimed : Kind → (ℕ → Type 0) → ℕ → Type 0
@@ -77,7 +77,7 @@ module _ (s : Shape) (n : ℕ) (words : List ℕ) (rest : IsAtRest s n words) wh
 
   -- words inside of rows were written
   pub settle-plain : {extra dead : ℕ → Type 0} (later : List ℕ) → Near s n words rest extra Nothing dead later
-      → ((w : ℕ) → extra w → IsInside s words w) → IsSettled s words later
+      → ((w : ℕ) → extra w → IsInside s words w) → IsAfterInsert s words later
   settle-plain {extra} {dead} later near within = record {
     long = near.long;
     small = near.small;
@@ -99,7 +99,7 @@ module _ (s : Shape) (n : ℕ) (words : List ℕ) (rest : IsAtRest s n words) wh
   -- one more claim was made, and words inside of rows and of a row that was claimed were written
   pub settle-claimed : {extra dead : ℕ → Type 0} (kind : Kind) (later : List ℕ) → Near s n words rest (Claimed kind extra) Nothing dead later
       → slice_index later (claims_of kind) ≡ slice_index words (claims_of kind) + 1
-      → ((w : ℕ) → extra w → IsInside s words w ⊎ IsNew s words later w) → IsSettled s words later
+      → ((w : ℕ) → extra w → IsInside s words w ⊎ IsNew s words later w) → IsAfterInsert s words later
   settle-claimed {extra} {dead} kind later near more within = record {
     long = near.long;
     small = near.small;

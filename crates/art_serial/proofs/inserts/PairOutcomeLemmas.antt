@@ -2,6 +2,7 @@
 use Rattle.std.proofs.Common.{◌≡◌, ◌≢◌, ◌⊎◌, inl, inr, ℕ, ◌+◌, ◌<◌, ◌≤◌, ◌==◌, List, take, slice_index, Bool, true, false, Some, None}
 use Rattle.std.proofs.Common.{refl, sym, ap, ◌∙◌, subst, arith, eqb-true, nat_lt}
 use Rattle.std.proofs.lemmas.Bool.{eqb-false}
+use Rattle.std.proofs.lemmas.List.Elements.{All-take}
 use Rattle.events.specs.declared.event.Call.TheVariants.{Insert}
 use Rattle.events.specs.declared.event.Reply.TheVariants as reply
 use Rattle.map_object.specs.MapObject.{Contents, value_at, value_reply, put}
@@ -36,9 +37,10 @@ use Rattle.art_serial.proofs.inserts.NearLemmas.{Near, near-out, near-plain, nea
 use Rattle.art_serial.proofs.inserts.NearLemmas.{near-unlocked, Among, AreHeld, unlocked-other, unlocked-row, behind-plain}
 use Rattle.art_serial.proofs.inserts.OutcomeLemmas.{split, child-same, no-row, Claimed, settle-claimed, Outcome, refused}
 use Rattle.art_serial.proofs.inserts.HungLemmas.{word-changes}
-use Rattle.art_serial.proofs.inserts.SmallLemmas.{parts-level, taken-long, taken-bytes, bytes-small}
+use Rattle.art_serial.proofs.inserts.SmallLemmas.{parts-level, taken-long}
 use Rattle.art_serial.proofs.inserts.SettledLemmas.{settled-words-rest}
 use Rattle.art_serial.proofs.words.KeyLemmas.{is_less}
+use Rattle.art_serial.proofs.words.ByteLemmas.{key_bytes-small}
 
 module _ (trees : SameTreesAreOne) (hangs : PairsAreHung) (written : writes.PairsAreWritten) (read : WordsAreReadBack) (sized : WordsAreSmall) (s : Shape)
     (variant : Variant)
@@ -90,10 +92,10 @@ module _ (trees : SameTreesAreOne) (hangs : PairsAreHung) (written : writes.Pair
       -- no word of a row that is reached is one of the fresh row
       row-apart : (b i j : ℕ) (k : Kind) → Reached s words b k → i < row_words k → j < 7 → b + i ≡ row + j → ⊥
       row-apart b i j k r li lj e =
-          let (number2, below, low2, is2) = rest.claimed b k r in
-          let (kinds, numbers, bases, places) = sits-part s b row i j k Four (record { number = number2; low = low2; is = is2 })
+          let its = rest.claimed b k r in
+          let (kinds, numbers, bases, places) = sits-part s b row i j k Four (record { number = its.number; low = its.within; is = its.is })
           (record { number = slice_index now (claims_of Four); low = low; is = refl }) li lj e in
-          omega (arith, numbers, was, subst (λ q. number2 < slice_index words (claims_of q)) kinds below)
+          omega (arith, numbers, was, subst (λ q. its.number < slice_index words (claims_of q)) kinds its.claimed)
 
       is-slot : IsSlot base kind slot
       is-slot = slot-is words base kind x slot byte at
@@ -166,7 +168,7 @@ module _ (trees : SameTreesAreOne) (hangs : PairsAreHung) (written : writes.Pair
       near2 = near-out s n words rest near has.long
           (has.small near.small short (key_small, value_small) (omega (arith, bounded, (sits-inside s row 0 Four row-sits (omega arith)).1))
           (sized.info Four d (take d (key_bytes key)) (parts-level words key d a child parts) (taken-long d key (parts-level words key d a child parts))
-          (taken-bytes d (key_bytes key) (bytes-small (key_bytes key) (λ i. key_byte-small key i))))) changed (λ w o. absurd o)
+          (All-take (λ x. x < 256) d (key_bytes key) (key_bytes-small key)))) changed (λ w o. absurd o)
 
       near3 : Near s n words rest (Claimed s n words rest Four Extra) Nothing Nothing later
       near3 = near-unlocked s n words rest rows held near2
@@ -176,7 +178,11 @@ module _ (trees : SameTreesAreOne) (hangs : PairsAreHung) (written : writes.Pair
           ∙ (has.claimed ∙ omega (arith, was, rest.claims Four, few))
 
       new : IsNewRow s words later row Four
-      new = (slice_index now (claims_of Four), omega (arith, was), omega (arith, was, count), low, refl)
+      new = (
+        record { number = slice_index now (claims_of Four); claimed = omega (arith, was, count); within = low; is = refl },
+        omega
+            (arith, was),
+      )
 
       within : (w : ℕ) → Extra w → IsInside s words w ⊎ IsNew s words later w
       within w (inl is) = inl (base, kind, is-slot.place, leads.reached, early, is-slot.high, is ∙ is-slot.is)

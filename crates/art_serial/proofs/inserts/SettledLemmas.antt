@@ -7,20 +7,20 @@ use Rattle.art_rows.specs.Words.{is_locked, is_obsolete}
 use Rattle.art_rows.proofs.KindLemmas.{two-words}
 use Rattle.art_core.specs.Meaning.{Reached}
 use Rattle.art_core.specs.Forms.{IsTree}
-use Rattle.art_serial.specs.trees.Trees.{IsAtRest}
+use Rattle.art_serial.specs.trees.Trees.{IsAtRest, IsClaimed, AreZeroPastClaims}
 use Rattle.art_serial.proofs.alone.PlaceLemmas.{Sits, sits-part, sits-inside, kind_at-sits}
 use Rattle.art_serial.proofs.alone.LikeLemmas.{sits}
-use Rattle.art_serial.specs.inserts.Settled.{IsInside, IsNewRow, IsNew, IsReleased, IsSettled, HasOldOrNewRows}
+use Rattle.art_serial.specs.inserts.Settled.{IsInside, IsNewRow, IsNew, IsReleased, HasOldOrNewRows, IsAfterInsert}
 use Rattle.art_serial.specs.inserts.Laws.{SettledWordsRest}
 
-module _ (s : Shape) (n : ℕ) (words later : List ℕ) (rest : IsAtRest s n words) (settled : IsSettled s words later) where
+module _ (s : Shape) (n : ℕ) (words later : List ℕ) (rest : IsAtRest s n words) (settled : IsAfterInsert s words later) where
   -- a row that is reached, at rest
   reached-sits : {base : ℕ} {kind : Kind} → Reached s words base kind → Sits s base kind
   reached-sits r = sits s n words rest r
 
   -- a row claimed since
   new-sits : {base : ℕ} {kind : Kind} → IsNewRow s words later base kind → Sits s base kind
-  new-sits (number, low, high, inside, is) = record { number = number; low = inside; is = is }
+  new-sits (x, low) = record { number = x.number; low = x.within; is = x.is }
 
   behind : (b : ℕ) (k : Kind) → Sits s b k → 5 ≤ b
   behind b k x = (sits-inside s b 0 k x (omega (arith, two-words k))).0
@@ -53,29 +53,28 @@ module _ (s : Shape) (n : ℕ) (words later : List ℕ) (rest : IsAtRest s n wor
   apart : (k l : Kind) (number b i j : ℕ) → slice_index words (claims_of k) ≤ number → number < rows_of s k → i < row_words k → Reached s words b l
       → j < row_words l → base_of s k number + i ≡ b + j → ⊥
   apart k l number b i j above low inside r high e =
-      let (number2, below, low2, is2) = rest.claimed b l r in
+      let its = rest.claimed b l r in
       let (kinds, numbers, bases, places) = sits-part s (base_of s k number) b i j k l (record { number = number; low = low; is = refl })
-      (record { number = number2; low = low2; is = is2 }) inside high e in
-      omega (arith, above, numbers, subst (λ q. number2 < slice_index words (claims_of q)) (sym kinds) below)
+      (record { number = its.number; low = its.within; is = its.is }) inside high e in
+      omega (arith, above, numbers, subst (λ q. its.number < slice_index words (claims_of q)) (sym kinds) its.claimed)
 
   -- the version of a row claimed since is 0
   new-version : (b : ℕ) (k : Kind) → IsNewRow s words later b k → slice_index later b ≡ 0
-  new-version b k (number, low, high, inside, is) = go (version b k (new-sits (number, low, high, inside, is)))
+  new-version b k (x, low) = go (version b k (new-sits (x, low)))
     where
       some : 0 < row_words k
       some = omega (arith, two-words k)
 
       go : (slice_index later b ≡ slice_index words b) ⊎ IsReleased s words later b → slice_index later b ≡ 0
-      go (inl e) = e ∙ rest.fresh k number b low inside (omega (arith, is)) (omega (arith, is, some))
-      go (inr (l, r, free)) = absurd (apart k l number b 0 0 low inside some r (omega (arith, two-words l)) (omega (arith, is)))
+      go (inl e) = e ∙ rest.fresh k x.number low x.within b (omega (arith, x.is)) (omega (arith, x.is, some))
+      go (inr (l, r, free)) = absurd (apart k l x.number b 0 0 low x.within some r (omega (arith, two-words l)) (omega (arith, x.is)))
 
   offset : (a w : ℕ) → a ≤ w → (i : ℕ) × (w ≡ a + i)
   offset a w h = (w - a, omega (arith, h))
 
   -- a row that is not claimed has only zeros
-  fresh : (k : Kind) (number w : ℕ) → slice_index later (claims_of k) ≤ number → number < rows_of s k → base_of s k number ≤ w
-      → w < base_of s k number + row_words k → slice_index later w ≡ 0
-  fresh k number w above low from to = go (settled.word w (omega (arith, behind (base_of s k number) k here, from)))
+  fresh : AreZeroPastClaims s later
+  fresh k number above low w from to = go (settled.word w (omega (arith, behind (base_of s k number) k here, from)))
     where
       here : Sits s (base_of s k number) k
       here = record { number = number; low = low; is = refl }
@@ -85,18 +84,19 @@ module _ (s : Shape) (n : ℕ) (words later : List ℕ) (rest : IsAtRest s n wor
 
       go : (slice_index later w ≡ slice_index words w) ⊎ (IsReleased s words later w ⊎ (IsInside s words w ⊎ IsNew s words later w))
           → slice_index later w ≡ 0
-      go (inl e) = e ∙ rest.fresh k number w above_before low from to
+      go (inl e) = e ∙ rest.fresh k number above_before low w from to
       go (inr (inl (l, r, free))) =
           let (i, at) = offset (base_of s k number) w from in
           absurd (apart k l number w i 0 above_before low (omega (arith, to, at)) r (omega (arith, two-words l)) (omega (arith, at)))
       go (inr (inr (inl (b, l, j, r, one, high, is)))) =
           let (i, at) = offset (base_of s k number) w from in
           absurd (apart k l number b i j above_before low (omega (arith, to, at)) r high (sym at ∙ is))
-      go (inr (inr (inr (b, l, j, (number2, low2, high2, inside2, is2), one, high, is)))) =
+      go (inr (inr (inr (b, l, j, (x, low2), one, high, is)))) =
           let (i, at) = offset (base_of s k number) w from in
-          let (kinds, numbers, bases, places) = sits-part s (base_of s k number) b i j k l here (record { number = number2; low = inside2; is = is2 })
+          let (kinds, numbers, bases, places) = sits-part s (base_of s k number) b i j k l here
+          (record { number = x.number; low = x.within; is = x.is })
           (omega (arith, to, at)) high (sym at ∙ is) in
-          absurd (omega (arith, above, numbers, subst (λ q. number2 < slice_index later (claims_of q)) (sym kinds) high2))
+          absurd (omega (arith, above, numbers, subst (λ q. x.number < slice_index later (claims_of q)) (sym kinds) x.claimed))
 
   settled-rests : IsTree s later → HasOldOrNewRows s words later → IsAtRest s (n + 1) later
   settled-rests tree rows = record {
@@ -116,11 +116,11 @@ module _ (s : Shape) (n : ℕ) (words later : List ℕ) (rest : IsAtRest s n wor
       live b k (inr new) = ap is_obsolete (new-version b k new)
 
       claimed : (b : ℕ) (k : Kind) → (Reached s words b k × (is_obsolete (slice_index later b) ≡ false)) ⊎ IsNewRow s words later b k
-          → (number : ℕ) × (number < slice_index later (claims_of k)) × (number < rows_of s k) × (b ≡ base_of s k number)
+          → IsClaimed s later b k
       claimed b k (inl (r, h)) =
-          let (number, below, low, is) = rest.claimed b k r in
-          (number, omega (arith, below, settled.low k), low, is)
-      claimed b k (inr (number, low, high, inside, is)) = (number, high, inside, is)
+          let x = rest.claimed b k r in
+          record { number = x.number; claimed = omega (arith, x.claimed, settled.low k); within = x.within; is = x.is }
+      claimed b k (inr (x, low)) = x
 
 pub settled-words-rest : SettledWordsRest
 settled-words-rest s n words later rest settled tree rows = settled-rests s n words later rest settled tree rows

@@ -52,11 +52,11 @@ module _ (s : Shape) (n : ℕ) (words : List ℕ) (rest : IsAtRest s n words) (v
         ap is_obsolete (same base (row-behind base kind (sits s n words rest old))) ∙ rest.live base kind old;
     claims = λ kind. subst (λ c. c ≤ n) (sym (same-claims kind)) (rest.claims kind);
     claimed = λ base kind r.
-        let (number, below, low, is) = rest.claimed base kind ((rows.rows base kind).0 r) in
-        (number, subst (λ c. number < c) (sym (same-claims kind)) below, low, is);
-    fresh = λ kind number w high low from to.
+        let x = rest.claimed base kind ((rows.rows base kind).0 r) in
+        record { number = x.number; claimed = subst (λ c. x.number < c) (sym (same-claims kind)) x.claimed; within = x.within; is = x.is };
+    fresh = λ kind number high low w from to.
         same w (omega (arith, from, row-behind (base_of s kind number) kind (record { number = number; low = low; is = refl })))
-        ∙ rest.fresh kind number w (subst (λ c. c ≤ number) (same-claims kind) high) low from to;
+        ∙ rest.fresh kind number (subst (λ c. c ≤ number) (same-claims kind) high) low w from to;
   }
     where
       same-claims : (kind : Kind) → slice_index set (claims_of kind) ≡ slice_index words (claims_of kind)

@@ -12,11 +12,11 @@ use Rattle.art_rows.specs.declared.table.Shape.{Shape}
 use Rattle.art_rows.specs.declared.table.Kind.{Kind}
 use Rattle.art_rows.specs.declared.table.Kind.TheVariants.{Four, Sixteen, FortyEight, Full}
 use Rattle.art_rows.specs.declared.table.Child.TheVariants.{Empty, Row, Leaf}
-use Rattle.art_rows.specs.Table.{opening, table_words, root_base, info_at, claims_of, base_of, first_base, row_words, rows_of, kind_at, is_base_of}
+use Rattle.art_rows.specs.Table.{opening, table_words, root_base, info_at, claims_of, first_base, row_words, rows_of, kind_at, is_base_of}
 use Rattle.art_rows.specs.Words.{child_of, is_locked, is_obsolete}
 use Rattle.art_core.specs.Meaning.{Reached, root, below, Means, child_on}
 use Rattle.art_core.specs.Forms.{HasForm, IsTree}
-use Rattle.art_serial.specs.trees.Trees.{IsAtRest, TablesOpenAtRest}
+use Rattle.art_serial.specs.trees.Trees.{IsAtRest, TablesOpenAtRest, IsClaimed, AreZeroPastClaims}
 use Rattle.art_serial.proofs.trees.Infos.{IsInfo}
 use Rattle.art_serial.proofs.trees.Ways.{empty-leaf, empty-row}
 
@@ -122,12 +122,12 @@ module _ (s : Shape) (has_root : 1 ≤ s.rows256) where
   claims_few FortyEight = omega (arith, word_zero 3 (λ is. omega (arith, is)) (λ is. omega (arith, is)))
   claims_few Full = omega (arith, word_claims)
 
-  fresh : (kind : Kind) (number word : ℕ) → slice_index words (claims_of kind) ≤ number → number < rows_of s kind → base_of s kind number ≤ word
-      → word < base_of s kind number + row_words kind → slice_index words word ≡ 0
-  fresh Four number word claims few low high = word_zero word (λ is. omega (arith, is, low)) (λ is. omega (arith, is, few, high))
-  fresh Sixteen number word claims few low high = word_zero word (λ is. omega (arith, is, low)) (λ is. omega (arith, is, few, high))
-  fresh FortyEight number word claims few low high = word_zero word (λ is. omega (arith, is, low)) (λ is. omega (arith, is, few, high))
-  fresh Full number word claims few low high = word_zero word (λ is. omega (arith, is, low)) (λ is. omega (arith, is, word_claims, claims, low))
+  fresh : AreZeroPastClaims s words
+  fresh Four number claims few word low high = word_zero word (λ is. omega (arith, is, low)) (λ is. omega (arith, is, few, high))
+  fresh Sixteen number claims few word low high = word_zero word (λ is. omega (arith, is, low)) (λ is. omega (arith, is, few, high))
+  fresh FortyEight number claims few word low high = word_zero word (λ is. omega (arith, is, low)) (λ is. omega (arith, is, few, high))
+  fresh Full number claims few word low high = word_zero word (λ is. omega (arith, is, low))
+      (λ is. omega (arith, is, word_claims, claims, low))
 
   at_rest : IsAtRest s 1 words
   at_rest = record {
@@ -141,8 +141,8 @@ module _ (s : Shape) (has_root : 1 ≤ s.rows256) where
     live = at_root (λ b k. is_obsolete (slice_index words b) ≡ false)
         (ap (λ w. is_obsolete w) (word_zero (root_base s) (λ is. omega (arith, is)) (λ is. omega (arith, is))));
     claims = claims_few;
-    claimed = at_root (λ b k. (number : ℕ) × (number < slice_index words (claims_of k)) × (number < rows_of s k) × (b ≡ base_of s k number))
-        (0, omega (arith, word_claims), has_root, refl);
+    claimed = at_root (λ b k. IsClaimed s words b k)
+        (record { number = 0; claimed = omega (arith, word_claims); within = has_root; is = refl });
     fresh = fresh;
   }
 

@@ -4,6 +4,7 @@ use Rattle.std.proofs.Common.{⊎_elim, inl, inr}
 use Rattle.std.specs.Prelude.{◌≢◌, ◌⊎◌}
 use Rattle.std.proofs.lemmas.Bool.{cases_eq}
 use Rattle.std.proofs.lemmas.List.{length-take-le}
+use Rattle.std.proofs.lemmas.List.Elements.{All-take}
 use Rattle.art_rows.specs.declared.table.Shape.{Shape}
 use Rattle.art_rows.specs.declared.table.Kind.{Kind}
 use Rattle.art_rows.specs.declared.table.Kind.TheVariants.{Four, Full}
@@ -16,7 +17,8 @@ use Rattle.art_core.specs.Meaning.{Reached, root, below, Hangs, child_on}
 use Rattle.art_core.specs.Forms.{HasForm, IsTree, level_in, path_in}
 use Rattle.art_serial.specs.trees.Trees.{LeadsTo, ChangesAt, IsPair, Parts, HasRowMore, PairsAreHung}
 use Rattle.art_serial.proofs.trees.Bytes.{PartsAt, parts_at, deeper, parted_byte, one_more, take_less}
-use Rattle.art_serial.proofs.trees.InfoWords.{level_back, path_back, bytes_of_key, bytes_before, byte_at, path_bytes}
+use Rattle.art_serial.proofs.trees.InfoWords.{level_back, path_back, path_byte}
+use Rattle.art_serial.proofs.words.ByteLemmas.{key_bytes-small}
 use Rattle.art_serial.proofs.trees.Infos.{IsInfo, MayHang, LeafMayHang}
 use Rattle.art_serial.proofs.trees.Ways.{empty-leaf, empty-row, row-leaf, same_base, same_kind, same_key}
 use Rattle.art_serial.proofs.trees.Changes.{elsewhere, infos_stay, forms_stay, child_there, one_kind, way_byte, way_leaf, IsPlace}
@@ -50,7 +52,7 @@ module _ (s : Shape) (words : List ℕ) (key base : ℕ) (kind : Kind) (x d a b 
   behind (Row c j) on parts =
       behind_list (path_in words c j) (parts_at (path_in words c j) (key_bytes key) d parts.0)
       (tree.row base c x kind j leads.reached (way_byte s words key base kind x leads) on).1 parts.1
-      (subst (λ z. z < 256) (sym parts.1) (byte_at (path_in words c j) d (path_bytes j (slice_index words (info_at c)))))
+      (subst (λ z. z < 256) (sym parts.1) (path_byte j (slice_index words (info_at c)) d))
 
 module _ (s : Shape) (words later : List ℕ) (key value base : ℕ) (kind : Kind) (x row d a b : ℕ) (tree : IsTree s words)
     (leads : LeadsTo s words key base kind x) (parts : Parts words key d a (child_on s words base kind x))
@@ -126,11 +128,13 @@ module _ (s : Shape) (words later : List ℕ) (key value base : ℕ) (kind : Kin
 
   row_level : (info_of Four word).level ≡ d
   row_level = ap (λ w. (info_of Four w).level) pair.info
-      ∙ level_back Four d (take d (key_bytes key)) where_parted.few path_long (bytes_before d (key_bytes key) (bytes_of_key key))
+      ∙ level_back Four d (take d (key_bytes key)) where_parted.few path_long
+      (All-take (λ x. x < 256) d (key_bytes key) (key_bytes-small key))
 
   row_path : (info_of Four word).path ≡ take d (key_bytes key)
   row_path = ap (λ w. (info_of Four w).path) pair.info
-      ∙ path_back Four d (take d (key_bytes key)) where_parted.few path_long (bytes_before d (key_bytes key) (bytes_of_key key))
+      ∙ path_back Four d (take d (key_bytes key)) where_parted.few path_long
+      (All-take (λ x. x < 256) d (key_bytes key) (key_bytes-small key))
 
   row_info : IsInfo Four word
   row_info = (ap length row_path ∙ (path_long ∙ sym row_level), pair.info ∙ ap₂ (λ l p. info_word Four l p) (sym row_level) (sym row_path))

@@ -16,7 +16,8 @@ use Rattle.art_serial.specs.trees.Trees.{ChangesAt}
 use Rattle.art_serial.specs.trees.Keys.{IsPutIn}
 use Rattle.art_serial.specs.trees.Puts.{HasRoomFor, FourTakesOneMore, SixteenTakesOneMore}
 use Rattle.art_serial.proofs.trees.PutKeys.{keys-are-put-in}
-use Rattle.art_serial.proofs.trees.RowKeys.{keys-of-four, keys-of-sixteen, all_bytes, read_four, read_sixteen}
+use Rattle.art_serial.proofs.trees.RowKeys.{keys-of-four, keys-of-sixteen}
+use Rattle.art_serial.proofs.words.ByteLemmas.{keys4_back, keys16_back}
 
 -- a row whose slots are said by the places of its keys
 abbrev SlotsByKeys : List ℕ → ℕ → Kind → List ℕ → Type 0
@@ -63,7 +64,7 @@ module _ (s : Shape) (words later : List ℕ) (base : ℕ) (kind : Kind) (x : �
 pub four-takes : FourTakesOneMore
 four-takes s words later base x keys child tree reached byte is none few room word =
     let (ks, written, most, rising, small) = tree.form base Four reached in
-    let same : keys ≡ ks = is ∙ (ap (λ w. keys4_of w) written ∙ read_four ks most (all_bytes ks small)) in
+    let same : keys ≡ ks = is ∙ (ap (λ w. keys4_of w) written ∙ keys4_back ks most small) in
     let put = keys-are-put-in x keys (subst (λ zs. IsStrictlyIncreasing zs) (sym same) rising)
     (subst (λ zs. All (λ y. y < 256) zs) (sym same) small) byte none in
     let long : length (with_key x keys) ≤ 4 = omega (arith, put.long, few) in
@@ -78,7 +79,7 @@ sixteen-takes s words later base x keys child tree reached byte is none few room
     let same : keys ≡ ks = is
     ∙ (ap (λ w. keys16_of w (slice_index words (keys_at base)) (slice_index words (more_keys_at base))) counted
     ∙ (ap (λ w. keys16_of (length ks) w (slice_index words (more_keys_at base))) written
-    ∙ (ap (λ w. keys16_of (length ks) (keys16_word ks) w) more ∙ read_sixteen ks most (all_bytes ks small)))) in
+    ∙ (ap (λ w. keys16_of (length ks) (keys16_word ks) w) more ∙ keys16_back ks most small))) in
     let put = keys-are-put-in x keys (subst (λ zs. IsStrictlyIncreasing zs) (sym same) rising)
     (subst (λ zs. All (λ y. y < 256) zs) (sym same) small) byte none in
     let long : length (with_key x keys) ≤ 16 = omega (arith, put.long, few) in

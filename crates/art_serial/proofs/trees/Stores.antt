@@ -22,11 +22,11 @@ module _ (s : Shape) (n : ℕ) (words later : List ℕ) (base : ℕ) (kind : Kin
   -- the other rows
   other_row : (b : ℕ) (k : Kind) → Reached s words b k → b ≢ base → SameRow words later b k
   other_row b k r apart j low high =
-      let (number, claimed, few, is) = rest.claimed b k r in
-      let (number2, claimed2, few2, is2) = rest.claimed base kind reached in
+      let own = rest.claimed b k r in
+      let its = rest.claimed base kind reached in
       one.others b k j r low high (λ same.
-      words_apart s number number2 j inside.0 k kind few few2 (λ e. apart (is ∙ (e ∙ sym is2))) high inside.3
-      (sym (ap (λ b. b + j) is) ∙ (same ∙ (inside.1 ∙ ap (λ b. b + inside.0) is2))))
+      words_apart s own.number its.number j inside.0 k kind own.within its.within (λ e. apart (own.is ∙ (e ∙ sym its.is))) high inside.3
+      (sym (ap (λ b. b + j) own.is) ∙ (same ∙ (inside.1 ∙ ap (λ b. b + inside.0) its.is))))
 
   -- the row's words before its children
   head_same : (j : ℕ) → 1 ≤ j → j < first_child kind → slice_index later (base + j) ≡ slice_index words (base + j)

@@ -1,17 +1,30 @@
 -- Bytes packed in a word are read back.
-use Rattle.std.proofs.Common.{◌≡◌, ℕ, ◌+◌, ◌-◌, ◌*◌, ◌/◌, ◌%◌, ◌^◌, ◌<◌, ◌≤◌, List, [], ◌∷◌, ◌++◌, length, take, drop, refl, ap, sym}
+use Rattle.std.proofs.Common.{◌≡◌, ℕ, suc, ◌+◌, ◌-◌, ◌*◌, ◌/◌, ◌%◌, ◌^◌, ◌<◌, ◌≤◌, List, [], ◌∷◌, ◌++◌, length, take, drop, refl, ap, sym}
 use Rattle.std.proofs.Common.{◌∙◌, ⊎_elim, true, false, arith}
-use Rattle.std.specs.Prelude.{nat_le, All, if◌then◌else◌}
+use Rattle.std.specs.Prelude.{nat_le, All, slice_index, if◌then◌else◌}
 use Rattle.std.proofs.Math.Nat.{pow-suc, pow-le-pow_right}
 use Rattle.std.proofs.lemmas.Bool.{cases_lt}
 use Rattle.std.proofs.lemmas.List.{take-append-drop, length-take, length-drop}
-use Rattle.std.proofs.lemmas.List.Elements.{All-head, All-tail, All-take, All-drop}
-use Rattle.art_rows.specs.Words.{packed, low_bytes, count_of, keys4_of, keys16_of, keys4_word, keys16_word, more_keys16_word}
+use Rattle.std.proofs.lemmas.List.Elements.{All-nil, All-cons, All-head, All-tail, All-take, All-drop}
+use Rattle.art_rows.specs.Words.{packed, low_bytes, key_bytes, count_of, keys4_of, keys16_of, keys4_word, keys16_word, more_keys16_word}
+use Rattle.art_rows.proofs.ByteLemmas.{low_byte-small, key_byte-small}
 use Rattle.art_rows.proofs.ReaderLemmas.{bytes_of, take_bytes, most_of}
 use Rattle.art_rows.proofs.WriterLemmas.{take_whole}
 
+-- each number is a byte
 abbrev pub AreBytes : List ℕ → Type 0
 AreBytes xs = All (λ x. x < 256) xs
+
+-- bytes by their places are all the bytes
+pub bytes-small : (xs : List ℕ) → ((i : ℕ) → slice_index xs i < 256) → AreBytes xs
+bytes-small [] h = All-nil (λ x. x < 256)
+bytes-small (x ∷ xs) h = All-cons (λ x. x < 256) x xs (h 0) (bytes-small xs (λ i. h (suc i)))
+
+pub low_bytes-small : (n w : ℕ) → AreBytes (low_bytes n w)
+low_bytes-small n w = bytes-small (low_bytes n w) (low_byte-small n w)
+
+pub key_bytes-small : (key : ℕ) → AreBytes (key_bytes key)
+key_bytes-small key = bytes-small (key_bytes key) (key_byte-small key)
 
 -- the lowest byte and the others
 pub first_byte : (b r : ℕ) → b < 256 → (b + 256 * r) % 256 ≡ b

@@ -13,11 +13,11 @@ use Rattle.art_core.specs.Meaning.{Means}
 use Rattle.art_core.specs.Forms.{IsTree}
 use Rattle.art_serial.specs.alone.Alone.{RunsAlone, accesses}
 use Rattle.art_serial.specs.trees.Trees.{IsAtRest}
-use Rattle.art_serial.specs.inserts.Settled.{IsSettled, HasOldOrNewRows}
+use Rattle.art_serial.specs.inserts.Settled.{HasOldOrNewRows, IsAfterInsert}
 
 -- Settled words that are a tree of rows that were reached before or claimed since are at rest.
 abbrev pub SettledWordsRest : Type 0
-SettledWordsRest = (s : Shape) (n : ℕ) (words later : List ℕ) → IsAtRest s n words → IsSettled s words later → IsTree s later
+SettledWordsRest = (s : Shape) (n : ℕ) (words later : List ℕ) → IsAtRest s n words → IsAfterInsert s words later → IsTree s later
     → HasOldOrNewRows s words later → IsAtRest s (n + 1) later
 
 -- The call runs alone to a legal reply by at most 1,000 accesses, and leaves a table at rest that means the map after it, with at most one claim more of each kind.

@@ -2,9 +2,10 @@
 use Rattle.std.specs.Prelude.{◌≡◌, ◌⊎◌, ℕ, ◌+◌, ◌<◌, ◌≤◌, ◌^◌, false, List, length, slice_index, All}
 use Rattle.art_rows.specs.declared.table.Shape.{Shape}
 use Rattle.art_rows.specs.declared.table.Kind.{Kind}
-use Rattle.art_rows.specs.Table.{row_words, rows_of, table_words, claims_of, base_of}
+use Rattle.art_rows.specs.Table.{row_words, table_words, claims_of}
 use Rattle.art_rows.specs.Words.{is_locked, is_obsolete}
 use Rattle.art_core.specs.Meaning.{Reached}
+use Rattle.art_serial.specs.trees.Trees.{IsClaimed}
 
 -- a word of a row that is reached, other than its version
 abbrev pub IsInside : Shape → List ℕ → ℕ → Type 0
@@ -12,8 +13,7 @@ IsInside s words w = (base : ℕ) × (kind : Kind) × (j : ℕ) × Reached s wor
 
 -- a row that was claimed since
 abbrev pub IsNewRow : Shape → List ℕ → List ℕ → ℕ → Kind → Type 0
-IsNewRow s words later base kind = (number : ℕ) × (slice_index words (claims_of kind) ≤ number) × (number < slice_index later (claims_of kind))
-    × (number < rows_of s kind) × (base ≡ base_of s kind number)
+IsNewRow s words later base kind = (x : IsClaimed s later base kind) × (slice_index words (claims_of kind) ≤ x.number)
 
 -- a word of such a row, other than its version
 abbrev pub IsNew : Shape → List ℕ → List ℕ → ℕ → Type 0
@@ -25,7 +25,7 @@ IsReleased s words later w = (kind : Kind) × Reached s words w kind × (is_lock
 
 -- At most one claim of each kind was made since, and each word that is not the clock or a count of claims is as it was, or the version of a row that is
 -- reached and not locked, or a word inside of a row that is reached or was claimed since.
-pub record IsSettled (s : Shape) (words later : List ℕ) : Type 0 where
+pub record IsAfterInsert (s : Shape) (words later : List ℕ) : Type 0 where
   pub long : length later ≡ table_words s
   pub small : All (λ w. w < 2 ^ 64) later
   pub low : (kind : Kind) → slice_index words (claims_of kind) ≤ slice_index later (claims_of kind)

@@ -11,6 +11,23 @@ use Rattle.art_rows.specs.Words.{is_obsolete, key_bytes, first_difference, info_
 use Rattle.art_core.specs.Meaning.{Reached, child_on, Means, AllUnlocked, pairs_of}
 use Rattle.art_core.specs.Forms.{HasForm, IsTree, level_in, path_in}
 
+-- a claim has reached the row's number
+pub record IsClaimed (s : Shape) (words : List ℕ) (base : ℕ) (kind : Kind) : Type 0 where
+  pub number : ℕ
+  pub claimed : number < slice_index words (claims_of kind)
+  pub within : number < rows_of s kind
+  pub is : base ≡ base_of s kind number
+
+-- the row of this number, where there is one, has only zeros
+abbrev pub IsUnused : Shape → List ℕ → Kind → ℕ → Type 0
+IsUnused s words kind number = number < rows_of s kind → (word : ℕ) → base_of s kind number ≤ word
+    → word < base_of s kind number + row_words kind
+    → slice_index words word ≡ 0
+
+-- a row whose number no claim has reached has only zeros
+abbrev pub AreZeroPastClaims : Shape → List ℕ → Type 0
+AreZeroPastClaims s words = (kind : Kind) (number : ℕ) → slice_index words (claims_of kind) ≤ number → IsUnused s words kind number
+
 -- A table between calls where nobody else runs: no row is locked, the words are a tree, no row of it is obsolete, each row of it was claimed, at most n claims
 -- of each kind were made, and a row that was not claimed has only zeros.
 pub record IsAtRest (s : Shape) (n : ℕ) (words : List ℕ) : Type 0 where
@@ -20,10 +37,8 @@ pub record IsAtRest (s : Shape) (n : ℕ) (words : List ℕ) : Type 0 where
   pub tree : IsTree s words
   pub live : (base : ℕ) (kind : Kind) → Reached s words base kind → is_obsolete (slice_index words base) ≡ false
   pub claims : (kind : Kind) → slice_index words (claims_of kind) ≤ n
-  pub claimed : (base : ℕ) (kind : Kind) → Reached s words base kind
-      → (number : ℕ) × (number < slice_index words (claims_of kind)) × (number < rows_of s kind) × (base ≡ base_of s kind number)
-  pub fresh : (kind : Kind) (number word : ℕ) → slice_index words (claims_of kind) ≤ number → number < rows_of s kind → base_of s kind number ≤ word
-      → word < base_of s kind number + row_words kind → slice_index words word ≡ 0
+  pub claimed : (base : ℕ) (kind : Kind) → Reached s words base kind → IsClaimed s words base kind
+  pub fresh : AreZeroPastClaims s words
 
 -- Two tables say the same of a row: all its words but the version are the same.
 abbrev pub SameRow : List ℕ → List ℕ → ℕ → Kind → Type 0

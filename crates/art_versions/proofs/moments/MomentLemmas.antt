@@ -31,7 +31,7 @@ use Rattle.art_core.specs.Moments.{HasGot, BeginsAttempt, Reads, Enters, Checks,
 use Rattle.art_core.proofs.StartLemmas.{run-steps}
 use Rattle.art_versions.specs.versions.Holding.{Knows, optimistic}
 use Rattle.art_versions.specs.versions.Versions.{IsSettled, IsSound}
-use Rattle.art_versions.specs.versions.Steady.{SameRow, IsSteady}
+use Rattle.art_versions.specs.versions.Steady.{IsSteady, SameWords}
 use Rattle.art_versions.proofs.versions.MoveLemmas.{settled-row}
 use Rattle.art_versions.proofs.versions.StepLemmas.{one-step, next-turn}
 use Rattle.art_versions.proofs.versions.RunLemmas.{StartsSound, start-sound, steady-refl, steady-trans}
@@ -178,7 +178,7 @@ module _ (plan : Plan) (start : Contents) (words schedule : List ℕ) (s : State
         before : t ≤ check.u
         steady : IsSteady Optimistic plan.shape entry.state now
         version : slice_index now.words base ≡ slice_index attempt i
-        same_row : SameRow entry.state.words now.words base kind
+        same_row : SameWords entry.state.words now.words base kind
         free : is_locked (slice_index now.words base) ≡ false
         long : length entry.state.words ≡ length now.words
 

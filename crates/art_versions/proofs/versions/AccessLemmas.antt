@@ -25,7 +25,7 @@ use Rattle.art_core.specs.Core.{State}
 use Rattle.art_versions.specs.versions.Holding.{OfRows, Named, IsSlot, IsKept, Knows, holds, fills}
 use Rattle.art_versions.specs.versions.Effects.{IsGoodAt, IsAmong, IsWith, IsBehindVersion, Has}
 use Rattle.art_versions.specs.versions.Versions.{IsOpen, stage_of, held_by, IsSettled, IsHeld, AreDistinct, IsSound}
-use Rattle.art_versions.specs.versions.Steady.{IsSteady, SameRow}
+use Rattle.art_versions.specs.versions.Steady.{IsSteady, SameWords}
 use Rattle.art_versions.proofs.versions.KeyLemmas.{slot-behind}
 use Rattle.art_versions.proofs.versions.KnownLemmas.{knows-more}
 use Rattle.art_versions.proofs.versions.WordFacts.{version-free}
@@ -99,7 +99,8 @@ module _ (variant : Variant) (shape : Shape) (n : ℕ) (s : State) (h : IsSound 
       claims kind = index-other s.words word value (claims_of kind)
           (m.no-claim variant shape n s h few p q here call is-open word value q' its (omega (arith, row_begins shape b k row, behind.0)) kind)
 
-      stands : (base : ℕ) (kind : Kind) → P base kind → is_locked (slice_index s.words base) ≡ false → SameRow s.words (slice_set s.words word value) base kind
+      stands : (base : ℕ) (kind : Kind) → P base kind → is_locked (slice_index s.words base) ≡ false
+          → SameWords s.words (slice_set s.words word value) base kind
       stands base kind x free y low high = elim (cases_eq y word) [
         | inl e ↦
             let one = rows_apart shape base b kind k word (settled-row variant shape s base kind x) row (omega (arith, low, e)) (omega (arith, high, e))

@@ -21,9 +21,10 @@ use Rattle.art_core.specs.Core.{State}
 use Rattle.art_core.proofs.HistoryLemmas.{changed-at}
 use Rattle.art_serial.proofs.writes.StoreLemmas.{stored-at}
 use Rattle.art_serial.proofs.serial.OrderlyLemmas.{set-here}
+use Rattle.art_serial.specs.trees.Trees.{IsClaimed}
 use Rattle.art_versions.specs.versions.Holding.{OfRows, IsNamed, child_rows, Knows}
 use Rattle.art_versions.specs.versions.Effects.{IsGoodAt, IsAmong}
-use Rattle.art_versions.specs.versions.Versions.{IsOpen, stage_of, held_by, filled_by, IsClaimed, IsSettled, IsHeld, AreDistinct, IsSound}
+use Rattle.art_versions.specs.versions.Versions.{IsOpen, stage_of, held_by, filled_by, IsSettled, IsHeld, AreDistinct, IsSound}
 use Rattle.art_versions.proofs.versions.KeyLemmas.{each-weaker}
 use Rattle.art_versions.proofs.versions.KnownLemmas.{knows-more}
 

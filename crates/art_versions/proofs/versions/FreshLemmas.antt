@@ -10,6 +10,7 @@ use Rattle.art_rows.specs.declared.table.Kind.{Kind}
 use Rattle.art_rows.specs.declared.table.Kind.TheVariants.{Four, Sixteen, FortyEight, Full}
 use Rattle.art_rows.specs.Table.{opening, rows_of, claims_of, base_of, root_base, kind_at}
 use Rattle.art_serial.proofs.words.TableLemmas.{kind_at-base_of, base_of-once, row_begins, rows_apart}
+use Rattle.art_serial.specs.trees.Trees.{IsClaimed, AreZeroPastClaims}
 use Rattle.art_steps.specs.declared.variant.Variant.{Variant}
 use Rattle.art_stages.specs.Stages.{setting}
 use Rattle.art_core.specs.Core.{Plan, State, opened, opened_on, step}
@@ -18,10 +19,9 @@ use Rattle.art_core.specs.Starts.{StartsOn, start_plan}
 use Rattle.art_core.specs.Plans.{IsRun}
 use Rattle.art_core.proofs.HistoryLemmas.{nowhere}
 use Rattle.art_core.proofs.StartLemmas.{run-steps}
-use Rattle.art_versions.specs.versions.Versions.{IsClaimed, IsHeld, IsSettled, IsSound, stage_of}
+use Rattle.art_versions.specs.versions.Versions.{IsHeld, IsSettled, IsSound, stage_of}
 use Rattle.art_versions.specs.versions.Steady.{IsSteady}
 use Rattle.art_versions.specs.versions.Writers.{MayWrite, WritesOwn}
-use Rattle.art_versions.specs.versions.Fresh.{FreshAreZero}
 use Rattle.art_versions.specs.versions.Laws.{IsFull}
 use Rattle.art_versions.proofs.versions.KnownLemmas.{held-is-kept}
 use Rattle.art_versions.proofs.versions.ChangeLemmas.{index-other}
@@ -44,7 +44,8 @@ module _ (variant : Variant) (shape : Shape) (n : ℕ) (s : State) (h : IsSound 
       (h.knows x.holder x.call x.process x.is_open) x.row x.among).1.claimed
 
 fresh-step : (variant : Variant) (shape : Shape) (n m : ℕ) (s later : State) (p : ℕ) → IsSound variant shape n s → IsSound variant shape m later
-    → IsSteady variant shape s later → WritesOwn variant shape s p later → FreshAreZero shape s → FreshAreZero shape later
+    → IsSteady variant shape s later → WritesOwn variant shape s p later → AreZeroPastClaims shape s.words
+    → AreZeroPastClaims shape later.words
 fresh-step variant shape n m s later p h k steady own fresh kind number past within word low high =
     elim (cases_eq (slice_index later.words word) (slice_index s.words word)) [
       | inl same ↦ same ∙ fresh kind number before within word low high
@@ -63,22 +64,24 @@ fresh-step variant shape n m s later p h k steady own fresh kind number past wit
         (h.filled p filled.call filled.process filled.is_open (base_of shape kind number) filled.kind filled.fills) refl within before
 
 fresh-run : (variant : Variant) → IsFull variant → (plan : Plan) → plan.variant ≡ variant → 1 ≤ plan.shape.rows256 → (schedule : List ℕ) (n : ℕ)
-    (first s : State) → n + length schedule < 2 ^ 62 → IsSound variant plan.shape n first → FreshAreZero plan.shape first
-    → run_on plan (Some first) schedule ≡ Some s → FreshAreZero plan.shape s
-fresh-run variant full plan v root [] n first s few h k e = subst (FreshAreZero plan.shape) (same_Some first s e) k
+    (first s : State) → n + length schedule < 2 ^ 62 → IsSound variant plan.shape n first → AreZeroPastClaims plan.shape first.words
+    → run_on plan (Some first) schedule ≡ Some s → AreZeroPastClaims plan.shape s.words
+fresh-run variant full plan v root [] n first s few h k e = subst (λ x. AreZeroPastClaims plan.shape x.words) (same_Some first s e) k
 fresh-run variant full plan v root (p ∷ schedule) n first s few h k e =
     go (step plan first p) refl e (λ next. fresh-run variant full plan v root schedule (n + 1) next s)
   where
     go : (o : Option State) → step plan first p ≡ o → run_on plan o schedule ≡ Some s
-        → ((next : State) → n + 1 + length schedule < 2 ^ 62 → IsSound variant plan.shape (n + 1) next → FreshAreZero plan.shape next
-        → run_on plan (Some next) schedule ≡ Some s → FreshAreZero plan.shape s) → FreshAreZero plan.shape s
+        → ((next : State) → n + 1 + length schedule < 2 ^ 62 → IsSound variant plan.shape (n + 1) next
+        → AreZeroPastClaims plan.shape next.words
+        → run_on plan (Some next) schedule ≡ Some s → AreZeroPastClaims plan.shape s.words) → AreZeroPastClaims plan.shape s.words
     go None f l later = absurd (nowhere plan schedule s l)
     go (Some next) f l later =
         let made = one-step variant full plan v root n (omega (arith, few)) first h p next f in
         later next (omega (arith, few)) made.0 (fresh-step variant plan.shape n (n + 1) first next p h made.0 made.1 made.2 k) l
 
 -- at the opening only the root was claimed
-opening-fresh : (variant : Variant) (shape : Shape) (some : 1 ≤ shape.rows256) (s : State) → s.words ≡ opening shape → FreshAreZero shape s
+opening-fresh : (variant : Variant) (shape : Shape) (some : 1 ≤ shape.rows256) (s : State) → s.words ≡ opening shape
+    → AreZeroPastClaims shape s.words
 opening-fresh variant shape some s is kind number past within word low high =
     ap (λ w. slice_index w word) is ∙ zeros variant shape some word
     (differ-from word 4 (omega (arith, row_begins shape (base_of shape kind number) kind row, low))) not-root
@@ -96,7 +99,8 @@ opening-fresh variant shape some s is kind number past within word low high =
         omega (arith, claims, first, past, its.1)
 
 -- with the clock set back
-reset-fresh : (shape : Shape) (s t : State) → t.words ≡ slice_set s.words 0 0 → FreshAreZero shape s → FreshAreZero shape t
+reset-fresh : (shape : Shape) (s t : State) → t.words ≡ slice_set s.words 0 0 → AreZeroPastClaims shape s.words
+    → AreZeroPastClaims shape t.words
 reset-fresh shape s t is h kind number past within word low high =
     at word (omega (arith, row_begins shape (base_of shape kind number) kind (kind_at-base_of shape kind number within), low))
     ∙ h kind number (omega (arith, at (claims_of kind) (claims-some kind), past)) within word low high
@@ -111,7 +115,7 @@ reset-fresh shape s t is h kind number past within word low high =
     at x some = ap (λ w. slice_index w x) is ∙ index-other s.words 0 0 x (differ-from x 0 some)
 
 start-fresh : (variant : Variant) → IsFull variant → (plan : Plan) (start : Contents) (words : List ℕ) → plan.variant ≡ variant → 1 ≤ plan.shape.rows256
-    → StartsOn plan.shape plan.variant start words → FreshAreZero plan.shape (opened_on plan words)
+    → StartsOn plan.shape plan.variant start words → AreZeroPastClaims plan.shape (opened_on plan words).words
 start-fresh variant full plan start words v root h =
     let first = start_plan plan.shape plan.variant start in
     let steps = run-steps first h.inserted.schedule (opened first) h.state h.inserted.gives in
@@ -122,7 +126,7 @@ start-fresh variant full plan start words v root h =
     (opening-fresh variant plan.shape root (opened first) refl) h.inserted.gives)
 
 pub fresh-at : (variant : Variant) → IsFull variant → (plan : Plan) (start : Contents) (words schedule : List ℕ) (s : State)
-    → IsRun plan start words schedule s → plan.variant ≡ variant → FreshAreZero plan.shape s
+    → IsRun plan start words schedule s → plan.variant ≡ variant → AreZeroPastClaims plan.shape s.words
 fresh-at variant full plan start words schedule s run v =
     let first = start-sound variant full plan start words v run.within.shape.root run.starts in
     let steps = run-steps plan schedule (opened_on plan words) s run.gives in

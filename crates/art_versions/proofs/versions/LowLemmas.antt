@@ -22,7 +22,7 @@ use Rattle.art_core.specs.declared.process.Process.{Process}
 use Rattle.art_core.specs.Core.{State}
 use Rattle.art_versions.specs.versions.Holding.{OfRows, Named, IsKept, Knows}
 use Rattle.art_versions.specs.versions.Effects.{IsGoodAt, IsAmong, Has}
-use Rattle.art_versions.specs.versions.Versions.{IsOpen, stage_of, held_by, filled_by, IsClaimed, IsSettled, AreDistinct, IsSound}
+use Rattle.art_versions.specs.versions.Versions.{IsOpen, stage_of, held_by, filled_by, IsSettled, AreDistinct, IsSound}
 use Rattle.art_versions.specs.versions.Steady.{IsSteady}
 use Rattle.art_versions.proofs.versions.KeyLemmas.{slot-behind}
 use Rattle.art_versions.proofs.versions.KnownLemmas.{knows-more, held-is-kept}
@@ -30,6 +30,7 @@ use Rattle.art_versions.proofs.versions.ChangeLemmas.{index-other, held-still, C
 use Rattle.art_versions.proofs.versions.MoveLemmas.{settled-row, no-items, differ-from}
 use Rattle.art_serial.proofs.words.KeyLemmas.{less}
 use Rattle.art_serial.proofs.writes.StoreLemmas.{stored-at}
+use Rattle.art_serial.specs.trees.Trees.{IsClaimed}
 use Rattle.art_versions.proofs.versions.MoveLemmas as m
 
 pub first-item : {x y : Named} → ◌≡◌ {A = List Named} (x ∷ []) (y ∷ []) → x ≡ y

@@ -12,6 +12,7 @@ use Rattle.art_rows.specs.Words.{is_locked}
 use Rattle.art_rows.proofs.KindLemmas.{some-words, claims-few}
 use Rattle.art_serial.proofs.words.TableLemmas.{kind_at-base_of, rows_apart}
 use Rattle.art_serial.proofs.writes.StoreLemmas.{stored-at}
+use Rattle.art_serial.specs.trees.Trees.{IsClaimed}
 use Rattle.art_steps.specs.Rows.{Setting, locks}
 use Rattle.art_stages.specs.declared.stage.Held.{Held}
 use Rattle.art_stages.specs.Calls.{CallAt}
@@ -21,7 +22,7 @@ use Rattle.art_core.specs.declared.process.Process.{Process}
 use Rattle.art_core.specs.Core.{State}
 use Rattle.art_versions.specs.versions.Holding.{Named, IsKept, Knows, holds, fills}
 use Rattle.art_versions.specs.versions.Effects.{IsGoodAt, IsAmong, IsBehindVersion, Has}
-use Rattle.art_versions.specs.versions.Versions.{IsOpen, stage_of, held_by, filled_by, IsClaimed, IsSettled, AreDistinct, IsSound}
+use Rattle.art_versions.specs.versions.Versions.{IsOpen, stage_of, held_by, filled_by, IsSettled, AreDistinct, IsSound}
 use Rattle.art_versions.proofs.versions.KnownLemmas.{held-is-kept}
 use Rattle.art_versions.proofs.versions.ChangeLemmas.{index-other, next, now, held-still, Claims, settled-more, sound-now}
 use Rattle.art_stages.proofs.BehindLemmas.{behind}

@@ -27,6 +27,7 @@ use Rattle.art_steps.specs.Act.{act}
 use Rattle.art_steps.specs.Fits.{word_of}
 use Rattle.art_steps.proofs.AccessLemmas.{act-stays}
 use Rattle.art_serial.proofs.words.TableLemmas.{row_begins}
+use Rattle.art_serial.specs.trees.Trees.{IsClaimed}
 use Rattle.art_stages.specs.declared.stage.Held.{Held}
 use Rattle.art_stages.specs.Calls.{CallAt, OnKey, OnScan, call_turn, call_after, call_begun, begun_as, after_all}
 use Rattle.art_stages.proofs.BehindLemmas.{call_next, behind}
@@ -37,7 +38,7 @@ use Rattle.art_core.specs.Core.{Plan, State, Move, Invokes, Makes, Responds, aft
 use Rattle.art_core.proofs.HistoryLemmas.{is-moved}
 use Rattle.art_versions.specs.versions.Holding.{OfRows, Named, Knows, holds, fills}
 use Rattle.art_versions.specs.versions.Effects.{With, Has, Does, Reads, Writes, Fills, Ends, Releases, Takes, Claims, Answered}
-use Rattle.art_versions.specs.versions.Versions.{IsOpen, stage_of, held_by, filled_by, IsClaimed, IsSettled, IsSound}
+use Rattle.art_versions.specs.versions.Versions.{IsOpen, stage_of, held_by, filled_by, IsSettled, IsSound}
 use Rattle.art_versions.specs.versions.Steady.{IsSteady}
 use Rattle.art_versions.proofs.versions.KeyLemmas.{key-does}
 use Rattle.art_versions.proofs.versions.ScanLemmas.{coupled-scan-does, optimistic-scan-does}

@@ -6,11 +6,11 @@ use Rattle.art_steps.specs.declared.variant.Variant.TheVariants.{Coupled, Optimi
 use Rattle.art_core.specs.Core.{Plan, State, opened_on}
 use Rattle.art_core.specs.Runs.{Gives}
 use Rattle.art_core.specs.Plans.{IsRun}
+use Rattle.art_serial.specs.trees.Trees.{AreZeroPastClaims}
 use Rattle.art_versions.specs.versions.Locks.{LocksAreHeld}
 use Rattle.art_versions.specs.versions.Versions.{IsSound}
 use Rattle.art_versions.specs.versions.Steady.{IsSteady, ObsoleteStand}
 use Rattle.art_versions.specs.versions.Writers.{WritesOwn}
-use Rattle.art_versions.specs.versions.Fresh.{FreshAreZero}
 
 -- a tree that leaves out no lock and no check
 abbrev pub IsFull : Variant → Type 0
@@ -44,4 +44,4 @@ ObsoleteRowsRest = (plan : Plan) (start : Contents) (words earlier later : List 
 -- In every state that a schedule gives, rows that no claim has reached have only zeros.
 abbrev pub FreshRowsAreZero : Type 0
 FreshRowsAreZero = (plan : Plan) (start : Contents) (words schedule : List ℕ) (s : State) → IsRun plan start words schedule s → IsFull plan.variant
-    → FreshAreZero plan.shape s
+    → AreZeroPastClaims plan.shape s.words

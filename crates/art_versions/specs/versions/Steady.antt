@@ -9,8 +9,8 @@ use Rattle.art_core.specs.Core.{State}
 use Rattle.art_versions.specs.versions.Versions.{IsSettled}
 
 -- the row's words are the same
-abbrev pub SameRow : List ℕ → List ℕ → ℕ → Kind → Type 0
-SameRow words later base kind = (word : ℕ) → base ≤ word → word < base + row_words kind → slice_index later word ≡ slice_index words word
+abbrev pub SameWords : List ℕ → List ℕ → ℕ → Kind → Type 0
+SameWords words later base kind = (word : ℕ) → base ≤ word → word < base + row_words kind → slice_index later word ≡ slice_index words word
 
 -- From the one state to a later one claims do not fall, each row that was settled stays so, its version does not fall, and where it is the same and unlocked, so are all words
 -- of the row.
@@ -19,9 +19,9 @@ pub record IsSteady (variant : Variant) (shape : Shape) (s later : State) : Type
   pub settled : (base : ℕ) (kind : Kind) → IsSettled variant shape s base kind → IsSettled variant shape later base kind
   pub rises : (base : ℕ) (kind : Kind) → IsSettled variant shape s base kind → slice_index s.words base ≤ slice_index later.words base
   pub stands : (base : ℕ) (kind : Kind) → IsSettled variant shape s base kind → slice_index later.words base ≡ slice_index s.words base
-      → is_locked (slice_index s.words base) ≡ false → SameRow s.words later.words base kind
+      → is_locked (slice_index s.words base) ≡ false → SameWords s.words later.words base kind
 
 -- a settled row that is obsolete has the same words
 abbrev pub ObsoleteStand : Variant → Shape → State → State → Type 0
 ObsoleteStand variant shape s later = (base : ℕ) (kind : Kind) → IsSettled variant shape s base kind → is_obsolete (slice_index s.words base) ≡ true
-    → SameRow s.words later.words base kind
+    → SameWords s.words later.words base kind

@@ -1,10 +1,10 @@
 -- The invariant of rows and versions: in every state that a schedule of a full tree gives, after few steps.
-use Rattle.std.specs.Prelude.{◌≡◌, ◌≢◌, ℕ, ◌+◌, ◌*◌, ◌<◌, ◌≤◌, true, List, [], ◌∷◌, length, slice_get, slice_index, Some}
+use Rattle.std.specs.Prelude.{◌≡◌, ◌≢◌, ℕ, ◌+◌, ◌*◌, ◌≤◌, true, List, [], ◌∷◌, length, slice_get, slice_index, Some}
 use Rattle.events.specs.declared.event.Call.{Call}
 use Rattle.art_rows.specs.declared.table.Shape.{Shape}
 use Rattle.art_rows.specs.declared.table.Kind.{Kind}
 use Rattle.art_rows.specs.declared.table.Kind.TheVariants.{Full}
-use Rattle.art_rows.specs.Table.{table_words, rows_of, claims_of, base_of, root_base, kind_at}
+use Rattle.art_rows.specs.Table.{table_words, claims_of, root_base, kind_at}
 use Rattle.art_rows.specs.Words.{is_locked}
 use Rattle.art_steps.specs.declared.variant.Variant.{Variant}
 use Rattle.art_stages.specs.declared.stage.Held.{Held}
@@ -12,6 +12,7 @@ use Rattle.art_stages.specs.Stages.{setting}
 use Rattle.art_stages.specs.Calls.{CallAt, call_behind}
 use Rattle.art_core.specs.declared.process.Process.{Process}
 use Rattle.art_core.specs.Core.{State}
+use Rattle.art_serial.specs.trees.Trees.{IsClaimed}
 use Rattle.art_versions.specs.versions.Holding.{Named, Knows, holds, fills}
 use Rattle.art_versions.specs.versions.Effects.{IsGoodAt, IsAmong}
 
@@ -24,19 +25,18 @@ pub record IsOpen (s : State) (p : ℕ) (call : Call) (q : Process) : Type 0 whe
 abbrev pub stage_of : Variant → Shape → Call → Process → CallAt
 stage_of variant shape call q = call_behind (setting shape variant call) q.got
 
+-- the process is in this call, at this stage
+pub record IsAtStage (variant : Variant) (shape : Shape) (s : State) (p : ℕ) (call : Call) (stage : CallAt) : Type 0 where
+  pub process : Process
+  pub is_open : IsOpen s p call process
+  pub at : stage_of variant shape call process ≡ stage
+
 -- the rows that it holds there, and the row that it fills
 abbrev pub held_by : Variant → Shape → Call → Process → List Held
 held_by variant shape call q = holds (setting shape variant call) (stage_of variant shape call q)
 
 abbrev pub filled_by : Variant → Shape → Call → Process → List Named
 filled_by variant shape call q = fills (stage_of variant shape call q)
-
--- a claim has reached the row's number
-pub record IsClaimed (shape : Shape) (words : List ℕ) (base : ℕ) (kind : Kind) : Type 0 where
-  pub number : ℕ
-  pub claimed : number < slice_index words (claims_of kind)
-  pub within : number < rows_of shape kind
-  pub is : base ≡ base_of shape kind number
 
 -- The row was claimed, and no process is filling it: only such rows are ever named by a child word or known to a call.
 pub record IsSettled (variant : Variant) (shape : Shape) (s : State) (base : ℕ) (kind : Kind) : Type 0 where
