@@ -1,6 +1,5 @@
 pub mod PartLaws
 pub mod StageLemmas
-pub mod BridgeLemmas
 pub mod MarkBridgeLemmas
 pub mod LedLemmas
 pub mod OwnLemmas

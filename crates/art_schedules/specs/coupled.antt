@@ -1,5 +1,4 @@
 -- Calls under lock coupling: what each knows on its way, up to its work or its reply.
-pub mod Begins
 pub mod Knows
 pub mod Goes
 pub mod Stays

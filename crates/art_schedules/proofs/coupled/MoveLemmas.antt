@@ -53,7 +53,7 @@ use Rattle.art_versions.specs.versions.Holding.{Each, Fits, Knows, KnowsKey, hol
 use Rattle.art_versions.specs.versions.Locking.{all_of, held_at_place, lock_of, locks_of, rows_held, rows_of_hold}
 use Rattle.art_versions.specs.versions.Effects.{IsAmong}
 use Rattle.art_versions.specs.versions.Versions.{IsOpen, IsSettled, stage_of, held_by, filled_by, IsAtStage}
-use Rattle.art_versions.proofs.versions.KnownLemmas.{held-is-kept, among-each, each-among}
+use Rattle.art_versions.proofs.versions.KnownLemmas.{held-is-kept, among-each, each-among, each-map}
 use Rattle.art_versions.proofs.versions.MoveLemmas.{settled-row, no-items}
 use Rattle.art_schedules.specs.calm.Calm.{calm_of}
 use Rattle.art_schedules.proofs.calm.VersionLemmas.{free-busy}
@@ -68,10 +68,11 @@ use Rattle.art_schedules.specs.coupled.Laws.{CallsBegin, CallsGoOn, CallsStay, F
 use Rattle.art_schedules.specs.coupled.Moments.{IsLeaving, ObsoleteLeave, IsCoupledStep}
 use Rattle.art_schedules.specs.coupled.Good.{WaysTakeReached, SeekersAreNotAnswered}
 use Rattle.art_schedules.proofs.coupled.OwnLemmas.{ways-go-on, findings-stay}
-use Rattle.art_schedules.proofs.coupled.StayLemmas.{begins-still, own-still, ways-are-kept}
+use Rattle.art_schedules.proofs.coupled.StayLemmas.{own-still, ways-are-kept}
 use Rattle.art_schedules.proofs.coupled.MadeLemmas.{Facts, facts, IsMade, made, others-open}
 use Rattle.art_schedules.proofs.coupled.RowLemmas.{kept-row, others-same, held-calm, held-live, its-turn, own-same, keeps-without, keeps-released}
 use Rattle.art_schedules.proofs.work.LockedLemmas.{among-lock}
+use Rattle.art_schedules.proofs.effects.KeptLemmas.{begins-kept}
 
 -- ---- accesses and stages
 
@@ -444,11 +445,6 @@ module _ (plan : Plan) (start : Contents) (words schedule : List ℕ) (p : ℕ) 
       knows-then : (o : Option Reply) → KnowsWay its calm s.words o (stage_after its stage got) → KnowsWay its after t.words o (stage_after its stage got)
       knows-then o x = ways-are-kept plan.shape call (f.count + 2) calm s.words after t.words m None o (stage_after its stage got) own-follows own-still-rows x
 
-      still-of : (hs : List Held) → Each (IsStill calm s.words after t.words None) hs
-          → Each (λ x. SameRow calm after x.base x.kind × (IsGoneBy None x.base → ⊥)) hs
-      still-of [] x = tt
-      still-of (y ∷ hs) x = ((x.0.row, x.0.stays), still-of hs x.1)
-
       own-of : (hs : List Held) → Each (IsStill calm s.words after t.words None) hs → Each (IsOwn calm s.words) hs → Each (IsOwn after t.words) hs
       own-of [] x o = tt
       own-of (y ∷ hs) x o = (own-still calm s.words after t.words y x.0.row x.0.same o.0, own-of hs x.1 o.1)
@@ -460,8 +456,8 @@ module _ (plan : Plan) (start : Contents) (words schedule : List ℕ) (p : ℕ) 
           let still = subst (Each (IsStill calm s.words after t.words None)) (ap (rows_held true (is_insert call)) e ∙ works-hold (is_insert call) its hold
           work)
           own-still-rows in
-          Works hold work e (begins-still its (f.count + 2) calm after m (IsGoneBy None) (ComesInBy None) own-follows m hold work
-          (still-of (rows_of_hold hold) still) b)
+          Works hold work e (begins-kept its (f.count + 2) calm after m (IsGoneBy None) (ComesInBy None) own-follows hold work
+          (each-map (λ (x : Held) y. y.row) (rows_of_hold hold) still) (each-map (λ (x : Held) y. y.stays) (rows_of_hold hold) still) b)
           (own-of (rows_of_hold hold) still own)
 
 pub calls-go-on : KeptTreesFollow → WaysLeadToValues → LeavesAreSmall → CallsGoOn

@@ -58,6 +58,7 @@ use Rattle.art_schedules.specs.coupled.Goes.{Gets, Goes, GoesOn, Works, Finds}
 use Rattle.art_schedules.specs.coupled.Laws.{WaysGoOn, FindingsStay}
 use Rattle.art_schedules.specs.work.Ways.{slot_in, KnowsKeys, KnowsFinding, IsOnWay, HasChild, Hangs}
 use Rattle.art_schedules.proofs.work.CallLemmas.{insert-of, seek-of, key-small, kept-after, full-slot}
+use Rattle.art_schedules.specs.effects.Begins.{BeginsWork, IsOverwritten}
 
 -- ---- words, bytes and calls
 
@@ -123,6 +124,17 @@ module _ (shape : Shape) (call : Call) (tree : is_tree_call call ≡ true) (key-
       → LeadsTo shape calm (key_of call) base kind (slice_index (key_bytes (key_of call)) (level_in calm base kind))
   leads-on h slot base kind (on, at) none = leads-below shape n calm rest on.leads (byte-in-small h) (hangs-on h slot (ChildRow base kind) at) none
 
+  -- a slot of the row is overwritten
+  overwritten : (h : Held) (slot : ℕ) (child : Child) (word : ℕ) (old : Option ℕ) → IsOnWay c calm h → HasChild c calm h slot child
+      → IsOverwritten c word old child → BeginsWork c calm (hold_alone h) (work.Write slot word old)
+  overwritten h slot child word old on at over = record {
+    call = tree;
+    words = tt;
+    byte = byte_in c h;
+    leads = on.leads;
+    finds = (refl, at.at, subst (IsOverwritten c word old) (sym (hangs-on h slot child at)) over);
+  }
+
   -- ---- a get, a remove or a replace behind FIND
 
   module _ (e : is_insert call ≡ false) where
@@ -143,7 +155,7 @@ module _ (shape : Shape) (call : Call) (tree : is_tree_call call ≡ true) (key-
         Finds (reply.Some v) (inr (sym (seek-reply m call seeks-key ∙ ap value_reply has)), sym (kept-after m call v seeks-key f has))
         (knows false e (Some (reply.Some v)) _ (refl, refl, on.leads.reached) (own, tt))
     overwrites h slot k v (Some word) f on own at is = Works (hold_alone h) (work.Write slot word (Some v)) refl
-        (record { fits = tt; way = (refl, (Leaf k v, (on, at), (is, refl, inr (e, f)))); value = own-leaf h slot k v on at is }) (own, tt)
+        (overwritten h slot (Leaf k v) word (Some v) on at (is, refl, inr f)) (own, tt)
 
     seeks : (h : Held) (f : Finding) → IsOnWay c calm h → Own h → KnowsFinding false c calm h f → To (seek_coupled false c h f)
     seeks h (Lacks keys) on own none = unlocks h on own (no-slot h on none)
@@ -160,9 +172,15 @@ module _ (shape : Shape) (call : Call) (tree : is_tree_call call ≡ true) (key-
   module _ (e : is_insert call ≡ true) where
     alone : (h : Held) (f : Finding) → IsOnWay c calm h → Own h → KnowsFinding true c calm h f → HasRoom h f → To (insert_coupled c h f)
     alone h (Lacks keys) on own lacks room = Works (hold_alone h) (work.Put keys) refl
-        (record { fits = (insert-of call tree e, lacks, room); way = (refl, on); value = no-slot h on lacks.absent }) (own, tt)
+        (record {
+          call = tree;
+          words = (insert-of call tree e, lacks, room);
+          byte = byte_in c h;
+          leads = on.leads;
+          finds = (refl, on.info);
+        }) (own, tt)
     alone h (Has slot Empty) on own at room = Works (hold_alone h) (work.Write slot (child_word (new_leaf call)) None) refl
-        (record { fits = tt; way = (refl, (Empty, (on, at), (insert-of call tree e, refl, refl))); value = empty-slot h slot on at }) (own, tt)
+        (overwritten h slot Empty (child_word (new_leaf call)) None on at (e, refl, refl)) (own, tt)
     alone h (Has slot (Leaf k v)) on own at room = go (k == key_of call) refl
       where
         parts : k ≢ key_of call → first_difference (key_bytes k) (key_bytes (key_of call)) ≡ Some (keys_differ_at k (key_of call))
@@ -183,16 +201,25 @@ module _ (shape : Shape) (call : Call) (tree : is_tree_call call ≡ true) (key-
         go true same =
             let is = eqb-true k (key_of call) same in
             Works (hold_alone h) (work.Write slot (child_word (new_leaf call)) (Some v)) refl
-            (record { fits = tt; way = (refl, (Leaf k v, (on, at), (is, refl, inl (insert-of call tree e, refl)))); value = own-leaf h slot k v on at is })
+            (overwritten h slot (Leaf k v) (child_word (new_leaf call)) (Some v) on at (is, refl, inl (e, refl)))
             (own, tt)
         go false same =
             let apart = eqb-false k (key_of call) same in
             let d = keys_differ_at k (key_of call) in
             Works (hold_alone h) (pair_work c slot k v) refl
             (record {
-              fits = (insert-of call tree e, at.has, empty, key_byte-small k d, first-differs (key_bytes k) (key_bytes (key_of call)) d (parts apart));
-              way = ((on, at), (parts apart, refl));
-              value = other-leaf h slot k v on at apart;
+              call = tree;
+              words = (
+                insert-of call tree e,
+                at.has,
+                empty,
+                key_byte-small k d,
+                first-differs (key_bytes k) (key_bytes (key_of call)) d
+                    (parts apart),
+              );
+              byte = byte_in c h;
+              leads = on.leads;
+              finds = (at.at, (parts apart, refl));
             })
             (own, tt)
     alone h (Has slot (ChildRow base kind)) on own at room = GoesOn (knows true e None _ (on, at) (own, tt))
@@ -208,7 +235,13 @@ module _ (shape : Shape) (call : Call) (tree : is_tree_call call ≡ true) (key-
         → To (ClaimGrow (record { row = h; above = above }) slot keys)
     grows h None slot keys on own up under lacks full = absurd (full-slot calm h.base h.kind (byte_in c h) under lacks.absent)
     grows h (Some a) slot keys on own up under lacks full = Works (record { row = h; above = Some a }) (work.Grow slot keys) refl
-        (record { fits = (insert-of call tree e, lacks, full, up.1.has); way = (a, refl, up, on); value = no-slot h on lacks.absent }) own
+        (record {
+          call = tree;
+          words = (insert-of call tree e, lacks, full, up.1.has);
+          byte = byte_in c a;
+          leads = up.0.leads;
+          finds = (refl, up.1.at, on.leads, on.info);
+        }) own
 
     inserts : (p : Position) (f : Finding) → KnowsPlace true c calm p → Each Own (p.row ∷ all_of p.above) → FitsPlace p → KnowsFinding true c calm p.row f
         → To (place_coupled c p f)
@@ -477,15 +510,17 @@ module _ (shape : Shape) (call : Call) (tree : is_tree_call call ≡ true) (key-
         child = ChildRow d.base d.kind;
       })) refl
           (record {
-            fits = (
+            call = tree;
+            words = (
               insert-of call tree e,
               k.1.has,
               row,
               path_byte-small calm d.base d.kind x,
               first-differs (path_in calm d.base d.kind) (key_bytes (key_of call)) x f,
             );
-            way = (k, (f, refl));
-            value = other-row d.above d.slot d.base x d.kind k.0 k.1 f;
+            byte = byte_in c d.above;
+            leads = k.0.leads;
+            finds = (k.1.at, (f, refl));
           })
           (mine, own.1)
 

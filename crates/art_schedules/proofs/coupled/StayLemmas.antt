@@ -36,67 +36,23 @@ use Rattle.art_versions.specs.versions.Locking.{rows_held, held_at_place, rows_o
 use Rattle.art_schedules.specs.work.Works.{LacksByte}
 use Rattle.art_schedules.specs.changes.Courses.{IsGoneBy, IsStill}
 use Rattle.art_schedules.specs.changes.Follows.{Follows}
-use Rattle.art_schedules.specs.coupled.Begins.{upper_of, BeginsWork}
 use Rattle.art_schedules.specs.coupled.Knows.{IsOwn, HangsBelow, KnowsTarget, KnowsPlace, KnowsInfo, IsPassed, KnowsStage, KnowsReply, KnowsAt}
 use Rattle.art_schedules.specs.coupled.Stays.{WaysAreKept}
 use Rattle.art_schedules.specs.work.Ways.{slot_in, KnowsFinding, IsOnWay, HasChild, Hangs}
-
--- the word of a row at another place
-placed-word : (calm after : List ℕ) (base : ℕ) (kind : Kind) (word j : ℕ) → SameRow calm after base kind → word ≡ base + j → 1 ≤ j → j < row_words kind
-    → slice_index after word ≡ slice_index calm word
-placed-word calm after base kind word j same is low high = ap (slice_index after) is ∙ (same j low high ∙ ap (slice_index calm) (sym is))
+use Rattle.art_schedules.proofs.effects.WayLemmas.{on-way, slot-still, hangs-still, finding-still, index-still}
 
 module _ (c : Setting) (n : ℕ) (calm after : List ℕ) (pairs : Contents) (gone : ℕ → Type 0) (fresh : ℕ → Kind → Type 0)
     (follows : Follows c.shape n calm after pairs gone fresh) where
   abbrev Still : Held → Type 0
   Still h = SameRow calm after h.base h.kind × (gone h.base → ⊥)
 
-  byte-small : (h : Held) → byte_in c h < 256
-  byte-small h = key_byte-small (key_of c.call) (row_at h).level
-
-  on-way : (h : Held) → Still h → IsOnWay c calm h → IsOnWay c after h
-  on-way h still on = record {
-    leads = follows.ways (key_of c.call) h.base h.kind (byte_in c h) on.leads still.1;
-    info = follows.info h.base h.kind on.leads.reached ∙ on.info;
-  }
-
-  slot-still : (h : Held) → Still h → slot_in c after h ≡ slot_in c calm h
-  slot-still h still = slot-same calm after h.base h.kind (byte_in c h) (byte-small h) (row-keys calm after h.base h.kind still.0)
-
-  child-still : (h : Held) (slot : ℕ) (child : Child) → Still h → HasChild c calm h slot child → HasChild c after h slot child
-  child-still h slot child still at =
-      let place = slot-is calm h.base h.kind (byte_in c h) slot (byte-small h) at.at in
-      record {
-        at = slot-still h still ∙ at.at;
-        has = ap (child_of c.shape)
-            (placed-word calm after h.base h.kind slot place.place still.0 place.is (omega (arith, first-some h.kind, place.low)) place.high) ∙ at.has;
-      }
-
-  hangs-still : (h : Held) (slot : ℕ) (child : Child) → Still h → Hangs c calm h slot child → Hangs c after h slot child
-  hangs-still h slot child still (on, at) = (on-way h still on, child-still h slot child still at)
-
-  lacks-still : (h : Held) (keys : Keys) → Still h → LacksByte c h keys calm → LacksByte c h keys after
-  lacks-still h keys still l =
-      let same = row-keys calm after h.base h.kind still.0 in
-      record {
-        form = form-same calm after h.base h.kind same l.form;
-        absent = slot-still h still ∙ l.absent;
-        keys = l.keys ∙ sym (keys-same calm after h.base h.kind (byte_in c h) (byte-small h) same);
-        count = l.count ∙ sym (count-same calm after h.base c.call h.kind (byte_in c h) (byte-small h) same);
-      }
-
-  finding-still : (i : Bool) (h : Held) (f : Finding) → Still h → KnowsFinding i c calm h f → KnowsFinding i c after h f
-  finding-still i h (Has slot child) still at = child-still h slot child still at
-  finding-still true h (Lacks keys) still l = lacks-still h keys still l
-  finding-still false h (Lacks keys) still none = slot-still h still ∙ none
-
   above-still : (h : Held) (slot : ℕ) (above : Option Held) → Each Still (all_of above) → HangsBelow c calm h slot above → HangsBelow c after h slot above
   above-still h slot None still k = tt
-  above-still h slot (Some a) still k = hangs-still a slot (ChildRow h.base h.kind) still.0 k
+  above-still h slot (Some a) still k = hangs-still c follows a slot (ChildRow h.base h.kind) still.0 k
 
   place-still : (i : Bool) (p : Position) → Each Still (held_at_place true i p) → KnowsPlace i c calm p → KnowsPlace i c after p
-  place-still true p still (on, up) = (on-way p.row still.0 on, above-still p.row p.slot p.above still.1 up)
-  place-still false p still on = on-way p.row still.0 on
+  place-still true p still (on, up) = (on-way c follows p.row still.0 on, above-still p.row p.slot p.above still.1 up)
+  place-still false p still on = on-way c follows p.row still.0 on
 
   row-still : (i : Bool) (p : Position) → Each Still (held_at_place true i p) → Still p.row
   row-still true p still = still.0
@@ -104,11 +60,11 @@ module _ (c : Setting) (n : ℕ) (calm after : List ℕ) (pairs : Contents) (gon
 
   target-still : (t : Target) → Each Still (rows_of_target t) → KnowsTarget c calm t → KnowsTarget c after t
   target-still Root still k = tt
-  target-still (Below d) still k = hangs-still d.above d.slot (ChildRow d.base d.kind) still.0 k
+  target-still (Below d) still k = hangs-still c follows d.above d.slot (ChildRow d.base d.kind) still.0 k
   target-still (Taken t) still k = absurd k
 
   info-still : (i : Bool) (d : Down) (kept : ℕ) → Each Still (rows_held true i (Info d kept)) → KnowsInfo i c calm d → KnowsInfo i c after d
-  info-still true d kept still k = hangs-still d.above d.slot (ChildRow d.base d.kind) still.1.0 k
+  info-still true d kept still k = hangs-still c follows d.above d.slot (ChildRow d.base d.kind) still.1.0 k
   info-still false d kept still k =
       subst (λ l. LeadsTo c.shape after (key_of c.call) d.base d.kind (slice_index (key_bytes (key_of c.call)) l)) (sym (follows.level d.base d.kind k.reached))
       (follows.ways (key_of c.call) d.base d.kind _ k still.0.1)
@@ -120,17 +76,10 @@ module _ (c : Setting) (n : ℕ) (calm after : List ℕ) (pairs : Contents) (gon
     (x, ap (λ xs. first_difference xs (key_bytes (key_of c.call))) (follows.path d.base d.kind reached) ∙ differs),
   )
 
-  index-still : (h : Held) → Still h → h.kind ≡ FortyEight → slice_index after (index_at h.base (byte_in c h)) ≡ slice_index calm (index_at h.base (byte_in c
-      h))
-  index-still h still is =
-      let small = byte-small h in
-      placed-word calm after h.base FortyEight (index_at h.base (byte_in c h)) (index_at h.base (byte_in c h) - h.base)
-      (subst (λ k. SameRow calm after h.base k) is still.0) (omega arith) (omega arith) (omega (arith, small))
-
   stage-still : (i : Bool) (stage : Stage) → Each Still (rows_held true i stage) → KnowsStage i c calm stage → KnowsStage i c after stage
   stage-still i (Lock t first) still k = target-still t still k
   stage-still i (Exchange t v) still k = target-still t still k
-  stage-still i (Between d kept) still k = hangs-still d.above d.slot (ChildRow d.base d.kind) still.1.0 k
+  stage-still i (Between d kept) still k = hangs-still c follows d.above d.slot (ChildRow d.base d.kind) still.1.0 k
   stage-still i (Info d kept) still k = info-still i d kept still k
   stage-still i (Find p) still k = place-still i p still k
   stage-still i (FindKeys p count) still (k, is, a) =
@@ -145,10 +94,14 @@ module _ (c : Setting) (n : ℕ) (calm after : List ℕ) (pairs : Contents) (gon
       )
   stage-still i (FindCount p index) still (k, is, a, none) =
       let row = row-still i p still in
-      (place-still i p still k, is, a ∙ sym (index-still p.row row is), slot-still p.row row ∙ none)
-  stage-still i (Slot p slot) still (k, at) = (place-still i p still k, slot-still p.row (row-still i p still) ∙ at)
-  stage-still i (LetGo above p f) still (on, k, r) =
-      (on-way p.row still.0 on, finding-still i p.row f still.0 k, (follows.rows above.base above.kind).1 (inl (r, still.1.0.1)))
+      (place-still i p still k, is, a ∙ sym (index-still c follows p.row row is), slot-still c follows p.row row ∙ none)
+  stage-still i (Slot p slot) still (k, at) = (place-still i p still k, slot-still c follows p.row (row-still i p still) ∙ at)
+  stage-still i (LetGo above p f) still (on, k, r) = (
+    on-way c follows p.row still.0 on,
+    finding-still c follows i p.row f still.0 k,
+    (follows.rows above.base above.kind).1
+        (inl (r, still.1.0.1)),
+  )
   stage-still i stage still k = absurd k
 
   reply-still : (r : Reply) (i : Bool) (stage : Stage) → Each Still (rows_held true i stage) → KnowsReply r i c calm stage → KnowsReply r i c after stage
@@ -160,52 +113,6 @@ module _ (c : Setting) (n : ℕ) (calm after : List ℕ) (pairs : Contents) (gon
   pub at-still : (o : Option Reply) (i : Bool) (stage : Stage) → Each Still (rows_held true i stage) → KnowsAt o i c calm stage → KnowsAt o i c after stage
   at-still None i stage still k = stage-still i stage still k
   at-still (Some r) i stage still k = reply-still r i stage still k
-
-  -- ---- where work begins
-
-  parts-still : (n : Held) (slot d a : ℕ) (child : Child) → Hangs c calm n slot child → Parts calm (key_of c.call) d a child
-      → Parts after (key_of c.call) d a child
-  parts-still n slot d a Empty k parts = absurd parts
-  parts-still n slot d a (Leaf key value) k parts = parts
-  parts-still n slot d a (ChildRow base kind) (on, at) (differs, is) =
-      let path = follows.path base kind (below on.leads.reached (byte_in c n) (byte-small n) (ap (child_in c.shape calm) at.at ∙ at.has)) in
-      (ap (λ xs. first_difference xs (key_bytes (key_of c.call))) path ∙ differs, is ∙ ap (λ xs. slice_index xs d) (sym path))
-
-  upper-still : (row : Held) (above : Option Held) → Each Still (row ∷ all_of above) → Still (upper_of row above)
-  upper-still row None still = still.0
-  upper-still row (Some a) still = still.1.0
-
-  above-one : (above : Option Held) (n : Held) → above ≡ Some n → Each Still (all_of above) → Still n
-  above-one None n e still = absurd (none-some n e)
-  above-one (Some a) n e still = subst Still (same_Some a n e) still.0
-
-  pub begins-still : (m : Contents) (h : Hold) (work : Work) → Each Still (rows_of_hold h) → BeginsWork c calm m h work → BeginsWork c after m h work
-  begins-still m h (work.Write slot word value) still b = record {
-    fits = tt;
-    way = (b.way.0, (b.way.1.0, hangs-still h.row slot b.way.1.0 still.0 b.way.1.1, b.way.1.2));
-    value = b.value;
-  }
-  begins-still m h (work.Pair p) still b =
-      let upper = upper_of h.row h.above in
-      let hangs = hangs-still upper p.slot p.child (upper-still h.row h.above still) b.way.0 in
-      record {
-        fits = (b.fits.0, hangs.1.has, b.fits.2, b.fits.3, b.fits.4);
-        way = (hangs, parts-still upper p.slot p.level p.byte p.child b.way.0 b.way.1);
-        value = b.value;
-      }
-  begins-still m h (work.Put keys) still b = record {
-    fits = (b.fits.0, lacks-still h.row keys still.0 b.fits.1, b.fits.2);
-    way = (b.way.0, on-way h.row still.0 b.way.1);
-    value = b.value;
-  }
-  begins-still m h (work.Grow slot keys) still b =
-      let (n, is, hangs, on) = b.way in
-      let up = hangs-still n slot (ChildRow h.row.base h.row.kind) (above-one h.above n is still.1) hangs in
-      record {
-        fits = (b.fits.0, lacks-still h.row keys still.0 b.fits.1, b.fits.2, up.1.has);
-        way = (n, is, up, on-way h.row still.0 on);
-        value = b.value;
-      }
 
 -- a row that is the call's own stays so
 pub own-still : (calm words after later : List ℕ) (h : Held) → SameRow calm after h.base h.kind → SameRow words later h.base h.kind → IsOwn calm words h

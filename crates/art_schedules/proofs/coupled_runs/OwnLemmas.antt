@@ -39,7 +39,6 @@ use Rattle.art_schedules.specs.stories.Fitting.{IsToldStep, AllFit, IsLedOn, Own
 use Rattle.art_schedules.specs.stories.Fitting.{set_at, the_plan}
 use Rattle.art_schedules.specs.coupled.Knows.{KnowsWay, IsOwn}
 use Rattle.art_schedules.specs.coupled.Goes as goes
-use Rattle.art_schedules.specs.coupled.Begins as coupled
 use Rattle.art_schedules.specs.coupled.Moments.{GoesFrom, StaysFrom, TakesLive, MakesLeave, LeavesBy, IsCoupledStep}
 use Rattle.art_schedules.specs.coupled.Good.{HoldsGood, TakesReached}
 use Rattle.art_schedules.specs.effects.AtWork.{AtWork, AtEnd, Answering, Leaving, IsInTree}
@@ -50,12 +49,12 @@ use Rattle.art_schedules.specs.coupled_runs.CoupledFits.{IsFit, Seeks, Works, Fi
 use Rattle.art_schedules.proofs.coupled_runs.PartLaws.{LawsOfParts}
 use Rattle.art_schedules.specs.coupled_runs.KeptScans.{ScanStep, ScansAreKept}
 use Rattle.art_schedules.proofs.coupled_runs.StageLemmas.{work-claimed}
-use Rattle.art_schedules.proofs.coupled_runs.BridgeLemmas.{begins-bridge}
 use Rattle.art_schedules.proofs.coupled_runs.MarkBridgeLemmas.{makes-leave, fresh-is}
 use Rattle.art_schedules.proofs.coupled_runs.LedLemmas as led
 use Rattle.art_schedules.proofs.coupled.MoveLemmas.{works-hold}
 use Rattle.art_schedules.proofs.work.CallLemmas.{key-scan}
 use Rattle.art_schedules.proofs.stories.OpenLemmas.{set-here, same-stage}
+use Rattle.art_schedules.specs.effects.Begins.{BeginsWork}
 
 -- an end takes no row
 end-swaps : (shape : Shape) (real calm : List ℕ) (call : Call) (reply : Reply) (stage : Stage) → AtEnd (setting shape Coupled call) real calm reply stage
@@ -176,7 +175,8 @@ module _ (laws : LawsOfParts) (shape : Shape) (scripts : List (List Call)) (star
         keeps-status : Next plan (opened_on plan words) schedule tale p (length (begun q)) call status Before
         keeps-status = Stays (sym e)
 
-        works : (h : Hold) (w : Work) → from.next ≡ work_at (setting shape Coupled call) h w → coupled.BeginsWork (setting shape Coupled call) after m h w
+        works : (h : Hold) (w : Work) → from.next ≡ work_at (setting shape Coupled call) h w
+            → BeginsWork (setting shape Coupled call) after h w
             → Each (IsOwn after t.words) (rows_of_hold h) → IsWorking shape t.words after call from.next None None
         works h w f begins each =
             subst (λ y. IsWorking shape t.words after call y None None) (sym f)
@@ -204,7 +204,7 @@ module _ (laws : LawsOfParts) (shape : Shape) (scripts : List (List Call)) (star
             at-work : AtWork (setting shape Coupled call) t.words after None (work_at (setting shape Coupled call) h w)
             at-work =
                 laws.work_begins (setting shape Coupled call) t.words after h w told.calm_behind.long known
-                (begins-bridge (setting shape Coupled call) after m h w tree begins)
+                begins
                 (in-tree h.row (inl refl), above h.above (λ x i. in-tree x (inr i)))
                 (each-map (λ x o. o.same) (rows_of_hold h) each)
 

@@ -56,147 +56,7 @@ use Rattle.art_schedules.specs.optimistic.Goes.{Agrees}
 use Rattle.art_schedules.specs.optimistic.Laws.{InfosStay, WaysAreKept}
 use Rattle.art_schedules.proofs.calm.VersionLemmas.{unmarked-free}
 use Rattle.art_schedules.specs.work.Ways.{IsOnWay, slot_in, HasChild, Hangs, KnowsFinding}
-
--- the word of a row at another place
-placed-word : (calm after : List ℕ) (base : ℕ) (kind : Kind) (word j : ℕ) → SameRow calm after base kind → word ≡ base + j → 1 ≤ j → j < row_words kind
-    → slice_index after word ≡ slice_index calm word
-placed-word calm after base kind word j same is low high = ap (slice_index after) is ∙ (same j low high ∙ ap (slice_index calm) (sym is))
-
-module _ (c : Setting) (n : ℕ) (calm after : List ℕ) (pairs : Contents) (gone : ℕ → Type 0) (fresh : ℕ → Kind → Type 0)
-    (follows : Follows c.shape n calm after pairs gone fresh) where
-  -- the calm row stays
-  abbrev pub Still : Held → Type 0
-  Still h = SameRow calm after h.base h.kind × (gone h.base → ⊥)
-
-  byte-small : (h : Held) → byte_in c h < 256
-  byte-small h = key_byte-small (key_of c.call) (row_at h).level
-
-  pub on-way : (h : Held) → Still h → IsOnWay c calm h → IsOnWay c after h
-  on-way h still on = record {
-    leads = follows.ways (key_of c.call) h.base h.kind (byte_in c h) on.leads still.1;
-    info = follows.info h.base h.kind on.leads.reached ∙ on.info;
-  }
-
-  slot-at : (h : Held) (x : ℕ) → x < 256 → Still h → slot_of after h.base h.kind x ≡ slot_of calm h.base h.kind x
-  slot-at h x small still = slot-same calm after h.base h.kind x small (row-keys calm after h.base h.kind still.0)
-
-  word-at : (h : Held) (x slot : ℕ) → x < 256 → Still h → slot_of calm h.base h.kind x ≡ Some slot → slice_index after slot ≡ slice_index calm slot
-  word-at h x slot small still at =
-      let place = slot-is calm h.base h.kind x slot small at in
-      placed-word calm after h.base h.kind slot place.place still.0 place.is (omega (arith, first-some h.kind, place.low)) place.high
-
-  slot-still : (h : Held) → Still h → slot_in c after h ≡ slot_in c calm h
-  slot-still h still = slot-at h (byte_in c h) (byte-small h) still
-
-  child-still : (h : Held) (slot : ℕ) (child : Child) → Still h → HasChild c calm h slot child → HasChild c after h slot child
-  child-still h slot child still at = record {
-    at = slot-still h still ∙ at.at;
-    has = ap (child_of c.shape) (word-at h (byte_in c h) slot (byte-small h) still at.at) ∙ at.has;
-  }
-
-  pub hangs-still : (h : Held) (slot : ℕ) (child : Child) → Still h → Hangs c calm h slot child → Hangs c after h slot child
-  hangs-still h slot child still (on, at) = (on-way h still on, child-still h slot child still at)
-
-  lacks-still : (h : Held) (keys : Keys) → Still h → LacksByte c h keys calm → LacksByte c h keys after
-  lacks-still h keys still l =
-      let same = row-keys calm after h.base h.kind still.0 in
-      record {
-        form = form-same calm after h.base h.kind same l.form;
-        absent = slot-still h still ∙ l.absent;
-        keys = l.keys ∙ sym (keys-same calm after h.base h.kind (byte_in c h) (byte-small h) same);
-        count = l.count ∙ sym (count-same calm after h.base c.call h.kind (byte_in c h) (byte-small h) same);
-      }
-
-  pub finding-still : (i : Bool) (h : Held) (f : Finding) → Still h → KnowsFinding i c calm h f → KnowsFinding i c after h f
-  finding-still i h (Has slot child) still at = child-still h slot child still at
-  finding-still true h (Lacks keys) still l = lacks-still h keys still l
-  finding-still false h (Lacks keys) still none = slot-still h still ∙ none
-
-  pub index-still : (h : Held) → Still h → h.kind ≡ FortyEight
-      → slice_index after (index_at h.base (byte_in c h)) ≡ slice_index calm (index_at h.base (byte_in c h))
-  index-still h still is =
-      let small = byte-small h in
-      placed-word calm after h.base FortyEight (index_at h.base (byte_in c h)) (index_at h.base (byte_in c h) - h.base)
-      (subst (λ k. SameRow calm after h.base k) is still.0) (omega arith) (omega arith) (omega (arith, small))
-
-  -- ---- work that begins
-
-  upper-still : (row : Held) (above : Option Held) → Each Still (row ∷ all_of above) → Still (upper_of row above)
-  upper-still row None still = still.0
-  upper-still row (Some a) still = still.1.0
-
-  parts-still : (key base x d a : ℕ) (kind : Kind) (child : Child) → LeadsTo c.shape calm key base kind x → x < 256
-      → child_on c.shape calm base kind x ≡ child → Parts calm key d a child → Parts after key d a child
-  parts-still key base x d a kind Empty leads small at p = absurd p
-  parts-still key base x d a kind (Leaf k v) leads small at p = p
-  parts-still key base x d a kind (ChildRow b k) leads small at p =
-      let path = follows.path b k (below leads.reached x small at) in
-      (ap (λ xs. first_difference xs (key_bytes key)) path ∙ p.0, p.1 ∙ ap (λ xs. slice_index xs d) (sym path))
-
-  pub begins-still : (row : Held) (above : Option Held) (w : Work) → Each Still (row ∷ all_of above)
-      → BeginsWork c calm (record { row = row; above = above }) w → BeginsWork c after (record { row = row; above = above }) w
-  begins-still row above w still b = go w b.words b.finds
-    where
-      hold : Hold
-      hold = record { row = row; above = above }
-
-      upper : Held
-      upper = upper_of row above
-
-      stays : Still upper
-      stays = upper-still row above still
-
-      small : b.byte < 256
-      small = way_byte c.shape calm (key_of c.call) upper.base upper.kind b.byte b.leads
-
-      leads : LeadsTo c.shape after (key_of c.call) upper.base upper.kind b.byte
-      leads = follows.ways (key_of c.call) upper.base upper.kind b.byte b.leads stays.1
-
-      alone : above ≡ None → Reached c.shape calm row.base row.kind
-      alone e = subst (λ o. Reached c.shape calm (upper_of row o).base (upper_of row o).kind) e b.leads.reached
-
-      go : (w : Work) → Rattle.art_schedules.specs.work.Works.FitsWords c hold w calm → Rattle.art_schedules.specs.effects.Begins.FindsSlot c calm hold w b.byte
-          → BeginsWork c after hold w
-      go (work.Write slot word old) words finds = record {
-        call = b.call;
-        words = tt;
-        byte = b.byte;
-        leads = leads;
-        finds = (
-          finds.0,
-          slot-at row b.byte small still.0 ∙ finds.1,
-          subst (IsOverwritten c word old) (sym ((same-rows-say-the-same c.shape calm after row.base row.kind still.0.0).child b.byte small)) finds.2,
-        );
-      }
-      go (work.Pair p) words finds = record {
-        call = b.call;
-        words = (words.0, ap (child_of c.shape) (word-at upper b.byte p.slot small stays finds.0) ∙ words.1, words.2, words.3, words.4);
-        byte = b.byte;
-        leads = leads;
-        finds = (
-          slot-at upper b.byte small stays ∙ finds.0,
-          parts-still (key_of c.call) upper.base b.byte p.level p.byte upper.kind p.child b.leads small (ap (child_in c.shape calm) finds.0 ∙ words.1) finds.1,
-        );
-      }
-      go (work.Put keys) words finds = record {
-        call = b.call;
-        words = (words.0, lacks-still row keys still.0 words.1, words.2);
-        byte = b.byte;
-        leads = leads;
-        finds = (finds.0, follows.info row.base row.kind (alone finds.0) ∙ finds.1);
-      }
-      go (work.Grow slot keys) words finds = record {
-        call = b.call;
-        words = (words.0, lacks-still row keys still.0 words.1, words.2, ap (child_of c.shape) (word-at upper b.byte slot small stays finds.1) ∙ words.3);
-        byte = b.byte;
-        leads = leads;
-        finds = (
-          finds.0,
-          slot-at upper b.byte small stays ∙ finds.1,
-          follows.ways (key_of c.call) row.base row.kind (byte_in c row) finds.2 still.0.1,
-          follows.info row.base row.kind finds.2.reached ∙ finds.3,
-        );
-      }
+use Rattle.art_schedules.proofs.effects.WayLemmas.{on-way, slot-still, hangs-still, finding-still, index-still, begins-still}
 
 -- ---- a step, with the states before and behind it
 
@@ -241,7 +101,7 @@ module _ (shape : Shape) (call : Call) (n : ℕ) (calm after : List ℕ) (pairs 
       stays g = false≢true (sym (ap is_obsolete st ∙ (free-parts h.kept free).1) ∙ leaving h.base g)
 
   hangs : (h : Held) (slot : ℕ) (child : Child) → S h → Hangs c calm h slot child → Hangs c after h slot child
-  hangs h slot child = hangs-still c n calm after pairs (IsGoneBy effect) (ComesInBy effect) follows h slot child
+  hangs h slot child = hangs-still c follows h slot child
 
   below-kept : (d : Down) → Kept d.above → Past d.above → IsBelow c calm s.words d → IsBelow c after t.words d
   below-kept d kept past k st =
@@ -258,7 +118,7 @@ module _ (shape : Shape) (call : Call) (n : ℕ) (calm after : List ℕ) (pairs 
   place-kept : (p : Position) → Each Kept (p.row ∷ all_of p.above) → Each Past (p.row ∷ all_of p.above) → KnowsPlace c calm s.words p
       → KnowsPlace c after t.words p
   place-kept p kept past (led, up) = (
-    (λ st. let x = back p.row kept.0 past.0 st in on-way c n calm after pairs (IsGoneBy effect) (ComesInBy effect) follows p.row x.1
+    (λ st. let x = back p.row kept.0 past.0 st in on-way c follows p.row x.1
         (led x.0)),
     above-kept p.row p.slot p.above kept.1 past.1 up,
   )
@@ -292,15 +152,15 @@ module _ (shape : Shape) (call : Call) (n : ℕ) (calm after : List ℕ) (pairs 
       → AllStand t.words row under → BeginsWork c after (hold_taken row above under) w
   taking-kept row above None w kept past still k st =
       let x = back row kept.0 past.0 st in
-      begins-still c n calm after pairs (IsGoneBy effect) (ComesInBy effect) follows row above w (x.1, still) (k x.0)
+      begins-still c follows (record { row = row; above = above }) w (x.1, still) (k x.0)
   taking-kept row None (Some b) w kept past still k st =
       let x = back row kept.0 past.0 st.0 in
       let y = back b kept.1.0 past.1.0 st.1 in
-      begins-still c n calm after pairs (IsGoneBy effect) (ComesInBy effect) follows b (Some row) w (y.1, (x.1, tt)) (k (x.0, y.0))
+      begins-still c follows (record { row = b; above = Some row }) w (y.1, (x.1, tt)) (k (x.0, y.0))
   taking-kept row (Some a) (Some b) w kept past still k st =
       let x = back row kept.0 past.0 st.0 in
       let y = back b kept.1.1.0 past.1.1.0 st.1 in
-      begins-still c n calm after pairs (IsGoneBy effect) (ComesInBy effect) follows b (Some row) w (y.1, (x.1, tt)) (k (x.0, y.0))
+      begins-still c follows (record { row = b; above = Some row }) w (y.1, (x.1, tt)) (k (x.0, y.0))
 
   here-kept : (h : Held) → Kept h → Past h → IsReachedHere c calm s.words h → IsReachedHere c after t.words h
   here-kept h kept past k = λ st.
@@ -339,17 +199,17 @@ module _ (shape : Shape) (call : Call) (n : ℕ) (calm after : List ℕ) (pairs 
     place-kept p kept past k.0,
     k.1,
     says p.row kept.0 past.0 _ _ (λ x a. (
-      a.0 ∙ sym (index-still c n calm after pairs (IsGoneBy effect) (ComesInBy effect) follows p.row x k.1),
-      slot-still c n calm after pairs (IsGoneBy effect) (ComesInBy effect) follows p.row x ∙ a.1,
+      a.0 ∙ sym (index-still c follows p.row x k.1),
+      slot-still c follows p.row x ∙ a.1,
     )) k.2,
   )
   stage-kept i (Slot p slot) kept past still k = (
     place-kept p kept past k.0,
-    says p.row kept.0 past.0 _ _ (λ x a. slot-still c n calm after pairs (IsGoneBy effect) (ComesInBy effect) follows p.row x ∙ a) k.1,
+    says p.row kept.0 past.0 _ _ (λ x a. slot-still c follows p.row x ∙ a) k.1,
   )
   stage-kept i (Check p f) kept past still k = (
     place-kept p kept past k.0,
-    says p.row kept.0 past.0 _ _ (λ x a. finding-still c n calm after pairs (IsGoneBy effect) (ComesInBy effect) follows i p.row f x a) k.1,
+    says p.row kept.0 past.0 _ _ (λ x a. finding-still c follows i p.row f x a) k.1,
   )
   stage-kept i (Take x) kept past still k =
       (here-kept x.row kept.0 past.0 k.0, under-kept x.row x.held x.below kept past k.1, taking-kept x.row x.held x.below x.work kept past still k.2)
