@@ -23,11 +23,12 @@ use Rattle.art_schedules.specs.changes.Effects.{Effect}
 use Rattle.art_schedules.specs.changes.Courses.{IsGoneBy, ComesInBy, pairs_by}
 use Rattle.art_schedules.specs.changes.Follows.{Follows}
 use Rattle.art_schedules.specs.coupled.Moments.{TakesLive, IsCoupledStep}
-use Rattle.art_schedules.specs.coupled.Good.{IsGoodRow, GoodOf, TakesReached, GoodRowsStay, OthersLeaveGood}
+use Rattle.art_schedules.specs.coupled.Good.{GoodOf, TakesReached, GoodRowsStay, OthersLeaveGood}
 use Rattle.art_schedules.proofs.coupled.MadeLemmas.{Facts, facts, others-open}
 use Rattle.art_schedules.proofs.coupled.RowLemmas.{held-live}
 use Rattle.art_schedules.proofs.coupled.MoveLemmas.{reached-kind}
 use Rattle.art_schedules.proofs.coupled.LeaveLemmas.{HeldFrom, HeldBefore, TakenNow, held-from}
+use Rattle.art_schedules.specs.work.Ways.{IsInTree}
 
 module _ (plan : Plan) (start : Contents) (words schedule : List ℕ) (p : ℕ) (s t : State) (claims : ℕ) (m : Contents)
     (h : IsCoupledStep plan start words schedule p s t claims m) where
@@ -45,7 +46,7 @@ module _ (plan : Plan) (start : Contents) (words schedule : List ℕ) (p : ℕ) 
       (follows : Follows plan.shape n calm after pairs (IsGoneBy effect) (ComesInBy effect))
       (dead : (b : ℕ) → IsGoneBy effect b → is_obsolete (slice_index t.words b) ≡ true) where
     still-good : (r : ℕ) (call : Call) (q : Process) → IsOpen t r call q → (x : Held) → IsAmong x (held_by Coupled plan.shape call q)
-        → IsGoodRow plan.shape calm x → IsGoodRow plan.shape after x
+        → IsInTree plan.shape calm x → IsInTree plan.shape after x
     still-good r call q o x a good = record {
       reached = (follows.rows x.base x.kind).1 (inl (good.reached, stays));
       live = good.live;
@@ -62,7 +63,7 @@ module _ (plan : Plan) (start : Contents) (words schedule : List ℕ) (p : ℕ) 
 
     -- with the base and the version of a good row it is one
     as-good : (y : Held) (kind : Kind) → Reached plan.shape calm y.base kind → is_obsolete y.kept ≡ false → y.base ≡ x.base → y.kept ≡ x.kept
-        → IsGoodRow plan.shape calm x
+        → IsInTree plan.shape calm x
     as-good y kind reached alive base kept =
         let its : kind ≡ x.kind = same_Some kind x.kind
         (sym (reached-kind plan.shape s t p words calm after f claims h.rests y.base kind reached) ∙ (ap (kind_at plan.shape) base ∙ row)) in
@@ -80,10 +81,10 @@ module _ (plan : Plan) (start : Contents) (words schedule : List ℕ) (p : ℕ) 
           w.row x w.among a w.is
     ]
 
-    was-good : IsGoodRow plan.shape calm x
+    was-good : IsInTree plan.shape calm x
     was-good = go (held-from plan.shape h.run.before.within.shape.root s t p words calm after f p call q o x a)
       where
-        go : HeldFrom plan.shape s p x → IsGoodRow plan.shape calm x
+        go : HeldFrom plan.shape s p x → IsInTree plan.shape calm x
         go (HeldBefore w kept) =
             let g = good w.call w.process (subst (λ r. IsOpen s r w.call w.process) (same-holder w) w.is_open) w.row w.among in
             as-good w.row w.row.kind g.reached g.live w.is kept

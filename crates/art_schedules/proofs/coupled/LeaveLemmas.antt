@@ -295,20 +295,22 @@ module _ (plan : Plan) (start : Contents) (words schedule : List ℕ) (p : ℕ) 
     leaves-now base kind row x = record {
       process = p;
       call = x.call;
-      hold = hold_alone y.above;
+      hold = hold_alone y.0.above;
       outcome = Some no_value;
       at = then;
-      leaves = y.names ∙ ap Some (sym x.is);
-      byte = y.byte;
-      is_byte = y.is_byte;
-      reached = (goes.follows.rows y.above.base y.above.kind).1 (inl (
-        y.reached,
-        not-gone p x.call then.process then.is_open (lock_of y.above)
-            (unlock-among plan.shape t p x.call (hold_alone y.above) (Some no_value) then) (live p x.call x.at.process x.at.is_open (lock_of y.above)
+      leaves = y.1 ∙ ap Some (sym x.is);
+      byte = y.0.byte;
+      is_byte = y.0.is_byte;
+      reached = (goes.follows.rows y.0.above.base y.0.above.kind).1 (inl (
+        y.0.reached,
+        not-gone p x.call then.process then.is_open (lock_of y.0.above)
+            (unlock-among plan.shape t p x.call (hold_alone y.0.above) (Some no_value) then)
+            (live p x.call x.at.process x.at.is_open (lock_of y.0.above)
             above-held),
       ));
-      hangs = still-hangs p x.call then.process then.is_open (lock_of y.above) (unlock-among plan.shape t p x.call (hold_alone y.above) (Some no_value) then)
-          y.byte y.is_byte base kind (y.hangs ∙ (ap (λ b. ChildRow b x.hold.row.kind) (sym x.is) ∙ ap (ChildRow base) kinds));
+      hangs = still-hangs p x.call then.process then.is_open (lock_of y.0.above)
+          (unlock-among plan.shape t p x.call (hold_alone y.0.above) (Some no_value) then)
+          y.0.byte y.0.is_byte base kind (y.0.hangs ∙ (ap (λ b. ChildRow b x.hold.row.kind) (sym x.is) ∙ ap (ChildRow base) kinds));
     }
       where
         y : MakesLeave plan.shape calm x.hold (next p)
@@ -317,15 +319,16 @@ module _ (plan : Plan) (start : Contents) (words schedule : List ℕ) (p : ℕ) 
         held-there : (r : Held) → IsAmong r (locks_of (rows_of_hold x.hold)) → IsAmong r (held_by Coupled plan.shape x.call x.at.process)
         held-there r a = subst (λ z. IsAmong r (holds (setting plan.shape Coupled x.call) z)) (sym x.at.at) a
 
-        above-held : IsAmong (lock_of y.above) (held_by Coupled plan.shape x.call x.at.process)
-        above-held = held-there (lock_of y.above) (subst (λ o. IsAmong (lock_of y.above) (locks_of (x.hold.row ∷ all_of o))) (sym y.is) (inr (inl refl)))
+        above-held : IsAmong (lock_of y.0.above) (held_by Coupled plan.shape x.call x.at.process)
+        above-held = held-there (lock_of y.0.above)
+            (subst (λ o. IsAmong (lock_of y.0.above) (locks_of (x.hold.row ∷ all_of o))) (sym y.0.is) (inr (inl refl)))
 
         kinds : x.hold.row.kind ≡ kind
         kinds = same_Some x.hold.row.kind kind (sym (settled-row Coupled plan.shape s x.hold.row.base x.hold.row.kind
             (kept-row plan.shape s t p words calm after f p x.call x.at.process x.at.is_open (lock_of x.hold.row) (held-there (lock_of x.hold.row) (inl refl))))
             ∙ (ap (kind_at plan.shape) (sym x.is) ∙ row))
 
-        then : IsAtStage Coupled plan.shape t p x.call (OnKey (Unlock (hold_alone y.above) (Some no_value)))
+        then : IsAtStage Coupled plan.shape t p x.call (OnKey (Unlock (hold_alone y.0.above) (Some no_value)))
         then =
             let z = made plan p s t x.call x.at.process (Store x.hold.row.base (obsolete_word x.hold.row.kept)) (Some point.Unlock)
             h.coupled h.run.made
@@ -333,7 +336,8 @@ module _ (plan : Plan) (start : Contents) (words schedule : List ℕ) (p : ℕ) 
             record {
               process = z.process;
               is_open = z.is_open;
-              at = z.at ∙ (ap (λ v. call_after (setting plan.shape Coupled x.call) v 0) x.at.at ∙ ap (λ o. OnKey (release_at true o (Some no_value))) y.is);
+              at = z.at ∙ (ap (λ v. call_after (setting plan.shape Coupled x.call) v 0) x.at.at ∙ ap
+                  (λ o. OnKey (release_at true o (Some no_value))) y.0.is);
             }
 
     rows-leave : ObsoleteLeave plan.shape t after next

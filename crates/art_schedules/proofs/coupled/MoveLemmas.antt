@@ -62,7 +62,8 @@ use Rattle.art_schedules.specs.changes.Effects.{Effect}
 use Rattle.art_schedules.specs.changes.Follows.{HasFewClaims, Follows, KeepsTree}
 use Rattle.art_schedules.specs.changes.Laws.{KeptTreesFollow}
 use Rattle.art_schedules.proofs.changes.RowLemmas.{steady-row}
-use Rattle.art_schedules.specs.coupled.Knows.{IsOwn, IsBelow, HangsBelow, KnowsPlace, KnowsTarget, KnowsStage, KnowsReply, KnowsAt, KnowsWay}
+use Rattle.art_schedules.specs.coupled.Knows.{IsBelow, HangsBelow, KnowsPlace, KnowsTarget, KnowsStage, KnowsReply, KnowsAt, KnowsWay}
+use Rattle.art_schedules.specs.coupled.Knows.{IsHeldLive}
 use Rattle.art_schedules.specs.coupled.Goes.{Gets, Goes, GoesOn, Works, Finds}
 use Rattle.art_schedules.specs.coupled.Laws.{CallsBegin, CallsGoOn, CallsStay, FoundIsAnswered, OthersLeaveWays, WaysHoldReached}
 use Rattle.art_schedules.specs.coupled.Moments.{IsLeaving, ObsoleteLeave, IsCoupledStep}
@@ -347,7 +348,7 @@ module _ (shape : Shape) (s t : State) (p : ℕ) (first calm after : List ℕ) (
         go (DoesSwap t u x) = without (λ word value m e. exchange-store (ap (turn_at c) (sym x) ∙ e))
         go (DoesAnswer reply x) = without (λ word value m e. answers-asks (sym x ∙ e))
         go (DoesRelease h l among x) =
-            let own = among-each (IsOwn calm s.words) h (rows_held true (is_insert call) stage) among k.rows in
+            let own = among-each (IsHeldLive calm s.words) h (rows_held true (is_insert call) stage) among k.rows in
             let held-here = its-held stage at h among in
             let settled = kept-row shape s t p first calm after f p call q o (lock_of h) held-here in
             let row = settled-row Coupled shape s h.base h.kind settled in
@@ -445,7 +446,8 @@ module _ (plan : Plan) (start : Contents) (words schedule : List ℕ) (p : ℕ) 
       knows-then : (o : Option Reply) → KnowsWay its calm s.words o (stage_after its stage got) → KnowsWay its after t.words o (stage_after its stage got)
       knows-then o x = ways-are-kept plan.shape call (f.count + 2) calm s.words after t.words m None o (stage_after its stage got) own-follows own-still-rows x
 
-      own-of : (hs : List Held) → Each (IsStill calm s.words after t.words None) hs → Each (IsOwn calm s.words) hs → Each (IsOwn after t.words) hs
+      own-of : (hs : List Held) → Each (IsStill calm s.words after t.words None) hs → Each (IsHeldLive calm s.words) hs
+          → Each (IsHeldLive after t.words) hs
       own-of [] x o = tt
       own-of (y ∷ hs) x o = (own-still calm s.words after t.words y x.0.row x.0.same o.0, own-of hs x.1 o.1)
 

@@ -51,19 +51,19 @@ use Rattle.art_versions.specs.versions.Effects.{IsBehindVersion}
 use Rattle.art_versions.proofs.versions.KeyLemmas.{slot-behind}
 use Rattle.art_versions.proofs.versions.WordFacts.{not-full, full-not-less, count-most}
 use Rattle.art_schedules.specs.work.Works.{LacksByte}
-use Rattle.art_schedules.specs.coupled.Knows.{IsOwn, IsBelow, HangsBelow, KnowsTarget, KnowsPlace, KnowsInfo, KnowsStage, KnowsAt}
+use Rattle.art_schedules.specs.coupled.Knows.{IsBelow, HangsBelow, KnowsTarget, KnowsPlace, KnowsInfo, KnowsStage, KnowsAt}
 use Rattle.art_schedules.specs.coupled.Knows.{KnowsReply}
-use Rattle.art_schedules.specs.coupled.Knows.{KnowsWay}
+use Rattle.art_schedules.specs.coupled.Knows.{KnowsWay, IsHeldLive}
 use Rattle.art_schedules.specs.coupled.Goes.{Gets, Goes, GoesOn, Works, Finds}
 use Rattle.art_schedules.specs.coupled.Laws.{WaysGoOn, FindingsStay}
-use Rattle.art_schedules.specs.work.Ways.{slot_in, KnowsKeys, KnowsFinding, IsOnWay, HasChild, Hangs}
+use Rattle.art_schedules.specs.work.Ways.{slot_in, KnowsKeys, KnowsFinding, IsOnWay, HasChild, HangsOnWay}
 use Rattle.art_schedules.proofs.work.CallLemmas.{insert-of, seek-of, key-small, kept-after, full-slot}
 use Rattle.art_schedules.specs.effects.Begins.{BeginsWork, IsOverwritten}
 
 -- ---- words, bytes and calls
 
 -- a word of a row that the call holds, behind its version, is the calm one
-pub own-word : (calm words : List ℕ) (n : Held) → IsOwn calm words n → (word : ℕ) → IsBehindVersion n.base n.kind word
+pub own-word : (calm words : List ℕ) (n : Held) → IsHeldLive calm words n → (word : ℕ) → IsBehindVersion n.base n.kind word
     → slice_index words word ≡ slice_index calm word
 own-word calm words n own word behind =
     let is : n.base + (word - n.base) ≡ word = omega (arith, behind.0) in
@@ -75,7 +75,7 @@ module _ (shape : Shape) (call : Call) (tree : is_tree_call call ≡ true) (key-
   c = setting shape Coupled call
 
   abbrev Own : Held → Type 0
-  Own h = IsOwn calm words h
+  Own h = IsHeldLive calm words h
 
   abbrev To : Stage → Type 0
   To stage = Goes c calm words m stage
@@ -116,10 +116,10 @@ module _ (shape : Shape) (call : Call) (tree : is_tree_call call ≡ true) (key-
   byte-in-small h = key_byte-small (key_of call) (row_at h).level
 
   -- the row below is reached
-  reached-below : (h : Held) (slot base : ℕ) (kind : Kind) → Hangs c calm h slot (ChildRow base kind) → Reached shape calm base kind
+  reached-below : (h : Held) (slot base : ℕ) (kind : Kind) → HangsOnWay c calm h slot (ChildRow base kind) → Reached shape calm base kind
   reached-below h slot base kind (on, at) = below on.leads.reached (byte_in c h) (byte-in-small h) (hangs-on h slot (ChildRow base kind) at)
 
-  leads-on : (h : Held) (slot base : ℕ) (kind : Kind) → Hangs c calm h slot (ChildRow base kind)
+  leads-on : (h : Held) (slot base : ℕ) (kind : Kind) → HangsOnWay c calm h slot (ChildRow base kind)
       → first_difference (path_in calm base kind) (key_bytes (key_of call)) ≡ None
       → LeadsTo shape calm (key_of call) base kind (slice_index (key_bytes (key_of call)) (level_in calm base kind))
   leads-on h slot base kind (on, at) none = leads-below shape n calm rest on.leads (byte-in-small h) (hangs-on h slot (ChildRow base kind) at) none
@@ -610,7 +610,7 @@ module _ (shape : Shape) (call : Call) (calm words : List ℕ) (r : Reply) where
   here = setting shape Coupled call
 
   abbrev Knows : Bool → Stage → Type 0
-  Knows i stage = KnowsReply r i (setting shape Coupled call) calm stage × Each (IsOwn calm words) (rows_held true i stage)
+  Knows i stage = KnowsReply r i (setting shape Coupled call) calm stage × Each (IsHeldLive calm words) (rows_held true i stage)
 
   answers : (i : Bool) (stage : Stage) (w : ℕ) → Knows i stage → Gets (setting shape Coupled call) calm words stage w
       → Knows i (after_with true i false here stage w)

@@ -38,8 +38,8 @@ use Rattle.art_schedules.proofs.calm.UseLemmas.{without-store, with-released}
 use Rattle.art_schedules.specs.changes.Follows.{KeepsTree}
 use Rattle.art_schedules.proofs.changes.FollowLemmas.{low-words-keep}
 use Rattle.art_schedules.proofs.changes.RowLemmas.{steady-row}
-use Rattle.art_schedules.specs.coupled.Knows.{IsOwn}
 use Rattle.art_schedules.proofs.coupled.MadeLemmas.{Facts}
+use Rattle.art_schedules.specs.coupled.Knows.{IsHeldLive}
 
 row-word : (base j : ℕ) (kind : Kind) → 1 ≤ j → j < row_words kind → IsBehindVersion base kind (base + j)
 row-word base j kind low high = (omega (arith, low), omega (arith, high))
@@ -158,7 +158,8 @@ module _ (shape : Shape) (s t : State) (p : ℕ) (first calm after : List ℕ) (
 
     -- and where it releases a row that it holds and has not written to
     pub keeps-released : (n : ℕ) → IsAtRest shape n calm → All (λ w. w < 2 ^ 64) after → (x : Held) → IsAmong x (held_by Coupled shape call q)
-        → IsOwn calm s.words x → SameRow s.words t.words x.base x.kind → slice_index t.words x.base ≡ released_word x.kept → (mark : Option Point)
+        → IsHeldLive calm s.words x → SameRow s.words t.words x.base x.kind → slice_index t.words x.base ≡ released_word x.kept
+        → (mark : Option Point)
         → turn ≡ Asks (Store x.base (released_word x.kept)) mark → KeepsTree shape calm after
     keeps-released n rest small x a own same is mark e = record {
       long = f.then.long ∙ sym f.before.long;

@@ -36,9 +36,10 @@ use Rattle.art_versions.specs.versions.Locking.{rows_held, held_at_place, rows_o
 use Rattle.art_schedules.specs.work.Works.{LacksByte}
 use Rattle.art_schedules.specs.changes.Courses.{IsGoneBy, IsStill}
 use Rattle.art_schedules.specs.changes.Follows.{Follows}
-use Rattle.art_schedules.specs.coupled.Knows.{IsOwn, HangsBelow, KnowsTarget, KnowsPlace, KnowsInfo, IsPassed, KnowsStage, KnowsReply, KnowsAt}
+use Rattle.art_schedules.specs.coupled.Knows.{HangsBelow, KnowsTarget, KnowsPlace, KnowsInfo, IsPassed, KnowsStage, KnowsReply, KnowsAt}
+use Rattle.art_schedules.specs.coupled.Knows.{IsHeldLive}
 use Rattle.art_schedules.specs.coupled.Stays.{WaysAreKept}
-use Rattle.art_schedules.specs.work.Ways.{slot_in, KnowsFinding, IsOnWay, HasChild, Hangs}
+use Rattle.art_schedules.specs.work.Ways.{slot_in, KnowsFinding, IsOnWay, HasChild, HangsOnWay}
 use Rattle.art_schedules.proofs.effects.WayLemmas.{on-way, slot-still, hangs-still, finding-still, index-still}
 
 module _ (c : Setting) (n : ℕ) (calm after : List ℕ) (pairs : Contents) (gone : ℕ → Type 0) (fresh : ℕ → Kind → Type 0)
@@ -115,8 +116,9 @@ module _ (c : Setting) (n : ℕ) (calm after : List ℕ) (pairs : Contents) (gon
   at-still (Some r) i stage still k = reply-still r i stage still k
 
 -- a row that is the call's own stays so
-pub own-still : (calm words after later : List ℕ) (h : Held) → SameRow calm after h.base h.kind → SameRow words later h.base h.kind → IsOwn calm words h
-    → IsOwn after later h
+pub own-still : (calm words after later : List ℕ) (h : Held) → SameRow calm after h.base h.kind → SameRow words later h.base h.kind
+    → IsHeldLive calm words h
+    → IsHeldLive after later h
 own-still calm words after later h row same own = record {
   same = λ j low high. same j low high ∙ (own.same j low high ∙ sym (row j low high));
   live = own.live;
@@ -134,6 +136,7 @@ ways-are-kept shape call n calm words after later pairs effect found stage follo
     rows [] still = tt
     rows (h ∷ hs) still = ((still.0.row, still.0.stays), rows hs still.1)
 
-    own : (hs : List Held) → Each (IsStill calm words after later effect) hs → Each (IsOwn calm words) hs → Each (IsOwn after later) hs
+    own : (hs : List Held) → Each (IsStill calm words after later effect) hs → Each (IsHeldLive calm words) hs
+        → Each (IsHeldLive after later) hs
     own [] still k = tt
     own (h ∷ hs) still k = (own-still calm words after later h still.0.row still.0.same k.0, own hs still.1 k.1)

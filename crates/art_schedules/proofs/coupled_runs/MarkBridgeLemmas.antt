@@ -11,11 +11,6 @@ use Rattle.art_schedules.specs.coupled.Moments.{MakesLeave}
 use Rattle.art_schedules.specs.effects.AtWork.{fresh_of}
 use Rattle.art_schedules.specs.effects.Marks.{HangsOnAbove}
 
--- a row that hangs on the row above that is held leaves, where it is named
-pub makes-leave : (shape : Shape) (calm : List ℕ) (h : Hold) → HangsOnAbove shape calm h → MakesLeave shape calm h (Some h.row.base)
-makes-leave shape calm h x =
-    record { above = x.above; is = x.is; byte = x.byte; is_byte = x.is_byte; reached = x.reached; hangs = x.hangs; names = refl }
-
 -- the row that an effect brings
 pub fresh-is : (e : Effect) (fresh : Option Named) → fresh ≡ fresh_of e → (b : ℕ) (k : Kind) → ComesIn e b k → fresh ≡ Some (b, k)
 fresh-is (Keeps base kind) fresh is b k none = absurd none

@@ -37,11 +37,11 @@ use Rattle.art_schedules.specs.changes.Effects.{Effect}
 use Rattle.art_schedules.specs.stories.Stories.{Status, Before, Found, Changed, HasNotChanged, Tale}
 use Rattle.art_schedules.specs.stories.Fitting.{IsToldStep, AllFit, IsLedOn, OwnStep, Keeps, Changes, Next, Stays, FindsNow, MakesAccess}
 use Rattle.art_schedules.specs.stories.Fitting.{set_at, the_plan}
-use Rattle.art_schedules.specs.coupled.Knows.{KnowsWay, IsOwn}
+use Rattle.art_schedules.specs.coupled.Knows.{KnowsWay, IsHeldLive}
 use Rattle.art_schedules.specs.coupled.Goes as goes
 use Rattle.art_schedules.specs.coupled.Moments.{GoesFrom, StaysFrom, TakesLive, MakesLeave, LeavesBy, IsCoupledStep}
 use Rattle.art_schedules.specs.coupled.Good.{HoldsGood, TakesReached}
-use Rattle.art_schedules.specs.effects.AtWork.{AtWork, AtEnd, Answering, Leaving, IsInTree}
+use Rattle.art_schedules.specs.effects.AtWork.{AtWork, AtEnd, Answering, Leaving}
 use Rattle.art_schedules.specs.effects.Outcomes.{Makes, Works as WorksOn, IsRefused, TakesEffect}
 use Rattle.art_schedules.specs.effects.Marks.{obsolete_by, WorkerStep, EnderStep}
 use Rattle.art_schedules.specs.coupled_runs.CoupledFits.{Ghosts, ghosts_with, IsWorld, IsWorking, HasNone, OfScans}
@@ -49,12 +49,13 @@ use Rattle.art_schedules.specs.coupled_runs.CoupledFits.{IsFit, Seeks, Works, Fi
 use Rattle.art_schedules.proofs.coupled_runs.PartLaws.{LawsOfParts}
 use Rattle.art_schedules.specs.coupled_runs.KeptScans.{ScanStep, ScansAreKept}
 use Rattle.art_schedules.proofs.coupled_runs.StageLemmas.{work-claimed}
-use Rattle.art_schedules.proofs.coupled_runs.MarkBridgeLemmas.{makes-leave, fresh-is}
+use Rattle.art_schedules.proofs.coupled_runs.MarkBridgeLemmas.{fresh-is}
 use Rattle.art_schedules.proofs.coupled_runs.LedLemmas as led
 use Rattle.art_schedules.proofs.coupled.MoveLemmas.{works-hold}
 use Rattle.art_schedules.proofs.work.CallLemmas.{key-scan}
 use Rattle.art_schedules.proofs.stories.OpenLemmas.{set-here, same-stage}
 use Rattle.art_schedules.specs.effects.Begins.{BeginsWork}
+use Rattle.art_schedules.specs.work.Ways.{IsInTree}
 
 -- an end takes no row
 end-swaps : (shape : Shape) (real calm : List ℕ) (call : Call) (reply : Reply) (stage : Stage) → AtEnd (setting shape Coupled call) real calm reply stage
@@ -177,7 +178,7 @@ module _ (laws : LawsOfParts) (shape : Shape) (scripts : List (List Call)) (star
 
         works : (h : Hold) (w : Work) → from.next ≡ work_at (setting shape Coupled call) h w
             → BeginsWork (setting shape Coupled call) after h w
-            → Each (IsOwn after t.words) (rows_of_hold h) → IsWorking shape t.words after call from.next None None
+            → Each (IsHeldLive after t.words) (rows_of_hold h) → IsWorking shape t.words after call from.next None None
         works h w f begins each =
             subst (λ y. IsWorking shape t.words after call y None None) (sym f)
             (at-work, laws.workers_may_have_no_mark (setting shape Coupled call) t.words after None _ at-work)
@@ -191,13 +192,13 @@ module _ (laws : LawsOfParts) (shape : Shape) (scripts : List (List Call)) (star
             rows : held_by Coupled shape call later ≡ locks_of (rows_of_hold h)
             rows = ap (holds (setting shape Coupled call)) (there ∙ ap OnKey f) ∙ ap locks_of (works-hold (is_insert call) (setting shape Coupled call) h w)
 
-            in-tree : (x : Held) → IsAmong (lock_of x) (locks_of (rows_of_hold h)) → IsInTree (setting shape Coupled call) after x
+            in-tree : (x : Held) → IsAmong (lock_of x) (locks_of (rows_of_hold h)) → IsInTree shape after x
             in-tree x among =
                 let r = good None makes takes (lock_of x) (subst (IsAmong (lock_of x)) (sym rows) among) in
                 record { reached = r.reached; live = r.live }
 
-            above : (o : Option Held) → ((x : Held) → IsAmong (lock_of x) (locks_of (all_of o)) → IsInTree (setting shape Coupled call) after x)
-                → Each (IsInTree (setting shape Coupled call) after) (all_of o)
+            above : (o : Option Held) → ((x : Held) → IsAmong (lock_of x) (locks_of (all_of o)) → IsInTree shape after x)
+                → Each (IsInTree shape after) (all_of o)
             above None f = tt
             above (Some x) f = (f x (inl refl), tt)
 
@@ -280,9 +281,11 @@ module _ (laws : LawsOfParts) (shape : Shape) (scripts : List (List Call)) (star
         unchanged = subst HasNotChanged (sym e) tt
 
         obsoletes : (h : Hold) → stage ≡ Obsolete h → MakesLeave shape calm h (obsolete_by stage)
-        obsoletes h f = subst (MakesLeave shape calm h) (sym (ap obsolete_by f))
-            (makes-leave shape calm h (laws.obsolete_rows_hang (setting shape Coupled call) told.claims s.words calm (g.fresh p) h told.rests
-            (subst (AtWork (setting shape Coupled call) s.words calm (g.fresh p)) f w.0)))
+        obsoletes h f = subst (MakesLeave shape calm h) (sym (ap obsolete_by f)) (
+          laws.obsolete_rows_hang (setting shape Coupled call) told.claims s.words calm (g.fresh p) h told.rests
+              (subst (AtWork (setting shape Coupled call) s.words calm (g.fresh p)) f w.0),
+          refl,
+        )
 
         go : WorkerStep plan s p t calm after m call stage (g.fresh p) (g.leaving p) → Answer
         go (WorksOn next fresh there work goes makes, (left, marked)) =

@@ -47,7 +47,7 @@ use Rattle.art_schedules.specs.work.Solo.{Solo, here, further, claims}
 use Rattle.art_schedules.specs.work.Works.{RowsOf}
 use Rattle.art_schedules.proofs.work.OwnLemmas.{rows-known}
 use Rattle.art_schedules.specs.effects.Begins.{BeginsWork}
-use Rattle.art_schedules.specs.effects.AtWork.{IsInTree, IsSame, IsClaiming, claims_row, hold_at, FillsAt, AtWork, Going, Leaving}
+use Rattle.art_schedules.specs.effects.AtWork.{IsClaiming, claims_row, hold_at, FillsAt, AtWork, Going, Leaving}
 use Rattle.art_schedules.specs.effects.Outcomes.{Makes, Works, IsRefused}
 use Rattle.art_schedules.specs.effects.Marks.{obsolete_by, WorkerStep}
 use Rattle.art_schedules.proofs.effects.AroundLemmas.{Around, OwnAccess, own-access}
@@ -55,6 +55,7 @@ use Rattle.art_schedules.proofs.effects.KeptLemmas.{begins-kept, inside-kept, un
 use Rattle.art_schedules.proofs.effects.MarkLemmas.{obsolete-or}
 use Rattle.art_schedules.proofs.effects.OtherLemmas.{each-with, each-of}
 use Rattle.art_schedules.proofs.effects.ReleaseLemmas.{kept-by-words}
+use Rattle.art_schedules.specs.work.Ways.{IsInTree, IsSame}
 
 module _ (read : ChildrenAreRead) (trees : KeptTreesFollow) (effects : EffectsFollow) (plan : Plan) (p : ℕ) (s t : State)
     (calm after : List ℕ) (x : Around plan p s t calm after) (k : ℕ) (rest : IsAtRest plan.shape k calm) (m : Contents) (means : Means plan.shape calm m)
@@ -77,22 +78,23 @@ module _ (read : ChildrenAreRead) (trees : KeptTreesFollow) (effects : EffectsFo
     pub made : Kept
     made = kept-by-words read trees effects plan p s t calm after x k rest m means stays
 
-    pub late : (row : Held) → IsInTree c calm row → 5 ≤ row.base
+    pub late : (row : Held) → IsInTree c.shape calm row → 5 ≤ row.base
     late row inside = row_begins shape row.base row.kind (settled-row variant shape s row.base row.kind
         (x.calm_before.reached row.base row.kind inside.reached))
 
-    pub calm-row : (row : Held) → IsInTree c calm row → IsSame calm after row
+    pub calm-row : (row : Held) → IsInTree c.shape calm row → IsSame calm after row
     calm-row row inside j low high = stays (row.base + j) (omega (arith, late row inside))
 
-    pub rows-then : (h : Hold) → Each (IsInTree c calm) (rows_of_hold h) → Each (IsInTree c after) (rows_of_hold h)
-    rows-then h rows = each-with (IsInTree c calm) (IsInTree c after) (rows_of_hold h)
+    pub rows-then : (h : Hold) → Each (IsInTree c.shape calm) (rows_of_hold h) → Each (IsInTree c.shape after) (rows_of_hold h)
+    rows-then h rows = each-with (IsInTree c.shape calm) (IsInTree c.shape after) (rows_of_hold h)
         (λ row among inside. inside-kept c made.goes.claims calm after _ (IsGoneBy None) (ComesInBy None) made.goes.follows row inside
         (λ none. none)) rows
 
-    pub calms : (h : Hold) → Each (IsInTree c calm) (rows_of_hold h) → Each (IsSame calm after) (rows_of_hold h)
-    calms h rows = each-with (IsInTree c calm) (IsSame calm after) (rows_of_hold h) (λ row among inside. calm-row row inside) rows
+    pub calms : (h : Hold) → Each (IsInTree c.shape calm) (rows_of_hold h) → Each (IsSame calm after) (rows_of_hold h)
+    calms h rows = each-with (IsInTree c.shape calm) (IsSame calm after) (rows_of_hold h) (λ row among inside. calm-row row inside) rows
 
-    pub begins-then : (h : Hold) (work : Work) → Each (IsInTree c calm) (rows_of_hold h) → BeginsWork c calm h work → BeginsWork c after h work
+    pub begins-then : (h : Hold) (work : Work) → Each (IsInTree c.shape calm) (rows_of_hold h) → BeginsWork c calm h work
+        → BeginsWork c after h work
     begins-then h work rows begins = begins-kept c made.goes.claims calm after _ (IsGoneBy None) (ComesInBy None) made.goes.follows h work
         (calms h rows)
         (each-of (λ row. IsGoneBy None row.base → ⊥) (rows_of_hold h) (λ row among none. none)) begins
@@ -103,7 +105,8 @@ module _ (read : ChildrenAreRead) (trees : KeptTreesFollow) (effects : EffectsFo
       (begin : ℕ → Stage)
       (next : (number : ℕ) → stage_after c (work_at c h work) number ≡ (if nat_lt number (rows_of shape kind) then begin number else Unlock h (Some Refused)))
       (place : (number : ℕ) → hold_at (begin number) ≡ Some h) (fills : (number : ℕ) → FillsAt h work (base_of shape kind number) kind (begin number))
-      (begins : BeginsWork c calm h work) (rows : Each (IsInTree c calm) (rows_of_hold h)) (same : Each (IsSame calm s.words) (rows_of_hold h)) where
+      (begins : BeginsWork c calm h work) (rows : Each (IsInTree c.shape calm) (rows_of_hold h))
+      (same : Each (IsSame calm s.words) (rows_of_hold h)) where
     abbrev number : ℕ
     number = slice_index s.words (claims_of kind)
 
@@ -129,11 +132,12 @@ module _ (read : ChildrenAreRead) (trees : KeptTreesFollow) (effects : EffectsFo
         small a b = omega (arith, a, b)
 
     sames : Each (IsSame after t.words) (rows_of_hold h)
-    sames = each-with (λ row. IsInTree c calm row × IsSame calm s.words row) (IsSame after t.words) (rows_of_hold h)
+    sames = each-with (λ row. IsInTree c.shape calm row × IsSame calm s.words row) (IsSame after t.words) (rows_of_hold h)
         (λ row among both j low high. real-word (row.base + j) (omega (arith, late stays row both.0))
         ∙ (both.1 j low high ∙ sym (calm-row stays row both.0 j low high))) (pair-up (rows_of_hold h) rows same)
       where
-        pair-up : (hs : List Held) → Each (IsInTree c calm) hs → Each (IsSame calm s.words) hs → Each (λ row. IsInTree c calm row × IsSame calm s.words row) hs
+        pair-up : (hs : List Held) → Each (IsInTree c.shape calm) hs → Each (IsSame calm s.words) hs
+            → Each (λ row. IsInTree c.shape calm row × IsSame calm s.words row) hs
         pair-up [] a b = tt
         pair-up (row ∷ hs) a b = ((a.0, b.0), pair-up hs a.1 b.1)
 

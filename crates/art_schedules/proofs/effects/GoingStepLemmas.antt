@@ -68,7 +68,7 @@ use Rattle.art_schedules.proofs.work.WorkLemmas.{put_loads, put_stores, put_leaf
 use Rattle.art_schedules.proofs.work.WorkLemmas.{grow_info, grow_loads, grow_stores, spread_index, spread_loads}
 use Rattle.art_schedules.proofs.work.WorkLemmas.{spread_stores, grow_leaf, grow_keys, grow_count, hangs as hang_stage}
 use Rattle.art_schedules.specs.effects.Begins.{upper_of, upper_row, BeginsWork}
-use Rattle.art_schedules.specs.effects.AtWork.{IsInTree, IsSame, hold_at, growing_at, FillsAt, HasNew, IsGoing, IsHanging, AtWork, Going}
+use Rattle.art_schedules.specs.effects.AtWork.{hold_at, growing_at, FillsAt, HasNew, IsGoing, IsHanging, AtWork, Going}
 use Rattle.art_schedules.specs.effects.AtWork.{Hanging, FillsFresh, HasFilledFresh}
 use Rattle.art_schedules.specs.effects.Outcomes.{Makes, Works}
 use Rattle.art_schedules.specs.effects.Marks.{IsMarked, WorkerStep}
@@ -81,6 +81,7 @@ use Rattle.art_schedules.proofs.effects.ReleaseLemmas.{kept-by-words, kept-fille
 use Rattle.art_schedules.proofs.effects.StageLemmas.{place-work, work-place, grow-fills, grow-hold, grow-next, writes-fill, writes-next}
 use Rattle.art_schedules.proofs.effects.WorkBeginLemmas.{work-in}
 use Rattle.art_schedules.proofs.effects.HangLemmas.{slot-inside, write-hangs, put-hangs, pair-hangs, grown-hangs}
+use Rattle.art_schedules.specs.work.Ways.{IsInTree, IsSame}
 
 no-items : {row : Named} → ◌≡◌ {A = List Named} [] (row ∷ []) → ⊥
 no-items e = cc
@@ -241,7 +242,7 @@ module _ (read : ChildrenAreRead) (trees : KeptTreesFollow) (effects : EffectsFo
     live_now = live_now;
   }
 
-  late : (row : Held) → IsInTree c calm row → 5 ≤ row.base
+  late : (row : Held) → IsInTree c.shape calm row → 5 ≤ row.base
   late row inside = row_begins shape row.base row.kind (settled-row variant shape s row.base row.kind (x.calm_before.reached row.base row.kind inside.reached))
 
   -- where no word of a row of calm changes
@@ -250,7 +251,7 @@ module _ (read : ChildrenAreRead) (trees : KeptTreesFollow) (effects : EffectsFo
     made-stays = kept-by-words read trees effects plan p s t calm after x k rest m means stays
 
     calms-stay : Each (IsSame calm after) rows
-    calms-stay = each-with (IsInTree c calm) (IsSame calm after) rows (λ row among inside j low high. stays (row.base + j) (omega
+    calms-stay = each-with (IsInTree c.shape calm) (IsSame calm after) rows (λ row among inside j low high. stays (row.base + j) (omega
         (arith, late row inside))) g.rows
 
     new-stays : (words : List ℕ) (b : ℕ) (l : Kind) → FillsFresh c s.words calm g.words g.hold g.work stage b l → SameRow g.words words b l
@@ -357,7 +358,7 @@ module _ (read : ChildrenAreRead) (trees : KeptTreesFollow) (effects : EffectsFo
         made = kept-filled read trees effects plan p s t calm after x k rest m means b l new.claimed row new.unreached new.live word behind others low5
 
         calms : Each (IsSame calm after) rows
-        calms = each-with (IsInTree c calm) (IsSame calm after) rows
+        calms = each-with (IsInTree c.shape calm) (IsSame calm after) rows
             (λ y among inside j low high. others (y.base + j) (omega (arith, late y inside))
             (λ e. new-apart b l new (lock_of y) (subst (IsAmong (lock_of y)) (sym is-holds) among) word (omega (arith, behind.0)) behind.1 (omega (arith, e))
             (omega (arith, e, high)))) g.rows
@@ -402,8 +403,8 @@ module _ (read : ChildrenAreRead) (trees : KeptTreesFollow) (effects : EffectsFo
     begins = begins-kept c mv.made.goes.claims calm after _ (IsGoneBy None) (ComesInBy None) mv.made.goes.follows g.hold g.work mv.calms
         (each-of (λ row. IsGoneBy None row.base → ⊥) rows (λ row among none. none)) g.begins
 
-    rows-then : Each (IsInTree c after) rows
-    rows-then = each-with (IsInTree c calm) (IsInTree c after) rows
+    rows-then : Each (IsInTree c.shape after) rows
+    rows-then = each-with (IsInTree c.shape calm) (IsInTree c.shape after) rows
         (λ row among inside. inside-kept c mv.made.goes.claims calm after _ (IsGoneBy None) (ComesInBy None) mv.made.goes.follows row
         inside (λ none. none)) g.rows
 

@@ -43,13 +43,15 @@ use Rattle.art_schedules.specs.changes.Effects.{Effect, PutsLeaf, RemovesLeaf, H
 use Rattle.art_schedules.proofs.changes.WrittenLemmas.{stores-are-slots, hung-rows-are-slots, children-are-of-rows, puts-are-children}
 use Rattle.art_schedules.specs.work.Works.{IsInsert, PairHangs, GrownHangs}
 use Rattle.art_schedules.specs.effects.Begins.{upper_of, upper_row, IsOverwritten}
-use Rattle.art_schedules.specs.effects.AtWork.{IsInTree, IsSame, IsOld, IsEffectOf, IsReleasing, Last, Lower, Gone, IsHanging}
+use Rattle.art_schedules.specs.effects.AtWork.{IsOld, IsEffectOf, IsReleasing, Last, Lower, Gone, IsHanging}
 use Rattle.art_schedules.specs.effects.AtWork.{HasFilledFresh}
 use Rattle.art_schedules.proofs.effects.KeptLemmas.{upper-each, info-kept}
 use Rattle.art_schedules.specs.changes.Written.{HasWordAt}
+use Rattle.art_schedules.specs.work.Ways.{IsInTree, IsSame}
 
 module _ (c : Setting) (n : ℕ) (real after first words : List ℕ) (rest : IsAtRest c.shape n after) (h : Hold) (at : Stage)
-    (long : length first ≡ table_words c.shape) (rows : Each (IsInTree c after) (rows_of_hold h)) (was : Each (IsSame first after) (rows_of_hold h))
+    (long : length first ≡ table_words c.shape) (rows : Each (IsInTree c.shape after) (rows_of_hold h))
+    (was : Each (IsSame first after) (rows_of_hold h))
     (same : Each (IsSame words real) (rows_of_hold h)) where
   abbrev s : Shape
   s = c.shape
@@ -280,7 +282,7 @@ module _ (c : Setting) (n : ℕ) (real after first words : List ℕ) (rest : IsA
       old = None;
       base = refl;
       kind = refl;
-      inside = upper-each (IsInTree c after) h rows;
+      inside = upper-each (IsInTree c.shape after) h rows;
       pending = (
         leads,
         refl,
@@ -342,7 +344,7 @@ module _ (c : Setting) (n : ℕ) (real after first words : List ℕ) (rest : IsA
       old = None;
       base = refl;
       kind = refl;
-      inside = upper-each (IsInTree c after) h rows;
+      inside = upper-each (IsInTree c.shape after) h rows;
       pending = (
         leads,
         refl,

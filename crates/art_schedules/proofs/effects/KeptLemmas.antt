@@ -32,8 +32,9 @@ use Rattle.art_schedules.proofs.changes.EffectLemmas.{parted-small}
 use Rattle.art_schedules.proofs.changes.WrittenLemmas.{children-are-of-rows}
 use Rattle.art_schedules.specs.work.Works.{LacksByte, FitsWords}
 use Rattle.art_schedules.specs.effects.Begins.{upper_of, upper_row, IsOverwritten, FindsSlot, BeginsWork}
-use Rattle.art_schedules.specs.effects.AtWork.{IsInTree, IsSame, IsOld, fresh_of, IsPending, HasFilledFresh}
+use Rattle.art_schedules.specs.effects.AtWork.{IsOld, fresh_of, IsPending, HasFilledFresh}
 use Rattle.art_schedules.specs.changes.Written.{HasWordAt}
+use Rattle.art_schedules.specs.work.Ways.{IsInTree, IsSame}
 
 -- what is so of each row is so of the upper one
 pub upper-each : (P : Held → Type 0) (h : Hold) → Each P (rows_of_hold h) → P (upper_row h)
@@ -110,7 +111,7 @@ module _ (s : Shape) (n : ℕ) (calm after : List ℕ) (pairs : Contents) (gone 
 -- Where work begins.
 module _ (c : Setting) (n : ℕ) (calm after : List ℕ) (pairs : Contents) (gone : ℕ → Type 0) (fresh : ℕ → Kind → Type 0)
     (f : Follows c.shape n calm after pairs gone fresh) where
-  pub inside-kept : (row : Held) → IsInTree c calm row → (gone row.base → ⊥) → IsInTree c after row
+  pub inside-kept : (row : Held) → IsInTree c.shape calm row → (gone row.base → ⊥) → IsInTree c.shape after row
   inside-kept row inside stays =
       record { reached = reached-kept c.shape n calm after pairs gone fresh f row.base row.kind inside.reached stays; live = inside.live }
 

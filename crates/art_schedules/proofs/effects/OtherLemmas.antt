@@ -52,7 +52,7 @@ use Rattle.art_schedules.specs.changes.Courses.{IsGoneBy, ComesInBy}
 use Rattle.art_schedules.specs.changes.Written.{IsUnreached}
 use Rattle.art_schedules.proofs.changes.RowLemmas.{steady-row}
 use Rattle.art_schedules.proofs.work.WorkLemmas.{holds-work}
-use Rattle.art_schedules.specs.effects.AtWork.{IsInTree, IsSame, IsClaiming, claims_row, FillsAt, HasNew, IsGoing}
+use Rattle.art_schedules.specs.effects.AtWork.{IsClaiming, claims_row, FillsAt, HasNew, IsGoing}
 use Rattle.art_schedules.specs.effects.AtWork.{fresh_of, IsPending, IsReleasing, Last, Lower, Gone}
 use Rattle.art_schedules.specs.effects.AtWork.{IsHanging, AtWork, Claiming, Going, Hanging, AtEnd, Answering, Leaving, HasFilledFresh}
 use Rattle.art_schedules.specs.effects.Outcomes.{Makes, IsEffectBy, HoldsReached, IsOther}
@@ -61,6 +61,7 @@ use Rattle.art_schedules.specs.effects.Laws.{OthersKeepWork, OthersKeepMarked, O
 use Rattle.art_schedules.proofs.effects.AroundLemmas.{Around, around, other-open, others-row, others-stay, others-calm}
 use Rattle.art_schedules.proofs.effects.KeptLemmas.{begins-kept, inside-kept, unreached-kept, pending-kept, NewStays, GoneStays}
 use Rattle.art_schedules.proofs.effects.StageLemmas.{place-work, grow-fills}
+use Rattle.art_schedules.specs.work.Ways.{IsInTree, IsSame}
 
 -- of each row that is held
 pub each-with : (P Q : Held → Type 0) (rows : List Held) → ((row : Held) → IsAmong (lock_of row) (locks_of rows) → P row → Q row) → Each P rows → Each Q rows
@@ -114,7 +115,7 @@ module _ (read : ChildrenAreRead) (plan : Plan) (p : ℕ) (s t : State) (calm af
       true-false (made.goes.gone row.base gone)
       (ap is_obsolete (x.before.locked r call w o (lock_of row) among) ∙ (locked-same row.kept ∙ live))
 
-  inside : (row : Held) → HoldsRow row → IsInTree c calm row → IsInTree c after row
+  inside : (row : Held) → HoldsRow row → IsInTree c.shape calm row → IsInTree c.shape after row
   inside row among here =
       inside-kept c made.goes.claims calm after _ (IsGoneBy effect) (ComesInBy effect) made.goes.follows row here
       (not-gone row among here.live)
@@ -248,17 +249,18 @@ module _ (read : ChildrenAreRead) (plan : Plan) (p : ℕ) (s t : State) (calm af
         → HoldsRow row
     holds-row h is row among = subst (IsAmong (lock_of row)) (sym is ∙ ap (holds c) (sym at)) among
 
-    rows-on : (h : Hold) → holds c (OnKey stage) ≡ locks_of (rows_of_hold h) → Each (IsInTree c calm) (rows_of_hold h)
-        → Each (IsInTree c after) (rows_of_hold h)
+    rows-on : (h : Hold) → holds c (OnKey stage) ≡ locks_of (rows_of_hold h) → Each (IsInTree c.shape calm) (rows_of_hold h)
+        → Each (IsInTree c.shape after) (rows_of_hold h)
     rows-on h is rows =
-        each-with (IsInTree c calm) (IsInTree c after) (rows_of_hold h) (λ row among here. inside row (holds-row h is row among) here) rows
+        each-with (IsInTree c.shape calm) (IsInTree c.shape after) (rows_of_hold h)
+        (λ row among here. inside row (holds-row h is row among) here) rows
 
     calms : (h : Hold) → holds c (OnKey stage) ≡ locks_of (rows_of_hold h) → Each (IsSame calm after) (rows_of_hold h)
     calms h is = each-of (IsSame calm after) (rows_of_hold h) (λ row among. calm-row row (holds-row h is row among))
 
-    stays : (h : Hold) → holds c (OnKey stage) ≡ locks_of (rows_of_hold h) → Each (IsInTree c calm) (rows_of_hold h)
+    stays : (h : Hold) → holds c (OnKey stage) ≡ locks_of (rows_of_hold h) → Each (IsInTree c.shape calm) (rows_of_hold h)
         → Each (λ row. IsGoneBy effect row.base → ⊥) (rows_of_hold h)
-    stays h is rows = each-with (IsInTree c calm) (λ row. IsGoneBy effect row.base → ⊥) (rows_of_hold h)
+    stays h is rows = each-with (IsInTree c.shape calm) (λ row. IsGoneBy effect row.base → ⊥) (rows_of_hold h)
         (λ row among here. not-gone row (holds-row h is row among) here.live) rows
 
     claiming-on : IsClaiming c s.words calm stage → IsClaiming c t.words after stage

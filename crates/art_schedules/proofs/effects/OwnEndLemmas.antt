@@ -48,7 +48,7 @@ use Rattle.art_schedules.specs.changes.Effects.{kind_of_effect, IsGone, ComesIn}
 use Rattle.art_schedules.specs.changes.Courses.{IsGoneBy, ComesInBy}
 use Rattle.art_schedules.specs.changes.Laws.{EffectsFollow, KeptTreesFollow, WaysSayValues}
 use Rattle.art_schedules.specs.changes.Written.{IsUnreached}
-use Rattle.art_schedules.specs.effects.AtWork.{IsInTree, IsSame, fresh_of, IsPending, IsReleasing, Last, Lower, Gone, IsHanging, Hanging}
+use Rattle.art_schedules.specs.effects.AtWork.{fresh_of, IsPending, IsReleasing, Last, Lower, Gone, IsHanging, Hanging}
 use Rattle.art_schedules.specs.effects.AtWork.{AtEnd, Answering, Leaving, HasFilledFresh}
 use Rattle.art_schedules.specs.effects.Marks.{obsolete_by, IsMarkedBy, WorkerStep}
 use Rattle.art_schedules.specs.effects.Outcomes.{Makes, Works, TakesEffect, EndStep, Leaves, Answers as AnswersNow}
@@ -58,6 +58,7 @@ use Rattle.art_schedules.proofs.effects.ReleaseLemmas.{kept-by-words, its-row, o
 use Rattle.art_schedules.proofs.effects.ReleaseLemmas.{obsolete-same}
 use Rattle.art_schedules.proofs.effects.ReleaseLemmas.{kept-obsolete}
 use Rattle.art_schedules.proofs.effects.ReplyLemmas.{does-so, value-not-refused}
+use Rattle.art_schedules.specs.work.Ways.{IsInTree, IsSame}
 
 module _ (read : ChildrenAreRead) (trees : KeptTreesFollow) (effects : EffectsFollow) (says : WaysSayValues) (plan : Plan) (p : ℕ) (s t : State)
     (calm after : List ℕ) (x : Around plan p s t calm after) (k : ℕ) (rest : IsAtRest plan.shape k calm) (m : Contents) (means : Means plan.shape calm m)
@@ -80,7 +81,7 @@ module _ (read : ChildrenAreRead) (trees : KeptTreesFollow) (effects : EffectsFo
   holds-row : (h : Hold) → holds c (OnKey stage) ≡ locks_of (rows_of_hold h) → (row : Held) → IsAmong (lock_of row) (locks_of (rows_of_hold h)) → HoldsRow row
   holds-row h is row among = subst (IsAmong (lock_of row)) (sym is ∙ ap (holds c) (sym at)) among
 
-  inside : Kept → (row : Held) → IsInTree c calm row → IsInTree c after row
+  inside : Kept → (row : Held) → IsInTree c.shape calm row → IsInTree c.shape after row
   inside made row here = inside-kept c made.goes.claims calm after _ (IsGoneBy None) (ComesInBy None) made.goes.follows row here
       (λ none. none)
 
@@ -154,18 +155,19 @@ module _ (read : ChildrenAreRead) (trees : KeptTreesFollow) (effects : EffectsFo
       turn : turn_at c stage ≡ Asks (Store h.row.base (released_word h.row.kept)) (Some point.Unlock)
       turn = ap (turn_at c) unlock
 
-      made : IsInTree c calm h.row → IsSame calm s.words h.row → Kept
+      made : IsInTree c.shape calm h.row → IsSame calm s.words h.row → Kept
       made here own-same = kept-unchanged read trees effects plan p s t calm after x k rest m means call q o stage at h.row among here.live
           (Some point.Unlock) turn
           own-same
 
-      then : IsInTree c calm h.row → (above : Option Held) → h.above ≡ above
+      then : IsInTree c.shape calm h.row → (above : Option Held) → h.above ≡ above
           → IsAtStage variant shape t p call (OnKey (release_at (locks variant) above (Some out)))
       then here above e = released-at h.row among here.live (released_word h.row.kept) (Some point.Unlock) turn
           (release_at (locks variant) above (Some out))
           (ap (λ z. stage_after c z 0) unlock ∙ ap (λ z. release_at (locks variant) z (Some out)) e)
 
-      go : (above : Option Held) → h.above ≡ above → Each (IsInTree c calm) (rows_of_hold h) → Each (IsSame calm s.words) (rows_of_hold h)
+      go : (above : Option Held) → h.above ≡ above → Each (IsInTree c.shape calm) (rows_of_hold h)
+          → Each (IsSame calm s.words) (rows_of_hold h)
           → EndStep variant shape s p t calm after m call reply stage
       go None e rows same = Leaves (Over out) (then rows.0 None e) (Answering out is refl) (made rows.0 same.0)
       go (Some a) e rows same =
@@ -173,7 +175,8 @@ module _ (read : ChildrenAreRead) (trees : KeptTreesFollow) (effects : EffectsFo
           let whole : h ≡ both = ap (λ z. record { row = h.row; above = z }) e in
           let held : holds c (OnKey stage) ≡ locks_of (rows_of_hold both) =
           ap (λ z. holds c (OnKey z)) unlock ∙ ap (λ z. locks_of (rows_of_hold z)) whole in
-          let ins : Each (IsInTree c calm) (rows_of_hold both) = subst (λ z. Each (IsInTree c calm) (rows_of_hold z)) whole rows in
+          let ins : Each (IsInTree c.shape calm) (rows_of_hold both) = subst (λ z. Each (IsInTree c.shape calm) (rows_of_hold z)) whole
+          rows in
           let sames : Each (IsSame calm s.words) (rows_of_hold both) = subst (λ z. Each (IsSame calm s.words) (rows_of_hold z)) whole same in
           let ne = distinct h.row a held ins.0.live (released_word h.row.kept) (Some point.Unlock) turn in
           let row = its-row read trees effects plan p s t calm after x k rest m means call q o stage at a
@@ -246,7 +249,8 @@ module _ (read : ChildrenAreRead) (trees : KeptTreesFollow) (effects : EffectsFo
 
     -- the lower row is released
     lower-released : (lower : Held) → holds c (OnKey stage) ≡ locks_of (rows_of_hold (record { row = lower; above = Some g.row }))
-        → IsInTree c calm lower → (value : ℕ) (mark : Option Point) → turn_at c stage ≡ Asks (Store lower.base value) mark → (made : Kept)
+        → IsInTree c.shape calm lower → (value : ℕ) (mark : Option Point) → turn_at c stage ≡ Asks (Store lower.base value) mark
+        → (made : Kept)
         → stage_after c stage 0 ≡ Unlock (hold_alone g.row) (Some (Value g.old))
         → GoneStays c made.goes.claims calm after _ (IsGoneBy None) (ComesInBy None) made.goes.follows g.effect
         → ((b : ℕ) → IsGone g.effect b → is_obsolete (slice_index t.words b) ≡ true)

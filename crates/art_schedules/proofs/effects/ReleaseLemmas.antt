@@ -53,9 +53,10 @@ use Rattle.art_schedules.proofs.changes.FollowLemmas.{low-words-keep}
 use Rattle.art_schedules.proofs.changes.RowLemmas.{rows-are-by-words, steady-row}
 use Rattle.art_schedules.proofs.changes.WorkedLemmas.{stored-leaves-are-put, stored-zeros-remove, written-pairs-are-hung, written-rows-are-hung}
 use Rattle.art_schedules.proofs.changes.WrittenLemmas.{children-are-of-rows}
-use Rattle.art_schedules.specs.effects.AtWork.{IsSame, IsOld, IsPending, HasStoredLeaf}
+use Rattle.art_schedules.specs.effects.AtWork.{IsOld, IsPending, HasStoredLeaf}
 use Rattle.art_schedules.specs.effects.Outcomes.{Makes}
 use Rattle.art_schedules.proofs.effects.AroundLemmas.{Around, OwnAccess, own-access}
+use Rattle.art_schedules.specs.work.Ways.{IsSame}
 
 -- the slot in words that say the same of its row
 slot-later : (calm real later : List ℕ) (base : ℕ) (kind : Kind) (y slot word : ℕ) → y < 256 → SameRow real later base kind

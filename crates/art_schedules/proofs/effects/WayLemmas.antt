@@ -21,7 +21,7 @@ use Rattle.art_versions.specs.versions.Holding.{Each}
 use Rattle.art_versions.specs.versions.Locking.{rows_of_hold}
 use Rattle.art_versions.proofs.versions.KnownLemmas.{each-map}
 use Rattle.art_schedules.specs.changes.Follows.{Follows}
-use Rattle.art_schedules.specs.work.Ways.{IsOnWay, slot_in, HasChild, Hangs, KnowsFinding}
+use Rattle.art_schedules.specs.work.Ways.{IsOnWay, slot_in, HasChild, KnowsFinding, HangsOnWay}
 use Rattle.art_schedules.specs.effects.Begins.{BeginsWork}
 use Rattle.art_schedules.proofs.effects.KeptLemmas.{slot-word, lacks-kept, begins-kept}
 
@@ -54,7 +54,7 @@ module _ (c : Setting) {n : ℕ} {calm after : List ℕ} {pairs : Contents} {gon
     has = ap (child_of c.shape) (slot-word calm after h.base h.kind (byte_in c h) slot (byte-small h) still.0 at.at) ∙ at.has;
   }
 
-  pub hangs-still : (h : Held) (slot : ℕ) (child : Child) → Still h → Hangs c calm h slot child → Hangs c after h slot child
+  pub hangs-still : (h : Held) (slot : ℕ) (child : Child) → Still h → HangsOnWay c calm h slot child → HangsOnWay c after h slot child
   hangs-still h slot child still (on, at) = (on-way h still on, child-still h slot child still at)
 
   pub finding-still : (i : Bool) (h : Held) (f : Finding) → Still h → KnowsFinding i c calm h f → KnowsFinding i c after h f

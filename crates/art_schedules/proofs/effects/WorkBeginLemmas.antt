@@ -26,11 +26,12 @@ use Rattle.art_schedules.specs.work.Works.{RowsOf}
 use Rattle.art_schedules.proofs.work.WorkLemmas.{holds-work, moves-next}
 use Rattle.art_schedules.specs.changes.Effects.{Effect}
 use Rattle.art_schedules.specs.effects.Begins.{BeginsWork}
-use Rattle.art_schedules.specs.effects.AtWork.{IsInTree, IsSame, claims_row, hold_at, writes_at, IsReleasing, Last, Lower, Gone, AtWork, Claiming, Going}
+use Rattle.art_schedules.specs.effects.AtWork.{claims_row, hold_at, writes_at, IsReleasing, Last, Lower, Gone, AtWork, Claiming, Going}
 use Rattle.art_schedules.specs.effects.AtWork.{Hanging}
 use Rattle.art_schedules.specs.effects.AtWork.{AtEnd, Answering, Leaving}
 use Rattle.art_schedules.proofs.effects.OtherLemmas.{each-of, holds-claiming}
 use Rattle.art_schedules.proofs.effects.StageLemmas.{place-work, work-place}
+use Rattle.art_schedules.specs.work.Ways.{IsInTree, IsSame}
 
 some-none : {x : ℕ} → ◌≡◌ {A = Option ℕ} (Some x) None → ⊥
 some-none e = cc
@@ -38,7 +39,8 @@ some-none e = cc
 module _ (c : Setting) (real calm : List ℕ) (long : length calm ≡ table_words c.shape) (h : Hold) where
   going : (work : Work) → Knows (RowsOf c.shape) c (OnKey (work_at c h work)) → claims_row work ≡ false → writes_at (work_at c h work) ≡ true
       → hold_at (work_at c h work) ≡ Some h → BeginsWork c calm h work
-      → Each (IsInTree c calm) (rows_of_hold h) → Each (IsSame calm real) (rows_of_hold h) → AtWork c real calm None (work_at c h work)
+      → Each (IsInTree c.shape calm) (rows_of_hold h) → Each (IsSame calm real) (rows_of_hold h)
+      → AtWork c real calm None (work_at c h work)
   going work knows none writes place begins rows same = Going (record {
     hold = h;
     work = work;
@@ -56,7 +58,7 @@ module _ (c : Setting) (real calm : List ℕ) (long : length calm ≡ table_word
     new = (none, writes);
   })
 
-  claiming : (work : Work) → claims_row work ≡ true → BeginsWork c calm h work → Each (IsInTree c calm) (rows_of_hold h)
+  claiming : (work : Work) → claims_row work ≡ true → BeginsWork c calm h work → Each (IsInTree c.shape calm) (rows_of_hold h)
       → Each (IsSame calm real) (rows_of_hold h) → AtWork c real calm None (work_at c h work)
   claiming work claims begins rows same =
       Claiming refl (record { hold = h; work = work; at = refl; claims = claims; begins = begins; rows = rows; same = same })
@@ -94,7 +96,7 @@ module _ (c : Setting) (real calm : List ℕ) (long : length calm ≡ table_word
   put-writes Full keys x none = absurd (some-none none)
 
   pub work-begins : (work : Work) → Knows (RowsOf c.shape) c (OnKey (work_at c h work)) → BeginsWork c calm h work
-      → Each (IsInTree c calm) (rows_of_hold h) → Each (IsSame calm real) (rows_of_hold h)
+      → Each (IsInTree c.shape calm) (rows_of_hold h) → Each (IsSame calm real) (rows_of_hold h)
       → AtWork c real calm None (work_at c h work)
   work-begins (work.Write slot word old) knows begins rows same = going (work.Write slot word old) knows refl refl refl begins rows same
   work-begins (work.Pair p) knows begins rows same = claiming (work.Pair p) refl begins rows same
@@ -109,16 +111,17 @@ module _ (c : Setting) (real calm : List ℕ) (stage : Stage) where
   abbrev IsIn : Held → Type 0
   IsIn row = Reached c.shape calm row.base row.kind
 
-  held-in : (rows : List Held) → Each (IsInTree c calm) rows → (row : Held) → IsAmong row (locks_of rows) → IsIn row
+  held-in : (rows : List Held) → Each (IsInTree c.shape calm) rows → (row : Held) → IsAmong row (locks_of rows) → IsIn row
   held-in [] e row among = absurd among
   held-in (y ∷ rows) e row (inl is) = subst IsIn (sym is) e.0.reached
   held-in (y ∷ rows) e row (inr among) = held-in rows e.1 row among
 
-  by-hold : (h : Hold) → holds c (OnKey stage) ≡ locks_of (rows_of_hold h) → Each (IsInTree c calm) (rows_of_hold h) → (row : Held)
+  by-hold : (h : Hold) → holds c (OnKey stage) ≡ locks_of (rows_of_hold h) → Each (IsInTree c.shape calm) (rows_of_hold h) → (row : Held)
       → IsAmong row (holds c (OnKey stage)) → IsIn row
   by-hold h is rows row among = held-in (rows_of_hold h) rows row (subst (IsAmong row) is among)
 
-  releasing-in : (upper : Held) (e : Effect) (o : Outcome) → IsInTree c calm upper → IsReleasing c real calm upper e o stage → (row : Held)
+  releasing-in : (upper : Held) (e : Effect) (o : Outcome) → IsInTree c.shape calm upper → IsReleasing c real calm upper e o stage
+      → (row : Held)
       → IsAmong row (holds c (OnKey stage)) → IsIn row
   releasing-in upper e o inside (Last is gone) = by-hold (hold_alone upper) (ap (λ z. holds c (OnKey z)) is) (inside, tt)
   releasing-in upper e o inside (Lower lower is low same none) =

@@ -41,7 +41,6 @@ use Rattle.art_schedules.specs.changes.Follows.{Follows}
 use Rattle.art_schedules.specs.changes.Laws.{KeptTreesFollow}
 use Rattle.art_schedules.specs.work.Own.{ReadsHeld, is_lock}
 use Rattle.art_schedules.proofs.work.WalkLemmas.{reads-held}
-use Rattle.art_schedules.specs.coupled.Knows.{IsOwn}
 use Rattle.art_schedules.specs.coupled.Scanning.{KnowsTree, StaysAt}
 use Rattle.art_schedules.specs.coupled.Walks.{SameOn, IsOver}
 use Rattle.art_schedules.proofs.coupled.MadeLemmas.{Facts, facts, others-open}
@@ -57,6 +56,7 @@ use Rattle.art_schedules.proofs.locked_scans.TreeLemmas.{scans-take-live}
 use Rattle.art_schedules.proofs.work.LockedLemmas.{lock-last, among-lock}
 use Rattle.art_schedules.proofs.coupled.OwnLemmas.{own-word}
 use Rattle.art_schedules.specs.coupled.Moments.{IsCoupledStep}
+use Rattle.art_schedules.specs.coupled.Knows.{IsHeldLive}
 
 same-scan : {low high : ℕ} {x y : ScanAt} → OnScan low high x ≡ OnScan low high y → x ≡ y
 same-scan e = cc
@@ -192,7 +192,7 @@ module _ (trees : KeptTreesFollow) (plan : Plan) (start : Contents) (words sched
       h.run.before.within.shape.root in
       ap (λ b. told b (slice_index s.words (word_of b))) load
       ∙ own-word calm s.words own.row
-      (among-each (IsOwn calm s.words) own.row (rows_of_scan plan.shape low high (at step w)) own.among walked.own) word own.behind)
+      (among-each (IsHeldLive calm s.words) own.row (rows_of_scan plan.shape low high (at step w)) own.among walked.own) word own.behind)
 
   few : (kind : Kind) → slice_index after (claims_of kind) ≤ f.count + 2
   few kind =

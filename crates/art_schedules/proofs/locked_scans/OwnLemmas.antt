@@ -57,7 +57,6 @@ use Rattle.art_schedules.specs.work.Works.{RowsOf}
 use Rattle.art_schedules.proofs.work.OwnLemmas.{rows-known}
 use Rattle.art_schedules.proofs.work.LockedLemmas.{locked-own}
 use Rattle.art_schedules.proofs.work.WalkLemmas.{reads-held}
-use Rattle.art_schedules.specs.coupled.Knows.{IsOwn}
 use Rattle.art_schedules.specs.coupled.Moments.{TakesLive, IsCoupledStep}
 use Rattle.art_schedules.specs.coupled.Walks.{IsOfRows, Alone, SameOn, IsOver}
 use Rattle.art_schedules.proofs.coupled.MadeLemmas.{Facts, facts, IsMade, made}
@@ -69,6 +68,7 @@ use Rattle.art_schedules.proofs.locked_scans.AloneLemmas.{failed-keeps, alone-mo
 use Rattle.art_schedules.proofs.locked_scans.PlainLemmas.{IsRead, plain-unwaited, entered, reads-plain}
 use Rattle.art_schedules.proofs.locked_scans.RunLemmas.{rows-own, carry, calm-on}
 use Rattle.art_schedules.proofs.coupled.MoveLemmas.{row-inside}
+use Rattle.art_schedules.specs.coupled.Knows.{IsHeldLive}
 
 module _ (shape : Shape) (low high : ℕ) where
   abbrev c : Setting
@@ -85,14 +85,14 @@ module _ (shape : Shape) (low high : ℕ) where
 
   -- what a scan has walked, by the rows that it holds
   build : (calm words now : List ℕ) (x : ScanAt) (all : List Held) → rows x ≡ all → unwaited x ≡ x → Alone c all begun calm (OnScan low high x) now
-      → length words ≡ length now → SameOn all now words → Each (IsOwn calm words) all → Walked calm words x
+      → length words ≡ length now → SameOn all now words → Each (IsHeldLive calm words) all → Walked calm words x
   build calm words now x all e plain alone long same own = record {
     now = now;
     alone = subst (λ hs. Alone c hs begun calm (OnScan low high (unwaited x)) now) (sym e)
         (subst (λ y. Alone c all begun calm (OnScan low high y) now) (sym plain) alone);
     long = long;
     same = subst (λ hs. SameOn hs now words) (sym e) same;
-    own = subst (Each (IsOwn calm words)) (sym e) own;
+    own = subst (Each (IsHeldLive calm words)) (sym e) own;
   }
 
   -- a stage at which a row is read
@@ -262,7 +262,7 @@ module _ (plan : Plan) (start : Contents) (words schedule : List ℕ) (p : ℕ) 
             goes (λ other v l e. load-store (ap (λ b. Asks b mark) (sym load) ∙ e))
             (build shape low high calm t.words (words_after a k.now) next mine held-same (plain-unwaited next (reads-plain shape low high step w got read))
             y.0 (ap length access.words ∙ y.2) (subst (SameOn mine (words_after a k.now)) (sym access.words) y.1)
-            (subst (λ ws. Each (IsOwn calm ws) mine) (sym same) k.own))
+            (subst (λ ws. Each (IsHeldLive calm ws) mine) (sym same) k.own))
 
   -- ---- waiting at a lock
 
@@ -392,15 +392,15 @@ module _ (plan : Plan) (start : Contents) (words schedule : List ℕ) (p : ℕ) 
                 sym (ap length (load-same base s.words)) ∙ z.2,
               )
 
-          own-then : Each (IsOwn calm t.words) all
-          own-then = each-among (IsOwn calm t.words) all (λ z a. elim (with-split y old all z with a) [
-            | inl e ↦ subst (IsOwn calm t.words) (sym e) (record {
+          own-then : Each (IsHeldLive calm t.words) all
+          own-then = each-among (IsHeldLive calm t.words) all (λ z a. elim (with-split y old all z with a) [
+            | inl e ↦ subst (IsHeldLive calm t.words) (sym e) (record {
               same = λ j low-end high-end. stay y row j low-end high-end
                   ∙ sym (steady-row s.words calm y.base y.kind (f.before.free y.base y.kind row free) j low-end high-end);
               live = alive;
             })
             | inr b ↦ own-still calm s.words calm t.words z (λ j low-end high-end. refl) (stay z (row-of (Exchange entry v) w here z b))
-                (among-each (IsOwn calm s.words) z old b k.own)
+                (among-each (IsHeldLive calm s.words) z old b k.own)
           ])
             where
               stay : (z : Held) → kind_at shape z.base ≡ Some z.kind → SameRow s.words t.words z.base z.kind
@@ -497,10 +497,11 @@ module _ (plan : Plan) (start : Contents) (words schedule : List ℕ) (p : ℕ) 
     found = record {
       walked = is-walked w.rows w.pairs;
       is = k.is ∙ ap reply.Pairs (sym (same-pairs w.rows w.pairs));
-      own = subst (Each (IsOwn after t.words)) (sym (left-rows w.rows w.pairs)) (rows-own calm after s.words t.words (locks_of w.rows) (λ y a. (
-        on-calm y a,
-        stay y (row-of (Release n) w here y (inr a)),
-      )) k.own.1);
+      own = subst (Each (IsHeldLive after t.words)) (sym (left-rows w.rows w.pairs))
+          (rows-own calm after s.words t.words (locks_of w.rows) (λ y a. (
+            on-calm y a,
+            stay y (row-of (Release n) w here y (inr a)),
+          )) k.own.1);
     };
   }
     where

@@ -19,7 +19,6 @@ use Rattle.art_versions.specs.versions.Versions.{IsOpen, IsSettled, stage_of, he
 use Rattle.art_versions.proofs.versions.KnownLemmas.{held-is-kept}
 use Rattle.art_versions.proofs.versions.MoveLemmas.{settled-row}
 use Rattle.art_schedules.specs.calm.Calm.{calm_of}
-use Rattle.art_schedules.specs.coupled.Knows.{IsOwn}
 use Rattle.art_schedules.specs.coupled.Walks.{SameOn}
 use Rattle.art_schedules.proofs.coupled.MadeLemmas.{Facts, facts, others-open}
 use Rattle.art_schedules.proofs.coupled.RowLemmas.{others-same}
@@ -27,14 +26,15 @@ use Rattle.art_schedules.proofs.coupled.StayLemmas.{own-still}
 use Rattle.art_schedules.proofs.coupled.WalkLemmas.{walks-stay}
 use Rattle.art_schedules.specs.locked_scans.Walking.{unwaited, HasWalked, rows_of_scan}
 use Rattle.art_schedules.specs.locked_scans.Laws.{OthersLeaveScans}
+use Rattle.art_schedules.specs.coupled.Knows.{IsHeldLive}
 
 -- words that are the same on rows are so on each of them
 on-row : (rows : List Held) (words later : List ℕ) → SameOn rows words later → (h : Held) → IsAmong h rows → SameRow words later h.base h.kind
 on-row rows words later same h a j low high = same (h.base + j) (h, a, omega arith, omega (arith, high))
 
 pub rows-own : (calm after words later : List ℕ) (hs : List Held)
-    → ((h : Held) → IsAmong h hs → SameRow calm after h.base h.kind × SameRow words later h.base h.kind) → Each (IsOwn calm words) hs
-    → Each (IsOwn after later) hs
+    → ((h : Held) → IsAmong h hs → SameRow calm after h.base h.kind × SameRow words later h.base h.kind) → Each (IsHeldLive calm words) hs
+    → Each (IsHeldLive after later) hs
 rows-own calm after words later [] same own = tt
 rows-own calm after words later (h ∷ hs) same own =
     let x = same h (inl refl) in

@@ -60,11 +60,11 @@ use Rattle.art_schedules.specs.work.Works.{RowsOf, LacksByte}
 use Rattle.art_schedules.specs.effects.Begins.{BeginsWork, IsOverwritten}
 use Rattle.art_schedules.specs.optimistic.Knows.{Stands, IsBelow, HangsBelow, KnowsPlace}
 use Rattle.art_schedules.specs.optimistic.Knows.{KnowsStage}
-use Rattle.art_schedules.specs.optimistic.Knows.{KnowsAt, IsReachedHere, AllStand, hold_taken, IsPast, IsOwn, KnowsWay}
+use Rattle.art_schedules.specs.optimistic.Knows.{KnowsAt, IsReachedHere, AllStand, hold_taken, IsPast, KnowsWay, IsHeldReached}
 use Rattle.art_schedules.specs.optimistic.Goes.{Agrees, Gets, Goes, GoesOn, Works, Finds}
 use Rattle.art_schedules.specs.optimistic.Laws.{WaysBegin, WaysGoOn, FindingsStay}
 use Rattle.art_schedules.proofs.calm.VersionLemmas.{unmarked-free}
-use Rattle.art_schedules.specs.work.Ways.{IsOnWay, slot_in, HasChild, Hangs, KnowsKeys, KnowsFinding}
+use Rattle.art_schedules.specs.work.Ways.{IsOnWay, slot_in, HasChild, KnowsKeys, KnowsFinding, HangsOnWay}
 use Rattle.art_schedules.proofs.work.CallLemmas.{insert-of, seek-of, key-small, kept-after, full-slot}
 
 -- ---- words, bytes and calls
@@ -81,7 +81,7 @@ module _ (shape : Shape) (call : Call) (tree : is_tree_call call ≡ true) (key-
   c = setting shape Optimistic call
 
   abbrev Own : Held → Type 0
-  Own h = IsOwn shape calm words h
+  Own h = IsHeldReached shape calm words h
 
   abbrev Kept : Held → Type 0
   Kept h = IsKept false (RowsOf shape) h
@@ -149,7 +149,7 @@ module _ (shape : Shape) (call : Call) (tree : is_tree_call call ≡ true) (key-
   byte-in-small h = key_byte-small (key_of call) (row_at h).level
 
   -- the row below is reached
-  reached-below : (h : Held) (slot base : ℕ) (kind : Kind) → Hangs c calm h slot (ChildRow base kind) → Reached shape calm base kind
+  reached-below : (h : Held) (slot base : ℕ) (kind : Kind) → HangsOnWay c calm h slot (ChildRow base kind) → Reached shape calm base kind
   reached-below h slot base kind (on, at) = below on.leads.reached (byte_in c h) (byte-in-small h) (hangs-on h slot (ChildRow base kind) at)
 
   -- the info of a row of the tree is calm's
@@ -519,7 +519,8 @@ module _ (shape : Shape) (call : Call) (tree : is_tree_call call ≡ true) (key-
       → To (take_alone c d.above (beside_work d.slot (row-below d kept) x))
   hangs-pair e d kept x k differs past = GoesOn (knows true e None _ ((λ st. (k st).0.leads.reached), tt, (λ st. begins (k st))) (past, tt) tt)
     where
-      begins : Hangs c calm d.above d.slot (ChildRow d.base d.kind) → BeginsWork c calm (hold_alone d.above) (beside_work d.slot (row-below d kept) x)
+      begins : HangsOnWay c calm d.above d.slot (ChildRow d.base d.kind)
+          → BeginsWork c calm (hold_alone d.above) (beside_work d.slot (row-below d kept) x)
       begins hang =
           let reached = reached-below d.above d.slot d.base d.kind hang in
           let same = path-is d.base d.kind reached in
@@ -643,7 +644,7 @@ module _ (shape : Shape) (call : Call) (calm words : List ℕ) (r : Reply) where
 
   abbrev Knows : Option Reply → Bool → Stage → Type 0
   Knows o i stage = KnowsAt o i (setting shape Optimistic call) calm words stage × Each (IsPast words) (rows_kept false i stage)
-      × Each (IsOwn shape calm words) (rows_held false i stage)
+      × Each (IsHeldReached shape calm words) (rows_held false i stage)
 
   answers : (i : Bool) (stage : Stage) (w : ℕ) → Knows (Some r) i stage → Gets (setting shape Optimistic call) words stage w
       → Knows (Some r) i (after_with false i false here stage w) ⊎ Knows None i (after_with false i false here stage w)

@@ -66,7 +66,8 @@ use Rattle.art_schedules.proofs.calm.VersionLemmas.{free-busy, free-parts, relea
 use Rattle.art_schedules.specs.changes.Follows.{KeepsTree}
 use Rattle.art_schedules.specs.work.Works.{RowsOf}
 use Rattle.art_schedules.specs.effects.Begins.{BeginsWork}
-use Rattle.art_schedules.specs.optimistic.Knows.{KnowsStage, KnowsReply, KnowsTaking, IsReachedHere, KnowsWay, Stands, AllStand, hold_taken, IsPast, IsOwn}
+use Rattle.art_schedules.specs.optimistic.Knows.{KnowsStage, KnowsReply, KnowsTaking, IsReachedHere, KnowsWay, Stands, AllStand, hold_taken}
+use Rattle.art_schedules.specs.optimistic.Knows.{IsPast, IsHeldReached}
 use Rattle.art_schedules.specs.optimistic.Goes.{Agrees, Gets, Goes, GoesOn, Works}
 use Rattle.art_schedules.specs.optimistic.Steps.{StepsOn, OwnStepsGoOn, OwnFindingsStay}
 use Rattle.art_schedules.proofs.calm.VersionLemmas.{unmarked-free}
@@ -295,8 +296,8 @@ module _ (plan : Plan) (start : Contents) (first schedule : List ℕ) (p : ℕ) 
         past-rows : Each (IsPast s.words) (x.row ∷ (all_of x.held ++ all_of x.below))
         past-rows = subst (λ y. Each (IsPast s.words) (rows_kept false (is_insert call) y)) is k.kept
 
-        own-rows : Each (IsOwn shape calm s.words) (all_of x.held)
-        own-rows = subst (λ y. Each (IsOwn shape calm s.words) (rows_held false (is_insert call) y)) is k.rows
+        own-rows : Each (IsHeldReached shape calm s.words) (all_of x.held)
+        own-rows = subst (λ y. Each (IsHeldReached shape calm s.words) (rows_held false (is_insert call) y)) is k.rows
 
         knows-taking : KnowsTaking c calm s.words x
         knows-taking = subst (λ y. KnowsStage (is_insert call) c calm s.words y) is k.way
@@ -334,13 +335,14 @@ module _ (plan : Plan) (start : Contents) (first schedule : List ℕ) (p : ℕ) 
           free : is_busy x.row.kept ≡ false
           free = unmarked-free x.row.kept kept-rows.0.0
 
-          row-own : IsOwn shape calm s.words x.row
+          row-own : IsHeldReached shape calm s.words x.row
           row-own = (
             (λ j low less. sym (agrees.free x.row.base x.row.kind row-at (ap is_busy st ∙ free) (x.row.base + j) (omega arith) (omega (arith, less)))),
             knows-taking.0 st,
           )
 
-          own-moves : (h : Held) → kind_at shape h.base ≡ Some h.kind → IsOwn shape calm s.words h → IsOwn shape after t.words h
+          own-moves : (h : Held) → kind_at shape h.base ≡ Some h.kind → IsHeldReached shape calm s.words h
+              → IsHeldReached shape after t.words h
           own-moves h there own = (
             (λ j low less.
                 other-word (h.base + j) (λ f. not-behind shape x.row.base h.base (h.base + j) x.row.kind h.kind row-at there (
@@ -353,7 +355,7 @@ module _ (plan : Plan) (start : Contents) (first schedule : List ℕ) (p : ℕ) 
           )
 
           held-own : (held under : Option Held) → Each (IsKept false (IsSettled Optimistic shape s)) (x.row ∷ (all_of held ++ all_of under))
-              → Each (IsOwn shape calm s.words) (all_of held) → Each (IsOwn shape after t.words) (all_of held)
+              → Each (IsHeldReached shape calm s.words) (all_of held) → Each (IsHeldReached shape after t.words) (all_of held)
           held-own None under kept own = tt
           held-own (Some a) under kept own = (own-moves a (settled-row Optimistic shape s a.base a.kind kept.1.0.1) own.0, tt)
 
@@ -381,7 +383,7 @@ module _ (plan : Plan) (start : Contents) (first schedule : List ℕ) (p : ℕ) 
               → BeginsWork c calm (hold_taken x.row held under) w)
               → Each (IsKept false (IsSettled Optimistic shape s)) (x.row ∷ (all_of held ++ all_of under))
               → Each (IsPast s.words) (x.row ∷ (all_of held ++ all_of under))
-              → Each (IsOwn shape calm s.words) (all_of held) → FitsTaking x.row held under w → To (taken_at c held under w x.row)
+              → Each (IsHeldReached shape calm s.words) (all_of held) → FitsTaking x.row held under w → To (taken_at c held under w x.row)
           taken held None w reach know kept were own fit = Works (record { row = x.row; above = held }) w refl
               (subst (λ l. BeginsWork c l (record { row = x.row; above = held }) w) (sym calm-is) (know st))
               (own-moves x.row row-at row-own, held-own held None kept own)
@@ -424,8 +426,8 @@ module _ (plan : Plan) (start : Contents) (first schedule : List ℕ) (p : ℕ) 
         kept-row : IsKept false (IsSettled Optimistic shape s) h.row
         kept-row = (subst (λ y. Each (IsKept false (IsSettled Optimistic shape s)) (rows_kept false (is_insert call) y)) is settled.kept).0
 
-        own-row : IsOwn shape calm s.words h.row
-        own-row = (subst (λ y. Each (IsOwn shape calm s.words) (rows_held false (is_insert call) y)) is k.rows).0
+        own-row : IsHeldReached shape calm s.words h.row
+        own-row = (subst (λ y. Each (IsHeldReached shape calm s.words) (rows_held false (is_insert call) y)) is k.rows).0
 
         here : kind_at shape h.row.base ≡ Some h.row.kind
         here = settled-row Optimistic shape s h.row.base h.row.kind kept-row.1

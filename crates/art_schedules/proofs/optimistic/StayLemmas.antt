@@ -51,11 +51,11 @@ use Rattle.art_schedules.proofs.changes.SayingLemmas.{same-rows-say-the-same}
 use Rattle.art_schedules.specs.effects.Begins.{BeginsWork, IsOverwritten, upper_of}
 use Rattle.art_schedules.specs.optimistic.Knows.{Stands, IsBelow, HangsBelow, KnowsPlace, KnowsStage}
 use Rattle.art_schedules.specs.optimistic.Knows.{KnowsReply, KnowsAt, IsReachedHere, AllStand, hold_taken}
-use Rattle.art_schedules.specs.optimistic.Knows.{PathFollows, PathDiffers, IsReachedBelow, IsPast, IsOwn}
+use Rattle.art_schedules.specs.optimistic.Knows.{PathFollows, PathDiffers, IsReachedBelow, IsPast, IsHeldReached}
 use Rattle.art_schedules.specs.optimistic.Goes.{Agrees}
 use Rattle.art_schedules.specs.optimistic.Laws.{InfosStay, WaysAreKept}
 use Rattle.art_schedules.proofs.calm.VersionLemmas.{unmarked-free}
-use Rattle.art_schedules.specs.work.Ways.{IsOnWay, slot_in, HasChild, Hangs, KnowsFinding}
+use Rattle.art_schedules.specs.work.Ways.{IsOnWay, slot_in, HasChild, KnowsFinding, HangsOnWay}
 use Rattle.art_schedules.proofs.effects.WayLemmas.{on-way, slot-still, hangs-still, finding-still, index-still, begins-still}
 
 -- ---- a step, with the states before and behind it
@@ -100,7 +100,7 @@ module _ (shape : Shape) (call : Call) (n : ℕ) (calm after : List ℕ) (pairs 
       stays : IsGoneBy effect h.base → ⊥
       stays g = false≢true (sym (ap is_obsolete st ∙ (free-parts h.kept free).1) ∙ leaving h.base g)
 
-  hangs : (h : Held) (slot : ℕ) (child : Child) → S h → Hangs c calm h slot child → Hangs c after h slot child
+  hangs : (h : Held) (slot : ℕ) (child : Child) → S h → HangsOnWay c calm h slot child → HangsOnWay c after h slot child
   hangs h slot child = hangs-still c follows h slot child
 
   below-kept : (d : Down) → Kept d.above → Past d.above → IsBelow c calm s.words d → IsBelow c after t.words d
@@ -235,7 +235,8 @@ module _ (shape : Shape) (call : Call) (n : ℕ) (calm after : List ℕ) (pairs 
   rows-still [] still = tt
   rows-still (h ∷ hs) still = ((still.0.row, still.0.stays), rows-still hs still.1)
 
-  own-kept : (hs : List Held) → Each (IsStill calm s.words after t.words effect) hs → Each (IsOwn shape calm s.words) hs → Each (IsOwn shape after t.words) hs
+  own-kept : (hs : List Held) → Each (IsStill calm s.words after t.words effect) hs → Each (IsHeldReached shape calm s.words) hs
+      → Each (IsHeldReached shape after t.words) hs
   own-kept [] still own = tt
   own-kept (h ∷ hs) still own = (
     (

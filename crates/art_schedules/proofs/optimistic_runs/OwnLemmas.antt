@@ -40,7 +40,7 @@ use Rattle.art_schedules.specs.changes.Follows.{KeepsTree}
 use Rattle.art_schedules.specs.stories.Stories.{Status, Before, Found, Changed, HasNotChanged, Tale}
 use Rattle.art_schedules.specs.stories.Fitting.{IsToldStep, AllFit, IsLedOn, OwnStep, Keeps, Changes, Next, Stays, Forgets, FindsNow}
 use Rattle.art_schedules.specs.stories.Fitting.{MakesAccess, set_at, the_plan}
-use Rattle.art_schedules.specs.optimistic.Knows.{KnowsWay, IsOwn}
+use Rattle.art_schedules.specs.optimistic.Knows.{KnowsWay, IsHeldReached}
 use Rattle.art_schedules.specs.optimistic.Goes as goes
 use Rattle.art_schedules.specs.optimistic.Steps.{StepsOn, IsQuiet}
 use Rattle.art_schedules.specs.effects.Begins.{BeginsWork}
@@ -129,12 +129,13 @@ module _ (laws : LawsOfParts) (shape : Shape) (scripts : List (List Call)) (star
         there = at-next from.0.at.process from.0.at.is_open from.0.next from.0.at.at
 
         works : (h : Hold) (w : Work) → from.0.next ≡ work_at (setting shape Optimistic call) h w → BeginsWork (setting shape Optimistic call) after h w
-            → Each (IsOwn shape after t.words) (rows_of_hold h) → AtWork (setting shape Optimistic call) t.words after None from.0.next
+            → Each (IsHeldReached shape after t.words) (rows_of_hold h)
+            → AtWork (setting shape Optimistic call) t.words after None from.0.next
         works h w f begins each =
             subst (AtWork (setting shape Optimistic call) t.words after None) (sym f)
             (laws.work_begins (setting shape Optimistic call) t.words after h w told.calm_behind.long known begins
             (each-map (λ (x : Held) y. record { reached = y.0.1; live = kept-live Optimistic (RowsOf shape) x y.1 (inl refl) }) (rows_of_hold h)
-            (each-both (IsOwn shape after t.words) (IsKept false (RowsOf shape)) (rows_of_hold h) each kept))
+            (each-both (IsHeldReached shape after t.words) (IsKept false (RowsOf shape)) (rows_of_hold h) each kept))
             (each-map (λ (x : Held) y. y.0) (rows_of_hold h) each))
           where
             known : Knows (RowsOf shape) (setting shape Optimistic call) (OnKey (work_at (setting shape Optimistic call) h w))

@@ -15,7 +15,7 @@ use Rattle.art_core.specs.Core.{Plan, State, opened_on, step}
 use Rattle.art_core.specs.Meaning.{Reached, AllUnlocked}
 use Rattle.art_serial.specs.trees.Trees.{AreZeroPastClaims}
 use Rattle.art_versions.specs.versions.Effects.{IsGoodAt, IsAmong}
-use Rattle.art_versions.specs.versions.Versions.{IsOpen, held_by, filled_by, IsSettled}
+use Rattle.art_versions.specs.versions.Versions.{IsOpen, held_by, filled_by, IsSettled, EachHeld}
 use Rattle.art_versions.specs.versions.Steady.{SameWords}
 
 -- A row is busy where its version is locked or obsolete.
@@ -73,8 +73,8 @@ pub record IsCalm (variant : Variant) (shape : Shape) (first : List ℕ) (s : St
   pub live : (base : ℕ) (kind : Kind) → kind_at shape base ≡ Some kind → is_obsolete (slice_index first base) ≡ false
       → is_obsolete (slice_index calm base) ≡ false
   -- A row that a process holds has the version that was kept, which in the optimistic tree is never obsolete.
-  pub held : (p : ℕ) (call : Call) (q : Process) → IsOpen s p call q → (h : Held) → IsAmong h (held_by variant shape call q)
-      → (variant ≡ Optimistic) ⊎ (is_obsolete h.kept ≡ false) → slice_index calm h.base ≡ h.kept
+  pub held : (p : ℕ)
+      → EachHeld variant shape s p (λ h. (variant ≡ Optimistic) ⊎ (is_obsolete h.kept ≡ false) → slice_index calm h.base ≡ h.kept)
   -- a busy row was claimed, and nobody fills it
   pub settled : (base : ℕ) (kind : Kind) → kind_at shape base ≡ Some kind → is_busy (slice_index s.words base) ≡ true → IsSettled variant shape s base kind
   -- a row that was not claimed has only zeros

@@ -16,7 +16,7 @@ use Rattle.art_core.specs.Meaning.{Reached}
 use Rattle.art_serial.specs.trees.Trees.{SameRow}
 use Rattle.art_versions.specs.versions.Holding.{Each}
 use Rattle.art_versions.specs.versions.Locking.{rows_of_hold}
-use Rattle.art_schedules.specs.coupled.Knows.{IsOwn, KnowsWay}
+use Rattle.art_schedules.specs.coupled.Knows.{KnowsWay, IsHeldLive}
 use Rattle.art_schedules.specs.effects.Begins.{BeginsWork}
 
 -- What the access gets: a load the word as it is; and where an exchange takes a row of the calm tree, that row is not obsolete, and behind its version the
@@ -29,6 +29,6 @@ pub record Gets (c : Setting) (calm words : List ℕ) (stage : Stage) (w : ℕ) 
 -- It goes on its way, or its work begins, or it has found what it will answer: the reply is legal at these pairs, and leaves them as they are.
 pub data Goes (c : Setting) (calm words : List ℕ) (m : Contents) (next : Stage) : Type 0 where
   GoesOn : KnowsWay c calm words None next → Goes c calm words m next
-  Works : (h : Hold) → (work : Work) → next ≡ work_at c h work → BeginsWork c calm h work → Each (IsOwn calm words) (rows_of_hold h)
+  Works : (h : Hold) → (work : Work) → next ≡ work_at c h work → BeginsWork c calm h work → Each (IsHeldLive calm words) (rows_of_hold h)
       → Goes c calm words m next
   Finds : (reply : Reply) → Does m c.call reply m → KnowsWay c calm words (Some reply) next → Goes c calm words m next

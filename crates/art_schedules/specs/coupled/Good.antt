@@ -18,26 +18,22 @@ use Rattle.art_core.specs.declared.process.Process.{Process}
 use Rattle.art_core.specs.Core.{Plan, State}
 use Rattle.art_core.specs.Meaning.{Reached}
 use Rattle.art_versions.specs.versions.Effects.{IsAmong}
-use Rattle.art_versions.specs.versions.Versions.{IsOpen, held_by, IsAtStage}
+use Rattle.art_versions.specs.versions.Versions.{IsOpen, held_by, IsAtStage, AllHeld, EachHeld}
 use Rattle.art_schedules.specs.calm.Calm.{calm_of}
 use Rattle.art_schedules.specs.calm.Changes.{AsksFor}
 use Rattle.art_schedules.specs.changes.Effects.{Effect}
 use Rattle.art_schedules.specs.changes.Courses.{TreeGoesOn}
 use Rattle.art_schedules.specs.coupled.Knows.{KnowsWay}
 use Rattle.art_schedules.specs.coupled.Moments.{TakesLive, IsCoupledStep}
-
--- the row is one of the calm tree, and was not obsolete when it was taken
-pub record IsGoodRow (shape : Shape) (calm : List ℕ) (h : Held) : Type 0 where
-  pub reached : Reached shape calm h.base h.kind
-  pub live : is_obsolete h.kept ≡ false
+use Rattle.art_schedules.specs.work.Ways.{IsInTree}
 
 -- a call holds such rows alone
 abbrev pub HoldsGood : Shape → List ℕ → Call → Process → Type 0
-HoldsGood shape calm call q = (h : Held) → IsAmong h (held_by Coupled shape call q) → IsGoodRow shape calm h
+HoldsGood shape calm call q = AllHeld Coupled shape call q (IsInTree shape calm)
 
 -- and so does the process
 abbrev pub GoodOf : Shape → State → ℕ → List ℕ → Type 0
-GoodOf shape s p calm = (call : Call) (q : Process) → IsOpen s p call q → HoldsGood shape calm call q
+GoodOf shape s p calm = EachHeld Coupled shape s p (IsInTree shape calm)
 
 -- a row that the process takes in its step is one of the calm tree
 abbrev pub TakesReached : Shape → State → ℕ → List ℕ → Type 0

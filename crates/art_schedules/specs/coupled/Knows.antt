@@ -21,16 +21,16 @@ use Rattle.art_core.specs.Forms.{level_in, path_in}
 use Rattle.art_serial.specs.trees.Trees.{SameRow, LeadsTo}
 use Rattle.art_versions.specs.versions.Holding.{Each}
 use Rattle.art_versions.specs.versions.Locking.{rows_held}
-use Rattle.art_schedules.specs.work.Ways.{slot_in, KnowsFinding, IsOnWay, Hangs}
+use Rattle.art_schedules.specs.work.Ways.{slot_in, KnowsFinding, IsOnWay, IsSame, HangsOnWay}
 
 -- A row that the call holds and has not written to: behind its version the words are the calm ones, and it was not obsolete when it was locked.
-pub record IsOwn (calm words : List ℕ) (n : Held) : Type 0 where
-  pub same : SameRow calm words n.base n.kind
+pub record IsHeldLive (calm words : List ℕ) (n : Held) : Type 0 where
+  pub same : IsSame calm words n
   pub live : is_obsolete n.kept ≡ false
 
 -- the row below hangs on the key's byte of the row above, to which the key's way leads
 abbrev pub IsBelow : Setting → List ℕ → Down → Type 0
-IsBelow c calm d = Hangs c calm d.above d.slot (ChildRow d.base d.kind)
+IsBelow c calm d = HangsOnWay c calm d.above d.slot (ChildRow d.base d.kind)
 
 abbrev pub KnowsTarget : Setting → List ℕ → Target → Type 0
 KnowsTarget c calm Root = Unit {0}
@@ -40,7 +40,7 @@ KnowsTarget c calm (Taken t) = ⊥
 -- the row hangs on the key's byte of the row above, if there is one
 abbrev pub HangsBelow : Setting → List ℕ → Held → ℕ → Option Held → Type 0
 HangsBelow c calm n slot None = Unit {0}
-HangsBelow c calm n slot (Some above) = Hangs c calm above slot (ChildRow n.base n.kind)
+HangsBelow c calm n slot (Some above) = HangsOnWay c calm above slot (ChildRow n.base n.kind)
 
 -- At a row: an insert holds the row above too. Here and below the flag says that the call is an insert.
 abbrev pub KnowsPlace : Bool → Setting → List ℕ → Position → Type 0
@@ -92,4 +92,4 @@ KnowsAt (Some r) i c calm stage = KnowsReply r i c calm stage
 -- What a call that has not begun its work knows: of calm by its stage, where `found` is the reply that it has found, if any, and of the rows that it holds.
 pub record KnowsWay (c : Setting) (calm words : List ℕ) (found : Option Reply) (stage : Stage) : Type 0 where
   pub way : KnowsAt found (is_insert c.call) c calm stage
-  pub rows : Each (IsOwn calm words) (rows_held true (is_insert c.call) stage)
+  pub rows : Each (IsHeldLive calm words) (rows_held true (is_insert c.call) stage)

@@ -21,7 +21,7 @@ use Rattle.art_core.specs.Core.{Plan, State}
 use Rattle.art_core.specs.Meaning.{Reached, child_on, Means}
 use Rattle.art_serial.specs.trees.Trees.{IsAtRest}
 use Rattle.art_versions.specs.versions.Effects.{IsAmong}
-use Rattle.art_versions.specs.versions.Versions.{IsOpen, held_by, IsAtStage}
+use Rattle.art_versions.specs.versions.Versions.{IsOpen, held_by, IsAtStage, EachHeld}
 use Rattle.art_schedules.specs.calm.Calm.{calm_of}
 use Rattle.art_schedules.specs.calm.Changes.{AsksFor, IsRunStep}
 use Rattle.art_schedules.specs.changes.Effects.{Effect}
@@ -29,6 +29,7 @@ use Rattle.art_schedules.specs.changes.Courses.{IsGoneBy, ComesInBy}
 use Rattle.art_schedules.specs.changes.Follows.{KeepsTree}
 use Rattle.art_schedules.specs.coupled.Knows.{KnowsWay}
 use Rattle.art_schedules.specs.coupled.Goes.{Goes}
+use Rattle.art_schedules.specs.effects.Marks.{HangsOnAbove}
 
 -- A step of a run of the coupled tree, before which calm is a tree at rest that means these pairs.
 pub record IsCoupledStep (plan : Plan) (start : Contents) (words schedule : List ℕ) (p : ℕ) (s t : State) (claims : ℕ)
@@ -75,8 +76,7 @@ pub record StaysFrom (shape : Shape) (call : Call) (t : State) (p : ℕ) (calm a
 
 -- no process holds a row that was obsolete when it was locked
 abbrev pub HeldAreLive : Shape → State → Type 0
-HeldAreLive shape s = (p : ℕ) (call : Call) (q : Process) → IsOpen s p call q → (h : Held) → IsAmong h (held_by Coupled shape call q)
-    → is_obsolete h.kept ≡ false
+HeldAreLive shape s = (p : ℕ) → EachHeld Coupled shape s p (λ h. is_obsolete h.kept ≡ false)
 
 -- and the process takes none in its step
 abbrev pub TakesLive : Shape → State → ℕ → Type 0
@@ -84,14 +84,8 @@ TakesLive shape s p = (h : Held) → AsksFor Coupled shape s p (Swap h.base h.ke
     → is_obsolete h.kept ≡ false
 
 -- The row that the process makes obsolete hangs in the calm tree on the row above that it holds too; from now on it is named as leaving.
-pub record MakesLeave (shape : Shape) (calm : List ℕ) (h : Hold) (named : Option ℕ) : Type 0 where
-  pub above : Held
-  pub is : h.above ≡ Some above
-  pub byte : ℕ
-  pub is_byte : byte < 256
-  pub reached : Reached shape calm above.base above.kind
-  pub hangs : child_on shape calm above.base above.kind byte ≡ Row h.row.base h.row.kind
-  pub names : named ≡ Some h.row.base
+abbrev pub MakesLeave : Shape → List ℕ → Hold → Option ℕ → Type 0
+MakesLeave shape calm h named = HangsOnAbove shape calm h × (named ≡ Some h.row.base)
 
 -- What a step of process p has to do with the rows that are obsolete: one that it makes obsolete is named, one that was named leaves the calm tree as p
 -- releases the row above; what comes into it is not obsolete behind the step.

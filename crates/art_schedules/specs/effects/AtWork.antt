@@ -37,17 +37,7 @@ use Rattle.art_schedules.specs.changes.Written.{IsUnreached, IsPairRow, IsCopy, 
 use Rattle.art_schedules.specs.work.Solo.{Solo}
 use Rattle.art_schedules.specs.work.Works.{RowsOf}
 use Rattle.art_schedules.specs.effects.Begins.{BeginsWork}
-
--- ---- held rows
-
--- the row is one of calm's tree, and was not obsolete when it was taken
-pub record IsInTree (c : Setting) (calm : List ℕ) (row : Held) : Type 0 where
-  pub reached : Reached c.shape calm row.base row.kind
-  pub live : is_obsolete row.kept ≡ false
-
--- both lists have the same words of the row behind its version
-abbrev pub IsSame : List ℕ → List ℕ → Held → Type 0
-IsSame words later row = SameRow words later row.base row.kind
+use Rattle.art_schedules.specs.work.Ways.{IsInTree, IsSame}
 
 -- ---- before the claim
 
@@ -65,7 +55,7 @@ pub record IsClaiming (c : Setting) (real calm : List ℕ) (stage : Stage) : Typ
   pub at : stage ≡ work_at c hold work
   pub claims : claims_row work ≡ true
   pub begins : BeginsWork c calm hold work
-  pub rows : Each (IsInTree c calm) (rows_of_hold hold)
+  pub rows : Each (IsInTree c.shape calm) (rows_of_hold hold)
   pub same : Each (IsSame calm real) (rows_of_hold hold)
 
 -- ---- before the first release
@@ -145,7 +135,7 @@ pub record IsGoing (c : Setting) (real calm : List ℕ) (fresh : Option Named) (
   pub hold : Hold
   pub work : Work
   pub begins : BeginsWork c calm hold work
-  pub rows : Each (IsInTree c calm) (rows_of_hold hold)
+  pub rows : Each (IsInTree c.shape calm) (rows_of_hold hold)
   pub place : hold_at stage ≡ Some hold
   pub knows : Knows (RowsOf c.shape) c (OnKey (work_at c hold work))
   pub first : List ℕ
@@ -227,9 +217,10 @@ IsEffectOf (Scan low high) old e = ⊥
 -- goes by the effect. A row that goes and is released is obsolete.
 pub data IsReleasing (c : Setting) (real calm : List ℕ) (row : Held) (e : Effect) (o : Outcome) (stage : Stage) : Type 0 where
   Last : stage ≡ Unlock (hold_alone row) (Some o) → ((b : ℕ) → IsGone e b → is_obsolete (slice_index real b) ≡ true) → IsReleasing c real calm row e o stage
-  Lower : (lower : Held) → stage ≡ Unlock (record { row = lower; above = Some row }) (Some o) → IsInTree c calm lower → IsSame calm real lower
+  Lower : (lower : Held) → stage ≡ Unlock (record { row = lower; above = Some row }) (Some o) → IsInTree c.shape calm lower
+      → IsSame calm real lower
       → ((b : ℕ) → IsGone e b → ⊥) → IsReleasing c real calm row e o stage
-  Gone : (lower : Held) → stage ≡ Obsolete (record { row = lower; above = Some row }) → o ≡ Value None → IsInTree c calm lower
+  Gone : (lower : Held) → stage ≡ Obsolete (record { row = lower; above = Some row }) → o ≡ Value None → IsInTree c.shape calm lower
       → IsGone e lower.base → ((b : ℕ) → IsGone e b → b ≡ lower.base) → IsReleasing c real calm row e o stage
 
 pub record IsHanging (c : Setting) (real calm : List ℕ) (fresh : Option Named) (stage : Stage) : Type 0 where
@@ -238,7 +229,7 @@ pub record IsHanging (c : Setting) (real calm : List ℕ) (fresh : Option Named)
   pub old : Option ℕ
   pub base : base_of_effect effect ≡ row.base
   pub kind : kind_of_effect effect ≡ row.kind
-  pub inside : IsInTree c calm row
+  pub inside : IsInTree c.shape calm row
   pub pending : IsPending c real calm effect old
   pub does : IsEffectOf c.call old effect
   pub fresh_row : fresh ≡ fresh_of effect
@@ -255,5 +246,5 @@ pub data AtWork (c : Setting) (real calm : List ℕ) (fresh : Option Named) (sta
 -- The call only releases rows that are unchanged, and then answers this.
 pub data AtEnd (c : Setting) (real calm : List ℕ) (reply : Reply) (stage : Stage) : Type 0 where
   Answering : (o : Outcome) → reply ≡ reply_for o → stage ≡ Over o → AtEnd c real calm reply stage
-  Leaving : (o : Outcome) → (h : Hold) → reply ≡ reply_for o → stage ≡ Unlock h (Some o) → Each (IsInTree c calm) (rows_of_hold h)
+  Leaving : (o : Outcome) → (h : Hold) → reply ≡ reply_for o → stage ≡ Unlock h (Some o) → Each (IsInTree c.shape calm) (rows_of_hold h)
       → Each (IsSame calm real) (rows_of_hold h) → AtEnd c real calm reply stage

@@ -30,10 +30,11 @@ use Rattle.art_schedules.specs.calm.Calm.{calm_of}
 use Rattle.art_schedules.specs.changes.Effects.{Effect, IsGone}
 use Rattle.art_schedules.specs.work.Works.{RowsOf}
 use Rattle.art_schedules.specs.effects.Begins.{BeginsWork}
-use Rattle.art_schedules.specs.effects.AtWork.{IsInTree, IsSame, fresh_of, AtWork, AtEnd, IsHanging}
+use Rattle.art_schedules.specs.effects.AtWork.{fresh_of, AtWork, AtEnd, IsHanging}
 use Rattle.art_schedules.specs.effects.Outcomes.{Makes, HoldsReached, IsOther, WorkStep, EndStep, FreshGoesOn, AreTwoRows}
 use Rattle.art_schedules.specs.effects.Marks.{IsMarked, WorkerStep, HangsOnAbove, EnderStep}
 use Rattle.art_schedules.specs.calm.Changes.{IsRunStep}
+use Rattle.art_schedules.specs.work.Ways.{IsInTree, IsSame}
 
 -- A call whose work begins is none that scans.
 abbrev pub WorkersDoNotScan : Type 0
@@ -42,7 +43,7 @@ WorkersDoNotScan = (c : Setting) (calm : List ℕ) (h : Hold) (work : Work) → 
 -- Where work begins in rows of calm's tree that are as calm has them, the call is at work.
 abbrev pub WorkBegins : Type 0
 WorkBegins = (c : Setting) (real calm : List ℕ) (h : Hold) (work : Work) → length calm ≡ table_words c.shape
-    → Knows (RowsOf c.shape) c (OnKey (work_at c h work)) → BeginsWork c calm h work → Each (IsInTree c calm) (rows_of_hold h)
+    → Knows (RowsOf c.shape) c (OnKey (work_at c h work)) → BeginsWork c calm h work → Each (IsInTree c.shape calm) (rows_of_hold h)
     → Each (IsSame calm real) (rows_of_hold h) → AtWork c real calm None (work_at c h work)
 
 -- The rows that a call at work holds are in calm's tree,

@@ -20,7 +20,7 @@ use Rattle.art_core.specs.Meaning.{Reached}
 use Rattle.art_serial.specs.trees.Trees.{IsClaimed}
 use Rattle.art_versions.specs.versions.Holding.{Named}
 use Rattle.art_versions.specs.versions.Effects.{IsAmong}
-use Rattle.art_versions.specs.versions.Versions.{IsOpen, held_by, IsAtStage}
+use Rattle.art_versions.specs.versions.Versions.{IsOpen, held_by, IsAtStage, EachHeld}
 use Rattle.art_versions.specs.versions.Writers.{IsHeldBy}
 use Rattle.art_schedules.specs.changes.Effects.{Effect, base_of_effect, pairs_after, HasEffect, ComesIn}
 use Rattle.art_schedules.specs.changes.Courses.{ComesInBy, TreeGoesOn}
@@ -71,8 +71,7 @@ pub data EndStep (variant : Variant) (shape : Shape) (s : State) (p : ℕ) (t : 
 
 -- each row that the process holds is one of calm's tree
 abbrev pub HoldsReached : Variant → Shape → State → ℕ → List ℕ → Type 0
-HoldsReached variant shape s p calm =
-    (call : Call) (q : Process) → IsOpen s p call q → (h : Held) → IsAmong h (held_by variant shape call q) → Reached shape calm h.base h.kind
+HoldsReached variant shape s p calm = EachHeld variant shape s p (λ h. Reached shape calm h.base h.kind)
 
 -- the effect of the step, if it has one, brings another row into the tree than this one
 abbrev pub IsOther : Option Effect → Option Named → Type 0

@@ -15,9 +15,9 @@ use Rattle.art_core.specs.Core.{State}
 use Rattle.art_versions.specs.versions.Holding.{Each, holds}
 use Rattle.art_versions.specs.versions.Versions.{IsAtStage}
 use Rattle.art_schedules.specs.changes.Follows.{KeepsTree}
-use Rattle.art_schedules.specs.coupled.Knows.{IsOwn}
 use Rattle.art_schedules.specs.coupled.Walks.{Alone, SameOn, IsOver}
 use Rattle.art_schedules.specs.coupled.Scanning.{KnowsTree}
+use Rattle.art_schedules.specs.coupled.Knows.{IsHeldLive}
 
 -- The stage without the waiting at a lock: the scan has not got the row yet.
 abbrev pub unwaited : ScanAt → ScanAt
@@ -41,13 +41,13 @@ pub record HasWalked (shape : Shape) (low high : ℕ) (calm words : List ℕ) (x
       (OnScan low high (unwaited x)) now
   pub long : length words ≡ length now
   pub same : SameOn (rows_of_scan shape low high x) now words
-  pub own : Each (IsOwn calm words) (rows_of_scan shape low high x)
+  pub own : Each (IsHeldLive calm words) (rows_of_scan shape low high x)
 
 -- From its first release on it only releases the rows that it holds, to which it has not written, and answers this.
 pub record HasPairsFound (shape : Shape) (low high : ℕ) (calm words : List ℕ) (r : Reply) (x : ScanAt) : Type 0 where
   pub walked : IsOver x.step
   pub is : r ≡ reply.Pairs x.walk.pairs
-  pub own : Each (IsOwn calm words) (rows_of_scan shape low high x)
+  pub own : Each (IsHeldLive calm words) (rows_of_scan shape low high x)
 
 -- Behind its step the scan is at the next stage; the calm tree is as it was, and the scan has come there by itself,
 pub record ScanGoes (shape : Shape) (low high : ℕ) (t : State) (p : ℕ) (calm after : List ℕ) : Type 0 where

@@ -20,7 +20,7 @@ use Rattle.art_versions.specs.versions.Locking.{rows_of_hold}
 use Rattle.art_versions.specs.versions.Steady.{SameWords}
 use Rattle.art_schedules.specs.calm.Calm.{is_busy}
 use Rattle.art_schedules.specs.effects.Begins.{BeginsWork}
-use Rattle.art_schedules.specs.optimistic.Knows.{IsOwn, KnowsWay}
+use Rattle.art_schedules.specs.optimistic.Knows.{KnowsWay, IsHeldReached}
 
 -- Calm has all words of each row that is not busy, and the info word of each row of its tree, busy or not.
 pub record Agrees (shape : Shape) (words calm : List ℕ) : Type 0 where
@@ -35,6 +35,7 @@ Gets c words stage w = (a : Access) (mark : Option Point) → turn_at c stage �
 -- It goes on its way, or starts again; or its work begins; or it has found what it will answer: the reply is legal at these pairs, and leaves them as they are.
 pub data Goes (c : Setting) (calm words : List ℕ) (m : Contents) (next : Stage) : Type 0 where
   GoesOn : KnowsWay c calm words None next → Goes c calm words m next
-  Works : (h : Hold) → (work : Work) → next ≡ work_at c h work → BeginsWork c calm h work → Each (IsOwn c.shape calm words) (rows_of_hold h)
+  Works : (h : Hold) → (work : Work) → next ≡ work_at c h work → BeginsWork c calm h work
+      → Each (IsHeldReached c.shape calm words) (rows_of_hold h)
       → Goes c calm words m next
   Finds : (reply : Reply) → Does m c.call reply m → KnowsWay c calm words (Some reply) next → Goes c calm words m next

@@ -26,7 +26,7 @@ use Rattle.art_serial.specs.trees.Trees.{SameRow}
 use Rattle.art_versions.specs.versions.Holding.{Each, rows_kept}
 use Rattle.art_versions.specs.versions.Locking.{rows_held, all_of}
 use Rattle.art_schedules.specs.effects.Begins.{BeginsWork}
-use Rattle.art_schedules.specs.work.Ways.{IsOnWay, slot_in, Hangs, KnowsFinding}
+use Rattle.art_schedules.specs.work.Ways.{IsOnWay, slot_in, KnowsFinding, IsSame, HangsOnWay}
 
 -- the version that was kept is still the row's: it is neither locked nor obsolete, and calm has its words
 abbrev pub Stands : List ℕ → Held → Type 0
@@ -34,7 +34,7 @@ Stands words n = slice_index words n.base ≡ n.kept
 
 -- the row below hangs on the key's byte of the row above, if that stands
 abbrev pub IsBelow : Setting → List ℕ → List ℕ → Down → Type 0
-IsBelow c calm words d = Stands words d.above → Hangs c calm d.above d.slot (ChildRow d.base d.kind)
+IsBelow c calm words d = Stands words d.above → HangsOnWay c calm d.above d.slot (ChildRow d.base d.kind)
 
 abbrev pub KnowsTarget : Setting → List ℕ → List ℕ → Target → Type 0
 KnowsTarget c calm words Root = Unit {0}
@@ -43,7 +43,7 @@ KnowsTarget c calm words (Taken t) = ⊥
 
 abbrev pub HangsBelow : Setting → List ℕ → List ℕ → Held → ℕ → Option Held → Type 0
 HangsBelow c calm words n slot None = Unit {0}
-HangsBelow c calm words n slot (Some above) = Stands words above → Hangs c calm above slot (ChildRow n.base n.kind)
+HangsBelow c calm words n slot (Some above) = Stands words above → HangsOnWay c calm above slot (ChildRow n.base n.kind)
 
 -- at a row: it is *led*, and so is the row above it
 abbrev pub IsLed : Setting → List ℕ → List ℕ → Held → Type 0
@@ -124,12 +124,12 @@ abbrev pub IsPast : List ℕ → Held → Type 0
 IsPast words n = n.kept ≤ slice_index words n.base
 
 -- a row that the call holds and has not written to: it is reached, and behind its version the words are the calm ones
-abbrev pub IsOwn : Shape → List ℕ → List ℕ → Held → Type 0
-IsOwn s calm words n = SameRow calm words n.base n.kind × Reached s calm n.base n.kind
+abbrev pub IsHeldReached : Shape → List ℕ → List ℕ → Held → Type 0
+IsHeldReached s calm words n = IsSame calm words n × Reached s calm n.base n.kind
 
 -- What a call that has not begun its work knows: of calm by its stage, where `found` is the reply that it has found, if any; of the versions that it has
 -- kept; and of the rows that it holds.
 pub record KnowsWay (c : Setting) (calm words : List ℕ) (found : Option Reply) (stage : Stage) : Type 0 where
   pub way : KnowsAt found (is_insert c.call) c calm words stage
   pub kept : Each (IsPast words) (rows_kept false (is_insert c.call) stage)
-  pub rows : Each (IsOwn c.shape calm words) (rows_held false (is_insert c.call) stage)
+  pub rows : Each (IsHeldReached c.shape calm words) (rows_held false (is_insert c.call) stage)

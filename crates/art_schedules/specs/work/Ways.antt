@@ -2,15 +2,16 @@
 use Rattle.std.specs.Prelude.{◌≡◌, ℕ, Bool, true, false, List, slice_index, Option, Some, None}
 use Rattle.art_rows.specs.declared.table.Child.{Child}
 use Rattle.art_rows.specs.Table.{info_at}
-use Rattle.art_rows.specs.Words.{child_of}
+use Rattle.art_rows.specs.Words.{child_of, is_obsolete}
+use Rattle.art_rows.specs.declared.table.Shape.{Shape}
 use Rattle.art_steps.specs.Rows.{Setting, key_of}
 use Rattle.art_stages.specs.declared.stage.Held.{Held}
 use Rattle.art_stages.specs.declared.stage.Keys.{Keys}
 use Rattle.art_stages.specs.declared.stage.Finding.{Finding}
 use Rattle.art_stages.specs.declared.stage.Finding.TheVariants.{Has, Lacks}
 use Rattle.art_stages.specs.Stages.{byte_in}
-use Rattle.art_core.specs.Meaning.{slot_of}
-use Rattle.art_serial.specs.trees.Trees.{LeadsTo}
+use Rattle.art_core.specs.Meaning.{slot_of, Reached}
+use Rattle.art_serial.specs.trees.Trees.{LeadsTo, SameRow}
 use Rattle.art_schedules.specs.work.Works.{LacksByte}
 
 -- The key's way leads to the row, whose info the call has read, so that level, path and byte are those of the calm table.
@@ -28,8 +29,8 @@ pub record HasChild (c : Setting) (calm : List ℕ) (n : Held) (slot : ℕ) (chi
   pub has : child_of c.shape (slice_index calm slot) ≡ child
 
 -- The key's way leads to the row, on whose byte of the key this child hangs, in this slot.
-abbrev pub Hangs : Setting → List ℕ → Held → ℕ → Child → Type 0
-Hangs c calm n slot child = IsOnWay c calm n × HasChild c calm n slot child
+abbrev pub HangsOnWay : Setting → List ℕ → Held → ℕ → Child → Type 0
+HangsOnWay c calm n slot child = IsOnWay c calm n × HasChild c calm n slot child
 
 -- What was read of a row that has not the byte: only an insert has to know it. The flag says that the call is an insert.
 abbrev pub KnowsKeys : Bool → Setting → List ℕ → Held → Keys → Type 0
@@ -40,3 +41,12 @@ KnowsKeys false c calm n keys = slot_in c calm n ≡ None
 abbrev pub KnowsFinding : Bool → Setting → List ℕ → Held → Finding → Type 0
 KnowsFinding i c calm n (Has slot child) = HasChild c calm n slot child
 KnowsFinding i c calm n (Lacks keys) = KnowsKeys i c calm n keys
+
+-- the row is one of calm's tree, and was not obsolete when it was taken
+pub record IsInTree (shape : Shape) (calm : List ℕ) (row : Held) : Type 0 where
+  pub reached : Reached shape calm row.base row.kind
+  pub live : is_obsolete row.kept ≡ false
+
+-- both lists have the same words of the row behind its version
+abbrev pub IsSame : List ℕ → List ℕ → Held → Type 0
+IsSame words later row = SameRow words later row.base row.kind

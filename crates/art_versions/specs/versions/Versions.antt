@@ -35,6 +35,14 @@ pub record IsAtStage (variant : Variant) (shape : Shape) (s : State) (p : ℕ) (
 abbrev pub held_by : Variant → Shape → Call → Process → List Held
 held_by variant shape call q = holds (setting shape variant call) (stage_of variant shape call q)
 
+-- this is so of each row that the call holds there,
+abbrev pub AllHeld : Variant → Shape → Call → Process → (Held → Type 0) → Type 0
+AllHeld variant shape call q P = (h : Held) → IsAmong h (held_by variant shape call q) → P h
+
+-- and of each row that the process holds
+abbrev pub EachHeld : Variant → Shape → State → ℕ → (Held → Type 0) → Type 0
+EachHeld variant shape s p P = (call : Call) (q : Process) → IsOpen s p call q → AllHeld variant shape call q P
+
 abbrev pub filled_by : Variant → Shape → Call → Process → List Named
 filled_by variant shape call q = fills (stage_of variant shape call q)
 
@@ -70,8 +78,7 @@ pub record IsSound (variant : Variant) (shape : Shape) (n : ℕ) (s : State) : T
   -- each open call knows settled rows alone, with versions that were not locked, and in the optimistic tree not obsolete
   pub knows : (p : ℕ) (call : Call) (q : Process) → IsOpen s p call q → Knows (IsSettled variant shape s) (setting shape variant call) (stage_of variant shape call q)
   -- a row that a process holds is locked from the version that was kept, and no two processes hold one row
-  pub locked : (p : ℕ) (call : Call) (q : Process) → IsOpen s p call q → (h : Held) → IsAmong h (held_by variant shape call q)
-      → slice_index s.words h.base ≡ h.kept + 2
+  pub locked : (p : ℕ) → EachHeld variant shape s p (λ h. slice_index s.words h.base ≡ h.kept + 2)
   -- A row that is locked is held by a process, without exception: a fresh row and one that is released for good are not locked, and the root is a row
   -- as any other.
   pub held : (base : ℕ) (kind : Kind) → kind_at shape base ≡ Some kind → is_locked (slice_index s.words base) ≡ true → IsHeld variant shape s base
