@@ -398,7 +398,8 @@ steps-rise plan (p ∷ schedule) first s h = go (step plan first p) refl (steps-
 
 -- Each state of a schedule is logged, the opening one first.
 
-logged-on : (plan : Plan) → IsPlan plan → (schedule : List ℕ) (first s : State) → IsLogged plan first → run_on plan (Some first) schedule ≡ Some s
+pub logged-on : (plan : Plan) → IsPlan plan → (schedule : List ℕ) (first s : State) → IsLogged plan first
+    → run_on plan (Some first) schedule ≡ Some s
     → HasFewSteps s → IsLogged plan s
 logged-on plan within [] first s h gives few = subst (IsLogged plan) (same_Some first s gives) h
 logged-on plan within (p ∷ schedule) first s h gives few = go (step plan first p) refl (λ next. logged-on plan within schedule next s) gives

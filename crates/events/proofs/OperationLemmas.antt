@@ -8,7 +8,7 @@ use Rattle.events.specs.Events.{is_invocation}
 use Rattle.events.specs.Histories.{call_count, AreHistoryEvents}
 use Rattle.events.specs.Operations.{operations_from, operations}
 
-length-operations_from : (i : ℕ) (events : List Event) → length (operations_from i events) ≡ call_count events
+pub length-operations_from : (i : ℕ) (events : List Event) → length (operations_from i events) ≡ call_count events
 length-operations_from i [] = refl
 length-operations_from i (Answer p reply ∷ events) = length-operations_from (suc i) events
 length-operations_from i (Invoke p call ∷ events) =

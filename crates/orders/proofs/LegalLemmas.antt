@@ -11,7 +11,7 @@ use Rattle.orders.specs.Orders.{after_call, after_calls, IsLegalCall, IsLegal}
 use Rattle.orders.specs.Leads.{DoesCall, Leads}
 
 -- a value or none is no refusal
-value_answers : (value : Option ℕ) → value_reply value ≢ replies.Refused
+pub value_answers : (value : Option ℕ) → value_reply value ≢ replies.Refused
 value_answers None e = cc
 value_answers (Some value) e = cc
 
@@ -31,14 +31,15 @@ after_reply-answer m call (replies.Pairs pairs) answered = refl
 after_reply-answer m call replies.Refused answered = absurd (answered refl)
 
 -- one call: legal, with the pairs after it, is to be done
-DoesCall-from_legal : (m : Contents) (call : Call) (response : Option Response) → IsLegalCall m call response
+pub DoesCall-from_legal : (m : Contents) (call : Call) (response : Option Response) → IsLegalCall m call response
     → DoesCall m call response (after_call m call response)
 DoesCall-from_legal m call None legal =
     let answered = reply_to_answers m call in
     (reply_to m call, answered, (inr refl, sym (after_reply-answer m call (reply_to m call) answered)))
 DoesCall-from_legal m call (Some response) legal = (legal, refl)
 
-legal_from_DoesCall : (m : Contents) (call : Call) (response : Option Response) (next : Contents) → DoesCall m call response next → IsLegalCall m call response
+pub legal_from_DoesCall : (m : Contents) (call : Call) (response : Option Response) (next : Contents) → DoesCall m call response next
+    → IsLegalCall m call response
     × (next ≡ after_call m call response)
 legal_from_DoesCall m call None next does = (tt, does.2.1 ∙ after_reply-answer m call does.0 does.1)
 legal_from_DoesCall m call (Some response) next does = does

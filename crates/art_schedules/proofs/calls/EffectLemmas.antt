@@ -10,7 +10,8 @@ use Rattle.events.specs.Operations.{operations}
 use Rattle.events.specs.Precedence.{is_completed}
 use Rattle.map_object.specs.MapObject.{Contents}
 use Rattle.orders.specs.Orders.{after_calls, calls_at, IsCompletedAt, IsOrder}
-use Rattle.points.specs.Points.{HasPoint, Leaves, AllKeep, OneLeads, TakeEffect, HasPoints}
+use Rattle.orders.specs.Leads.{DoesCall}
+use Rattle.points.specs.Points.{HasPoint, AllKeep, OneLeads, TakeEffect, HasPoints}
 use Rattle.points.specs.Windows.{AreWithinWindows}
 use Rattle.points.proofs.ChoiceLemmas.{chosen}
 use Rattle.points.proofs.PointLemmas.{calls_by_point}
@@ -32,7 +33,8 @@ module _ (plan : Plan) (start : Contents) (first : State) (schedule : List ℕ) 
   IsPointOf a c None = (a.response ≡ None) × ChangesNothing schedule e.changes c
   IsPointOf a c (Some t) =
       (t < length schedule) × IsWithin c t
-      × (((x : ChangesOnce schedule e.pairs e.changes a c) × (x.t ≡ t)) ⊎ (Leaves (e.pairs t) a (e.pairs t) × ChangesNothing schedule e.changes c))
+      × (((x : ChangesOnce schedule e.pairs e.changes a c) × (x.t ≡ t))
+      ⊎ (DoesCall (e.pairs t) a.call a.response (e.pairs t) × ChangesNothing schedule e.changes c))
 
   point_of : (a : Operation) (c : RunCall) → IsRunCall plan first schedule a c → HasOwnEffect schedule e.pairs e.changes a c
       → (o : Option ℕ) × IsPointOf a c o
@@ -46,7 +48,7 @@ module _ (plan : Plan) (start : Contents) (first : State) (schedule : List ℕ) 
       by_response (Some r) answered None ends le = absurd ends
       by_response (Some r) answered (Some u) ends le =
           let within = slice_get_within schedule u c.process ends.turn in
-          (Some x.t, (omega arith, x.within, inr (x.leaves, x.nothing)))
+          (Some x.t, (omega arith, x.within, inr (x.does, x.nothing)))
 
   module _ (points : ℕ → Option ℕ) (each : (n : ℕ) (a : Operation) → slice_get calls n ≡ Some a → IsPointOf a (h.call_of n) (points n)) where
     pointed : (n t : ℕ) (a : Operation) → HasPoint calls points n a t → IsPointOf a (h.call_of n) (Some t)
@@ -92,7 +94,7 @@ module _ (plan : Plan) (start : Contents) (first : State) (schedule : List ℕ) 
         leads n a here own (points n) refl (each n a here)
       where
         others : (n : ℕ) (a : Operation) → slice_get calls n ≡ Some a → IsStepOf schedule (h.call_of n) t → (m : ℕ) (b : Operation)
-            → HasPoint calls points m b t → m ≢ n → Leaves (e.pairs t) b (e.pairs t)
+            → HasPoint calls points m b t → m ≢ n → DoesCall (e.pairs t) b.call b.response (e.pairs t)
         others n a here own m b has differ = ⊎_elim
             (λ x.
             let its : IsStepOf schedule (h.call_of m) t = subst (IsStepOf schedule (h.call_of m)) x.1 x.0.own in
@@ -115,7 +117,7 @@ module _ (plan : Plan) (start : Contents) (first : State) (schedule : List ℕ) 
               number = n;
               call = a;
               has = record { call = here; point = point ∙ ap Some (sym same) };
-              leads = subst (λ i. Leaves (e.pairs i) a (e.pairs (i + 1))) back x.0.leaves;
+              leads = subst (λ i. DoesCall (e.pairs i) a.call a.response (e.pairs (i + 1))) back x.0.does;
               others = others n a here own;
             })
             (λ x. absurd (false≢true (sym (x.1 t own) ∙ change))) is.2

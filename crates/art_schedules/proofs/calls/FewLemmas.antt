@@ -22,13 +22,16 @@ use Rattle.events.specs.declared.operation.Response.{Response}
 use Rattle.events.specs.Events.{is_invocation}
 use Rattle.events.specs.Histories.{call_count}
 use Rattle.events.specs.Operations.{operations_from, operations}
+use Rattle.events.proofs.OperationLemmas.{length-operations_from}
 use Rattle.map_object.specs.MapObject.{Contents, put, below, above, is_just, value_at, after, after_reply}
 use Rattle.orders.specs.Orders.{after_call}
+use Rattle.orders.proofs.LegalLemmas.{legal_from_DoesCall}
 use Rattle.art_core.specs.Core.{Plan, State, history_of, opened_on, step}
 use Rattle.art_core.specs.Runs.{run_on, HasFewSteps, At}
 use Rattle.art_core.specs.Plans.{IsPlan, IsRun}
 use Rattle.art_core.proofs.HistoryLemmas.{IsLogged, calls-within, one-move, is-moved, one-step, nowhere, steps-rise, all_steps}
-use Rattle.art_core.proofs.HistoryLemmas.{opened-logged, start-length, start-clock}
+use Rattle.art_core.proofs.HistoryLemmas.{opened-logged, start-length, start-clock, logged-on}
+use Rattle.art_serial.proofs.maps.LengthLemmas.{after-few, after_reply-few}
 use Rattle.art_schedules.specs.calls.RunCalls.{IsIn, IsRunCall, HasCalls}
 use Rattle.art_schedules.specs.calls.Effects.{IsStepOf, ChangesOnce, Changes, Finds, Pends, HaveEffects, HasOwnEffect}
 use Rattle.art_schedules.specs.calls.FewPairs.{ChangesIn, GrowByCalls, PairsStayFew, EffectsKeepFewPairs}
@@ -36,59 +39,11 @@ use Rattle.art_schedules.proofs.calls.RunCallLemmas.{run-has-calls}
 
 -- ---- a call adds one pair at most
 
-parts-few : (key : ℕ) (m : Contents) → length (below key m) + length (above key m) ≤ length m
-parts-few key [] = omega arith
-parts-few key (pair ∷ m) = grind (arith, nat_tests, parts-few key m)
-
-put-few : (key value : ℕ) (m : Contents) → length (put key value m) ≤ length m + 1
-put-few key value m = omega (arith, length-append (below key m) ((key, value) ∷ above key m), parts-few key m)
-
-removed-few : (key : ℕ) (m : Contents) → length (below key m ++ above key m) ≤ length m + 1
-removed-few key m = omega (arith, length-append (below key m) (above key m), parts-few key m)
-
-after-few : (m : Contents) (call : Call) → length (after m call) ≤ length m + 1
-after-few m (Get key) = omega arith
-after-few m (Insert key value) = put-few key value m
-after-few m (Remove key) = removed-few key m
-after-few m (Scan low high) = omega arith
-after-few m (Replace key expected value) = either (is_just (value_at m key) expected)
-  where
-    either : (b : Bool) → length (if b then put key value m else m) ≤ length m + 1
-    either true = put-few key value m
-    either false = omega arith
-
-after-reply-few : (m : Contents) (call : Call) (reply : Reply) → length (after_reply m call reply) ≤ length m + 1
-after-reply-few m call replies.Refused = omega arith
-after-reply-few m call replies.None = after-few m call
-after-reply-few m call (replies.Some value) = after-few m call
-after-reply-few m call (replies.Pairs pairs) = after-few m call
-
 after-call-few : (m : Contents) (call : Call) (response : Option Response) → length (after_call m call response) ≤ length m + 1
 after-call-few m call None = after-few m call
-after-call-few m call (Some response) = after-reply-few m call response.reply
+after-call-few m call (Some response) = after_reply-few m call response.reply
 
 -- ---- a run has no more calls than its scripts
-
-logged-on : (plan : Plan) → IsPlan plan → (schedule : List ℕ) (first s : State) → IsLogged plan first → run_on plan (Some first) schedule ≡ Some s
-    → HasFewSteps s → IsLogged plan s
-logged-on plan within [] first s h gives few = subst (IsLogged plan) (same_Some first s gives) h
-logged-on plan within (p ∷ schedule) first s h gives few = go (step plan first p) refl (λ next. logged-on plan within schedule next s) gives
-  where
-    go : (o : Option State) → step plan first p ≡ o
-        → ((next : State) → IsLogged plan next → run_on plan (Some next) schedule ≡ Some s → HasFewSteps s → IsLogged plan s)
-        → run_on plan o schedule ≡ Some s → IsLogged plan s
-    go None e later k = absurd (nowhere plan schedule s k)
-    go (Some next) e later k =
-        let m = is-moved plan first p next e in
-        let bound = steps-rise plan schedule next s k in
-        let fewer : all_steps first + 1 < 2 ^ 61 = omega (arith, one-step plan first p next e) in
-        later next (subst (IsLogged plan) (sym m.is) (one-move plan within first p m.process h m.here fewer m.process.call m.move refl m.is_next)) k few
-
-length-operations : (i : ℕ) (events : List Event) → length (operations_from i events) ≡ call_count events
-length-operations i [] = refl
-length-operations i (Answer p reply ∷ events) = length-operations (suc i) events
-length-operations i (Invoke p call ∷ events) =
-    let more = sum_by-cons (λ x. cond (is_invocation x) 1 0) (Invoke p call) events in omega (arith, length-operations (suc i) events)
 
 few-operations : (plan : Plan) (start : Contents) (words schedule : List ℕ) (s : State) → IsRun plan start words schedule s
     → length (operations (history_of s)) ≤ sum (map (λ script. length script) plan.scripts)
@@ -97,7 +52,7 @@ few-operations plan start words schedule s run =
     let first = opened-logged plan words (start-length plan.shape plan.variant start words run.starts)
     (start-clock plan.shape plan.variant start words run.starts) in
     let is = logged-on plan run.within schedule (opened_on plan words) s first run.gives run.few_steps in
-    omega (arith, length-operations 0 (history_of s), is.calls, calls-within s.processes plan.scripts is.scripts)
+    omega (arith, length-operations_from 0 (history_of s), is.calls, calls-within s.processes plan.scripts is.scripts)
 
 -- ---- so the pairs are few
 
@@ -229,7 +184,8 @@ module _ (plan : Plan) (start : Contents) (first : State) (schedule : List ℕ) 
         let x = changes-once p number c t own in
         let same : t ≡ x.t = x.only t (its-step e.changes p number c t own) change in
         let next : e.pairs (t + 1) ≡ after_call (e.pairs t) c.operation.call c.operation.response =
-        subst (λ i. e.pairs (i + 1) ≡ after_call (e.pairs i) c.operation.call c.operation.response) (sym same) x.leaves.1 in
+        subst (λ i. e.pairs (i + 1) ≡ after_call (e.pairs i) c.operation.call c.operation.response) (sym same)
+        (legal_from_DoesCall (e.pairs x.t) c.operation.call c.operation.response (e.pairs (x.t + 1)) x.does).1 in
         omega (arith, ap (λ m. length m) next, after-call-few (e.pairs t) c.operation.call c.operation.response)
 
     effects-grow : GrowByCalls plan start first schedule e.pairs e.changes

@@ -6,6 +6,7 @@ use Rattle.std.proofs.lemmas.Option.{same_Some, none-some}
 use Rattle.events.specs.declared.event.Call.{Call}
 use Rattle.events.specs.declared.event.Reply.{Reply}
 use Rattle.map_object.specs.MapObject.{Contents}
+use Rattle.orders.proofs.LegalLemmas.{value_answers}
 use Rattle.art_rows.specs.declared.table.Shape.{Shape}
 use Rattle.art_rows.specs.declared.table.Kind.{Kind}
 use Rattle.art_rows.specs.declared.table.Kind.TheVariants.{Four}
@@ -57,7 +58,7 @@ use Rattle.art_schedules.proofs.effects.KeptLemmas.{inside-kept, unreached-kept,
 use Rattle.art_schedules.proofs.effects.ReleaseLemmas.{kept-by-words, its-row, own, elsewhere, outside-same, kept-unchanged, takes-effect, is-obsolete}
 use Rattle.art_schedules.proofs.effects.ReleaseLemmas.{obsolete-same}
 use Rattle.art_schedules.proofs.effects.ReleaseLemmas.{kept-obsolete}
-use Rattle.art_schedules.proofs.effects.ReplyLemmas.{does-so, value-not-refused}
+use Rattle.art_schedules.proofs.effects.ReplyLemmas.{does-so}
 use Rattle.art_schedules.specs.work.Ways.{IsInTree, IsSame}
 
 module _ (read : ChildrenAreRead) (trees : KeptTreesFollow) (effects : EffectsFollow) (says : WaysSayValues) (plan : Plan) (p : ℕ) (s t : State)
@@ -307,7 +308,7 @@ module _ (read : ChildrenAreRead) (trees : KeptTreesFollow) (effects : EffectsFo
               TakesEffect (Over (Value g.old)) g.effect (reply_for (Value g.old))
                   (released-at g.row among g.inside.live (released_word g.row.kept) (Some point.Unlock) turn (Over (Value g.old))
                   (ap (λ z. stage_after c z 0) is))
-                  (Answering (Value g.old) refl refl) made g.fresh_row so.0 so.1 (value-not-refused g.old)
+                  (Answering (Value g.old) refl refl) made g.fresh_row so.0 so.1 (value_answers g.old)
                   (fresh-live g.effect g.old g.pending (λ b l ready.
                   ap is_obsolete (elsewhere read trees effects plan p s t calm after x k rest m means call q o stage at g.row among g.inside.live
                   (released_word g.row.kept) (Some point.Unlock) turn b

@@ -35,11 +35,6 @@ parted-said calm key d a (Leaf k value) parts =
     inr (λ e. same-differ (key_bytes key) d (ap (λ z. first_difference (key_bytes z) (key_bytes key)) (sym e) ∙ parts.0), refl)
 parted-said calm key d a (Row b kind) parts = (d, parts.0, refl)
 
--- what the map has at a key is no refusal
-pub value-not-refused : (old : Option ℕ) → value_reply old ≢ replies.Refused
-value-not-refused None e = cc
-value-not-refused (Some value) e = cc
-
 module _ (says : WaysSayValues) (c : Setting) (n : ℕ) (real calm : List ℕ) (m : Contents) (rest : IsAtRest c.shape n calm) (means : Means c.shape calm m) where
   -- what the map has at the key of an effect
   value-before : (e : Effect) (old : Option ℕ) → IsPending c real calm e old → value_at m (key_of_effect e) ≡ old

@@ -11,7 +11,7 @@ use Rattle.events.specs.declared.operation.Response.{Response}
 use Rattle.events.specs.Limits.{pair_limit}
 use Rattle.map_object.specs.MapObject.{Contents, Does}
 use Rattle.orders.proofs.LegalLemmas.{after_reply-answer}
-use Rattle.points.specs.Points.{Leaves}
+use Rattle.orders.specs.Leads.{DoesCall}
 use Rattle.art_core.specs.Core.{Plan, State, opened_on}
 use Rattle.art_core.specs.Runs.{Gives, At}
 use Rattle.art_schedules.specs.calls.RunCalls.{EndsWith, IsWithin, RunCall, IsRunCall}
@@ -44,13 +44,13 @@ module _ (plan : Plan) (start : Contents) (first s : State) (schedule : List ℕ
     nothing kept u own = ⊎_elim (λ less. kept u less (own-step u own)) (λ none. none) (last u own)
 
     changed : (reply : Reply) → HasChanged plan first schedule tale t c.process c.calls a.call reply
-        → ((m next : Contents) → Does m a.call reply next → Leaves m a next)
+        → ((m next : Contents) → Does m a.call reply next → DoesCall m a.call a.response next)
         → HasOwnEffect schedule tale.pairs tale.changes a c
     changed reply h leaves = Changes (record {
       t = h.step;
       own = (h.own.0, is-within h.step h.own.1);
       change = h.change;
-      leaves = leaves (tale.pairs h.step) (tale.pairs (h.step + 1)) h.does;
+      does = leaves (tale.pairs h.step) (tale.pairs (h.step + 1)) h.does;
       only = λ u own change. ⊎_elim (λ less. h.only u less (own-step u own) change) (λ none. absurd (false≢true (sym none ∙ change))) (last u own);
     })
 
@@ -62,11 +62,12 @@ module _ (plan : Plan) (start : Contents) (first s : State) (schedule : List ℕ
     answered response e (Found reply) h same = Finds (record {
       t = h.moment;
       within = is-within h.moment h.within;
-      leaves = leaves (tale.pairs h.moment) (tale.pairs h.moment) (subst (λ r. Does (tale.pairs h.moment) a.call r (tale.pairs h.moment)) same h.finds);
+      does = leaves (tale.pairs h.moment) (tale.pairs h.moment)
+          (subst (λ r. Does (tale.pairs h.moment) a.call r (tale.pairs h.moment)) same h.finds);
       nothing = nothing h.kept;
     })
       where
-        leaves : (m next : Contents) → Does m a.call response.reply next → Leaves m a next
+        leaves : (m next : Contents) → Does m a.call response.reply next → DoesCall m a.call a.response next
         leaves m next does = rw e does
     answered response e (Changed reply) h same =
         changed reply h (λ m next does. rw e (subst (λ r. Does m a.call r next) same does))
@@ -76,7 +77,7 @@ module _ (plan : Plan) (start : Contents) (first s : State) (schedule : List ℕ
         → HasOwnEffect schedule tale.pairs tale.changes a c
     pending e Before h = Pends e (nothing h)
     pending e (Found reply) h = Pends e (nothing h.kept)
-    pending e (Changed reply) h = changed reply h (λ m next does. rw e ((tt, does.1 ∙ after_reply-answer m a.call reply h.accepted)))
+    pending e (Changed reply) h = changed reply h (λ m next does. rw e (reply, h.accepted, does))
 
   call-effect : HasOwnEffect schedule tale.pairs tale.changes a c
   call-effect = go a.response refl c.ends refl is.ends

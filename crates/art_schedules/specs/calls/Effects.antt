@@ -3,7 +3,7 @@ use Rattle.std.specs.Prelude.{◌≡◌, ℕ, ◌+◌, ◌<◌, Bool, true, fals
 use Rattle.events.specs.declared.event.Call.{Call}
 use Rattle.events.specs.declared.operation.Operation.{Operation}
 use Rattle.map_object.specs.MapObject.{Contents}
-use Rattle.points.specs.Points.{Leaves}
+use Rattle.orders.specs.Leads.{DoesCall}
 use Rattle.art_core.specs.Core.{Plan, State}
 use Rattle.art_core.specs.Runs.{At}
 use Rattle.art_schedules.specs.calls.RunCalls.{IsIn, IsWithin, IsRunCall, RunCall}
@@ -21,14 +21,14 @@ pub record ChangesOnce (schedule : List ℕ) (pairs : ℕ → Contents) (changes
   pub t : ℕ
   pub own : IsStepOf schedule c t
   pub change : changes t ≡ true
-  pub leaves : Leaves (pairs t) a (pairs (t + 1))
+  pub does : DoesCall (pairs t) a.call a.response (pairs (t + 1))
   pub only : (u : ℕ) → IsStepOf schedule c u → changes u ≡ true → u ≡ t
 
 -- No step of the call changes the pairs, and at some moment within it the call is legal and leaves the pairs as they are.
 pub record FindsPairs (schedule : List ℕ) (pairs : ℕ → Contents) (changes : ℕ → Bool) (a : Operation) (c : RunCall) : Type 0 where
   pub t : ℕ
   pub within : IsWithin c t
-  pub leaves : Leaves (pairs t) a (pairs t)
+  pub does : DoesCall (pairs t) a.call a.response (pairs t)
   pub nothing : ChangesNothing schedule changes c
 
 -- what a call does: it changes the pairs once, or finds them once, or has done neither yet

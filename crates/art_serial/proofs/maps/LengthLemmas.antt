@@ -25,7 +25,7 @@ sides-few key (pair ∷ m) = go (nat_lt pair.0 key) (nat_lt key pair.0) not-both
 put-few : (key value : ℕ) (m : Contents) → length (put key value m) ≤ length m + 1
 put-few key value m = omega (arith, length-append (below key m) ((key, value) ∷ above key m), sides-few key m)
 
-after-few : (m : Contents) (call : Call) → length (after m call) ≤ length m + 1
+pub after-few : (m : Contents) (call : Call) → length (after m call) ≤ length m + 1
 after-few m (Get key) = omega arith
 after-few m (Insert key value) = put-few key value m
 after-few m (Remove key) = omega (arith, length-append (below key m) (above key m), sides-few key m)
