@@ -214,7 +214,7 @@ make_room-within c n i count h le lt = each-within c.shape (λ j. j < i + (count
     (λ j l. copy_child-within c _ _ (in-child h j (omega (arith, l, le, lt))) (in-child h (j + 1) (omega (arith, l, le, lt)))) (numbers_down i (count - i))
     (numbers_down-each i (count - i))
 
-not_full : (a b : ℕ) → (a == b) ≡ false → a ≤ b → a < b
+pub not_full : (a b : ℕ) → (a == b) ≡ false → a ≤ b → a < b
 not_full a b e l = grind arith
 
 put_in-within : (c : Setting) (base : ℕ) (kind : Kind) (level : ℕ) (path : List ℕ) (kept x : ℕ) (keys : List ℕ) (count : ℕ) → x < 256 → IsIn c.shape base kind

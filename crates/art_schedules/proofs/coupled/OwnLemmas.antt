@@ -20,6 +20,7 @@ use Rattle.art_steps.specs.declared.variant.Variant.TheVariants.{Coupled}
 use Rattle.art_steps.specs.TreeCalls.{is_tree_call}
 use Rattle.art_steps.specs.Rows.{Setting, key_of, is_insert, is_scan, path_differs_at}
 use Rattle.art_steps.specs.Updates.{new_leaf, overwriting, keys_differ_at}
+use Rattle.art_steps.proofs.AccessLemmas.{not_full}
 use Rattle.art_stages.specs.declared.stage.Held.{Held}
 use Rattle.art_stages.specs.declared.stage.Keys.{Keys}
 use Rattle.art_stages.specs.declared.stage.Finding.{Finding}
@@ -49,7 +50,7 @@ use Rattle.art_versions.specs.versions.Holding.{Each, Fits, IsUnder, HasRoom, Fi
 use Rattle.art_versions.specs.versions.Locking.{all_of, rows_held, held_at_place, rows_of_target}
 use Rattle.art_versions.specs.versions.Effects.{IsBehindVersion}
 use Rattle.art_versions.proofs.versions.KeyLemmas.{slot-behind}
-use Rattle.art_versions.proofs.versions.WordFacts.{not-full, full-not-less, count-most}
+use Rattle.art_versions.proofs.versions.WordFacts.{full-not-less, count-most}
 use Rattle.art_schedules.specs.work.Works.{LacksByte}
 use Rattle.art_schedules.specs.coupled.Knows.{IsBelow, HangsBelow, KnowsTarget, KnowsPlace, KnowsInfo, KnowsStage, KnowsAt}
 use Rattle.art_schedules.specs.coupled.Knows.{KnowsReply}
@@ -251,7 +252,7 @@ module _ (shape : Shape) (call : Call) (tree : is_tree_call call ≡ true) (key-
         go : (b : Bool) → (count_in p.row.kind keys == capacity p.row.kind) ≡ b
             → To (if b then ClaimGrow (record { row = p.row; above = p.above }) p.slot keys else let_go_at c p.row p.above p.slot (Lacks keys))
         go true full = grows p.row p.above p.slot keys on own up under at (eqb-true _ _ full)
-        go false room = lets-go p.row p.above p.slot (Lacks keys) up on own at (not-full _ _ room (count-most p.row.kind keys))
+        go false room = lets-go p.row p.above p.slot (Lacks keys) up on own at (not_full _ _ room (count-most p.row.kind keys))
 
   -- ---- FIND
 

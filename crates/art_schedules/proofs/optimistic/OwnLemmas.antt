@@ -22,6 +22,7 @@ use Rattle.art_steps.specs.declared.variant.Variant.TheVariants.{Optimistic}
 use Rattle.art_steps.specs.TreeCalls.{is_tree_call}
 use Rattle.art_steps.specs.Rows.{Setting, key_of, is_insert, is_scan, path_differs_at}
 use Rattle.art_steps.specs.Updates.{new_leaf, overwriting, keys_differ_at}
+use Rattle.art_steps.proofs.AccessLemmas.{not_full}
 use Rattle.art_stages.specs.declared.stage.Held.{Held}
 use Rattle.art_stages.specs.declared.stage.Keys.{Keys}
 use Rattle.art_stages.specs.declared.stage.Finding.{Finding}
@@ -53,7 +54,7 @@ use Rattle.art_versions.specs.versions.Holding.{Each, Fits, IsKept, IsUnder, Fit
 use Rattle.art_versions.specs.versions.Locking.{all_of, rows_held}
 use Rattle.art_versions.specs.versions.Effects.{IsBehindVersion}
 use Rattle.art_versions.proofs.versions.KeyLemmas.{slot-behind}
-use Rattle.art_versions.proofs.versions.WordFacts.{not-full, count-most}
+use Rattle.art_versions.proofs.versions.WordFacts.{count-most}
 use Rattle.art_schedules.specs.calm.Calm.{is_busy}
 use Rattle.art_schedules.proofs.changes.SayingLemmas.{ways-are-paths}
 use Rattle.art_schedules.specs.work.Works.{RowsOf, LacksByte}
@@ -235,7 +236,7 @@ module _ (shape : Shape) (call : Call) (tree : is_tree_call call ≡ true) (key-
         go true full = grows p.row p.above p.slot keys on past up under at (eqb-true _ _ full)
         go false room = takes p.row (work.Put keys) past.0 (record {
           call = tree;
-          words = (insert-of call tree e, at, not-full _ _ room (count-most p.row.kind keys));
+          words = (insert-of call tree e, at, not_full _ _ room (count-most p.row.kind keys));
           byte = byte_in c p.row;
           leads = on.leads;
           finds = (refl, on.info);

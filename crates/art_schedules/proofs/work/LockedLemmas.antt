@@ -24,7 +24,7 @@ use Rattle.art_stages.specs.Stages.{setting, held, row_at, byte_in}
 use Rattle.art_stages.specs.Scans.{Walk, at}
 use Rattle.art_stages.specs.Calls.{CallAt, OnKey, OnScan}
 use Rattle.art_versions.specs.versions.Locking.{lock_of, locks_of, held_at_place, held_below, scan_locked}
-use Rattle.art_versions.specs.versions.Holding.{Each, IsKept, Knows, KnowsKey, KnowsScan}
+use Rattle.art_versions.specs.versions.Holding.{Each, IsKept, Knows, KnowsKey, KnowsScanRows}
 use Rattle.art_versions.specs.versions.Effects.{IsAmong, IsBehindVersion}
 use Rattle.art_versions.proofs.versions.KeyLemmas.{slot-behind}
 use Rattle.art_versions.proofs.versions.KnownLemmas.{among-each}
@@ -121,7 +121,7 @@ module _ (shape : Shape) (call : Call) (some : 1 ≤ shape.rows256) where
           behind = subst (λ k. IsBehindVersion walked.0.base k word) (sym kind) (subst (λ b. IsBehindVersion b n.kind word) (sym walked.2) behind);
         }
 
-    keys-own : (base : ℕ) (kind : Kind) (info was : ℕ) → KnowsScan (RowsOf shape) true (at (scan.Keys (held base kind info was)) w)
+    keys-own : (base : ℕ) (kind : Kind) (info was : ℕ) → KnowsScanRows (RowsOf shape) true (at (scan.Keys (held base kind info was)) w)
         → IsWalked (held base kind info was) w.rows → TouchesOwn c (OnScan low high (at (scan.Keys (held base kind info was)) w))
     keys-own base Four info was k r = LoadsHeld (keys_at base) None refl
         (walked-word (scan.Keys (held base Four info was)) (held base Four info was) (keys_at base) refl r k.kept k.known.0 (omega arith, omega arith))
@@ -134,7 +134,7 @@ module _ (shape : Shape) (call : Call) (some : 1 ≤ shape.rows256) where
     keys-own base Full info was k r = LoadsHeld (keys_at base) None refl
         (walked-word (scan.Keys (held base Full info was)) (held base Full info was) (keys_at base) refl r k.kept k.known.0 (omega arith, omega arith))
 
-    scan-own : (step : ScanStep) → KnowsScan (RowsOf shape) true (at step w) → ReadsHeld (OnScan low high (at step w))
+    scan-own : (step : ScanStep) → KnowsScanRows (RowsOf shape) true (at step w) → ReadsHeld (OnScan low high (at step w))
         → is_lock (OnScan low high (at step w)) ≡ false → TouchesOwn c (OnScan low high (at step w))
     scan-own (scan.Lock entry first) k r e = absurd (false≢true (sym e))
     scan-own (scan.Exchange entry v) k r e = absurd (false≢true (sym e))

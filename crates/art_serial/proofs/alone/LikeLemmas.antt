@@ -14,7 +14,8 @@ use Rattle.art_core.specs.Meaning.{Reached, child_in, slot_of}
 use Rattle.art_core.specs.Forms.{HasForm}
 use Rattle.art_serial.specs.trees.Trees.{IsAtRest, SameRow, ChangesAt}
 use Rattle.art_serial.proofs.alone.PlaceLemmas.{Sits, sits-part, sits-inside, sits-kind_at}
-use Rattle.art_serial.proofs.alone.SlotLemmas.{IsSlot, slot-is, slot-once, slot-same, form-same, SameKeys}
+use Rattle.art_serial.proofs.alone.SlotLemmas.{IsSlot, slot-is, slot-same, form-same, SameKeys}
+use Rattle.art_serial.proofs.trees.RowSlots.{one_slot}
 
 -- the word is the version of a row that is reached: of a live one, which is unlocked unless it is held
 pub record IsVersion (s : Shape) (words now : List ℕ) (held : ℕ → Type 0) (w : ℕ) : Type 0 where
@@ -206,5 +207,5 @@ module _ (s : Shape) (n : ℕ) (words : List ℕ) (rest : IsAtRest s n words) wh
             let its = slot-is words base kind y t other e in
             ap (λ w. child_of s w) (ap (λ i. slice_index later i) its.is ∙ (untouched reached its.place
             (omega (arith, its.low, first-two kind)) its.high
-            (λ is. ne (slot-once words base kind y x slot form other byte (e ∙ ap Some (its.is ∙ is)) at))
+            (λ is. ne (one_slot words base kind y x slot form other byte (e ∙ ap Some (its.is ∙ is)) at))
             ∙ ap (λ i. slice_index words i) (sym its.is)))

@@ -70,25 +70,6 @@ slot-is words base Full x slot byte h =
     let same = same_Some (child_at Full base x) slot h in
     record { place = 2 + x; is = omega (arith, same); low = omega arith; high = omega (arith, byte) }
 
--- two bytes have two slots
-pub slot-once : (words : List ℕ) (base : ℕ) (kind : Kind) (x y slot : ℕ) → HasForm words base kind → x < 256 → y < 256
-    → slot_of words base kind x ≡ Some slot → slot_of words base kind y ≡ Some slot → x ≡ y
-slot-once words base Four x y slot form bx by h k =
-    let keys = keys4_of (slice_index words (keys_at base)) in
-    let (i, at, is) = placed base Four (place_of x keys) slot h in
-    let (j, at2, is2) = placed base Four (place_of y keys) slot k in
-    let same : i ≡ j = omega (arith, is, is2) in
-    sym (place-within x keys i at).1 ∙ (ap (λ n. slice_index keys n) same ∙ (place-within y keys j at2).1)
-slot-once words base Sixteen x y slot form bx by h k =
-    let keys = keys16_of (slice_index words (count_at Sixteen base)) (slice_index words (keys_at base)) (slice_index words (more_keys_at base)) in
-    let (i, at, is) = placed base Sixteen (place_of x keys) slot h in
-    let (j, at2, is2) = placed base Sixteen (place_of y keys) slot k in
-    let same : i ≡ j = omega (arith, is, is2) in
-    sym (place-within x keys i at).1 ∙ (ap (λ n. slice_index keys n) same ∙ (place-within y keys j at2).1)
-slot-once words base FortyEight x y slot form bx by h k = form.1 x y slot bx by h k
-slot-once words base Full x y slot form bx by h k =
-    omega (arith, same_Some (child_at Full base x) slot h, same_Some (child_at Full base y) slot k)
-
 -- ---- what the slots depend on
 
 -- the words of the row between its version and its children are the same

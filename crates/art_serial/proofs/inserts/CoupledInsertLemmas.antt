@@ -39,15 +39,12 @@ use Rattle.art_serial.proofs.inserts.OutcomeLemmas.{Outcome}
 use Rattle.art_serial.proofs.inserts.PutOutcomeLemmas.{put-outcome}
 use Rattle.art_serial.proofs.inserts.GrowOutcomeLemmas.{Grows, grows}
 use Rattle.art_serial.proofs.inserts.PairOutcomeLemmas.{Hangs, hangs-pair}
-use Rattle.art_serial.proofs.inserts.SmallLemmas.{path_byte-small}
+use Rattle.art_serial.proofs.inserts.SmallLemmas.{path_byte-small, le-differs_lt}
 use Rattle.art_serial.proofs.inserts.ShortLemmas.{Short, short-comes, short-more, give-short, bind-short, then-short, load-short, unlock-short}
 use Rattle.art_serial.proofs.inserts.ShortLemmas.{unlock_all-short}
 use Rattle.art_serial.proofs.inserts.ShortLemmas.{find-short, pair_in-short, put-short, grow-short, lock-few}
 use Rattle.art_serial.proofs.inserts.InsertEndLemmas.{Given, Inserts, ended, within, after-part, same-part, ends-in, first-differs}
 use Rattle.art_serial.proofs.inserts.LevelLemmas.{count-most}
-
-less : (a b : ℕ) → a ≤ b → a ≢ b → a < b
-less a b h e = grind (arith, h, e)
 
 module _ (g : Given) (s : Shape) (variant : Variant) (n : ℕ) (words : List ℕ) (rest : IsAtRest s n words) (few : n < 4611686018427387904)
     (bounded : table_words s < 2305843009213693952) (m : Contents)
@@ -349,7 +346,8 @@ module _ (g : Given) (s : Shape) (variant : Variant) (n : ℕ) (words : List ℕ
           else (unlock_all p.above >> (put c p.row (keys-of p.row) (count-of p.row) >> (unlock p.row >> give reply.None)))) now
       go true e = full p.above above near (eqb-true (count-of p.row) (capacity p.row.kind) e)
       go false e = within g s variant n words rest few bounded m means key value key_small value_small 600 (put-row p.above p.row p.slot above a now near none
-          (less (count-of p.row) (capacity p.row.kind) (count-most (Insert key value) words p.row.base p.row.kind (byte_at c p.row.level))
+          (le-differs_lt (count-of p.row) (capacity p.row.kind)
+          (count-most (Insert key value) words p.row.base p.row.kind (byte_at c p.row.level))
           (eqb-false (count-of p.row) (capacity p.row.kind) e))) (omega arith)
 
   step : (fuel : ℕ) → DoesFrom fuel → DoesFrom (suc fuel)

@@ -10,8 +10,9 @@ use Rattle.art_core.specs.Meaning.{Reached, child_in, slot_of}
 use Rattle.art_core.specs.Forms.{HasForm}
 use Rattle.art_serial.specs.trees.Trees.{IsAtRest, ChangesAt}
 use Rattle.art_serial.proofs.alone.PlaceLemmas.{sits-part}
-use Rattle.art_serial.proofs.alone.SlotLemmas.{IsSlot, slot-is, slot-once, slot-same, form-same, SameKeys}
+use Rattle.art_serial.proofs.alone.SlotLemmas.{IsSlot, slot-is, slot-same, form-same, SameKeys}
 use Rattle.art_serial.proofs.alone.LikeLemmas.{sits}
+use Rattle.art_serial.proofs.trees.RowSlots.{one_slot}
 
 module _ (s : Shape) (n : ℕ) (words : List ℕ) (rest : IsAtRest s n words) (later : List ℕ) (base slot value x : ℕ) (kind : Kind)
     (reached : Reached s words base kind) (byte : x < 256) (at : slot_of words base kind x ≡ Some slot)
@@ -48,5 +49,5 @@ module _ (s : Shape) (n : ℕ) (words : List ℕ) (rest : IsAtRest s n words) (l
           let its = slot-is words base kind y t other e in
           ap (λ w. child_of s w) (ap (λ i. slice_index later i) its.is ∙ (untouched base kind reached its.place
           (omega (arith, its.low, first-two kind)) its.high
-          (λ is. ne (slot-once words base kind y x slot form other byte (e ∙ ap Some (its.is ∙ is)) at))
+          (λ is. ne (one_slot words base kind y x slot form other byte (e ∙ ap Some (its.is ∙ is)) at))
           ∙ ap (λ i. slice_index words i) (sym its.is)))

@@ -41,16 +41,13 @@ use Rattle.art_serial.proofs.inserts.NearLemmas.{Near, near-like, near-version, 
 use Rattle.art_serial.proofs.inserts.OutcomeLemmas.{Outcome}
 use Rattle.art_serial.proofs.inserts.PutOutcomeLemmas.{put-outcome}
 use Rattle.art_serial.proofs.inserts.GrowOutcomeLemmas.{Grows, grows}
-use Rattle.art_serial.proofs.inserts.SmallLemmas.{path_byte-small}
+use Rattle.art_serial.proofs.inserts.SmallLemmas.{path_byte-small, le-differs_lt}
 use Rattle.art_serial.proofs.inserts.ShortLemmas.{Short, short-comes, give-short, then-short, unlock-short, check_of-short, find-short, put-short, grow-short}
 use Rattle.art_serial.proofs.inserts.ShortLemmas.{bind-few, as-few, wait-few, take_row-few}
 use Rattle.art_serial.proofs.inserts.InsertEndLemmas.{Given, Inserts, ended, within, after-part, same-part, pair-in, ends-in, first-differs}
 use Rattle.art_serial.proofs.inserts.LevelLemmas.{differ-behind, count-most}
 use Rattle.art_serial.proofs.trees.Bytes.{one_more}
 use Rattle.art_serial.proofs.words.ByteLemmas.{not_less_equal}
-
-less : (a b : ℕ) → a ≤ b → a ≢ b → a < b
-less a b h e = grind (arith, h, e)
 
 module _ (g : Given) (s : Shape) (variant : Variant) (n : ℕ) (words : List ℕ) (rest : IsAtRest s n words) (few : n < 4611686018427387904)
     (bounded : table_words s < 2305843009213693952) (m : Contents)
@@ -374,7 +371,8 @@ module _ (g : Given) (s : Shape) (variant : Variant) (n : ℕ) (words : List ℕ
           else (take_row c [] p.row >>= λ held. put c held (keys-of p.row) (count-of p.row) >> (unlock held >> give reply.None))) words
       go true e = full p.above above (eqb-true (count-of p.row) (capacity p.row.kind) e)
       go false e = within g s variant n words rest few bounded m means key value key_small value_small 606 (put-row p.row a none
-          (less (count-of p.row) (capacity p.row.kind) (count-most (Insert key value) words p.row.base p.row.kind (byte_at c p.row.level))
+          (le-differs_lt (count-of p.row) (capacity p.row.kind)
+          (count-most (Insert key value) words p.row.base p.row.kind (byte_at c p.row.level))
           (eqb-false (count-of p.row) (capacity p.row.kind) e))) (omega arith)
 
   step : (fuel : ℕ) → DoesFrom fuel → DoesFrom (suc fuel)

@@ -1,6 +1,6 @@
 -- Bytes of keys and paths, and how far keys part.
 use Rattle.std.proofs.Common.{◌≡◌, ℕ, zero, suc, ◌+◌, ◌<◌, ◌≤◌, ◌==◌, List, [], ◌∷◌, length, take, slice_index, Bool, true, false}
-use Rattle.std.proofs.Common.{Option, Some, None, refl, arith, option_map, if◌then◌else◌}
+use Rattle.std.proofs.Common.{Option, Some, None, refl, arith, option_map, if◌then◌else◌, ◌≢◌}
 use Rattle.std.proofs.lemmas.Option.{none-some, same_Some}
 use Rattle.art_rows.specs.declared.table.Kind.{Kind}
 use Rattle.art_rows.specs.declared.table.Child.{Child}
@@ -38,3 +38,6 @@ taken-long (suc zero) key le = refl
 taken-long (suc (suc zero)) key le = refl
 taken-long (suc (suc (suc zero))) key le = refl
 taken-long (suc (suc (suc (suc d)))) key le = absurd (omega (arith, le))
+
+pub le-differs_lt : (a b : ℕ) → a ≤ b → a ≢ b → a < b
+le-differs_lt a b h e = grind (arith, h, e)

@@ -22,7 +22,7 @@ use Rattle.art_stages.specs.declared.stage.Stage.TheVariants.{FindCount, Slot, O
 use Rattle.art_stages.specs.Stages.{row_at, held, count_in, keys_in, keys_among, byte_in, place_in, leaf_place, setting}
 use Rattle.art_stages.specs.Automaton.{start_at, moves_at, put_at, work_at, checked_at, among_at, words_at, find_at, release_at, keys_one}
 use Rattle.art_versions.specs.versions.Holding.{OfRows, Each, IsSlot, child_rows, row_filled, IsUnder, IsFound, HasPlace, FitsWork, IsKept, IsNamed, KnowsKey}
-use Rattle.art_versions.specs.versions.Holding.{rows_of_work, rows_found, FitsPlace, HasSlot, KnowsStage, kept_at_place}
+use Rattle.art_versions.specs.versions.Holding.{rows_of_work, rows_found, FitsPlace, HasSlot, kept_at_place, KnowsRows}
 use Rattle.art_versions.proofs.versions.WordFacts.{place-fits, entry-fits}
 use Rattle.art_steps.specs.declared.variant.Variant.{Variant}
 use Rattle.art_versions.specs.versions.Locking.{all_of, held_at_place, locks_of, rows_held, rows_of_hold}
@@ -53,7 +53,7 @@ module _ (variant : Variant) (s : Shape) (call : Call) (P : OfRows) (is_row : (b
   pub at-start : IsAt [] (start_at l)
   at-start = go l
     where
-      go : (b : Bool) → KnowsStage P b i c (start_at b) × (locks_of (rows_held b i (start_at b)) ≡ []) × (row_filled (start_at b) ≡ [])
+      go : (b : Bool) → KnowsRows P b i c (start_at b) × (locks_of (rows_held b i (start_at b)) ≡ []) × (row_filled (start_at b) ≡ [])
       go true = (record { kept = tt; known = tt; fits = (tt, tt); filled = tt }, refl, refl)
       go false = (record { kept = tt; known = tt; fits = (tt, tt); filled = tt }, refl, refl)
 

@@ -4,7 +4,7 @@ use Rattle.std.proofs.Common.{◌∙◌}
 use Rattle.art_versions.specs.versions.Effects.{Reads, Releases, Takes}
 use Rattle.art_stages.specs.Stages.{held, target_base}
 use Rattle.art_stages.specs.declared.stage.Keys.{Keys}
-use Rattle.art_versions.proofs.versions.WordFacts.{not-full, full-not-less, count-most, child-good, new-leaf-rows, overwriting-good}
+use Rattle.art_versions.proofs.versions.WordFacts.{full-not-less, count-most, child-good, new-leaf-rows, overwriting-good}
 use Rattle.std.proofs.Common.{◌≡◌, ℕ, List, [], ◌∷◌, refl, sym, subst, Bool, true, false, inl, inr, ap, eq-eqb, ne_eqb}
 use Rattle.std.specs.Prelude.{◌==◌, if◌then◌else◌, None, Option, Some, slice_index}
 use Rattle.art_versions.specs.versions.Effects.{Has as Leads, Does}
@@ -17,7 +17,7 @@ use Rattle.events.specs.declared.event.Call.{Call}
 use Rattle.art_steps.specs.declared.variant.Variant.TheVariants.{Coupled}
 use Rattle.art_stages.specs.declared.stage.Down.{Down}
 use Rattle.art_versions.specs.versions.Holding.{Each, FitsDown, FitsPlace, FitsTarget, HasRoom, IsFound, IsKept, IsNamed, IsSlot, IsUnder, IsVersion, KnowsKey}
-use Rattle.art_versions.specs.versions.Holding.{KnowsStage, OfRows, kept_at_place, kept_below, row_filled, rows_found, rows_of_wait}
+use Rattle.art_versions.specs.versions.Holding.{OfRows, kept_at_place, kept_below, row_filled, rows_found, rows_of_wait, KnowsRows}
 use Rattle.art_stages.specs.declared.stage.Finding.{Finding}
 use Rattle.art_rows.specs.declared.table.Kind.TheVariants.{FortyEight, Four, Full, Sixteen}
 use Rattle.art_stages.specs.declared.stage.Finding.TheVariants.{Has, Lacks}
@@ -38,6 +38,7 @@ use Rattle.art_rows.specs.Table.{capacity, kind_at, root_base}
 use Rattle.art_rows.specs.Words.{child_word, is_locked, key_bytes, locked_word}
 use Rattle.art_stages.specs.Stages.{count_in, row_at, setting}
 use Rattle.art_steps.specs.Updates.{keys_differ_at, new_leaf, overwriting}
+use Rattle.art_steps.proofs.AccessLemmas.{not_full}
 use Rattle.art_versions.proofs.versions.AfterLemmas.{works}
 use Rattle.art_stages.specs.declared.stage.Work.TheVariants as work
 
@@ -47,7 +48,7 @@ module _ (s : Shape) (call : Call) (P : OfRows) (is_row : (b : ℕ) (k : Kind) �
 
   -- where the call is an insert, and where it is none
   abbrev At : Bool → List Held → Stage → Type 0
-  At i rows stage = KnowsStage P true i c stage × (locks_of (rows_held true i stage) ≡ locks_of rows) × (row_filled stage ≡ [])
+  At i rows stage = KnowsRows P true i c stage × (locks_of (rows_held true i stage) ≡ locks_of rows) × (row_filled stage ≡ [])
 
   abbrev Doing : Stage → Type 0
   Doing stage = Does P c (OnKey stage)
@@ -140,7 +141,7 @@ module _ (s : Shape) (call : Call) (P : OfRows) (is_row : (b : ℕ) (k : Kind) �
       go : (b : Bool) → (count_in p.row.kind keys == capacity p.row.kind) ≡ b → At true (p.row ∷ all_of p.above)
           (if b then ClaimGrow (record { row = p.row; above = p.above }) p.slot keys else let_go_at c p.row p.above p.slot (Lacks keys))
       go true e = grows p.row.base p.row.kind p.row.info p.row.kept p.above p.slot keys kept under e
-      go false e = lets-go ins p.row p.above p.slot (Lacks keys) kept tt (not-full _ _ e (count-most p.row.kind keys)) tt
+      go false e = lets-go ins p.row p.above p.slot (Lacks keys) kept tt (not_full _ _ e (count-most p.row.kind keys)) tt
 
   found : (i : Bool) → is_insert call ≡ i → (p : Position) (f : Finding) → Each Keeps (kept_at_place true i p) → FitsPlace p → IsFound p.row f → Each (IsNamed P) (rows_found f)
       → At i (held_at_place true i p) (found_at true i false c p f)
@@ -163,7 +164,8 @@ module _ (s : Shape) (call : Call) (P : OfRows) (is_row : (b : ℕ) (k : Kind) �
 
   entered : (i : Bool) (t : Target) (v : ℕ) → IsVersion true v → Each Keeps (rows_of_target t) → Each (IsNamed P) (rows_of_wait t) → FitsTarget t
       → (n : Held) × (n.base ≡ target_base c t) × (n.kept ≡ v) × (lock_of n ≡ n) × Keeps n
-      × KnowsStage P true i c (entered_at true i false c t v) × (locks_of (rows_held true i (entered_at true i false c t v)) ≡ n ∷ locks_of (rows_of_target t))
+      × KnowsRows P true i c (entered_at true i false c t v)
+      × (locks_of (rows_held true i (entered_at true i false c t v)) ≡ n ∷ locks_of (rows_of_target t))
       × (row_filled (entered_at true i false c t v) ≡ [])
   entered true Root v free kept known fits = (
     held (root_base s) Full 0 v,
@@ -242,11 +244,11 @@ module _ (s : Shape) (call : Call) (P : OfRows) (is_row : (b : ℕ) (k : Kind) �
       turn n base kept = ap (λ b. Asks (Swap b v (locked_word v)) None) (sym base)
           ∙ ap (λ w. Asks (Swap n.base w (locked_word w)) None) (sym kept)
 
-  between-does : (i : Bool) → is_insert call ≡ i → (d : Down) (kept : ℕ) → KnowsStage P true i c (Between d kept) → Doing (Between d kept)
+  between-does : (i : Bool) → is_insert call ≡ i → (d : Down) (kept : ℕ) → KnowsRows P true i c (Between d kept) → Doing (Between d kept)
   between-does true e d kept k = absurd k.fits
   between-does false e d kept k = Releases (lock_of d.above) (held d.base d.kind 0 kept ∷ []) _ _ refl
       (inr ([], refl, inl (refl, refl))) refl (inl refl) k.kept.1.0 (
-        subst (λ i. KnowsStage P true i c (Info d kept)) (sym e) (record { kept = (k.kept.0, tt); known = tt; fits = k.fits; filled = tt }),
+        subst (λ i. KnowsRows P true i c (Info d kept)) (sym e) (record { kept = (k.kept.0, tt); known = tt; fits = k.fits; filled = tt }),
         subst (λ i. locks_of (held_below true i d kept) ≡ held d.base d.kind 0 kept ∷ []) (sym e) refl,
         refl,
       )
@@ -258,7 +260,8 @@ module _ (s : Shape) (call : Call) (P : OfRows) (is_row : (b : ℕ) (k : Kind) �
   below true d info kept (Some x) k fits = (record { kept = k; known = (k.0.1, tt); fits = inr fits; filled = tt }, refl, refl)
   below false d info kept (Some x) k fits = (record { kept = k; known = tt; fits = tt; filled = tt }, refl, refl)
 
-  let-go-does : (i : Bool) → is_insert call ≡ i → (above : Held) (p : Position) (f : Finding) → KnowsStage P true i c (LetGo above p f) → Doing (LetGo above p f)
+  let-go-does : (i : Bool) → is_insert call ≡ i → (above : Held) (p : Position) (f : Finding) → KnowsRows P true i c (LetGo above p f)
+      → Doing (LetGo above p f)
   let-go-does false e above p f k = absurd k.fits
   let-go-does true e above p f k = Releases (lock_of above) (lock_of p.row ∷ []) _ _ refl
       (inr ([], refl, inl (refl, refl))) refl (inl refl) k.kept.1.0

@@ -24,7 +24,8 @@ use Rattle.art_stages.specs.Stages.{held, row_at}
 use Rattle.art_stages.specs.Scans.{Walk}
 use Rattle.art_stages.specs.Calls.{CallAt, OnKey, OnScan}
 use Rattle.art_versions.specs.versions.Locking.{all_of, locks_of, held_at_place, held_between, held_below, rows_held, scan_held}
-use Rattle.art_versions.specs.versions.Holding.{OfRows, Each, kept_at_place, kept_below, FitsFrame, FitsScan, IsKept, IsNamed, KnowsStage, Knows, holds}
+use Rattle.art_versions.specs.versions.Holding.{OfRows, Each, kept_at_place, kept_below, FitsFrame, FitsScan, IsKept, IsNamed, Knows, holds}
+use Rattle.art_versions.specs.versions.Holding.{KnowsRows}
 use Rattle.art_versions.specs.versions.Effects.{IsAmong}
 use Rattle.art_versions.proofs.versions.KeyLemmas.{each-weaker, each-split}
 use Rattle.art_versions.specs.versions.Versions.{IsOpen}
@@ -55,7 +56,7 @@ module _ (P : OfRows) where
   between-kept false d kept k = tt
 
 module _ (P : OfRows) (l i : Bool) (c : Setting) where
-  held-kept : (stage : Stage) → KnowsStage P l i c stage → Each (IsKept l P) (rows_held l i stage)
+  held-kept : (stage : Stage) → KnowsRows P l i c stage → Each (IsKept l P) (rows_held l i stage)
   held-kept (Take t) k = (each-split (IsKept l P) (all_of t.held) (all_of t.below) k.kept.1).0
   held-kept (Write h slot word reply) k = k.kept
   held-kept (ClaimPair h p) k = k.kept

@@ -3,7 +3,7 @@ use Rattle.std.proofs.lemmas.Bool.{false≢true}
 use Rattle.art_versions.specs.versions.Effects.{Reads, Takes}
 use Rattle.art_stages.specs.Stages.{held}
 use Rattle.art_stages.specs.declared.stage.Keys.{Keys}
-use Rattle.art_versions.proofs.versions.WordFacts.{not-full, count-most, free-version, child-good, new-leaf-rows, overwriting-good}
+use Rattle.art_versions.proofs.versions.WordFacts.{count-most, free-version, child-good, new-leaf-rows, overwriting-good}
 use Rattle.std.proofs.Common.{◌≡◌, ℕ, ◌%◌, List, [], ◌∷◌, refl, sym, subst, Bool, true, false, inl, eq-eqb, ne_eqb}
 use Rattle.std.specs.Prelude.{◌==◌, if◌then◌else◌, None, Option, Some, nat_le, slice_index}
 use Rattle.art_versions.specs.versions.Effects.{Has as Leads, Does}
@@ -36,6 +36,7 @@ use Rattle.art_rows.specs.Table.{capacity, kind_at, root_base}
 use Rattle.art_rows.specs.Words.{child_word, is_locked, is_obsolete, key_bytes}
 use Rattle.art_stages.specs.Stages.{count_in, row_at, setting}
 use Rattle.art_steps.specs.Updates.{keys_differ_at, new_leaf, overwriting}
+use Rattle.art_steps.proofs.AccessLemmas.{not_full}
 use Rattle.art_stages.specs.declared.stage.Work.TheVariants as work
 
 module _ (s : Shape) (call : Call) (P : OfRows) (is_row : (b : ℕ) (k : Kind) → P b k → kind_at s b ≡ Some k) (root : P (root_base s) Full) where
@@ -103,7 +104,7 @@ module _ (s : Shape) (call : Call) (P : OfRows) (is_row : (b : ℕ) (k : Kind) �
       go : (b : Bool) → (count_in p.row.kind keys == capacity p.row.kind) ≡ b
           → Here [] (if b then grow_unlocked c p.row p.above p.slot keys else take_alone c p.row (work.Put keys))
       go true e = grows p.row.base p.row.kind p.row.info p.row.kept p.above p.slot keys kept under e
-      go false e = takes-alone p.row (work.Put keys) kept.0 tt (not-full _ _ e (count-most p.row.kind keys))
+      go false e = takes-alone p.row (work.Put keys) kept.0 tt (not_full _ _ e (count-most p.row.kind keys))
   inserts p (Has slot Empty) kept under fits known =
       takes-alone p.row (work.Write slot (child_word (new_leaf call)) None) kept.0 (child-good s P is_row (new_leaf call) (new-leaf-rows s P call)) fits
   inserts p (Has slot (Leaf key value)) kept under fits known = go (key == key_of call) (nat_le (keys_differ_at key (key_of call)) (row_at p.row).level)

@@ -37,7 +37,7 @@ use Rattle.art_stages.specs.Scans.{Walk, ScanAt, at, walked, on_way, in_word, fr
 use Rattle.art_stages.specs.Scans.{words_at, place_slot, child_from, frame_at, way_at, resume_at, with_frame, row_begins}
 use Rattle.art_stages.specs.Scans.{visit_list, visit_at, entry_at, child_after, scan_start, step_after}
 use Rattle.art_stages.specs.Calls.{OnScan}
-use Rattle.art_versions.specs.versions.Holding.{OfRows, Each, IsSlot, child_rows, IsNamed, FitsFrame, KnowsScan}
+use Rattle.art_versions.specs.versions.Holding.{OfRows, Each, IsSlot, child_rows, IsNamed, FitsFrame, KnowsScanRows}
 use Rattle.art_versions.specs.versions.Effects.{Does, Reads, Answered}
 use Rattle.art_versions.proofs.versions.ByteLemmas.{index-small}
 use Rattle.art_versions.proofs.versions.WordFacts.{place-fits, entry-fits}
@@ -96,7 +96,7 @@ module _ (variant : Variant) (s : Shape) (call : Call) (P : OfRows) (is_row : (b
   -- the scan is there, and holds these rows that it has walked
   module _ (rows : List Held) where
     abbrev pub GoodAt : Bool → ScanAt → Type 0
-    GoodAt l x = KnowsScan P l x × (scan_held l x.step x.walk ≡ walked_held l rows)
+    GoodAt l x = KnowsScanRows P l x × (scan_held l x.step x.walk ≡ walked_held l rows)
 
     abbrev pub Good : ScanAt → Type 0
     Good x = GoodAt l x
@@ -243,10 +243,10 @@ module _ (variant : Variant) (s : Shape) (call : Call) (P : OfRows) (is_row : (b
         → Has P c (OnScan lo hi x) (holds c (OnScan lo hi (at step w))) []
     leads step x e good = (good.0, ap locks_of (good.1 ∙ sym (locked-same w.rows step e)), refl)
 
-    rows-kept : (step : ScanStep) → scan_locked step w ≡ w.rows → KnowsScan P l (at step w) → AreKept w.rows
+    rows-kept : (step : ScanStep) → scan_locked step w ≡ w.rows → KnowsScanRows P l (at step w) → AreKept w.rows
     rows-kept step e k = subst (Each (IsKept l P)) (locked-same w.rows step e) k.kept
 
-    keys-does : (base : ℕ) (kind : Kind) (info was : ℕ) → KnowsScan P l (at (Keys (held base kind info was)) w)
+    keys-does : (base : ℕ) (kind : Kind) (info was : ℕ) → KnowsScanRows P l (at (Keys (held base kind info was)) w)
         → Doing (Keys (held base kind info was))
     keys-does base Four info was k = Reads _ _ refl (λ value good. leads (Keys (held base Four info was)) _ refl
         (resumed w.rows (with_frame w (frame_of (held base Four info was) (keys_one value) 0 0)) refl (rows-kept (Keys (held base Four info was)) refl k)
@@ -262,13 +262,13 @@ module _ (variant : Variant) (s : Shape) (call : Call) (P : OfRows) (is_row : (b
 
     -- Stages that are not the same in both trees.
     pub record Own : Type 0 where
-      pub lock : (entry : Entry) (first : Bool) → KnowsScan P l (at (Lock entry first) w) → Doing (Lock entry first)
-      pub exchange : (entry : Entry) (v : ℕ) → KnowsScan P l (at (Exchange entry v) w) → Doing (Exchange entry v)
-      pub wait : (entry : Entry) → KnowsScan P l (at (Wait entry) w) → Doing (Wait entry)
-      pub info : (base : ℕ) (kind : Kind) (kept : ℕ) → KnowsScan P l (at (Info base kind kept) w) → Doing (Info base kind kept)
-      pub release : (n : Held) → KnowsScan P l (at (Release n) w) → Doing (Release n)
+      pub lock : (entry : Entry) (first : Bool) → KnowsScanRows P l (at (Lock entry first) w) → Doing (Lock entry first)
+      pub exchange : (entry : Entry) (v : ℕ) → KnowsScanRows P l (at (Exchange entry v) w) → Doing (Exchange entry v)
+      pub wait : (entry : Entry) → KnowsScanRows P l (at (Wait entry) w) → Doing (Wait entry)
+      pub info : (base : ℕ) (kind : Kind) (kept : ℕ) → KnowsScanRows P l (at (Info base kind kept) w) → Doing (Info base kind kept)
+      pub release : (n : Held) → KnowsScanRows P l (at (Release n) w) → Doing (Release n)
 
-    pub step-does : Own → (step : ScanStep) → KnowsScan P l (at step w) → Doing step
+    pub step-does : Own → (step : ScanStep) → KnowsScanRows P l (at step w) → Doing step
     step-does own (Lock entry first) k = own.lock entry first k
     step-does own (Exchange entry v) k = own.exchange entry v k
     step-does own (Wait entry) k = own.wait entry k
@@ -319,14 +319,15 @@ module _ (s : Shape) (call : Call) (P : OfRows) (is_row : (b : ℕ) (k : Kind) �
       go : (xs : List ℕ) (b : Bool) → Has P optimistic-setting (OnScan lo hi (visit_list optimistic-setting lo hi n (here b) xs)) [] []
       go xs b = let k = listed Optimistic s call P is_row root lo hi (here b).rows n (here b) xs refl tt p (same b) in (k.0, ap locks_of k.1, refl)
 
-  entered : (entry : Entry) (w : Walk) (v : ℕ) → KnowsScan P false (at (Wait entry) w) → Has P optimistic-setting (OnScan lo hi (entry_at optimistic-setting lo hi entry w v)) [] []
+  entered : (entry : Entry) (w : Walk) (v : ℕ) → KnowsScanRows P false (at (Wait entry) w)
+      → Has P optimistic-setting (OnScan lo hi (entry_at optimistic-setting lo hi entry w v)) [] []
   entered Root w v k = met (held (root_base s) Full 3 v) w root k.way
   entered (Below base kind) w v k = (record { kept = tt; known = k.known; fits = tt; way = k.way }, refl, refl)
 
   begun : Has P optimistic-setting (OnScan lo hi (scan_start optimistic-setting)) [] []
   begun = (record { kept = tt; known = tt; fits = tt; way = tt }, refl, refl)
 
-  waits : (entry : Entry) (w : Walk) (value : ℕ) → KnowsScan P false (at (Wait entry) w)
+  waits : (entry : Entry) (w : Walk) (value : ℕ) → KnowsScanRows P false (at (Wait entry) w)
       → Has P optimistic-setting (OnScan lo hi (step_after optimistic-setting lo hi (Wait entry) w value)) [] []
   waits entry w value k = choose (is_locked value) (is_obsolete value)
     where
@@ -339,7 +340,7 @@ module _ (s : Shape) (call : Call) (P : OfRows) (is_row : (b : ℕ) (k : Kind) �
   checks w true = let k = closed Optimistic s call P is_row root lo hi w.rows w refl tt in (k.0, ap locks_of k.1, refl)
   checks w false = begun
 
-  pub optimistic-scan-does : (x : ScanAt) → KnowsScan P false x → Does P optimistic-setting (OnScan lo hi x)
+  pub optimistic-scan-does : (x : ScanAt) → KnowsScanRows P false x → Does P optimistic-setting (OnScan lo hi x)
   optimistic-scan-does x k = step-does Optimistic s call P is_row root lo hi x.walk (record {
     lock = λ entry first k. absurd k.fits;
     exchange = λ entry v k. absurd k.fits.0;
@@ -368,7 +369,8 @@ module _ (s : Shape) (call : Call) (P : OfRows) (is_row : (b : ℕ) (k : Kind) �
           let k = listed Coupled s call P is_row root lo hi (w.rows ++ n ∷ []) n all xs refl (each-end (IsKept true P) w.rows n kept new) new.1 way in
           (k.0, ap locks_of k.1, refl)
 
-  locks-does : (w : Walk) (entry : Entry) (first : Bool) → KnowsScan P true (at (Lock entry first) w) → Does P coupled-setting (OnScan lo hi (at (Lock entry first) w))
+  locks-does : (w : Walk) (entry : Entry) (first : Bool) → KnowsScanRows P true (at (Lock entry first) w)
+      → Does P coupled-setting (OnScan lo hi (at (Lock entry first) w))
   locks-does w entry first k = go first
     where
       after : (value : ℕ) (b : Bool) → is_locked value ≡ b
@@ -383,7 +385,8 @@ module _ (s : Shape) (call : Call) (P : OfRows) (is_row : (b : ℕ) (k : Kind) �
   apart-rows : (base : ℕ) (rows : List Held) → ((x : Held) → IsAmong x (locks_of rows) → x.base ≢ base) → Each (λ x. x.base ≢ base) rows
   apart-rows base rows h = among-all (λ x. x.base ≢ base) rows h (λ x y. y)
 
-  exchanges-does : (w : Walk) (entry : Entry) (v : ℕ) → KnowsScan P true (at (Exchange entry v) w) → Does P coupled-setting (OnScan lo hi (at (Exchange entry v) w))
+  exchanges-does : (w : Walk) (entry : Entry) (v : ℕ) → KnowsScanRows P true (at (Exchange entry v) w)
+      → Does P coupled-setting (OnScan lo hi (at (Exchange entry v) w))
   exchanges-does w Root v k =
       let n = held (root_base s) Full 0 v in
       Takes n (locks_of (w.rows ++ n ∷ [])) _ refl (subst (IsWith n (locks_of w.rows)) (sym (locks-end w.rows n)) (with-last n (locks_of w.rows))) refl (k.fits.1, root)
@@ -416,7 +419,8 @@ module _ (s : Shape) (call : Call) (P : OfRows) (is_row : (b : ℕ) (k : Kind) �
       (λ value other. subst (λ b. Has P coupled-setting (OnScan lo hi (if b then at (Info base kind v) w else at (Lock (Below base kind) false) w)) (locks_of w.rows) [])
       (sym (ne_eqb value v other)) (record { kept = k.kept; known = k.known; fits = tt; way = k.way }, refl, refl))
 
-  infos-does : (w : Walk) (base : ℕ) (kind : Kind) (kept : ℕ) → KnowsScan P true (at (Info base kind kept) w) → Does P coupled-setting (OnScan lo hi (at (Info base kind kept) w))
+  infos-does : (w : Walk) (base : ℕ) (kind : Kind) (kept : ℕ) → KnowsScanRows P true (at (Info base kind kept) w)
+      → Does P coupled-setting (OnScan lo hi (at (Info base kind kept) w))
   infos-does w base kind kept k = Reads _ _ refl (λ value good.
       let parts = each-init (IsKept true P) w.rows (held base kind 0 kept) k.kept in
       same-locks value (locked-row (held base kind value kept) w k.fits parts.0 parts.1 k.way))
@@ -425,14 +429,14 @@ module _ (s : Shape) (call : Call) (P : OfRows) (is_row : (b : ℕ) (k : Kind) �
           → Has P coupled-setting (OnScan lo hi x) (locks_of (w.rows ++ held base kind 0 kept ∷ [])) []
       same-locks value h = (h.0, h.1 ∙ (locks-end w.rows (held base kind value kept) ∙ sym (locks-end w.rows (held base kind 0 kept))), h.2)
 
-  releases-does : (w : Walk) (n : Held) → KnowsScan P true (at (Release n) w) → Does P coupled-setting (OnScan lo hi (at (Release n) w))
+  releases-does : (w : Walk) (n : Held) → KnowsScanRows P true (at (Release n) w) → Does P coupled-setting (OnScan lo hi (at (Release n) w))
   releases-does w n k = Releases (lock_of n) (locks_of w.rows) _ _ refl (inl (refl, refl)) refl (inl refl) k.kept.0 (go w.rows k.kept.1)
     where
       go : (rows : List Held) → Each (IsKept true P) rows → Has P coupled-setting (OnScan lo hi (release_rows rows w.pairs)) (locks_of rows) []
       go [] kept = (record { kept = tt; known = tt; fits = tt; way = tt }, refl, refl)
       go (m ∷ rows) kept = (record { kept = kept; known = tt; fits = tt; way = tt }, refl, refl)
 
-  pub coupled-scan-does : (x : ScanAt) → KnowsScan P true x → Does P coupled-setting (OnScan lo hi x)
+  pub coupled-scan-does : (x : ScanAt) → KnowsScanRows P true x → Does P coupled-setting (OnScan lo hi x)
   coupled-scan-does x k = step-does Coupled s call P is_row root lo hi x.walk (record {
     lock = locks-does x.walk;
     exchange = exchanges-does x.walk;

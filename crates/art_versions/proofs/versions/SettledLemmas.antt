@@ -18,7 +18,7 @@ use Rattle.art_stages.specs.declared.stage.ScanStep.{ScanStep}
 use Rattle.art_stages.specs.declared.stage.ScanStep.TheVariants.{Lock, Exchange, Wait, Info, Keys, FirstKeys, SecondKeys, Index, Child as LoadChild, Release}
 use Rattle.art_stages.specs.declared.stage.ScanStep.TheVariants.{Over}
 use Rattle.art_stages.specs.Scans.{Walk, ScanAt, at, scan_turn, keys_turn}
-use Rattle.art_versions.specs.versions.Holding.{optimistic, OfRows, KnowsScan}
+use Rattle.art_versions.specs.versions.Holding.{optimistic, OfRows, KnowsScanRows}
 use Rattle.art_versions.proofs.versions.KeyLemmas.{slot-behind}
 
 module _ (s : Shape) (call : Call) (P : OfRows) (root : P (root_base s) Full) where
@@ -40,11 +40,13 @@ module _ (s : Shape) (call : Call) (P : OfRows) (root : P (root_base s) Full) wh
   keys-known FortyEight n word mark k p e = in-row n.base n.kind (keys_at n.base) word p (loads-same e).0 (omega arith) (omega (arith, seven-words n.kind))
   keys-known Full n word mark k p e = in-row n.base n.kind (keys_at n.base) word p (loads-same e).0 (omega arith) (omega (arith, seven-words n.kind))
 
-  pub loads-known : (x : ScanAt) → KnowsScan P false x → (word : ℕ) (mark : Option Point) → scan_turn (optimistic s call) x ≡ Asks (Load word) mark
+  pub loads-known : (x : ScanAt) → KnowsScanRows P false x → (word : ℕ) (mark : Option Point)
+      → scan_turn (optimistic s call) x ≡ Asks (Load word) mark
       → mark ≢ Some point.Check → IsInKnown word
   loads-known x k word mark e no-check = go x.step x.walk k e
     where
-      go : (step : ScanStep) (w : Walk) → KnowsScan P false (at step w) → scan_turn (optimistic s call) (at step w) ≡ Asks (Load word) mark → IsInKnown word
+      go : (step : ScanStep) (w : Walk) → KnowsScanRows P false (at step w)
+          → scan_turn (optimistic s call) (at step w) ≡ Asks (Load word) mark → IsInKnown word
       go (Lock entry first) w k e = absurd k.fits
       go (Exchange entry v) w k e = absurd k.fits.0
       go (Wait Root) w k e = in-row (root_base s) Full (root_base s) word root (loads-same e).0 (omega arith) (omega arith)

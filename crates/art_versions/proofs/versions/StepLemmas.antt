@@ -53,7 +53,7 @@ use Rattle.art_stages.specs.Scans.{ScanAt, at, no_walk}
 use Rattle.art_stages.specs.declared.stage.Entry.TheVariants.{Root as EntryRoot}
 use Rattle.art_stages.specs.declared.stage.ScanStep.TheVariants as scan
 use Rattle.art_versions.specs.versions.Locking.{locks_of, rows_held, scan_held}
-use Rattle.art_versions.specs.versions.Holding.{row_filled, KnowsStage, KnowsScan}
+use Rattle.art_versions.specs.versions.Holding.{row_filled, KnowsRows, KnowsScanRows}
 use Rattle.art_versions.proofs.versions.ChangeLemmas.{whose, own-call, index-other}
 use Rattle.art_versions.proofs.versions.MoveLemmas.{settled-row, true-false, no-items, differ}
 use Rattle.art_versions.proofs.versions.AccessLemmas.{keeps-words, keeps-versions, is-locked, takes, releases}
@@ -219,7 +219,7 @@ module _ (variant : Variant) (shape : Shape) (root : 1 ≤ shape.rows256) (n : �
   start-idle true i = (refl, refl)
   start-idle false i = (refl, refl)
 
-  start-knows : (b i : Bool) (c : Setting) (Q : OfRows) → KnowsStage Q b i c (start_at b)
+  start-knows : (b i : Bool) (c : Setting) (Q : OfRows) → KnowsRows Q b i c (start_at b)
   start-knows true i c Q = record { kept = tt; known = tt; fits = (tt, tt); filled = tt }
   start-knows false i c Q = record { kept = tt; known = tt; fits = (tt, tt); filled = tt }
 
@@ -230,7 +230,7 @@ module _ (variant : Variant) (shape : Shape) (root : 1 ≤ shape.rows256) (n : �
   scan-idle true = refl
   scan-idle false = refl
 
-  scan-knows : (b : Bool) (Q : OfRows) → KnowsScan Q b (scan-begun b)
+  scan-knows : (b : Bool) (Q : OfRows) → KnowsScanRows Q b (scan-begun b)
   scan-knows true Q = record { kept = tt; known = tt; fits = tt; way = tt }
   scan-knows false Q = record { kept = tt; known = tt; fits = tt; way = tt }
 

@@ -29,9 +29,6 @@ count-most Sixteen keys = keys16-few keys.count keys.first keys.second
 count-most FortyEight keys = count48-most keys.count
 count-most Full keys = omega arith
 
-pub not-full : (a b : ℕ) → (a == b) ≡ false → a ≤ b → a < b
-not-full a b e l = grind arith
-
 pub full-not-less : (a b : ℕ) → (a == b) ≡ true → a < b → ⊥
 full-not-less a b e l = grind arith
 

@@ -345,16 +345,16 @@ abbrev pub IsNamed : OfRows → Named → Type 0
 IsNamed P m = P m.0 m.1
 
 -- All that a call knows, where P is so of the rows that it has met.
-pub record KnowsStage (P : OfRows) (l i : Bool) (c : Setting) (stage : Stage) : Type 0 where
+pub record KnowsRows (P : OfRows) (l i : Bool) (c : Setting) (stage : Stage) : Type 0 where
   pub kept : Each (IsKept l P) (rows_kept l i stage)
   pub known : Each (IsNamed P) (rows_known c.shape stage)
   pub fits : Fits l i c stage
   pub filled : Each (λ m. kind_at c.shape m.0 ≡ Some m.1) (row_filled stage)
 
 abbrev pub KnowsKey : OfRows → Setting → Stage → Type 0
-KnowsKey P c stage = KnowsStage P (locks c.variant) (is_insert c.call) c stage
+KnowsKey P c stage = KnowsRows P (locks c.variant) (is_insert c.call) c stage
 
-pub record KnowsScan (P : OfRows) (l : Bool) (at : ScanAt) : Type 0 where
+pub record KnowsScanRows (P : OfRows) (l : Bool) (at : ScanAt) : Type 0 where
   pub kept : Each (IsKept l P) (scan_held l at.step at.walk)
   pub known : Each (IsNamed P) (rows_walked at.step)
   pub fits : FitsScan l P at.step at.walk
@@ -362,7 +362,7 @@ pub record KnowsScan (P : OfRows) (l : Bool) (at : ScanAt) : Type 0 where
 
 abbrev pub Knows : OfRows → Setting → CallAt → Type 0
 Knows P c (OnKey stage) = KnowsKey P c stage
-Knows P c (OnScan low high at) = KnowsScan P (locks c.variant) at
+Knows P c (OnScan low high at) = KnowsScanRows P (locks c.variant) at
 
 -- the rows that it holds, each with the version from which it was locked,
 abbrev pub holds : Setting → CallAt → List Held
