@@ -60,6 +60,8 @@ use Rattle.art_schedules.specs.coupled.Laws.{WaysGoOn, FindingsStay}
 use Rattle.art_schedules.specs.work.Ways.{slot_in, KnowsKeys, KnowsFinding, IsOnWay, HasChild, HangsOnWay}
 use Rattle.art_schedules.proofs.work.CallLemmas.{insert-of, seek-of, key-small, kept-after, full-slot}
 use Rattle.art_schedules.specs.effects.Begins.{BeginsWork, IsOverwritten}
+use Rattle.art_schedules.proofs.effects.ValueLemmas.{no-slot, empty-slot, own-leaf, other-leaf, other-row, hangs-on, reached-below}
+use Rattle.art_schedules.proofs.effects.ValueLemmas.{byte-in-small, overwritten}
 
 -- ---- words, bytes and calls
 
@@ -89,52 +91,11 @@ module _ (shape : Shape) (call : Call) (tree : is_tree_call call ≡ true) (key-
     rows = subst (λ j. Each Own (rows_held true j stage)) (sym e) rows;
   }
 
-  -- ---- the map, by what hangs on the key's byte
-
-  hangs-on : (h : Held) (slot : ℕ) (child : Child) → HasChild c calm h slot child → child_on shape calm h.base h.kind (byte_in c h) ≡ child
-  hangs-on h slot child at = ap (child_in shape calm) at.at ∙ at.has
-
-  no-slot : (h : Held) → IsOnWay c calm h → slot_in c calm h ≡ None → value_at m (key_of call) ≡ None
-  no-slot h on none = (ways shape calm m (key_of call) h.base h.kind (byte_in c h) rest.tree means on.leads).0 (ap (child_in shape calm) none)
-
-  empty-slot : (h : Held) (slot : ℕ) → IsOnWay c calm h → HasChild c calm h slot Empty → value_at m (key_of call) ≡ None
-  empty-slot h slot on at = (ways shape calm m (key_of call) h.base h.kind (byte_in c h) rest.tree means on.leads).0 (hangs-on h slot Empty at)
-
-  own-leaf : (h : Held) (slot k v : ℕ) → IsOnWay c calm h → HasChild c calm h slot (Leaf k v) → k ≡ key_of call → value_at m (key_of call) ≡ Some v
-  own-leaf h slot k v on at is =
-      ((ways shape calm m (key_of call) h.base h.kind (byte_in c h) rest.tree means on.leads).1 k v (hangs-on h slot (Leaf k v) at)).0 is
-
-  other-leaf : (h : Held) (slot k v : ℕ) → IsOnWay c calm h → HasChild c calm h slot (Leaf k v) → k ≢ key_of call → value_at m (key_of call) ≡ None
-  other-leaf h slot k v on at is =
-      ((ways shape calm m (key_of call) h.base h.kind (byte_in c h) rest.tree means on.leads).1 k v (hangs-on h slot (Leaf k v) at)).1 is
-
-  other-row : (h : Held) (slot base d : ℕ) (kind : Kind) → IsOnWay c calm h → HasChild c calm h slot (ChildRow base kind)
-      → first_difference (path_in calm base kind) (key_bytes (key_of call)) ≡ Some d → value_at m (key_of call) ≡ None
-  other-row h slot base d kind on at parts =
-      (ways shape calm m (key_of call) h.base h.kind (byte_in c h) rest.tree means on.leads).2 base d kind (hangs-on h slot (ChildRow base kind) at) parts
-
-  byte-in-small : (h : Held) → byte_in c h < 256
-  byte-in-small h = key_byte-small (key_of call) (row_at h).level
-
-  -- the row below is reached
-  reached-below : (h : Held) (slot base : ℕ) (kind : Kind) → HangsOnWay c calm h slot (ChildRow base kind) → Reached shape calm base kind
-  reached-below h slot base kind (on, at) = below on.leads.reached (byte_in c h) (byte-in-small h) (hangs-on h slot (ChildRow base kind) at)
-
   leads-on : (h : Held) (slot base : ℕ) (kind : Kind) → HangsOnWay c calm h slot (ChildRow base kind)
       → first_difference (path_in calm base kind) (key_bytes (key_of call)) ≡ None
       → LeadsTo shape calm (key_of call) base kind (slice_index (key_bytes (key_of call)) (level_in calm base kind))
-  leads-on h slot base kind (on, at) none = leads-below shape n calm rest on.leads (byte-in-small h) (hangs-on h slot (ChildRow base kind) at) none
-
-  -- a slot of the row is overwritten
-  overwritten : (h : Held) (slot : ℕ) (child : Child) (word : ℕ) (old : Option ℕ) → IsOnWay c calm h → HasChild c calm h slot child
-      → IsOverwritten c word old child → BeginsWork c calm (hold_alone h) (work.Write slot word old)
-  overwritten h slot child word old on at over = record {
-    call = tree;
-    words = tt;
-    byte = byte_in c h;
-    leads = on.leads;
-    finds = (refl, at.at, subst (IsOverwritten c word old) (sym (hangs-on h slot child at)) over);
-  }
+  leads-on h slot base kind (on, at) none = leads-below shape n calm rest on.leads (byte-in-small c h)
+      (hangs-on c h slot (ChildRow base kind) at) none
 
   -- ---- a get, a remove or a replace behind FIND
 
@@ -152,20 +113,20 @@ module _ (shape : Shape) (call : Call) (tree : is_tree_call call ≡ true) (key-
     overwrites : (h : Held) (slot k v : ℕ) (o : Option ℕ) → overwriting call v ≡ o → IsOnWay c calm h → Own h → HasChild c calm h slot (Leaf k v)
         → k ≡ key_of call → To (overwrite_at h slot v o)
     overwrites h slot k v None f on own at is =
-        let has = own-leaf h slot k v on at is in
+        let has = own-leaf c rest means ways h slot k v on at is in
         Finds (reply.Some v) (inr (sym (seek-reply m call seeks-key ∙ ap value_reply has)), sym (kept-after m call v seeks-key f has))
         (knows false e (Some (reply.Some v)) _ (refl, refl, on.leads.reached) (own, tt))
     overwrites h slot k v (Some word) f on own at is = Works (hold_alone h) (work.Write slot word (Some v)) refl
-        (overwritten h slot (Leaf k v) word (Some v) on at (is, refl, inr f)) (own, tt)
+        (overwritten c tree h slot (Leaf k v) word (Some v) on at (is, refl, inr f)) (own, tt)
 
     seeks : (h : Held) (f : Finding) → IsOnWay c calm h → Own h → KnowsFinding false c calm h f → To (seek_coupled false c h f)
-    seeks h (Lacks keys) on own none = unlocks h on own (no-slot h on none)
-    seeks h (Has slot Empty) on own at = unlocks h on own (empty-slot h slot on at)
+    seeks h (Lacks keys) on own none = unlocks h on own (no-slot c rest means ways h on none)
+    seeks h (Has slot Empty) on own at = unlocks h on own (empty-slot c rest means ways h slot on at)
     seeks h (Has slot (Leaf k v)) on own at = go (k == key_of call) refl
       where
         go : (b : Bool) → (k == key_of call) ≡ b → To (if b then overwrite_at h slot v (overwriting call v) else Unlock (hold_alone h) (Some no_value))
         go true same = overwrites h slot k v (overwriting call v) refl on own at (eqb-true k (key_of call) same)
-        go false apart = unlocks h on own (other-leaf h slot k v on at (eqb-false k (key_of call) apart))
+        go false apart = unlocks h on own (other-leaf c rest means ways h slot k v on at (eqb-false k (key_of call) apart))
     seeks h (Has slot (ChildRow base kind)) on own at = GoesOn (knows false e None _ (on, at) (own, tt))
 
   -- ---- an insert behind FIND
@@ -181,12 +142,12 @@ module _ (shape : Shape) (call : Call) (tree : is_tree_call call ≡ true) (key-
           finds = (refl, on.info);
         }) (own, tt)
     alone h (Has slot Empty) on own at room = Works (hold_alone h) (work.Write slot (child_word (new_leaf call)) None) refl
-        (overwritten h slot Empty (child_word (new_leaf call)) None on at (e, refl, refl)) (own, tt)
+        (overwritten c tree h slot Empty (child_word (new_leaf call)) None on at (e, refl, refl)) (own, tt)
     alone h (Has slot (Leaf k v)) on own at room = go (k == key_of call) refl
       where
         parts : k ≢ key_of call → first_difference (key_bytes k) (key_bytes (key_of call)) ≡ Some (keys_differ_at k (key_of call))
         parts apart =
-            keys-differ k (key_of call) (leaves shape calm h.base h.kind (byte_in c h) k v rest.small (hangs-on h slot (Leaf k v) at)).0
+            keys-differ k (key_of call) (leaves shape calm h.base h.kind (byte_in c h) k v rest.small (hangs-on c h slot (Leaf k v) at)).0
             (key-small call tree key-call) apart
 
         empty : Leaf k v ≢ Empty
@@ -202,7 +163,7 @@ module _ (shape : Shape) (call : Call) (tree : is_tree_call call ≡ true) (key-
         go true same =
             let is = eqb-true k (key_of call) same in
             Works (hold_alone h) (work.Write slot (child_word (new_leaf call)) (Some v)) refl
-            (overwritten h slot (Leaf k v) (child_word (new_leaf call)) (Some v) on at (is, refl, inl (e, refl)))
+            (overwritten c tree h slot (Leaf k v) (child_word (new_leaf call)) (Some v) on at (is, refl, inl (e, refl)))
             (own, tt)
         go false same =
             let apart = eqb-false k (key_of call) same in
@@ -373,13 +334,13 @@ module _ (shape : Shape) (call : Call) (tree : is_tree_call call ≡ true) (key-
             ),
       ) own)
       go FortyEight on own under got =
-          let small = byte-in-small (held base FortyEight info was) in
+          let small = byte-in-small c (held base FortyEight info was) in
           indexed i e base info was above slot w on own under
           (got.loads (index_at base (byte_in c (held base FortyEight info was))) None refl
           ∙ own-word calm words (held base FortyEight info was) (first i (place base FortyEight info was above slot) own)
           (index_at base (byte_in c (held base FortyEight info was))) (omega (arith, small), omega (arith, small)))
       go Full on own under got =
-          let small = byte-in-small (held base Full info was) in
+          let small = byte-in-small c (held base Full info was) in
           let at = child_at Full base (byte_in c (held base Full info was)) in
           found i e (place base Full info was above slot) (Has at (child_of shape w)) on own under (record {
             at = refl;
@@ -463,7 +424,7 @@ module _ (shape : Shape) (call : Call) (tree : is_tree_call call ≡ true) (key-
     where
       own-row : (info : ℕ) → Own (held d.base d.kind info v)
       own-row info =
-          let x = got.takes d.base v None refl is d.kind (reached-below d.above d.slot d.base d.kind k) in
+          let x = got.takes d.base v None refl is d.kind (reached-below c d.above d.slot d.base d.kind k) in
           record { same = x.0; live = x.1 }
 
       go : (i : Bool) → is_insert call ≡ i → To (entered_at true i false c (Below d) v)
@@ -477,8 +438,8 @@ module _ (shape : Shape) (call : Call) (tree : is_tree_call call ≡ true) (key-
     where
       go : (o : Option ℕ) → first_difference (path_in calm d.base d.kind) (key_bytes (key_of call)) ≡ o → To (Info d kept)
       go None f = GoesOn (knows false e None _ (leads-on d.above d.slot d.base d.kind k f) (own, tt))
-      go (Some x) f = Finds reply.None (finds-none e (other-row d.above d.slot d.base x d.kind k.0 k.1 f))
-          (knows false e (Some reply.None) _ (refl, (reached-below d.above d.slot d.base d.kind k, (x, f))) (own, tt))
+      go (Some x) f = Finds reply.None (finds-none e (other-row c rest means ways d.above d.slot d.base x d.kind k.0 k.1 f))
+          (knows false e (Some reply.None) _ (refl, (reached-below c d.above d.slot d.base d.kind k, (x, f))) (own, tt))
 
   abbrev calm-info : Down → ℕ
   calm-info d = slice_index calm (info_at d.base)

@@ -7,7 +7,6 @@ use Rattle.art_rows.specs.declared.table.Kind.TheVariants.{FortyEight}
 use Rattle.art_rows.specs.declared.table.Child.{Child}
 use Rattle.art_rows.specs.Table.{row_words, index_at}
 use Rattle.art_rows.specs.Words.{child_of}
-use Rattle.art_rows.proofs.ByteLemmas.{key_byte-small}
 use Rattle.art_steps.specs.Rows.{Setting, key_of}
 use Rattle.art_stages.specs.declared.stage.Held.{Held}
 use Rattle.art_stages.specs.declared.stage.Finding.{Finding}
@@ -23,6 +22,7 @@ use Rattle.art_versions.proofs.versions.KnownLemmas.{each-map}
 use Rattle.art_schedules.specs.changes.Follows.{Follows}
 use Rattle.art_schedules.specs.work.Ways.{IsOnWay, slot_in, HasChild, KnowsFinding, HangsOnWay}
 use Rattle.art_schedules.specs.effects.Begins.{BeginsWork}
+use Rattle.art_schedules.proofs.effects.ValueLemmas.{byte-in-small}
 use Rattle.art_schedules.proofs.effects.KeptLemmas.{slot-word, lacks-kept, begins-kept}
 
 -- the word of a row at another place
@@ -36,9 +36,6 @@ module _ (c : Setting) {n : ℕ} {calm after : List ℕ} {pairs : Contents} {gon
   abbrev Still : Held → Type 0
   Still h = SameRow calm after h.base h.kind × (gone h.base → ⊥)
 
-  byte-small : (h : Held) → byte_in c h < 256
-  byte-small h = key_byte-small (key_of c.call) (row_at h).level
-
   pub on-way : (h : Held) → Still h → IsOnWay c calm h → IsOnWay c after h
   on-way h still on = record {
     leads = follows.ways (key_of c.call) h.base h.kind (byte_in c h) on.leads still.1;
@@ -46,12 +43,12 @@ module _ (c : Setting) {n : ℕ} {calm after : List ℕ} {pairs : Contents} {gon
   }
 
   pub slot-still : (h : Held) → Still h → slot_in c after h ≡ slot_in c calm h
-  slot-still h still = slot-same calm after h.base h.kind (byte_in c h) (byte-small h) (row-keys calm after h.base h.kind still.0)
+  slot-still h still = slot-same calm after h.base h.kind (byte_in c h) (byte-in-small c h) (row-keys calm after h.base h.kind still.0)
 
   child-still : (h : Held) (slot : ℕ) (child : Child) → Still h → HasChild c calm h slot child → HasChild c after h slot child
   child-still h slot child still at = record {
     at = slot-still h still ∙ at.at;
-    has = ap (child_of c.shape) (slot-word calm after h.base h.kind (byte_in c h) slot (byte-small h) still.0 at.at) ∙ at.has;
+    has = ap (child_of c.shape) (slot-word calm after h.base h.kind (byte_in c h) slot (byte-in-small c h) still.0 at.at) ∙ at.has;
   }
 
   pub hangs-still : (h : Held) (slot : ℕ) (child : Child) → Still h → HangsOnWay c calm h slot child → HangsOnWay c after h slot child
@@ -65,7 +62,7 @@ module _ (c : Setting) {n : ℕ} {calm after : List ℕ} {pairs : Contents} {gon
   pub index-still : (h : Held) → Still h → h.kind ≡ FortyEight
       → slice_index after (index_at h.base (byte_in c h)) ≡ slice_index calm (index_at h.base (byte_in c h))
   index-still h still is =
-      let small = byte-small h in
+      let small = byte-in-small c h in
       placed-word calm after h.base FortyEight (index_at h.base (byte_in c h)) (index_at h.base (byte_in c h) - h.base)
       (subst (λ k. SameRow calm after h.base k) is still.0) (omega arith) (omega arith) (omega (arith, small))
 

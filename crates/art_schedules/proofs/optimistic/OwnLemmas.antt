@@ -67,6 +67,8 @@ use Rattle.art_schedules.specs.optimistic.Laws.{WaysBegin, WaysGoOn, FindingsSta
 use Rattle.art_schedules.proofs.calm.VersionLemmas.{unmarked-free}
 use Rattle.art_schedules.specs.work.Ways.{IsOnWay, slot_in, HasChild, KnowsKeys, KnowsFinding, HangsOnWay}
 use Rattle.art_schedules.proofs.work.CallLemmas.{insert-of, seek-of, key-small, kept-after, full-slot}
+use Rattle.art_schedules.proofs.effects.ValueLemmas.{no-slot, empty-slot, own-leaf, other-leaf, other-row, hangs-on, reached-below}
+use Rattle.art_schedules.proofs.effects.ValueLemmas.{byte-in-small, overwritten}
 
 -- ---- words, bytes and calls
 
@@ -122,37 +124,6 @@ module _ (shape : Shape) (call : Call) (tree : is_tree_call call ≡ true) (key-
   own-of : (h : Held) → Kept h → Stands words h → Reached shape calm h.base h.kind → Own h
   own-of h kept st reached = ((λ j low high. stand-word h kept st (h.base + j) (omega arith) (omega (arith, high))), reached)
 
-  -- ---- the map, by what hangs on the key's byte
-
-  hangs-on : (h : Held) (slot : ℕ) (child : Child) → HasChild c calm h slot child → child_on shape calm h.base h.kind (byte_in c h) ≡ child
-  hangs-on h slot child at = ap (child_in shape calm) at.at ∙ at.has
-
-  no-slot : (h : Held) → IsOnWay c calm h → slot_in c calm h ≡ None → value_at m (key_of call) ≡ None
-  no-slot h on none = (ways shape calm m (key_of call) h.base h.kind (byte_in c h) rest.tree means on.leads).0 (ap (child_in shape calm) none)
-
-  empty-slot : (h : Held) (slot : ℕ) → IsOnWay c calm h → HasChild c calm h slot Empty → value_at m (key_of call) ≡ None
-  empty-slot h slot on at = (ways shape calm m (key_of call) h.base h.kind (byte_in c h) rest.tree means on.leads).0 (hangs-on h slot Empty at)
-
-  own-leaf : (h : Held) (slot k v : ℕ) → IsOnWay c calm h → HasChild c calm h slot (Leaf k v) → k ≡ key_of call → value_at m (key_of call) ≡ Some v
-  own-leaf h slot k v on at is =
-      ((ways shape calm m (key_of call) h.base h.kind (byte_in c h) rest.tree means on.leads).1 k v (hangs-on h slot (Leaf k v) at)).0 is
-
-  other-leaf : (h : Held) (slot k v : ℕ) → IsOnWay c calm h → HasChild c calm h slot (Leaf k v) → k ≢ key_of call → value_at m (key_of call) ≡ None
-  other-leaf h slot k v on at is =
-      ((ways shape calm m (key_of call) h.base h.kind (byte_in c h) rest.tree means on.leads).1 k v (hangs-on h slot (Leaf k v) at)).1 is
-
-  other-row : (h : Held) (slot base d : ℕ) (kind : Kind) → IsOnWay c calm h → HasChild c calm h slot (ChildRow base kind)
-      → first_difference (path_in calm base kind) (key_bytes (key_of call)) ≡ Some d → value_at m (key_of call) ≡ None
-  other-row h slot base d kind on at parts =
-      (ways shape calm m (key_of call) h.base h.kind (byte_in c h) rest.tree means on.leads).2 base d kind (hangs-on h slot (ChildRow base kind) at) parts
-
-  byte-in-small : (h : Held) → byte_in c h < 256
-  byte-in-small h = key_byte-small (key_of call) (row_at h).level
-
-  -- the row below is reached
-  reached-below : (h : Held) (slot base : ℕ) (kind : Kind) → HangsOnWay c calm h slot (ChildRow base kind) → Reached shape calm base kind
-  reached-below h slot base kind (on, at) = below on.leads.reached (byte_in c h) (byte-in-small h) (hangs-on h slot (ChildRow base kind) at)
-
   -- the info of a row of the tree is calm's
   info-is : (base : ℕ) (kind : Kind) → Reached shape calm base kind → slice_index calm (info_at base) ≡ slice_index words (info_at base)
   info-is base kind reached = agrees.info base kind reached
@@ -179,29 +150,23 @@ module _ (shape : Shape) (call : Call) (tree : is_tree_call call ≡ true) (key-
     overwrites : (h : Held) (slot k v : ℕ) (o : Option ℕ) → overwriting call v ≡ o → IsOnWay c calm h → Past h → HasChild c calm h slot (Leaf k v)
         → k ≡ key_of call → To (overwrite_unlocked c h slot v o)
     overwrites h slot k v None f on past at is =
-        let has = own-leaf h slot k v on at is in
+        let has = own-leaf c rest means ways h slot k v on at is in
         Finds (reply.Some v) (inr (sym (seek-reply m call seeks-key ∙ ap value_reply has)), sym (kept-after m call v seeks-key f has))
         (knows false e (Some (reply.Some v)) _ refl tt tt)
     overwrites h slot k v (Some word) f on past at is = GoesOn (knows false e None _ (
       (λ st. on.leads.reached),
       tt,
-      (λ st. record {
-        call = tree;
-        words = tt;
-        byte = byte_in c h;
-        leads = on.leads;
-        finds = (refl, at.at, subst (IsOverwritten c word (Some v)) (sym (hangs-on h slot (Leaf k v) at)) (is, refl, inr f));
-      }),
+      (λ st. overwritten c tree h slot (Leaf k v) word (Some v) on at (is, refl, inr f)),
     ) (past, tt) tt)
 
     seeks : (h : Held) (f : Finding) → IsOnWay c calm h → Past h → KnowsFinding false c calm h f → To (seek_unlocked c h f)
-    seeks h (Lacks keys) on past none = ends (no-slot h on none)
-    seeks h (Has slot Empty) on past at = ends (empty-slot h slot on at)
+    seeks h (Lacks keys) on past none = ends (no-slot c rest means ways h on none)
+    seeks h (Has slot Empty) on past at = ends (empty-slot c rest means ways h slot on at)
     seeks h (Has slot (Leaf k v)) on past at = go (k == key_of call) refl
       where
         go : (b : Bool) → (k == key_of call) ≡ b → To (if b then overwrite_unlocked c h slot v (overwriting call v) else Over no_value)
         go true same = overwrites h slot k v (overwriting call v) refl on past at (eqb-true k (key_of call) same)
-        go false apart = ends (other-leaf h slot k v on at (eqb-false k (key_of call) apart))
+        go false apart = ends (other-leaf c rest means ways h slot k v on at (eqb-false k (key_of call) apart))
     seeks h (Has slot (ChildRow base kind)) on past at = GoesOn (knows false e None _ (λ st. (on, at)) (past, tt) tt)
 
   -- ---- an insert behind its check
@@ -241,18 +206,14 @@ module _ (shape : Shape) (call : Call) (tree : is_tree_call call ≡ true) (key-
           leads = on.leads;
           finds = (refl, on.info);
         })
-    inserts p (Has slot Empty) on up past under at = takes p.row (leaf_work c slot None) past.0 (record {
-      call = tree;
-      words = tt;
-      byte = byte_in c p.row;
-      leads = on.leads;
-      finds = (refl, at.at, subst (IsOverwritten c (child_word (new_leaf call)) None) (sym (hangs-on p.row slot Empty at)) (e, refl, refl));
-    })
+    inserts p (Has slot Empty) on up past under at = takes p.row (leaf_work c slot None) past.0
+        (overwritten c tree p.row slot Empty (child_word (new_leaf call)) None on at (e, refl, refl))
     inserts p (Has slot (Leaf k v)) on up past under at = go (k == key_of call) refl
       where
         parts : k ≢ key_of call → first_difference (key_bytes k) (key_bytes (key_of call)) ≡ Some (keys_differ_at k (key_of call))
         parts apart =
-            keys-differ k (key_of call) (leaves shape calm p.row.base p.row.kind (byte_in c p.row) k v rest.small (hangs-on p.row slot (Leaf k v) at)).0
+            keys-differ k (key_of call)
+            (leaves shape calm p.row.base p.row.kind (byte_in c p.row) k v rest.small (hangs-on c p.row slot (Leaf k v) at)).0
             (key-small call tree key-call) apart
 
         pairs : (b : Bool) → (k == key_of call) ≡ false → To (if b then Wait Root else take_alone c p.row (pair_work c slot k v))
@@ -270,18 +231,9 @@ module _ (shape : Shape) (call : Call) (tree : is_tree_call call ≡ true) (key-
 
         go : (b : Bool) → (k == key_of call) ≡ b → To (if b then take_alone c p.row (leaf_work c slot (Some v))
             else if nat_le (keys_differ_at k (key_of call)) (row_at p.row).level then Wait Root else take_alone c p.row (pair_work c slot k v))
-        go true same = takes p.row (leaf_work c slot (Some v)) past.0 (record {
-          call = tree;
-          words = tt;
-          byte = byte_in c p.row;
-          leads = on.leads;
-          finds = (
-            refl,
-            at.at,
-            subst (IsOverwritten c (child_word (new_leaf call)) (Some v)) (sym (hangs-on p.row slot (Leaf k v) at))
-                (eqb-true k (key_of call) same, refl, inl (e, refl)),
-          );
-        })
+        go true same = takes p.row (leaf_work c slot (Some v)) past.0
+            (overwritten c tree p.row slot (Leaf k v) (child_word (new_leaf call)) (Some v) on at
+            (eqb-true k (key_of call) same, refl, inl (e, refl)))
         go false other = pairs (nat_le (keys_differ_at k (key_of call)) (row_at p.row).level) other
     inserts p (Has slot (ChildRow base kind)) on up past under at = GoesOn (knows true e None _ (λ st. (on, at)) (past.0, tt) tt)
 
@@ -401,12 +353,12 @@ module _ (shape : Shape) (call : Call) (tree : is_tree_call call ≡ true) (key-
         (got _ _ refl),
   ) k.are_past tt)
   finds i e base FortyEight info was above slot w k got =
-      let small = byte-in-small (held base FortyEight info was) in
+      let small = byte-in-small c (held base FortyEight info was) in
       indexed i e base info was above slot w k
       (calm-word (held base FortyEight info was) k.row_kept (index_at base (byte_in c (held base FortyEight info was))) w
       (omega (arith, small), omega (arith, small)) (got _ _ refl))
   finds i e base Full info was above slot w k got =
-      let small = byte-in-small (held base Full info was) in
+      let small = byte-in-small c (held base Full info was) in
       let at = child_at Full base (byte_in c (held base Full info was)) in
       sees i e (place base Full info was above slot) (Has at (child_of shape w)) k (λ st. record {
         at = refl;
@@ -481,16 +433,17 @@ module _ (shape : Shape) (call : Call) (tree : is_tree_call call ≡ true) (key-
   -- the row above is checked, and stands
   passes : (i : Bool) → is_insert call ≡ i → (d : Down) (kept : ℕ) → IsBelow c calm words d → Stands words d.above
       → Each Past (held d.base d.kind 0 kept ∷ d.above ∷ []) → To (Info d kept)
-  passes true e d kept k st past = GoesOn (knows true e None _ (k, (λ same. reached-below d.above d.slot d.base d.kind (k st)), tt) past tt)
+  passes true e d kept k st past = GoesOn
+      (knows true e None _ (k, (λ same. reached-below c d.above d.slot d.base d.kind (k st)), tt) past tt)
   passes false e d kept k st past = go (first_difference (path_in words d.base d.kind) (key_bytes (key_of call))) refl
     where
       reached : Reached shape calm d.base d.kind
-      reached = reached-below d.above d.slot d.base d.kind (k st)
+      reached = reached-below c d.above d.slot d.base d.kind (k st)
 
       go : (o : Option ℕ) → first_difference (path_in words d.base d.kind) (key_bytes (key_of call)) ≡ o → To (Info d kept)
       go None f = GoesOn (knows false e None _ (k, (λ same. reached), f) past tt)
       go (Some x) f = Finds reply.None
-          (finds-none e (other-row d.above d.slot d.base x d.kind (k st).0 (k st).1
+          (finds-none e (other-row c rest means ways d.above d.slot d.base x d.kind (k st).0 (k st).1
           (ap (λ xs. first_difference xs (key_bytes (key_of call))) (path-is d.base d.kind reached) ∙ f)))
           (knows false e (Some reply.None) _ (refl, (x, f)) past tt)
 
@@ -523,7 +476,7 @@ module _ (shape : Shape) (call : Call) (tree : is_tree_call call ≡ true) (key-
       begins : HangsOnWay c calm d.above d.slot (ChildRow d.base d.kind)
           → BeginsWork c calm (hold_alone d.above) (beside_work d.slot (row-below d kept) x)
       begins hang =
-          let reached = reached-below d.above d.slot d.base d.kind hang in
+          let reached = reached-below c d.above d.slot d.base d.kind hang in
           let same = path-is d.base d.kind reached in
           record {
             call = tree;

@@ -1,0 +1,69 @@
+-- What the map has at a call's key, by what hangs on the key's byte of a row on its way; and work that overwrites a slot of such a row.
+use Rattle.std.proofs.Common.{◌≡◌, ◌≢◌, ℕ, ◌<◌, List, slice_index, true, sym, ap, ◌∙◌, subst, refl}
+use Rattle.std.specs.Prelude.{Option, Some, None}
+use Rattle.map_object.specs.MapObject.{Contents, value_at}
+use Rattle.art_rows.specs.declared.table.Kind.{Kind}
+use Rattle.art_rows.specs.declared.table.Child.{Child}
+use Rattle.art_rows.specs.declared.table.Child.TheVariants.{Empty, Row as ChildRow, Leaf}
+use Rattle.art_rows.specs.Words.{key_bytes, first_difference}
+use Rattle.art_rows.proofs.ByteLemmas.{key_byte-small}
+use Rattle.art_steps.specs.TreeCalls.{is_tree_call}
+use Rattle.art_steps.specs.Rows.{Setting, key_of}
+use Rattle.art_stages.specs.declared.stage.Held.{Held}
+use Rattle.art_stages.specs.declared.stage.Work.TheVariants as work
+use Rattle.art_stages.specs.Stages.{row_at, byte_in}
+use Rattle.art_stages.specs.Automaton.{hold_alone}
+use Rattle.art_core.specs.Meaning.{Reached, below, child_on, child_in, Means}
+use Rattle.art_core.specs.Forms.{path_in}
+use Rattle.art_serial.specs.trees.Trees.{IsAtRest, WaysLeadToValues}
+use Rattle.art_schedules.specs.work.Ways.{IsOnWay, slot_in, HasChild, HangsOnWay}
+use Rattle.art_schedules.specs.effects.Begins.{BeginsWork, IsOverwritten}
+
+pub byte-in-small : (c : Setting) (h : Held) → byte_in c h < 256
+byte-in-small c h = key_byte-small (key_of c.call) (row_at h).level
+
+module _ (c : Setting) {calm : List ℕ} where
+  pub hangs-on : (h : Held) (slot : ℕ) (child : Child) → HasChild c calm h slot child → child_on c.shape calm h.base h.kind (byte_in c h) ≡ child
+  hangs-on h slot child at = ap (child_in c.shape calm) at.at ∙ at.has
+
+  -- the row below is reached
+  pub reached-below : (h : Held) (slot base : ℕ) (kind : Kind) → HangsOnWay c calm h slot (ChildRow base kind) → Reached c.shape calm base kind
+  reached-below h slot base kind (on, at) =
+      below on.leads.reached (byte_in c h) (byte-in-small c h) (hangs-on h slot (ChildRow base kind) at)
+
+  -- a slot of the row is overwritten
+  pub overwritten : is_tree_call c.call ≡ true → (h : Held) (slot : ℕ) (child : Child) (word : ℕ) (old : Option ℕ) → IsOnWay c calm h
+      → HasChild c calm h slot child → IsOverwritten c word old child → BeginsWork c calm (hold_alone h) (work.Write slot word old)
+  overwritten tree h slot child word old on at over = record {
+    call = tree;
+    words = tt;
+    byte = byte_in c h;
+    leads = on.leads;
+    finds = (refl, at.at, subst (IsOverwritten c word old) (sym (hangs-on h slot child at)) over);
+  }
+
+module _ (c : Setting) {n : ℕ} {calm : List ℕ} {m : Contents} (rest : IsAtRest c.shape n calm) (means : Means c.shape calm m)
+    (ways : WaysLeadToValues) where
+  pub no-slot : (h : Held) → IsOnWay c calm h → slot_in c calm h ≡ None → value_at m (key_of c.call) ≡ None
+  no-slot h on none =
+      (ways c.shape calm m (key_of c.call) h.base h.kind (byte_in c h) rest.tree means on.leads).0 (ap (child_in c.shape calm) none)
+
+  pub empty-slot : (h : Held) (slot : ℕ) → IsOnWay c calm h → HasChild c calm h slot Empty → value_at m (key_of c.call) ≡ None
+  empty-slot h slot on at =
+      (ways c.shape calm m (key_of c.call) h.base h.kind (byte_in c h) rest.tree means on.leads).0 (hangs-on c h slot Empty at)
+
+  pub own-leaf : (h : Held) (slot k v : ℕ) → IsOnWay c calm h → HasChild c calm h slot (Leaf k v) → k ≡ key_of c.call
+      → value_at m (key_of c.call) ≡ Some v
+  own-leaf h slot k v on at is =
+      ((ways c.shape calm m (key_of c.call) h.base h.kind (byte_in c h) rest.tree means on.leads).1 k v (hangs-on c h slot (Leaf k v) at)).0 is
+
+  pub other-leaf : (h : Held) (slot k v : ℕ) → IsOnWay c calm h → HasChild c calm h slot (Leaf k v) → k ≢ key_of c.call
+      → value_at m (key_of c.call) ≡ None
+  other-leaf h slot k v on at is =
+      ((ways c.shape calm m (key_of c.call) h.base h.kind (byte_in c h) rest.tree means on.leads).1 k v (hangs-on c h slot (Leaf k v) at)).1 is
+
+  pub other-row : (h : Held) (slot base d : ℕ) (kind : Kind) → IsOnWay c calm h → HasChild c calm h slot (ChildRow base kind)
+      → first_difference (path_in calm base kind) (key_bytes (key_of c.call)) ≡ Some d → value_at m (key_of c.call) ≡ None
+  other-row h slot base d kind on at parts =
+      (ways c.shape calm m (key_of c.call) h.base h.kind (byte_in c h) rest.tree means on.leads).2 base d kind
+      (hangs-on c h slot (ChildRow base kind) at) parts
