@@ -30,7 +30,7 @@ use Rattle.art_core.proofs.HistoryLemmas.{is-moved}
 use Rattle.art_serial.proofs.writes.StoreLemmas.{stored-at}
 use Rattle.art_serial.proofs.serial.OrderlyLemmas.{set-here}
 use Rattle.art_versions.specs.versions.Holding.{OfRows, Named, IsKept, holds}
-use Rattle.art_versions.specs.versions.Effects.{Has, Does, Reads, Writes, Fills, Ends, Releases, Takes, Claims, Answered, IsAmong}
+use Rattle.art_versions.specs.versions.Effects.{Has, Reads, Writes, Fills, Ends, Releases, Takes, Claims, Answered, IsAmong, AccessDoes}
 use Rattle.art_versions.specs.versions.Versions.{stage_of, IsSettled, IsSound}
 use Rattle.art_versions.specs.versions.Laws.{IsFull}
 use Rattle.art_versions.proofs.versions.WordFacts.{version-free}
@@ -98,7 +98,7 @@ module _ (variant : Variant) (shape : Shape) (root : 1 ≤ shape.rows256) (n : �
         let kept = held-is-kept P c place (h.knows p call q (record { own = here; is_open = is-open })) y a in
         omega (arith, ap (slice_index s.words) same, is, locked, version-free (locks variant) x.kept k.0, version-free (locks variant) y.kept kept.0)
 
-    access : (a : Access) (mark : Option Point) → call_turn c place ≡ Asks a mark → Does P c place → Changed (Makes a)
+    access : (a : Access) (mark : Option Point) → call_turn c place ≡ Asks a mark → AccessDoes P c place → Changed (Makes a)
     access a mark e (Reads word at turn after) = subst (λ a. Changed (Makes a)) (asks-same (sym turn ∙ e))
         (RowsStay (λ x high. same-words s.words word x (in-table (Load word) at turn)))
     access a mark e (Writes x word value at turn among kept behind good after) = subst (λ a. Changed (Makes a)) (asks-same (sym turn ∙ e))
@@ -155,7 +155,7 @@ module _ (variant : Variant) (shape : Shape) (root : 1 ≤ shape.rows256) (n : �
       turn : act plan.shape plan.variant call q.got ≡ call_turn (setting shape variant call) (stage_of variant shape call q)
       turn = ap (λ x. act x plan.variant call q.got) its-shape ∙ (ap (λ v. act shape v call q.got) its-variant ∙ next-turn variant shape call q)
 
-      doing : Does (IsSettled variant shape s) (setting shape variant call) (stage_of variant shape call q)
+      doing : AccessDoes (IsSettled variant shape s) (setting shape variant call) (stage_of variant shape call q)
       doing = does variant full shape call (IsSettled variant shape s) (settled-row variant shape s) h.root (stage_of variant shape call q)
           (h.knows p call q (record { own = here; is_open = e }))
 

@@ -49,8 +49,8 @@ use Rattle.art_serial.proofs.alone.PlaceLemmas.{sits-kind_at, kind_at-sits, sits
 use Rattle.art_serial.proofs.alone.LikeLemmas.{sits}
 use Rattle.art_serial.proofs.alone.WayLemmas.{leads-root}
 use Rattle.art_serial.proofs.writes.StoreLemmas.{stored-at}
-use Rattle.art_versions.specs.versions.Holding.{Each, Fits, Knows, KnowsKey, holds, fills, row_filled}
-use Rattle.art_versions.specs.versions.Locking.{all_of, held_at_place, lock_of, locks_of, rows_held, rows_of_hold}
+use Rattle.art_versions.specs.versions.Holding.{Each, Knows, KnowsKey, holds, fills, row_filled, FitsStage}
+use Rattle.art_versions.specs.versions.Locking.{all_of, held_at_place, lock_of, locks_of, rows_of_hold, held_at_stage}
 use Rattle.art_versions.specs.versions.Effects.{IsAmong}
 use Rattle.art_versions.specs.versions.Versions.{IsOpen, IsSettled, stage_of, held_by, filled_by, IsAtStage}
 use Rattle.art_versions.proofs.versions.KnownLemmas.{held-is-kept, among-each, each-among, each-map}
@@ -87,17 +87,17 @@ exchange-unlock : {t : Target} {v : ℕ} {h : Hold} {o : _} → OnKey (Unlock h 
 exchange-unlock e = cc
 
 -- at its first stage work holds its rows
-moves-hold : (i : Bool) (h : Hold) (keys : Keys) (n : ℕ) → rows_held true i (moves_at h keys n) ≡ rows_of_hold h
+moves-hold : (i : Bool) (h : Hold) (keys : Keys) (n : ℕ) → held_at_stage true i (moves_at h keys n) ≡ rows_of_hold h
 moves-hold i h keys zero = refl
 moves-hold i h keys (suc n) = refl
 
-puts-hold : (i : Bool) (kind : Kind) (c : Setting) (h : Hold) (keys : Keys) → rows_held true i (put_at kind c h keys) ≡ rows_of_hold h
+puts-hold : (i : Bool) (kind : Kind) (c : Setting) (h : Hold) (keys : Keys) → held_at_stage true i (put_at kind c h keys) ≡ rows_of_hold h
 puts-hold i Four c h keys = moves-hold i h keys (count_in Four keys - place_in c h keys)
 puts-hold i Sixteen c h keys = moves-hold i h keys (count_in Sixteen keys - place_in c h keys)
 puts-hold i FortyEight c h keys = refl
 puts-hold i Full c h keys = refl
 
-pub works-hold : (i : Bool) (c : Setting) (h : Hold) (work : Work) → rows_held true i (work_at c h work) ≡ rows_of_hold h
+pub works-hold : (i : Bool) (c : Setting) (h : Hold) (work : Work) → held_at_stage true i (work_at c h work) ≡ rows_of_hold h
 works-hold i c h (work.Write slot word value) = refl
 works-hold i c h (work.Pair p) = refl
 works-hold i c h (work.Put keys) = puts-hold i h.row.kind c h keys
@@ -113,7 +113,8 @@ find-loads Full c n = (_, refl)
 data DoesAt (c : Setting) (i : Bool) (stage : Stage) : Type 0 where
   DoesLoad : (word : ℕ) → (mark : Option Point) → turn_at c stage ≡ Asks (Load word) mark → DoesAt c i stage
   DoesSwap : (t : Target) → (v : ℕ) → stage ≡ Exchange t v → DoesAt c i stage
-  DoesRelease : (h : Held) → (mark : Option Point) → IsAmong h (rows_held true i stage) → turn_at c stage ≡ Asks (Store h.base (released_word h.kept)) mark
+  DoesRelease : (h : Held) → (mark : Option Point) → IsAmong h (held_at_stage true i stage)
+      → turn_at c stage ≡ Asks (Store h.base (released_word h.kept)) mark
       → DoesAt c i stage
   DoesAnswer : (r : Reply) → turn_at c stage ≡ Answers r → DoesAt c i stage
 
@@ -275,7 +276,8 @@ module _ (shape : Shape) (s t : State) (p : ℕ) (first calm after : List ℕ) (
             let version : u ≡ v = (exchanges-same its).1 in
             let target = target-of found (is_insert call) c calm t u (subst (KnowsAt found (is_insert call) c calm) x k) in
             let row = target-reached c calm t target in
-            ap is_obsolete (sym version) ∙ (takes-row t u (at ∙ ap OnKey x) target (subst (Fits true (is_insert call) c) x (knows-key stage at).fits).2
+            ap is_obsolete (sym version)
+            ∙ (takes-row t u (at ∙ ap OnKey x) target (subst (FitsStage true (is_insert call) c) x (knows-key stage at).fits).2
             (ap (slice_index s.words) (exchange-word its) ∙ (is ∙ sym version)) row.0 row.1).1
 
     gets-at : (found : Option Reply) (stage : Stage) (a : Access) (mark : Option Point) → stage_of Coupled shape call q ≡ OnKey stage
@@ -297,7 +299,7 @@ module _ (shape : Shape) (s t : State) (p : ℕ) (first calm after : List ℕ) (
                 let its = ap (turn_at c) (sym x) ∙ e in
                 let word-is : target_base c t ≡ word = exchange-word its in
                 let version : u ≡ v = (exchanges-same its).1 in
-                let unlocked = (subst (Fits true (is_insert call) c) x (knows-key stage at).fits).2 in
+                let unlocked = (subst (FitsStage true (is_insert call) c) x (knows-key stage at).fits).2 in
                 let target = target-of found (is_insert call) c calm t u (subst (KnowsAt found (is_insert call) c calm) x k) in
                 let row = takes-row t u (at ∙ ap OnKey x) target unlocked
                 (ap (slice_index s.words) word-is ∙ (is ∙ sym version)) kind (subst (λ w. Reached shape calm w kind) (sym word-is) r) in
@@ -310,9 +312,11 @@ module _ (shape : Shape) (s t : State) (p : ℕ) (first calm after : List ℕ) (
         → filled_by Coupled shape call q ≡ (b, k) ∷ [] → ⊥
     none-filled found stage at k b kind e = no-items (sym (fills-none found c (is_insert call) calm stage k) ∙ (ap fills (sym at) ∙ e))
 
-    its-held : (stage : Stage) → stage_of Coupled shape call q ≡ OnKey stage → (h : Held) → IsAmong h (rows_held true (is_insert call) stage)
+    its-held : (stage : Stage) → stage_of Coupled shape call q ≡ OnKey stage → (h : Held)
+        → IsAmong h (held_at_stage true (is_insert call) stage)
         → IsAmong (lock_of h) (held_by Coupled shape call q)
-    its-held stage at h a = subst (λ x. IsAmong (lock_of h) (holds c x)) (sym at) (among-lock h (rows_held true (is_insert call) stage) a)
+    its-held stage at h a = subst (λ x. IsAmong (lock_of h) (holds c x)) (sym at)
+        (among-lock h (held_at_stage true (is_insert call) stage) a)
 
     -- the words of rows behind their versions stay
     words-stay : (found : Option Reply) (stage : Stage) → stage_of Coupled shape call q ≡ OnKey stage → KnowsAt found (is_insert call) c calm stage → (base : ℕ)
@@ -348,7 +352,7 @@ module _ (shape : Shape) (s t : State) (p : ℕ) (first calm after : List ℕ) (
         go (DoesSwap t u x) = without (λ word value m e. exchange-store (ap (turn_at c) (sym x) ∙ e))
         go (DoesAnswer reply x) = without (λ word value m e. answers-asks (sym x ∙ e))
         go (DoesRelease h l among x) =
-            let own = among-each (IsHeldLive calm s.words) h (rows_held true (is_insert call) stage) among k.rows in
+            let own = among-each (IsHeldLive calm s.words) h (held_at_stage true (is_insert call) stage) among k.rows in
             let held-here = its-held stage at h among in
             let settled = kept-row shape s t p first calm after f p call q o (lock_of h) held-here in
             let row = settled-row Coupled shape s h.base h.kind settled in
@@ -399,10 +403,10 @@ module _ (plan : Plan) (start : Contents) (words schedule : List ℕ) (p : ℕ) 
   -- the rows that the call holds behind the step are still
   rows-still : (call : Call) (r : ℕ) (effect : Option Effect) (next : Stage) (x : IsAtStage Coupled plan.shape t r call (OnKey next))
       → ((h : Held) → IsAmong (lock_of h) (held_by Coupled plan.shape call x.process) → SameRow s.words t.words h.base h.kind × (IsGoneBy effect h.base → ⊥))
-      → Each (IsStill calm s.words after t.words effect) (rows_held true (is_insert call) next)
-  rows-still call r effect next x same = each-among _ (rows_held true (is_insert call) next) (λ h a.
+      → Each (IsStill calm s.words after t.words effect) (held_at_stage true (is_insert call) next)
+  rows-still call r effect next x same = each-among _ (held_at_stage true (is_insert call) next) (λ h a.
       let among = subst (λ y. IsAmong (lock_of h) (holds (setting plan.shape Coupled call) y)) (sym x.at)
-      (among-lock h (rows_held true (is_insert call) next) a) in
+      (among-lock h (held_at_stage true (is_insert call) next) a) in
       let y = same h among in
       record { row = held-calm plan.shape s t p words calm after f r call x.process x.is_open (lock_of h) among; same = y.0; stays = y.1 })
 
@@ -430,7 +434,7 @@ module _ (plan : Plan) (start : Contents) (words schedule : List ℕ) (p : ℕ) 
     own-gets : Gets its calm s.words stage got
     own-gets = gets-at plan.shape s t p words calm after f claims h.rests leaving leave call at.process at.is_open found stage a mark at.at k.way turn
 
-    own-still-rows : Each (IsStill calm s.words after t.words None) (rows_held true (is_insert call) (stage_after its stage got))
+    own-still-rows : Each (IsStill calm s.words after t.words None) (held_at_stage true (is_insert call) (stage_after its stage got))
     own-still-rows = rows-still call p None (stage_after its stage got) next-at (λ x among.
         let settled = (held-is-kept (IsSettled Coupled plan.shape t) its (stage_of Coupled plan.shape call next-at.process)
         (f.behind.knows p call next-at.process next-at.is_open) (lock_of x) among).1 in (
@@ -455,7 +459,8 @@ module _ (plan : Plan) (start : Contents) (words schedule : List ℕ) (p : ℕ) 
       goes-then (GoesOn x) = GoesOn (knows-then None x)
       goes-then (Finds r does x) = Finds r does (knows-then (Some r) x)
       goes-then (Works hold work e b own) =
-          let still = subst (Each (IsStill calm s.words after t.words None)) (ap (rows_held true (is_insert call)) e ∙ works-hold (is_insert call) its hold
+          let still = subst (Each (IsStill calm s.words after t.words None))
+          (ap (held_at_stage true (is_insert call)) e ∙ works-hold (is_insert call) its hold
           work)
           own-still-rows in
           Works hold work e (begins-kept its (f.count + 2) calm after m (IsGoneBy None) (ComesInBy None) own-follows hold work
@@ -499,14 +504,15 @@ others-leave-ways plan start words schedule p s t claims m r call stage found pa
     next : IsAtStage Coupled plan.shape t r call (OnKey stage)
     next = record { process = at.process; is_open = others-open plan p r s t call at.process h.run.made apart at.is_open; at = at.at }
 
-    live : (x : Held) → IsAmong x (rows_held true (is_insert call) stage) → is_obsolete x.kept ≡ false
-    live x a = (among-each _ x (rows_held true (is_insert call) stage) a k.rows).live
+    live : (x : Held) → IsAmong x (held_at_stage true (is_insert call) stage) → is_obsolete x.kept ≡ false
+    live x a = (among-each _ x (held_at_stage true (is_insert call) stage) a k.rows).live
 
-    still : Each (IsStill (calm_of plan words schedule) s.words (calm_of plan words (schedule ++ p ∷ [])) t.words effect) (rows_held true (is_insert call)
+    still : Each (IsStill (calm_of plan words schedule) s.words (calm_of plan words (schedule ++ p ∷ [])) t.words effect)
+        (held_at_stage true (is_insert call)
         stage)
-    still = each-among _ (rows_held true (is_insert call) stage) (λ x a.
+    still = each-among _ (held_at_stage true (is_insert call) stage) (λ x a.
         let among = subst (λ y. IsAmong (lock_of x) (holds (setting plan.shape Coupled call) y)) (sym at.at)
-        (among-lock x (rows_held true (is_insert call) stage) a) in
+        (among-lock x (held_at_stage true (is_insert call) stage) a) in
         record {
           row = held-calm plan.shape s t p words _ _ known r call at.process next.is_open (lock_of x) among;
           same = others-same plan.shape s t p words _ _ known r call at.process apart at.is_open (lock_of x) among;
@@ -557,7 +563,7 @@ place-reached true c table p k = (k.0.leads.reached, above p.above k.1)
     above (Some a) k = (k.0.leads.reached, tt)
 
 stage-reached : (i : Bool) (c : Setting) (table : List ℕ) (stage : Stage) → KnowsStage i c table stage
-    → Each (λ h. Reached c.shape table h.base h.kind) (rows_held true i stage)
+    → Each (λ h. Reached c.shape table h.base h.kind) (held_at_stage true i stage)
 stage-reached i c table (Lock Root first) k = tt
 stage-reached i c table (Lock (Below d) first) k = (k.0.leads.reached, tt)
 stage-reached i c table (Lock (Taken t) first) k = absurd k
@@ -576,7 +582,7 @@ stage-reached i c table (LetGo above p f) k = (k.0.leads.reached, (k.2, tt))
 stage-reached i c table stage k = absurd k
 
 at-reached : (o : Option Reply) (i : Bool) (c : Setting) (table : List ℕ) (stage : Stage) → KnowsAt o i c table stage
-    → Each (λ h. Reached c.shape table h.base h.kind) (rows_held true i stage)
+    → Each (λ h. Reached c.shape table h.base h.kind) (held_at_stage true i stage)
 at-reached None i c table stage k = stage-reached i c table stage k
 at-reached (Some r) true c table (Info d kept) k = absurd k.1
 at-reached (Some r) false c table (Info d kept) k = (k.1.0, tt)
@@ -591,7 +597,7 @@ locked-each shape table (x ∷ hs) k h (inl e) = subst (λ y. Reached shape tabl
 locked-each shape table (x ∷ hs) k h (inr a) = locked-each shape table hs k.1 h a
 
 pub ways-hold-reached : WaysHoldReached
-ways-hold-reached shape call table words stage found k h a = locked-each shape table (rows_held true (is_insert call) stage)
+ways-hold-reached shape call table words stage found k h a = locked-each shape table (held_at_stage true (is_insert call) stage)
     (at-reached found (is_insert call) (setting shape Coupled call) table stage k.way) h a
 
 pub calls-begin : CallsBegin

@@ -46,8 +46,8 @@ use Rattle.art_serial.proofs.alone.SeekLemmas.{absent-after, seek-reply}
 use Rattle.art_serial.proofs.inserts.InsertEndLemmas.{first-differs}
 use Rattle.art_serial.proofs.inserts.SmallLemmas.{path_byte-small}
 use Rattle.art_serial.proofs.trees.Bytes.{never_differs}
-use Rattle.art_versions.specs.versions.Holding.{Each, Fits, IsUnder, HasRoom, FitsPlace}
-use Rattle.art_versions.specs.versions.Locking.{all_of, rows_held, held_at_place, rows_of_target}
+use Rattle.art_versions.specs.versions.Holding.{Each, IsUnder, HasRoom, FitsPlace, FitsStage}
+use Rattle.art_versions.specs.versions.Locking.{all_of, held_at_place, rows_of_target, held_at_stage}
 use Rattle.art_versions.specs.versions.Effects.{IsBehindVersion}
 use Rattle.art_versions.proofs.versions.KeyLemmas.{slot-behind}
 use Rattle.art_versions.proofs.versions.WordFacts.{full-not-less, count-most}
@@ -84,11 +84,12 @@ module _ (shape : Shape) (call : Call) (tree : is_tree_call call ≡ true) (key-
   To stage = Goes c calm words m stage
 
   -- what is known, where it is known whether the call is an insert
-  knows : (i : Bool) → is_insert call ≡ i → (o : Option Reply) (stage : Stage) → KnowsAt o i c calm stage → Each Own (rows_held true i stage)
+  knows : (i : Bool) → is_insert call ≡ i → (o : Option Reply) (stage : Stage) → KnowsAt o i c calm stage
+      → Each Own (held_at_stage true i stage)
       → KnowsWay c calm words o stage
   knows i e o stage k rows = record {
     way = subst (λ j. KnowsAt o j c calm stage) (sym e) k;
-    rows = subst (λ j. Each Own (rows_held true j stage)) (sym e) rows;
+    rows = subst (λ j. Each Own (held_at_stage true j stage)) (sym e) rows;
   }
 
   leads-on : (h : Held) (slot base : ℕ) (kind : Kind) → HangsOnWay c calm h slot (ChildRow base kind)
@@ -359,7 +360,7 @@ module _ (shape : Shape) (call : Call) (tree : is_tree_call call ≡ true) (key-
   first-own false p own = own.0
 
   child-read : (i : Bool) → is_insert call ≡ i → (p : Position) (slot w : ℕ) → KnowsPlace i c calm p → slot_in c calm p.row ≡ Some slot
-      → Each Own (held_at_place true i p) → Fits true i c (Slot p slot) → Gets c calm words (Slot p slot) w
+      → Each Own (held_at_place true i p) → FitsStage true i c (Slot p slot) → Gets c calm words (Slot p slot) w
       → To (found_at true i false c p (Has slot (child_of shape w)))
   child-read i e p slot w on at own fits got = found i e p (Has slot (child_of shape w)) on own fits.0 (record {
     at = at;
@@ -447,7 +448,7 @@ module _ (shape : Shape) (call : Call) (tree : is_tree_call call ≡ true) (key-
   abbrev row-below : Down → ℕ → Held
   row-below d kept = held d.base d.kind (calm-info d) kept
 
-  arrives : (i : Bool) → is_insert call ≡ i → (d : Down) (kept : ℕ) → KnowsInfo i c calm d → Each Own (rows_held true i (Info d kept))
+  arrives : (i : Bool) → is_insert call ≡ i → (d : Down) (kept : ℕ) → KnowsInfo i c calm d → Each Own (held_at_stage true i (Info d kept))
       → To (below_at true i c d (row-below d kept) (path_differs_at c (row_at (row-below d kept))))
   arrives false e d kept k own = go (path_differs_at c (row_at (row-below d kept))) refl
     where
@@ -498,7 +499,7 @@ module _ (shape : Shape) (call : Call) (tree : is_tree_call call ≡ true) (key-
       go true full = absurd (full-not-less _ _ full room)
       go false less = subst (λ o. To (let_go_at c p.row o p.slot (Lacks keys))) (sym none) (alone e p.row (Lacks keys) on own at room)
 
-  below-own : (d : Down) (kept : ℕ) (i : Bool) → Each Own (rows_held true i (Info d kept)) → Own (held d.base d.kind 0 kept)
+  below-own : (d : Down) (kept : ℕ) (i : Bool) → Each Own (held_at_stage true i (Info d kept)) → Own (held d.base d.kind 0 kept)
   below-own d kept true own = own.0
   below-own d kept false own = own.0
 
@@ -523,7 +524,8 @@ module _ (shape : Shape) (call : Call) (tree : is_tree_call call ≡ true) (key-
 
   -- ---- each stage
 
-  next : (i : Bool) → is_insert call ≡ i → (stage : Stage) (w : ℕ) → KnowsStage i c calm stage → Each Own (rows_held true i stage) → Fits true i c stage
+  next : (i : Bool) → is_insert call ≡ i → (stage : Stage) (w : ℕ) → KnowsStage i c calm stage → Each Own (held_at_stage true i stage)
+      → FitsStage true i c stage
       → Gets c calm words stage w → To (after_with true i false c stage w)
   next i e (Lock t first) w k own fits got = go (is_locked w)
     where
@@ -572,7 +574,7 @@ module _ (shape : Shape) (call : Call) (calm words : List ℕ) (r : Reply) where
   here = setting shape Coupled call
 
   abbrev Knows : Bool → Stage → Type 0
-  Knows i stage = KnowsReply r i (setting shape Coupled call) calm stage × Each (IsHeldLive calm words) (rows_held true i stage)
+  Knows i stage = KnowsReply r i (setting shape Coupled call) calm stage × Each (IsHeldLive calm words) (held_at_stage true i stage)
 
   answers : (i : Bool) (stage : Stage) (w : ℕ) → Knows i stage → Gets (setting shape Coupled call) calm words stage w
       → Knows i (after_with true i false here stage w)

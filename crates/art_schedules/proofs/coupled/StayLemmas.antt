@@ -32,7 +32,7 @@ use Rattle.art_core.specs.Meaning.{below, child_in}
 use Rattle.art_serial.specs.trees.Trees.{SameRow, LeadsTo, Parts}
 use Rattle.art_serial.proofs.alone.SlotLemmas.{slot-is, row-keys, slot-same, keys-same, count-same, form-same}
 use Rattle.art_versions.specs.versions.Holding.{Each}
-use Rattle.art_versions.specs.versions.Locking.{rows_held, held_at_place, rows_of_target, rows_of_hold, all_of}
+use Rattle.art_versions.specs.versions.Locking.{held_at_place, rows_of_target, rows_of_hold, all_of, held_at_stage}
 use Rattle.art_schedules.specs.work.Works.{LacksByte}
 use Rattle.art_schedules.specs.changes.Courses.{IsGoneBy, IsStill}
 use Rattle.art_schedules.specs.changes.Follows.{Follows}
@@ -64,20 +64,23 @@ module _ (c : Setting) (n : ℕ) (calm after : List ℕ) (pairs : Contents) (gon
   target-still (Below d) still k = hangs-still c follows d.above d.slot (ChildRow d.base d.kind) still.0 k
   target-still (Taken t) still k = absurd k
 
-  info-still : (i : Bool) (d : Down) (kept : ℕ) → Each Still (rows_held true i (Info d kept)) → KnowsInfo i c calm d → KnowsInfo i c after d
+  info-still : (i : Bool) (d : Down) (kept : ℕ) → Each Still (held_at_stage true i (Info d kept)) → KnowsInfo i c calm d
+      → KnowsInfo i c after d
   info-still true d kept still k = hangs-still c follows d.above d.slot (ChildRow d.base d.kind) still.1.0 k
   info-still false d kept still k =
       subst (λ l. LeadsTo c.shape after (key_of c.call) d.base d.kind (slice_index (key_bytes (key_of c.call)) l)) (sym (follows.level d.base d.kind k.reached))
       (follows.ways (key_of c.call) d.base d.kind _ k still.0.1)
 
-  passed-still : (i : Bool) (d : Down) (kept : ℕ) → Each Still (rows_held true i (Info d kept)) → IsPassed i c calm d → IsPassed i c after d
+  passed-still : (i : Bool) (d : Down) (kept : ℕ) → Each Still (held_at_stage true i (Info d kept)) → IsPassed i c calm d
+      → IsPassed i c after d
   passed-still true d kept still k = absurd k
   passed-still false d kept still (reached, (x, differs)) = (
     (follows.rows d.base d.kind).1 (inl (reached, still.0.1)),
     (x, ap (λ xs. first_difference xs (key_bytes (key_of c.call))) (follows.path d.base d.kind reached) ∙ differs),
   )
 
-  stage-still : (i : Bool) (stage : Stage) → Each Still (rows_held true i stage) → KnowsStage i c calm stage → KnowsStage i c after stage
+  stage-still : (i : Bool) (stage : Stage) → Each Still (held_at_stage true i stage) → KnowsStage i c calm stage
+      → KnowsStage i c after stage
   stage-still i (Lock t first) still k = target-still t still k
   stage-still i (Exchange t v) still k = target-still t still k
   stage-still i (Between d kept) still k = hangs-still c follows d.above d.slot (ChildRow d.base d.kind) still.1.0 k
@@ -105,13 +108,15 @@ module _ (c : Setting) (n : ℕ) (calm after : List ℕ) (pairs : Contents) (gon
   )
   stage-still i stage still k = absurd k
 
-  reply-still : (r : Reply) (i : Bool) (stage : Stage) → Each Still (rows_held true i stage) → KnowsReply r i c calm stage → KnowsReply r i c after stage
+  reply-still : (r : Reply) (i : Bool) (stage : Stage) → Each Still (held_at_stage true i stage) → KnowsReply r i c calm stage
+      → KnowsReply r i c after stage
   reply-still r i (Info d kept) still (is, k) = (is, passed-still i d kept still k)
   reply-still r i (Unlock h outcome) still (none, is, reached) = (none, is, (follows.rows h.row.base h.row.kind).1 (inl (reached, still.0.1)))
   reply-still r i (Over outcome) still k = k
   reply-still r i stage still k = absurd k
 
-  pub at-still : (o : Option Reply) (i : Bool) (stage : Stage) → Each Still (rows_held true i stage) → KnowsAt o i c calm stage → KnowsAt o i c after stage
+  pub at-still : (o : Option Reply) (i : Bool) (stage : Stage) → Each Still (held_at_stage true i stage) → KnowsAt o i c calm stage
+      → KnowsAt o i c after stage
   at-still None i stage still k = stage-still i stage still k
   at-still (Some r) i stage still k = reply-still r i stage still k
 
@@ -126,9 +131,10 @@ own-still calm words after later h row same own = record {
 
 pub ways-are-kept : WaysAreKept
 ways-are-kept shape call n calm words after later pairs effect found stage follows still k = record {
-  way = at-still (setting shape Coupled call) n calm after pairs _ _ follows found (is_insert call) stage (rows (rows_held true (is_insert call) stage) still)
+  way = at-still (setting shape Coupled call) n calm after pairs _ _ follows found (is_insert call) stage
+      (rows (held_at_stage true (is_insert call) stage) still)
       k.way;
-  rows = own (rows_held true (is_insert call) stage) still k.rows;
+  rows = own (held_at_stage true (is_insert call) stage) still k.rows;
 }
   where
     rows : (hs : List Held) → Each (IsStill calm words after later effect) hs

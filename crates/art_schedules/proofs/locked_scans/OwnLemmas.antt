@@ -41,7 +41,7 @@ use Rattle.art_serial.proofs.writes.StoreLemmas.{stored-at}
 use Rattle.art_serial.proofs.words.VersionLemmas.{taken-locked}
 use Rattle.art_versions.specs.versions.Holding.{Each, Knows, holds, fills, IsKept}
 use Rattle.art_versions.specs.versions.Locking.{lock_of, locks_of}
-use Rattle.art_versions.specs.versions.Effects.{IsAmong, IsWith, Does, Reads, Writes, Fills, Ends, Releases, Takes, Claims, Answered}
+use Rattle.art_versions.specs.versions.Effects.{IsAmong, IsWith, Reads, Writes, Fills, Ends, Releases, Takes, Claims, Answered, AccessDoes}
 use Rattle.art_versions.specs.versions.Versions.{IsSettled, held_by, filled_by, IsAtStage}
 use Rattle.art_versions.proofs.versions.KnownLemmas.{among-each, held-is-kept, each-among}
 use Rattle.art_versions.proofs.versions.MoveLemmas.{settled-row, no-items}
@@ -162,7 +162,7 @@ module _ (plan : Plan) (start : Contents) (words schedule : List ℕ) (p : ℕ) 
     knows : Knows Settled its (OnScan low high x)
     knows = subst (Knows Settled its) here.at (f.sound.knows p call here.process here.is_open)
 
-    does : Does Settled its (OnScan low high x)
+    does : AccessDoes Settled its (OnScan low high x)
     does = coupled-scan-does shape call Settled (λ b k e. settled-row Coupled shape s b k e) f.sound.root low high x knows
 
     -- the rows that it holds
@@ -238,7 +238,7 @@ module _ (plan : Plan) (start : Contents) (words schedule : List ℕ) (p : ℕ) 
         held-same : rows_of_scan shape low high next ≡ mine
         held-same = go does
           where
-            go : Does Settled its (OnScan low high x) → rows_of_scan shape low high next ≡ mine
+            go : AccessDoes Settled its (OnScan low high x) → rows_of_scan shape low high next ≡ mine
             go (Reads other l e has) =
                 let is : other ≡ word = load-word (sym e ∙ turns) in
                 let value : slice_index s.words other ≡ got = ap (slice_index s.words) is ∙ sym (ap (λ b. told b (slice_index s.words (word_of b))) load) in
@@ -420,7 +420,7 @@ module _ (plan : Plan) (start : Contents) (words schedule : List ℕ) (p : ℕ) 
             turn : call_turn its (OnScan low high (at (Exchange entry v) w)) ≡ Asks swap None
             turn = refl
 
-            go : Does Settled its (OnScan low high (at (Exchange entry v) w)) → HasWalked shape low high calm t.words last
+            go : AccessDoes Settled its (OnScan low high (at (Exchange entry v) w)) → HasWalked shape low high calm t.words last
             go (Reads other l e has) = absurd (load-exchange (sym e ∙ turn))
             go (Writes y other u l e among kept behind good has) = absurd (exchange-store (sym turn ∙ e))
             go (Fills b k other u l e filled behind sits good has) = absurd (exchange-store (sym turn ∙ e))

@@ -16,7 +16,7 @@ use Rattle.art_core.specs.declared.process.Process.{Process}
 use Rattle.art_core.specs.Core.{State}
 use Rattle.art_serial.specs.trees.Trees.{SameRow}
 use Rattle.art_versions.specs.versions.Holding.{Each, IsKept, Knows, holds}
-use Rattle.art_versions.specs.versions.Locking.{lock_of, rows_held}
+use Rattle.art_versions.specs.versions.Locking.{lock_of, held_at_stage}
 use Rattle.art_versions.specs.versions.Effects.{IsAmong}
 use Rattle.art_versions.specs.versions.Versions.{IsOpen, IsHeld, IsSettled, IsSound, stage_of, held_by}
 use Rattle.art_versions.specs.versions.Writers.{WritesOwn, MayWrite}
@@ -71,8 +71,8 @@ module _ (shape : Shape) (n k : ℕ) (s t : State) (before : IsSound Optimistic 
 
   -- all that it holds
   all-still : (stage : Stage) → stage_of Optimistic shape call q ≡ OnKey stage
-      → Each (IsStill calm s.words after t.words effect) (rows_held false (is_insert call) stage)
-  all-still stage e = each-of (IsStill calm s.words after t.words effect) (rows_held false (is_insert call) stage)
+      → Each (IsStill calm s.words after t.words effect) (held_at_stage false (is_insert call) stage)
+  all-still stage e = each-of (IsStill calm s.words after t.words effect) (held_at_stage false (is_insert call) stage)
       (λ h among. let x = still (lock_of h) (subst (λ at. IsAmong (lock_of h) (holds (setting shape Optimistic call) at)) (sym e) among) in
       record { row = x.row; same = x.same; stays = x.stays })
 

@@ -50,8 +50,8 @@ use Rattle.art_serial.proofs.alone.DifferLemmas.{keys-differ}
 use Rattle.art_serial.proofs.alone.SeekLemmas.{absent-after, seek-reply}
 use Rattle.art_serial.proofs.inserts.InsertEndLemmas.{first-differs}
 use Rattle.art_serial.proofs.inserts.SmallLemmas.{path_byte-small}
-use Rattle.art_versions.specs.versions.Holding.{Each, Fits, IsKept, IsUnder, FitsPlace, rows_kept}
-use Rattle.art_versions.specs.versions.Locking.{all_of, rows_held}
+use Rattle.art_versions.specs.versions.Holding.{Each, IsKept, IsUnder, FitsPlace, rows_kept, FitsStage}
+use Rattle.art_versions.specs.versions.Locking.{all_of, held_at_stage}
 use Rattle.art_versions.specs.versions.Effects.{IsBehindVersion}
 use Rattle.art_versions.proofs.versions.KeyLemmas.{slot-behind}
 use Rattle.art_versions.proofs.versions.WordFacts.{count-most}
@@ -97,11 +97,11 @@ module _ (shape : Shape) (call : Call) (tree : is_tree_call call ≡ true) (key-
 
   -- what is known, where it is known whether the call is an insert
   knows : (i : Bool) → is_insert call ≡ i → (o : Option Reply) (stage : Stage) → KnowsAt o i c calm words stage → Each Past (rows_kept false i stage)
-      → Each Own (rows_held false i stage) → KnowsWay c calm words o stage
+      → Each Own (held_at_stage false i stage) → KnowsWay c calm words o stage
   knows i e o stage k past rows = record {
     way = subst (λ j. KnowsAt o j c calm words stage) (sym e) k;
     kept = subst (λ j. Each Past (rows_kept false j stage)) (sym e) past;
-    rows = subst (λ j. Each Own (rows_held false j stage)) (sym e) rows;
+    rows = subst (λ j. Each Own (held_at_stage false j stage)) (sym e) rows;
   }
 
   -- it starts again
@@ -534,8 +534,9 @@ module _ (shape : Shape) (call : Call) (tree : is_tree_call call ≡ true) (key-
   at-row p k kept past = record { knows_place = k; row_kept = kept; are_past = past }
 
   next : (i : Bool) → is_insert call ≡ i → (stage : Stage) (w : ℕ) → KnowsStage i c calm words stage → Each Kept (rows_kept false i stage)
-      → Fits false i c stage
-      → Each Past (rows_kept false i stage) → Each Own (rows_held false i stage) → Gets c words stage w → To (after_with false i false c stage w)
+      → FitsStage false i c stage
+      → Each Past (rows_kept false i stage) → Each Own (held_at_stage false i stage) → Gets c words stage w
+      → To (after_with false i false c stage w)
   next i e (Wait Root) w k kept fits past own got =
       let is : w ≡ slice_index words (root_base shape) = got _ _ refl in
       waits i e Root w again (Find (root_place c w)) (GoesOn (knows i e None _
@@ -598,7 +599,7 @@ module _ (shape : Shape) (call : Call) (calm words : List ℕ) (r : Reply) where
 
   abbrev Knows : Option Reply → Bool → Stage → Type 0
   Knows o i stage = KnowsAt o i (setting shape Optimistic call) calm words stage × Each (IsPast words) (rows_kept false i stage)
-      × Each (IsHeldReached shape calm words) (rows_held false i stage)
+      × Each (IsHeldReached shape calm words) (held_at_stage false i stage)
 
   answers : (i : Bool) (stage : Stage) (w : ℕ) → Knows (Some r) i stage → Gets (setting shape Optimistic call) words stage w
       → Knows (Some r) i (after_with false i false here stage w) ⊎ Knows None i (after_with false i false here stage w)

@@ -49,8 +49,8 @@ use Rattle.art_serial.proofs.serial.OrderlyLemmas.{set-here}
 use Rattle.art_serial.proofs.words.VersionLemmas.{obsolete_released}
 use Rattle.art_serial.specs.writes.Writes.{IsOutside}
 use Rattle.art_versions.specs.versions.Effects.{IsAmong}
-use Rattle.art_versions.specs.versions.Holding.{Each, IsKept, Fits, FitsTaking, Knows, KnowsKey, holds, rows_kept}
-use Rattle.art_versions.specs.versions.Locking.{lock_of, all_of, rows_held}
+use Rattle.art_versions.specs.versions.Holding.{Each, IsKept, FitsTaking, Knows, KnowsKey, holds, rows_kept, FitsStage}
+use Rattle.art_versions.specs.versions.Locking.{lock_of, all_of, held_at_stage}
 use Rattle.art_versions.specs.versions.Versions.{IsOpen, IsSettled, stage_of, held_by, IsAtStage}
 use Rattle.art_versions.proofs.versions.ChangeLemmas.{index-other}
 use Rattle.art_versions.proofs.versions.KnownLemmas.{knows-more}
@@ -297,13 +297,13 @@ module _ (plan : Plan) (start : Contents) (first schedule : List ℕ) (p : ℕ) 
         past-rows = subst (λ y. Each (IsPast s.words) (rows_kept false (is_insert call) y)) is k.kept
 
         own-rows : Each (IsHeldReached shape calm s.words) (all_of x.held)
-        own-rows = subst (λ y. Each (IsHeldReached shape calm s.words) (rows_held false (is_insert call) y)) is k.rows
+        own-rows = subst (λ y. Each (IsHeldReached shape calm s.words) (held_at_stage false (is_insert call) y)) is k.rows
 
         knows-taking : KnowsTaking c calm s.words x
         knows-taking = subst (λ y. KnowsStage (is_insert call) c calm s.words y) is k.way
 
         fits : FitsTaking x.row x.held x.below x.work
-        fits = (subst (λ y. Fits false (is_insert call) c y) is settled.fits).1
+        fits = (subst (λ y. FitsStage false (is_insert call) c y) is settled.fits).1
 
         row-at : kind_at shape x.row.base ≡ Some x.row.kind
         row-at = settled-row Optimistic shape s x.row.base x.row.kind kept-rows.0.1
@@ -427,7 +427,7 @@ module _ (plan : Plan) (start : Contents) (first schedule : List ℕ) (p : ℕ) 
         kept-row = (subst (λ y. Each (IsKept false (IsSettled Optimistic shape s)) (rows_kept false (is_insert call) y)) is settled.kept).0
 
         own-row : IsHeldReached shape calm s.words h.row
-        own-row = (subst (λ y. Each (IsHeldReached shape calm s.words) (rows_held false (is_insert call) y)) is k.rows).0
+        own-row = (subst (λ y. Each (IsHeldReached shape calm s.words) (held_at_stage false (is_insert call) y)) is k.rows).0
 
         here : kind_at shape h.row.base ≡ Some h.row.kind
         here = settled-row Optimistic shape s h.row.base h.row.kind kept-row.1

@@ -37,7 +37,7 @@ use Rattle.art_serial.specs.trees.Trees.{SameRow, LeadsTo, Parts}
 use Rattle.art_serial.proofs.alone.SlotLemmas.{slot-is, row-keys, slot-same, keys-same, count-same, form-same}
 use Rattle.art_serial.proofs.trees.Changes.{way_byte}
 use Rattle.art_versions.specs.versions.Holding.{Each, IsKept, rows_kept}
-use Rattle.art_versions.specs.versions.Locking.{rows_held, all_of}
+use Rattle.art_versions.specs.versions.Locking.{all_of, held_at_stage}
 use Rattle.art_versions.specs.versions.Versions.{IsSettled}
 use Rattle.art_versions.specs.versions.Steady.{IsSteady}
 use Rattle.art_versions.proofs.versions.MoveLemmas.{settled-row}
@@ -173,7 +173,8 @@ module _ (shape : Shape) (call : Call) (n : ℕ) (calm after : List ℕ) (pairs 
   under-kept row None (Some b) kept past k = (here-kept b kept.1.0 past.1.0 k.0, tt)
   under-kept row (Some a) (Some b) kept past k = (here-kept b kept.1.1.0 past.1.1.0 k.0, tt)
 
-  stage-kept : (i : Bool) (stage : Stage) → Each Kept (rows_kept false i stage) → Each Past (rows_kept false i stage) → Each S (rows_held false i stage)
+  stage-kept : (i : Bool) (stage : Stage) → Each Kept (rows_kept false i stage) → Each Past (rows_kept false i stage)
+      → Each S (held_at_stage false i stage)
       → KnowsStage i c calm s.words stage → KnowsStage i c after t.words stage
   stage-kept i (Wait Root) kept past still k = tt
   stage-kept i (Wait (Below d)) kept past still k = below-kept d kept.0 past.0 k
@@ -223,7 +224,7 @@ module _ (shape : Shape) (call : Call) (n : ℕ) (calm after : List ℕ) (pairs 
   reply-kept r i stage kept k = absurd k
 
   at-kept : (o : Option Reply) (i : Bool) (stage : Stage) → Each Kept (rows_kept false i stage) → Each Past (rows_kept false i stage)
-      → Each S (rows_held false i stage) → KnowsAt o i c calm s.words stage → KnowsAt o i c after t.words stage
+      → Each S (held_at_stage false i stage) → KnowsAt o i c calm s.words stage → KnowsAt o i c after t.words stage
   at-kept None i stage kept past still k = stage-kept i stage kept past still k
   at-kept (Some r) i stage kept past still k = reply-kept r i stage kept k
 

@@ -19,9 +19,9 @@ use Rattle.art_core.specs.Meaning.{Reached}
 use Rattle.art_serial.specs.trees.Trees.{IsClaimed}
 use Rattle.art_versions.specs.versions.Effects.{IsAmong}
 use Rattle.art_versions.specs.versions.Holding.{Named, holds}
-use Rattle.art_versions.specs.versions.Locking.{rows_held}
 use Rattle.art_versions.specs.versions.Versions.{IsOpen, stage_of}
 use Rattle.art_versions.proofs.versions.KnownLemmas.{each-map}
+use Rattle.art_versions.specs.versions.Locking.{held_at_stage}
 use Rattle.art_schedules.specs.calm.Calm.{calm_of}
 use Rattle.art_schedules.proofs.calm.CalmLemmas.{claimed-row}
 use Rattle.art_schedules.proofs.calm.InductionLemmas.{IsStep, step-of-run}
@@ -102,8 +102,8 @@ module _ (laws : LawsOfParts) (shape : Shape) (scripts : List (List Call)) (star
         ways : (found : Option Reply) (stage : Stage) → stage_of Optimistic shape call q ≡ OnKey stage
             → KnowsWay (setting shape Optimistic call) calm s.words found stage → Reached shape calm h.base h.kind
         ways found stage at k =
-            among-locks (λ b l. Reached shape calm b l) (rows_held false (is_insert call) stage)
-            (each-map (λ x o. o.1) (rows_held false (is_insert call) stage) k.rows) h (on (OnKey stage) at)
+            among-locks (λ b l. Reached shape calm b l) (held_at_stage false (is_insert call) stage)
+            (each-map (λ x o. o.1) (held_at_stage false (is_insert call) stage) k.rows) h (on (OnKey stage) at)
 
         go : {status : Status} → IsFit shape g s calm p call q status → Reached shape calm h.base h.kind
         go (Seeks stage scan none at k e) = ways None stage at k

@@ -23,7 +23,6 @@ use Rattle.art_stages.specs.Stages.{rest_in}
 use Rattle.art_stages.specs.Automaton.{no_value, moves_at, put_at}
 use Rattle.art_stages.specs.Calls.{OnKey}
 use Rattle.art_serial.specs.alone.Alone.{RunsAlone, Comes}
-use Rattle.art_serial.specs.alone.Finding as finding
 use Rattle.art_serial.proofs.alone.AloneLemmas.{same-runs, give-comes, then-comes, store-comes}
 use Rattle.art_serial.proofs.alone.RowRunLemmas.{with_unlocked, unlock_all-comes}
 use Rattle.art_serial.proofs.words.TableLemmas.{row_ends}
@@ -31,6 +30,7 @@ use Rattle.art_serial.specs.writes.Writes.{HasPut, IsBeside}
 use Rattle.art_serial.proofs.writes.StoreLemmas.{stored-other, stored-long}
 use Rattle.art_serial.proofs.writes.PairLemmas.{byte_at-small}
 use Rattle.art_serial.proofs.writes.PutLemmas.{leaf_put}
+use Rattle.art_serial.specs.alone.Finding.{keys_in_row}
 use Rattle.art_versions.specs.versions.Locking.{lock_of}
 use Rattle.art_versions.specs.versions.Holding.{KnowsKey}
 use Rattle.art_versions.specs.versions.Effects.{IsAmong}
@@ -146,7 +146,7 @@ module _ (c : Setting) (full : IsFull c.variant) (some : 1 ≤ c.shape.rows256) 
       seen.form (byte_at-small c (row_at h.row).level) seen.absent (omega (arith, seen.count, fits.2)) in
       let comes : Comes (put c (row_at h.row) (keys_in h.row.kind keys) (count_in h.row.kind keys)) w0 tt did.0 =
       subst (λ ks. Comes (put c (row_at h.row) ks (count_in h.row.kind keys)) w0 tt did.0) (sym seen.keys)
-      (subst (λ k. Comes (put c (row_at h.row) (finding.keys_in w0 h.row.base h.row.kind x) k) w0 tt did.0) (sym seen.count) did.1) in (
+      (subst (λ k. Comes (put c (row_at h.row) (keys_in_row w0 h.row.base h.row.kind x) k) w0 tt did.0) (sym seen.count) did.1) in (
         did.0,
         same-runs (rest_in c (put_at h.row.kind c h keys)) (put-rest c h keys)
             (comes-run (put c (row_at h.row) (keys_in h.row.kind keys) (count_in h.row.kind keys) >> finish (rows_held h))

@@ -20,7 +20,7 @@ use Rattle.art_stages.specs.Stages.{held, byte_in, keys_among}
 use Rattle.art_stages.specs.Automaton.{among_at, words_at, keys_one, indexed_at, turn_at, stage_after}
 use Rattle.art_stages.specs.Calls.{CallAt, OnKey}
 use Rattle.art_core.specs.Meaning.{slot_of}
-use Rattle.art_serial.specs.alone.Finding.{found_of, count_in, keys_in}
+use Rattle.art_serial.specs.alone.Finding.{keys_in_row, count_in_row, found_of_slot}
 use Rattle.art_schedules.specs.work.Solo.{Step, Solo, here, further}
 use Rattle.art_schedules.specs.work.Finds.{checked_stage, IsFinding, IsSeen, HasSeen, IsThere}
 use Rattle.art_rows.specs.declared.table.Child.{Child}
@@ -73,7 +73,7 @@ module _ (c : Setting) (w0 : List ℕ) where
           → Comes-to (place base Four info was above slot) (among_at l i e c (place base Four info was above slot) (keys_one (at-word (keys_at base))) o)
       go None f = inr (
         Lacks (keys_one (at-word (keys_at base))),
-        sym (ap (λ o. found_of c.shape w0 (keys4_of (at-word (keys_at base))) (length (keys4_of (at-word (keys_at base)))) (option_map
+        sym (ap (λ o. found_of_slot c.shape w0 (keys4_of (at-word (keys_at base))) (length (keys4_of (at-word (keys_at base)))) (option_map
             (child_at Four base) o)) f),
         refl,
       )
@@ -107,8 +107,10 @@ module _ (c : Setting) (w0 : List ℕ) where
           (among_at l i e c (place base Sixteen info was above slot) (record { first = first; second = second; count = count }) o)
       go None f = inr (
         Lacks (record { first = first; second = second; count = count }),
-        sym (ap (λ ks. found_of c.shape w0 ks (length ks) (option_map (child_at Sixteen base) (place_of (byte base Sixteen info was) ks))) same
-            ∙ ap (λ o. found_of c.shape w0 (keys16_of count first second) (length (keys16_of count first second)) (option_map (child_at Sixteen base) o)) f),
+        sym (ap (λ ks. found_of_slot c.shape w0 ks (length ks)
+            (option_map (child_at Sixteen base) (place_of (byte base Sixteen info was) ks))) same
+            ∙ ap (λ o. found_of_slot c.shape w0 (keys16_of count first second) (length (keys16_of count first second))
+            (option_map (child_at Sixteen base) o)) f),
         refl,
       )
       go (Some n) f = inl (
@@ -135,9 +137,11 @@ module _ (c : Setting) (w0 : List ℕ) where
       go true true f g = inl (refl, refl, refl, ap (λ b. if b then None else Some (child_at FortyEight base (entry base info was - 1))) f, g)
       go true false f g = inr (
         Lacks (keys_one (index base info was)),
-        sym (ap (λ b. found_of c.shape w0 (entries_of (index base info was)) (count_in c.call w0 base FortyEight (byte base FortyEight info was))
+        sym (ap (λ b. found_of_slot c.shape w0 (entries_of (index base info was))
+            (count_in_row c.call w0 base FortyEight (byte base FortyEight info was))
             (if b then None else Some (child_at FortyEight base (entry base info was - 1)))) f
-            ∙ ap (λ j. found_of c.shape w0 (entries_of (index base info was)) (if j then count_of 48 (at-word (count_at FortyEight base)) else 0) None) g),
+            ∙ ap (λ j. found_of_slot c.shape w0 (entries_of (index base info was))
+            (if j then count_of 48 (at-word (count_at FortyEight base)) else 0) None) g),
         refl,
       )
       go false j f g = inl (refl, ap (λ b. if b then None else Some (child_at FortyEight base (entry base info was - 1))) f)
@@ -160,9 +164,10 @@ module _ (c : Setting) (w0 : List ℕ) where
       no e = cc
   counted base FortyEight info was above slot word is a none insert =
       let count = at-word (count_at FortyEight base) in
-      ap (λ w. found_of c.shape w0 (entries_of w) (count_of 48 count) None) a
-      ∙ (ap (λ j. found_of c.shape w0 (entries_of (index base info was)) (if j then count_of 48 count else 0) None) (sym insert)
-      ∙ ap (found_of c.shape w0 (entries_of (index base info was)) (count_in c.call w0 base FortyEight (byte base FortyEight info was))) (sym none))
+      ap (λ w. found_of_slot c.shape w0 (entries_of w) (count_of 48 count) None) a
+      ∙ (ap (λ j. found_of_slot c.shape w0 (entries_of (index base info was)) (if j then count_of 48 count else 0) None) (sym insert)
+      ∙ ap (found_of_slot c.shape w0 (entries_of (index base info was))
+      (count_in_row c.call w0 base FortyEight (byte base FortyEight info was))) (sym none))
 
   -- what a stage of FIND loads, and where it leads to
   abbrev Leads : Position → Stage → Type 0
@@ -209,7 +214,8 @@ module _ (c : Setting) (w0 : List ℕ) where
         refl,
         inr (
           Has slot (child_of c.shape (at-word slot)),
-          sym (ap (found_of c.shape w0 (keys_in w0 p.row.base p.row.kind (byte_in c p.row)) (count_in c.call w0 p.row.base p.row.kind (byte_in c p.row))) f.1),
+          sym (ap (found_of_slot c.shape w0 (keys_in_row w0 p.row.base p.row.kind (byte_in c p.row))
+              (count_in_row c.call w0 p.row.base p.row.kind (byte_in c p.row))) f.1),
           refl,
         ),
       )
@@ -266,7 +272,8 @@ pub seen-there : (c : Setting) (p : Position) (words : List ℕ) (f : Finding) �
 seen-there c p words (Has slot child) seen form = go (slot_of words p.row.base p.row.kind (byte_in c p.row)) refl seen
   where
     go : (o : Option ℕ) → slot_of words p.row.base p.row.kind (byte_in c p.row) ≡ o
-        → rows.Has slot child ≡ found_of c.shape words (keys_in words p.row.base p.row.kind (byte_in c p.row)) (count_in c.call words p.row.base p.row.kind
+        → rows.Has slot child ≡ found_of_slot c.shape words (keys_in_row words p.row.base p.row.kind (byte_in c p.row))
+        (count_in_row c.call words p.row.base p.row.kind
         (byte_in c p.row)) o
         → IsThere c p words (Has slot child)
     go None e f = absurd (has-lacks f)
@@ -277,7 +284,8 @@ seen-there c p words (Lacks keys) seen form = go (slot_of words p.row.base p.row
   where
     go : (o : Option ℕ) → slot_of words p.row.base p.row.kind (byte_in c p.row) ≡ o
         → rows.Lacks (stages.keys_in p.row.kind keys) (stages.count_in p.row.kind keys)
-        ≡ found_of c.shape words (keys_in words p.row.base p.row.kind (byte_in c p.row)) (count_in c.call words p.row.base p.row.kind (byte_in c p.row)) o
+        ≡ found_of_slot c.shape words (keys_in_row words p.row.base p.row.kind (byte_in c p.row))
+        (count_in_row c.call words p.row.base p.row.kind (byte_in c p.row)) o
         → IsThere c p words (Lacks keys)
     go None e f = let same = lacks-same f in record { form = form; absent = e; keys = same.0; count = same.1 }
     go (Some other) e f = absurd (has-lacks (sym f))

@@ -20,7 +20,7 @@ use Rattle.art_serial.proofs.words.TableLemmas.{row_begins, kind_at-base_of}
 use Rattle.art_serial.proofs.writes.StoreLemmas.{stored-other, stored-long}
 use Rattle.art_serial.specs.trees.Trees.{IsUnused}
 use Rattle.art_versions.specs.versions.Holding.{Named, Knows, holds, fills}
-use Rattle.art_versions.specs.versions.Effects.{IsAmong, Does, Reads, Writes, Fills, Ends, Releases, Takes, Claims, Answered}
+use Rattle.art_versions.specs.versions.Effects.{IsAmong, Reads, Writes, Fills, Ends, Releases, Takes, Claims, Answered, AccessDoes}
 use Rattle.art_versions.specs.versions.Laws.{IsFull}
 use Rattle.art_versions.proofs.versions.KnownLemmas.{held-is-kept}
 use Rattle.art_versions.proofs.versions.WithLemmas.{with-more}
@@ -50,7 +50,8 @@ module _ (c : Setting) (full : IsFull c.variant) (some : 1 ≤ c.shape.rows256) 
   same-fewer : (next : CallAt) → holds c next ≡ holds c at → fills next ≡ fills at → IsFewer next
   same-fewer next e f = (λ x a. subst (IsAmong x) e a, λ base kind g. sym f ∙ g)
 
-  load-fewer : (word : ℕ) (mark : Option Point) → call_turn c at ≡ Asks (Load word) mark → Does (RowsOf s) c at → (value : ℕ) → IsFewer (call_after c at value)
+  load-fewer : (word : ℕ) (mark : Option Point) → call_turn c at ≡ Asks (Load word) mark → AccessDoes (RowsOf s) c at → (value : ℕ)
+      → IsFewer (call_after c at value)
   load-fewer word mark asks (Reads w m e after) value = let has = after value (all-good s w value) in same-fewer (call_after c at value) has.1 has.2
   load-fewer word mark asks (Writes h w v m e among kept behind good after) value = absurd (load-store (sym asks ∙ e))
   load-fewer word mark asks (Fills b k w v m e filled behind row good after) value = absurd (load-store (sym asks ∙ e))
@@ -60,7 +61,8 @@ module _ (c : Setting) (full : IsFull c.variant) (some : 1 ≤ c.shape.rows256) 
   load-fewer word mark asks (Claims kind m e none after other) value = absurd (load-add (sym asks ∙ e))
   load-fewer word mark asks (Answered r e none) value = absurd (asks-answers (sym asks ∙ e))
 
-  store-fewer : (word value : ℕ) (mark : Option Point) → call_turn c at ≡ Asks (Store word value) mark → Does (RowsOf s) c at → IsFewer (call_after c at 0)
+  store-fewer : (word value : ℕ) (mark : Option Point) → call_turn c at ≡ Asks (Store word value) mark → AccessDoes (RowsOf s) c at
+      → IsFewer (call_after c at 0)
   store-fewer word value mark asks (Reads w m e after) = absurd (load-store (sym e ∙ asks))
   store-fewer word value mark asks (Writes h w v m e among kept behind good after) = same-fewer (call_after c at 0) after.1 after.2
   store-fewer word value mark asks (Fills b k w v m e filled behind row good after) = same-fewer (call_after c at 0) after.1 after.2
@@ -77,7 +79,8 @@ module _ (c : Setting) (full : IsFull c.variant) (some : 1 ≤ c.shape.rows256) 
   IsClaimed kind number = (holds c (call_after c at number) ≡ holds c at)
       × ((fills (call_after c at number) ≡ []) ⊎ ((number < rows_of s kind) × (fills (call_after c at number) ≡ (base_of s kind number, kind) ∷ [])))
 
-  claim-fills : (kind : Kind) (mark : Option Point) → call_turn c at ≡ Asks (Add (claims_of kind)) mark → Does (RowsOf s) c at → (number : ℕ)
+  claim-fills : (kind : Kind) (mark : Option Point) → call_turn c at ≡ Asks (Add (claims_of kind)) mark → AccessDoes (RowsOf s) c at
+      → (number : ℕ)
       → IsClaimed kind number
   claim-fills kind mark asks (Reads w m e after) number = absurd (load-add (sym e ∙ asks))
   claim-fills kind mark asks (Writes h w v m e among kept behind good after) number = absurd (store-add (sym e ∙ asks))
@@ -92,7 +95,8 @@ module _ (c : Setting) (full : IsFull c.variant) (some : 1 ≤ c.shape.rows256) 
       ])
   claim-fills kind mark asks (Answered r e none) number = absurd (asks-answers (sym asks ∙ e))
 
-  claim-alone : (kind : Kind) (mark : Option Point) → call_turn c at ≡ Asks (Add (claims_of kind)) mark → Does (RowsOf s) c at → fills at ≡ []
+  claim-alone : (kind : Kind) (mark : Option Point) → call_turn c at ≡ Asks (Add (claims_of kind)) mark → AccessDoes (RowsOf s) c at
+      → fills at ≡ []
   claim-alone kind mark asks (Reads w m e after) = absurd (load-add (sym e ∙ asks))
   claim-alone kind mark asks (Writes h w v m e among kept behind good after) = absurd (store-add (sym e ∙ asks))
   claim-alone kind mark asks (Fills b k w v m e filled behind row good after) = absurd (store-add (sym e ∙ asks))
@@ -102,7 +106,7 @@ module _ (c : Setting) (full : IsFull c.variant) (some : 1 ≤ c.shape.rows256) 
   claim-alone kind mark asks (Claims k m e none after other) = none
   claim-alone kind mark asks (Answered r e none) = absurd (asks-answers (sym asks ∙ e))
 
-  doing : Does (RowsOf s) c at
+  doing : AccessDoes (RowsOf s) c at
   doing = rows-do c.variant full s c.call some at knows
 
   module _ (at0 : CallAt) (w0 words real : List ℕ) (long : length real ≡ length words) (solo : Solo c at0 w0 at words) (agrees : AgreesOn c at words real) where

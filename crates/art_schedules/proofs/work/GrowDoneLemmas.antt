@@ -21,7 +21,6 @@ use Rattle.art_stages.specs.declared.stage.Stage.TheVariants.{ClaimGrow, GrowInf
 use Rattle.art_stages.specs.Stages.{row_at, rows_at, byte_in, keys_in, count_in, part_of, rest_in}
 use Rattle.art_stages.specs.Calls.{OnKey}
 use Rattle.art_serial.specs.alone.Alone.{RunsAlone, Comes}
-use Rattle.art_serial.specs.alone.Finding as finding
 use Rattle.art_serial.proofs.alone.AloneLemmas.{give-comes, then-comes}
 use Rattle.art_serial.proofs.alone.RowRunLemmas.{with_unlocked}
 use Rattle.art_serial.proofs.words.TableLemmas.{row_begins, kind_at-base_of}
@@ -31,6 +30,7 @@ use Rattle.art_serial.proofs.writes.PairLemmas.{byte_at-small}
 use Rattle.art_serial.proofs.writes.SameLemmas.{keys-same, count-same, slot-same, child-same, form-same}
 use Rattle.art_serial.proofs.writes.GrowWholeLemmas.{row_grown}
 use Rattle.art_serial.specs.trees.Trees.{IsUnused}
+use Rattle.art_serial.specs.alone.Finding.{keys_in_row}
 use Rattle.art_versions.specs.versions.Holding.{KnowsKey}
 use Rattle.art_versions.specs.versions.Laws.{IsFull}
 use Rattle.art_schedules.specs.work.Solo.{Solo}
@@ -130,7 +130,7 @@ module _ (c : Setting) (full : IsFull c.variant) (some : 1 ≤ c.shape.rows256) 
           did.0,
           subst (λ ks. Comes (grow c (rows_at h.above) slot (row_at h.row) ks (count_in h.row.kind keys)) first tt last)
               (keys-same w0 first h.row.base h.row.kind x same-row byte ∙ sym seen.keys)
-              (subst (λ k. Comes (grow c (rows_at h.above) slot (row_at h.row) (finding.keys_in first h.row.base h.row.kind x) k) first tt last)
+              (subst (λ k. Comes (grow c (rows_at h.above) slot (row_at h.row) (keys_in_row first h.row.base h.row.kind x) k) first tt last)
               (count-same c.call w0 first h.row.base h.row.kind x same-row byte ∙ sym seen.count) did.1),
           subst (λ k. HasFresh c.shape first did.0 h.row.base h.row.kind (base (slice_index first (claims_of next))) next info x (new_leaf k))
               (sym found.0.is) did.2,

@@ -35,7 +35,7 @@ use Rattle.art_versions.proofs.versions.MoveLemmas.{settled-row}
 use Rattle.art_schedules.specs.work.Works.{RowsOf}
 use Rattle.art_versions.specs.versions.Locking.{lock_of}
 use Rattle.art_versions.specs.versions.Holding.{OfRows, Knows, KnowsKey}
-use Rattle.art_versions.specs.versions.Effects.{Does, IsBehindVersion}
+use Rattle.art_versions.specs.versions.Effects.{IsBehindVersion, AccessDoes}
 use Rattle.art_versions.specs.versions.Laws.{IsFull}
 use Rattle.art_versions.proofs.versions.KeyLemmas.{slot-behind}
 use Rattle.art_versions.proofs.versions.WordFacts.{entry-fits}
@@ -165,7 +165,7 @@ root-row shape some = kind_at-base_of shape Full 0 some
 
 -- what a call does that knows rows of the table alone
 pub rows-do : (variant : Variant) → IsFull variant → (shape : Shape) (call : Call) → 1 ≤ shape.rows256 → (at : CallAt)
-    → Knows (RowsOf shape) (setting shape variant call) at → Does (RowsOf shape) (setting shape variant call) at
+    → Knows (RowsOf shape) (setting shape variant call) at → AccessDoes (RowsOf shape) (setting shape variant call) at
 rows-do variant full shape call some at k = does variant full shape call (RowsOf shape) (λ b k e. e) (root-row shape some) at k
 
 pub rows-known : (variant : Variant) (shape : Shape) (n : ℕ) (s : State) (p : ℕ) (call : Call) (q : Process) → IsSound variant shape n s → IsOpen s p call q

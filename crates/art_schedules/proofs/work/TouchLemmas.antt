@@ -25,7 +25,7 @@ use Rattle.art_stages.specs.Stages.{setting}
 use Rattle.art_stages.specs.Automaton.{turn_at, stage_after}
 use Rattle.art_stages.specs.Calls.{OnKey}
 use Rattle.art_versions.specs.versions.Holding.{Knows, KnowsKey, holds}
-use Rattle.art_versions.specs.versions.Effects.{Does, Reads, Writes, Fills, Ends, Releases, Takes, Claims, Answered}
+use Rattle.art_versions.specs.versions.Effects.{Reads, Writes, Fills, Ends, Releases, Takes, Claims, Answered, AccessDoes}
 use Rattle.art_versions.specs.versions.Laws.{IsFull}
 use Rattle.art_versions.proofs.versions.WithLemmas.{with-here}
 use Rattle.art_schedules.specs.work.Own.{TouchesOwn, LoadsHeld, StoresOwn, ClaimsRow, ReleasesHeld, Replies, is_claim, may_release, is_work}
@@ -130,7 +130,7 @@ released c stage w k a less false e =
 
 -- what is allowed, by what the call does
 own-by : (c : Setting) (stage : Stage) → is_work stage ≡ true → KnowsKey (RowsOf c.shape) c stage → IsAllowed c stage (turn_at c stage)
-    → Does (RowsOf c.shape) c (OnKey stage) → TouchesOwn c (OnKey stage)
+    → AccessDoes (RowsOf c.shape) c (OnKey stage) → TouchesOwn c (OnKey stage)
 own-by c stage w k a (Reads word mark asks after) = LoadsHeld word mark asks (subst (IsAllowed c stage) asks a)
 own-by c stage w k a (Writes h word value mark asks among kept behind good after) =
     StoresOwn word value mark asks (inl (record { row = h; among = among; behind = behind }))

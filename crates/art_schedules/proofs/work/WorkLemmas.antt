@@ -37,7 +37,8 @@ use Rattle.art_serial.proofs.words.TableLemmas.{row_begins, rows_apart}
 use Rattle.art_serial.proofs.words.WordLemmas.{child_of-stored}
 use Rattle.art_versions.specs.versions.Locking.{locks_of, rows_of_hold}
 use Rattle.art_versions.specs.versions.Holding.{Each, IsNamed, HasPlace, KnowsKey, child_rows, holds}
-use Rattle.art_versions.specs.versions.Effects.{IsGoodAt, IsWith, IsBehindVersion, With, Does, Reads, Writes, Fills, Ends, Releases, Takes, Claims, Answered}
+use Rattle.art_versions.specs.versions.Effects.{IsGoodAt, IsWith, IsBehindVersion, With, Reads, Writes, Fills, Ends, Releases, Takes}
+use Rattle.art_versions.specs.versions.Effects.{Claims, Answered, AccessDoes}
 use Rattle.art_versions.specs.versions.Laws.{IsFull}
 use Rattle.art_versions.proofs.versions.KnownLemmas.{knows-more, held-is-kept}
 use Rattle.art_schedules.specs.work.Own.{IsHeldWord, is_claim, is_work}
@@ -264,7 +265,7 @@ module _ (c : Setting) (full : IsFull c.variant) (some : 1 ≤ c.shape.rows256) 
   true-false e = cc
 
   acts-by : {h : Hold} {b : Bool} {stage : Stage} → AtWork h b stage → KnowsKey (RowsOf s) c stage → IsAllowed c stage (turn_at c stage)
-      → Does (RowsOf s) c (OnKey stage) → Acts c stage
+      → AccessDoes (RowsOf s) c (OnKey stage) → Acts c stage
   acts-by {stage = stage} w k a (Reads word mark asks after) =
       let held : IsHeldWord c (OnKey stage) word = subst (IsAllowed c stage) asks a in
       let row = (held-is-kept (RowsOf s) c (OnKey stage) k held.row held.among).1 in

@@ -20,7 +20,7 @@ use Rattle.art_core.specs.Meaning.{Reached}
 use Rattle.art_core.specs.Forms.{level_in, path_in}
 use Rattle.art_serial.specs.trees.Trees.{SameRow, LeadsTo}
 use Rattle.art_versions.specs.versions.Holding.{Each}
-use Rattle.art_versions.specs.versions.Locking.{rows_held}
+use Rattle.art_versions.specs.versions.Locking.{held_at_stage}
 use Rattle.art_schedules.specs.work.Ways.{slot_in, KnowsFinding, IsOnWay, IsSame, HangsOnWay}
 
 -- A row that the call holds and has not written to: behind its version the words are the calm ones, and it was not obsolete when it was locked.
@@ -92,4 +92,4 @@ KnowsAt (Some r) i c calm stage = KnowsReply r i c calm stage
 -- What a call that has not begun its work knows: of calm by its stage, where `found` is the reply that it has found, if any, and of the rows that it holds.
 pub record KnowsWay (c : Setting) (calm words : List ℕ) (found : Option Reply) (stage : Stage) : Type 0 where
   pub way : KnowsAt found (is_insert c.call) c calm stage
-  pub rows : Each (IsHeldLive calm words) (rows_held true (is_insert c.call) stage)
+  pub rows : Each (IsHeldLive calm words) (held_at_stage true (is_insert c.call) stage)

@@ -13,7 +13,7 @@ use Rattle.art_stages.specs.Automaton.{turn_at, stage_after}
 use Rattle.art_core.specs.Meaning.{Reached, Means}
 use Rattle.art_serial.specs.trees.Trees.{IsAtRest}
 use Rattle.art_stages.specs.declared.stage.Held.{Held}
-use Rattle.art_versions.specs.versions.Holding.{Fits, holds}
+use Rattle.art_versions.specs.versions.Holding.{holds, FitsStage}
 use Rattle.art_versions.specs.versions.Effects.{IsAmong}
 use Rattle.art_versions.specs.versions.Versions.{IsAtStage}
 use Rattle.art_steps.specs.declared.access.Access.{Access}
@@ -34,7 +34,7 @@ use Rattle.art_schedules.specs.coupled.Goes.{Gets, Goes}
 -- A call that knows its way goes on, or its work begins, or it finds what it will answer.
 abbrev pub WaysGoOn : Type 0
 WaysGoOn = (shape : Shape) (call : Call) (n : ℕ) (calm words : List ℕ) (m : Contents) (stage : Stage) (w : ℕ) → is_tree_call call ≡ true
-    → is_scan call ≡ false → IsAtRest shape n calm → Means shape calm m → Fits true (is_insert call) (setting shape Coupled call) stage
+    → is_scan call ≡ false → IsAtRest shape n calm → Means shape calm m → FitsStage true (is_insert call) (setting shape Coupled call) stage
     → KnowsWay (setting shape Coupled call) calm words None stage → Gets (setting shape Coupled call) calm words stage w
     → Goes (setting shape Coupled call) calm words m (stage_after (setting shape Coupled call) stage w)
 

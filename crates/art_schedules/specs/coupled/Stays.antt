@@ -9,7 +9,7 @@ use Rattle.art_steps.specs.Rows.{is_insert}
 use Rattle.art_stages.specs.declared.stage.Stage.{Stage}
 use Rattle.art_stages.specs.Stages.{setting}
 use Rattle.art_versions.specs.versions.Holding.{Each}
-use Rattle.art_versions.specs.versions.Locking.{rows_held}
+use Rattle.art_versions.specs.versions.Locking.{held_at_stage}
 use Rattle.art_schedules.specs.changes.Effects.{Effect}
 use Rattle.art_schedules.specs.changes.Courses.{IsGoneBy, ComesInBy, IsStill}
 use Rattle.art_schedules.specs.changes.Follows.{Follows}
@@ -19,5 +19,6 @@ use Rattle.art_schedules.specs.coupled.Knows.{KnowsWay}
 abbrev pub WaysAreKept : Type 0
 WaysAreKept = (shape : Shape) (call : Call) (n : ℕ) (calm words after later : List ℕ) (pairs : Contents) (effect : Option Effect) (found : Option Reply)
     (stage : Stage) → Follows shape n calm after pairs (IsGoneBy effect) (ComesInBy effect)
-    → Each (IsStill calm words after later effect) (rows_held true (is_insert call) stage) → KnowsWay (setting shape Coupled call) calm words found stage
+    → Each (IsStill calm words after later effect) (held_at_stage true (is_insert call) stage)
+    → KnowsWay (setting shape Coupled call) calm words found stage
     → KnowsWay (setting shape Coupled call) after later found stage

@@ -24,7 +24,7 @@ use Rattle.art_core.specs.Meaning.{Reached}
 use Rattle.art_core.specs.Forms.{path_in}
 use Rattle.art_serial.specs.trees.Trees.{SameRow}
 use Rattle.art_versions.specs.versions.Holding.{Each, rows_kept}
-use Rattle.art_versions.specs.versions.Locking.{rows_held, all_of}
+use Rattle.art_versions.specs.versions.Locking.{all_of, held_at_stage}
 use Rattle.art_schedules.specs.effects.Begins.{BeginsWork}
 use Rattle.art_schedules.specs.work.Ways.{IsOnWay, slot_in, KnowsFinding, IsSame, HangsOnWay}
 
@@ -132,4 +132,4 @@ IsHeldReached s calm words n = IsSame calm words n × Reached s calm n.base n.ki
 pub record KnowsWay (c : Setting) (calm words : List ℕ) (found : Option Reply) (stage : Stage) : Type 0 where
   pub way : KnowsAt found (is_insert c.call) c calm words stage
   pub kept : Each (IsPast words) (rows_kept false (is_insert c.call) stage)
-  pub rows : Each (IsHeldReached c.shape calm words) (rows_held false (is_insert c.call) stage)
+  pub rows : Each (IsHeldReached c.shape calm words) (held_at_stage false (is_insert c.call) stage)

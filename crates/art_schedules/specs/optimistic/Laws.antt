@@ -17,9 +17,9 @@ use Rattle.art_core.specs.Plans.{IsRun}
 use Rattle.art_core.specs.Meaning.{Means}
 use Rattle.art_serial.specs.trees.Trees.{IsAtRest}
 use Rattle.art_versions.specs.versions.Holding.{Each, KnowsKey}
-use Rattle.art_versions.specs.versions.Locking.{rows_held}
 use Rattle.art_versions.specs.versions.Versions.{IsSettled}
 use Rattle.art_versions.specs.versions.Steady.{IsSteady}
+use Rattle.art_versions.specs.versions.Locking.{held_at_stage}
 use Rattle.art_schedules.specs.work.Works.{RowsOf}
 use Rattle.art_schedules.specs.calm.Calm.{calm_of}
 use Rattle.art_schedules.specs.changes.Effects.{Effect}
@@ -60,7 +60,7 @@ WaysAreKept = (shape : Shape) (call : Call) (calm after : List ℕ) (pairs : Con
     (stage : Stage) → TreeGoesOn shape t.words calm after pairs effect → Agrees shape s.words calm → Agrees shape t.words after
     → IsSteady Optimistic shape s t → InfosStay shape s t
     → KnowsKey (IsSettled Optimistic shape s) (setting shape Optimistic call) stage
-    → Each (IsStill calm s.words after t.words effect) (rows_held false (is_insert call) stage)
+    → Each (IsStill calm s.words after t.words effect) (held_at_stage false (is_insert call) stage)
     → KnowsWay (setting shape Optimistic call) calm s.words found stage → KnowsWay (setting shape Optimistic call) after t.words found stage
 
 -- In each step of a run the info word of each settled row stays.

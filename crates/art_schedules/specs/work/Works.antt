@@ -19,14 +19,13 @@ use Rattle.art_stages.specs.declared.stage.Work.TheVariants as work
 use Rattle.art_stages.specs.declared.stage.Outcome.TheVariants.{Value, Refused}
 use Rattle.art_stages.specs.declared.stage.Stage.{Stage}
 use Rattle.art_stages.specs.declared.stage.Stage.TheVariants.{Unlock, Obsolete}
-use Rattle.art_stages.specs.Stages.{row_at, byte_in, old_child, new_child}
-use Rattle.art_stages.specs.Stages as stages
+use Rattle.art_stages.specs.Stages.{row_at, byte_in, old_child, new_child, count_in, keys_in}
 use Rattle.art_stages.specs.Automaton.{no_value}
 use Rattle.art_core.specs.Meaning.{slot_of, child_on}
 use Rattle.art_core.specs.Forms.{HasForm}
-use Rattle.art_serial.specs.alone.Finding as finding
 use Rattle.art_serial.specs.writes.Writes.{HasPut, IsOutside}
 use Rattle.art_serial.specs.trees.Trees.{IsUnused}
+use Rattle.art_serial.specs.alone.Finding.{count_in_row, keys_in_row}
 use Rattle.art_versions.specs.versions.Holding.{OfRows}
 
 -- the rows of the table
@@ -44,17 +43,17 @@ pub record IsInsert (call : Call) : Type 0 where
 pub record LacksByte (c : Setting) (n : Held) (seen : Keys) (words : List ℕ) : Type 0 where
   pub form : HasForm words n.base n.kind
   pub absent : slot_of words n.base n.kind (byte_in c n) ≡ None
-  pub keys : stages.keys_in n.kind seen ≡ finding.keys_in words n.base n.kind (byte_in c n)
-  pub count : stages.count_in n.kind seen ≡ finding.count_in c.call words n.base n.kind (byte_in c n)
+  pub keys : keys_in n.kind seen ≡ keys_in_row words n.base n.kind (byte_in c n)
+  pub count : count_in n.kind seen ≡ count_in_row c.call words n.base n.kind (byte_in c n)
 
 -- The words of the held rows are as the work found them. Of a slot that is overwritten nothing is asked.
 abbrev pub FitsWords : Setting → Hold → Work → List ℕ → Type 0
 FitsWords c h (work.Write slot word reply) words = Unit {0}
 FitsWords c h (work.Pair p) words =
     IsInsert c.call × (child_of c.shape (slice_index words p.slot) ≡ p.child) × (p.child ≢ Empty) × (p.byte < 256) × (p.byte ≢ byte_at c p.level)
-FitsWords c h (work.Put keys) words = IsInsert c.call × LacksByte c h.row keys words × (stages.count_in h.row.kind keys < capacity h.row.kind)
+FitsWords c h (work.Put keys) words = IsInsert c.call × LacksByte c h.row keys words × (count_in h.row.kind keys < capacity h.row.kind)
 FitsWords c h (work.Grow slot keys) words =
-    IsInsert c.call × LacksByte c h.row keys words × (stages.count_in h.row.kind keys ≡ capacity h.row.kind)
+    IsInsert c.call × LacksByte c h.row keys words × (count_in h.row.kind keys ≡ capacity h.row.kind)
     × (child_of c.shape (slice_index words slot) ≡ ChildRow h.row.base h.row.kind)
 
 -- A fresh row of kind 4, of this level and path, has two children and hangs in a slot: no other word has changed.

@@ -18,7 +18,7 @@ use Rattle.art_core.specs.Meaning.{Reached, root, below, child_in, child_on, slo
 use Rattle.art_core.specs.Forms.{level_in, path_in}
 use Rattle.art_serial.specs.trees.Trees.{IsAtRest, LeadsTo}
 use Rattle.art_serial.specs.alone.Alone.{Comes}
-use Rattle.art_serial.specs.alone.Finding.{keys_in, count_in, found_of}
+use Rattle.art_serial.specs.alone.Finding.{keys_in_row, count_in_row, found_of_slot}
 use Rattle.art_serial.proofs.alone.AloneLemmas.{load-comes}
 use Rattle.art_serial.proofs.alone.ReachLemmas.{Reaches, here-reaches, on-reaches, bind-reaches, then-reaches, same-reaches}
 use Rattle.art_serial.proofs.alone.RowRunLemmas.{with_lock, lock-comes, with_unlocked, unlock_all-comes}
@@ -63,7 +63,8 @@ module _ (c : Setting) (n : ℕ) (words : List ℕ) (rest : IsAtRest c.shape n w
     -- the row has not the byte,
     lacks : {p : Place} {now : List ℕ} → IsAt p now → slot_of words p.row.base p.row.kind (byte_at c p.row.level) ≡ None
         → IsEnd (insert_at c (insert_from c) p
-        (Lacks (keys_in words p.row.base p.row.kind (byte_at c p.row.level)) (count_in c.call words p.row.base p.row.kind (byte_at c p.row.level)))) now
+        (Lacks (keys_in_row words p.row.base p.row.kind (byte_at c p.row.level))
+        (count_in_row c.call words p.row.base p.row.kind (byte_at c p.row.level)))) now
     -- its slot is empty,
     empty : {p : Place} {now : List ℕ} {slot : ℕ} → IsAt p now → slot_of words p.row.base p.row.kind (byte_at c p.row.level) ≡ Some slot
         → child_on c.shape words p.row.base p.row.kind (byte_at c p.row.level) ≡ Empty → IsEnd (insert_at c (insert_from c) p (Has slot Empty)) now
@@ -216,25 +217,25 @@ module _ (c : Setting) (n : ℕ) (words : List ℕ) (rest : IsAtRest c.shape n w
       x = byte_at c p.row.level
 
       keys : List ℕ
-      keys = keys_in words p.row.base p.row.kind x
+      keys = keys_in_row words p.row.base p.row.kind x
 
       count : ℕ
-      count = count_in c.call words p.row.base p.row.kind x
+      count = count_in_row c.call words p.row.base p.row.kind x
 
-      finds : Comes (find c p.row) now (found_of c.shape words keys count (slot_of words p.row.base p.row.kind x)) now
+      finds : Comes (find c p.row) now (found_of_slot c.shape words keys count (slot_of words p.row.base p.row.kind x)) now
       finds = subst (λ f. Comes (find c p.row) now f now)
           (found-same words now p.row.base c p.row.kind x (key_byte-small key p.row.level) (like-row c.shape n words rest a.like a.on_way.leads.reached))
           (find-comes c p.row now)
 
       found : (o : Option ℕ) → slot_of words p.row.base p.row.kind x ≡ o
-          → GoesTo (insert_at c (insert_from c) p (found_of c.shape words keys count (slot_of words p.row.base p.row.kind x))) now
-      found None e = subst (λ o. GoesTo (insert_at c (insert_from c) p (found_of c.shape words keys count o)) now) (sym e) (record {
+          → GoesTo (insert_at c (insert_from c) p (found_of_slot c.shape words keys count (slot_of words p.row.base p.row.kind x))) now
+      found None e = subst (λ o. GoesTo (insert_at c (insert_from c) p (found_of_slot c.shape words keys count o)) now) (sym e) (record {
         left = insert_at c (insert_from c) p (Lacks keys count);
         later = now;
         reaches = here-reaches (insert_at c (insert_from c) p (Lacks keys count)) now;
         at_end = lacks a e;
       })
-      found (Some slot) e = subst (λ o. GoesTo (insert_at c (insert_from c) p (found_of c.shape words keys count o)) now) (sym e)
+      found (Some slot) e = subst (λ o. GoesTo (insert_at c (insert_from c) p (found_of_slot c.shape words keys count o)) now) (sym e)
           (child fuel more p now a enough slot e (child_of c.shape (slice_index words slot)) (ap (λ o. child_in c.shape words o) e))
 
   goes-from : (fuel : ℕ) → GoesFrom fuel

@@ -20,7 +20,7 @@ use Rattle.art_core.specs.Meaning.{Reached, root, below, child_in, child_on, slo
 use Rattle.art_core.specs.Forms.{level_in}
 use Rattle.art_serial.specs.trees.Trees.{IsAtRest, LeadsTo}
 use Rattle.art_serial.specs.alone.Alone.{Comes}
-use Rattle.art_serial.specs.alone.Finding.{keys_in, count_in, found_of}
+use Rattle.art_serial.specs.alone.Finding.{keys_in_row, count_in_row, found_of_slot}
 use Rattle.art_serial.proofs.alone.AloneLemmas.{give-comes, bind-comes, then-comes, if_true-comes, if_false-comes, same-comes, load-comes, store-comes}
 use Rattle.art_serial.proofs.alone.RowRunLemmas.{with_lock, lock-comes, unlock-comes}
 use Rattle.art_serial.proofs.alone.FindingLemmas.{find-comes}
@@ -282,12 +282,12 @@ module _ (c : Setting) (n : ℕ) (words : List ℕ) (rest : IsAtRest c.shape n w
       x = byte_at c r.level
 
       keys : List ℕ
-      keys = keys_in words r.base r.kind x
+      keys = keys_in_row words r.base r.kind x
 
       count : ℕ
-      count = count_in c.call words r.base r.kind x
+      count = count_in_row c.call words r.base r.kind x
 
-      finds : Comes (find c r) now (found_of c.shape words keys count (slot_of words r.base r.kind x)) now
+      finds : Comes (find c r) now (found_of_slot c.shape words keys count (slot_of words r.base r.kind x)) now
       finds = subst (λ f. Comes (find c r) now f now)
           (found-same words now r.base c r.kind x (key_byte-small key r.level) (like-row c.shape n words rest a.like a.leads.reached)) (find-comes c r now)
 
@@ -295,13 +295,14 @@ module _ (c : Setting) (n : ℕ) (words : List ℕ) (rest : IsAtRest c.shape n w
       lacks e = none r now a Empty (ap (λ o. child_in c.shape words o) e) (λ like. (refl, like))
 
       after : (o : Option ℕ) → slot_of words r.base r.kind x ≡ o
-          → Seeks c.shape words c.call (seek_at c (seek_from c) r (found_of c.shape words keys count o)) now
+          → Seeks c.shape words c.call (seek_at c (seek_from c) r (found_of_slot c.shape words keys count o)) now
           → Seeks c.shape words c.call (seek_from c r) now
       after o e s = record {
         reply = s.reply;
         later = s.later;
         comes = same-comes (seek_from-body c r) (bind-comes {f = seek_at c (seek_from c) r} finds
-            (subst (λ o. Comes (seek_at c (seek_from c) r (found_of c.shape words keys count o)) now s.reply s.later) (sym e) s.comes));
+            (subst (λ o. Comes (seek_at c (seek_from c) r (found_of_slot c.shape words keys count o)) now s.reply s.later) (sym e)
+            s.comes));
         arrives = s.arrives;
       }
 

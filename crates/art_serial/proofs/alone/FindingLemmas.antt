@@ -10,7 +10,7 @@ use Rattle.art_steps.specs.Steps.{◌>>=◌, give, load}
 use Rattle.art_steps.specs.Rows.{Setting, Row, is_insert, Has, Lacks, find_child, find_among, find_indexed, find_in, find, byte_at}
 use Rattle.art_core.specs.Meaning.{entry_slot}
 use Rattle.art_serial.specs.alone.Alone.{Comes}
-use Rattle.art_serial.specs.alone.Finding.{keys_in, found_of, found_in}
+use Rattle.art_serial.specs.alone.Finding.{found_in, keys_in_row, found_of_slot}
 use Rattle.art_serial.proofs.alone.AloneLemmas.{give-comes, bind-comes, load-comes, load_at-comes}
 
 find_child-comes : (c : Setting) (slot : ℕ) (words : List ℕ) → Comes (find_child c slot) words (Has slot (child_of c.shape (slice_index words slot))) words
@@ -19,7 +19,8 @@ find_child-comes c slot words =
     bind-comes {f = λ w. give (Has slot (child_of c.shape w))} (load_at-comes point.Child slot words) (give-comes _ words)
 
 find_among-comes : (c : Setting) (n : Row) (keys : List ℕ) (place : Option ℕ) (words : List ℕ)
-    → Comes (find_among c n keys place) words (found_of c.shape words keys (length keys) (option_map (child_at n.kind n.base) place)) words
+    → Comes (find_among c n keys place) words (found_of_slot c.shape words keys (length keys) (option_map (child_at n.kind n.base) place))
+    words
 unfolding find_among
 find_among-comes c n keys None words = give-comes (Lacks keys (length keys)) words
 find_among-comes c n keys (Some i) words = find_child-comes c (child_at n.kind n.base i) words
@@ -28,7 +29,7 @@ abbrev counted : Setting → List ℕ → ℕ → ℕ
 counted c words base = if is_insert c.call then count_of 48 (slice_index words (count_at FortyEight base)) else 0
 
 find_indexed-comes : (c : Setting) (n : Row) (entries : List ℕ) (e : ℕ) (words : List ℕ)
-    → Comes (find_indexed c n entries e) words (found_of c.shape words entries (counted c words n.base) (entry_slot n.base e)) words
+    → Comes (find_indexed c n entries e) words (found_of_slot c.shape words entries (counted c words n.base) (entry_slot n.base e)) words
 unfolding find_indexed
 find_indexed-comes c n entries e words = go (e == 0) (is_insert c.call)
   where
@@ -36,7 +37,7 @@ find_indexed-comes c n entries e words = go (e == 0) (is_insert c.call)
         → Comes (if absent then (if asked then (load (count_at FortyEight n.base) >>= λ count. give (Lacks entries (count_of 48 count)))
         else give (Lacks entries 0))
         else find_child c (child_at FortyEight n.base (e - 1))) words
-        (found_of c.shape words entries (if asked then count_of 48 (slice_index words (count_at FortyEight n.base)) else 0)
+        (found_of_slot c.shape words entries (if asked then count_of 48 (slice_index words (count_at FortyEight n.base)) else 0)
         (if absent then None else Some (child_at FortyEight n.base (e - 1)))) words
     go false asked = find_child-comes c (child_at FortyEight n.base (e - 1)) words
     go true true = bind-comes {f = λ count. give (Lacks entries (count_of 48 count))} (load-comes (count_at FortyEight n.base) words) (give-comes _ words)
@@ -48,11 +49,11 @@ unfolding find_in
 find_in-comes Four c base level path kept x words =
     let n : Row = record { base = base; kind = Four; level = level; path = path; kept = kept } in
     bind-comes {f = λ keys. find_among c n (keys4_of keys) (place_of x (keys4_of keys))} (load-comes (keys_at base) words)
-    (find_among-comes c n (keys_in words base Four x) (place_of x (keys_in words base Four x)) words)
+    (find_among-comes c n (keys_in_row words base Four x) (place_of x (keys_in_row words base Four x)) words)
 find_in-comes Sixteen c base level path kept x words =
     let n : Row = record { base = base; kind = Sixteen; level = level; path = path; kept = kept } in
     bind-comes (load-comes (count_at Sixteen base) words) (bind-comes (load-comes (keys_at base) words) (bind-comes (load-comes (more_keys_at base) words)
-    (find_among-comes c n (keys_in words base Sixteen x) (place_of x (keys_in words base Sixteen x)) words)))
+    (find_among-comes c n (keys_in_row words base Sixteen x) (place_of x (keys_in_row words base Sixteen x)) words)))
 find_in-comes FortyEight c base level path kept x words =
     let n : Row = record { base = base; kind = FortyEight; level = level; path = path; kept = kept } in
     bind-comes {f = λ w. find_indexed c n (entries_of w) (slice_index (entries_of w) (x % 8))} (load-comes (index_at base x) words)

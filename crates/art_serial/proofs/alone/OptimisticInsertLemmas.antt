@@ -17,7 +17,7 @@ use Rattle.art_core.specs.Meaning.{Reached, root, below, child_in, child_on, slo
 use Rattle.art_core.specs.Forms.{level_in, path_in}
 use Rattle.art_serial.specs.trees.Trees.{IsAtRest, LeadsTo}
 use Rattle.art_serial.specs.alone.Alone.{Comes}
-use Rattle.art_serial.specs.alone.Finding.{keys_in, count_in, found_of}
+use Rattle.art_serial.specs.alone.Finding.{keys_in_row, count_in_row, found_of_slot}
 use Rattle.art_serial.proofs.alone.AloneLemmas.{give-comes, bind-comes, then-comes, load-comes}
 use Rattle.art_serial.proofs.alone.ReachLemmas.{Reaches, here-reaches, on-reaches, bind-reaches, then-reaches, same-reaches}
 use Rattle.art_serial.proofs.alone.RowRunLemmas.{wait-comes, check_of-comes}
@@ -76,7 +76,8 @@ module _ (c : Setting) (n : ℕ) (words : List ℕ) (rest : IsAtRest c.shape n w
     -- the row has not the byte,
     lacks : {p : Place} → IsAt p → slot_of words p.row.base p.row.kind (byte_at c p.row.level) ≡ None
         → IsEnd (insert_at c (insert_from c) p
-        (Lacks (keys_in words p.row.base p.row.kind (byte_at c p.row.level)) (count_in c.call words p.row.base p.row.kind (byte_at c p.row.level))))
+        (Lacks (keys_in_row words p.row.base p.row.kind (byte_at c p.row.level))
+        (count_in_row c.call words p.row.base p.row.kind (byte_at c p.row.level))))
     -- its slot is empty,
     empty : {p : Place} {slot : ℕ} → IsAt p → slot_of words p.row.base p.row.kind (byte_at c p.row.level) ≡ Some slot
         → child_on c.shape words p.row.base p.row.kind (byte_at c p.row.level) ≡ Empty → IsEnd (insert_at c (insert_from c) p (Has slot Empty))
@@ -158,22 +159,24 @@ module _ (c : Setting) (n : ℕ) (words : List ℕ) (rest : IsAtRest c.shape n w
   step fuel more p a enough =
       on-goes (same-reaches words (insert_from_optimistic-body c p))
       (on-goes (bind-reaches {f = λ f. check_of c p.row >> insert_at c (insert_from c) p f} (find-comes c p.row words))
-      (on-goes (then-reaches {n = insert_at c (insert_from c) p (found_of c.shape words keys count (slot_of words p.row.base p.row.kind x))}
+      (on-goes (then-reaches
+      {n = insert_at c (insert_from c) p (found_of_slot c.shape words keys count (slot_of words p.row.base p.row.kind x))}
       (check_of-comes c p.row words a.on_way.kept)) (found (slot_of words p.row.base p.row.kind x) refl)))
     where
       x : ℕ
       x = byte_at c p.row.level
 
       keys : List ℕ
-      keys = keys_in words p.row.base p.row.kind x
+      keys = keys_in_row words p.row.base p.row.kind x
 
       count : ℕ
-      count = count_in c.call words p.row.base p.row.kind x
+      count = count_in_row c.call words p.row.base p.row.kind x
 
       found : (o : Option ℕ) → slot_of words p.row.base p.row.kind x ≡ o
-          → GoesTo (insert_at c (insert_from c) p (found_of c.shape words keys count (slot_of words p.row.base p.row.kind x)))
-      found None e = subst (λ o. GoesTo (insert_at c (insert_from c) p (found_of c.shape words keys count o))) (sym e) (ends-here (lacks a e))
-      found (Some slot) e = subst (λ o. GoesTo (insert_at c (insert_from c) p (found_of c.shape words keys count o))) (sym e)
+          → GoesTo (insert_at c (insert_from c) p (found_of_slot c.shape words keys count (slot_of words p.row.base p.row.kind x)))
+      found None e = subst (λ o. GoesTo (insert_at c (insert_from c) p (found_of_slot c.shape words keys count o))) (sym e)
+          (ends-here (lacks a e))
+      found (Some slot) e = subst (λ o. GoesTo (insert_at c (insert_from c) p (found_of_slot c.shape words keys count o))) (sym e)
           (child fuel more p a enough slot e (child_of c.shape (slice_index words slot)) (ap (λ o. child_in c.shape words o) e))
 
   goes-from : (fuel : ℕ) → GoesFrom fuel

@@ -19,7 +19,7 @@ use Rattle.art_core.specs.Meaning.{Reached, root, below, child_in, child_on, slo
 use Rattle.art_core.specs.Forms.{level_in}
 use Rattle.art_serial.specs.trees.Trees.{IsAtRest, LeadsTo}
 use Rattle.art_serial.specs.alone.Alone.{Comes}
-use Rattle.art_serial.specs.alone.Finding.{keys_in, count_in, found_of}
+use Rattle.art_serial.specs.alone.Finding.{keys_in_row, count_in_row, found_of_slot}
 use Rattle.art_serial.proofs.alone.AloneLemmas.{give-comes, bind-comes, then-comes, same-comes, load-comes, store-comes}
 use Rattle.art_serial.proofs.alone.RowRunLemmas.{unlock-comes, wait-comes, check_of-comes, take_row-comes}
 use Rattle.art_serial.proofs.alone.FindingLemmas.{find-comes}
@@ -216,20 +216,22 @@ module _ (c : Setting) (n : ℕ) (words : List ℕ) (rest : IsAtRest c.shape n w
       x = byte_at c r.level
 
       keys : List ℕ
-      keys = keys_in words r.base r.kind x
+      keys = keys_in_row words r.base r.kind x
 
       count : ℕ
-      count = count_in c.call words r.base r.kind x
+      count = count_in_row c.call words r.base r.kind x
 
       after : (o : Option ℕ) → slot_of words r.base r.kind x ≡ o
-          → Seeks c.shape words c.call (seek_at c (seek_from c) r (found_of c.shape words keys count o)) words
+          → Seeks c.shape words c.call (seek_at c (seek_from c) r (found_of_slot c.shape words keys count o)) words
           → Seeks c.shape words c.call (seek_from c r) words
       after o e s = record {
         reply = s.reply;
         later = s.later;
         comes = same-comes (seek_from_optimistic-body c r) (bind-comes {f = λ found. check_of c r >> seek_at c (seek_from c) r found} (find-comes c r words)
-            (then-comes {n = seek_at c (seek_from c) r (found_of c.shape words keys count (slot_of words r.base r.kind x))} (check_of-comes c r words a.kept)
-            (subst (λ o. Comes (seek_at c (seek_from c) r (found_of c.shape words keys count o)) words s.reply s.later) (sym e) s.comes)));
+            (then-comes {n = seek_at c (seek_from c) r (found_of_slot c.shape words keys count (slot_of words r.base r.kind x))}
+            (check_of-comes c r words a.kept)
+            (subst (λ o. Comes (seek_at c (seek_from c) r (found_of_slot c.shape words keys count o)) words s.reply s.later) (sym e)
+            s.comes)));
         arrives = s.arrives;
       }
 

@@ -14,7 +14,7 @@ use Rattle.art_steps.specs.Rows.{Setting, is_insert, Found, Has}
 use Rattle.art_core.specs.Meaning.{slot_of, entry_slot}
 use Rattle.art_core.specs.Forms.{HasForm}
 use Rattle.art_serial.specs.trees.Trees.{SameRow}
-use Rattle.art_serial.specs.alone.Finding.{keys_in, count_in, found_of, found_in}
+use Rattle.art_serial.specs.alone.Finding.{found_in, keys_in_row, count_in_row, found_of_slot}
 
 -- ---- where slots are
 
@@ -88,7 +88,8 @@ module _ (words later : List ℕ) (base : ℕ) where
       let is : index_at base x ≡ base + (2 + x / 8) = omega arith in
       ap (λ n. slice_index later n) is ∙ (same (2 + x / 8) (omega arith) (omega (arith, byte)) ∙ ap (λ n. slice_index words n) (sym is))
 
-  pub keys-same : (kind : Kind) (x : ℕ) → x < 256 → SameKeys words later base kind → keys_in later base kind x ≡ keys_in words base kind x
+  pub keys-same : (kind : Kind) (x : ℕ) → x < 256 → SameKeys words later base kind
+      → keys_in_row later base kind x ≡ keys_in_row words base kind x
   keys-same Four x byte same = ap keys4_of (same 2 (omega arith) (omega arith))
   keys-same Sixteen x byte same =
       ap (λ w. keys16_of w (slice_index later (keys_at base)) (slice_index later (more_keys_at base))) (same 4 (omega arith) (omega arith))
@@ -104,7 +105,7 @@ module _ (words later : List ℕ) (base : ℕ) where
   slot-same Full x byte same = refl
 
   pub count-same : (call : Call) (kind : Kind) (x : ℕ) → x < 256 → SameKeys words later base kind
-      → count_in call later base kind x ≡ count_in call words base kind x
+      → count_in_row call later base kind x ≡ count_in_row call words base kind x
   count-same call Four x byte same = ap length (keys-same Four x byte same)
   count-same call Sixteen x byte same = ap length (keys-same Sixteen x byte same)
   count-same call FortyEight x byte same = ap (λ w. if is_insert call then count_of 48 w else 0) (same 34 (omega arith) (omega arith))
@@ -138,14 +139,17 @@ module _ (words later : List ℕ) (base : ℕ) where
   pub found-same : (c : Setting) (kind : Kind) (x : ℕ) → x < 256 → SameRow words later base kind → found_in c later base kind x ≡ found_in c words base kind x
   found-same c kind x byte same =
       let keys = row-keys words later base kind same in
-      ap (λ o. found_of c.shape later (keys_in later base kind x) (count_in c.call later base kind x) o) (slot-same kind x byte keys)
-      ∙ (ap (λ n. found_of c.shape later (keys_in later base kind x) n (slot_of words base kind x)) (count-same c.call kind x byte keys)
-      ∙ (ap (λ ks. found_of c.shape later ks (count_in c.call words base kind x) (slot_of words base kind x)) (keys-same kind x byte keys)
+      ap (λ o. found_of_slot c.shape later (keys_in_row later base kind x) (count_in_row c.call later base kind x) o)
+      (slot-same kind x byte keys)
+      ∙ (ap (λ n. found_of_slot c.shape later (keys_in_row later base kind x) n (slot_of words base kind x))
+      (count-same c.call kind x byte keys)
+      ∙ (ap (λ ks. found_of_slot c.shape later ks (count_in_row c.call words base kind x) (slot_of words base kind x))
+      (keys-same kind x byte keys)
       ∙ go (slot_of words base kind x) refl))
     where
       go : (o : Option ℕ) → slot_of words base kind x ≡ o
-          → found_of c.shape later (keys_in words base kind x) (count_in c.call words base kind x) o
-          ≡ found_of c.shape words (keys_in words base kind x) (count_in c.call words base kind x) o
+          → found_of_slot c.shape later (keys_in_row words base kind x) (count_in_row c.call words base kind x) o
+          ≡ found_of_slot c.shape words (keys_in_row words base kind x) (count_in_row c.call words base kind x) o
       go None e = refl
       go (Some slot) e =
           let at = slot-is words base kind x slot byte e in

@@ -25,7 +25,7 @@ use Rattle.art_core.specs.Meaning.{Reached, Means, root, below, child_in, child_
 use Rattle.art_core.specs.Forms.{level_in, path_in}
 use Rattle.art_serial.specs.trees.Trees.{IsAtRest, LeadsTo}
 use Rattle.art_serial.specs.alone.Alone.{Comes, Ends}
-use Rattle.art_serial.specs.alone.Finding.{keys_in, count_in, found_of}
+use Rattle.art_serial.specs.alone.Finding.{keys_in_row, count_in_row, found_of_slot}
 use Rattle.art_serial.proofs.alone.AloneLemmas.{give-comes, bind-comes, ends-bind, then-comes, ends-then, load-comes}
 use Rattle.art_serial.proofs.alone.RowRunLemmas.{unlock-comes, unlock_all-comes, lock-comes, with_lock, with_unlocked}
 use Rattle.art_serial.proofs.alone.FindingLemmas.{find-comes}
@@ -88,10 +88,10 @@ module _ (g : Given) (s : Shape) (variant : Variant) (n : ℕ) (words : List ℕ
   IsAbove (a ∷ (b ∷ rows)) r slot = ⊥
 
   abbrev keys-of : Row → List ℕ
-  keys-of r = keys_in words r.base r.kind (byte_at c r.level)
+  keys-of r = keys_in_row words r.base r.kind (byte_at c r.level)
 
   abbrev count-of : Row → ℕ
-  count-of r = count_in (Insert key value) words r.base r.kind (byte_at c r.level)
+  count-of r = count_in_row (Insert key value) words r.base r.kind (byte_at c r.level)
 
   byte : (r : Row) → byte_at c r.level < 256
   byte r = key_byte-small key r.level
@@ -354,19 +354,20 @@ module _ (g : Given) (s : Shape) (variant : Variant) (n : ℕ) (words : List ℕ
   step fuel more p now a above near enough = found (slot_of words p.row.base p.row.kind (byte_at c p.row.level)) refl
     where
       finds : Comes (find c p.row) now
-          (found_of s words (keys-of p.row) (count-of p.row) (slot_of words p.row.base p.row.kind (byte_at c p.row.level))) now
+          (found_of_slot s words (keys-of p.row) (count-of p.row) (slot_of words p.row.base p.row.kind (byte_at c p.row.level))) now
       finds = subst (λ f. Comes (find c p.row) now f now)
           (found-same words now p.row.base c p.row.kind (byte_at c p.row.level) (byte p.row) (near-row s n words rest near a.leads.reached))
           (find-comes c p.row now)
 
       after : (o : Option ℕ) → slot_of words p.row.base p.row.kind (byte_at c p.row.level) ≡ o
-          → Does (704 + 10 * fuel) (insert_at c (insert_from c) p (found_of s words (keys-of p.row) (count-of p.row) o)) now
+          → Does (704 + 10 * fuel) (insert_at c (insert_from c) p (found_of_slot s words (keys-of p.row) (count-of p.row) o)) now
           → Does (700 + 10 * suc fuel) (insert_from c p) now
       after o e i =
           within g s variant n words rest few bounded m means key value key_small value_small (700 + 10 * suc fuel)
           (same-part g s variant n words rest few bounded m means key value key_small value_small (insert_from-body c p)
           (after-part g s variant n words rest few bounded m means key value key_small value_small {f = insert_at c (insert_from c) p} finds (short-comes (find-short c p.row) finds)
-          (subst (λ o. Does (704 + 10 * fuel) (insert_at c (insert_from c) p (found_of s words (keys-of p.row) (count-of p.row) o)) now) (sym e) i)))
+          (subst (λ o. Does (704 + 10 * fuel) (insert_at c (insert_from c) p (found_of_slot s words (keys-of p.row) (count-of p.row) o))
+          now) (sym e) i)))
           (omega arith)
 
       found : (o : Option ℕ) → slot_of words p.row.base p.row.kind (byte_at c p.row.level) ≡ o → Does (700 + 10 * suc fuel) (insert_from c p) now

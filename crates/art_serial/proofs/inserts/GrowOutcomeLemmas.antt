@@ -25,7 +25,7 @@ use Rattle.art_serial.specs.words.Laws.{WordsAreReadBack, VersionsSay, WordsAreS
 use Rattle.art_serial.specs.writes.Writes.{HasGrown, IsApart}
 use Rattle.art_serial.specs.writes.Laws.{RowsAreFilled}
 use Rattle.art_serial.specs.alone.Alone.{Comes, Ends}
-use Rattle.art_serial.specs.alone.Finding.{keys_in, count_in}
+use Rattle.art_serial.specs.alone.Finding.{keys_in_row, count_in_row}
 use Rattle.art_serial.proofs.alone.AloneLemmas.{ends-bind, bind-comes, then-comes, store-comes}
 use Rattle.art_serial.proofs.alone.RowRunLemmas.{with_unlocked, with_claim, claim-ends, claim-comes, unlock_obsolete-comes, unlock_all-comes}
 use Rattle.art_serial.proofs.alone.PlaceLemmas.{Sits, sits-part, sits-inside, sits-kind_at}
@@ -68,7 +68,8 @@ module _ (trees : SameTreesAreOne) (hangs : GrownRowsAreHung) (written : RowsAre
       (hanging : child_on s words a.base a.kind y ≡ ChildRow r.base r.kind)
       (leads : LeadsTo s words key r.base r.kind (byte_at c r.level)) (byte : byte_at c r.level < 256) (level : r.level ≡ level_in words r.base r.kind)
       (path : r.path ≡ path_in words r.base r.kind) (none : slot_of words r.base r.kind (byte_at c r.level) ≡ None)
-      (all : count_in (Insert key value) words r.base r.kind (byte_at c r.level) ≡ capacity r.kind) (absent : value_at m key ≡ None) where
+      (all : count_in_row (Insert key value) words r.base r.kind (byte_at c r.level) ≡ capacity r.kind)
+      (absent : value_at m key ≡ None) where
     abbrev x : ℕ
     x = byte_at c r.level
 
@@ -76,10 +77,10 @@ module _ (trees : SameTreesAreOne) (hangs : GrownRowsAreHung) (written : RowsAre
     larger = next_kind r.kind
 
     abbrev keys : List ℕ
-    keys = keys_in words r.base r.kind x
+    keys = keys_in_row words r.base r.kind x
 
     abbrev count : ℕ
-    count = count_in (Insert key value) words r.base r.kind x
+    count = count_in_row (Insert key value) words r.base r.kind x
 
     abbrev number : ℕ
     number = slice_index now (claims_of larger)
@@ -215,7 +216,9 @@ module _ (trees : SameTreesAreOne) (hangs : GrownRowsAreHung) (written : RowsAre
           go (inr (inl l)) = inr l
           go (inr (inr (j, lj, e))) = absurd (row-apart r.base 0 j r.kind leads.reached (omega (arith, two-words r.kind)) lj (omega (arith, e)))
 
-      run : (after : List ℕ) × Comes (fill r.kind c r row x (keys_in begun r.base r.kind x) (count_in (Insert key value) begun r.base r.kind x)) begun tt after
+      run : (after : List ℕ)
+          × Comes (fill r.kind c r row x (keys_in_row begun r.base r.kind x) (count_in_row (Insert key value) begun r.base r.kind x)) begun
+          tt after
           × HasGrown s begun after r.base r.kind row larger x (Leaf key value)
       run = written c r row begun x key value refl value_small
           (row-ends (row_words larger) (two-words larger) (λ j h. (sits-inside s row j larger row-sits h).1)) rows-apart fresh-zero
@@ -232,7 +235,7 @@ module _ (trees : SameTreesAreOne) (hangs : GrownRowsAreHung) (written : RowsAre
       fill-comes : Comes (fill r.kind c r row x keys count) begun tt filled
       fill-comes = subst (λ k. Comes (fill r.kind c r row x keys k) begun tt filled)
           (count-same words begun r.base (Insert key value) r.kind x byte (row-keys words begun r.base r.kind same))
-          (subst (λ ks. Comes (fill r.kind c r row x ks (count_in (Insert key value) begun r.base r.kind x)) begun tt filled)
+          (subst (λ ks. Comes (fill r.kind c r row x ks (count_in_row (Insert key value) begun r.base r.kind x)) begun tt filled)
           (keys-same words begun r.base r.kind x byte (row-keys words begun r.base r.kind same)) run.1)
 
       abbrev hung : List ℕ

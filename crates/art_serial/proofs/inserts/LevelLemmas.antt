@@ -13,7 +13,7 @@ use Rattle.art_rows.proofs.ReaderLemmas.{most_of}
 use Rattle.art_rows.proofs.WriterLemmas.{length-keys16, length-keys4}
 use Rattle.art_rows.specs.Words.{keys4_of}
 use Rattle.art_steps.specs.Rows.{is_insert}
-use Rattle.art_serial.specs.alone.Finding.{count_in}
+use Rattle.art_serial.specs.alone.Finding.{count_in_row}
 
 -- lists that begin alike differ first behind that
 pub differ-behind : (k : ℕ) (xs ys : List ℕ) (d : ℕ) → take k xs ≡ take k ys → k ≤ length xs → first_difference xs ys ≡ Some d → k ≤ d
@@ -39,7 +39,7 @@ differ-behind (suc k) (x ∷ xs) (y ∷ ys) d same long e = go (x == y) refl (λ
     go false is rest f = absurd (eqb-false x y is (heads same))
 
 -- a row has no more keys than its kind can have
-pub count-most : (call : Call) (words : List ℕ) (base : ℕ) (kind : Kind) (x : ℕ) → count_in call words base kind x ≤ capacity kind
+pub count-most : (call : Call) (words : List ℕ) (base : ℕ) (kind : Kind) (x : ℕ) → count_in_row call words base kind x ≤ capacity kind
 count-most call words base Four x = few (slice_index words (keys_at base))
   where
     few : (w : ℕ) → length (keys4_of w) ≤ 4

@@ -28,7 +28,7 @@ use Rattle.art_core.specs.Meaning.{Reached, Means, root, below, child_in, child_
 use Rattle.art_core.specs.Forms.{level_in, path_in}
 use Rattle.art_serial.specs.trees.Trees.{IsAtRest, LeadsTo}
 use Rattle.art_serial.specs.alone.Alone.{Comes, Ends}
-use Rattle.art_serial.specs.alone.Finding.{keys_in, count_in, found_of}
+use Rattle.art_serial.specs.alone.Finding.{keys_in_row, count_in_row, found_of_slot}
 use Rattle.art_serial.proofs.alone.AloneLemmas.{give-comes, bind-comes, then-comes, ends-then}
 use Rattle.art_serial.proofs.alone.AloneLemmas.{load-comes, over-comes, over_none-comes}
 use Rattle.art_serial.proofs.alone.RowRunLemmas.{unlock-comes, wait-comes, check_of-comes, take_row-comes, with_unlocked}
@@ -120,10 +120,10 @@ module _ (g : Given) (s : Shape) (variant : Variant) (n : ℕ) (words : List ℕ
       omega (arith, le, one)
 
   abbrev keys-of : Row → List ℕ
-  keys-of r = keys_in words r.base r.kind (byte_at c r.level)
+  keys-of r = keys_in_row words r.base r.kind (byte_at c r.level)
 
   abbrev count-of : Row → ℕ
-  count-of r = count_in (Insert key value) words r.base r.kind (byte_at c r.level)
+  count-of r = count_in_row (Insert key value) words r.base r.kind (byte_at c r.level)
 
   byte : (r : Row) → byte_at c r.level < 256
   byte r = key_byte-small key r.level
@@ -145,9 +145,9 @@ module _ (g : Given) (s : Shape) (variant : Variant) (n : ℕ) (words : List ℕ
   -- ---- a row that lacks the byte
 
   put-row : (r : Row) (a : IsAt r) → slot_of words r.base r.kind (byte_at c r.level) ≡ None
-      → count_in (Insert key value) words r.base r.kind (byte_at c r.level) < capacity r.kind
-      → Does 44 (take_row c [] r >>= λ held. put c held (keys_in words r.base r.kind (byte_at c r.level))
-      (count_in (Insert key value) words r.base r.kind (byte_at c r.level)) >> (unlock held >> give reply.None)) words
+      → count_in_row (Insert key value) words r.base r.kind (byte_at c r.level) < capacity r.kind
+      → Does 44 (take_row c [] r >>= λ held. put c held (keys_in_row words r.base r.kind (byte_at c r.level))
+      (count_in_row (Insert key value) words r.base r.kind (byte_at c r.level)) >> (unlock held >> give reply.None)) words
   unfolding put
   put-row r a none room =
       let (last, comes, outcome) = put-outcome g.puts g.put_written g.read s variant n words rest m means key value key_small value_small r (taken r words)
@@ -164,7 +164,7 @@ module _ (g : Given) (s : Shape) (variant : Variant) (n : ℕ) (words : List ℕ
   grow-part p r slot keys count = take_above c (p ∷ []) >>= λ above. take_row c above r >>= λ held. grow c above slot held keys count >> give reply.None
 
   grow-row : (p r : Row) (slot : ℕ) (a : IsAt r) → Has-below p r slot → slot_of words r.base r.kind (byte_at c r.level) ≡ None
-      → count_in (Insert key value) words r.base r.kind (byte_at c r.level) ≡ capacity r.kind
+      → count_in_row (Insert key value) words r.base r.kind (byte_at c r.level) ≡ capacity r.kind
       → Does 606 (grow-part p r slot (keys-of r) (count-of r)) words
   grow-row p r slot a h none all =
       after-part g s variant n words rest few bounded m means key value key_small value_small {f = λ above. take_row c above r >>= λ held.
@@ -379,7 +379,7 @@ module _ (g : Given) (s : Shape) (variant : Variant) (n : ℕ) (words : List ℕ
   step fuel more p a above enough = found (slot_of words p.row.base p.row.kind (byte_at c p.row.level)) refl
     where
       after : (o : Option ℕ) → slot_of words p.row.base p.row.kind (byte_at c p.row.level) ≡ o
-          → Does (704 + 10 * fuel) (insert_at c (insert_from c) p (found_of s words (keys-of p.row) (count-of p.row) o)) words
+          → Does (704 + 10 * fuel) (insert_at c (insert_from c) p (found_of_slot s words (keys-of p.row) (count-of p.row) o)) words
           → Does (700 + 10 * suc fuel) (insert_from c p) words
       after o e i =
           within g s variant n words rest few bounded m means key value key_small value_small (700 + 10 * suc fuel)
@@ -388,9 +388,11 @@ module _ (g : Given) (s : Shape) (variant : Variant) (n : ℕ) (words : List ℕ
           {f = λ found. check_of c p.row >> insert_at c (insert_from c) p found} (find-comes c p.row words)
           (short-comes (find-short c p.row) (find-comes c p.row words))
           (after-part g s variant n words rest few bounded m means key value key_small value_small {f = λ _.
-          insert_at c (insert_from c) p (found_of s words (keys-of p.row) (count-of p.row) (slot_of words p.row.base p.row.kind (byte_at c p.row.level)))}
+          insert_at c (insert_from c) p
+          (found_of_slot s words (keys-of p.row) (count-of p.row) (slot_of words p.row.base p.row.kind (byte_at c p.row.level)))}
           (check_of-comes c p.row words a.kept) (short-comes (check_of-short c p.row) (check_of-comes c p.row words a.kept))
-          (subst (λ o. Does (704 + 10 * fuel) (insert_at c (insert_from c) p (found_of s words (keys-of p.row) (count-of p.row) o)) words) (sym e) i))))
+          (subst (λ o. Does (704 + 10 * fuel) (insert_at c (insert_from c) p (found_of_slot s words (keys-of p.row) (count-of p.row) o))
+          words) (sym e) i))))
           (omega arith)
 
       found : (o : Option ℕ) → slot_of words p.row.base p.row.kind (byte_at c p.row.level) ≡ o → Does (700 + 10 * suc fuel) (insert_from c p) words

@@ -23,7 +23,7 @@ use Rattle.art_serial.specs.words.Laws.{WordsAreReadBack}
 use Rattle.art_serial.specs.writes.Writes.{HasPut}
 use Rattle.art_serial.specs.writes.Laws as writes
 use Rattle.art_serial.specs.alone.Alone.{Comes}
-use Rattle.art_serial.specs.alone.Finding.{keys_in, count_in}
+use Rattle.art_serial.specs.alone.Finding.{keys_in_row, count_in_row}
 use Rattle.art_serial.proofs.alone.RowRunLemmas.{with_unlocked}
 use Rattle.art_serial.proofs.alone.PlaceLemmas.{Sits, sits-part, sits-inside}
 use Rattle.art_serial.proofs.alone.SlotLemmas.{IsSlot, slot-is, form-same, row-keys, slot-same, keys-same, count-same}
@@ -106,15 +106,15 @@ module _ (puts : LeavesArePut) (written : writes.PutsWriteLeaves) (read : WordsA
       leaf-outcome = finished leaf_later leaf-near
           (λ w e. (r.base, r.kind, is-slot.place, leads.reached, early, is-slot.high, e ∙ is-slot.is)) leaf-hung old has
 
-    module _ (none : slot_of words r.base r.kind x ≡ None) (room : count_in (Insert key value) words r.base r.kind x < capacity r.kind)
+    module _ (none : slot_of words r.base r.kind x ≡ None) (room : count_in_row (Insert key value) words r.base r.kind x < capacity r.kind)
         (absent : value_at m key ≡ None) where
       same : SameRow words now r.base r.kind
       same = near-row s n words rest near leads.reached
 
-      count : count_in (Insert key value) now r.base r.kind x ≡ count_in (Insert key value) words r.base r.kind x
+      count : count_in_row (Insert key value) now r.base r.kind x ≡ count_in_row (Insert key value) words r.base r.kind x
       count = count-same words now r.base (Insert key value) r.kind x byte (row-keys words now r.base r.kind same)
 
-      keys : keys_in now r.base r.kind x ≡ keys_in words r.base r.kind x
+      keys : keys_in_row now r.base r.kind x ≡ keys_in_row words r.base r.kind x
       keys = keys-same words now r.base r.kind x byte (row-keys words now r.base r.kind same)
 
       fits : r.base + row_words r.kind ≤ length now
@@ -126,7 +126,8 @@ module _ (puts : LeavesArePut) (written : writes.PutsWriteLeaves) (read : WordsA
               pred : ℕ → ℕ
               pred a = a - 1
 
-      run : (after : List ℕ) × Comes (put_in r.kind c r x (keys_in now r.base r.kind x) (count_in (Insert key value) now r.base r.kind x)) now tt after
+      run : (after : List ℕ)
+          × Comes (put_in r.kind c r x (keys_in_row now r.base r.kind x) (count_in_row (Insert key value) now r.base r.kind x)) now tt after
           × HasPut s now after r.base r.kind x (Leaf key value)
       run = written c r now x key value refl value_small fits
           (form-same words now r.base r.kind (row-keys words now r.base r.kind same) (rest.tree.form r.base r.kind leads.reached)) byte
@@ -181,12 +182,12 @@ module _ (puts : LeavesArePut) (written : writes.PutsWriteLeaves) (read : WordsA
       put-hung = puts s words put_later m key value r.base r.kind x rest.tree means leads (inl (ap (λ o. child_in s words o) none)) put-changes
 
       -- The leaf is put in the row, and the row is unlocked.
-      pub put-outcome : (last : List ℕ) × Comes (put_in r.kind c r x (keys_in words r.base r.kind x) (count_in
+      pub put-outcome : (last : List ℕ) × Comes (put_in r.kind c r x (keys_in_row words r.base r.kind x) (count_in_row
           (Insert key value) words r.base r.kind x)) now tt last
           × Outcome s n words rest m means key value reply.None (with_unlocked (r ∷ []) last)
       put-outcome = (
         after,
-        subst (λ k. Comes (put_in r.kind c r x (keys_in words r.base r.kind x) k) now tt after) count
-            (subst (λ ks. Comes (put_in r.kind c r x ks (count_in (Insert key value) now r.base r.kind x)) now tt after) keys run.1),
+        subst (λ k. Comes (put_in r.kind c r x (keys_in_row words r.base r.kind x) k) now tt after) count
+            (subst (λ ks. Comes (put_in r.kind c r x ks (count_in_row (Insert key value) now r.base r.kind x)) now tt after) keys run.1),
         finished put_later put-near (λ w (j, two, lj, e). (r.base, r.kind, j, leads.reached, omega (arith, two), lj, e)) put-hung None absent,
       )

@@ -9,7 +9,7 @@ use Rattle.std.proofs.lemmas.List.Kept.{AllPairs-cons, AllPairs-from_increasing}
 use Rattle.list_laws.proofs.Lists.{AllPairs-head, AllPairs-tail}
 use Rattle.art_rows.specs.Words.{place_of, new_place, with_key}
 use Rattle.art_rows.proofs.WriterLemmas.{length-put_in}
-use Rattle.art_serial.specs.words.Keys.{moved}
+use Rattle.art_serial.specs.words.Keys.{place_moved}
 
 pub same_number : (n : ℕ) → (n == n) ≡ true
 same_number n = grind arith
@@ -37,16 +37,16 @@ not_less a b h = grind (arith, h)
 
 -- the places that move
 
-pub moved-before : (p i : ℕ) → i < p → moved p i ≡ i
+pub moved-before : (p i : ℕ) → i < p → place_moved p i ≡ i
 moved-before p i h = ap (λ b. if b then i else i + 1) (less i p h)
 
-pub moved-behind : (p i : ℕ) → p ≤ i → moved p i ≡ i + 1
+pub moved-behind : (p i : ℕ) → p ≤ i → place_moved p i ≡ i + 1
 moved-behind p i h = ap (λ b. if b then i else i + 1) (not_less i p h)
 
-moved-suc : (p i : ℕ) → moved p i + 1 ≡ moved (suc p) (i + 1)
+moved-suc : (p i : ℕ) → place_moved p i + 1 ≡ place_moved (suc p) (i + 1)
 moved-suc p i = go (nat_lt i p) refl
   where
-    go : (b : Bool) → nat_lt i p ≡ b → moved p i + 1 ≡ moved (suc p) (i + 1)
+    go : (b : Bool) → nat_lt i p ≡ b → place_moved p i + 1 ≡ place_moved (suc p) (i + 1)
     go true e = let l = is_less i p e in ap (λ k. k + 1) (moved-before p i l) ∙ sym (moved-before (suc p) (i + 1) (omega (arith, l)))
     go false e = let l = is_not_less i p e in ap (λ k. k + 1) (moved-behind p i l) ∙ sym (moved-behind (suc p) (i + 1) (omega (arith, l)))
 
@@ -151,38 +151,41 @@ place_new x (y ∷ ys) up absent =
 pub place_of-new : (x : ℕ) (keys : List ℕ) → IsStrictlyIncreasing keys → place_of x keys ≡ None → place_of x (with_key x keys) ≡ Some (new_place x keys)
 place_of-new x keys up absent = place_new x keys (AllPairs-from_increasing keys up) absent
 
-place_old : (x y : ℕ) (keys : List ℕ) → Rising keys → y ≢ x → place_of y (with_key x keys) ≡ option_map (moved (new_place x keys)) (place_of y keys)
+place_old : (x y : ℕ) (keys : List ℕ) → Rising keys → y ≢ x
+    → place_of y (with_key x keys) ≡ option_map (place_moved (new_place x keys)) (place_of y keys)
 place_old x y [] up other = ap (λ b. if b then Some 0 else None) (other_number x y (λ e. other (sym e)))
 place_old x y (z ∷ zs) up other = go (place_old x y zs (AllPairs-tail (λ a b. a < b) z zs up) other) (placed x z zs up)
   where
-    shift : (p : ℕ) (o : Option ℕ) → option_map (λ i. i + 1) (option_map (moved p) o) ≡ option_map (moved (suc p)) (option_map (λ i. i + 1) o)
+    shift : (p : ℕ) (o : Option ℕ)
+        → option_map (λ i. i + 1) (option_map (place_moved p) o) ≡ option_map (place_moved (suc p)) (option_map (λ i. i + 1) o)
     shift p None = refl
     shift p (Some i) = ap Some (moved-suc p i)
 
-    first : (p : ℕ) → Some 0 ≡ Some (moved (suc p) 0)
+    first : (p : ℕ) → Some 0 ≡ Some (place_moved (suc p) 0)
     first p = ap Some (sym (moved-before (suc p) 0 (omega arith)))
 
-    split : (b : Bool) (p : ℕ) (o n : Option ℕ) → n ≡ option_map (moved p) o
-        → (if b then Some 0 else option_map (λ i. i + 1) n) ≡ option_map (moved (suc p)) (if b then Some 0 else option_map (λ i. i + 1) o)
+    split : (b : Bool) (p : ℕ) (o n : Option ℕ) → n ≡ option_map (place_moved p) o
+        → (if b then Some 0 else option_map (λ i. i + 1) n) ≡ option_map (place_moved (suc p))
+        (if b then Some 0 else option_map (λ i. i + 1) o)
     split true p o n h = first p
     split false p o n h = ap (option_map (λ i. i + 1)) h ∙ shift p o
 
-    all : (o : Option ℕ) → option_map (λ i. i + 1) o ≡ option_map (moved 0) o
+    all : (o : Option ℕ) → option_map (λ i. i + 1) o ≡ option_map (place_moved 0) o
     all None = refl
     all (Some i) = ap Some (sym (moved-behind 0 i (omega arith)))
 
-    go : place_of y (with_key x zs) ≡ option_map (moved (new_place x zs)) (place_of y zs) → Place x z zs
-        → place_of y (with_key x (z ∷ zs)) ≡ option_map (moved (new_place x (z ∷ zs))) (place_of y (z ∷ zs))
+    go : place_of y (with_key x zs) ≡ option_map (place_moved (new_place x zs)) (place_of y zs) → Place x z zs
+        → place_of y (with_key x (z ∷ zs)) ≡ option_map (place_moved (new_place x (z ∷ zs))) (place_of y (z ∷ zs))
     go more (behind l p e) =
         ap (place_of y) e
         ∙ split (z == y) (new_place x zs) (place_of y zs) (place_of y (with_key x zs)) more
-        ∙ ap (λ k. option_map (moved k) (place_of y (z ∷ zs))) (sym p)
+        ∙ ap (λ k. option_map (place_moved k) (place_of y (z ∷ zs))) (sym p)
     go more (before l p e) =
         ap (place_of y) e
         ∙ ap (λ b. if b then Some 0 else option_map (λ i. i + 1) (place_of y (z ∷ zs))) (other_number x y (λ h. other (sym h)))
         ∙ all (place_of y (z ∷ zs))
-        ∙ ap (λ k. option_map (moved k) (place_of y (z ∷ zs))) (sym p)
+        ∙ ap (λ k. option_map (place_moved k) (place_of y (z ∷ zs))) (sym p)
 
 pub place_of-old : (x y : ℕ) (keys : List ℕ) → IsStrictlyIncreasing keys → y ≢ x
-    → place_of y (with_key x keys) ≡ option_map (moved (new_place x keys)) (place_of y keys)
+    → place_of y (with_key x keys) ≡ option_map (place_moved (new_place x keys)) (place_of y keys)
 place_of-old x y keys up other = place_old x y keys (AllPairs-from_increasing keys up) other

@@ -13,7 +13,7 @@ use Rattle.art_steps.specs.Updates.{new_leaf, fill, next_kind}
 use Rattle.art_core.specs.Meaning.{slot_of}
 use Rattle.art_core.specs.Forms.{HasForm}
 use Rattle.art_serial.specs.alone.Alone.{Comes}
-use Rattle.art_serial.specs.alone.Finding.{keys_in, count_in}
+use Rattle.art_serial.specs.alone.Finding.{keys_in_row, count_in_row}
 use Rattle.art_serial.specs.words.Stored.{IsStored}
 use Rattle.art_serial.specs.writes.Writes.{IsApart, HasGrown}
 use Rattle.art_serial.proofs.writes.PutLemmas.{keys_of-four, keys_of-sixteen, no_place}
@@ -31,13 +31,13 @@ Fills kind c old level kept path base words x keys count =
 pub fills : (kind : Kind) (c : Setting) (old level kept : ℕ) (path : List ℕ) (base : ℕ) (words : List ℕ) (x : ℕ) → IsStored c.shape (new_leaf c.call)
     → base + row_words (next_kind kind) ≤ length words → IsApart old kind base (next_kind kind)
     → ((word : ℕ) → base + 2 ≤ word → word < base + row_words (next_kind kind) → slice_index words word ≡ 0)
-    → HasForm words old kind → x < 256 → slot_of words old kind x ≡ None → count_in c.call words old kind x ≡ capacity kind
-    → Fills kind c old level kept path base words x (keys_in words old kind x) (count_in c.call words old kind x)
+    → HasForm words old kind → x < 256 → slot_of words old kind x ≡ None → count_in_row c.call words old kind x ≡ capacity kind
+    → Fills kind c old level kept path base words x (keys_in_row words old kind x) (count_in_row c.call words old kind x)
 fills Four c old level kept path base words x stored fits apart zeros form small absent full =
     let keys : List ℕ = form.0 in
     let read = keys_of-four words keys old x form refl in
     let none : place_of x keys ≡ None =
-    subst (λ ks. place_of x ks ≡ None) read (no_place (child_at Four old) (place_of x (keys_in words old Four x)) absent) in
+    subst (λ ks. place_of x ks ≡ None) read (no_place (child_at Four old) (place_of x (keys_in_row words old Four x)) absent) in
     subst (λ ks. Fills Four c old level kept path base words x ks (length ks)) (sym read) (
       after_grow4 c.shape old base words keys x (new_leaf c.call) stored fits apart form.1 form.2 form.3 form.4 none small,
       grow4-comes c old level kept base path words keys x,
@@ -47,7 +47,7 @@ fills Sixteen c old level kept path base words x stored fits apart zeros form sm
     let keys : List ℕ = form.0 in
     let read = keys_of-sixteen words keys old x form refl in
     let none : place_of x keys ≡ None =
-    subst (λ ks. place_of x ks ≡ None) read (no_place (child_at Sixteen old) (place_of x (keys_in words old Sixteen x)) absent) in
+    subst (λ ks. place_of x ks ≡ None) read (no_place (child_at Sixteen old) (place_of x (keys_in_row words old Sixteen x)) absent) in
     let long : length keys ≡ 16 = subst (λ ks. length ks ≡ 16) read full in
     subst (λ ks. Fills Sixteen c old level kept path base words x ks (length ks)) (sym read) (
       after_grow16 c.shape old base words keys x (new_leaf c.call) stored fits apart read long form.5 form.6 none small,
@@ -55,15 +55,18 @@ fills Sixteen c old level kept path base words x stored fits apart zeros form sm
       grow16 c.shape old base words keys x (new_leaf c.call) stored fits apart read long form.5 form.6 none small,
     )
 fills FortyEight c old level kept path base words x stored fits apart zeros form small absent full =
-    grow48 c (record { base = old; kind = FortyEight; level = level; path = path; kept = kept }) base words x (keys_in words old FortyEight x)
-    (count_in c.call words old FortyEight x) fits apart (λ z l. zeros (base + 2 + z) (omega arith) (omega (arith, l))) small stored
+    grow48 c (record { base = old; kind = FortyEight; level = level; path = path; kept = kept }) base words x
+    (keys_in_row words old FortyEight x)
+    (count_in_row c.call words old FortyEight x) fits apart (λ z l. zeros (base + 2 + z) (omega arith) (omega (arith, l))) small stored
 fills Full c old level kept path base words x stored fits apart zeros form small absent full = absurd (none-some (old + 2 + x) (sym absent))
 
 pub row_filled : (c : Setting) (n : Row) (base : ℕ) (words : List ℕ) (x key value : ℕ) → c.call ≡ Insert key value → value < 2 ^ 30
     → base + row_words (next_kind n.kind) ≤ length words → IsApart n.base n.kind base (next_kind n.kind)
     → ((word : ℕ) → base + 2 ≤ word → word < base + row_words (next_kind n.kind) → slice_index words word ≡ 0)
-    → HasForm words n.base n.kind → x < 256 → slot_of words n.base n.kind x ≡ None → count_in c.call words n.base n.kind x ≡ capacity n.kind
-    → (later : List ℕ) × Comes (fill n.kind c n base x (keys_in words n.base n.kind x) (count_in c.call words n.base n.kind x)) words tt later
+    → HasForm words n.base n.kind → x < 256 → slot_of words n.base n.kind x ≡ None
+    → count_in_row c.call words n.base n.kind x ≡ capacity n.kind
+    → (later : List ℕ) × Comes (fill n.kind c n base x (keys_in_row words n.base n.kind x) (count_in_row c.call words n.base n.kind x))
+    words tt later
     × HasGrown c.shape words later n.base n.kind base (next_kind n.kind) x (Leaf key value)
 row_filled c n base words x key value call small fits apart zeros form byte absent full =
     let filled = fills n.kind c n.base n.level n.kept n.path base words x

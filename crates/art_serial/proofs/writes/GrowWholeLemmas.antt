@@ -16,7 +16,7 @@ use Rattle.art_steps.specs.Updates.{fill, grow, next_kind}
 use Rattle.art_core.specs.Meaning.{slot_of}
 use Rattle.art_core.specs.Forms.{HasForm}
 use Rattle.art_serial.specs.alone.Alone.{Comes}
-use Rattle.art_serial.specs.alone.Finding.{keys_in, count_in}
+use Rattle.art_serial.specs.alone.Finding.{keys_in_row, count_in_row}
 use Rattle.art_serial.proofs.alone.AloneLemmas.{bind-comes, then-comes, store-comes}
 use Rattle.art_serial.proofs.alone.RowRunLemmas.{with_claim, claim-comes, with_unlocked, unlock_obsolete-comes, unlock_all-comes}
 use Rattle.art_serial.proofs.words.KeyLemmas.{less}
@@ -48,7 +48,7 @@ module _ (c : Setting) (above : List Row) (slot : ℕ) (n : Row) (words : List �
     (zeros : (word : ℕ) → fresh_base c.shape words (next_kind n.kind) ≤ word
     → word < fresh_base c.shape words (next_kind n.kind) + row_words (next_kind n.kind) → slice_index words word ≡ 0)
     (form : HasForm words n.base n.kind) (absent : slot_of words n.base n.kind (byte_at c n.level) ≡ None)
-    (full : count_in c.call words n.base n.kind (byte_at c n.level) ≡ capacity n.kind) where
+    (full : count_in_row c.call words n.base n.kind (byte_at c n.level) ≡ capacity n.kind) where
   abbrev next : Kind
   next = next_kind n.kind
 
@@ -90,7 +90,8 @@ module _ (c : Setting) (above : List Row) (slot : ℕ) (n : Row) (words : List �
   byte : x < 256
   byte = byte_at-small c n.level
 
-  filled : (later : List ℕ) × Comes (fill n.kind c n base x (keys_in w1 n.base n.kind x) (count_in c.call w1 n.base n.kind x)) w1 tt later
+  filled : (later : List ℕ)
+      × Comes (fill n.kind c n base x (keys_in_row w1 n.base n.kind x) (count_in_row c.call w1 n.base n.kind x)) w1 tt later
       × HasGrown c.shape w1 later n.base n.kind base next x (Leaf key value)
   filled =
       row_filled c n base w1 x key value call small (omega (arith, fresh_ends, long1)) (inl apart)
@@ -132,27 +133,32 @@ module _ (c : Setting) (above : List Row) (slot : ℕ) (n : Row) (words : List �
   abbrev last : List ℕ
   last = slice_set (slice_set filled.0 slot (row_word base)) n.base (obsolete_word n.kept)
 
-  filled-comes : Comes (fill n.kind c n base x (keys_in words n.base n.kind x) (count_in c.call words n.base n.kind x)) w1 tt filled.0
+  filled-comes : Comes (fill n.kind c n base x (keys_in_row words n.base n.kind x) (count_in_row c.call words n.base n.kind x)) w1 tt
+      filled.0
   filled-comes =
-      subst (λ k. Comes (fill n.kind c n base x (keys_in words n.base n.kind x) k) w1 tt filled.0) (count-same c.call words w1 n.base n.kind x same_row byte)
-      (subst (λ ks. Comes (fill n.kind c n base x ks (count_in c.call w1 n.base n.kind x)) w1 tt filled.0) (keys-same words w1 n.base n.kind x same_row byte)
+      subst (λ k. Comes (fill n.kind c n base x (keys_in_row words n.base n.kind x) k) w1 tt filled.0)
+      (count-same c.call words w1 n.base n.kind x same_row byte)
+      (subst (λ ks. Comes (fill n.kind c n base x ks (count_in_row c.call w1 n.base n.kind x)) w1 tt filled.0)
+      (keys-same words w1 n.base n.kind x same_row byte)
       filled.1)
 
-  grow-comes : Comes (grow c above slot n (keys_in words n.base n.kind x) (count_in c.call words n.base n.kind x)) words tt (unlocked_rows above last)
+  grow-comes : Comes (grow c above slot n (keys_in_row words n.base n.kind x) (count_in_row c.call words n.base n.kind x)) words tt
+      (unlocked_rows above last)
   unfolding grow
   grow-comes =
       bind-comes {m = claim c (n ∷ above) next} {f = λ base. store (base + 1) info
-      >> (fill n.kind c n base x (keys_in words n.base n.kind x) (count_in c.call words n.base n.kind x)
+      >> (fill n.kind c n base x (keys_in_row words n.base n.kind x) (count_in_row c.call words n.base n.kind x)
       >> (store slot (row_word base) >> (unlock_obsolete n >> unlock_all above)))}
       (claim-comes c (n ∷ above) next words (less (slice_index words (claims_of next)) (rows_of c.shape next) room))
-      (then-comes {n = fill n.kind c n base x (keys_in words n.base n.kind x) (count_in c.call words n.base n.kind x)
+      (then-comes {n = fill n.kind c n base x (keys_in_row words n.base n.kind x) (count_in_row c.call words n.base n.kind x)
       >> (store slot (row_word base) >> (unlock_obsolete n >> unlock_all above))} (store-comes (base + 1) info w0)
       (then-comes {n = store slot (row_word base) >> (unlock_obsolete n >> unlock_all above)} filled-comes
       (then-comes {n = unlock_obsolete n >> unlock_all above} (store-comes slot (row_word base) filled.0)
       (then-comes {n = unlock_all above} (unlock_obsolete-comes n (slice_set filled.0 slot (row_word base)))
       (subst (λ ws. Comes (unlock_all above) last tt ws) (unlocked-same above last) (unlock_all-comes above last))))))
 
-  pub row_grown : (later : List ℕ) × Comes (grow c above slot n (keys_in words n.base n.kind x) (count_in c.call words n.base n.kind x)) words tt
+  pub row_grown : (later : List ℕ)
+      × Comes (grow c above slot n (keys_in_row words n.base n.kind x) (count_in_row c.call words n.base n.kind x)) words tt
       (unlocked_rows above (slice_set (slice_set later slot (row_word base)) n.base (obsolete_word n.kept)))
       × HasFresh c.shape words later n.base n.kind base next info x (Leaf key value)
   row_grown = (filled.0, grow-comes, fresh)

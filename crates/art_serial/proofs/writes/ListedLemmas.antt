@@ -5,10 +5,10 @@ use Rattle.std.proofs.lemmas.Bool.{cases_lt}
 use Rattle.art_rows.specs.declared.table.Shape.{Shape}
 use Rattle.art_rows.specs.Words.{child_of}
 use Rattle.art_core.specs.Meaning.{child_in}
-use Rattle.art_serial.specs.words.Keys.{moved}
 use Rattle.art_serial.proofs.writes.StoreLemmas.{stored-other}
 use Rattle.art_serial.proofs.writes.MoveLemmas.{with_room, room-other, room-moved}
 use Rattle.art_serial.proofs.words.KeyLemmas.{moved-before, moved-behind}
+use Rattle.art_serial.specs.words.Keys.{place_moved}
 
 -- The n children from one place of the words on stand in the later words from another place on, those from the p-th on one
 -- place later.
@@ -17,7 +17,7 @@ pub record HaveMoved (s : Shape) (words later : List ℕ) (from to p n : ℕ) : 
   pub behind : (i : ℕ) → p ≤ i → i < n → child_of s (slice_index later (to + (i + 1))) ≡ child_of s (slice_index words (from + i))
 
 pub moved-child : {s : Shape} {words later : List ℕ} {from to p n : ℕ} → HaveMoved s words later from to p n → (i : ℕ) → i < n
-    → child_of s (slice_index later (to + moved p i)) ≡ child_of s (slice_index words (from + i))
+    → child_of s (slice_index later (to + place_moved p i)) ≡ child_of s (slice_index words (from + i))
 moved-child {s = s} {later = later} {to = to} {p = p} h i l = ⊎_elim
     (λ b. ap (λ k. child_of s (slice_index later (to + k))) (moved-before p i b) ∙ h.before i b l)
     (λ b. ap (λ k. child_of s (slice_index later (to + k))) (moved-behind p i b) ∙ h.behind i b l)
@@ -25,7 +25,7 @@ moved-child {s = s} {later = later} {to = to} {p = p} h i l = ⊎_elim
 
 pub moved-in : {s : Shape} {words later : List ℕ} {from to p n : ℕ} → HaveMoved s words later from to p n → (o : Option ℕ)
     → ((i : ℕ) → o ≡ Some i → i < n)
-    → child_in s later (option_map (λ i. to + i) (option_map (moved p) o)) ≡ child_in s words (option_map (λ i. from + i) o)
+    → child_in s later (option_map (λ i. to + i) (option_map (place_moved p) o)) ≡ child_in s words (option_map (λ i. from + i) o)
 moved-in h None within = refl
 moved-in h (Some i) within = moved-child h i (within i refl)
 

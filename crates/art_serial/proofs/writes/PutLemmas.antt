@@ -14,7 +14,7 @@ use Rattle.art_steps.specs.Updates.{new_leaf, put_in}
 use Rattle.art_core.specs.Meaning.{slot_of}
 use Rattle.art_core.specs.Forms.{HasForm}
 use Rattle.art_serial.specs.alone.Alone.{Comes}
-use Rattle.art_serial.specs.alone.Finding.{keys_in, count_in}
+use Rattle.art_serial.specs.alone.Finding.{keys_in_row, count_in_row}
 use Rattle.art_serial.specs.words.Stored.{IsStored}
 use Rattle.art_serial.proofs.words.ByteLemmas.{keys4_back, keys16_back}
 use Rattle.art_serial.specs.writes.Writes.{HasPut}
@@ -22,10 +22,12 @@ use Rattle.art_serial.proofs.writes.PutListedLemmas.{after_put4, put4, put4-come
 use Rattle.art_serial.proofs.writes.PutIndexedLemmas.{after_put48, put48, put48-comes}
 
 -- a row that is read whole
-pub keys_of-four : (words keys : List ℕ) (base x : ℕ) → (form : HasForm words base Four) → form.0 ≡ keys → keys_in words base Four x ≡ keys
+pub keys_of-four : (words keys : List ℕ) (base x : ℕ) → (form : HasForm words base Four) → form.0 ≡ keys
+    → keys_in_row words base Four x ≡ keys
 keys_of-four words keys base x form e = ap keys4_of form.1 ∙ keys4_back form.0 form.2 form.4 ∙ e
 
-pub keys_of-sixteen : (words keys : List ℕ) (base x : ℕ) → (form : HasForm words base Sixteen) → form.0 ≡ keys → keys_in words base Sixteen x ≡ keys
+pub keys_of-sixteen : (words keys : List ℕ) (base x : ℕ) → (form : HasForm words base Sixteen) → form.0 ≡ keys
+    → keys_in_row words base Sixteen x ≡ keys
 keys_of-sixteen words keys base x form e =
     ap (λ n. keys16_of n (slice_index words (base + 2)) (slice_index words (base + 3))) form.3
     ∙ ap (λ a. keys16_of (length form.0) a (slice_index words (base + 3))) form.1
@@ -43,7 +45,7 @@ count_of-within n h = ap (λ b. if b then n else 0) (within n h)
     within n h = grind (arith, h)
 
 pub count48 : (call : Call) (words : List ℕ) (base x : ℕ) → is_insert call ≡ true → slice_index words (base + 34) ≤ 48
-    → count_in call words base FortyEight x ≡ slice_index words (base + 34)
+    → count_in_row call words base FortyEight x ≡ slice_index words (base + 34)
 count48 call words base x e h =
     ap (λ b. if b then count_of 48 (slice_index words (base + 34)) else 0) e ∙ count_of-within (slice_index words (base + 34)) h
 
@@ -56,13 +58,13 @@ Puts kind c base level kept path words x keys count =
 
 pub puts : (kind : Kind) (c : Setting) (base level kept : ℕ) (path words : List ℕ) (x : ℕ) → is_insert c.call ≡ true → IsStored c.shape (new_leaf c.call)
     → base + row_words kind ≤ length words → HasForm words base kind → x < 256 → slot_of words base kind x ≡ None
-    → count_in c.call words base kind x < capacity kind
-    → Puts kind c base level kept path words x (keys_in words base kind x) (count_in c.call words base kind x)
+    → count_in_row c.call words base kind x < capacity kind
+    → Puts kind c base level kept path words x (keys_in_row words base kind x) (count_in_row c.call words base kind x)
 puts Four c base level kept path words x insert stored fits form small absent few =
     let keys : List ℕ = form.0 in
     let read = keys_of-four words keys base x form refl in
     let none : place_of x keys ≡ None =
-    subst (λ ks. place_of x ks ≡ None) read (no_place (child_at Four base) (place_of x (keys_in words base Four x)) absent) in
+    subst (λ ks. place_of x ks ≡ None) read (no_place (child_at Four base) (place_of x (keys_in_row words base Four x)) absent) in
     let less : length keys < 4 = subst (λ ks. length ks < 4) read few in
     subst (λ ks. Puts Four c base level kept path words x ks (length ks)) (sym read) (
       after_put4 c.shape base words keys x (new_leaf c.call) stored fits form.1 less form.3 form.4 none small,
@@ -73,7 +75,7 @@ puts Sixteen c base level kept path words x insert stored fits form small absent
     let keys : List ℕ = form.0 in
     let read = keys_of-sixteen words keys base x form refl in
     let none : place_of x keys ≡ None =
-    subst (λ ks. place_of x ks ≡ None) read (no_place (child_at Sixteen base) (place_of x (keys_in words base Sixteen x)) absent) in
+    subst (λ ks. place_of x ks ≡ None) read (no_place (child_at Sixteen base) (place_of x (keys_in_row words base Sixteen x)) absent) in
     let less : length keys < 16 = subst (λ ks. length ks < 16) read few in
     subst (λ ks. Puts Sixteen c base level kept path words x ks (length ks)) (sym read) (
       after_put16 c.shape base words keys x (new_leaf c.call) stored fits form.1 form.2 form.3 less form.5 form.6 none small,
@@ -84,17 +86,18 @@ puts FortyEight c base level kept path words x insert stored fits form small abs
     let n : ℕ = slice_index words (base + 34) in
     let read = count48 c.call words base x insert form.0 in
     let less : n < 48 = subst (λ k. k < 48) read few in
-    subst (λ k. Puts FortyEight c base level kept path words x (keys_in words base FortyEight x) k) (sym read) (
+    subst (λ k. Puts FortyEight c base level kept path words x (keys_in_row words base FortyEight x) k) (sym read) (
       after_put48 c.shape base words n x (new_leaf c.call) stored fits refl less form small absent,
-      put48-comes c base level kept path words (keys_in words base FortyEight x) x n,
+      put48-comes c base level kept path words (keys_in_row words base FortyEight x) x n,
       put48 c.shape base words n x (new_leaf c.call) stored fits refl less form small absent,
     )
 puts Full c base level kept path words x insert stored fits form small absent few = absurd (none-some (base + 2 + x) (sym absent))
 
 pub leaf_put : (c : Setting) (n : Row) (words : List ℕ) (x key value : ℕ) → c.call ≡ Insert key value → value < 2 ^ 30
     → n.base + row_words n.kind ≤ length words → HasForm words n.base n.kind → x < 256 → slot_of words n.base n.kind x ≡ None
-    → count_in c.call words n.base n.kind x < capacity n.kind
-    → (later : List ℕ) × Comes (put_in n.kind c n x (keys_in words n.base n.kind x) (count_in c.call words n.base n.kind x)) words tt later
+    → count_in_row c.call words n.base n.kind x < capacity n.kind
+    → (later : List ℕ) × Comes (put_in n.kind c n x (keys_in_row words n.base n.kind x) (count_in_row c.call words n.base n.kind x)) words
+    tt later
     × HasPut c.shape words later n.base n.kind x (Leaf key value)
 leaf_put c n words x key value call small fits form byte absent few =
     let put = puts n.kind c n.base n.level n.kept n.path words x (ap is_insert call)

@@ -13,13 +13,13 @@ use Rattle.art_rows.proofs.ByteLemmas.{place-within}
 use Rattle.art_steps.specs.Rows.{is_insert}
 use Rattle.art_core.specs.Meaning.{entry_slot, slot_of, child_in, child_on}
 use Rattle.art_core.specs.Forms.{HasForm}
-use Rattle.art_serial.specs.alone.Finding.{keys_in, count_in}
+use Rattle.art_serial.specs.alone.Finding.{keys_in_row, count_in_row}
 use Rattle.art_serial.proofs.writes.IndexLemmas.{length-entries, entries-most, entry_in, entry-named}
 use Rattle.art_serial.proofs.writes.PutLemmas.{keys_of-four, keys_of-sixteen}
 use Rattle.art_serial.specs.writes.Writes.{HasSameFields}
 
 pub keys-same : (words later : List ℕ) (base : ℕ) (kind : Kind) (x : ℕ) → HasSameFields words later base kind → x < 256
-    → keys_in later base kind x ≡ keys_in words base kind x
+    → keys_in_row later base kind x ≡ keys_in_row words base kind x
 keys-same words later base Four x same small = ap keys4_of (same (base + 2) (omega arith) (omega arith))
 keys-same words later base Sixteen x same small =
     ap (λ n. keys16_of n (slice_index later (base + 2)) (slice_index later (base + 3))) (same (base + 4) (omega arith) (omega arith))
@@ -29,7 +29,7 @@ keys-same words later base FortyEight x same small = ap entries_of (same (base +
 keys-same words later base Full x same small = refl
 
 pub count-same : (call : Call) (words later : List ℕ) (base : ℕ) (kind : Kind) (x : ℕ) → HasSameFields words later base kind → x < 256
-    → count_in call later base kind x ≡ count_in call words base kind x
+    → count_in_row call later base kind x ≡ count_in_row call words base kind x
 count-same call words later base Four x same small = ap length (keys-same words later base Four x same small)
 count-same call words later base Sixteen x same small = ap length (keys-same words later base Sixteen x same small)
 count-same call words later base FortyEight x same small =
@@ -49,9 +49,10 @@ slot-same words later base Full x same small = refl
 slot_within : (words : List ℕ) (base : ℕ) (kind : Kind) (x slot : ℕ) → HasForm words base kind → x < 256 → slot_of words base kind x ≡ Some slot
     → (base + 2 ≤ slot) × (slot < base + row_words kind)
 slot_within words base Four x slot form small e =
-    listed (place_of x (keys_in words base Four x)) e (λ i h. omega (arith, (place-within x (keys_in words base Four x) i h).0, few))
+    listed (place_of x (keys_in_row words base Four x)) e
+    (λ i h. omega (arith, (place-within x (keys_in_row words base Four x) i h).0, few))
   where
-    few : length (keys_in words base Four x) ≤ 4
+    few : length (keys_in_row words base Four x) ≤ 4
     few = omega (arith, ap length (keys_of-four words form.0 base x form refl), form.2)
 
     listed : (o : Option ℕ) → option_map (λ i. base + 3 + i) o ≡ Some slot → ((i : ℕ) → o ≡ Some i → i < 4) → (base + 2 ≤ slot) × (slot < base + 7)
@@ -59,9 +60,10 @@ slot_within words base Four x slot form small e =
     listed (Some i) h l =
         let is : base + 3 + i ≡ slot = same_Some (base + 3 + i) slot h in (omega (arith, is), omega (arith, is, l i refl))
 slot_within words base Sixteen x slot form small e =
-    listed (place_of x (keys_in words base Sixteen x)) e (λ i h. omega (arith, (place-within x (keys_in words base Sixteen x) i h).0, few))
+    listed (place_of x (keys_in_row words base Sixteen x)) e
+    (λ i h. omega (arith, (place-within x (keys_in_row words base Sixteen x) i h).0, few))
   where
-    few : length (keys_in words base Sixteen x) ≤ 16
+    few : length (keys_in_row words base Sixteen x) ≤ 16
     few = omega (arith, ap length (keys_of-sixteen words form.0 base x form refl), form.4)
 
     listed : (o : Option ℕ) → option_map (λ i. base + 5 + i) o ≡ Some slot → ((i : ℕ) → o ≡ Some i → i < 16) → (base + 2 ≤ slot) × (slot < base + 21)

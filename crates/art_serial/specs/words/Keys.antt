@@ -2,5 +2,5 @@
 use Rattle.std.specs.Prelude.{ℕ, ◌+◌, nat_lt, if◌then◌else◌}
 
 -- a place, where one more stands at place p: those from p on are one later
-abbrev pub moved : ℕ → ℕ → ℕ
-moved p i = if nat_lt i p then i else i + 1
+abbrev pub place_moved : ℕ → ℕ → ℕ
+place_moved p i = if nat_lt i p then i else i + 1

@@ -8,8 +8,8 @@ use Rattle.art_rows.specs.Table.{row_words, rows_of, table_words, base_of, kind_
 use Rattle.art_rows.specs.Words.{info_word, info_of, keys4_of, keys4_word, keys16_of, keys16_word, more_keys16_word, entries_of, entries_word}
 use Rattle.art_rows.specs.Words.{child_of, child_word, is_locked, is_obsolete, locked_word, released_word, obsolete_word}
 use Rattle.art_rows.specs.Words.{place_of, new_place, with_key}
-use Rattle.art_serial.specs.words.Keys.{moved}
 use Rattle.art_serial.specs.words.Stored.{IsStored, IsShort}
+use Rattle.art_serial.specs.words.Keys.{place_moved}
 
 -- What is written in a word of a row is what the word is read as.
 pub record WordsAreReadBack : Type 0 where
@@ -57,4 +57,4 @@ pub record KeysAreKept : Type 0 where
   pub within : (x : ℕ) (keys : List ℕ) → new_place x keys ≤ length keys
   pub new : (x : ℕ) (keys : List ℕ) → IsStrictlyIncreasing keys → place_of x keys ≡ None → place_of x (with_key x keys) ≡ Some (new_place x keys)
   pub old : (x y : ℕ) (keys : List ℕ) → IsStrictlyIncreasing keys → y ≢ x
-      → place_of y (with_key x keys) ≡ option_map (moved (new_place x keys)) (place_of y keys)
+      → place_of y (with_key x keys) ≡ option_map (place_moved (new_place x keys)) (place_of y keys)

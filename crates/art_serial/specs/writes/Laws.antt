@@ -13,7 +13,7 @@ use Rattle.art_core.specs.Meaning.{slot_of, child_on}
 use Rattle.art_core.specs.Forms.{HasForm}
 use Rattle.art_serial.specs.words.Stored.{IsStored}
 use Rattle.art_serial.specs.alone.Alone.{Comes}
-use Rattle.art_serial.specs.alone.Finding.{keys_in, count_in}
+use Rattle.art_serial.specs.alone.Finding.{keys_in_row, count_in_row}
 use Rattle.art_serial.specs.writes.Writes.{HasSameFields, HasPut, fresh_base, IsOutside, HasPair, IsApart, HasGrown, HasFresh, unlocked_rows}
 
 -- A row whose keys and children are the same words has form, and has the same on each byte.
@@ -25,8 +25,9 @@ RowsAreTheirFields = (s : Shape) (words later : List ℕ) (base : ℕ) (kind : K
 abbrev pub PutsWriteLeaves : Type 0
 PutsWriteLeaves = (c : Setting) (n : Row) (words : List ℕ) (x key value : ℕ) → c.call ≡ Insert key value → value < 2 ^ 30
     → n.base + row_words n.kind ≤ length words → HasForm words n.base n.kind → x < 256 → slot_of words n.base n.kind x ≡ None
-    → count_in c.call words n.base n.kind x < capacity n.kind
-    → (later : List ℕ) × Comes (put_in n.kind c n x (keys_in words n.base n.kind x) (count_in c.call words n.base n.kind x)) words tt later
+    → count_in_row c.call words n.base n.kind x < capacity n.kind
+    → (later : List ℕ) × Comes (put_in n.kind c n x (keys_in_row words n.base n.kind x) (count_in_row c.call words n.base n.kind x)) words
+    tt later
     × HasPut c.shape words later n.base n.kind x (Leaf key value)
 
 -- PAIR, of an insert that runs alone, where a claim finds a row: it has the child that was in the slot, and the new leaf.
@@ -43,8 +44,10 @@ abbrev pub RowsAreFilled : Type 0
 RowsAreFilled = (c : Setting) (n : Row) (base : ℕ) (words : List ℕ) (x key value : ℕ) → c.call ≡ Insert key value → value < 2 ^ 30
     → base + row_words (next_kind n.kind) ≤ length words → IsApart n.base n.kind base (next_kind n.kind)
     → ((word : ℕ) → base + 2 ≤ word → word < base + row_words (next_kind n.kind) → slice_index words word ≡ 0)
-    → HasForm words n.base n.kind → x < 256 → slot_of words n.base n.kind x ≡ None → count_in c.call words n.base n.kind x ≡ capacity n.kind
-    → (later : List ℕ) × Comes (fill n.kind c n base x (keys_in words n.base n.kind x) (count_in c.call words n.base n.kind x)) words tt later
+    → HasForm words n.base n.kind → x < 256 → slot_of words n.base n.kind x ≡ None
+    → count_in_row c.call words n.base n.kind x ≡ capacity n.kind
+    → (later : List ℕ) × Comes (fill n.kind c n base x (keys_in_row words n.base n.kind x) (count_in_row c.call words n.base n.kind x))
+    words tt later
     × HasGrown c.shape words later n.base n.kind base (next_kind n.kind) x (Leaf key value)
 
 -- GROW, of an insert that runs alone, where a claim finds a row: the fresh row with the children and the new leaf hangs in the slot, the
@@ -56,9 +59,10 @@ GrownRowsAreWritten = (c : Setting) (above : List Row) (slot : ℕ) (n : Row) (w
     → ((word : ℕ) → fresh_base c.shape words (next_kind n.kind) ≤ word
     → word < fresh_base c.shape words (next_kind n.kind) + row_words (next_kind n.kind) → slice_index words word ≡ 0)
     → HasForm words n.base n.kind → slot_of words n.base n.kind (byte_at c n.level) ≡ None
-    → count_in c.call words n.base n.kind (byte_at c n.level) ≡ capacity n.kind
+    → count_in_row c.call words n.base n.kind (byte_at c n.level) ≡ capacity n.kind
     → (filled : List ℕ)
-    × Comes (grow c above slot n (keys_in words n.base n.kind (byte_at c n.level)) (count_in c.call words n.base n.kind (byte_at c n.level))) words tt
+    × Comes (grow c above slot n (keys_in_row words n.base n.kind (byte_at c n.level))
+    (count_in_row c.call words n.base n.kind (byte_at c n.level))) words tt
     (unlocked_rows above (slice_set (slice_set filled slot (row_word (fresh_base c.shape words (next_kind n.kind)))) n.base (obsolete_word n.kept)))
     × HasFresh c.shape words filled n.base n.kind (fresh_base c.shape words (next_kind n.kind)) (next_kind n.kind)
     (info_word (next_kind n.kind) n.level n.path) (byte_at c n.level) (Leaf key value)

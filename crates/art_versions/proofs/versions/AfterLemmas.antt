@@ -25,7 +25,7 @@ use Rattle.art_versions.specs.versions.Holding.{OfRows, Each, IsSlot, child_rows
 use Rattle.art_versions.specs.versions.Holding.{rows_of_work, rows_found, FitsPlace, HasSlot, kept_at_place, KnowsRows}
 use Rattle.art_versions.proofs.versions.WordFacts.{place-fits, entry-fits}
 use Rattle.art_steps.specs.declared.variant.Variant.{Variant}
-use Rattle.art_versions.specs.versions.Locking.{all_of, held_at_place, locks_of, rows_held, rows_of_hold}
+use Rattle.art_versions.specs.versions.Locking.{all_of, held_at_place, locks_of, rows_of_hold, held_at_stage}
 use Rattle.art_serial.proofs.words.KeyLemmas.{less}
 use Rattle.art_stages.specs.declared.stage.Work.TheVariants as work
 
@@ -48,12 +48,12 @@ module _ (variant : Variant) (s : Shape) (call : Call) (P : OfRows) (is_row : (b
 
   -- at a stage that holds these rows and fills none
   abbrev pub IsAt : List Held → Stage → Type 0
-  IsAt rows stage = KnowsKey P c stage × (locks_of (rows_held l i stage) ≡ locks_of rows) × (row_filled stage ≡ [])
+  IsAt rows stage = KnowsKey P c stage × (locks_of (held_at_stage l i stage) ≡ locks_of rows) × (row_filled stage ≡ [])
 
   pub at-start : IsAt [] (start_at l)
   at-start = go l
     where
-      go : (b : Bool) → KnowsRows P b i c (start_at b) × (locks_of (rows_held b i (start_at b)) ≡ []) × (row_filled (start_at b) ≡ [])
+      go : (b : Bool) → KnowsRows P b i c (start_at b) × (locks_of (held_at_stage b i (start_at b)) ≡ []) × (row_filled (start_at b) ≡ [])
       go true = (record { kept = tt; known = tt; fits = (tt, tt); filled = tt }, refl, refl)
       go false = (record { kept = tt; known = tt; fits = (tt, tt); filled = tt }, refl, refl)
 

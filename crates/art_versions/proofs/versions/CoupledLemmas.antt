@@ -7,7 +7,7 @@ use Rattle.art_stages.specs.declared.stage.Keys.{Keys}
 use Rattle.art_versions.proofs.versions.WordFacts.{full-not-less, count-most, child-good, new-leaf-rows, overwriting-good}
 use Rattle.std.proofs.Common.{◌≡◌, ℕ, List, [], ◌∷◌, refl, sym, subst, Bool, true, false, inl, inr, ap, eq-eqb, ne_eqb}
 use Rattle.std.specs.Prelude.{◌==◌, if◌then◌else◌, None, Option, Some, slice_index}
-use Rattle.art_versions.specs.versions.Effects.{Has as Leads, Does}
+use Rattle.art_versions.specs.versions.Effects.{Has as Leads, AccessDoes}
 use Rattle.art_steps.specs.declared.access.Access.TheVariants.{Exchange as Swap}
 use Rattle.art_rows.specs.declared.table.Child.TheVariants.{Empty, Row as ChildRow, Leaf}
 use Rattle.art_steps.specs.Steps.{Asks}
@@ -31,7 +31,7 @@ use Rattle.art_steps.specs.Rows.{Setting, is_insert, key_of, path_differs_at}
 use Rattle.art_rows.specs.declared.table.Shape.{Shape}
 use Rattle.art_stages.specs.declared.stage.Stage.{Stage}
 use Rattle.art_stages.specs.declared.stage.Target.{Target}
-use Rattle.art_versions.specs.versions.Locking.{all_of, held_at_place, held_below, lock_of, locks_of, rows_held, rows_of_target}
+use Rattle.art_versions.specs.versions.Locking.{all_of, held_at_place, held_below, lock_of, locks_of, rows_of_target, held_at_stage}
 use Rattle.art_stages.specs.Automaton.{below_at, down_from, entered_at, found_at, hold_alone, insert_coupled, let_go_at, no_value, overwrite_at}
 use Rattle.art_stages.specs.Automaton.{place_coupled, seek_coupled, work_at}
 use Rattle.art_rows.specs.Table.{capacity, kind_at, root_base}
@@ -48,10 +48,10 @@ module _ (s : Shape) (call : Call) (P : OfRows) (is_row : (b : ℕ) (k : Kind) �
 
   -- where the call is an insert, and where it is none
   abbrev At : Bool → List Held → Stage → Type 0
-  At i rows stage = KnowsRows P true i c stage × (locks_of (rows_held true i stage) ≡ locks_of rows) × (row_filled stage ≡ [])
+  At i rows stage = KnowsRows P true i c stage × (locks_of (held_at_stage true i stage) ≡ locks_of rows) × (row_filled stage ≡ [])
 
   abbrev Doing : Stage → Type 0
-  Doing stage = Does P c (OnKey stage)
+  Doing stage = AccessDoes P c (OnKey stage)
 
   abbrev Keeps : Held → Type 0
   Keeps h = IsKept true P h
@@ -165,7 +165,7 @@ module _ (s : Shape) (call : Call) (P : OfRows) (is_row : (b : ℕ) (k : Kind) �
   entered : (i : Bool) (t : Target) (v : ℕ) → IsVersion true v → Each Keeps (rows_of_target t) → Each (IsNamed P) (rows_of_wait t) → FitsTarget t
       → (n : Held) × (n.base ≡ target_base c t) × (n.kept ≡ v) × (lock_of n ≡ n) × Keeps n
       × KnowsRows P true i c (entered_at true i false c t v)
-      × (locks_of (rows_held true i (entered_at true i false c t v)) ≡ n ∷ locks_of (rows_of_target t))
+      × (locks_of (held_at_stage true i (entered_at true i false c t v)) ≡ n ∷ locks_of (rows_of_target t))
       × (row_filled (entered_at true i false c t v) ≡ [])
   entered true Root v free kept known fits = (
     held (root_base s) Full 0 v,

@@ -36,7 +36,8 @@ use Rattle.art_steps.specs.Steps.{Turn}
 use Rattle.art_stages.specs.Calls.{OnKey}
 use Rattle.art_versions.specs.versions.Holding.{OfRows, Named, Each, IsSlot, child_rows, row_grown, HangsIn, IsCopied, FitsGrowing, IsKept, IsNamed, KnowsKey}
 use Rattle.art_versions.specs.versions.Holding.{FitsPlace, HasSlot, IsFound, kept_at_place, rows_found}
-use Rattle.art_versions.specs.versions.Effects.{IsAmong, With, IsBehindVersion, Has, Does, Reads, Writes, Fills, Ends, Releases, Claims, Answered}
+use Rattle.art_versions.specs.versions.Effects.{IsAmong, With, IsBehindVersion, Has, Reads, Writes, Fills, Ends, Releases, Claims, Answered}
+use Rattle.art_versions.specs.versions.Effects.{AccessDoes}
 use Rattle.art_versions.proofs.versions.WordFacts.{entry-fits, child-good, new-leaf-rows}
 use Rattle.art_versions.proofs.versions.AfterLemmas.{among, finds, released, moves, IsAt}
 use Rattle.art_stages.specs.declared.stage.Down.{Down}
@@ -99,7 +100,7 @@ module _ (variant : Variant) (s : Shape) (call : Call) (P : OfRows) (is_row : (b
   c = setting s variant call
 
   abbrev Doing : Stage → Type 0
-  Doing stage = Does P c (OnKey stage)
+  Doing stage = AccessDoes P c (OnKey stage)
 
   abbrev l : Bool
   l = locks variant

@@ -23,7 +23,7 @@ use Rattle.art_stages.specs.declared.stage.Down.{Down}
 use Rattle.art_stages.specs.Stages.{held, row_at}
 use Rattle.art_stages.specs.Scans.{Walk}
 use Rattle.art_stages.specs.Calls.{CallAt, OnKey, OnScan}
-use Rattle.art_versions.specs.versions.Locking.{all_of, locks_of, held_at_place, held_between, held_below, rows_held, scan_held}
+use Rattle.art_versions.specs.versions.Locking.{all_of, locks_of, held_at_place, held_between, held_below, scan_held, held_at_stage}
 use Rattle.art_versions.specs.versions.Holding.{OfRows, Each, kept_at_place, kept_below, FitsFrame, FitsScan, IsKept, IsNamed, Knows, holds}
 use Rattle.art_versions.specs.versions.Holding.{KnowsRows}
 use Rattle.art_versions.specs.versions.Effects.{IsAmong}
@@ -56,7 +56,7 @@ module _ (P : OfRows) where
   between-kept false d kept k = tt
 
 module _ (P : OfRows) (l i : Bool) (c : Setting) where
-  held-kept : (stage : Stage) → KnowsRows P l i c stage → Each (IsKept l P) (rows_held l i stage)
+  held-kept : (stage : Stage) → KnowsRows P l i c stage → Each (IsKept l P) (held_at_stage l i stage)
   held-kept (Take t) k = (each-split (IsKept l P) (all_of t.held) (all_of t.below) k.kept.1).0
   held-kept (Write h slot word reply) k = k.kept
   held-kept (ClaimPair h p) k = k.kept
@@ -99,7 +99,7 @@ module _ (P : OfRows) (l i : Bool) (c : Setting) where
 module _ (P : OfRows) (c : Setting) where
   pub held-is-kept : (at : CallAt) → Knows P c at → (h : Held) → IsAmong h (holds c at) → IsKept (locks c.variant) P h
   held-is-kept (OnKey stage) k h a =
-      let rows = rows_held (locks c.variant) (is_insert c.call) stage in
+      let rows = held_at_stage (locks c.variant) (is_insert c.call) stage in
       among-each (IsKept (locks c.variant) P) h (locks_of rows) a
       (locks-kept P (locks c.variant) rows (held-kept P (locks c.variant) (is_insert c.call) c stage k))
   held-is-kept (OnScan low high at) k h a =

@@ -35,7 +35,8 @@ use Rattle.art_core.specs.Plans.{IsRun}
 use Rattle.art_core.proofs.HistoryLemmas.{changed-at, is-moved, nowhere}
 use Rattle.art_core.proofs.StartLemmas.{run-steps}
 use Rattle.art_versions.specs.versions.Holding.{OfRows, holds}
-use Rattle.art_versions.specs.versions.Effects.{IsAmong, IsBehindVersion, Does, Reads, Writes, Fills, Ends, Releases, Takes, Claims, Answered}
+use Rattle.art_versions.specs.versions.Effects.{IsAmong, IsBehindVersion, Reads, Writes, Fills, Ends, Releases, Takes, Claims, Answered}
+use Rattle.art_versions.specs.versions.Effects.{AccessDoes}
 use Rattle.art_versions.specs.versions.Versions.{IsOpen, IsSettled, IsSound, stage_of, held_by}
 use Rattle.art_versions.specs.versions.Laws.{IsFull}
 use Rattle.art_versions.proofs.versions.KnownLemmas.{held-is-kept}
@@ -161,7 +162,7 @@ module _ (plan : Plan) (n : ℕ) (s : State) (sound : IsSound plan.variant plan.
           (omega (arith, behind.0)) behind.1 in
           omega (arith, same, one.0, behind.0)
 
-  pub access : (a : Access) (mark : Option Point) → call_turn c place ≡ Asks a mark → Does P c place → After a
+  pub access : (a : Access) (mark : Option Point) → call_turn c place ≡ Asks a mark → AccessDoes P c place → After a
   access a mark e (Reads word at turn after) = subst After (asks-same (sym turn ∙ e))
       (subst (AreLocked plan call (q.got ++ now (Load word) ∷ [])) (sym (after (now (Load word)) (sound.children word)).1)
       (stay plan call q.got (now (Load word)) (holds c place) k (λ h b v m f. load-store (sym (turn-is (Asks (Load word) at) turn) ∙ f))
@@ -273,7 +274,8 @@ module _ (plan : Plan) (full : IsFull plan.variant) (root : 1 ≤ plan.shape.row
       opens : IsOpen s p open-call q
       opens = record { own = here; is_open = e }
 
-      doing : Does (IsSettled plan.variant plan.shape s) (setting plan.shape plan.variant open-call) (stage_of plan.variant plan.shape open-call q)
+      doing : AccessDoes (IsSettled plan.variant plan.shape s) (setting plan.shape plan.variant open-call)
+          (stage_of plan.variant plan.shape open-call q)
       doing = does plan.variant full plan.shape open-call (IsSettled plan.variant plan.shape s) (settled-row plan.variant plan.shape s) sound.root
           (stage_of plan.variant plan.shape open-call q) (sound.knows p open-call q opens)
 

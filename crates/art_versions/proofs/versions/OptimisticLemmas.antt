@@ -6,7 +6,7 @@ use Rattle.art_stages.specs.declared.stage.Keys.{Keys}
 use Rattle.art_versions.proofs.versions.WordFacts.{count-most, free-version, child-good, new-leaf-rows, overwriting-good}
 use Rattle.std.proofs.Common.{◌≡◌, ℕ, ◌%◌, List, [], ◌∷◌, refl, sym, subst, Bool, true, false, inl, eq-eqb, ne_eqb}
 use Rattle.std.specs.Prelude.{◌==◌, if◌then◌else◌, None, Option, Some, nat_le, slice_index}
-use Rattle.art_versions.specs.versions.Effects.{Has as Leads, Does}
+use Rattle.art_versions.specs.versions.Effects.{Has as Leads, AccessDoes}
 use Rattle.art_rows.specs.declared.table.Child.TheVariants.{Empty, Row as ChildRow, Leaf}
 use Rattle.art_stages.specs.declared.stage.Stage.TheVariants.{Between, Check, CheckLast, Take, Info, Over, Wait}
 use Rattle.events.specs.declared.event.Call.{Call}
@@ -50,7 +50,7 @@ module _ (s : Shape) (call : Call) (P : OfRows) (is_row : (b : ℕ) (k : Kind) �
   Here rows stage = IsAt Optimistic s call P is_row root rows stage
 
   abbrev Doing : Stage → Type 0
-  Doing stage = Does P c (OnKey stage)
+  Doing stage = AccessDoes P c (OnKey stage)
 
   starts : Here [] (Wait Root)
   starts = at-start Optimistic s call P is_row root

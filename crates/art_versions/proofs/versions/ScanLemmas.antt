@@ -38,7 +38,7 @@ use Rattle.art_stages.specs.Scans.{words_at, place_slot, child_from, frame_at, w
 use Rattle.art_stages.specs.Scans.{visit_list, visit_at, entry_at, child_after, scan_start, step_after}
 use Rattle.art_stages.specs.Calls.{OnScan}
 use Rattle.art_versions.specs.versions.Holding.{OfRows, Each, IsSlot, child_rows, IsNamed, FitsFrame, KnowsScanRows}
-use Rattle.art_versions.specs.versions.Effects.{Does, Reads, Answered}
+use Rattle.art_versions.specs.versions.Effects.{Reads, Answered, AccessDoes}
 use Rattle.art_versions.proofs.versions.ByteLemmas.{index-small}
 use Rattle.art_versions.proofs.versions.WordFacts.{place-fits, entry-fits}
 
@@ -229,7 +229,7 @@ module _ (variant : Variant) (s : Shape) (call : Call) (P : OfRows) (is_row : (b
   -- what a scan does, where it holds the rows that it has walked
   module _ (w : Walk) where
     abbrev Doing : ScanStep → Type 0
-    Doing step = Does P c (OnScan lo hi (at step w))
+    Doing step = AccessDoes P c (OnScan lo hi (at step w))
 
     locked-same : (rows : List Held) (step : ScanStep) → scan_locked step w ≡ rows → scan_held l step w ≡ walked_held l rows
     locked-same rows step e = go l
@@ -340,7 +340,7 @@ module _ (s : Shape) (call : Call) (P : OfRows) (is_row : (b : ℕ) (k : Kind) �
   checks w true = let k = closed Optimistic s call P is_row root lo hi w.rows w refl tt in (k.0, ap locks_of k.1, refl)
   checks w false = begun
 
-  pub optimistic-scan-does : (x : ScanAt) → KnowsScanRows P false x → Does P optimistic-setting (OnScan lo hi x)
+  pub optimistic-scan-does : (x : ScanAt) → KnowsScanRows P false x → AccessDoes P optimistic-setting (OnScan lo hi x)
   optimistic-scan-does x k = step-does Optimistic s call P is_row root lo hi x.walk (record {
     lock = λ entry first k. absurd k.fits;
     exchange = λ entry v k. absurd k.fits.0;
@@ -370,7 +370,7 @@ module _ (s : Shape) (call : Call) (P : OfRows) (is_row : (b : ℕ) (k : Kind) �
           (k.0, ap locks_of k.1, refl)
 
   locks-does : (w : Walk) (entry : Entry) (first : Bool) → KnowsScanRows P true (at (Lock entry first) w)
-      → Does P coupled-setting (OnScan lo hi (at (Lock entry first) w))
+      → AccessDoes P coupled-setting (OnScan lo hi (at (Lock entry first) w))
   locks-does w entry first k = go first
     where
       after : (value : ℕ) (b : Bool) → is_locked value ≡ b
@@ -378,7 +378,7 @@ module _ (s : Shape) (call : Call) (P : OfRows) (is_row : (b : ℕ) (k : Kind) �
       after value true e = (record { kept = k.kept; known = k.known; fits = tt; way = k.way }, refl, refl)
       after value false e = (record { kept = k.kept; known = k.known; fits = (tt, e); way = k.way }, refl, refl)
 
-      go : (first : Bool) → Does P coupled-setting (OnScan lo hi (at (Lock entry first) w))
+      go : (first : Bool) → AccessDoes P coupled-setting (OnScan lo hi (at (Lock entry first) w))
       go true = Reads _ _ refl (λ value good. after value (is_locked value) refl)
       go false = Reads _ _ refl (λ value good. after value (is_locked value) refl)
 
@@ -386,7 +386,7 @@ module _ (s : Shape) (call : Call) (P : OfRows) (is_row : (b : ℕ) (k : Kind) �
   apart-rows base rows h = among-all (λ x. x.base ≢ base) rows h (λ x y. y)
 
   exchanges-does : (w : Walk) (entry : Entry) (v : ℕ) → KnowsScanRows P true (at (Exchange entry v) w)
-      → Does P coupled-setting (OnScan lo hi (at (Exchange entry v) w))
+      → AccessDoes P coupled-setting (OnScan lo hi (at (Exchange entry v) w))
   exchanges-does w Root v k =
       let n = held (root_base s) Full 0 v in
       Takes n (locks_of (w.rows ++ n ∷ [])) _ refl (subst (IsWith n (locks_of w.rows)) (sym (locks-end w.rows n)) (with-last n (locks_of w.rows))) refl (k.fits.1, root)
@@ -420,7 +420,7 @@ module _ (s : Shape) (call : Call) (P : OfRows) (is_row : (b : ℕ) (k : Kind) �
       (sym (ne_eqb value v other)) (record { kept = k.kept; known = k.known; fits = tt; way = k.way }, refl, refl))
 
   infos-does : (w : Walk) (base : ℕ) (kind : Kind) (kept : ℕ) → KnowsScanRows P true (at (Info base kind kept) w)
-      → Does P coupled-setting (OnScan lo hi (at (Info base kind kept) w))
+      → AccessDoes P coupled-setting (OnScan lo hi (at (Info base kind kept) w))
   infos-does w base kind kept k = Reads _ _ refl (λ value good.
       let parts = each-init (IsKept true P) w.rows (held base kind 0 kept) k.kept in
       same-locks value (locked-row (held base kind value kept) w k.fits parts.0 parts.1 k.way))
@@ -429,14 +429,15 @@ module _ (s : Shape) (call : Call) (P : OfRows) (is_row : (b : ℕ) (k : Kind) �
           → Has P coupled-setting (OnScan lo hi x) (locks_of (w.rows ++ held base kind 0 kept ∷ [])) []
       same-locks value h = (h.0, h.1 ∙ (locks-end w.rows (held base kind value kept) ∙ sym (locks-end w.rows (held base kind 0 kept))), h.2)
 
-  releases-does : (w : Walk) (n : Held) → KnowsScanRows P true (at (Release n) w) → Does P coupled-setting (OnScan lo hi (at (Release n) w))
+  releases-does : (w : Walk) (n : Held) → KnowsScanRows P true (at (Release n) w)
+      → AccessDoes P coupled-setting (OnScan lo hi (at (Release n) w))
   releases-does w n k = Releases (lock_of n) (locks_of w.rows) _ _ refl (inl (refl, refl)) refl (inl refl) k.kept.0 (go w.rows k.kept.1)
     where
       go : (rows : List Held) → Each (IsKept true P) rows → Has P coupled-setting (OnScan lo hi (release_rows rows w.pairs)) (locks_of rows) []
       go [] kept = (record { kept = tt; known = tt; fits = tt; way = tt }, refl, refl)
       go (m ∷ rows) kept = (record { kept = kept; known = tt; fits = tt; way = tt }, refl, refl)
 
-  pub coupled-scan-does : (x : ScanAt) → KnowsScanRows P true x → Does P coupled-setting (OnScan lo hi x)
+  pub coupled-scan-does : (x : ScanAt) → KnowsScanRows P true x → AccessDoes P coupled-setting (OnScan lo hi x)
   coupled-scan-does x k = step-does Coupled s call P is_row root lo hi x.walk (record {
     lock = locks-does x.walk;
     exchange = exchanges-does x.walk;

@@ -37,7 +37,7 @@ use Rattle.art_core.specs.Accesses.{told}
 use Rattle.art_core.specs.Core.{Plan, State, Move, Invokes, Makes, Responds, after_move, moved, move_of, invocation, next_call, move_from, step}
 use Rattle.art_core.proofs.HistoryLemmas.{is-moved}
 use Rattle.art_versions.specs.versions.Holding.{OfRows, Named, Knows, holds, fills}
-use Rattle.art_versions.specs.versions.Effects.{With, Has, Does, Reads, Writes, Fills, Ends, Releases, Takes, Claims, Answered}
+use Rattle.art_versions.specs.versions.Effects.{With, Has, Reads, Writes, Fills, Ends, Releases, Takes, Claims, Answered, AccessDoes}
 use Rattle.art_versions.specs.versions.Versions.{IsOpen, stage_of, held_by, filled_by, IsSettled, IsSound}
 use Rattle.art_versions.specs.versions.Steady.{IsSteady}
 use Rattle.art_versions.proofs.versions.KeyLemmas.{key-does}
@@ -52,7 +52,7 @@ use Rattle.art_stages.specs.Automaton.{start_at}
 use Rattle.art_stages.specs.Scans.{ScanAt, at, no_walk}
 use Rattle.art_stages.specs.declared.stage.Entry.TheVariants.{Root as EntryRoot}
 use Rattle.art_stages.specs.declared.stage.ScanStep.TheVariants as scan
-use Rattle.art_versions.specs.versions.Locking.{locks_of, rows_held, scan_held}
+use Rattle.art_versions.specs.versions.Locking.{locks_of, scan_held, held_at_stage}
 use Rattle.art_versions.specs.versions.Holding.{row_filled, KnowsRows, KnowsScanRows}
 use Rattle.art_versions.proofs.versions.ChangeLemmas.{whose, own-call, index-other}
 use Rattle.art_versions.proofs.versions.MoveLemmas.{settled-row, true-false, no-items, differ}
@@ -65,23 +65,25 @@ after-more c at [] w = refl
 after-more c at (v ∷ got) w = after-more c (call_after c at v) got w
 
 pub coupled-does : (shape : Shape) (call : Call) (P : OfRows) → ((b : ℕ) (k : Kind) → P b k → kind_at shape b ≡ Some k) → P (root_base shape) Full
-    → (at : CallAt) → Knows P (setting shape Coupled call) at → Does P (setting shape Coupled call) at
+    → (at : CallAt) → Knows P (setting shape Coupled call) at → AccessDoes P (setting shape Coupled call) at
 coupled-does shape call P is_row root (OnKey stage) k =
     key-does Coupled shape call P is_row root (coupled-own shape call P is_row root) stage k
 coupled-does shape call P is_row root (OnScan low high scan) k = coupled-scan-does shape call P is_row root low high scan k
 
 pub optimistic-does : (shape : Shape) (call : Call) (P : OfRows) → ((b : ℕ) (k : Kind) → P b k → kind_at shape b ≡ Some k) → P (root_base shape) Full
-    → (at : CallAt) → Knows P (setting shape Optimistic call) at → Does P (setting shape Optimistic call) at
+    → (at : CallAt) → Knows P (setting shape Optimistic call) at → AccessDoes P (setting shape Optimistic call) at
 optimistic-does shape call P is_row root (OnKey stage) k =
     key-does Optimistic shape call P is_row root (optimistic-own shape call P is_row root) stage k
 optimistic-does shape call P is_row root (OnScan low high scan) k = optimistic-scan-does shape call P is_row root low high scan k
 
 pub does : (variant : Variant) → IsFull variant → (shape : Shape) (call : Call) (P : OfRows) → ((b : ℕ) (k : Kind) → P b k → kind_at shape b ≡ Some k)
-    → P (root_base shape) Full → (at : CallAt) → Knows P (setting shape variant call) at → Does P (setting shape variant call) at
+    → P (root_base shape) Full → (at : CallAt) → Knows P (setting shape variant call) at → AccessDoes P (setting shape variant call) at
 does variant (inl e) shape call P is_row root at =
-    subst (λ v. Knows P (setting shape v call) at → Does P (setting shape v call) at) (sym e) (coupled-does shape call P is_row root at)
+    subst (λ v. Knows P (setting shape v call) at → AccessDoes P (setting shape v call) at) (sym e)
+    (coupled-does shape call P is_row root at)
 does variant (inr e) shape call P is_row root at =
-    subst (λ v. Knows P (setting shape v call) at → Does P (setting shape v call) at) (sym e) (optimistic-does shape call P is_row root at)
+    subst (λ v. Knows P (setting shape v call) at → AccessDoes P (setting shape v call) at) (sym e)
+    (optimistic-does shape call P is_row root at)
 
 -- what an open call does next is what its stage does
 pub next-turn : (variant : Variant) (shape : Shape) (call : Call) (q : Process)
@@ -123,7 +125,7 @@ module _ (variant : Variant) (shape : Shape) (root : 1 ≤ shape.rows256) (n : �
         let at = act-stays shape variant call root q.got a mark (next-turn variant shape call q ∙ e) in
         omega (arith, at.1, h.long)
 
-    access : (a : Access) (mark : Option Point) → call_turn c place ≡ Asks a mark → Does P c place → Kept (Makes a)
+    access : (a : Access) (mark : Option Point) → call_turn c place ≡ Asks a mark → AccessDoes P c place → Kept (Makes a)
     access a mark e (Reads word at turn after) = subst (λ a. Kept (Makes a)) (asks-same (sym turn ∙ e))
         (keeps-words variant shape n s h few p q here call is-open word (slice_index s.words word) (later (Load word)) is-open (in-table (Load word) at turn) refl
         (has-at P (Load word) (holds c place) (fills place) (after (slice_index s.words word) (h.children word))))
@@ -215,7 +217,7 @@ module _ (variant : Variant) (shape : Shape) (root : 1 ≤ shape.rows256) (n : �
 
   -- stamps
 
-  start-idle : (b i : Bool) → (locks_of (rows_held b i (start_at b)) ≡ []) × (row_filled (start_at b) ≡ [])
+  start-idle : (b i : Bool) → (locks_of (held_at_stage b i (start_at b)) ≡ []) × (row_filled (start_at b) ≡ [])
   start-idle true i = (refl, refl)
   start-idle false i = (refl, refl)
 
@@ -276,11 +278,12 @@ module _ (variant : Variant) (shape : Shape) (root : 1 ≤ shape.rows256) (n : �
       turn : act plan.shape plan.variant call q.got ≡ call_turn (setting shape variant call) (stage_of variant shape call q)
       turn = ap (λ x. act x plan.variant call q.got) its-shape ∙ (ap (λ v. act shape v call q.got) its-variant ∙ next-turn variant shape call q)
 
-      doing : Does (IsSettled variant shape s) (setting shape variant call) (stage_of variant shape call q)
+      doing : AccessDoes (IsSettled variant shape s) (setting shape variant call) (stage_of variant shape call q)
       doing = does variant full shape call (IsSettled variant shape s) (settled-row variant shape s) h.root (stage_of variant shape call q) (h.knows p call q (record { own = here; is_open = e }))
 
       nothing : (reply : Reply) → call_turn (setting shape variant call) (stage_of variant shape call q) ≡ Answers reply
-          → Does (IsSettled variant shape s) (setting shape variant call) (stage_of variant shape call q) → held_by variant shape call q ≡ []
+          → AccessDoes (IsSettled variant shape s) (setting shape variant call) (stage_of variant shape call q)
+          → held_by variant shape call q ≡ []
       nothing reply f (Answered other turn none) = none
       nothing reply f (Reads word at turn after) = absurd (asks-answers (sym turn ∙ f))
       nothing reply f (Writes x word value at turn among kept behind good after) = absurd (asks-answers (sym turn ∙ f))

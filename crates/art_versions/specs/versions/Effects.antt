@@ -38,27 +38,27 @@ IsBehindVersion base kind word = (base < word) × (word < base + row_words kind)
 abbrev pub Has : OfRows → Setting → CallAt → List Held → List Named → Type 0
 Has P c at held filled = Knows P c at × (holds c at ≡ held) × (fills at ≡ filled)
 
-pub data Does (P : OfRows) (c : Setting) (at : CallAt) : Type 0 where
+pub data AccessDoes (P : OfRows) (c : Setting) (at : CallAt) : Type 0 where
   Reads : (word : ℕ) → (mark : Option Point) → call_turn c at ≡ Asks (Load word) mark
-      → ((value : ℕ) → IsGoodAt P c.shape word value → Has P c (call_after c at value) (holds c at) (fills at)) → Does P c at
+      → ((value : ℕ) → IsGoodAt P c.shape word value → Has P c (call_after c at value) (holds c at) (fills at)) → AccessDoes P c at
   Writes : (h : Held) → (word value : ℕ) → (mark : Option Point) → call_turn c at ≡ Asks (Store word value) mark
       → IsAmong h (holds c at) → IsKept (locks c.variant) P h → IsBehindVersion h.base h.kind word → IsGoodAt P c.shape word value
-      → Has P c (call_after c at 0) (holds c at) (fills at) → Does P c at
+      → Has P c (call_after c at 0) (holds c at) (fills at) → AccessDoes P c at
   Fills : (b : ℕ) → (k : Kind) → (word value : ℕ) → (mark : Option Point) → call_turn c at ≡ Asks (Store word value) mark
       → fills at ≡ (b, k) ∷ [] → IsBehindVersion b k word → kind_at c.shape b ≡ Some k → IsGoodAt P c.shape word value
-      → Has P c (call_after c at 0) (holds c at) (fills at) → Does P c at
+      → Has P c (call_after c at 0) (holds c at) (fills at) → AccessDoes P c at
   Ends : (b : ℕ) → (k : Kind) → (word value : ℕ) → (mark : Option Point) → call_turn c at ≡ Asks (Store word value) mark
       → fills at ≡ (b, k) ∷ [] → IsBehindVersion b k word → kind_at c.shape b ≡ Some k → IsGoodAt P c.shape word value
-      → Has (With P b k) c (call_after c at 0) (holds c at) [] → Does P c at
+      → Has (With P b k) c (call_after c at 0) (holds c at) [] → AccessDoes P c at
   Releases : (h : Held) → (rest : List Held) → (value : ℕ) → (mark : Option Point) → call_turn c at ≡ Asks (Store h.base value) mark
       → IsWith h rest (holds c at) → fills at ≡ [] → (value ≡ released_word h.kept) ⊎ (value ≡ obsolete_word h.kept) → IsKept (locks c.variant) P h
-      → Has P c (call_after c at 0) rest [] → Does P c at
+      → Has P c (call_after c at 0) rest [] → AccessDoes P c at
   Takes : (h : Held) → (all : List Held) → (mark : Option Point) → call_turn c at ≡ Asks (Exchange h.base h.kept (locked_word h.kept)) mark
       → IsWith h (holds c at) all → fills at ≡ [] → IsKept (locks c.variant) P h
       → (((x : Held) → IsAmong x (holds c at) → x.base ≢ h.base) → Has P c (call_after c at h.kept) all [])
-      → ((value : ℕ) → value ≢ h.kept → Has P c (call_after c at value) (holds c at) []) → Does P c at
+      → ((value : ℕ) → value ≢ h.kept → Has P c (call_after c at value) (holds c at) []) → AccessDoes P c at
   Claims : (kind : Kind) → (mark : Option Point) → call_turn c at ≡ Asks (Add (claims_of kind)) mark → fills at ≡ []
       → ((value : ℕ) → value < rows_of c.shape kind
       → Has P c (call_after c at value) (holds c at) ((base_of c.shape kind value, kind) ∷ []))
-      → ((value : ℕ) → rows_of c.shape kind ≤ value → Has P c (call_after c at value) (holds c at) []) → Does P c at
-  Answered : (reply : Reply) → call_turn c at ≡ Answers reply → holds c at ≡ [] → Does P c at
+      → ((value : ℕ) → rows_of c.shape kind ≤ value → Has P c (call_after c at value) (holds c at) []) → AccessDoes P c at
+  Answered : (reply : Reply) → call_turn c at ≡ Answers reply → holds c at ≡ [] → AccessDoes P c at

@@ -37,7 +37,8 @@ use Rattle.art_stages.specs.declared.stage.ScanStep.TheVariants as scan
 use Rattle.art_stages.specs.Stages.{held, count_in, place_in, leaf_place}
 use Rattle.art_stages.specs.Scans.{Walk, ScanAt}
 use Rattle.art_stages.specs.Calls.{CallAt, OnKey, OnScan}
-use Rattle.art_versions.specs.versions.Locking.{all_of, locks_of, rows_of_hold, rows_of_target, rows_held, scan_held, held_at_place, held_below}
+use Rattle.art_versions.specs.versions.Locking.{all_of, locks_of, rows_of_hold, rows_of_target, scan_held, held_at_place, held_below}
+use Rattle.art_versions.specs.versions.Locking.{held_at_stage}
 
 -- a call on the full optimistic tree
 abbrev pub optimistic : Shape → Call → Setting
@@ -263,45 +264,45 @@ abbrev pub FitsSpread : Spread → ℕ → ℕ → Type 0
 FitsSpread s entry after =
     FitsGrowing s.growing × (s.growing.hold.row.kind ≡ FortyEight) × (s.place + s.left < 32) × (entry + after < 8)
 
-abbrev pub Fits : Bool → Bool → Setting → Stage → Type 0
-Fits l i c (Lock t first) = OnlyLocked l × FitsTarget t
-Fits l i c (Exchange t v) = OnlyLocked l × FitsTarget t × IsVersion l v
-Fits l i c (Wait t) = OnlyUnlocked l × FitsTarget t
-Fits l i c (Leave d) = ⊥
-Fits l i c (Between d kept) = FitsBetween l i d
-Fits l i c (Info d kept) = FitsDown d
-Fits l i c (Find p) = FitsPlace p
-Fits l i c (FindKeys p count) = FitsPlace p
-Fits l i c (FindMore p count first) = FitsPlace p
-Fits l i c (FindCount p index) = FitsPlace p
-Fits l i c (Slot p slot) = FitsPlace p × IsSlot p.row.base p.row.kind slot
-Fits l i c (Check p f) = FitsCheck l p f
-Fits l i c (CheckLast n) = OnlyUnlocked l
-Fits l i c (LetGo above p f) = FitsLetGo l i p f
-Fits l i c (Take t) = OnlyUnlocked l × FitsTaking t.row t.held t.below t.work
-Fits l i c (Write h slot word reply) = HasSlot l h slot
-Fits l i c (ClaimPair h p) = HasSlot l h p.slot
-Fits l i c (StorePair h p base word) = HasSlot l h p.slot
-Fits l i c (PutLoad h keys left) = HasPlace h.row.kind keys × (place_in c h keys + left + 1 < capacity h.row.kind)
-Fits l i c (PutStore h keys left word) = HasPlace h.row.kind keys × (place_in c h keys + left + 1 < capacity h.row.kind)
-Fits l i c (PutLeaf h keys) = HasPlace h.row.kind keys × (leaf_place h.row.kind c h keys < capacity h.row.kind)
-Fits l i c (PutKeys h keys) = HasPlace h.row.kind keys
-Fits l i c (PutMore h keys) = h.row.kind ≡ Sixteen
-Fits l i c (PutCount h keys) = (h.row.kind ≡ Sixteen) ⊎ (h.row.kind ≡ FortyEight)
-Fits l i c (ClaimGrow h slot keys) = HangsIn h.above slot
-Fits l i c (GrowInfo g) = FitsGrowing g
-Fits l i c (GrowLoad g place left) = FitsGrowing g × IsCopied g.hold.row.kind × (place + left < capacity g.hold.row.kind)
-Fits l i c (GrowStore g place left word) = FitsGrowing g × IsCopied g.hold.row.kind × (place + left < capacity g.hold.row.kind)
-Fits l i c (SpreadIndex g place left) = FitsGrowing g × (g.hold.row.kind ≡ FortyEight) × (place + left < 32)
-Fits l i c (SpreadLoad s entry after) = FitsSpread s entry after
-Fits l i c (SpreadStore s entry after word) = FitsSpread s entry after
-Fits l i c (GrowLeaf g) = FitsGrowing g
-Fits l i c (GrowKeys g place left) = FitsGrowing g × IsCopied g.hold.row.kind × (place + left < 32)
-Fits l i c (GrowCount g) = FitsGrowing g × IsCopied g.hold.row.kind
-Fits l i c (Hang g) = FitsGrowing g
-Fits l i c (Obsolete h) = Unit {0}
-Fits l i c (Unlock h outcome) = Unit {0}
-Fits l i c (Over outcome) = Unit {0}
+abbrev pub FitsStage : Bool → Bool → Setting → Stage → Type 0
+FitsStage l i c (Lock t first) = OnlyLocked l × FitsTarget t
+FitsStage l i c (Exchange t v) = OnlyLocked l × FitsTarget t × IsVersion l v
+FitsStage l i c (Wait t) = OnlyUnlocked l × FitsTarget t
+FitsStage l i c (Leave d) = ⊥
+FitsStage l i c (Between d kept) = FitsBetween l i d
+FitsStage l i c (Info d kept) = FitsDown d
+FitsStage l i c (Find p) = FitsPlace p
+FitsStage l i c (FindKeys p count) = FitsPlace p
+FitsStage l i c (FindMore p count first) = FitsPlace p
+FitsStage l i c (FindCount p index) = FitsPlace p
+FitsStage l i c (Slot p slot) = FitsPlace p × IsSlot p.row.base p.row.kind slot
+FitsStage l i c (Check p f) = FitsCheck l p f
+FitsStage l i c (CheckLast n) = OnlyUnlocked l
+FitsStage l i c (LetGo above p f) = FitsLetGo l i p f
+FitsStage l i c (Take t) = OnlyUnlocked l × FitsTaking t.row t.held t.below t.work
+FitsStage l i c (Write h slot word reply) = HasSlot l h slot
+FitsStage l i c (ClaimPair h p) = HasSlot l h p.slot
+FitsStage l i c (StorePair h p base word) = HasSlot l h p.slot
+FitsStage l i c (PutLoad h keys left) = HasPlace h.row.kind keys × (place_in c h keys + left + 1 < capacity h.row.kind)
+FitsStage l i c (PutStore h keys left word) = HasPlace h.row.kind keys × (place_in c h keys + left + 1 < capacity h.row.kind)
+FitsStage l i c (PutLeaf h keys) = HasPlace h.row.kind keys × (leaf_place h.row.kind c h keys < capacity h.row.kind)
+FitsStage l i c (PutKeys h keys) = HasPlace h.row.kind keys
+FitsStage l i c (PutMore h keys) = h.row.kind ≡ Sixteen
+FitsStage l i c (PutCount h keys) = (h.row.kind ≡ Sixteen) ⊎ (h.row.kind ≡ FortyEight)
+FitsStage l i c (ClaimGrow h slot keys) = HangsIn h.above slot
+FitsStage l i c (GrowInfo g) = FitsGrowing g
+FitsStage l i c (GrowLoad g place left) = FitsGrowing g × IsCopied g.hold.row.kind × (place + left < capacity g.hold.row.kind)
+FitsStage l i c (GrowStore g place left word) = FitsGrowing g × IsCopied g.hold.row.kind × (place + left < capacity g.hold.row.kind)
+FitsStage l i c (SpreadIndex g place left) = FitsGrowing g × (g.hold.row.kind ≡ FortyEight) × (place + left < 32)
+FitsStage l i c (SpreadLoad s entry after) = FitsSpread s entry after
+FitsStage l i c (SpreadStore s entry after word) = FitsSpread s entry after
+FitsStage l i c (GrowLeaf g) = FitsGrowing g
+FitsStage l i c (GrowKeys g place left) = FitsGrowing g × IsCopied g.hold.row.kind × (place + left < 32)
+FitsStage l i c (GrowCount g) = FitsGrowing g × IsCopied g.hold.row.kind
+FitsStage l i c (Hang g) = FitsGrowing g
+FitsStage l i c (Obsolete h) = Unit {0}
+FitsStage l i c (Unlock h outcome) = Unit {0}
+FitsStage l i c (Over outcome) = Unit {0}
 
 -- The same of a scan.
 
@@ -348,7 +349,7 @@ IsNamed P m = P m.0 m.1
 pub record KnowsRows (P : OfRows) (l i : Bool) (c : Setting) (stage : Stage) : Type 0 where
   pub kept : Each (IsKept l P) (rows_kept l i stage)
   pub known : Each (IsNamed P) (rows_known c.shape stage)
-  pub fits : Fits l i c stage
+  pub fits : FitsStage l i c stage
   pub filled : Each (λ m. kind_at c.shape m.0 ≡ Some m.1) (row_filled stage)
 
 abbrev pub KnowsKey : OfRows → Setting → Stage → Type 0
@@ -366,7 +367,7 @@ Knows P c (OnScan low high at) = KnowsScanRows P (locks c.variant) at
 
 -- the rows that it holds, each with the version from which it was locked,
 abbrev pub holds : Setting → CallAt → List Held
-holds c (OnKey stage) = locks_of (rows_held (locks c.variant) (is_insert c.call) stage)
+holds c (OnKey stage) = locks_of (held_at_stage (locks c.variant) (is_insert c.call) stage)
 holds c (OnScan low high at) = locks_of (scan_held (locks c.variant) at.step at.walk)
 
 -- and the row that it fills

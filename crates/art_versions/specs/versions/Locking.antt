@@ -57,41 +57,41 @@ held_below true false d kept = held d.base d.kind 0 kept ∷ []
 held_below false i d kept = []
 
 -- A call on a key. Without locks it holds nothing before it takes its rows; what it does with the rows that it holds is the same in both trees.
-abbrev pub rows_held : Bool → Bool → Stage → List Held
-rows_held l i (Lock t first) = rows_of_target t
-rows_held l i (Exchange t v) = rows_of_target t
-rows_held l i (Between d kept) = held_between l d kept
-rows_held l i (Info d kept) = held_below l i d kept
-rows_held l i (Find p) = held_at_place l i p
-rows_held l i (FindKeys p count) = held_at_place l i p
-rows_held l i (FindMore p count first) = held_at_place l i p
-rows_held l i (FindCount p index) = held_at_place l i p
-rows_held l i (Slot p slot) = held_at_place l i p
-rows_held l i (LetGo above p f) = p.row ∷ above ∷ []
-rows_held l i (Take t) = all_of t.held
-rows_held l i (Write h slot word reply) = rows_of_hold h
-rows_held l i (ClaimPair h p) = rows_of_hold h
-rows_held l i (StorePair h p base word) = rows_of_hold h
-rows_held l i (PutLoad h keys left) = rows_of_hold h
-rows_held l i (PutStore h keys left word) = rows_of_hold h
-rows_held l i (PutLeaf h keys) = rows_of_hold h
-rows_held l i (PutKeys h keys) = rows_of_hold h
-rows_held l i (PutMore h keys) = rows_of_hold h
-rows_held l i (PutCount h keys) = rows_of_hold h
-rows_held l i (ClaimGrow h slot keys) = rows_of_hold h
-rows_held l i (GrowInfo g) = rows_of_hold g.hold
-rows_held l i (GrowLoad g place left) = rows_of_hold g.hold
-rows_held l i (GrowStore g place left word) = rows_of_hold g.hold
-rows_held l i (SpreadIndex g place left) = rows_of_hold g.hold
-rows_held l i (SpreadLoad s entry after) = rows_of_hold s.growing.hold
-rows_held l i (SpreadStore s entry after word) = rows_of_hold s.growing.hold
-rows_held l i (GrowLeaf g) = rows_of_hold g.hold
-rows_held l i (GrowKeys g place left) = rows_of_hold g.hold
-rows_held l i (GrowCount g) = rows_of_hold g.hold
-rows_held l i (Hang g) = rows_of_hold g.hold
-rows_held l i (Obsolete h) = rows_of_hold h
-rows_held l i (Unlock h outcome) = rows_of_hold h
-rows_held l i stage = []
+abbrev pub held_at_stage : Bool → Bool → Stage → List Held
+held_at_stage l i (Lock t first) = rows_of_target t
+held_at_stage l i (Exchange t v) = rows_of_target t
+held_at_stage l i (Between d kept) = held_between l d kept
+held_at_stage l i (Info d kept) = held_below l i d kept
+held_at_stage l i (Find p) = held_at_place l i p
+held_at_stage l i (FindKeys p count) = held_at_place l i p
+held_at_stage l i (FindMore p count first) = held_at_place l i p
+held_at_stage l i (FindCount p index) = held_at_place l i p
+held_at_stage l i (Slot p slot) = held_at_place l i p
+held_at_stage l i (LetGo above p f) = p.row ∷ above ∷ []
+held_at_stage l i (Take t) = all_of t.held
+held_at_stage l i (Write h slot word reply) = rows_of_hold h
+held_at_stage l i (ClaimPair h p) = rows_of_hold h
+held_at_stage l i (StorePair h p base word) = rows_of_hold h
+held_at_stage l i (PutLoad h keys left) = rows_of_hold h
+held_at_stage l i (PutStore h keys left word) = rows_of_hold h
+held_at_stage l i (PutLeaf h keys) = rows_of_hold h
+held_at_stage l i (PutKeys h keys) = rows_of_hold h
+held_at_stage l i (PutMore h keys) = rows_of_hold h
+held_at_stage l i (PutCount h keys) = rows_of_hold h
+held_at_stage l i (ClaimGrow h slot keys) = rows_of_hold h
+held_at_stage l i (GrowInfo g) = rows_of_hold g.hold
+held_at_stage l i (GrowLoad g place left) = rows_of_hold g.hold
+held_at_stage l i (GrowStore g place left word) = rows_of_hold g.hold
+held_at_stage l i (SpreadIndex g place left) = rows_of_hold g.hold
+held_at_stage l i (SpreadLoad s entry after) = rows_of_hold s.growing.hold
+held_at_stage l i (SpreadStore s entry after word) = rows_of_hold s.growing.hold
+held_at_stage l i (GrowLeaf g) = rows_of_hold g.hold
+held_at_stage l i (GrowKeys g place left) = rows_of_hold g.hold
+held_at_stage l i (GrowCount g) = rows_of_hold g.hold
+held_at_stage l i (Hang g) = rows_of_hold g.hold
+held_at_stage l i (Obsolete h) = rows_of_hold h
+held_at_stage l i (Unlock h outcome) = rows_of_hold h
+held_at_stage l i stage = []
 
 -- A scan that locks holds every row that it has walked, and the row whose info it is to load; at its end, those that it has not released yet.
 abbrev pub scan_locked : ScanStep → Walk → List Held
