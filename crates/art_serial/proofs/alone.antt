@@ -12,10 +12,4 @@ pub mod OptimisticSeekLemmas
 pub mod SeekLemmas
 pub mod SeekEndLemmas
 pub mod SeekLawLemmas
-pub mod ReachLemmas
-pub mod CoupledInsertLemmas
-pub mod OptimisticInsertLemmas
-pub mod RestMoreLemmas
-pub mod InsertLeafLemmas
 pub mod DifferLemmas
-pub mod InsertFrameLemmas

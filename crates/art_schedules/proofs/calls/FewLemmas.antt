@@ -1,35 +1,24 @@
 -- The map of a run has no more pairs than it started with and calls were begun.
-use Rattle.std.proofs.Common.{◌≡◌, ℕ, zero, suc, ◌+◌, ◌^◌, ◌<◌, ◌≤◌, Bool, true, false, List, [], ◌∷◌, ◌++◌, length, map, sum, cond}
+use Rattle.std.proofs.Common.{◌≡◌, ℕ, zero, suc, ◌+◌, ◌<◌, ◌≤◌, Bool, true, false, List, [], ◌∷◌, length, map, sum}
 use Rattle.std.proofs.Common.{refl, ap, sym, subst, ◌∙◌, arith}
-use Rattle.std.specs.Prelude.{◌≢◌, if◌then◌else◌, All, AllPairs, Option, Some, None}
+use Rattle.std.specs.Prelude.{◌≢◌, All, AllPairs, Option, Some, None}
 use Rattle.std.proofs.lemmas.Bool.{false≢true}
-use Rattle.std.proofs.lemmas.Bool.Decides.{nat_tests}
-use Rattle.std.proofs.lemmas.List.{length-append}
 use Rattle.std.proofs.lemmas.List.Elements.{All-cons, All-nil, All-weaker}
 use Rattle.std.proofs.lemmas.List.Kept.{AllPairs-cons}
-use Rattle.std.proofs.lemmas.List.Sums.{sum_by-cons}
-use Rattle.std.proofs.lemmas.Option.{same_Some}
 use Rattle.list_laws.proofs.Lists.{AllPairs-nil, length-distinct_below}
 use Rattle.list_laws.proofs.NumberLemmas.{slice_get-below}
 use Rattle.events.specs.declared.event.Call.{Call}
-use Rattle.events.specs.declared.event.Call.TheVariants.{Get, Insert, Remove, Scan, Replace}
-use Rattle.events.specs.declared.event.Event.{Event}
-use Rattle.events.specs.declared.event.Event.TheVariants.{Invoke, Answer}
-use Rattle.events.specs.declared.event.Reply.{Reply}
-use Rattle.events.specs.declared.event.Reply.TheVariants as replies
 use Rattle.events.specs.declared.operation.Operation.{Operation}
 use Rattle.events.specs.declared.operation.Response.{Response}
-use Rattle.events.specs.Events.{is_invocation}
-use Rattle.events.specs.Histories.{call_count}
-use Rattle.events.specs.Operations.{operations_from, operations}
+use Rattle.events.specs.Operations.{operations}
 use Rattle.events.proofs.OperationLemmas.{length-operations_from}
-use Rattle.map_object.specs.MapObject.{Contents, put, below, above, is_just, value_at, after, after_reply}
+use Rattle.map_object.specs.MapObject.{Contents}
 use Rattle.orders.specs.Orders.{after_call}
 use Rattle.orders.proofs.LegalLemmas.{legal_from_DoesCall}
-use Rattle.art_core.specs.Core.{Plan, State, history_of, opened_on, step}
-use Rattle.art_core.specs.Runs.{run_on, HasFewSteps, At}
-use Rattle.art_core.specs.Plans.{IsPlan, IsRun}
-use Rattle.art_core.proofs.HistoryLemmas.{IsLogged, calls-within, one-move, is-moved, one-step, nowhere, steps-rise, all_steps}
+use Rattle.art_core.specs.Core.{Plan, State, history_of, opened_on}
+use Rattle.art_core.specs.Runs.{At}
+use Rattle.art_core.specs.Plans.{IsRun}
+use Rattle.art_core.proofs.HistoryLemmas.{calls-within}
 use Rattle.art_core.proofs.HistoryLemmas.{opened-logged, start-length, start-clock, logged-on}
 use Rattle.art_serial.proofs.maps.LengthLemmas.{after-few, after_reply-few}
 use Rattle.art_schedules.specs.calls.RunCalls.{IsIn, IsRunCall, HasCalls}

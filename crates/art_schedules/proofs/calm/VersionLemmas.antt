@@ -58,14 +58,6 @@ module _ (variant : Variant) (shape : Shape) (n : ℕ) (s : State) (h : IsSound 
   pub held-locked : (base : ℕ) → IsHeld variant shape s base → is_locked (slice_index s.words base) ≡ true
   held-locked base x = ap is_locked (held-version base x) ∙ taken-locked x.row.kept (version-free (locks variant) x.row.kept (held-kept base x).0)
 
-  pub locked-settled : (base : ℕ) (kind : Kind) → kind_at shape base ≡ Some kind → is_locked (slice_index s.words base) ≡ true
-      → IsSettled variant shape s base kind
-  locked-settled base kind e locked =
-      let x = h.held base kind e locked in
-      let kept = (held-kept base x).1 in
-      let row = ap (kind_at shape) (sym x.is) ∙ settled-row variant shape s x.row.base x.row.kind kept in
-      subst (λ k. IsSettled variant shape s base k) (same_Some x.row.kind kind (sym row ∙ e)) (subst (λ b. IsSettled variant shape s b x.row.kind) x.is kept)
-
 -- What a step makes of a row's version: it stays, or rises by two from one that was not locked, or a release from one that was not locked replaces it.
 pub data VersionChange (variant : Variant) (shape : Shape) (s later : State) (base : ℕ) (kind : Kind) : Type 0 where
   Stays : slice_index later.words base ≡ slice_index s.words base → VersionChange variant shape s later base kind

@@ -1,5 +1,5 @@
 -- A step of a call that knows its way.
-use Rattle.std.proofs.Common.{◌≡◌, ◌≢◌, inl, inr, ℕ, ◌+◌, ◌-◌, ◌%◌, ◌<◌, ◌==◌, List, ◌∷◌, length, slice_index, Option, Some, None}
+use Rattle.std.proofs.Common.{◌≡◌, ◌≢◌, inl, inr, ℕ, ◌+◌, ◌-◌, ◌%◌, ◌==◌, List, ◌∷◌, length, slice_index, Option, Some, None}
 use Rattle.std.proofs.Common.{Bool, true, false, refl, sym, ap, ◌∙◌, subst, arith, eqb-true, option_map, if◌then◌else◌}
 use Rattle.std.proofs.lemmas.Bool.{eqb-false}
 use Rattle.std.proofs.lemmas.Option.{none-some}
@@ -10,7 +10,6 @@ use Rattle.map_object.specs.MapObject.{Contents, value_at, value_reply, Does}
 use Rattle.art_rows.specs.declared.table.Shape.{Shape}
 use Rattle.art_rows.specs.declared.table.Kind.{Kind}
 use Rattle.art_rows.specs.declared.table.Kind.TheVariants.{Four, Sixteen, FortyEight, Full}
-use Rattle.art_rows.specs.declared.table.Child.{Child}
 use Rattle.art_rows.specs.declared.table.Child.TheVariants.{Empty, Row as ChildRow, Leaf}
 use Rattle.art_rows.specs.Table.{capacity, root_base, info_at, keys_at, more_keys_at, index_at, count_at, child_at}
 use Rattle.art_rows.specs.Words.{is_locked, key_bytes, first_difference, keys4_of, keys16_of, place_of, entries_of, child_of, child_word, count_of}
@@ -36,7 +35,7 @@ use Rattle.art_stages.specs.declared.stage.Stage.TheVariants.{LetGo, Write, Clai
 use Rattle.art_stages.specs.Stages.{row_at, held, root_place, byte_in, keys_among, count_in, setting}
 use Rattle.art_stages.specs.Automaton.{after_with, seek_coupled, insert_coupled, place_coupled, let_go_at, found_at, words_at, among_at, find_at}
 use Rattle.art_stages.specs.Automaton.{below_at, entered_at, hold_alone, no_value, pair_work, overwrite_at, keys_one, release_at}
-use Rattle.art_core.specs.Meaning.{Reached, root, below, child_on, child_in, Means}
+use Rattle.art_core.specs.Meaning.{root, Means}
 use Rattle.art_core.specs.Forms.{HasForm, level_in, path_in}
 use Rattle.art_serial.specs.trees.Trees.{IsAtRest, LeadsTo, WaysLeadToValues, LeavesAreSmall}
 use Rattle.art_serial.specs.alone.Laws.{is_seek}
@@ -59,7 +58,6 @@ use Rattle.art_schedules.specs.coupled.Goes.{Gets, Goes, GoesOn, Works, Finds}
 use Rattle.art_schedules.specs.coupled.Laws.{WaysGoOn, FindingsStay}
 use Rattle.art_schedules.specs.work.Ways.{slot_in, KnowsKeys, KnowsFinding, IsOnWay, HasChild, HangsOnWay}
 use Rattle.art_schedules.proofs.work.CallLemmas.{insert-of, seek-of, key-small, kept-after, full-slot}
-use Rattle.art_schedules.specs.effects.Begins.{BeginsWork, IsOverwritten}
 use Rattle.art_schedules.proofs.effects.ValueLemmas.{no-slot, empty-slot, own-leaf, other-leaf, other-row, hangs-on, reached-below}
 use Rattle.art_schedules.proofs.effects.ValueLemmas.{byte-in-small, overwritten}
 

@@ -1,45 +1,30 @@
 -- What a call knows on its way stays so, whatever other calls do.
-use Rattle.std.proofs.Common.{◌≡◌, ℕ, ◌+◌, ◌-◌, ◌<◌, ◌≤◌, List, [], ◌∷◌, slice_index, Bool, true, false, sym, ap, ◌∙◌, subst, arith, inl}
+use Rattle.std.proofs.Common.{ℕ, List, [], ◌∷◌, slice_index, Bool, true, false, sym, ap, ◌∙◌, subst, arith, inl}
 use Rattle.std.specs.Prelude.{Option, Some, None}
-use Rattle.std.proofs.lemmas.Option.{none-some, same_Some}
 use Rattle.map_object.specs.MapObject.{Contents}
 use Rattle.events.specs.declared.event.Reply.{Reply}
 use Rattle.art_rows.specs.declared.table.Kind.{Kind}
-use Rattle.art_rows.specs.declared.table.Kind.TheVariants.{FortyEight}
-use Rattle.art_rows.specs.declared.table.Child.{Child}
-use Rattle.art_rows.specs.declared.table.Child.TheVariants.{Empty, Row as ChildRow, Leaf}
-use Rattle.art_rows.specs.Table.{row_words, index_at}
-use Rattle.art_rows.specs.Words.{key_bytes, first_difference, child_of}
-use Rattle.art_rows.proofs.KindLemmas.{first-some, seven-words}
-use Rattle.art_rows.proofs.ByteLemmas.{key_byte-small}
+use Rattle.art_rows.specs.declared.table.Child.TheVariants.{Row as ChildRow}
+use Rattle.art_rows.specs.Words.{key_bytes, first_difference}
+use Rattle.art_rows.proofs.KindLemmas.{seven-words}
 use Rattle.art_steps.specs.declared.variant.Variant.TheVariants.{Coupled}
 use Rattle.art_steps.specs.Rows.{Setting, key_of, is_insert}
 use Rattle.art_stages.specs.declared.stage.Held.{Held}
-use Rattle.art_stages.specs.declared.stage.Finding.{Finding}
-use Rattle.art_stages.specs.declared.stage.Finding.TheVariants.{Has, Lacks}
-use Rattle.art_stages.specs.declared.stage.Keys.{Keys}
 use Rattle.art_stages.specs.declared.stage.Position.{Position}
 use Rattle.art_stages.specs.declared.stage.Down.{Down}
-use Rattle.art_stages.specs.declared.stage.Hold.{Hold}
-use Rattle.art_stages.specs.declared.stage.Work.{Work}
-use Rattle.art_stages.specs.declared.stage.Work.TheVariants as work
 use Rattle.art_stages.specs.declared.stage.Target.{Target}
 use Rattle.art_stages.specs.declared.stage.Target.TheVariants.{Root, Below, Taken}
 use Rattle.art_stages.specs.declared.stage.Stage.{Stage}
 use Rattle.art_stages.specs.declared.stage.Stage.TheVariants.{Lock, Exchange, Between, Info, Find, FindKeys, FindMore, FindCount, Slot, LetGo, Unlock, Over}
-use Rattle.art_stages.specs.Stages.{row_at, byte_in, setting}
-use Rattle.art_core.specs.Meaning.{below, child_in}
-use Rattle.art_serial.specs.trees.Trees.{SameRow, LeadsTo, Parts}
-use Rattle.art_serial.proofs.alone.SlotLemmas.{slot-is, row-keys, slot-same, keys-same, count-same, form-same}
+use Rattle.art_stages.specs.Stages.{setting}
+use Rattle.art_serial.specs.trees.Trees.{SameRow, LeadsTo}
 use Rattle.art_versions.specs.versions.Holding.{Each}
-use Rattle.art_versions.specs.versions.Locking.{held_at_place, rows_of_target, rows_of_hold, all_of, held_at_stage}
-use Rattle.art_schedules.specs.work.Works.{LacksByte}
+use Rattle.art_versions.specs.versions.Locking.{held_at_place, rows_of_target, all_of, held_at_stage}
 use Rattle.art_schedules.specs.changes.Courses.{IsGoneBy, IsStill}
 use Rattle.art_schedules.specs.changes.Follows.{Follows}
 use Rattle.art_schedules.specs.coupled.Knows.{HangsBelow, KnowsTarget, KnowsPlace, KnowsInfo, IsPassed, KnowsStage, KnowsReply, KnowsAt}
 use Rattle.art_schedules.specs.coupled.Knows.{IsHeldLive}
 use Rattle.art_schedules.specs.coupled.Stays.{WaysAreKept}
-use Rattle.art_schedules.specs.work.Ways.{slot_in, KnowsFinding, IsOnWay, HasChild, HangsOnWay}
 use Rattle.art_schedules.proofs.effects.WayLemmas.{on-way, slot-still, hangs-still, finding-still, index-still}
 
 module _ (c : Setting) (n : ℕ) (calm after : List ℕ) (pairs : Contents) (gone : ℕ → Type 0) (fresh : ℕ → Kind → Type 0)

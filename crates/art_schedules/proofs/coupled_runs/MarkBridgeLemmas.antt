@@ -1,15 +1,11 @@
 -- What a call at work makes obsolete leaves the tree, as calls on their way know of it; and the row that it brings is its fresh one.
-use Rattle.std.proofs.Common.{◌≡◌, ℕ, List, refl, sym, ap, ◌∙◌}
+use Rattle.std.proofs.Common.{◌≡◌, ℕ, sym, ap, ◌∙◌}
 use Rattle.std.specs.Prelude.{Option, Some}
-use Rattle.art_rows.specs.declared.table.Shape.{Shape}
 use Rattle.art_rows.specs.declared.table.Kind.{Kind}
 use Rattle.art_rows.specs.declared.table.Kind.TheVariants.{Four}
-use Rattle.art_stages.specs.declared.stage.Hold.{Hold}
 use Rattle.art_versions.specs.versions.Holding.{Named}
 use Rattle.art_schedules.specs.changes.Effects.{Effect, Keeps, Fills, PutsLeaf, RemovesLeaf, HangsPair, HangsGrown, ComesIn}
-use Rattle.art_schedules.specs.coupled.Moments.{MakesLeave}
 use Rattle.art_schedules.specs.effects.AtWork.{fresh_of}
-use Rattle.art_schedules.specs.effects.Marks.{HangsOnAbove}
 
 -- the row that an effect brings
 pub fresh-is : (e : Effect) (fresh : Option Named) → fresh ≡ fresh_of e → (b : ℕ) (k : Kind) → ComesIn e b k → fresh ≡ Some (b, k)

@@ -1,10 +1,9 @@
 -- The reply that goes with an effect is the map's.
-use Rattle.std.proofs.Common.{◌≡◌, ◌≢◌, inl, inr, ℕ, List, true, refl, sym, ap, ◌∙◌, subst}
+use Rattle.std.proofs.Common.{◌≡◌, inl, inr, ℕ, List, true, refl, sym, ap, ◌∙◌, subst}
 use Rattle.std.specs.Prelude.{if◌then◌else◌, Option, Some, None}
 use Rattle.std.proofs.Common.{eq-eqb}
 use Rattle.events.specs.declared.event.Call.{Call}
 use Rattle.events.specs.declared.event.Call.TheVariants.{Get, Insert, Remove, Scan, Replace}
-use Rattle.events.specs.declared.event.Reply.TheVariants as replies
 use Rattle.map_object.specs.MapObject as map
 use Rattle.map_object.specs.MapObject.{Contents, value_at, put, is_just, after_reply, IsLegalReply}
 use Rattle.art_rows.specs.declared.table.Kind.{Kind}

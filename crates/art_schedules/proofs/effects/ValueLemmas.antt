@@ -1,5 +1,5 @@
 -- What the map has at a call's key, by what hangs on the key's byte of a row on its way; and work that overwrites a slot of such a row.
-use Rattle.std.proofs.Common.{◌≡◌, ◌≢◌, ℕ, ◌<◌, List, slice_index, true, sym, ap, ◌∙◌, subst, refl}
+use Rattle.std.proofs.Common.{◌≡◌, ◌≢◌, ℕ, ◌<◌, List, true, sym, ap, ◌∙◌, subst, refl}
 use Rattle.std.specs.Prelude.{Option, Some, None}
 use Rattle.map_object.specs.MapObject.{Contents, value_at}
 use Rattle.art_rows.specs.declared.table.Kind.{Kind}

@@ -1,6 +1,5 @@
 -- What a call knows of the rows on its way stays so where calm's tree goes on, for a row whose calm words stay and that does not leave the tree.
 use Rattle.std.proofs.Common.{◌≡◌, ℕ, ◌+◌, ◌-◌, ◌<◌, ◌≤◌, List, slice_index, Bool, true, false, sym, ap, ◌∙◌, subst, arith}
-use Rattle.std.specs.Prelude.{Option, Some, None}
 use Rattle.map_object.specs.MapObject.{Contents}
 use Rattle.art_rows.specs.declared.table.Kind.{Kind}
 use Rattle.art_rows.specs.declared.table.Kind.TheVariants.{FortyEight}
@@ -13,7 +12,7 @@ use Rattle.art_stages.specs.declared.stage.Finding.{Finding}
 use Rattle.art_stages.specs.declared.stage.Finding.TheVariants.{Has, Lacks}
 use Rattle.art_stages.specs.declared.stage.Hold.{Hold}
 use Rattle.art_stages.specs.declared.stage.Work.{Work}
-use Rattle.art_stages.specs.Stages.{row_at, byte_in}
+use Rattle.art_stages.specs.Stages.{byte_in}
 use Rattle.art_serial.specs.trees.Trees.{SameRow}
 use Rattle.art_serial.proofs.alone.SlotLemmas.{row-keys, slot-same}
 use Rattle.art_versions.specs.versions.Holding.{Each}

@@ -35,11 +35,6 @@ module _ (c : Setting) (at0 : CallAt) (w0 : List ℕ) where
       index-other before (word_of a) (changed a (slice_index before (word_of a))) word (λ e. out (subst (IsOfRows rows) (sym e) of))
       ∙ alone-outside rows word out alone
 
-  pub alone-long : (rows : List Held) → {x : CallAt} {now : List ℕ} → Alone c rows at0 w0 x now → length now ≡ length w0
-  alone-long rows here = refl
-  alone-long rows (further {now = before} alone a mark asks of) =
-      length-set before (word_of a) (changed a (slice_index before (word_of a))) ∙ alone-long rows alone
-
   -- By itself the call makes the access that it makes on words that are the same on the rows.
   pub follows : (rows : List Held) (real : List ℕ) (a : Access) (mark : Option Point) {x : CallAt} {now : List ℕ} → Alone c rows at0 w0 x now
       → length real ≡ length now → SameOn rows now real → call_turn c x ≡ Asks a mark → IsOfRows rows (word_of a)

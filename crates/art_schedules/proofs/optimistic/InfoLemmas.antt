@@ -250,9 +250,6 @@ module _ (shape : Shape) (call : Call) (P : OfRows) (is-row : (b : ℕ) (k : Kin
 -- ---- a step
 
 module _ (shape : Shape) (n : ℕ) (s : State) (sound : IsSound Optimistic shape n s) (p : ℕ) (t : State) where
-  P : OfRows
-  P = IsSettled Optimistic shape s
-
   info-row : (base : ℕ) (kind : Kind) (b : ℕ) (k : Kind) (word : ℕ) → kind_at shape base ≡ Some kind → kind_at shape b ≡ Some k → b ≤ word
       → word < b + row_words k → info_at base ≡ word → b ≡ base
   info-row base kind b k word row other from within is =

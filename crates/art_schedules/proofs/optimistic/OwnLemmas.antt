@@ -11,7 +11,6 @@ use Rattle.map_object.specs.MapObject.{Contents, value_at, value_reply, Does}
 use Rattle.art_rows.specs.declared.table.Shape.{Shape}
 use Rattle.art_rows.specs.declared.table.Kind.{Kind}
 use Rattle.art_rows.specs.declared.table.Kind.TheVariants.{Four, Sixteen, FortyEight, Full}
-use Rattle.art_rows.specs.declared.table.Child.{Child}
 use Rattle.art_rows.specs.declared.table.Child.TheVariants.{Empty, Row as ChildRow, Leaf}
 use Rattle.art_rows.specs.Table.{capacity, row_words, root_base, info_at, keys_at, more_keys_at, index_at, count_at, child_at}
 use Rattle.art_rows.specs.Words.{is_locked, is_obsolete, key_bytes, first_difference, info_of, keys4_of}
@@ -41,7 +40,7 @@ use Rattle.art_stages.specs.Automaton.{after_with, seek_unlocked, insert_unlocke
 use Rattle.art_stages.specs.Automaton.{words_at, among_at, find_at, below_at, hold_alone, no_value}
 use Rattle.art_stages.specs.Automaton.{pair_work, beside_work, leaf_work, keys_one, release_at, taken_at}
 use Rattle.art_stages.specs.Automaton.{take_alone}
-use Rattle.art_core.specs.Meaning.{Reached, below, child_on, child_in, Means}
+use Rattle.art_core.specs.Meaning.{Reached, Means}
 use Rattle.art_core.specs.Forms.{HasForm, level_in, path_in}
 use Rattle.art_serial.specs.trees.Trees.{IsAtRest, LeadsTo, WaysLeadToValues, LeavesAreSmall}
 use Rattle.art_serial.specs.alone.Laws.{is_seek}
@@ -58,7 +57,7 @@ use Rattle.art_versions.proofs.versions.WordFacts.{count-most}
 use Rattle.art_schedules.specs.calm.Calm.{is_busy}
 use Rattle.art_schedules.proofs.changes.SayingLemmas.{ways-are-paths}
 use Rattle.art_schedules.specs.work.Works.{RowsOf, LacksByte}
-use Rattle.art_schedules.specs.effects.Begins.{BeginsWork, IsOverwritten}
+use Rattle.art_schedules.specs.effects.Begins.{BeginsWork}
 use Rattle.art_schedules.specs.optimistic.Knows.{Stands, IsBelow, HangsBelow, KnowsPlace}
 use Rattle.art_schedules.specs.optimistic.Knows.{KnowsStage}
 use Rattle.art_schedules.specs.optimistic.Knows.{KnowsAt, IsReachedHere, AllStand, hold_taken, IsPast, KnowsWay, IsHeldReached}

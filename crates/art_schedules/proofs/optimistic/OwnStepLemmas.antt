@@ -272,12 +272,6 @@ module _ (plan : Plan) (start : Contents) (first schedule : List ℕ) (p : ℕ) 
 
       -- a row is taken
       module _ (x : Taking) (is : stage ≡ Take x) where
-        swap : Access
-        swap = Swap x.row.base x.row.kept (locked_word x.row.kept)
-
-        mark : Option Point
-        mark = Some (Rattle.art_steps.specs.Rows.lock_point shape x.row.base)
-
         turn : turn_at c stage ≡ Asks (Swap x.row.base x.row.kept (locked_word x.row.kept)) (Some (Rattle.art_steps.specs.Rows.lock_point shape x.row.base))
         turn = ap (turn_at c) is
 
@@ -414,9 +408,6 @@ module _ (plan : Plan) (start : Contents) (first schedule : List ℕ) (p : ℕ) 
 
       -- a row that was taken is given back
       module _ (h : Hold) (is : stage ≡ Unlock h None) (none : h.above ≡ None) where
-        abbrev base : ℕ
-        base = h.row.base
-
         let-go : turn_at c stage ≡ Asks (Store h.row.base (released_word h.row.kept)) (Some point.Unlock)
         let-go = ap (turn_at c) is
 

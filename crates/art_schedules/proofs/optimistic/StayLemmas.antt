@@ -1,5 +1,5 @@
 -- What a call knows on its way stays so, whatever other calls do.
-use Rattle.std.proofs.Common.{◌≡◌, ℕ, ◌+◌, ◌-◌, ◌<◌, ◌≤◌, List, [], ◌∷◌, ◌++◌, slice_index, Bool, true, false, sym, ap, ◌∙◌, subst, arith, inl}
+use Rattle.std.proofs.Common.{◌≡◌, ℕ, ◌+◌, List, [], ◌∷◌, ◌++◌, slice_index, Bool, true, false, sym, ap, ◌∙◌, arith, inl}
 use Rattle.std.specs.Prelude.{Option, Some, None}
 use Rattle.std.proofs.lemmas.Bool.{false≢true}
 use Rattle.map_object.specs.MapObject.{Contents}
@@ -7,35 +7,25 @@ use Rattle.events.specs.declared.event.Call.{Call}
 use Rattle.events.specs.declared.event.Reply.{Reply}
 use Rattle.art_rows.specs.declared.table.Shape.{Shape}
 use Rattle.art_rows.specs.declared.table.Kind.{Kind}
-use Rattle.art_rows.specs.declared.table.Kind.TheVariants.{FortyEight}
 use Rattle.art_rows.specs.declared.table.Child.{Child}
-use Rattle.art_rows.specs.declared.table.Child.TheVariants.{Empty, Row as ChildRow, Leaf}
-use Rattle.art_rows.specs.Table.{row_words, kind_at, index_at}
+use Rattle.art_rows.specs.declared.table.Child.TheVariants.{Row as ChildRow}
+use Rattle.art_rows.specs.Table.{kind_at}
 use Rattle.art_rows.specs.Words.{key_bytes, first_difference, info_of, child_of, is_obsolete}
-use Rattle.art_rows.proofs.KindLemmas.{first-some, seven-words}
-use Rattle.art_rows.proofs.ByteLemmas.{key_byte-small}
+use Rattle.art_rows.proofs.KindLemmas.{seven-words}
 use Rattle.art_steps.specs.declared.variant.Variant.TheVariants.{Optimistic}
 use Rattle.art_steps.specs.Rows.{Setting, key_of, is_insert}
 use Rattle.art_stages.specs.declared.stage.Held.{Held}
-use Rattle.art_stages.specs.declared.stage.Finding.{Finding}
-use Rattle.art_stages.specs.declared.stage.Finding.TheVariants.{Has, Lacks}
-use Rattle.art_stages.specs.declared.stage.Keys.{Keys}
 use Rattle.art_stages.specs.declared.stage.Position.{Position}
 use Rattle.art_stages.specs.declared.stage.Down.{Down}
-use Rattle.art_stages.specs.declared.stage.Hold.{Hold}
 use Rattle.art_stages.specs.declared.stage.Work.{Work}
-use Rattle.art_stages.specs.declared.stage.Work.TheVariants as work
 use Rattle.art_stages.specs.declared.stage.Target.TheVariants.{Root, Below, Taken}
 use Rattle.art_stages.specs.declared.stage.Stage.{Stage}
 use Rattle.art_stages.specs.declared.stage.Stage.TheVariants.{Wait, Between, Info, Find, FindKeys, FindMore}
 use Rattle.art_stages.specs.declared.stage.Stage.TheVariants.{FindCount, Slot, Check, CheckLast, Take, Unlock, Over}
-use Rattle.art_stages.specs.Stages.{row_at, held, byte_in, setting}
+use Rattle.art_stages.specs.Stages.{held, setting}
 use Rattle.art_core.specs.Core.{State}
-use Rattle.art_core.specs.Meaning.{Reached, below, slot_of, child_on, child_in}
 use Rattle.art_core.specs.Forms.{path_in}
-use Rattle.art_serial.specs.trees.Trees.{SameRow, LeadsTo, Parts}
-use Rattle.art_serial.proofs.alone.SlotLemmas.{slot-is, row-keys, slot-same, keys-same, count-same, form-same}
-use Rattle.art_serial.proofs.trees.Changes.{way_byte}
+use Rattle.art_serial.specs.trees.Trees.{SameRow}
 use Rattle.art_versions.specs.versions.Holding.{Each, IsKept, rows_kept}
 use Rattle.art_versions.specs.versions.Locking.{all_of, held_at_stage}
 use Rattle.art_versions.specs.versions.Versions.{IsSettled}
@@ -43,19 +33,17 @@ use Rattle.art_versions.specs.versions.Steady.{IsSteady}
 use Rattle.art_versions.proofs.versions.MoveLemmas.{settled-row}
 use Rattle.art_schedules.specs.calm.Calm.{is_busy}
 use Rattle.art_schedules.proofs.calm.VersionLemmas.{free-parts}
-use Rattle.art_schedules.specs.work.Works.{LacksByte}
 use Rattle.art_schedules.specs.changes.Courses.{IsGoneBy, ComesInBy, IsStill, pairs_by}
 use Rattle.art_schedules.specs.changes.Effects.{Effect}
 use Rattle.art_schedules.specs.changes.Follows.{Follows}
-use Rattle.art_schedules.proofs.changes.SayingLemmas.{same-rows-say-the-same}
-use Rattle.art_schedules.specs.effects.Begins.{BeginsWork, IsOverwritten, upper_of}
+use Rattle.art_schedules.specs.effects.Begins.{BeginsWork}
 use Rattle.art_schedules.specs.optimistic.Knows.{Stands, IsBelow, HangsBelow, KnowsPlace, KnowsStage}
 use Rattle.art_schedules.specs.optimistic.Knows.{KnowsReply, KnowsAt, IsReachedHere, AllStand, hold_taken}
 use Rattle.art_schedules.specs.optimistic.Knows.{PathFollows, PathDiffers, IsReachedBelow, IsPast, IsHeldReached}
 use Rattle.art_schedules.specs.optimistic.Goes.{Agrees}
 use Rattle.art_schedules.specs.optimistic.Laws.{InfosStay, WaysAreKept}
 use Rattle.art_schedules.proofs.calm.VersionLemmas.{unmarked-free}
-use Rattle.art_schedules.specs.work.Ways.{IsOnWay, slot_in, HasChild, KnowsFinding, HangsOnWay}
+use Rattle.art_schedules.specs.work.Ways.{HangsOnWay}
 use Rattle.art_schedules.proofs.effects.WayLemmas.{on-way, slot-still, hangs-still, finding-still, index-still, begins-still}
 
 -- ---- a step, with the states before and behind it

@@ -119,9 +119,6 @@ module _ (laws : LawsOfParts) (shape : Shape) (scripts : List (List Call)) (star
             (record { process = q; is_open = made.here; at = at }) tree scan told.claims m
             told.rests told.means knows
 
-        next : Stage
-        next = from.0.next
-
         makes : Makes Optimistic shape s p calm after m None
         makes = makes-of from.0.keeps
 

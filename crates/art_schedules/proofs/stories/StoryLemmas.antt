@@ -10,7 +10,6 @@ use Rattle.events.specs.declared.operation.Operation.{Operation}
 use Rattle.events.specs.declared.operation.Response.{Response}
 use Rattle.events.specs.Limits.{pair_limit}
 use Rattle.map_object.specs.MapObject.{Contents, Does}
-use Rattle.orders.proofs.LegalLemmas.{after_reply-answer}
 use Rattle.orders.specs.Leads.{DoesCall}
 use Rattle.art_core.specs.Core.{Plan, State, opened_on}
 use Rattle.art_core.specs.Runs.{Gives, At}

@@ -9,13 +9,12 @@ use Rattle.art_rows.specs.Words.{is_locked, is_obsolete}
 use Rattle.art_steps.specs.declared.variant.Variant.{Variant}
 use Rattle.art_steps.specs.declared.variant.Variant.TheVariants.{Optimistic}
 use Rattle.art_steps.specs.Steps.{numbers}
-use Rattle.art_stages.specs.declared.stage.Held.{Held}
 use Rattle.art_core.specs.declared.process.Process.{Process}
 use Rattle.art_core.specs.Core.{Plan, State, opened_on, step}
 use Rattle.art_core.specs.Meaning.{Reached, AllUnlocked}
 use Rattle.art_serial.specs.trees.Trees.{AreZeroPastClaims}
-use Rattle.art_versions.specs.versions.Effects.{IsGoodAt, IsAmong}
-use Rattle.art_versions.specs.versions.Versions.{IsOpen, held_by, filled_by, IsSettled, EachHeld}
+use Rattle.art_versions.specs.versions.Effects.{IsGoodAt}
+use Rattle.art_versions.specs.versions.Versions.{IsOpen, filled_by, IsSettled, EachHeld}
 use Rattle.art_versions.specs.versions.Steady.{SameWords}
 
 -- A row is busy where its version is locked or obsolete.

@@ -18,7 +18,7 @@ use Rattle.art_stages.specs.declared.stage.Stage.TheVariants.{Lock, Exchange, Be
 use Rattle.art_stages.specs.Stages.{byte_in, reply_for}
 use Rattle.art_core.specs.Meaning.{Reached}
 use Rattle.art_core.specs.Forms.{level_in, path_in}
-use Rattle.art_serial.specs.trees.Trees.{SameRow, LeadsTo}
+use Rattle.art_serial.specs.trees.Trees.{LeadsTo}
 use Rattle.art_versions.specs.versions.Holding.{Each}
 use Rattle.art_versions.specs.versions.Locking.{held_at_stage}
 use Rattle.art_schedules.specs.work.Ways.{slot_in, KnowsFinding, IsOnWay, IsSame, HangsOnWay}

@@ -16,12 +16,10 @@ use Rattle.art_stages.specs.declared.stage.Stage.{Stage}
 use Rattle.art_stages.specs.declared.stage.Stage.TheVariants.{Unlock, Obsolete}
 use Rattle.art_stages.specs.Stages.{setting}
 use Rattle.art_stages.specs.Calls.{OnKey}
-use Rattle.art_core.specs.declared.process.Process.{Process}
 use Rattle.art_core.specs.Core.{Plan, State}
 use Rattle.art_core.specs.Meaning.{Reached, child_on, Means}
 use Rattle.art_serial.specs.trees.Trees.{IsAtRest}
-use Rattle.art_versions.specs.versions.Effects.{IsAmong}
-use Rattle.art_versions.specs.versions.Versions.{IsOpen, held_by, IsAtStage, EachHeld}
+use Rattle.art_versions.specs.versions.Versions.{IsAtStage, EachHeld}
 use Rattle.art_schedules.specs.calm.Calm.{calm_of}
 use Rattle.art_schedules.specs.calm.Changes.{AsksFor, IsRunStep}
 use Rattle.art_schedules.specs.changes.Effects.{Effect}

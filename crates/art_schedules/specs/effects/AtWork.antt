@@ -25,7 +25,7 @@ use Rattle.art_stages.specs.declared.stage.Stage.TheVariants.{GrowLeaf, GrowKeys
 use Rattle.art_stages.specs.Stages.{reply_for}
 use Rattle.art_stages.specs.Automaton.{work_at, hold_alone}
 use Rattle.art_stages.specs.Calls.{OnKey}
-use Rattle.art_core.specs.Meaning.{Reached, child_on}
+use Rattle.art_core.specs.Meaning.{child_on}
 use Rattle.art_core.specs.Forms.{level_in, path_in}
 use Rattle.art_serial.specs.trees.Trees.{SameRow, LeadsTo, Parts, IsClaimed}
 use Rattle.art_versions.specs.versions.Locking.{rows_of_hold}

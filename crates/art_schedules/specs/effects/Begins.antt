@@ -1,7 +1,5 @@
 -- Where the work of a call begins: what is so of calm's tree there.
 use Rattle.std.specs.Prelude.{◌≡◌, ◌⊎◌, ℕ, List, slice_index, true, Option, Some, None}
-use Rattle.events.specs.declared.event.Reply.{Reply}
-use Rattle.events.specs.declared.event.Reply.TheVariants as reply
 use Rattle.art_rows.specs.declared.table.Child.{Child}
 use Rattle.art_rows.specs.declared.table.Child.TheVariants.{Empty, Row, Leaf}
 use Rattle.art_rows.specs.Table.{info_at}
@@ -13,7 +11,7 @@ use Rattle.art_stages.specs.declared.stage.Held.{Held}
 use Rattle.art_stages.specs.declared.stage.Hold.{Hold}
 use Rattle.art_stages.specs.declared.stage.Work.{Work}
 use Rattle.art_stages.specs.declared.stage.Work.TheVariants as work
-use Rattle.art_stages.specs.Stages.{byte_in, value_reply}
+use Rattle.art_stages.specs.Stages.{byte_in}
 use Rattle.art_core.specs.Meaning.{slot_of, child_on}
 use Rattle.art_serial.specs.trees.Trees.{LeadsTo, Parts}
 use Rattle.art_schedules.specs.work.Works.{FitsWords}
@@ -52,10 +50,3 @@ pub record BeginsWork (c : Setting) (calm : List ℕ) (h : Hold) (work : Work) :
   pub byte : ℕ
   pub leads : LeadsTo c.shape calm (key_of c.call) (upper_row h).base (upper_row h).kind byte
   pub finds : FindsSlot c calm h work byte
-
--- the reply, unless its claim is refused
-abbrev pub reply_of_work : Work → Reply
-reply_of_work (work.Write slot word old) = value_reply old
-reply_of_work (work.Pair p) = reply.None
-reply_of_work (work.Put keys) = reply.None
-reply_of_work (work.Grow slot keys) = reply.None

@@ -8,19 +8,16 @@ use Rattle.art_rows.specs.declared.table.Shape.{Shape}
 use Rattle.art_rows.specs.declared.table.Kind.{Kind}
 use Rattle.art_rows.specs.Words.{is_obsolete}
 use Rattle.art_steps.specs.declared.variant.Variant.{Variant}
-use Rattle.art_stages.specs.declared.stage.Held.{Held}
 use Rattle.art_stages.specs.declared.stage.Outcome.{Outcome}
 use Rattle.art_stages.specs.declared.stage.Stage.{Stage}
 use Rattle.art_stages.specs.declared.stage.Stage.TheVariants.{Over}
 use Rattle.art_stages.specs.Stages.{setting, reply_for}
 use Rattle.art_stages.specs.Calls.{OnKey}
-use Rattle.art_core.specs.declared.process.Process.{Process}
 use Rattle.art_core.specs.Core.{State}
 use Rattle.art_core.specs.Meaning.{Reached}
 use Rattle.art_serial.specs.trees.Trees.{IsClaimed}
 use Rattle.art_versions.specs.versions.Holding.{Named}
-use Rattle.art_versions.specs.versions.Effects.{IsAmong}
-use Rattle.art_versions.specs.versions.Versions.{IsOpen, held_by, IsAtStage, EachHeld}
+use Rattle.art_versions.specs.versions.Versions.{IsAtStage, EachHeld}
 use Rattle.art_versions.specs.versions.Writers.{IsHeldBy}
 use Rattle.art_schedules.specs.changes.Effects.{Effect, base_of_effect, pairs_after, HasEffect, ComesIn}
 use Rattle.art_schedules.specs.changes.Courses.{ComesInBy, TreeGoesOn}

@@ -22,7 +22,6 @@ use Rattle.art_stages.specs.declared.stage.Stage.TheVariants.{FindCount, Slot, C
 use Rattle.art_stages.specs.Stages.{byte_in, reply_for}
 use Rattle.art_core.specs.Meaning.{Reached}
 use Rattle.art_core.specs.Forms.{path_in}
-use Rattle.art_serial.specs.trees.Trees.{SameRow}
 use Rattle.art_versions.specs.versions.Holding.{Each, rows_kept}
 use Rattle.art_versions.specs.versions.Locking.{all_of, held_at_stage}
 use Rattle.art_schedules.specs.effects.Begins.{BeginsWork}

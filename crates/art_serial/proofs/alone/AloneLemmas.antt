@@ -11,7 +11,7 @@ use Rattle.art_steps.specs.declared.variant.Variant.{Variant}
 use Rattle.art_steps.specs.declared.access.Access.{Access}
 use Rattle.art_steps.specs.declared.access.Access.TheVariants.{Load, Exchange}
 use Rattle.art_steps.specs.declared.access.Point.{Point}
-use Rattle.art_steps.specs.Steps.{Rest, Part, Answers, ◌>>=◌, ◌>>◌, give, answer, access, load, load_at, store, store_at, exchange, exchange_at, add}
+use Rattle.art_steps.specs.Steps.{Rest, Part, Answers, ◌>>=◌, ◌>>◌, give, answer, access, load, load_at, store, store_at, exchange, add}
 use Rattle.art_steps.specs.Steps.{marked, first_at, each, over}
 use Rattle.art_steps.specs.Act.{procedure, act}
 use Rattle.art_steps.proofs.GuardLemmas.{act-body}
@@ -162,10 +162,6 @@ unfoldable pub if_false-comes : {A : Type 0} {n : Part A} (m : Part A) {b : Bool
     → Comes (if b then m else n) words a later
 if_false-comes {n = n} m e h = same-comes (λ again after got. ap (λ (b : Bool). (if b then m else n) again after got) e) h
 
-unfoldable pub if_true-ends : {A : Type 0} {m : Part A} (n : Part A) {b : Bool} {words later : List ℕ} {reply : Reply} → b ≡ true
-    → Ends m words reply later → Ends (if b then m else n) words reply later
-if_true-ends {m = m} n e h = same-ends (λ again after got. ap (λ (b : Bool). (if b then m else n) again after got) e) h
-
 unfoldable pub if_false-ends : {A : Type 0} {n : Part A} (m : Part A) {b : Bool} {words later : List ℕ} {reply : Reply} → b ≡ false
     → Ends n words reply later → Ends (if b then m else n) words reply later
 if_false-ends {n = n} m e h = same-ends (λ again after got. ap (λ (b : Bool). (if b then m else n) again after got) e) h
@@ -210,14 +206,6 @@ exchanged word from to words e =
 unfoldable pub exchange-comes : (word from to : ℕ) (words : List ℕ) → slice_index words word ≡ from
     → Comes (exchange word from to) words from (slice_set words word to)
 exchange-comes word from to words e = record {
-  steps = 1;
-  runs = λ again after last reply r. access-runs e (exchanged word from to words e) r;
-  long = λ again after last reply r. access-accesses _ _ after words e (exchanged word from to words e) r;
-}
-
-pub exchange_at-comes : (p : Point) (word from to : ℕ) (words : List ℕ) → slice_index words word ≡ from
-    → Comes (exchange_at p word from to) words from (slice_set words word to)
-exchange_at-comes p word from to words e = record {
   steps = 1;
   runs = λ again after last reply r. access-runs e (exchanged word from to words e) r;
   long = λ again after last reply r. access-accesses _ _ after words e (exchanged word from to words e) r;

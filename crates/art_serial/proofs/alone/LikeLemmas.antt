@@ -7,9 +7,9 @@ use Rattle.std.proofs.lemmas.List.Elements.{All-set}
 use Rattle.art_rows.specs.declared.table.Shape.{Shape}
 use Rattle.art_rows.specs.declared.table.Kind.{Kind}
 use Rattle.art_rows.specs.declared.table.Child.{Child}
-use Rattle.art_rows.specs.Table.{row_words, table_words, claims_of}
+use Rattle.art_rows.specs.Table.{row_words, table_words}
 use Rattle.art_rows.specs.Words.{is_locked, is_obsolete, child_of}
-use Rattle.art_rows.proofs.KindLemmas.{claims-few, first-two, two-words, keys-within}
+use Rattle.art_rows.proofs.KindLemmas.{first-two, two-words, keys-within}
 use Rattle.art_core.specs.Meaning.{Reached, child_in, slot_of}
 use Rattle.art_core.specs.Forms.{HasForm}
 use Rattle.art_serial.specs.trees.Trees.{IsAtRest, SameRow, ChangesAt}
@@ -125,20 +125,6 @@ module _ (s : Shape) (n : ℕ) (words : List ℕ) (rest : IsAtRest s n words) wh
       go w false e = other w (eqb-false w slot e) (like.word w)
 
   -- ---- what they say
-
-  -- a word that is no version of a row that is reached
-  pub like-elsewhere : {target now : List ℕ} {held : ℕ → Type 0} → Like s words target now held → (w : ℕ) → ((k : Kind) → Reached s words w k → ⊥)
-      → slice_index now w ≡ slice_index target w
-  like-elsewhere {target} {now} {held} like w none = go (like.word w)
-    where
-      go : (slice_index now w ≡ slice_index target w) ⊎ IsVersion s words now held w → slice_index now w ≡ slice_index target w
-      go (inl e) = e
-      go (inr v) = absurd (none v.kind v.reached)
-
-  pub like-claims : {target now : List ℕ} {held : ℕ → Type 0} → Like s words target now held → (kind : Kind)
-      → slice_index now (claims_of kind) ≡ slice_index target (claims_of kind)
-  like-claims like kind = like-elsewhere like (claims_of kind) λ k r.
-      omega (arith, (sits-inside s (claims_of kind) 0 k (sits r) (omega (arith, two-words k))).0, claims-few kind)
 
   pub like-row : {now : List ℕ} {held : ℕ → Type 0} {base : ℕ} {kind : Kind} → Like s words words now held → Reached s words base kind
       → SameRow words now base kind

@@ -1,5 +1,5 @@
 -- An insert under lock coupling, run alone on a table at rest, goes its key's way and does what it does on the map, or is refused.
-use Rattle.std.proofs.Common.{◌≡◌, ◌≢◌, ◌⊎◌, inl, inr, ℕ, zero, suc, ◌+◌, ◌*◌, ◌<◌, ◌≤◌, ◌==◌, List, [], ◌∷◌, length, slice_index, Option, Some, None}
+use Rattle.std.proofs.Common.{◌≡◌, ◌⊎◌, inl, inr, ℕ, zero, suc, ◌+◌, ◌*◌, ◌<◌, ◌≤◌, ◌==◌, List, [], ◌∷◌, length, slice_index, Option, Some, None}
 use Rattle.std.proofs.Common.{Bool, true, false, refl, sym, ap, ◌∙◌, subst, arith, eqb-true, if◌then◌else◌}
 use Rattle.std.proofs.lemmas.Bool.{eqb-false}
 use Rattle.events.specs.declared.event.Call.TheVariants.{Insert}
@@ -273,9 +273,6 @@ module _ (g : Given) (s : Shape) (variant : Variant) (n : ℕ) (words : List ℕ
 
       found : Row
       found = row_of b k (slice_index words (info_at b)) (slice_index (with_unlocked rows now) b)
-
-      locked : List ℕ
-      locked = with_lock (with_unlocked rows now) b
 
       two : Holding (found ∷ r ∷ []) (with_lock (with_unlocked rows now) b)
       two = near-version s n words rest {held2 = Among s n words rest (found ∷ r ∷ [])} {dead2 = Nothing}

@@ -14,13 +14,13 @@ use Rattle.art_rows.specs.declared.table.Kind.{Kind}
 use Rattle.art_rows.specs.declared.table.Child.{Child}
 use Rattle.art_rows.specs.declared.table.Child.TheVariants.{Empty, Row as ChildRow, Leaf}
 use Rattle.art_rows.specs.Table.{table_words}
-use Rattle.art_rows.specs.Words.{key_bytes, first_difference, leaf_word, child_of}
+use Rattle.art_rows.specs.Words.{key_bytes, first_difference, leaf_word}
 use Rattle.art_rows.proofs.ByteLemmas.{key_byte-small}
 use Rattle.art_steps.specs.declared.variant.Variant.{Variant}
 use Rattle.art_steps.specs.Rows.{Setting, Row, unlock}
 use Rattle.art_steps.specs.Steps.{Rest, Part, ◌>>=◌, ◌>>◌, give, store}
 use Rattle.art_steps.specs.Updates.{keys_differ_at, insert_in, pair_in}
-use Rattle.art_core.specs.Meaning.{Means, slot_of, child_in, child_on}
+use Rattle.art_core.specs.Meaning.{Means, slot_of, child_on}
 use Rattle.art_serial.specs.trees.Trees.{IsAtRest, LeadsTo, Parts, SameTreesAreOne, WaysLeadToValues}
 use Rattle.art_serial.specs.trees.Trees.{LeavesArePut, PairsAreHung, GrownRowsAreHung, LeavesAreSmall, KeysPart}
 use Rattle.art_serial.specs.words.Laws.{WordsAreReadBack, VersionsSay, WordsAreSmall}
@@ -127,9 +127,6 @@ module _ (g : Given) (s : Shape) (variant : Variant) (n : ℕ) (words : List ℕ
 
   module _ (r : Row) (now : List ℕ) (held : IsHeld s n words rest r) (near : Near s n words rest Nothing (Among s n words rest (r ∷ [])) Nothing now)
       (x : ℕ) (leads : LeadsTo s words key r.base r.kind x) (byte : x < 256) (slot : ℕ) (at : slot_of words r.base r.kind x ≡ Some slot) where
-    hanging : (child : Child) → child_of s (slice_index words slot) ≡ child → child_on s words r.base r.kind x ≡ child
-    hanging child e = ap (λ o. child_in s words o) at ∙ e
-
     -- a pair in the slot of the held row, and the row is unlocked
     pub pair-in : (d a : ℕ) (child : Child) → child_on s words r.base r.kind x ≡ child → Parts words key d a child → IsStored s child → IsShort child → a < 256
         → a ≢ slice_index (key_bytes key) d → value_at m key ≡ None

@@ -168,11 +168,6 @@ module _ (s : Shape) (n : ℕ) (words : List ℕ) (rest : IsAtRest s n words) wh
       go w (inl is) ne = absurd (ne is)
       go w (inr a) ne = a
 
-  pub unlocked-long : (rows : List Row) (now : List ℕ) → length (with_unlocked rows now) ≡ length now
-  unlocked-long [] now = refl
-  unlocked-long (r ∷ rows) now =
-      unlocked-long rows (slice_set now r.base (released_word r.kept)) ∙ length-set now r.base (released_word r.kept)
-
   -- no row's words behind its version change where rows are unlocked
   pub unlocked-other : (rows : List Row) (now : List ℕ) → AreHeld rows → (w : ℕ) → ((kind : Kind) → Sits s w kind → ⊥)
       → slice_index (with_unlocked rows now) w ≡ slice_index now w

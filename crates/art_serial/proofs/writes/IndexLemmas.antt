@@ -9,7 +9,7 @@ use Rattle.art_rows.specs.declared.table.Kind.TheVariants.{FortyEight}
 use Rattle.art_rows.specs.Words.{entry_of, entries_of, low_bytes}
 use Rattle.art_rows.proofs.WriterLemmas.{length-low_bytes}
 use Rattle.art_core.specs.Meaning.{entry_slot, slot_of}
-use Rattle.art_serial.proofs.words.KeyLemmas.{number_is, number_is_not, other_number}
+use Rattle.art_serial.proofs.words.KeyLemmas.{number_is_not, other_number}
 
 pub length-entries : (w : ℕ) → length (entries_of w) ≡ 8
 length-entries w = length-map (low_bytes 8 w) entry_of ∙ length-low_bytes 8 w
@@ -50,10 +50,3 @@ entry-named base e slot h = go (e == 0) refl h
     go true t h = absurd (none-some slot h)
     go false t h =
         record { place = e - 1; entry = omega (arith, number_is_not e 0 t); is = sym (same_Some (base + 35 + (e - 1)) slot h) }
-
-pub entry-none : (base e : ℕ) → entry_slot base e ≡ None → e ≡ 0
-entry-none base e h = go (e == 0) refl h
-  where
-    go : (b : Bool) → (e == 0) ≡ b → (if b then None else Some (base + 35 + (e - 1))) ≡ None → e ≡ 0
-    go true t h = number_is e 0 t
-    go false t h = absurd (none-some (base + 35 + (e - 1)) (sym h))

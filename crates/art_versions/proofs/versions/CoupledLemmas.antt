@@ -212,9 +212,6 @@ module _ (s : Shape) (call : Call) (P : OfRows) (is_row : (b : ℕ) (k : Kind) �
   abbrev i : Bool
   i = is_insert call
 
-  waits : (t : Target) → KnowsKey P c (Lock t false) → At i (rows_of_target t) (Lock t false)
-  waits t k = (k, refl, refl)
-
   lock-does : (t : Target) (first : Bool) → KnowsKey P c (Lock t first) → Doing (Lock t first)
   lock-does t first k = go first
     where

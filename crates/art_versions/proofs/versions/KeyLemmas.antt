@@ -192,9 +192,6 @@ module _ (variant : Variant) (s : Shape) (call : Call) (P : OfRows) (is_row : (b
   lesser-rows : (Q : Child → Type 0) (a b : Under) → Q a.child → Q b.child → Q (lesser a b).child × Q (greater a b).child
   lesser-rows Q a b ha hb = go (nat_lt a.byte b.byte)
     where
-      pick : Bool → Under → Under → Under
-      pick x u v = if x then u else v
-
       go : (x : Bool) → Q (if x then a else b).child × Q (if x then b else a).child
       go true = (ha, hb)
       go false = (hb, ha)

@@ -238,9 +238,6 @@ sound-at variant full plan start words schedule s run v =
 
 -- A run in two parts.
 
-same-state : {s t : State} → ◌≡◌ {A = Option State} (Some s) (Some t) → s ≡ t
-same-state e = cc
-
 pub later-part : (plan : Plan) (first s t : State) (earlier later : List ℕ) → run_on plan (Some first) earlier ≡ Some s
     → run_on plan (Some first) (earlier ++ later) ≡ Some t → run_on plan (Some s) later ≡ Some t
 later-part plan first s t earlier later e k = ap (λ o. run_on plan o later) (sym e) ∙ (sym (run-on-append plan (Some first) earlier later) ∙ k)

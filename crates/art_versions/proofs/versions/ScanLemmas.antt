@@ -4,7 +4,7 @@ use Rattle.art_steps.specs.declared.variant.Variant.TheVariants.{Coupled, Optimi
 use Rattle.std.proofs.lemmas.Bool.{false≢true}
 use Rattle.art_steps.specs.Rows.{locks, leaves_out_check}
 use Rattle.art_stages.specs.Stages.{setting}
-use Rattle.art_stages.specs.Scans.{enter_at, no_walk}
+use Rattle.art_stages.specs.Scans.{enter_at}
 use Rattle.art_versions.specs.versions.Locking.{lock_of, locks_of, scan_locked, scan_held}
 use Rattle.art_versions.specs.versions.Holding.{FitsScan, IsKept, rows_entered, rows_walked, holds}
 use Rattle.art_versions.specs.versions.Effects.{IsAmong, IsWith, Has, Releases, Takes}
@@ -291,20 +291,10 @@ module _ (variant : Variant) (s : Shape) (call : Call) (P : OfRows) (is_row : (b
         none true = refl
         none false = refl
 
-  started : Good [] (scan_start c)
-  started = go l
-    where
-      go : (b : Bool) → GoodAt [] b (if b then at (Lock Root true) no_walk else at (Wait Root) no_walk)
-      go true = (record { kept = tt; known = tt; fits = tt; way = tt }, refl)
-      go false = (record { kept = tt; known = tt; fits = tt; way = tt }, refl)
-
 -- A scan of the optimistic tree.
 module _ (s : Shape) (call : Call) (P : OfRows) (is_row : (b : ℕ) (k : Kind) → P b k → kind_at s b ≡ Some k) (root : P (root_base s) Full) (lo hi : ℕ) where
   abbrev optimistic-setting : Setting
   optimistic-setting = setting s Optimistic call
-
-  abbrev Knowing : List Held → ScanAt → Type 0
-  Knowing rows x = Good Optimistic s call P is_row root lo hi rows x
 
   met : (n : Held) (w : Walk) → P n.base n.kind → Each (FitsFrame P) w.way → Has P optimistic-setting (OnScan lo hi (visit_at optimistic-setting lo hi n w)) [] []
   met n w p way = go (bytes_of lo hi (row_at n)) (has_row n.base (map row_at w.rows))
