@@ -1,6 +1,6 @@
 -- One process between its calls, and within one.
-use Rattle.std.proofs.Common.{◌≡◌, ℕ, ◌+◌, ◌-◌, ◌*◌, ◌<◌, ◌≤◌, inl, inr, true, false, not, IsTrue, List, [], ◌∷◌, ◌++◌, length, map, take, refl, sym, ap, subst, ◌∙◌, arith}
-use Rattle.std.specs.Prelude.{Option, Some, None, is_some, slice_index_or}
+use Rattle.std.proofs.Common.{◌≡◌, ℕ, ◌+◌, ◌*◌, ◌<◌, ◌≤◌, inr, true, false, IsTrue, List, [], ◌∷◌, ◌++◌, length, map, take, refl, sym, ap, subst, ◌∙◌, arith}
+use Rattle.std.specs.Prelude.{Some, None, slice_index_or}
 use Rattle.std.proofs.lemmas.List.{take_more, length-append}
 use Rattle.std.proofs.lemmas.List.Elements.{filter_map-append}
 use Rattle.events.specs.declared.event.Call.{Call}
@@ -12,7 +12,7 @@ use Rattle.art_core.specs.declared.process.Process.{Process}
 use Rattle.art_core.specs.Core.{Invokes, begun, idle, invoked, after_move}
 use Rattle.art_shared.specs.declared.view.Setup.{Setup}
 use Rattle.art_shared.specs.declared.view.View.{View}
-use Rattle.art_shared.specs.Views.{Numbered, open_move, invoking, is_idle, calls_left}
+use Rattle.art_shared.specs.Views.{Numbered, invoking}
 use Rattle.running.specs.Steps.{is_open, Ran, HasReplied, HasInvoked}
 use Rattle.arena_drives.specs.Passes.{alone, is_pending, HasAnsweredAll, ShowsDone}
 use Rattle.arena_drives.proofs.RunLemmas.{ends-logged, ran, ran-open}
@@ -49,38 +49,7 @@ module _ (setup : Setup) (number limit : ℕ) where
     pub pending : is_pending process ≡ true
     pub steps : process.steps ≤ (limit + 1) * length calls + 1
 
-  pub at-start : (v : View) → v ≡ alone setup number idle → IsBetween [] v
-  at-start v is = record {
-    process = idle;
-    shown = is;
-    none = refl;
-    answered = record { calls = refl; completed = refl };
-    steps = omega arith;
-  }
-
   module _ (calls : List Call) (v : View) (h : IsBetween calls v) where
-    pub between-idle : IsTrue (is_idle v)
-    between-idle = ap is_idle h.shown ∙ ap (λ c. not (is_some c)) h.none
-
-    pub between-left : calls_left v ≡ setup.calls_each - length calls
-    between-left = ap calls_left h.shown ∙ ap (λ l. setup.calls_each - length l) h.answered.calls
-
-    pub finishes : ShowsDone number limit calls v
-    finishes = record {
-      process = h.process;
-      is = ap (λ z. z.processes) h.shown;
-      done = record {
-        ended = inl h.answered;
-        limited = record {
-          steps = subst (λ l. h.process.steps ≤ (limit + 1) * length l) (sym h.answered.calls) h.steps;
-          pending = λ called. absurd (none-called (sym (ap is_some h.none) ∙ called));
-        };
-      };
-    }
-      where
-        none-called : false ≡ true → ⊥
-        none-called e = cc
-
     pub begins : (call : Call) (w : View) → HasInvoked call v w → IsWithin calls call w
     begins call w made = record {
       process = after_move number (Invokes call) made.stamp h.process;
@@ -95,13 +64,6 @@ module _ (setup : Setup) (number limit : ℕ) where
     }
 
   module _ (calls : List Call) (call : Call) (v : View) (h : IsWithin calls call v) where
-    pub within-open : IsTrue (is_open v)
-    within-open = ap is_open h.shown ∙ called-open h.process.call h.called
-      where
-        called-open : (c : Option Call) → c ≡ Some call → IsTrue (is_some (open_move setup h.process.got c))
-        called-open None e = cc
-        called-open (Some c) e = refl
-
     long : length (calls ++ call ∷ []) ≡ length calls + 1
     long = length-append calls (call ∷ [])
 

@@ -430,9 +430,6 @@ all-idle (suc n) (suc i) q e = all-idle n i q e
 sum-none : (f : Process → ℕ) (n : ℕ) → f idle ≡ 0 → sum (map f (replicate n idle)) ≡ 0
 sum-none f n e = sum-map f (replicate n idle) ∙ (sum_by-replicate f n idle ∙ (ap (λ k. n * k) e ∙ omega arith))
 
-not-zero : (n : ℕ) → 0 < n → 0 ≢ n
-not-zero n h e = omega arith
-
 -- before the first step, on words of the table with the clock at 0
 pub opened-logged : (plan : Plan) (words : List ℕ) → length words ≡ table_words plan.shape → slice_index words 0 ≡ 0 → IsLogged plan (opened_on plan words)
 opened-logged plan words long zeroed =

@@ -3,13 +3,9 @@ use Rattle.std.proofs.Common.{◌≡◌, ℕ, zero, suc, ◌+◌, ◌-◌, ◌*�
 use Rattle.std.proofs.lemmas.Bool.{eq-eqb, ne_eqb}
 use Rattle.std.proofs.lemmas.List.{append-nil}
 use Rattle.std.proofs.lemmas.List.Elements.{filter-append}
-use Rattle.std.specs.Prelude.{if◌then◌else◌, ◌&&◌, filter, Option}
-use Rattle.art_rows.specs.declared.table.Kind.{Kind}
-use Rattle.art_rows.specs.declared.table.Kind.TheVariants.{Four, Sixteen, FortyEight, Full}
+use Rattle.std.specs.Prelude.{if◌then◌else◌, filter, Option}
 use Rattle.art_steps.specs.Steps.{numbers}
-use Rattle.art_stages.specs.declared.stage.Frame.{Frame}
-use Rattle.art_stages.specs.Scans.{ScanAt, in_word, lies, slot_at, bytes_at}
-use Rattle.art_scan.specs.Walks.{frame_test}
+use Rattle.art_stages.specs.Scans.{ScanAt, in_word, slot_at, bytes_at}
 
 pub zero_left : (m : ℕ) → 0 + m ≡ m
 zero_left m = omega arith
@@ -104,39 +100,3 @@ bytes_past test slot_of child x (suc n) other h =
     ap (λ b. if b then slot_at (slot_of x) (child (x + 1) n) (bytes_at test slot_of child (x + 1) n other)
     else bytes_at test slot_of child (x + 1) n other) (h x (omega arith))
     ∙ bytes_past test slot_of child (x + 1) n other (λ y a. h y (omega (arith, a)))
-
-and_false : (a b : Bool) → b ≡ false → (a && b) ≡ false
-and_false true b e = e
-and_false false b e = refl
-
--- in kind 48 no byte before the index word or behind it is walked
-
-pub test_before : (kind : Kind) (low high : ℕ) (f : Frame) (y : ℕ) → kind ≡ FortyEight → y < 8 * f.index → frame_test kind low high f y ≡ false
-test_before Four low high f y e h = absurd (four e)
-  where
-    four : Four ≡ FortyEight → ⊥
-    four k = cc
-test_before Sixteen low high f y e h = absurd (sixteen e)
-  where
-    sixteen : Sixteen ≡ FortyEight → ⊥
-    sixteen k = cc
-test_before FortyEight low high f y e h = and_false (lies low high f y) (in_word f.index y) (before f.index y h)
-test_before Full low high f y e h = absurd (full e)
-  where
-    full : Full ≡ FortyEight → ⊥
-    full k = cc
-
-pub test_behind : (kind : Kind) (low high : ℕ) (f : Frame) (y : ℕ) → kind ≡ FortyEight → 8 * f.index + 8 ≤ y → frame_test kind low high f y ≡ false
-test_behind Four low high f y e h = absurd (four e)
-  where
-    four : Four ≡ FortyEight → ⊥
-    four k = cc
-test_behind Sixteen low high f y e h = absurd (sixteen e)
-  where
-    sixteen : Sixteen ≡ FortyEight → ⊥
-    sixteen k = cc
-test_behind FortyEight low high f y e h = and_false (lies low high f y) (in_word f.index y) (behind f.index y h)
-test_behind Full low high f y e h = absurd (full e)
-  where
-    full : Full ≡ FortyEight → ⊥
-    full k = cc

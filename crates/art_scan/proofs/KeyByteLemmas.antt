@@ -1,11 +1,10 @@
 -- Bytes between the key bytes of a row.
 use Rattle.std.proofs.Common.{◌≡◌, ℕ, zero, suc, ◌+◌, ◌-◌, ◌/◌, ◌%◌, ◌<◌, ◌≤◌, [], length, refl, ap, sym, ◌∙◌, Bool, true, false, arith}
-use Rattle.std.proofs.lemmas.Bool.{ne_eqb, false≢true}
+use Rattle.std.proofs.lemmas.Bool.{false≢true}
 use Rattle.std.specs.Prelude.{if◌then◌else◌, nat_le, Option, None}
 use Rattle.art_rows.specs.declared.table.Kind.{Kind}
 use Rattle.art_rows.specs.declared.table.Kind.TheVariants.{Four, Sixteen, FortyEight, Full}
 use Rattle.art_rows.specs.Words.{low_bytes, place_of, keys4_of}
-use Rattle.art_rows.proofs.ReaderLemmas.{place_none}
 use Rattle.art_rows.proofs.WriterLemmas.{length-keys4}
 use Rattle.art_setting.specs.Sound.{has_keys}
 use Rattle.art_stages.specs.declared.stage.Frame.{Frame}
@@ -14,14 +13,6 @@ use Rattle.art_stages.specs.Scans.{ScanAt, place_slot, bytes_at}
 use Rattle.art_scan.specs.Walks.{frame_slot}
 use Rattle.art_scan.proofs.ByteLemmas.{zero_left, zero_right, suc_right}
 use Rattle.art_scan.proofs.NextLemmas.{bytes_bare}
-
-pub other_key : (y n w key : ℕ) → (n ≡ 0 → ⊥) → key ≡ w % 256 → (key ≡ y → ⊥) → place_of y (low_bytes (n - 1) (w / 256)) ≡ None
-    → place_of y (low_bytes n w) ≡ None
-other_key y n w key some is apart rest = place_none y n w some (ne_eqb (w % 256) y (λ e. apart (is ∙ e))) rest
-
-pub none_at_all : (y n w : ℕ) → n ≡ 0 → place_of y (low_bytes n w) ≡ None
-none_at_all y zero w e = refl
-none_at_all y (suc n) w e = absurd (omega (arith, e))
 
 pub keys4_bytes : (w : ℕ) → keys4_of w ≡ low_bytes (length (keys4_of w)) (w / 256)
 keys4_bytes w = go (nat_le (w % 256) 4) ∙ ap (λ n. low_bytes n (w / 256)) (sym (length-keys4 w))

@@ -10,9 +10,9 @@ use Rattle.art_stages.specs.declared.stage.Frame.{Frame}
 use Rattle.art_stages.specs.declared.stage.ScanStep.{ScanStep}
 use Rattle.art_stages.specs.declared.stage.ScanStep.TheVariants.{Lock, Exchange, Wait, Info, Keys, FirstKeys, SecondKeys, Index, Child, Release, Over}
 use Rattle.art_stages.specs.Automaton.{keys_one}
-use Rattle.art_stages.specs.Scans.{Walk, ScanAt, at, on_way, with_frame, frame_of, frame_at, way_at, scan_turn, resume_at, row_begins, visit_list}
+use Rattle.art_stages.specs.Scans.{Walk, at, on_way, with_frame, frame_of, frame_at, way_at, scan_turn, resume_at, row_begins, visit_list}
 use Rattle.art_scan.specs.Sound.{is_over}
-use Rattle.art_scan.specs.Walks.{has_any, step_or}
+use Rattle.art_scan.specs.Walks.{has_any}
 
 -- a way is gone on whatever way the walk has
 pub way_same : (c : Setting) (low high : ℕ) (w : Walk) (other fs : List Frame) → way_at c low high w fs ≡ way_at c low high (on_way w other) fs
@@ -22,16 +22,6 @@ way_same c low high w other (f ∷ fs) = ap (frame_at f.row.kind low high (on_wa
 pub resume_frame : (c : Setting) (low high : ℕ) (w : Walk) (f : Frame)
     → resume_at c low high (with_frame w f) ≡ frame_at f.row.kind low high w f (resume_at c low high w)
 resume_frame c low high w f = ap (frame_at f.row.kind low high w f) (sym (way_same c low high w (f ∷ w.way) w.way))
-
-pub resume_some : (c : Setting) (low high : ℕ) (w : Walk) (f : Frame) (step : ScanStep)
-    → ((v : Walk) (other : ScanAt) → frame_at f.row.kind low high v f other ≡ step_or (Some step) v other)
-    → at step w ≡ resume_at c low high (with_frame w f)
-resume_some c low high w f step next = sym (resume_frame c low high w f ∙ next w (resume_at c low high w))
-
-pub resume_none : (c : Setting) (low high : ℕ) (w : Walk) (f : Frame)
-    → ((v : Walk) (other : ScanAt) → frame_at f.row.kind low high v f other ≡ step_or None v other)
-    → resume_at c low high w ≡ resume_at c low high (with_frame w f)
-resume_none c low high w f next = sym (resume_frame c low high w f ∙ next w (resume_at c low high w))
 
 pub begins_full : (c : Setting) (low high : ℕ) (n : Held) (w : Walk) → n.kind ≡ Full
     → resume_at c low high (with_frame w (frame_of n (keys_one 0) 0 0)) ≡ row_begins n.kind c low high n w

@@ -1,18 +1,17 @@
 -- What a place shows stands by rising number, whatever is done with the place.
-use Rattle.std.proofs.Common.{ℕ, zero, suc, ◌+◌, ◌-◌, ◌≤◌, ◌≡◌, Bool, true, false, List, [], ◌∷◌, ◌++◌, length, map, refl, sym, subst, arith}
-use Rattle.std.specs.Prelude.{nat_lt, if◌then◌else◌, take, drop, All, AllPairs, Option, Some, None}
+use Rattle.std.proofs.Common.{ℕ, zero, suc, ◌+◌, ◌≤◌, ◌≡◌, Bool, true, false, List, [], ◌∷◌, map, refl, arith}
+use Rattle.std.specs.Prelude.{nat_lt, if◌then◌else◌, All, AllPairs, Option, Some, None}
 use Rattle.std.specs.List.{range_with_len}
 use Rattle.std.proofs.lemmas.Bool.{ltb-true, ltb-false}
-use Rattle.std.proofs.lemmas.List.{take-append-drop}
 use Rattle.std.proofs.lemmas.List.Elements.{All-nil, All-cons, All-head, All-tail, All-weaker}
 use Rattle.std.proofs.lemmas.List.Kept.{AllPairs-cons}
-use Rattle.list_laws.proofs.Lists.{AllPairs-nil, AllPairs-head, AllPairs-tail, AllPairs-front, AllPairs-back}
+use Rattle.list_laws.proofs.Lists.{AllPairs-nil, AllPairs-head, AllPairs-tail}
 use Rattle.events.specs.declared.event.Call.{Call}
 use Rattle.art_core.specs.Core.{Move, Invokes, idle, after_move}
 use Rattle.art_shared.specs.declared.view.Setup.{Setup}
 use Rattle.art_shared.specs.declared.view.View.{View}
-use Rattle.art_shared.specs.Views.{Numbered, NumbersRise, view, all_idle, next_of, moved_first, moved_if, advanced, invoking}
-use Rattle.art_shared.specs.Views.{without_last, last_alone, placed, merge, merged}
+use Rattle.art_shared.specs.Views.{Numbered, NumbersRise, all_idle, next_of, moved_first, moved_if, advanced, invoking}
+use Rattle.art_shared.specs.Views.{placed, merge, merged}
 
 abbrev NotAbove : Numbered → Numbered → Type 0
 NotAbove x y = x.0 ≤ y.0
@@ -47,18 +46,6 @@ advanced-rises v n h = go (next_of v)
 
 pub invoking-rises : (call : Call) (v : View) (n : ℕ) → NumbersRise v → NumbersRise (invoking call v n)
 invoking-rises call v n h = moved-rises (Invokes call) n v.processes h
-
--- A place cut in two.
-
-pub without-last-rises : (v : View) → NumbersRise v → NumbersRise (without_last v)
-without-last-rises v h =
-    let i = length v.processes - 1 in
-    AllPairs-front NotAbove (take i v.processes) (drop i v.processes) (subst (AllPairs NotAbove) (sym (take-append-drop i v.processes)) h)
-
-pub last-alone-rises : (v : View) → NumbersRise v → NumbersRise (last_alone v)
-last-alone-rises v h =
-    let i = length v.processes - 1 in
-    AllPairs-back NotAbove (take i v.processes) (drop i v.processes) (subst (AllPairs NotAbove) (sym (take-append-drop i v.processes)) h)
 
 -- Two places made one.
 

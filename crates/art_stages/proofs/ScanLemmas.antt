@@ -115,9 +115,6 @@ words_step c lo hi again base info kept w other j zero rest on = on rest
 words_step c lo hi again base info kept w other j (suc m) rest on =
     go (filter (in_word j) (bytes_of lo hi (row_at (held base FortyEight info kept)))) refl (words_step c lo hi again base info kept w other (j + 1) m rest on)
   where
-    n : Held
-    n = held base FortyEight info kept
-
     go : (xs : List ℕ) → filter (in_word j) (bytes_of lo hi (row_at (held base FortyEight info kept))) ≡ xs
         → left c lo hi again (words_at lo hi (held base FortyEight info kept) w (j + 1) m other) rest ≡
         (words_rest c lo hi (held base FortyEight info kept) (j + 1) m (walked w) >>= scan_rest c lo hi w.way) again ends rest
@@ -282,9 +279,6 @@ visit_step c lo hi again n w rest =
     (λ v. scan_rest c lo hi (with_held n w).way v again ends) rest)
     ∙ go (has_row n.base (map row_at w.rows))
   where
-    more : Walk
-    more = record { rows = w.rows ++ n ∷ []; pairs = w.pairs; way = w.way }
-
     go : (b : Bool)
         → (walk_on c lo hi (row_at n) (walked (if b then w else record { rows = w.rows ++ n ∷ []; pairs = w.pairs; way = w.way })) >>= scan_rest c lo hi
         (if b then w else record { rows = w.rows ++ n ∷ []; pairs = w.pairs; way = w.way }).way) again ends rest

@@ -3,7 +3,7 @@ use Rattle.std.proofs.Common.{◌≡◌, ℕ, zero, suc, ◌<◌, ◌≤◌, Lis
 use Rattle.std.specs.Prelude.{if◌then◌else◌, Option}
 use Rattle.art_steps.specs.declared.access.Access.{Access}
 use Rattle.art_steps.specs.declared.access.Point.{Point}
-use Rattle.art_steps.specs.Steps.{Rest, Part, ◌>>=◌, ◌>>◌, give, start_again, access, load, load_at, store, store_at, exchange, exchange_at, add, marked}
+use Rattle.art_steps.specs.Steps.{Rest, Part, ◌>>=◌, ◌>>◌, give, start_again, access, load, load_at, store, store_at, exchange, add, marked}
 use Rattle.art_steps.specs.Steps.{first_at, calls_of, recursive, repeat, each, over}
 
 -- they agree on all lists shorter than n
@@ -117,12 +117,6 @@ then-keeps {p = p} {p' = p'} k l = record {
       k.rest again again' (λ a. p again after) (λ a. p' again' after') sa (λ a. l.rest again again' after after' sa sb);
 }
 
-pub then-delays : {A B : Type 0} {n : ℕ} {m m' : Part A} {p p' : Part B} → Delays n m m' → Keeps n p p' → Delays n (m >> p) (m' >> p')
-then-delays {p = p} {p' = p'} k l = record {
-  rest = λ again again' after after' sa sb.
-      k.rest again again' (λ a. p again after) (λ a. p' again' after') sa (λ a. l.rest again again' after after' sa sb);
-}
-
 pub if-keeps : {A : Type 0} {n : ℕ} {m m' p p' : Part A} (b : Bool) → Keeps n m m' → Keeps n p p' → Keeps n (if b then m else p) (if b then m' else p')
 if-keeps true k l = k
 if-keeps false k l = l
@@ -154,9 +148,6 @@ store-delays n word value = record { rest = λ again again' after after' sa sb. 
 pub store_at-delays : (p : Point) (n word value : ℕ) → Delays n (store_at p word value) (store_at p word value)
 store_at-delays p n word value =
     record { rest = λ again again' after after' sa sb. record { at = access-same _ _ n (λ _. after tt) (λ _. after' tt) (λ _. sb tt) } }
-
-pub exchange_at-delays : (p : Point) (n word from to : ℕ) → Delays n (exchange_at p word from to) (exchange_at p word from to)
-exchange_at-delays p n word from to = record { rest = λ again again' after after' sa sb. record { at = access-same _ _ n after after' sb } }
 
 first_at-same : {A : Type 0} (p : Point) (n : ℕ) {m m' : Part A} → Delays n m m'
     → (again again' : Rest) (after after' : A → Rest) → Same n again again' → ((a : A) → Same n (after a) (after' a))

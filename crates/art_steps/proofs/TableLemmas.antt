@@ -71,9 +71,6 @@ pub if-within : {A : Type 0} {s : Shape} {P : A → Type 0} {m p : Part A} (b : 
 if-within true k l = k refl
 if-within false k l = l refl
 
-pub weaker : {A : Type 0} {s : Shape} {P Q : A → Type 0} {m : Part A} → ((x : A) → P x → Q x) → Within s P m → Within s Q m
-weaker i k = record { rest = λ again after sa sb. k.rest again after sa (λ x h. sb x (i x h)) }
-
 pub load-within : (s : Shape) (word : ℕ) → Inside s word → Within s Any (load word)
 load-within s word h = record { rest = λ again after sa sb. access-stays s _ _ after h (λ w. sb w tt) }
 

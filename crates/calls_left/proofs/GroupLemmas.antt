@@ -10,7 +10,7 @@ use Rattle.events.specs.Precedence.{belongs}
 use Rattle.list_laws.proofs.Lists.{All-at, All-from_contains, place_of-Contains}
 use Rattle.calls_left.specs.declared.groups.KeyRange.{KeyRange}
 use Rattle.calls_left.proofs.MarkLemmas.{below_or_at}
-use Rattle.calls_left.specs.Groups.{range_of, is_within, is_apart, widest, Covers, IsClosed, IsWidened, IsGroupRange}
+use Rattle.calls_left.specs.Groups.{range_of, is_within, is_apart, widest, Covers, IsClosed, IsWidened}
 
 -- the tests as orders of keys
 pub record IsInside (range : KeyRange) (call : Call) : Type 0 where
@@ -64,9 +64,6 @@ within_in range other call h within =
     let inside_high = inside.high in
     within_from other call (omega arith) (omega arith)
 
-pub covers_self : (range : KeyRange) → Covers range range
-covers_self range = record { low = omega arith; high = omega arith }
-
 pub covers_through : (a b c : KeyRange) → Covers a b → Covers b c → Covers a c
 covers_through a b c h k =
     let h_low = h.low in
@@ -77,9 +74,6 @@ covers_through a b c h k =
 
 pub covers-widest_left : (range other : KeyRange) → Covers (widest range other) range
 covers-widest_left range other = record { low = omega arith; high = omega arith }
-
-pub covers-widest_right : (range other : KeyRange) → Covers (widest range other) other
-covers-widest_right range other = record { low = omega arith; high = omega arith }
 
 pub covers_both : (a b c : KeyRange) → Covers a b → Covers a c → Covers a (widest b c)
 covers_both a b c h k =
@@ -94,13 +88,6 @@ pub record IsWidenedBelow (calls : List Operation) (range wider : KeyRange) (i :
   pub covers : Covers wider range
   pub ties : (n : ℕ) (a : Operation) → n < i → slice_get calls n ≡ Some a → belongs a ≡ true → is_apart range a.call ≡ false → is_within wider a.call ≡ true
   pub least : (other : KeyRange) → Covers other range → IsClosed other calls → Covers other wider
-
-pub widened-none : (calls : List Operation) (range : KeyRange) → IsWidenedBelow calls range range 0
-widened-none calls range = record {
-  covers = covers_self range;
-  ties = λ n a lt. absurd (omega arith);
-  least = λ other covers closed. covers;
-}
 
 -- a call that does not belong, or is apart, changes nothing
 pub widened-skip : (calls : List Operation) (range wider : KeyRange) (i : ℕ) (a : Operation) → slice_get calls i ≡ Some a
@@ -150,28 +137,3 @@ widened-all calls range wider i le h = record {
 pub record IsGrown (calls : List Operation) (keys range : KeyRange) : Type 0 where
   pub covers : Covers range keys
   pub least : (other : KeyRange) → Covers other keys → IsClosed other calls → Covers other range
-
-pub grown-more : (calls : List Operation) (keys range wider : KeyRange) → IsGrown calls keys range → IsWidened calls range wider → IsGrown calls keys wider
-grown-more calls keys range wider h w = record {
-  covers = covers_through wider range keys w.covers h.covers;
-  least = λ other covers closed. w.least other (h.least other covers closed) closed;
-}
-
--- a range that does not grow is closed
-pub grown-end : (calls : List Operation) (keys range wider : KeyRange) → wider.low ≡ range.low → wider.high ≡ range.high → IsGrown calls keys range
-    → IsWidened calls range wider → IsGroupRange calls keys range
-grown-end calls keys range wider low high h w = record {
-  covers = h.covers;
-  closed = All-from_contains (λ a. belongs a ≡ true → (is_within range a.call ≡ true) ⊎ (is_apart range a.call ≡ true)) calls (λ a is belongs_a.
-      let (n, here) = place_of-Contains calls a is in
-      decided a (is_apart range a.call) refl (All-at (λ a. belongs a ≡ true → is_apart range a.call ≡ false → is_within wider a.call ≡ true)
-      calls n a w.ties here belongs_a));
-  least = h.least;
-}
-  where
-    decided : (a : Operation) (b : Bool) → is_apart range a.call ≡ b → (is_apart range a.call ≡ false → is_within wider a.call ≡ true)
-        → (is_within range a.call ≡ true) ⊎ (is_apart range a.call ≡ true)
-    decided a true is ties = inr is
-    decided a false is ties =
-        let covers : Covers range wider = record { low = omega arith; high = omega arith } in
-        inl (within_in wider range a.call covers (ties is))

@@ -13,7 +13,7 @@ use Rattle.events.specs.Precedence.{is_completed}
 use Rattle.list_laws.proofs.NumberLemmas.{slice_get-below}
 use Rattle.calls_left.specs.declared.left.LeftCall.{LeftCall}
 use Rattle.calls_left.specs.Left.{calls_of, marked, is_marked}
-use Rattle.calls_left.specs.Settling.{lets_go, IsLetGo, IsHeld, AreAmong, MayGo, IsSettled, AreCandidates, count_marks, IsFewerOrFree, HasTakenOut}
+use Rattle.calls_left.specs.Settling.{lets_go, IsLetGo, IsHeld, AreAmong, MayGo, AreCandidates, count_marks, IsFewerOrFree, HasTakenOut}
 
 -- the call at a place, without number and process
 pub call_at : (left : List LeftCall) (n : ℕ) (call : LeftCall) → slice_get left n ≡ Some call → slice_get (calls_of left) n ≡ Some call.operation
@@ -175,24 +175,3 @@ settling-begin calls group marks size h = record {
       let (a, here) = slice_get-below calls n (omega (arith, marked_within group n in_group)) in
       h.each n a here ∙ and_from (is_marked group n) (is_completed a) in_group (go.completed n a here marked);
 }
-
-pub settling-on : (calls : List Operation) (group old new : List Bool) (taken : Bool) → IsSettling calls group old → HasTakenOut calls old new taken
-    → IsSettling calls group new
-settling-on calls group old new taken h t = record {
-  size = t.size ∙ h.size;
-  in_group = λ n marked. h.in_group n (t.among n marked);
-  completed = λ n a here marked. h.completed n a here (t.among n marked);
-  keeps = λ others among go. t.keeps others go (h.keeps others among go);
-}
-
--- where no call is held, all are settled
-pub settling-end : (calls : List Operation) (group old new : List Bool) → IsSettling calls group old → HasTakenOut calls old new false
-    → IsSettled calls group new
-settling-end calls group old new h t =
-    let then = settling-on calls group old new false h t in
-    record {
-      size = then.size;
-      in_group = then.in_group;
-      may_go = record { completed = then.completed; let_go = λ n a here marked. t.fewer.1 n a here marked };
-      greatest = then.keeps;
-    }

@@ -1,12 +1,12 @@
 -- What the matches of a subcommand that is met hold: its name, and the values of its arguments.
-use Rattle.std.proofs.Common.{◌≡◌, ◌∙◌, ◌&&◌, ℕ, Bool, refl, sym, ap, ap₂, subst, true, List, [], ◌∷◌, Option, Some, None, codes, is_some}
+use Rattle.std.proofs.Common.{◌≡◌, ◌∙◌, ◌&&◌, ℕ, Bool, refl, sym, ap, ap₂, subst, true, List, [], ◌∷◌, Option, Some, None}
 use Rattle.std.specs.Option.{option_map, option_map_or}
 use Rattle.std.proofs.lemmas.Option.{same_Some}
 use Rattle.clap.specs.Words.{Row, Text, first_of, first_value, rows_of, subcommand_name_of, subcommand_rows_of}
 use Rattle.clap.specs.declared.parser.matches.ArgMatches.{ArgMatches}
 use Rattle.clap.specs.declared.parser.matches.Found.{Found}
 use Rattle.clap.proofs.WalkLemmas.{first_value-rows}
-use Rattle.command_line.specs.Requests.{AreCallsOf, AreNumbersOf, IsNumberOf, Meets, are_named, has_named, is_named, values_of}
+use Rattle.command_line.specs.Requests.{AreNumbersOf, IsNumberOf, Meets, are_named, has_named, is_named}
 use Rattle.command_line.specs.Tables.{Flag, Usage, usage_named}
 
 -- ---- the subcommand
@@ -27,10 +27,6 @@ pub is_met : (m : ArgMatches) (name : Text) (rows : List Row) → Some name ≡ 
     → subcommand_rows_of m ≡ Some (name, rows)
 is_met m name rows first second = by_parts (subcommand_rows_of m) name rows (first ∙ part_of _ _) second
 
--- where a subcommand is met there is one
-pub some_met : (m : ArgMatches) (table : List Usage) → Meets table (subcommand_rows_of m) → is_some (subcommand_name_of m) ≡ true
-some_met m table meets = ap is_some (part_of _ _ ∙ ap (option_map (λ (p : Text × List Row). p.0)) meets.subcommand)
-
 -- by the name and the rows that were met
 module _ (table : List Usage) (met : Option (Text × List Row)) (meets : Meets table met) (name : Text) (rows : List Row)
     (is : met ≡ Some (name, rows)) where
@@ -42,10 +38,6 @@ module _ (table : List Usage) (met : Option (Text × List Row)) (meets : Meets t
 
   named : usage_named name table ≡ Some meets.usage
   named = ap (λ (n : Text). usage_named n table) (sym (ap (λ (p : Text × List Row). p.0) both_are)) ∙ meets.named
-
-  -- the name is that of a row
-  pub some_named : is_some (usage_named name table) ≡ true
-  some_named = ap is_some named
 
   module _ (u : Usage) (found : usage_named name table ≡ Some u) where
     usage_is : meets.usage ≡ u
@@ -63,12 +55,6 @@ module _ (table : List Usage) (met : Option (Text × List Row)) (meets : Meets t
         subst (λ (v : Usage). are_named v.flags (λ n. first_of n rows) ≡ true → (ns : List ℕ) × AreNumbersOf v.flags (λ n. first_of n rows) ns) usage_is
         (subst (λ (rs : List Row). are_named meets.usage.flags (λ n. first_of n rs) ≡ true
         → (ns : List ℕ) × AreNumbersOf meets.usage.flags (λ n. first_of n rs) ns) rows_are meets.numbers)
-
-    -- and so have its calls
-    pub calls_met : (ns : List ℕ) × AreCallsOf u.takes_calls (values_of (codes "CALL") rows) ns
-    calls_met =
-        subst (λ (v : Usage). (ns : List ℕ) × AreCallsOf v.takes_calls (values_of (codes "CALL") rows) ns) usage_is
-        (subst (λ (rs : List Row). (ns : List ℕ) × AreCallsOf meets.usage.takes_calls (values_of (codes "CALL") rs) ns) rows_are meets.calls)
 
 -- ---- the numbers of options
 

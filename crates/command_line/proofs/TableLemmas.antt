@@ -150,11 +150,6 @@ free_table name u us =
 
 -- ---- finding a subcommand
 
--- a first choice that is false leaves the second
-pub or_none : (b : Bool) → (b || false) ≡ b
-or_none true = refl
-or_none false = refl
-
 -- both of two
 pub both : (a b : Bool) → (a && b) ≡ true → (a ≡ true) × (b ≡ true)
 both true true h = (refl, refl)

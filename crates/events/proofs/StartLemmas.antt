@@ -10,14 +10,10 @@ use Rattle.std.proofs.lemmas.List.{length-append}
 use Rattle.std.proofs.lemmas.List.Elements.{All-head, All-tail, All-weaker}
 use Rattle.std.proofs.lemmas.List.Folds.{list_all_at}
 use Rattle.std.proofs.lemmas.List.Quantifiers.{all_pairs_push}
-use Rattle.list_laws.proofs.Lists.{AllPairs-across, AllPairs-nil}
+use Rattle.list_laws.proofs.Lists.{AllPairs-across}
 use Rattle.events.specs.Limits.{start_limit}
 use Rattle.events.specs.Starts.{KeysRise, IsStart}
 use Rattle.events.specs.HistoryFaults.{is_above, pair_fault_after}
-
--- no pairs are pairs that a history may start with
-pub IsStart-nil : IsStart []
-IsStart-nil = record { rising = AllPairs-nil (λ (a : ℕ × ℕ) (b : ℕ × ℕ). a.0 < b.0); few = omega arith }
 
 -- a key above all others is above them
 is_above-true : (before : List (ℕ × ℕ)) (key : ℕ) → All (λ pair. pair.0 < key) before → is_above before key ≡ true

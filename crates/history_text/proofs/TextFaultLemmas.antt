@@ -21,7 +21,7 @@ use Rattle.history_text.specs.Limits.{text_limit}
 use Rattle.history_text.specs.Texts.{pair_data, event_data, document, start_data, start_pairs, may_stand, IsJson, Spells}
 use Rattle.history_text.specs.TextFaults.{IsPairFaultAfter, ShowsPairFault, SpellsNoEvent, IsFaultAfter, AreEventsOfText, ShowsEventFault}
 use Rattle.history_text.specs.TextFaults.{IsDocumentFault, IsTextFault}
-use Rattle.history_text.specs.ValueFaults.{IsPairFaultAmong, ShowsPairFaultAmong, ShowsFaultAmong, IsFaultAmong}
+use Rattle.history_text.specs.ValueFaults.{ShowsFaultAmong, IsFaultAmong}
 use Rattle.history_text.specs.TextLaws.{HasOneFault, FaultySpellsNoHistory}
 use Rattle.events.proofs.HistoryLemmas.{AreHistoryEvents-next}
 use Rattle.events.proofs.StartLemmas.{IsStart-next}
@@ -259,33 +259,7 @@ fault_of_document text d (faults.NotWellFormed at) json h = (d, json, h)
 fault_of_document text d faults.Memory json h = tt
 fault_of_document text d (faults.Start at) json h = (d, json, h)
 
--- a fault among the values of the start is one of the document
-pub fault_of_start : (d : Data) (items events : List Data) (fault : HistoryFault) → d ≡ document (Some items) events → IsPairFaultAmong items fault
-    → IsDocumentFault d fault
-fault_of_start d items events fault is h = by_fault fault h
-  where
-    shown : (g : HistoryFault) → ShowsPairFaultAmong items g → ShowsPairFault d g
-    shown g k = record {
-      before = k.before;
-      next = k.next;
-      rest = k.rest;
-      events = events;
-      parts = is ∙ ap (λ (xs : List Data). document (Some xs) events) k.parts;
-      start = k.start;
-      shows = k.shows;
-    }
-
-    by_fault : (g : HistoryFault) → IsPairFaultAmong items g → IsDocumentFault d g
-    by_fault faults.TooLong k = ⊎_elim (λ a. let e = a.0 in cc) (λ a. let e = a.0 in cc) k.shows
-    by_fault faults.NotJson k = ⊎_elim (λ a. let e = a.0 in cc) (λ a. let e = a.0 in cc) k.shows
-    by_fault faults.Version k = λ start more same. ⊎_elim (λ a. let e = a.0 in cc) (λ a. let e = a.0 in cc) k.shows
-    by_fault (faults.Shape at) k = inl (shown (faults.Shape at) k)
-    by_fault faults.TooMany k = inl (shown faults.TooMany k)
-    by_fault (faults.NotWellFormed at) k = inl (shown (faults.NotWellFormed at) k)
-    by_fault faults.Memory k = tt
-    by_fault (faults.Start at) k = inl (shown (faults.Start at) k)
-
--- and one among the values of the events, where nothing is wrong with the start
+-- a fault among the values of the events is one of the document, where nothing is wrong with the start
 pub fault_of_events : (d : Data) (start : Option (List (ℕ × ℕ))) (items : List Data) (fault : HistoryFault) → d ≡ document (start_data start) items
     → IsStart (start_pairs start) → IsFaultAmong (is_some start) items fault → IsDocumentFault d fault
 fault_of_events d start items fault is sound h = by_fault fault h

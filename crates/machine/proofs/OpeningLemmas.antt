@@ -2,7 +2,6 @@
 use Rattle.std.proofs.Common.{◌≡◌, ℕ, zero, suc, ◌+◌, ◌<◌, ◌^◌, List, [], ◌∷◌, ◌++◌, length, map, sum, arith, refl, ap, sym, subst, ◌∙◌, append_assoc}
 use Rattle.std.specs.Prelude.{Option, Some, None, slice_get, replicate}
 use Rattle.std.specs.List.{AllZip}
-use Rattle.std.proofs.lemmas.List.{append-nil}
 use Rattle.std.proofs.lemmas.List.Sums.{sum-map}
 use Rattle.std.proofs.lemmas.List.Folds.{sum_by-replicate}
 use Rattle.list_laws.proofs.ZipLemmas.{zip_right}
@@ -30,9 +29,6 @@ zip-push [] (z ∷ ys) x y h k = absurd h
 zip-push (w ∷ xs) [] x y h k = absurd h
 zip-push (w ∷ xs) (z ∷ ys) x y h k = (h.0, zip-push xs ys x y h.1 k)
 
-pub half-none : (all : List (List Call)) → AreHalfOpened all all []
-half-none all = record { done = []; parts = refl; fresh = tt }
-
 pub half-more : (all rest more : List (List Call)) (script : List Call) (runners : List Runner) (r : Runner) → AreHalfOpened all rest runners
     → rest ≡ script ∷ more → IsFresh script r
     → AreHalfOpened all more (runners ++ r ∷ [])
@@ -41,9 +37,6 @@ half-more all rest more script runners r h e k = record {
   parts = h.parts ∙ (ap (λ l. h.done ++ l) e ∙ sym (append_assoc h.done (script ∷ []) more));
   fresh = zip-push h.done runners script r h.fresh k;
 }
-
-pub half-all : (all rest : List (List Call)) (runners : List Runner) → AreHalfOpened all rest runners → rest ≡ [] → AllZip IsFresh all runners
-half-all all rest runners h e = subst (λ l. AllZip IsFresh l runners) (sym (h.parts ∙ (ap (λ l. h.done ++ l) e ∙ append-nil h.done))) h.fresh
 
 pub zip-length : (xs : List (List Call)) (ys : List Runner) → AllZip IsFresh xs ys → length xs ≡ length ys
 zip-length [] [] h = refl

@@ -10,7 +10,7 @@ use Rattle.art_core.specs.declared.item.Item.TheVariants.{End, Until}
 use Rattle.art_core.specs.declared.process.Process.{Process}
 use Rattle.art_core.specs.Core.{Plan, State, step}
 use Rattle.art_core.specs.NamedTurns.{process_of_item, next_point, point_in, finished_count, WantsTurn, AreMade}
-use Rattle.art_core.proofs.NamedTurnLemmas.{made-none, made-more, whole-more}
+use Rattle.art_core.proofs.NamedTurnLemmas.{made-more, whole-more}
 use Rattle.machine.specs.declared.runner.Runner.{Runner}
 use Rattle.machine.specs.declared.machines.Machine.{Machine}
 use Rattle.machine.specs.declared.fault.MachineFault.{MachineFault}
@@ -84,9 +84,6 @@ pub record HasMadeTurns (plan : Plan) (item : Item) (first : State) (made : ℕ)
   pub turns : AreMade plan item first made state
   pub shows : Shows plan m state
 
-pub turns-none : (plan : Plan) (item : Item) (s : State) (m : Machine) → Shows plan m s → HasMadeTurns plan item s 0 m
-turns-none plan item s m shows = record { state = s; turns = made-none plan item s; shows = shows }
-
 pub turns-more : (plan : Plan) (item : Item) (s : State) (made : ℕ) (m next : Machine) (h : HasMadeTurns plan item s made m)
     → WantsTurn plan item s made h.state → IsSomeAnd (step plan h.state (process_of_item item)) (λ t. Shows plan next t)
     → HasMadeTurns plan item s (made + 1) next
@@ -119,9 +116,6 @@ turns-stopped plan item s left made p fault m next h wants own costs same shows 
 }
 
 -- Items, one after another.
-
-pub all-none : (plan : Plan) (s : State) (m : Machine) → Shows plan m s → HasMadeAll plan [] s (turns_left m) m
-all-none plan s m shows = record { state = s; made = 0; turns = (refl, refl); shows = shows; costs = omega arith }
 
 pub all-more : (plan : Plan) (items : List Item) (item : Item) (s : State) (left : ℕ) (m next : Machine) (h : HasMadeAll plan items s left m)
     → HasMadeItem plan item h.state (turns_left m) next → HasMadeAll plan (items ++ item ∷ []) s left next

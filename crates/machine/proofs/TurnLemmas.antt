@@ -1,6 +1,6 @@
 -- A task that fits still fits after its access.
-use Rattle.std.proofs.Common.{◌≡◌, ℕ, ◌+◌, ◌%◌, ◌^◌, List, [], ◌∷◌, ◌++◌, length, refl, ap, sym, subst, ◌∙◌, false}
-use Rattle.std.specs.Prelude.{Option, Some, None, is_some, slice_get, slice_index, slice_set, filter_map}
+use Rattle.std.proofs.Common.{◌≡◌, ℕ, ◌+◌, ◌%◌, ◌^◌, List, [], ◌∷◌, ◌++◌, length, refl, ap, sym, subst, ◌∙◌}
+use Rattle.std.specs.Prelude.{Option, Some, None, slice_get, slice_index, slice_set, filter_map}
 use Rattle.std.proofs.lemmas.List.{append-nil, length-append}
 use Rattle.std.proofs.lemmas.List.Elements.{filter_map-append}
 use Rattle.events.specs.declared.event.Event.TheVariants.{Invoke, Answer}
@@ -23,13 +23,6 @@ use Rattle.art_core.specs.Accesses.{got_by, words_after}
 use Rattle.art.specs.Doings.{FitsDoing, after_access}
 use Rattle.art.proofs.DoingLemmas.{next-asks, fits-after}
 use Rattle.machine.specs.Fitting.{Advances, FitsProcess, Moves}
-
-pub unanswered : (o : Option Reply) → is_some o ≡ false → o ≡ None
-unanswered None h = refl
-unanswered (Some r) h = absurd (true_false h)
-  where
-    true_false : is_some (Some r) ≡ false → ⊥
-    true_false k = cc
 
 -- the task took what the access got: it goes on, or its call is answered
 pub taken : (shape : Shape) (variant : Variant) (call : Call) (got old new : List ℕ) (rest : Rest) (a : Access) (w : ℕ) → Fits shape variant call got rest

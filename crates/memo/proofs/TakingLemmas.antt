@@ -1,5 +1,5 @@
 -- What a rising list of places with one more holds.
-use Rattle.std.proofs.Common.{◌≡◌, ℕ, ◌+◌, ◌<◌, true, false, List, ◌∷◌, nat_lt, sym, subst, inl, inr, ⊎_elim}
+use Rattle.std.proofs.Common.{◌≡◌, ℕ, ◌+◌, ◌<◌, true, List, ◌∷◌, nat_lt, sym, subst, inl, inr, ⊎_elim}
 use Rattle.std.proofs.Common.{arith}
 use Rattle.std.specs.Prelude.{◌⊎◌, ◌↔◌, filter, All, AllPairs, Contains}
 use Rattle.std.specs.List.Sorted.{IsStrictlyIncreasing}
@@ -14,10 +14,6 @@ use Rattle.memo.specs.Taking.{with_place}
 -- a number below another passes the test
 below_passes : (place n : ℕ) → n < place → nat_lt n place ≡ true
 below_passes place n h = grind (arith, nat_tests)
-
--- a number above another fails the test
-above_fails : (place n : ℕ) → place < n → nat_lt n place ≡ false
-above_fails place n h = grind (arith, nat_tests)
 
 -- a number that passes the test is below the other
 below_from_passes : (place n : ℕ) → nat_lt n place ≡ true → n < place

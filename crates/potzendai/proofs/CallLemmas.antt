@@ -1,5 +1,5 @@
 -- What is told is a call's, and what its status says of the text.
-use Rattle.std.proofs.Common.{◌≡◌, ℕ, List, length, inl, inr, refl, Some}
+use Rattle.std.proofs.Common.{◌≡◌, ℕ, List, length, inl, refl, Some}
 use Rattle.events.specs.HistoryView.{HistoryView}
 use Rattle.events.specs.Operations.{operations}
 use Rattle.orders.specs.Orders.{IsLinearizableHistory}
@@ -10,9 +10,8 @@ use Rattle.outcomes.specs.declared.outcome.Answer.TheVariants.{Yes, No, Undecide
 use Rattle.outcomes.specs.declared.outcome.Outcome.{Outcome}
 use Rattle.outcomes.specs.declared.outcome.Outcome.TheVariants.{Answered, Refused, Memory, Words, Failed}
 use Rattle.outcomes.specs.Outcomes.{IsTextOutcome}
-use Rattle.outcomes.specs.Statuses.{words_status}
 use Rattle.history_engines.specs.Answers.{answer_of, IsHistoryRefusal, IsJudgeAnswer}
-use Rattle.potzendai.specs.Calls.{budget_line, IsBudget, IsCall, status_of, text_of, written}
+use Rattle.potzendai.specs.Calls.{IsBudget, IsCall, status_of, text_of, written}
 use Rattle.potzendai.specs.Verdicts.{SpellsLinearizable, SpellsUnlinearizable}
 
 -- an outcome is told
@@ -22,17 +21,6 @@ pub IsCall-outcome : (IsOutcome : Outcome → Type 0) (budget : ℕ) (before aft
 IsCall-outcome IsOutcome budget before after size status outcome within comes status_is size_is room = record {
   text = text_of outcome;
   told = inl (record { outcome = outcome; is_budget = within; comes = comes; status_is = status_is; text_is = refl });
-  size_is = size_is;
-  room = room;
-}
-
--- that the budget is none is told
-pub IsCall-budget : (IsOutcome : Outcome → Type 0) (budget : ℕ) (before after : List ℕ) (size status : ℕ)
-    → (IsBudget budget → ⊥) → status ≡ words_status → size ≡ length budget_line → after ≡ written budget_line before
-    → IsCall IsOutcome budget before after size status
-IsCall-budget IsOutcome budget before after size status none status_is size_is room = record {
-  text = budget_line;
-  told = inr (record { is_none = none; status_is = status_is; text_is = refl });
   size_is = size_is;
   room = room;
 }

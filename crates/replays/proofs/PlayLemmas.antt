@@ -1,5 +1,5 @@
 -- From what a machine says of a run to what is said of a replay.
-use Rattle.std.proofs.Common.{◌≡◌, ◌⊎◌, inl, inr, ℕ, ◌+◌, ◌≤◌, List, Bool, true, false, if◌then◌else◌, Result, Ok, Err, IfOk, IfErr, refl, arith, subst, sym}
+use Rattle.std.proofs.Common.{◌≡◌, ℕ, List, Bool, true, false, if◌then◌else◌, Result, Ok, Err, IfOk, IfErr, arith, subst}
 use Rattle.events.specs.HistoryView.{HistoryView}
 use Rattle.map_object.specs.MapObject.{Contents}
 use Rattle.art_core.specs.declared.item.Item.{Item}
@@ -10,11 +10,9 @@ use Rattle.machine.specs.declared.fault.MachineFault.{MachineFault}
 use Rattle.machine.specs.declared.fault.RunFault.{RunFault}
 use Rattle.machine.specs.Running.{HasStoppedAt}
 use Rattle.replay_text.specs.Replays.{ReplayView}
-use Rattle.replay_text.specs.ReplayTexts.{SpellsReplay}
-use Rattle.replay_text.specs.ReplayTextFaults.{IsReplayTextFault}
 use Rattle.replays.specs.declared.fault.ReplayFault.{ReplayFault}
 use Rattle.replays.specs.declared.fault.ReplayFault.TheVariants as faults
-use Rattle.replays.specs.Played.{is_memory, Records, StopsAt, plan_in, Plays, Stops, IsUnrecorded, IsUnplayedFor, IsPlayed, IsUnplayed}
+use Rattle.replays.specs.Played.{is_memory, Records, StopsAt, plan_in, Plays, IsUnrecorded, IsUnplayedFor}
 
 -- what holds of an answer may be said otherwise
 pub if_ok : {A E : Type 0} {P Q : A → Type 0} (result : Result A E) → ((a : A) → P a → Q a) → IfOk result P → IfOk result Q
@@ -54,16 +52,6 @@ pub unplayed-run : (r : ReplayView) (words : List ℕ) (fault : ReplayFault) →
 unplayed-run r words (faults.Replay fault) starts h = absurd h
 unplayed-run r words (faults.Schedule stop) starts h = (h.0, record { words = words; starts = starts; stops = h.1 })
 unplayed-run r words faults.Memory starts h = tt
-
-pub unplayed : (text : List ℕ) (r : ReplayView) (fault : ReplayFault) → SpellsReplay text r → IsUnplayedFor r fault → IsUnplayed text fault
-unplayed text r (faults.Replay fault) spells h = inr (r, spells, h)
-unplayed text r (faults.Schedule stop) spells h = (r, spells, h)
-unplayed text r faults.Memory spells h = tt
-
-pub unread : (text : List ℕ) (fault : MachineFault) (b : Bool) → is_memory fault ≡ b → IsReplayTextFault text fault
-    → IsUnplayed text (if b then faults.Memory else faults.Replay fault)
-unread text fault true e h = tt
-unread text fault false e h = inl (e, h)
 
 -- the same with the schedule, the turns and the pairs of the machine
 pub plays-as : (r : ReplayView) (words : List ℕ) (items : List Item) (left : ℕ) (start : Contents) (history : HistoryView) → items ≡ r.schedule → left ≡ r.limit

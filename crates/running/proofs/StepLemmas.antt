@@ -1,6 +1,6 @@
 -- A step of a process as a thread runs it is a step of the process that it fits.
 use Rattle.std.proofs.Common.{◌≡◌, ℕ, zero, suc, ◌+◌, IsTrue, List, [], ◌∷◌, ◌++◌, length, refl, sym, ap, subst, ◌∙◌, arith}
-use Rattle.std.specs.Prelude.{Option, Some, None, MatchOption, is_some}
+use Rattle.std.specs.Prelude.{Option, Some, None, MatchOption}
 use Rattle.std.proofs.lemmas.List.{append-nil, length-append}
 use Rattle.std.proofs.lemmas.List.Elements.{filter_map-append}
 use Rattle.events.specs.declared.event.Call.{Call}
@@ -25,7 +25,6 @@ use Rattle.art_shared.specs.Views.{Numbered, view, open_move, next_in, next_of, 
 use Rattle.running.specs.declared.runner.Runner.{Runner}
 use Rattle.running.specs.Fitting.{FitsProcess, others_of, IsFirst, IsBeside}
 use Rattle.running.specs.Steps.{is_open, Ran, HasReplied}
-use Rattle.running.proofs.FitLemmas.{open-is}
 
 -- What a call does next.
 
@@ -45,9 +44,6 @@ module _ (v w : View) (number : ℕ) (old new : Runner) (first : IsFirst v numbe
   pub first-now : FitsProcess v.setup (number, q) (number, new) → IsFirst w number new
   first-now fits = subst (λ z. IsFirst z number new) (sym is) (record { process = q; is = refl; fits = fits })
 
-  pub beside-now : IsBeside v w
-  beside-now = record { setup = ap (λ z. z.setup) is; others = ap others_of is }
-
 -- The open call of the first process goes on, with room for what its next access gets.
 module _ (v : View) (number : ℕ) (r : Runner) (task : Task) (first : IsFirst v number r) (going : r.doing ≡ Going task) where
   abbrev q : Process
@@ -58,21 +54,6 @@ module _ (v : View) (number : ℕ) (r : Runner) (task : Task) (first : IsFirst v
 
   under_way : FitsDoing setup.shape setup.variant (Going task) q.call q.got
   under_way = subst (λ d. FitsDoing setup.shape setup.variant d q.call q.got) going first.fits.doing
-
-  -- it has taken room, and no more
-  pub first-ready : (later : Task) (new : Runner) → ((rest : List ℕ) → rest_of later rest ≡ rest_of task rest) → new.doing ≡ Going later
-      → new.left ≡ r.left → new.log.items ≡ r.log.items → IsFirst v number new
-  first-ready later new same is left log = record {
-    process = q;
-    is = first.is;
-    fits = record {
-      number = refl;
-      doing = subst (λ d. FitsDoing setup.shape setup.variant d q.call q.got) (sym is)
-          (under_way.0, under_way.1, λ more. same more ∙ under_way.2 more);
-      left = ap (λ k. length (begun q) + k) left ∙ first.fits.left;
-      log = first.fits.log ∙ sym log;
-    };
-  }
 
   module _ (rest : Rest) (same : (more : List ℕ) → rest more ≡ rest_of task more) (a : Access) (asks : access_of (rest []) ≡ Some a) where
     abbrev c : Call
@@ -89,13 +70,6 @@ module _ (v : View) (number : ℕ) (r : Runner) (task : Task) (first : IsFirst v
     module _ (w : View) (n : ℕ) (made : w ≡ advanced v n) where
       moved-view : w ≡ view setup ((number, after_move number (Makes a) n q) ∷ others_of v)
       moved-view = made ∙ advanced-is v (Makes a) number q (others_of v) first.is next-access n
-
-      pub access-beside : IsBeside v w
-      access-beside = beside-now v w number r r first (after_move number (Makes a) n q) moved-view
-
-      pub access-open : IsTrue (is_open w)
-      access-open =
-          open-is w number (after_move number (Makes a) n q) (others_of v) (ap (λ z. z.processes) moved-view) ∙ ap is_some under_way.1
 
       pub access-first : (later : Task) (o : Option Reply) (new : Runner) → told a n ≡ n → reply_of (rest (n ∷ [])) ≡ o
           → (o ≡ None → (more : List ℕ) → rest_of later more ≡ rest (n ∷ more)) → new.doing ≡ after_access later o
@@ -140,9 +114,6 @@ module _ (v : View) (number : ℕ) (r : Runner) (reply : Reply) (first : IsFirst
       log = refl;
     }
 
-    pub response-beside : IsBeside v w
-    response-beside = beside-now v w number r r first (after_move number (Responds reply) n p) answered-view
-
     pub response-first : (new : Runner) → new.left ≡ r.left → new.log.items ≡ r.log.items ++ (n, Answer number reply) ∷ [] → new.doing ≡ Idle
         → IsFirst w number new
     response-first new left log idle = first-now v w number r new first (after_move number (Responds reply) n p) answered-view (record {
@@ -162,9 +133,6 @@ module _ (v : View) (number : ℕ) (r : Runner) (first : IsFirst v number r) (ca
 
   invoked-view : w ≡ view v.setup ((number, after_move number (Invokes call) n o) ∷ others_of v)
   invoked-view = made ∙ ap (λ xs. view v.setup (moved_first (Invokes call) n xs)) first.is
-
-  pub invoke-beside : IsBeside v w
-  invoke-beside = beside-now v w number r r first (after_move number (Invokes call) n o) invoked-view
 
   pub invoke-first : (new : Runner) (task : Task) → new.left + 1 ≡ r.left → new.log.items ≡ r.log.items ++ (n, Invoke number call) ∷ []
       → new.doing ≡ Going task → ((rest : List ℕ) → rest_of task rest ≡ act v.setup.shape v.setup.variant call rest) → IsFirst w number new
@@ -193,9 +161,6 @@ beside-same v w e = record { setup = ap (λ z. z.setup) e; others = ap others_of
 
 pub beside-after : (u v w : View) → IsBeside u v → IsBeside v w → IsBeside u w
 beside-after u v w a b = record { setup = b.setup ∙ a.setup; others = b.others ∙ a.others }
-
-pub first-same : (v w : View) (number : ℕ) (r : Runner) → w ≡ v → IsFirst v number r → IsFirst w number r
-first-same v w number r e f = subst (λ z. IsFirst z number r) (sym e) f
 
 -- what a step told
 pub told-some : (w : View) (o : Option Reply) (reply : Reply) → o ≡ Some reply → MatchOption o (IsTrue (is_open w)) (λ r. HasReplied r w) → HasReplied reply w

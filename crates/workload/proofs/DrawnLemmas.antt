@@ -11,7 +11,7 @@ use Rattle.events.specs.declared.event.Call.{Call}
 use Rattle.art_steps.specs.TreeCalls.{is_tree_call}
 use Rattle.plans.specs.Plans.{AreScripts}
 use Rattle.workload.specs.declared.mix.Mix.{Mix}
-use Rattle.workload.specs.Drawn.{generator_of, key_by, scan_between, call_by, next_call, calls_drawn}
+use Rattle.workload.specs.Drawn.{generator_of, key_by, call_by, next_call, calls_drawn}
 use Rattle.workload.specs.Mixes.{HasKeys, AreWithin}
 use Rattle.workload.specs.Workloads.{script_of, scripts_of}
 
@@ -49,9 +49,6 @@ All-given P f h ps = All-map P f ps (λ k d _. h _)
 -- a key that is drawn is one that a tree can hold
 key_by-small : (mix : Mix) (word : ℕ) → mix.lo ≤ mix.hi → mix.hi < 2 ^ 32 → key_by mix word < 2 ^ 32
 key_by-small mix word le lt = grind arith
-
-scan_between-tree : (key other : ℕ) → key < 2 ^ 32 → other < 2 ^ 32 → IsTrue (is_tree_call (scan_between key other))
-scan_between-tree key other small fits = grind (arith, tests)
 
 call_by-tree : (mix : Mix) (share key : ℕ) (g : Lcg) → mix.lo ≤ mix.hi → mix.hi < 2 ^ 32 → key < 2 ^ 32 → IsTrue (is_tree_call (call_by mix share key g).0)
 call_by-tree mix share key g le lt small = grind (arith, tests)
