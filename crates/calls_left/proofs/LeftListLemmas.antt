@@ -20,7 +20,7 @@ use Rattle.list_laws.proofs.FilterLemmas.{Contains-map, Contains-from_map, Conta
 use Rattle.list_laws.proofs.NumberLemmas.{has_number-Contains}
 use Rattle.segments.specs.SegmentView.{NamesKeysWithin}
 use Rattle.quiet_cuts.specs.TimeCuts.{InvocationsRise}
-use Rattle.quiet_cuts.specs.RangeCuts.{early_of, late_of, IsRangeCut, HaveKeysApart}
+use Rattle.quiet_cuts.specs.RangeCuts.{HaveKeysApart, early_of, late_of, IsRangeCut}
 use Rattle.quiet_cuts.specs.Steps.{places_of}
 use Rattle.quiet_cuts.specs.KeptCalls.{answered_at}
 use Rattle.calls_left.specs.declared.groups.KeyRange.{KeyRange}
@@ -110,10 +110,10 @@ unmarked_are_late left marks rise size =
     ∙ marked-map (λ a. not (is_early_by marks calls a)) calls))
 
 -- a call that was invoked elsewhere stays as it is
-unanswered : (inv res : ℕ) (reply : Reply) (a : Operation) → (a.inv ≡ inv → ⊥) → answered_at inv res reply a ≡ a
+pub unanswered : (inv res : ℕ) (reply : Reply) (a : Operation) → (a.inv ≡ inv → ⊥) → answered_at inv res reply a ≡ a
 unanswered inv res reply a other = rw (ne_eqb a.inv inv other) refl
 
-answered_here : (res : ℕ) (reply : Reply) (a : Operation)
+pub answered_here : (res : ℕ) (reply : Reply) (a : Operation)
     → answered_at a.inv res reply a ≡ record { call = a.call; inv = a.inv; response = Some (record { res = res; reply = reply }) }
 answered_here res reply a = rw (eq-eqb a.inv a.inv refl) refl
 
@@ -159,7 +159,7 @@ early_at calls marks n a rise size here =
     ∙ get_or_from_slice_get (map p calls) n (p a) false (slice_get-map p calls n ∙ ap (option_map p) here)
 
 -- a call that is apart from the range of another has keys apart from it
-apart_calls : (a b : Operation) → is_apart (range_of b.call) a.call ≡ true → HaveKeysApart a.call b.call
+pub apart_calls : (a b : Operation) → is_apart (range_of b.call) a.call ≡ true → HaveKeysApart a.call b.call
 apart_calls a b h = ⊎_elim
     (λ below. inl (ltb-true (high_key a.call) (low_key b.call) below))
     (λ above. inr (ltb-true (high_key b.call) (low_key a.call) above))
@@ -178,7 +178,7 @@ settled_are_a_cut calls marks rise size go = record {
 }
 
 -- keys of a range and keys that are apart from it
-parts_of : (range : KeyRange) (a b : Operation) → is_within range a.call ≡ true → is_apart range b.call ≡ true → HaveKeysApart a.call b.call
+pub parts_of : (range : KeyRange) (a b : Operation) → is_within range a.call ≡ true → is_apart range b.call ≡ true → HaveKeysApart a.call b.call
 parts_of range a b within apart =
     let parts = and_parts (nat_le range.low (low_key a.call)) (nat_le (high_key a.call) range.high) within in
     let low = leb-true range.low (low_key a.call) parts.0 in

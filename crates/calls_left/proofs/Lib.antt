@@ -1,3 +1,3 @@
 pub mod LeftListLemmas
 mod GroupLemmas
-mod MarkLemmas
+pub mod MarkLemmas

@@ -9,12 +9,11 @@ use Rattle.orders.specs.Orders.{after_calls, calls_at, IsOrder, IsLinearizable}
 use Rattle.segments.specs.SegmentView.{NamesKeysWithin}
 use Rattle.quiet_cuts.specs.Leaves.{Leaves}
 use Rattle.quiet_cuts.specs.TimeCuts.{InvocationsRise}
-use Rattle.quiet_cuts.specs.RangeCuts.{early_of, late_of, HaveKeysApart}
+use Rattle.quiet_cuts.specs.RangeCuts.{HaveKeysApart, early_of, late_of}
 
 -- a test parts the calls into two groups with keys apart
 abbrev pub PartsKeys : List Operation → (Operation → Bool) → Type 0
-PartsKeys calls is_here = (a b : Operation) → Contains calls a → Contains calls b → is_here a ≡ true → is_here b ≡ false
-    → HaveKeysApart a.call b.call
+PartsKeys calls is_here = (a b : Operation) → Contains calls a → Contains calls b → is_here a ≡ true → is_here b ≡ false → HaveKeysApart a.call b.call
 
 -- calls have an order exactly where each of two groups with keys apart has one
 abbrev pub GroupsJudge : Type 0

@@ -1,0 +1,13 @@
+pub mod PlaceLemmas
+mod InvokeLemmas
+pub mod JudgeLemmas
+mod AnswerLemmas
+pub mod SettleLemmas
+mod FollowLemmas
+mod ViewLemmas
+mod HeldLemmas
+mod HoldLemmas
+mod PairRangeLemmas
+mod GroupSearchLemmas
+mod GoneLemmas
+mod FaultLemmas

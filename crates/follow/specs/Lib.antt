@@ -1,0 +1,10 @@
+pub mod FollowerView
+pub mod Following
+pub mod Judging
+pub mod Steps
+pub mod Sparing
+pub mod Laws
+pub mod Faults
+pub mod Parts
+pub mod Settlements
+pub mod Outcomes

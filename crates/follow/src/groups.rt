@@ -1,0 +1,72 @@
+// The group of an answered call, and its search.
+ghost use Rattle.std.specs.Prelude.{◌≡◌, ◌<◌, length, Some, slice_get, IfOk};
+ghost use Rattle.map_object.specs.MapObject.{within};
+ghost use Rattle.call_search.specs.Found.{IsFound};
+ghost use Rattle.follow.specs.Parts.{IsSearchable, IsGroupAt};
+
+use crate::answered::Loss;
+use crate::standing::Standing;
+use call_search::{Found, search_calls};
+use calls_left::{KeyRange, LeftCall, group_of, group_range, marked_calls};
+use events::{Memory, Operation};
+use map_object::SortedMap;
+use std::alloc::Global;
+
+/// The group of an answered call: which calls left are in it, and what is searched.
+#[derive(Drop)]
+pub struct Group {
+    pub marks: Vec<bool>,
+    pub part: Loss,
+}
+
+/// The group of the call left at a place, which an event answered.
+pub(crate) fn group_at(
+    alloc: Global,
+    standing: &Standing,
+    place: usize,
+    event: usize,
+) -> Result<Group, Memory>
+    requires { place < length standing.now.left }
+    ensures group { (call : LeftCall) → slice_get standing.now.left place ≡ Some call
+        → IfOk result (IsGroupAt standing.now call event) }
+    ensures searchable { IfOk result (λ group. IsSearchable group.part.start.items group.part.calls.items) }
+{
+    let left = standing.left();
+    let range = group_range(left, KeyRange::of(&left[place].operation.call));
+    let marks = group_of(alloc, left, range)?;
+    let calls = marked_calls(alloc, left, &marks)?;
+    let start = pairs_of(alloc, standing.known(), range)?;
+    let part = Loss {
+        event,
+        number: left[place].number,
+        range,
+        start,
+        calls,
+    };
+    Ok(Group { marks, part })
+}
+
+/// The pairs of a range.
+fn pairs_of(alloc: Global, map: &SortedMap, range: KeyRange) -> Result<Vec<(u64, u64)>, Memory>
+    ensures { IfOk result (λ pairs. pairs.items ≡ within range.low range.high map.now) }
+{
+    let pairs = map.pairs();
+    let from = pairs.partition_point(|pair| pair.0 < range.low);
+    let rest = &pairs[from..];
+    let count = rest.partition_point(|pair| pair.0 <= range.high);
+    Ok(Vec::from_slice(alloc, &rest[..count])?)
+}
+
+/// Searches calls for an order from some pairs.
+pub(crate) fn search_part(
+    alloc: Global,
+    start: &[(u64, u64)],
+    calls: &[Operation],
+    budget: u32,
+) -> Result<Found, Memory>
+    requires { IsSearchable start.now calls.now }
+    ensures { IfOk result (IsFound start.now calls.now budget) }
+{
+    let map = SortedMap::of(alloc, start)?;
+    search_calls(alloc, map, calls, budget)
+}
