@@ -40,7 +40,7 @@ has_float-reply (replies.Pairs pairs) = items_have_float-map pair_data (λ pair.
 has_float-reply replies.Refused = refl
 
 -- an event has no float
-has_float-event : (e : Event) → has_float (event_data e) ≡ false
+pub has_float-event : (e : Event) → has_float (event_data e) ≡ false
 has_float-event (Invoke p call) = rw (has_float-call call) refl
 has_float-event (Answer p reply) = rw (has_float-reply reply) refl
 
@@ -76,7 +76,7 @@ depth-reply (replies.Pairs pairs) = omega (arith, items_depth-map pair_data 1 (�
 depth-reply replies.Refused = omega arith
 
 -- an event nests three deep at most
-depth-event : (e : Event) → depth (event_data e) ≤ 3
+pub depth-event : (e : Event) → depth (event_data e) ≤ 3
 depth-event (Invoke p call) = omega (arith, depth-call call)
 depth-event (Answer p reply) = omega (arith, depth-reply reply)
 

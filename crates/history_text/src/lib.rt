@@ -10,10 +10,10 @@ mod write_text;
 
 pub use json_fault::JsonFault;
 pub use json_text::json_of;
-pub use read_event::{call_of, pairs_of, two_members};
+pub use read_event::{call_of, may_stand, pair_of, pairs_of, reply_of, two_members};
 pub use read_text::read_history;
 pub use text_laws::{one_history, one_text_fault};
-pub use write_text::{call_value, pairs_value, write_history};
+pub use write_text::{call_value, pairs_value, reply_value, write_history};
 
 /// The most bytes that a text has.
 pub const MAX_TEXT: usize = 16_777_216;

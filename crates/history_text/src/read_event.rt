@@ -61,7 +61,7 @@ fn invocation_of(
 }
 
 /// Whether a call may stand in a text with a start, or without one.
-fn may_stand(has_start: bool, call: &Call) -> bool
+pub fn may_stand(has_start: bool, call: &Call) -> bool
     ensures { result ≡ (has_start || not (is_replace call.now)) }
 {
     has_start || !matches!(call, Call::Replace(..))
@@ -214,7 +214,7 @@ fn three_number_call(name: &str, key: u64, old: u64, new: u64) -> Option<Call>
 }
 
 /// The reply that a value spells.
-fn reply_of(alloc: Global, value: &Value) -> Result<Option<Reply>, Memory>
+pub fn reply_of(alloc: Global, value: &Value) -> Result<Option<Reply>, Memory>
     ensures some { IfOk result (λ found. IfSome found (λ reply. view value.now ≡ reply_data reply)) }
     ensures none { IfOk result (λ found. IfNone found ((reply : Reply)
         → view value.now ≡ reply_data reply → ⊥)) }

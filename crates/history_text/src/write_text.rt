@@ -100,7 +100,8 @@ pub fn call_value(alloc: Global, call: &Call) -> Result<Value, AllocError>
     }
 }
 
-fn reply_value(alloc: Global, reply: &Reply) -> Result<Value, AllocError>
+/// The JSON value of a reply.
+pub fn reply_value(alloc: Global, reply: &Reply) -> Result<Value, AllocError>
     ensures { IfOk result (λ value. view value ≡ reply_data reply.now) }
 {
     match reply {

@@ -1,0 +1,9 @@
+-- At most one call fails in a turn.
+use Rattle.std.proofs.Common.{◌≤◌}
+use Rattle.stream_tests.proofs.cuts.read_all.Given as goal
+
+abbrev pub invariant-loop-turn : goal.invariant-loop-turn
+invariant-loop-turn l = record {
+  few : l.reader.failures ≤ l._turn;
+  counted : l.failed ≤ l._turn;
+}

@@ -1,0 +1,14 @@
+//! Tests of what judges streams of events, through its public calls: which lines spell which events, the first fault of each other line,
+//! sources that are cut at arbitrary places or fail midway, and searches of calls.
+//!
+//! Expected answers were worked out by hand. Run with each allocation refused in turn, each test has to fail for want of memory alone.
+#![tactic(auto)]
+
+#[cfg(test)]
+mod call_searches;
+#[cfg(test)]
+mod cuts;
+#[cfg(test)]
+mod faults;
+#[cfg(test)]
+mod spelled;

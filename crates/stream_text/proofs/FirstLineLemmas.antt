@@ -1,0 +1,189 @@
+-- A first line has one meaning: it spells starting pairs or an event, or has one fault.
+use Rattle.stream_text.specs.declared.line_fault.LineFault.TheVariants as faults
+use Rattle.stream_text.specs.declared.event.FirstLine.TheVariants as first
+use Rattle.events.specs.declared.event.Event.TheVariants as events
+use Rattle.std.proofs.Common.{◌≡◌, ◌≢◌, ℕ, ◌<◌, true, false, true≢false, List, [], ◌∷◌, ◌++◌, length, map, codes, get_or, inl, inr, subst}
+use Rattle.std.proofs.Common.{refl, sym, ap, ◌∙◌, arith}
+use Rattle.std.specs.Prelude.{◌⊎◌, All}
+use Rattle.std.proofs.lemmas.Bool.{lt-ltb}
+use Rattle.std.proofs.lemmas.List.Elements.{All-head, All-weaker}
+use Rattle.std.proofs.lemmas.List.Sums.{AllPass-from_list_all, list_all-from_AllPass}
+use Rattle.std.proofs.lemmas.List.Quantifiers.{all_pairs_push}
+use Rattle.std.proofs.Common.{ltb-true, nat_lt}
+use Rattle.list_laws.proofs.Lists.{AllPairs-across}
+use Rattle.serde_json.specs.Data.{Data}
+use Rattle.events.specs.declared.event.Event.{Event}
+use Rattle.events.specs.Starts.{KeysRise}
+use Rattle.events.specs.HistoryFaults.{is_above}
+use Rattle.history_text.specs.Texts.{number_data, list_data, pair_data, call_data, reply_data, event_data}
+use Rattle.history_text.proofs.DataLemmas.{list_data_injective, first_names}
+use Rattle.history_text.proofs.TextLemmas.{pair_data_injective, pairs_injective}
+use Rattle.history_text.proofs.SplitLemmas.{GoesOnWith, SplitsAlike, item_at, two_splits}
+use Rattle.stream_text.specs.Lines.{as_event, start_object, start_line_data}
+use Rattle.stream_text.specs.LineFaults.{ShowsPairFault, IsStartFault, IsFirstFault}
+use Rattle.stream_text.specs.LineLaws.{SpellsOneFirst, HasOneFirstFault, FaultySpellsNoFirst}
+use Rattle.stream_text.specs.declared.event.StreamEvent.{StreamEvent}
+use Rattle.stream_text.specs.declared.event.StreamEvent.TheVariants.{Invoke, Answer}
+use Rattle.stream_text.specs.declared.line_fault.LineFault.{LineFault}
+use Rattle.stream_text.proofs.LineLemmas.{one_line_value, one_event, one_fault_of_lines, value_fault, one_event_fault, no_event_fault}
+
+-- ---- pairs by rising key
+
+-- a key above that of each pair is above them
+is_above-true : (before : List (ℕ × ℕ)) (key : ℕ) → All (λ pair. pair.0 < key) before → is_above before key ≡ true
+is_above-true before key h =
+    list_all-from_AllPass (λ (p : ℕ × ℕ). nat_lt p.0 key) before
+    (All-weaker (λ (p : ℕ × ℕ). p.0 < key) (λ (p : ℕ × ℕ). nat_lt p.0 key ≡ true) (λ p lt. lt-ltb p.0 key lt) before h)
+
+-- one pair more, whose key is above all
+pub KeysRise-push : (before : List (ℕ × ℕ)) (pair : ℕ × ℕ) → KeysRise before → is_above before pair.0 ≡ true
+    → KeysRise (before ++ pair ∷ [])
+KeysRise-push before pair rising above =
+    let lower : All (λ (p : ℕ × ℕ). p.0 < pair.0) before =
+    All-weaker (λ (p : ℕ × ℕ). nat_lt p.0 pair.0 ≡ true) (λ (p : ℕ × ℕ). p.0 < pair.0) (λ p is. ltb-true p.0 pair.0 is) before
+    (AllPass-from_list_all (λ (p : ℕ × ℕ). nat_lt p.0 pair.0) before above) in
+    all_pairs_push (λ (a : ℕ × ℕ) (b : ℕ × ℕ). a.0 < b.0) before pair rising lower
+
+-- of pairs by rising key, each key is above those before it
+KeysRise-here : (before rest : List (ℕ × ℕ)) (pair : ℕ × ℕ) → KeysRise (before ++ pair ∷ rest) → is_above before pair.0 ≡ true
+KeysRise-here before rest pair h =
+    let across = AllPairs-across (λ (a : ℕ × ℕ) (b : ℕ × ℕ). a.0 < b.0) before (pair ∷ rest) h in
+    is_above-true before pair.0
+    (All-weaker (λ (a : ℕ × ℕ). All (λ (b : ℕ × ℕ). a.0 < b.0) (pair ∷ rest)) (λ (a : ℕ × ℕ). a.0 < pair.0)
+    (λ a later. All-head (λ (b : ℕ × ℕ). a.0 < b.0) pair rest later) before across)
+
+-- a faulty value is none of those of pairs by rising key
+no_pair_fault : (pairs before : List (ℕ × ℕ)) (next : Data) → GoesOnWith pair_data pairs before next → KeysRise pairs
+    → ((pair : ℕ × ℕ) → next ≡ pair_data pair → is_above before pair.0 ≡ false) → ⊥
+no_pair_fault pairs before next on rising shows =
+    true≢false (sym (KeysRise-here before on.more on.item (subst KeysRise on.parts rising)) ∙ shows on.item on.spelled)
+
+-- ---- what the value of a first line is
+
+start_apart : (s t v w : Data) → start_object s v ≡ start_object t w → (s ≡ t) × (v ≡ w)
+start_apart s t v w h = ((cc), (cc))
+
+invoke_is_no_start : codes "invoke" ≡ codes "start" → ⊥
+invoke_is_no_start h = let first : 105 ≡ 115 = ap (λ name. get_or name 0 0) h in omega (arith, first)
+
+answer_is_no_start : codes "answer" ≡ codes "start" → ⊥
+answer_is_no_start h = let first : 97 ≡ 115 = ap (λ name. get_or name 0 0) h in omega (arith, first)
+
+-- an event is spelled by no starting pairs
+pub event_is_no_start : (e : Event) (s v : Data) → event_data e ≡ start_object s v → ⊥
+event_is_no_start (events.Invoke p call) s v h =
+    invoke_is_no_start (first_names (codes "invoke") (codes "process") (codes "start") (codes "version") (call_data call) (number_data p) s
+    v h)
+event_is_no_start (events.Answer p reply) s v h =
+    answer_is_no_start (first_names (codes "answer") (codes "process") (codes "start") (codes "version") (reply_data reply) (number_data p)
+    s v h)
+
+-- an event of a stream is that of one event
+as_event_injective : (a b : StreamEvent) → as_event a ≡ as_event b → a ≡ b
+as_event_injective (Invoke p call) (Invoke q call2) h = cc
+as_event_injective (Invoke p call) (Answer q reply2) h = cc
+as_event_injective (Answer p reply) (Invoke q call2) h = cc
+as_event_injective (Answer p reply) (Answer q reply2) h = cc
+
+-- a first line spells one thing only
+pub one_first : SpellsOneFirst
+one_first line (first.Start a) (first.Start b) x y =
+    ap first.Start
+    (pairs_injective a b
+    (list_data_injective (map pair_data a) (map pair_data b)
+    (start_apart (list_data (map pair_data a)) (list_data (map pair_data b)) (number_data 2) (number_data 2)
+    (one_line_value line (start_line_data a) (start_line_data b) x.value y.value)).0))
+one_first line (first.Start a) (first.Event e) x y =
+    absurd (event_is_no_start (as_event e) (list_data (map pair_data a)) (number_data 2)
+    (one_line_value line (event_data (as_event e)) (start_line_data a) y.value x.value))
+one_first line (first.Event e) (first.Start b) x y =
+    absurd (event_is_no_start (as_event e) (list_data (map pair_data b)) (number_data 2)
+    (one_line_value line (event_data (as_event e)) (start_line_data b) x.value y.value))
+one_first line (first.Event e) (first.Event g) x y = ap first.Event
+    (as_event_injective e g (one_event false line (as_event e) (as_event g) x y))
+
+-- ---- faults of starting pairs
+
+-- no array of values, or not the number 2
+abbrev SpellsNoStart : Data → Data → Type 0
+SpellsNoStart start version = (items : List Data) → start ≡ list_data items → version ≡ number_data 2 → ⊥
+
+-- an array of values, of which the one at this place is faulty
+abbrev HasFaultyPair : Data → Data → ℕ → Type 0
+HasFaultyPair start version place = (items : List Data) × (start ≡ list_data items) × (version ≡ number_data 2) × ShowsPairFault items place
+
+abbrev StartKind : Data → Data → LineFault → Type 0
+StartKind start version f =
+    ((f ≡ faults.Version) × SpellsNoStart start version) ⊎ ((place : ℕ) × (f ≡ faults.Start place) × HasFaultyPair start version place)
+
+StartKind-from_fault : (start version : Data) (f : LineFault) → IsStartFault start version f → f ≢ faults.Memory → StartKind start version f
+StartKind-from_fault start version faults.TooLong h other = absurd h
+StartKind-from_fault start version faults.NotJson h other = absurd h
+StartKind-from_fault start version faults.Version h other = inl (refl, h)
+StartKind-from_fault start version faults.Shape h other = absurd h
+StartKind-from_fault start version faults.TooMany h other = absurd h
+StartKind-from_fault start version faults.Memory h other = absurd (other refl)
+StartKind-from_fault start version (faults.Start at) h other = inr (at, refl, h)
+
+-- values have one faulty pair at most
+one_place : (items : List Data) (p q : ℕ) → ShowsPairFault items p → ShowsPairFault items q → p ≡ q
+one_place items p q a b = by_splits
+    (two_splits pair_data pair_data_injective a.before b.before a.next b.next a.rest b.rest (sym a.parts ∙ b.parts))
+  where
+    by_splits : SplitsAlike pair_data a.before b.before a.next b.next → p ≡ q
+    by_splits (inl same) = sym a.here ∙ (ap (λ (ps : List (ℕ × ℕ)). length ps) same.0 ∙ b.here)
+    by_splits (inr (inl on)) = absurd (no_pair_fault a.before b.before b.next on a.rising b.shows)
+    by_splits (inr (inr on)) = absurd (no_pair_fault b.before a.before a.next on b.rising a.shows)
+
+one_start_kind : (start version : Data) (f g : LineFault) → StartKind start version f → StartKind start version g → f ≡ g
+one_start_kind start version f g (inl a) (inl b) = a.0 ∙ sym b.0
+one_start_kind start version f g (inl a) (inr b) = let there = b.2 in absurd (a.1 there.0 there.1 there.2)
+one_start_kind start version f g (inr a) (inl b) = let there = a.2 in absurd (b.1 there.0 there.1 there.2)
+one_start_kind start version f g (inr a) (inr b) =
+    let one = a.2 in
+    let other = b.2 in
+    let items : other.0 ≡ one.0 = list_data_injective other.0 one.0 (sym other.1 ∙ one.1) in
+    let place : a.0 ≡ b.0 = one_place one.0 a.0 b.0 one.3 (subst (λ (ds : List Data). ShowsPairFault ds b.0) items other.3) in
+    a.1 ∙ (ap faults.Start place ∙ sym b.1)
+
+-- starting pairs have none
+no_start_kind : (pairs : List (ℕ × ℕ)) (f : LineFault) → StartKind (list_data (map pair_data pairs)) (number_data 2) f → KeysRise pairs → ⊥
+no_start_kind pairs f (inl a) rising = a.1 (map pair_data pairs) refl refl
+no_start_kind pairs f (inr a) rising =
+    let there = a.2 in
+    let shown = there.3 in
+    let items = list_data_injective (map pair_data pairs) there.0 there.1 in
+    no_pair_fault pairs shown.before shown.next
+    (item_at pair_data pair_data_injective shown.before pairs shown.next shown.rest (sym shown.parts ∙ sym items)) rising shown.shows
+
+-- ---- faults of first values
+
+first_start : (s v : Data) (f : LineFault) → IsFirstFault (start_object s v) f → IsStartFault s v f
+first_start s v f (inl h) =
+    let same = start_apart h.0 s h.1 v (sym h.2) in
+    subst (λ (x : Data). IsStartFault x v f) same.0 (subst (λ (y : Data). IsStartFault h.0 y f) same.1 h.3)
+first_start s v f (inr h) = absurd (h.0 s v refl)
+
+one_first_value : (d : Data) (f g : LineFault) → IsFirstFault d f → IsFirstFault d g → f ≢ faults.Memory → g ≢ faults.Memory → f ≡ g
+one_first_value d f g (inl a) b not_f not_g =
+    let other = first_start a.0 a.1 g (subst (λ (x : Data). IsFirstFault x g) a.2 b) in
+    one_start_kind a.0 a.1 f g (StartKind-from_fault a.0 a.1 f a.3 not_f) (StartKind-from_fault a.0 a.1 g other not_g)
+one_first_value d f g (inr a) (inl b) not_f not_g = absurd (a.0 b.0 b.1 b.2)
+one_first_value d f g (inr a) (inr b) not_f not_g = one_event_fault false d f g a.1 b.1 not_f not_g
+
+-- ---- the laws
+
+pub one_first_fault : HasOneFirstFault
+one_first_fault = one_fault_of_lines IsFirstFault one_first_value
+
+pub no_first : FaultySpellsNoFirst
+no_first line f (first.Start pairs) h other spelled =
+    let start = list_data (map pair_data pairs) in
+    let shown = first_start start (number_data 2) f (value_fault IsFirstFault line (start_line_data pairs) f h other spelled.value) in
+    no_start_kind pairs f (StartKind-from_fault start (number_data 2) f shown other) spelled.rising
+no_first line f (first.Event e) h other spelled =
+    by_value (value_fault IsFirstFault line (event_data (as_event e)) f h other spelled.value)
+  where
+    by_value : IsFirstFault (event_data (as_event e)) f → ⊥
+    by_value (inl a) = event_is_no_start (as_event e) a.0 a.1 a.2
+    by_value (inr a) = no_event_fault false (as_event e) f a.1 other spelled.stands

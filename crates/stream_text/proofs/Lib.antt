@@ -1,0 +1,6 @@
+mod CutLemmas
+mod FirstLineLemmas
+mod LineLemmas
+mod ValueLemmas
+mod WindowLemmas
+mod WrittenLineLemmas

@@ -1,0 +1,67 @@
+-- What the values of a line are, one by one.
+use Rattle.stream_text.specs.declared.line_fault.LineFault.TheVariants as faults
+use Rattle.std.proofs.Common.{◌≡◌, ℕ, ◌+◌, ◌<◌, ◌≤◌, Bool, true, false, ◌||◌, List, [], ◌∷◌, ◌++◌, length, map, take, drop, get_or, subst}
+use Rattle.std.proofs.Common.{refl, sym, ap, ap₂, ◌∙◌}
+use Rattle.std.specs.Prelude.{IsTrue}
+use Rattle.std.proofs.lemmas.List.{map-append, take_more}
+use Rattle.serde_json.specs.Data.{Data}
+use Rattle.serde_json.specs.View.{view}
+use Rattle.serde_json.specs.declared.value.Value.{Value}
+use Rattle.events.specs.declared.event.Call.{Call}
+use Rattle.events.specs.declared.event.Reply.{Reply}
+use Rattle.events.specs.declared.event.Event.TheVariants.{Invoke, Answer}
+use Rattle.events.specs.Histories.{has_range}
+use Rattle.events.specs.HistoryFaults.{is_above}
+use Rattle.events.specs.Starts.{KeysRise}
+use Rattle.history_text.specs.Texts.{number_data, pair_data, call_data, reply_data, may_stand}
+use Rattle.history_text.specs.ValueFaults.{invocation_data, response_data}
+use Rattle.history_text.proofs.TextLemmas.{pair_data_injective}
+use Rattle.history_text.proofs.ValueFaultLemmas.{length_before, values_at}
+use Rattle.stream_text.specs.LineLimits.{number_limit}
+use Rattle.stream_text.specs.LineFaults.{IsEventFault, ShowsPairFault}
+
+-- an invocation by a process past the limit is too many
+pub too_many-invocation : (has_start : Bool) (p : ℕ) (call : Call) (c d : Data) → c ≡ call_data call → d ≡ number_data p
+    → IsTrue (has_range call)
+    → number_limit ≤ p → IsTrue (may_stand has_start (Invoke p call)) → IsEventFault has_start (invocation_data c d) faults.TooMany
+too_many-invocation has_start p call c d spelled number range h standing = (Invoke p call, rw (spelled, number) refl, range, standing, h)
+
+or_true : (b : Bool) → (b || true) ≡ true
+or_true true = refl
+or_true false = refl
+
+-- and so is a response
+pub too_many-response : (has_start : Bool) (p : ℕ) (reply : Reply) (c d : Data) → c ≡ reply_data reply → d ≡ number_data p
+    → number_limit ≤ p
+    → IsEventFault has_start (response_data c d) faults.TooMany
+too_many-response has_start p reply c d spelled number h = (Answer p reply, rw (spelled, number) refl, refl, or_true has_start, h)
+
+-- one pair more is spelled
+pub pairs_more : (vs : List Value) (before : List (ℕ × ℕ)) (i : ℕ) (v : Value) (pair : ℕ × ℕ) → i < length vs → v ≡ get_or vs i v
+    → map view (take i vs) ≡ map pair_data before → view v ≡ pair_data pair
+    → map view (take (i + 1) vs) ≡ map pair_data (before ++ pair ∷ [])
+pairs_more vs before i v pair within here spelled next =
+    ap (map view) (take_more vs i v within)
+    ∙ (map-append view (take i vs) (get_or vs i v ∷ [])
+    ∙ (ap₂ (λ (xs : List Data) (x : Data). xs ++ x ∷ []) spelled (ap view (sym here) ∙ next)
+    ∙ sym (map-append pair_data before (pair ∷ []))))
+
+-- a value that spells no pair which may stand there shows the fault
+pub faulty_pair : (vs : List Value) (before : List (ℕ × ℕ)) (i : ℕ) (v : Value) → i < length vs → v ≡ get_or vs i v
+    → map view (take i vs) ≡ map pair_data before
+    → KeysRise before → ((pair : ℕ × ℕ) → view v ≡ pair_data pair → is_above before pair.0 ≡ false) → ShowsPairFault (map view vs) i
+faulty_pair vs before i v within here spelled rising shows = record {
+  before = before;
+  next = view v;
+  rest = map view (drop (i + 1) vs);
+  parts = values_at pair_data vs before i v within here spelled;
+  rising = rising;
+  here = length_before pair_data vs before i within spelled;
+  shows = shows;
+}
+
+-- a value that spells a pair spells no other
+pub same_pair : (before : List (ℕ × ℕ)) (d : Data) (pair : ℕ × ℕ) → d ≡ pair_data pair → is_above before pair.0 ≡ false
+    → (other : ℕ × ℕ) → d ≡ pair_data other → is_above before other.0 ≡ false
+same_pair before d pair is not_above other spelled =
+    subst (λ (p : ℕ × ℕ). is_above before p.0 ≡ false) (pair_data_injective pair other (sym is ∙ spelled)) not_above

@@ -1,0 +1,6 @@
+pub mod LineLimits
+pub mod Lines
+pub mod LineFaults
+pub mod Cuts
+pub mod ReaderView
+pub mod LineLaws

@@ -1,0 +1,84 @@
+-- The first fault of a line that spells nothing that may stand there.
+use Rattle.stream_text.specs.declared.line_fault.LineFault.TheVariants as faults
+use Rattle.std.specs.Prelude.{◌≡◌, ◌⊎◌, ℕ, ◌<◌, ◌≤◌, Bool, false, List, ◌∷◌, ◌++◌, length, map, Some, IsTrue, ⊤}
+use Rattle.std.specs.Str.{IsUtf8}
+use Rattle.serde_json.specs.Data.{Data}
+use Rattle.serde_json.specs.Read.{read}
+use Rattle.events.specs.declared.event.Event.{Event}
+use Rattle.events.specs.Events.{process_of}
+use Rattle.events.specs.Histories.{is_shaped}
+use Rattle.events.specs.HistoryFaults.{is_above}
+use Rattle.events.specs.Starts.{KeysRise}
+use Rattle.history_text.specs.Texts.{number_data, list_data, pair_data, event_data, may_stand}
+use Rattle.history_text.specs.TextFaults.{SpellsNoEvent}
+use Rattle.stream_text.specs.LineLimits.{line_limit, number_limit}
+use Rattle.stream_text.specs.Lines.{IsLine, start_object}
+use Rattle.stream_text.specs.declared.line_fault.LineFault.{LineFault}
+
+-- ---- of the bytes alone
+
+-- its length, then that it is no JSON in UTF-8; or memory ran out
+abbrev pub IsByteFault : List ℕ → LineFault → Type 0
+IsByteFault line faults.TooLong = line_limit < length line
+IsByteFault line faults.NotJson = (length line ≤ line_limit) × ((d : Data) → IsUtf8 line → read line ≡ Some d → ⊥)
+IsByteFault line faults.Memory = ⊤
+IsByteFault line fault = ⊥
+
+-- ---- of the value of an event
+
+-- it has no form that an event has, then its process number is past the limit; or memory ran out
+abbrev pub IsEventFault : Bool → Data → LineFault → Type 0
+IsEventFault has_start d faults.Shape = SpellsNoEvent has_start d
+IsEventFault has_start d faults.TooMany =
+    (e : Event) × (d ≡ event_data e) × IsTrue (is_shaped e) × IsTrue (may_stand has_start e) × (number_limit ≤ process_of e)
+IsEventFault has_start d faults.Memory = ⊤
+IsEventFault has_start d fault = ⊥
+
+-- ---- of the value of starting pairs
+
+-- the pairs begin with some by rising key, and the value after them is no pair with a key above theirs
+pub record ShowsPairFault (items : List Data) (place : ℕ) : Type 0 where
+  pub before : List (ℕ × ℕ)
+  pub next : Data
+  pub rest : List Data
+  pub parts : items ≡ map pair_data before ++ next ∷ rest
+  pub rising : KeysRise before
+  pub here : length before ≡ place
+  pub shows : (pair : ℕ × ℕ) → next ≡ pair_data pair → is_above before pair.0 ≡ false
+
+-- why values spell no starting pairs: the first faulty one; or memory ran out
+abbrev pub IsPairFault : List Data → LineFault → Type 0
+IsPairFault items (faults.Start place) = ShowsPairFault items place
+IsPairFault items faults.Memory = ⊤
+IsPairFault items fault = ⊥
+
+-- the members are no array and the number 2, then the first faulty pair; or memory ran out
+abbrev pub IsStartFault : Data → Data → LineFault → Type 0
+IsStartFault start version faults.Version = (items : List Data) → start ≡ list_data items → version ≡ number_data 2 → ⊥
+IsStartFault start version (faults.Start place) = (items : List Data) × (start ≡ list_data items) × (version ≡ number_data
+    2) × ShowsPairFault items place
+IsStartFault start version faults.Memory = ⊤
+IsStartFault start version fault = ⊥
+
+-- ---- of a first value, which is that of starting pairs where its members say so
+
+abbrev pub IsStartObject : Data → Type 0
+IsStartObject d = (start version : Data) × (d ≡ start_object start version)
+
+abbrev pub IsFirstFault : Data → LineFault → Type 0
+IsFirstFault d fault =
+    ((start version : Data) × (d ≡ start_object start version) × IsStartFault start version fault)
+    ⊎ (((start version : Data) → d ≡ start_object start version → ⊥) × IsEventFault false d fault)
+
+-- ---- of lines
+
+-- a fault of the bytes, or of the value that they have
+abbrev pub IsLineFault : (Data → LineFault → Type 0) → List ℕ → LineFault → Type 0
+IsLineFault IsValueFault line fault = IsByteFault line fault ⊎ ((d : Data) × IsLine line d × IsValueFault d fault)
+
+-- why a line spells no event, and why a first line spells nothing
+abbrev pub IsEventLineFault : Bool → List ℕ → LineFault → Type 0
+IsEventLineFault has_start line fault = IsLineFault (IsEventFault has_start) line fault
+
+abbrev pub IsFirstLineFault : List ℕ → LineFault → Type 0
+IsFirstLineFault line fault = IsLineFault IsFirstFault line fault

@@ -1,0 +1,43 @@
+-- Laws of the lines of streams.
+use Rattle.stream_text.specs.declared.line_fault.LineFault.TheVariants as faults
+use Rattle.std.specs.Prelude.{◌≡◌, ◌≢◌, ℕ, Bool, List, ◌∷◌, Some}
+use Rattle.events.specs.declared.event.Event.{Event}
+use Rattle.stream_text.specs.declared.event.FirstLine.{FirstLine}
+use Rattle.stream_text.specs.declared.line_fault.LineFault.{LineFault}
+use Rattle.stream_text.specs.Lines.{SpellsEvent, SpellsFirst}
+use Rattle.stream_text.specs.LineFaults.{IsEventLineFault, IsFirstLineFault}
+use Rattle.stream_text.specs.Cuts.{lines_of, TakesLine}
+
+-- a line spells one event only
+abbrev pub SpellsOneEvent : Type 0
+SpellsOneEvent = (has_start : Bool) (line : List ℕ) (a b : Event) → SpellsEvent has_start line a → SpellsEvent has_start line b → a ≡ b
+
+-- a first line spells one thing only: starting pairs, or an event
+abbrev pub SpellsOneFirst : Type 0
+SpellsOneFirst = (line : List ℕ) (a b : FirstLine) → SpellsFirst line a → SpellsFirst line b → a ≡ b
+
+-- a line has one fault only, apart from want of memory
+abbrev pub HasOneLineFault : Type 0
+HasOneLineFault =
+    (has_start : Bool) (line : List ℕ) (f g : LineFault) → IsEventLineFault has_start line f → IsEventLineFault has_start line g
+    → f ≢ faults.Memory → g ≢ faults.Memory → f ≡ g
+
+-- and so has a first line
+abbrev pub HasOneFirstFault : Type 0
+HasOneFirstFault =
+    (line : List ℕ) (f g : LineFault) → IsFirstLineFault line f → IsFirstLineFault line g → f ≢ faults.Memory → g ≢ faults.Memory → f ≡ g
+
+-- a line with a fault spells no event
+abbrev pub FaultySpellsNoEvent : Type 0
+FaultySpellsNoEvent =
+    (has_start : Bool) (line : List ℕ) (f : LineFault) (e : Event) → IsEventLineFault has_start line f → f ≢ faults.Memory
+    → SpellsEvent has_start line e → ⊥
+
+-- and a first line with a fault spells nothing
+abbrev pub FaultySpellsNoFirst : Type 0
+FaultySpellsNoFirst = (line : List ℕ) (f : LineFault) (first : FirstLine) → IsFirstLineFault line f → f ≢ faults.Memory
+    → SpellsFirst line first → ⊥
+
+-- lines that are taken one after another are those of the bytes
+abbrev pub TakesFirstLine : Type 0
+TakesFirstLine = (bytes line rest : List ℕ) → TakesLine (Some bytes) line (Some rest) → lines_of bytes ≡ line ∷ lines_of rest

@@ -1,0 +1,18 @@
+// What the lines of a stream spell.
+use events::{Call, Pairs, Reply};
+
+/// One event of a stream: a process begins a call, or its open call is answered.
+#[derive(Debug, Drop)]
+pub enum StreamEvent {
+    Invoke { process: u16, call: Call },
+    Answer { process: u16, reply: Reply },
+}
+
+/// What the first line of a stream spells.
+#[derive(Debug, Drop)]
+pub enum FirstLine {
+    /// The pairs that the map holds at the start, by rising key: the stream is of version 2, and may have a replace.
+    Start(Pairs),
+    /// An event: the stream is of version 1, and starts with the empty map.
+    Event(StreamEvent),
+}

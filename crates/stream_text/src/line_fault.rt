@@ -1,0 +1,52 @@
+// Why a line is refused.
+use events::Memory;
+use std::alloc::{AllocError, AllocFailed};
+use thiserror::Error;
+
+/// Why a line of a stream spells nothing that may stand there: its first fault, numbered as those of a history's text.
+#[derive(Clone, Copy, Debug, PartialEq, Eq, Error)]
+pub enum LineFault {
+    /// The line has more than `MAX_LINE` bytes.
+    #[error("1 TooLong")]
+    TooLong,
+    /// The line is no JSON in UTF-8.
+    #[error("2 NotJson")]
+    NotJson,
+    /// The first line has the members `start` and `version` alone, and these are no array and the number 2.
+    #[error("3 Version")]
+    Version,
+    /// The line has no form that an event has.
+    #[error("4 Shape")]
+    Shape,
+    /// A process number of 65,536 or more.
+    #[error("5 TooMany")]
+    TooMany,
+    /// Want of memory.
+    #[error("7 Memory")]
+    Memory,
+    /// The starting pair at this place is no pair of numbers, or its key is not above the one before.
+    #[error("8 Start at pair {pair}")]
+    Start { pair: usize },
+}
+
+impl From<Memory> for LineFault {
+    ghost use Rattle.std.specs.Prelude.{◌≡◌};
+    ghost use Rattle.stream_text.specs.declared.line_fault.LineFault.TheVariants as faults;
+
+    ghost from_gives = { λ _ fault. fault ≡ faults.Memory };
+
+    fn from(_memory: Memory) -> LineFault {
+        LineFault::Memory
+    }
+}
+
+impl<T: Drop> From<AllocFailed<T>> for LineFault {
+    ghost use Rattle.std.specs.Prelude.{◌≡◌};
+    ghost use Rattle.stream_text.specs.declared.line_fault.LineFault.TheVariants as faults;
+
+    ghost from_gives = { λ _ fault. fault ≡ faults.Memory };
+
+    fn from(_error: AllocFailed<T>) -> LineFault {
+        LineFault::Memory
+    }
+}

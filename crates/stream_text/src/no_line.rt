@@ -1,0 +1,22 @@
+ghost use Rattle.std.specs.Prelude.{◌≡◌};
+
+use streams::Failed;
+
+/// Why no line was read. Nothing that is to come was lost.
+#[derive(Clone, Copy, Debug, PartialEq, Eq)]
+pub enum NoLine {
+    /// More than `MAX_LINE` bytes stand before the next line feed.
+    TooLong,
+    /// A call of the source failed.
+    Failed,
+}
+
+impl From<Failed> for NoLine {
+    ghost use Rattle.stream_text.specs.declared.no_line.NoLine.TheVariants as stops;
+
+    ghost from_gives = { λ _ stop. stop ≡ stops.Failed };
+
+    fn from(_failed: Failed) -> NoLine {
+        NoLine::Failed
+    }
+}

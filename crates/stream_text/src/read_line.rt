@@ -1,0 +1,169 @@
+// From the bytes of a line to what it spells.
+ghost use Rattle.std.specs.Prelude.{◌≡◌, ◌≤◌, map, IfOk, IfErr};
+ghost use Rattle.serde_json.specs.Data.{Data};
+ghost use Rattle.serde_json.specs.View.{view};
+ghost use Rattle.events.specs.declared.event.Event.{Event};
+ghost use Rattle.events.specs.Starts.{KeysRise};
+ghost use Rattle.events.specs.HistoryFaults.{is_above};
+ghost use Rattle.history_text.specs.Texts.{pair_data, event_data};
+ghost use Rattle.history_text.specs.ValueFaults.{invocation_data, response_data};
+ghost use Rattle.stream_text.specs.declared.line_fault.LineFault.TheVariants as faults;
+ghost use Rattle.stream_text.specs.declared.event.FirstLine.{FirstLine};
+ghost use Rattle.stream_text.specs.LineLimits.{number_limit};
+ghost use Rattle.stream_text.specs.Lines.{as_event, start_object, start_line_data, IsLine};
+ghost use Rattle.stream_text.specs.Lines.{MayStandIn, SpellsEvent, SpellsFirst};
+ghost use Rattle.stream_text.specs.LineFaults.{IsByteFault, IsEventFault, IsStartFault, IsPairFault, IsEventLineFault, IsFirstLineFault};
+
+use crate::MAX_LINE;
+use crate::event::{FirstLine, StreamEvent};
+use crate::line_fault::LineFault;
+use events::Pairs;
+use history_text::{JsonFault, call_of, json_of, may_stand, pair_of, reply_of, two_members};
+use serde_json::Value;
+use std::alloc::Global;
+
+/// The event that a line spells, in a stream with starting pairs or in one without. Otherwise the line's first fault, or `Memory`:
+/// its length is tested first, then that it is JSON, then its shape, a replace in a stream without starting pairs among it, then its
+/// process number. A line without bytes is no JSON.
+pub fn read_event_line(
+    alloc: Global,
+    has_start: bool,
+    line: &[u8],
+) -> Result<StreamEvent, LineFault>
+    ensures spelled { IfOk result (λ e. SpellsEvent has_start line.now (as_event e)) }
+    ensures refused { IfErr result (IsEventLineFault has_start line.now) }
+    ensures accepted { (e : Event) → SpellsEvent has_start line.now e → IfErr result (λ fault. fault ≡ faults.Memory) }
+{
+    let value = value_of(alloc, line)?;
+    event_of(alloc, has_start, &value)
+}
+
+/// What the first line of a stream spells: starting pairs where it has the members `start` and `version` alone, else an event of a
+/// stream without. Otherwise its first fault: of starting pairs `Version`, then that of the first faulty pair, `Start`.
+pub fn read_first_line(alloc: Global, line: &[u8]) -> Result<FirstLine, LineFault>
+    ensures spelled { IfOk result (SpellsFirst line.now) }
+    ensures refused { IfErr result (IsFirstLineFault line.now) }
+    ensures accepted { (first : FirstLine) → SpellsFirst line.now first → IfErr result (λ fault. fault ≡ faults.Memory) }
+{
+    let value = value_of(alloc, line)?;
+    if let Some((start, version)) = two_members(&value, "start", "version") {
+        let pairs = start_of(alloc, start, version)?;
+        return Ok(FirstLine::Start(Pairs::new(pairs)));
+    }
+    Ok(FirstLine::Event(event_of(alloc, false, &value)?))
+}
+
+/// The JSON value of a line that is not too long.
+fn value_of(alloc: Global, line: &[u8]) -> Result<Value, LineFault>
+    ensures ok { IfOk result (λ value. IsLine line.now (view value)) }
+    ensures refused { IfErr result (IsByteFault line.now) }
+{
+    if line.len() > MAX_LINE {
+        return Err(LineFault::TooLong);
+    }
+    match json_of(alloc, line) {
+        Ok(value) => Ok(value),
+        Err(JsonFault::TooLong) => Err(LineFault::TooLong),
+        Err(JsonFault::NotJson) => Err(LineFault::NotJson),
+        Err(JsonFault::Memory) => Err(LineFault::Memory),
+    }
+}
+
+/// The event that a value spells.
+fn event_of(alloc: Global, has_start: bool, value: &Value) -> Result<StreamEvent, LineFault>
+    ensures ok { IfOk result (λ e. view value.now ≡ event_data (as_event e)) }
+    ensures stands { IfOk result (λ e. MayStandIn has_start (as_event e)) }
+    ensures refused { IfErr result (IsEventFault has_start (view value.now)) }
+{
+    if let Some((call, process)) = two_members(value, "invoke", "process") {
+        return invocation_of(has_start, call, process);
+    }
+    if let Some((reply, process)) = two_members(value, "answer", "process") {
+        return response_of(alloc, has_start, reply, process);
+    }
+    Err(LineFault::Shape)
+}
+
+/// The invocation that the values of its call and its process spell.
+fn invocation_of(has_start: bool, call: &Value, process: &Value) -> Result<StreamEvent, LineFault>
+    ensures ok { IfOk result (λ e. event_data (as_event e) ≡ invocation_data (view call.now) (view process.now)) }
+    ensures stands { IfOk result (λ e. MayStandIn has_start (as_event e)) }
+    ensures refused { IfErr result (IsEventFault has_start (invocation_data (view call.now) (view process.now))) }
+{
+    let (Some(call), Some(process)) = (call_of(call), process.as_u64()) else {
+        return Err(LineFault::Shape);
+    };
+    if !may_stand(has_start, &call) {
+        return Err(LineFault::Shape);
+    }
+    let process = process_number(process)?;
+    Ok(StreamEvent::Invoke { process, call })
+}
+
+/// The response that the values of its reply and its process spell.
+fn response_of(
+    alloc: Global,
+    has_start: bool,
+    reply: &Value,
+    process: &Value,
+) -> Result<StreamEvent, LineFault>
+    ensures ok { IfOk result (λ e. event_data (as_event e) ≡ response_data (view reply.now) (view process.now)) }
+    ensures stands { IfOk result (λ e. MayStandIn has_start (as_event e)) }
+    ensures refused { IfErr result (IsEventFault has_start (response_data (view reply.now) (view process.now))) }
+{
+    let (Some(reply), Some(process)) = (reply_of(alloc, reply)?, process.as_u64()) else {
+        return Err(LineFault::Shape);
+    };
+    let process = process_number(process)?;
+    Ok(StreamEvent::Answer { process, reply })
+}
+
+/// A process number of a stream.
+fn process_number(number: u64) -> Result<u16, LineFault>
+    ensures ok { IfOk result (λ process. process ≡ number) }
+    ensures refused { IfErr result (λ fault. (fault ≡ faults.TooMany) × (number_limit ≤ number)) }
+{
+    u16::try_from(number).map_err(|_| LineFault::TooMany)
+}
+
+/// The starting pairs that the values of a first line spell.
+fn start_of(alloc: Global, start: &Value, version: &Value) -> Result<Vec<(u64, u64)>, LineFault>
+    ensures ok { IfOk result (λ pairs. start_object (view start.now) (view version.now) ≡ start_line_data pairs.items) }
+    ensures rising { IfOk result (λ pairs. KeysRise pairs.items) }
+    ensures refused { IfErr result (IsStartFault (view start.now) (view version.now)) }
+{
+    let Some(items) = start.as_array() else {
+        return Err(LineFault::Version);
+    };
+    if version.as_u64() != Some(2) {
+        return Err(LineFault::Version);
+    }
+    pairs_rising(alloc, items)
+}
+
+/// The pairs that values spell, by rising key; else the first place at which they do not.
+fn pairs_rising(alloc: Global, items: &[Value]) -> Result<Vec<(u64, u64)>, LineFault>
+    ensures spelled { IfOk result (λ pairs. map view items.now ≡ map pair_data pairs.items) }
+    ensures rising { IfOk result (λ pairs. KeysRise pairs.items) }
+    ensures refused { IfErr result (IsPairFault (map view items.now)) }
+{
+    let mut pairs: Vec<(u64, u64)> = Vec::new(alloc);
+    for (place, item) in items.iter().enumerate() {
+        match pair_of(item) {
+            Some(pair) if is_above(&pairs, pair.0) => pairs.push(pair)?,
+            _ => return Err(LineFault::Start { pair: place }),
+        }
+    }
+    Ok(pairs)
+}
+
+/// Whether a key is above that of the last of some pairs by rising key, so above each.
+fn is_above(pairs: &[(u64, u64)], key: u64) -> bool
+    requires { KeysRise pairs.now }
+    ensures { result ≡ is_above pairs.now key }
+{
+    match pairs.last() {
+        Some(last) => last.0 < key,
+        None => true,
+    }
+}

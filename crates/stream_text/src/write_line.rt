@@ -1,0 +1,41 @@
+// From an event to its line.
+ghost use Rattle.std.specs.Prelude.{◌≡◌, ◌≤◌, Bool, IfOk, string_bytes, string_len};
+ghost use Rattle.serde_json.specs.View.{view};
+ghost use Rattle.serde_json.specs.Written.{compact_text};
+ghost use Rattle.history_text.specs.Texts.{event_data};
+ghost use Rattle.stream_text.specs.Cuts.{HasNoLineFeed};
+ghost use Rattle.stream_text.specs.LineLimits.{line_limit};
+ghost use Rattle.stream_text.specs.Lines.{as_event, MayStandIn, SpellsEvent};
+
+use crate::event::StreamEvent;
+use events::Memory;
+use history_text::{call_value, reply_value};
+use serde_json::{Value, json};
+use std::alloc::{AllocError, Global};
+
+/// The line of an event, in the compact form of a history's text and without a line feed: it spells this event in each stream in which
+/// the event may stand. A line of more than `MAX_LINE` bytes is written too, and the reader refuses it.
+pub fn event_line(alloc: Global, event: &StreamEvent) -> Result<String, Memory>
+    ensures compact { IfOk result (λ line. string_bytes line ≡ compact_text (event_data (as_event event.now))) }
+    ensures again { IfOk result (λ line. string_len line ≤ line_limit → (has_start : Bool) → MayStandIn has_start (as_event event.now)
+        → SpellsEvent has_start (string_bytes line) (as_event event.now)) }
+    ensures one_line { IfOk result (λ line. HasNoLineFeed (string_bytes line)) }
+{
+    let value = event_value(alloc, event)?;
+    Ok(value.to_string(alloc)?)
+}
+
+fn event_value(alloc: Global, event: &StreamEvent) -> Result<Value, AllocError>
+    ensures { IfOk result (λ value. view value ≡ event_data (as_event event.now)) }
+{
+    match event {
+        StreamEvent::Invoke { process, call } => {
+            let call = call_value(alloc, call)?;
+            json!(in alloc; {"invoke": call, "process": *process})
+        }
+        StreamEvent::Answer { process, reply } => {
+            let reply = reply_value(alloc, reply)?;
+            json!(in alloc; {"answer": reply, "process": *process})
+        }
+    }
+}
