@@ -12,6 +12,7 @@ IsLocateAnswer-whole budget text answer bytes h = record {
   history = h.history;
   location = h.location;
   is_text = subst (λ (t : List ℕ). IsTextOf t h.history) (same_text text_limit text h.is_text.spelled.json.fits) h.is_text;
+  exact = h.exact;
   located = h.located;
   answer_is = h.answer_is;
   bytes_are = h.bytes_are;

@@ -4,6 +4,7 @@ use Rattle.serde_json.specs.Written.{compact_text}
 use Rattle.events.specs.HistoryView.{HistoryView}
 use Rattle.locating.specs.declared.location.Location.{Location}
 use Rattle.locating.specs.declared.location.Location.TheVariants as locations
+use Rattle.locating.specs.Halvings.{IsExactLocation}
 use Rattle.locating.specs.Locations.{IsLocated}
 use Rattle.locating.specs.Reports.{location_data}
 use Rattle.outcomes.specs.declared.outcome.Answer.{Answer}
@@ -17,11 +18,12 @@ answer_of_location locations.Yes = Yes
 answer_of_location (locations.No number place) = No
 answer_of_location (locations.Undecided first last) = Undecided
 
--- `locate` answers the text at the budget so: with the report of a location in the history
+-- `locate` answers the text at the budget so: with the report of the exact location in the history
 pub record IsLocateAnswer (budget : ℕ) (text : List ℕ) (answer : Answer) (bytes : List ℕ) : Type 0 where
   pub history : HistoryView
   pub location : Location
   pub is_text : IsTextOf text history
+  pub exact : IsExactLocation budget history location
   pub located : IsLocated budget history location
   pub answer_is : answer ≡ answer_of_location location
   pub bytes_are : bytes ≡ line (compact_text (location_data location))

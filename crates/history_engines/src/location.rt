@@ -4,6 +4,7 @@ ghost use Rattle.events.specs.HistoryView.{HistoryView};
 ghost use Rattle.history_engines.specs.Answers.{IsHistoryRefusal, IsTextOf};
 ghost use Rattle.history_engines.specs.LocateAnswers.{answer_of_location, IsLocateAnswer};
 ghost use Rattle.history_engines.specs.LocateOutcomes.{IsLocateOutcome};
+ghost use Rattle.locating.specs.Halvings.{IsExactLocation};
 ghost use Rattle.locating.specs.Locations.{IsLocated};
 ghost use Rattle.outcomes.specs.Ends.{change};
 ghost use Rattle.outcomes.specs.Outcomes.{IsTextOutcome};
@@ -84,6 +85,7 @@ pub fn locate_outcome_alone(alloc: Global, text: &[u8], budget: u32) -> Outcome
 /// How a location comes out, or want of memory for it.
 fn outcome_of(alloc: Global, located: Result<Location, Memory>) -> Outcome
     ensures { (budget : ℕ) (text : List ℕ) (history : HistoryView) → IsTextOf text history
+        → IfOk located (IsExactLocation budget history)
         → IfOk located (IsLocated budget history)
         → IsTextOutcome (IsLocateAnswer budget) IsHistoryRefusal (Some text) result }
 {

@@ -1,2 +1,4 @@
 mod AnswerLemmas
+mod HalvingLemmas
+mod KnownLemmas
 mod TurnLemmas

@@ -1,28 +1,19 @@
--- What a bracket says of the first events of a history.
-use Rattle.std.specs.Prelude.{◌≡◌, ◌⊎◌, ℕ, ◌+◌, ◌-◌, ◌/◌, ◌<◌, ◌≤◌}
+-- What stays so of a bracket.
+use Rattle.std.specs.Prelude.{◌≡◌, ℕ, ◌+◌, ◌^◌, ◌≤◌, length}
 use Rattle.events.specs.HistoryView.{HistoryView}
-use Rattle.events.specs.Operations.{operations}
-use Rattle.orders.specs.Orders.{IsLinearizableHistory}
-use Rattle.prefixes.specs.Prefixes.{prefix_of}
 use Rattle.judge.specs.declared.verdict.Verdict.{Verdict}
-use Rattle.judge.specs.Shown.{IsShown}
-use Rattle.judge.specs.Exact.{IsExactVerdict}
 use Rattle.locating.specs.declared.bracket.Bracket.{Bracket}
-use Rattle.locating.specs.Locations.{IsUndecidedAt, HasNoneOrIsPast}
+use Rattle.locating.specs.declared.bracket.Gap.{Gap}
+use Rattle.locating.specs.Halvings.{halving_limit, middle_of, known_after, IsVerdictOnFirst}
 
--- what it says of its three numbers is so; the middle one is the last or the verdict there was undecided
-pub record IsKnown (budget : ℕ) (history : HistoryView) (found : Bracket) : Type 0 where
-  pub yes : IsLinearizableHistory (prefix_of history found.yes)
-  pub no : HasNoneOrIsPast history found.no
-  pub cut : (found.cut ≡ found.no) ⊎ IsUndecidedAt budget (prefix_of history found.cut)
-  pub below : found.yes < found.cut
-  pub within : found.cut ≤ found.no
+-- none of its numbers is above the next, nor the last above one more than there are events, nor above what the turns of a halving suffice for
+pub record IsInOrder (history : HistoryView) (found : Bracket) : Type 0 where
+  pub cut : found.yes ≤ found.cut
+  pub no : found.cut ≤ found.no
+  pub within : found.no ≤ length history.events + 1
+  pub few : found.no ≤ 2 ^ halving_limit
 
--- as many events as stand in the middle between those that have an order and those that were not found to have one
-abbrev pub middle_of : Bracket → ℕ
-middle_of found = found.yes + (found.cut - found.yes) / 2
-
--- the verdict on so many of the first events is this one
-pub record IsVerdictOnFirst (budget : ℕ) (history : HistoryView) (count : ℕ) (verdict : Verdict) : Type 0 where
-  pub shown : IsShown history.start budget (operations (prefix_of history count).events) verdict
-  pub exact : IsExactVerdict history.start budget (operations (prefix_of history count).events) verdict
+-- one verdict more was met
+abbrev pub IsTurn : ℕ → HistoryView → Gap → Bracket → Bracket → Type 0
+IsTurn budget history gap found next =
+    (verdict : Verdict) × IsVerdictOnFirst budget history (middle_of gap found) verdict × (next ≡ known_after gap found (middle_of gap found) verdict)

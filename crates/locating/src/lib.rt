@@ -7,9 +7,11 @@ mod answering;
 mod bracket;
 mod first_events;
 mod halving;
+mod laws;
 mod lines;
 mod location;
 
 pub use halving::{MAX_JUDGEMENTS, locate, locate_alone};
+pub use laws::{exact_locations_are_so, one_location};
 pub use lines::location_line;
 pub use location::Location;

@@ -43,6 +43,8 @@ pub IsMarkable-from_verdict : (start : Contents) (budget : ℕ) (calls : List Op
     → IsFrontShown budget verdict front → IsMarkable calls (marked verdict front)
 IsMarkable-from_verdict start budget calls (Yes order) front shown is = IsMarkable-from_legal start calls order.items shown.is_order.legal_order
 IsMarkable-from_verdict start budget calls (No segment) front shown is =
-    IsMarkable-from_front start calls segment front (segment-named start calls shown.below shown.above segment shown.are_segments) is.0
+    IsMarkable-from_front start calls segment front (segment-named start calls shown.below shown.above segment shown.are_segments)
+    (is.places, is.is, is.is_front)
 IsMarkable-from_verdict start budget calls (Undecided segment) front shown is =
-    IsMarkable-from_front start calls segment front (segment-named start calls shown.below shown.above segment shown.are_segments) is.0
+    IsMarkable-from_front start calls segment front (segment-named start calls shown.below shown.above segment shown.are_segments)
+    (is.places, is.is, is.is_front)

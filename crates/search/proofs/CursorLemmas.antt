@@ -1,7 +1,7 @@
 -- How the relation to a cursor is kept at each step of a search, and what it says at the end.
 use Rattle.std.proofs.Common.{◌≡◌, ℕ, ◌+◌, ◌<◌, ◌≤◌, true, List, [], ◌∷◌, ◌++◌, length, refl, sym, ap, ◌∙◌, subst, inl, inr, ⊎_elim, arith}
 use Rattle.std.specs.Prelude.{◌≢◌, ◌⊎◌, All, Contains}
-use Rattle.std.proofs.lemmas.Bool.{both_ways, cases_Bool}
+use Rattle.std.proofs.lemmas.Bool.{both_ways, cases_Bool, false_from_ne_true}
 use Rattle.std.proofs.lemmas.List.{get_or_default}
 use Rattle.std.proofs.lemmas.List.Elements.{All-head, All-weaker, All-contains, Contains-push, Contains-push_cases, Contains-append_left, Contains-append_right}
 use Rattle.std.proofs.lemmas.List.Elements.{Contains-append_cases}
@@ -20,6 +20,7 @@ use Rattle.configurations.proofs.FrontLemmas.{IsFront-from_order, IsFront-front,
 use Rattle.configurations.proofs.ConfigurationLemmas.{configuration_of, configuration_unique, LeadsTo-nil}
 use Rattle.search.proofs.FutureLemmas.{same_future, same_completion}
 use Rattle.search.proofs.LeastOrderLemmas.{is_at_or_before-refl, is_at_or_before-trans, is_at_or_before-total, is_at_or_before-front, is_at_or_before-higher}
+use Rattle.search.specs.LongestFront.{IsMetInTurn}
 use Rattle.search.specs.Cursor.{ComesBefore, cursor, IsBehind, StandsAtCursor}
 use Rattle.search.proofs.EarliestLemmas.{length-taken}
 use Rattle.search.proofs.BeforeLemmas.{ComesBefore-itself, at_or_before-from_cursor, ComesBefore-from_at_or_before, ComesBefore-moved, ComesBefore-move}
@@ -123,6 +124,20 @@ module _ (start : Contents) (calls : List Operation) where
             let (is, taken) = stands.first order is_order earlier in
             subst (λ o. is_at_or_before f o ≡ true) (sym is) (of_taken f is_front taken (ComesBefore-moved path f 0 next before)))
             (cases_Bool (is_at_or_before (cursor path next) order))
+
+    -- and it was visited in its turn
+    pub met_in_turn : All (IsMetInTurn start calls visited) visited
+    met_in_turn = All-from_contains (IsMetInTurn start calls visited) visited (λ c h.
+        let b = (stands.exact c).0 h in
+        record {
+          front = b.front;
+          is_front = b.is_front;
+          leads = b.leads;
+          earlier = λ other d is_front before leads.
+              visited_from_front other d is_front leads
+              (false_from_ne_true (is_at_or_before (cursor path next) other)
+              (λ later. both_ways _ b.before (is_at_or_before-trans (cursor path next) other b.front later before)));
+        })
 
     -- a length above a number is a count above it
     pub CountIsAbove-at_cursor : (budget : ℕ) → budget < length visited → CountIsAbove start calls budget

@@ -13,3 +13,4 @@ pub mod OpenLemmas
 pub mod ExistsLemmas
 pub mod LeastLemmas
 pub mod LongestLemmas
+pub mod OneFrontLemmas

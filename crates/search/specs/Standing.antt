@@ -14,7 +14,7 @@ use Rattle.search.specs.declared.standing.Level.{Level}
 use Rattle.search.specs.declared.standing.Standing.{Standing}
 use Rattle.search.specs.declared.standing.Progress.{Progress}
 use Rattle.search.specs.declared.standing.Progress.TheVariants.{Made, Order, NoOrder}
-use Rattle.search.specs.Cursor.{StandsAtCursor}
+use Rattle.search.specs.Cursor.{cursor, StandsAtCursor}
 use Rattle.search.specs.Links.{LinksView, AreWithin, AreLeft, unlinked, IsChain}
 use Rattle.search.specs.Undo.{undone}
 
@@ -90,13 +90,14 @@ pub record MayTry (start : Contents) (calls : List Operation) (path : List ℕ) 
   pub preceded : (m : ℕ) → PrecedesAt calls m next → Contains path m
   pub not_order : IsOrder start calls path → ⊥
 
--- a walk has moved: it visited one configuration more, to which the calls taken now lead, or none and has fewer calls to try
+-- a walk has moved: it took the next call and visited one configuration more, to which the calls taken now lead, or none and has fewer calls to try
 pub record HasMoved (start : Contents) (calls : List Operation) (old new : Standing) : Type 0 where
   pub stands : Stands start calls new
   pub progress :
       ((new.memo ≡ old.memo) × (untried (length calls) new.levels.items new.next < untried (length calls) old.levels.items old.next)) ⊎
       ((c : Configuration) × (new.memo ≡ old.memo ++ c ∷ []) × LeadsTo start calls (places new.levels.items) c
-      × (untried (length calls) new.levels.items new.next ≤ untried (length calls) old.levels.items old.next + length calls))
+      × (untried (length calls) new.levels.items new.next ≤ untried (length calls) old.levels.items old.next + length calls)
+      × (places new.levels.items ≡ cursor (places old.levels.items) old.next))
 
 -- all is tried: there is no order, and what was visited is what counts
 pub record IsExhausted (start : Contents) (calls : List Operation) (visited : List Configuration) : Type 0 where

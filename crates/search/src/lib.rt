@@ -14,7 +14,7 @@ mod undo;
 mod walk;
 
 pub use found::Found;
-pub use laws::{least_order_and_count, least_order_by_fronts, one_exact_answer};
+pub use laws::{least_order_and_count, least_order_by_fronts, one_exact_answer, one_longest_front};
 pub use longest::longest_front;
 pub use undo::{take_call, undo_call};
 pub use walk::{Turn, Walk, search};

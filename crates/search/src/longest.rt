@@ -1,6 +1,6 @@
 // The longest of the fronts that a search meets.
 ghost use Rattle.std.specs.Prelude.{◌≤◌, IfOk, length};
-ghost use Rattle.search.specs.LongestFront.{IsFrontOf, IsMostTaken};
+ghost use Rattle.search.specs.LongestFront.{IsFrontOf, IsLongestFront, IsMostTaken};
 ghost use Rattle.search.specs.Limits.{budget_limit};
 
 use crate::walk::{begin, make_turn, order_of};
@@ -9,11 +9,13 @@ use segments::Segment;
 use std::alloc::Global;
 
 /// The longest front of a segment that a search of it meets, by the numbers of its calls: how far an order gets. Of the
-/// configurations that the search meets none has more calls taken. It costs what the search costs, and a copy of the calls
+/// configurations that the search meets none has more calls taken, and of the fronts as long it is the least, number by
+/// number. It costs what the search costs, and a copy of the calls
 /// taken whenever more are taken than ever before.
 pub fn longest_front(alloc: Global, segment: &Segment, budget: u32) -> Result<Vec<u32>, Memory>
     requires { (1 ≤ budget) × (budget ≤ budget_limit) }
     ensures front { IfOk result (λ v. IsFrontOf segment.now v.items) }
+    ensures exact { IfOk result (λ v. IsLongestFront budget segment.now v.items) }
     ensures longest { IfOk result (λ v. IsMostTaken segment.now budget (length v.items)) }
 {
     let mut standing = begin(alloc, segment)?;

@@ -40,12 +40,19 @@ const SPENT_BEFORE_A_REFUTATION: &str = r#"
     {"invoke":["get",9],"process":0}, {"answer":null,"process":0},
     {"invoke":["get",9],"process":0}"#;
 
+/// At a budget of one configuration the get that misses the insert beside it is undecided once it is answered, and the other get
+/// refutes the whole.
+const SPENT_AND_REFUTED: &str = r#"
+    {"invoke":["insert",5,7],"process":0}, {"invoke":["get",5],"process":1},
+    {"answer":null,"process":1}, {"answer":null,"process":0},
+    {"invoke":["get",9],"process":2}, {"answer":1,"process":2}"#;
+
 const WELL: Location = Location::Yes;
 
 /// Events, a budget and the location.
 type Case<'a> = (&'a str, u32, Location);
 
-static CASES: [Case<'static>; 33] = [
+static CASES: [Case<'static>; 34] = [
     (NO_EVENTS, 1, WELL),
     (INSERT_THEN_GET, 1000, WELL),
     (GET_SEES_ANSWERED_INSERT, 1000, WELL),
@@ -133,6 +140,7 @@ static CASES: [Case<'static>; 33] = [
         1,
         Location::Undecided { from: 1, to: 4 },
     ),
+    (SPENT_AND_REFUTED, 1, Location::Undecided { from: 2, to: 6 }),
     (INSERT_THEN_GET, 1, Location::Undecided { from: 1, to: 5 }),
     (ONE_INSERT, 1, Location::Undecided { from: 1, to: 3 }),
 ];
@@ -267,17 +275,40 @@ fn good_calls_behind_hide_nothing(rt: HostRuntime) -> Result<(), Fail> {
     assert_located(&rt, alloc, &none, 10_000, Location::Yes)
 }
 
+/// How many verdicts one worker asks for: each of a history of one segment is one visit.
+fn judged_to_locate<R: Threads + Sync>(
+    rt: &R,
+    alloc: Global,
+    history: &History,
+    budget: u32,
+) -> Result<u64, Fail>
+    requires { (1 ≤ budget) × (budget ≤ MAX_BUDGET) }
+{
+    let gate = no_visits(alloc, 1)?;
+    locate(rt, alloc, history, budget, 1, &gate)?;
+    Ok(gate.visits(0))
+}
+
 #[test]
-fn at_most_fourteen_prefixes_are_judged(rt: HostRuntime) -> Result<(), Fail> {
+fn at_most_fourteen_verdicts_are_asked_for_where_none_is_undecided(
+    rt: HostRuntime,
+) -> Result<(), Fail> {
     let alloc = rt.alloc();
-    assert_eq!(&rt; MAX_JUDGEMENTS, 14);
     for false_get in [0, 1, 2047, 2048, 4094, 4095] {
         let history = one_false_get(alloc, false_get, 4095 - false_get)?;
-        let gate = no_visits(alloc, 1)?;
-        locate(&rt, alloc, &history, 10_000, 1, &gate)?;
-        let judged = gate.visits(0);
-        assert!(&rt; judged <= 14, "{judged} prefixes for {false_get}");
+        let judged = judged_to_locate(&rt, alloc, &history, 10_000)?;
+        assert!(&rt; judged <= 14, "{judged} verdicts for {false_get}");
     }
+    Ok(())
+}
+
+// Each answered get is undecided at this budget, so both halvings go all the way. The last verdict, on one event, searches nothing.
+#[test]
+fn at_most_twenty_nine_verdicts_are_asked_for(rt: HostRuntime) -> Result<(), Fail> {
+    let alloc = rt.alloc();
+    assert_eq!(&rt; MAX_JUDGEMENTS, 29);
+    let judged = judged_to_locate(&rt, alloc, &history_of(alloc, &gets(alloc, 4096)?)?, 1)?;
+    assert!(&rt; judged == 27, "{judged} verdicts");
     Ok(())
 }
 

@@ -99,6 +99,7 @@ fn locations(rt: HostRuntime) -> Result<(), Fail> {
     let missed = "{\"call\":1,\"event\":3,\"verdict\":\"no\"}\n";
     let lost = "{\"call\":2,\"event\":4,\"verdict\":\"no\"}\n";
     let undecided = "{\"from\":1,\"to\":5,\"verdict\":\"undecided\"}\n";
+    let between = "{\"from\":2,\"to\":6,\"verdict\":\"undecided\"}\n";
     for (line, text, status, output) in [
         ("bench locate", EMPTY, 0, yes),
         ("bench locate", INSERT_THEN_GET, 0, yes),
@@ -106,6 +107,7 @@ fn locations(rt: HostRuntime) -> Result<(), Fail> {
         ("bench locate", MISSED_INSERT, 1, missed),
         ("bench locate --workers 3", LOST_PENDING_INSERT, 1, lost),
         ("bench locate --budget 1", INSERT_THEN_GET, 2, undecided),
+        ("bench locate --budget 1", SPENT_AND_REFUTED, 2, between),
     ] {
         leaves(&rt, alloc, line, text.as_bytes(), status, output, "")?;
     }

@@ -1,20 +1,20 @@
--- Each turn halves what is left, and there are as many as that takes.
-use Rattle.std.proofs.Common.{arith}
-use Rattle.locating.proofs.TurnLemmas.{known_at_first, known_after_turn, known_without_turn}
+-- What both halvings end with is what is known after all verdicts.
+use Rattle.locating.proofs.TurnLemmas.{last_known}
 use Rattle.locating.proofs.halving.locate.Goals as goal
-use Rattle.locating.proofs.halving.locate.Goals.{then-found-gt1+in_ok-found, else-found-gt1}
 
-pub loop-init : goal.loop-init
-loop-init g c =
-    known_at_first c.args.budget c.args.history.now c.nothing_known-found.result (c.nothing_known-found.ensures.known c.args.budget)
-    (omega (arith, c.nothing_known-found.ensures.all, c.nothing_known-found.ensures.few))
-
-pub loop-preserved : goal.loop-preserved
-loop-preserved g c = elim c.if-found-gt1.branch [
-  | then-found-gt1+in_ok-found w ↦ rw w.found-is
-      (known_after_turn _ _ c.loop.counter c.loop.found w.in_ok-found.found c.loop-test.true c.loop.invariant w.in_ok-found.ensures.known w.in_ok-found.ensures.half)
-  | else-found-gt1 w ↦ rw w.found-is (known_without_turn _ _ c.loop.counter c.loop.found c.loop.invariant w.if-found-gt1.false)
-]
+pub location_of-requires : goal.location_of-requires
+location_of-requires g c = (
+  c.args.budget,
+  last_known c.args.budget c.args.history.now c.in_ok-whole.whole c.known_from-known.result c.in_ok-between.between c.in_ok-last.last
+      c.known_from-known.ensures.is c.in_ok-whole.ensures.shown c.in_ok-whole.ensures.exact c.in_ok-between.ensures.halved c.in_ok-last.ensures.halved,
+)
 
 pub returns : goal.returns
-returns g c = c.location_of.ensures c.args.budget c.loop.invariant.known
+returns g c =
+    let known =
+    last_known c.args.budget c.args.history.now c.in_ok-whole.whole c.known_from-known.result c.in_ok-between.between c.in_ok-last.last
+    c.known_from-known.ensures.is c.in_ok-whole.ensures.shown c.in_ok-whole.ensures.exact c.in_ok-between.ensures.halved c.in_ok-last.ensures.halved in
+    record {
+      exact = (c.in_ok-last.last, known, c.location_of.ensures);
+      located = c.exact_locations_are_so.ensures c.args.budget c.args.history.now c.location_of.result (c.in_ok-last.last, known, c.location_of.ensures);
+    }

@@ -1,11 +1,20 @@
 -- The verdict on the middle tells one side of it.
-use Rattle.locating.proofs.TurnLemmas.{verdict-first}
+use Rattle.std.proofs.Common.{arith}
+use Rattle.locating.specs.Halvings.{middle_of}
+use Rattle.locating.proofs.TurnLemmas.{verdict-first, middle_few}
 use Rattle.locating.proofs.halving.turn_alone.Goals as goal
 
-pub returns-clause-known : goal.returns-clause-known
-returns-clause-known c =
-    c.after_verdict.ensures.known c.args.budget c.args.history.now c.requires.known
-    (verdict-first _ _ _ _ c.in_ok-verdict.verdict c.in_ok-part.ensures c.in_ok-verdict.ensures.shown c.in_ok-verdict.ensures.exact)
+pub first_events-requires : goal.first_events-requires
+first_events-requires c =
+    let few = middle_few c.args.history.now c.args.gap c.args.found c.requires.in_order c.requires.left in
+    omega (arith, few, c.middle_of-count.ensures)
 
-pub first_half-requires : goal.first_half-requires
-first_half-requires c = record { known = (c.args.budget, c.requires.known) }
+pub returns : goal.returns
+returns c =
+    let verdict = c.in_ok-verdict.verdict in
+    let middle = c.middle_of-count.ensures in (
+      verdict,
+      verdict-first c.args.budget c.args.history.now c.in_ok-part.part (middle_of c.args.gap c.args.found) verdict
+          (rw middle at c.in_ok-part.ensures) c.in_ok-verdict.ensures.shown c.in_ok-verdict.ensures.exact,
+      rw middle at c.known_after.ensures,
+    )

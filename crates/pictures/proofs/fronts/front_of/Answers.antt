@@ -7,8 +7,8 @@ use Rattle.pictures.proofs.fronts.front_of.Goals.{in-Yes, in-No+in_ok-front-in-N
 pub returns-clause-front : goal.returns-clause-front
 returns-clause-front c = elim c.match-verdict.branch [
   | in-Yes w ↦ rw (w.in-Yes.is, w.front-is) w.new-front.ensures.items
-  | in-No+in_ok-front-in-No w ↦ rw (w.in-No.is, w.front-is) (w.in_ok-front-in-No.ensures.front, w.in_ok-front-in-No.ensures.longest)
-  | in-Undecided+in_ok-front-in-Undecided w ↦ rw (w.in-Undecided.is, w.front-is) (w.in_ok-front-in-Undecided.ensures.front, w.in_ok-front-in-Undecided.ensures.longest)
+  | in-No+in_ok-front-in-No w ↦ rw (w.in-No.is, w.front-is) w.in_ok-front-in-No.ensures.exact
+  | in-Undecided+in_ok-front-in-Undecided w ↦ rw (w.in-Undecided.is, w.front-is) w.in_ok-front-in-Undecided.ensures.exact
 ]
 
 pub returns-clause-markable : goal.returns-clause-markable

@@ -1,7 +1,7 @@
 use Rattle.std.proofs.Common.{ap, ◌∙◌, arith}
 use Rattle.std.specs.Prelude.{map, slice_index}
 use Rattle.search.specs.Standing.{places}
-use Rattle.search.proofs.LongestLemmas.{longest-open, longest-kept, longest-longer}
+use Rattle.search.proofs.LongestLemmas.{as_long_as, as_long, longest-open, longest-kept, longest-longer, longest-most}
 use Rattle.search.proofs.longest.longest_front.Goals as goal
 
 pub loop-longest-init : goal.loop-longest-init
@@ -10,18 +10,27 @@ loop-longest-init c =
     let standing = c.in_ok-standing.standing in
     let stands = c.in_ok-standing.ensures.stands in
     let is = c.in_ok-longest.ensures ∙ ap (λ ns. map (λ place. slice_index ns place) (places standing.levels.items)) c.numbers.ensures.numbers in
-    (stands, longest-open segment standing stands c.in_ok-longest.longest.items is c.in_ok-standing.ensures.one)
+    (stands, longest-open segment standing stands c.in_ok-longest.longest.items is c.in_ok-standing.ensures.one, omega (arith, c.in_ok-standing.ensures.one))
 
 pub loop-longest-preserved-then-len : goal.loop-longest-preserved-then-len
 loop-longest-preserved-then-len c =
     let segment = c.args.segment.now in
     let old = c.loop-longest.standing in
     let new = c.make_turn.new.standing in
-    let moved = (rw c.in_default.is at c.in_ok-_found.ensures).0 in
+    let (moved, goes_on, within) = rw c.in_default.is at c.in_ok-_found.ensures in
+    let was = c.loop-longest.invariant.1 in
     let is = c.in_ok-longest-2.ensures ∙ ap (λ ns. map (λ place. slice_index ns place) (places new.levels.items)) c.numbers-then-len.ensures.numbers in (
       moved.stands,
-      longest-longer segment old new c.loop-longest.longest.items moved c.loop-longest.invariant.1 c.in_ok-longest-2.longest.items is
-          (omega (arith, c.if-len.true, c.len.ensures, c.len-in-loop-longest.ensures)),
+      longest-longer segment old new c.loop-longest.longest.items c.loop-longest.invariant.0 moved was c.in_ok-longest-2.longest.items is
+          (omega (
+            arith,
+            c.if-len.true,
+            c.len.ensures,
+            c.len-in-loop-longest.ensures,
+            as_long segment new moved.stands,
+            as_long_as segment c.loop-longest.longest.items was.places was.is,
+          )),
+      omega (arith, goes_on.one_more, within),
     )
 
 pub loop-longest-preserved : goal.loop-longest-preserved
@@ -29,8 +38,25 @@ loop-longest-preserved c =
     let segment = c.args.segment.now in
     let old = c.loop-longest.standing in
     let new = c.make_turn.new.standing in
-    let moved = (rw c.in_default.is at c.in_ok-_found.ensures).0 in (
+    let (moved, goes_on, within) = rw c.in_default.is at c.in_ok-_found.ensures in
+    let was = c.loop-longest.invariant.1 in (
       moved.stands,
-      longest-kept segment old new c.loop-longest.longest.items moved c.loop-longest.invariant.1
-          (omega (arith, c.if-len.false, c.len.ensures, c.len-in-loop-longest.ensures)),
+      longest-kept segment old new c.loop-longest.longest.items c.loop-longest.invariant.0 moved was
+          (omega (
+            arith,
+            c.if-len.false,
+            c.len.ensures,
+            c.len-in-loop-longest.ensures,
+            as_long segment new moved.stands,
+            as_long_as segment c.loop-longest.longest.items was.places was.is,
+          )),
+      omega (arith, goes_on.one_more, within),
     )
+
+pub returns-in-Some-clause-longest : goal.returns-in-Some-clause-longest
+returns-in-Some-clause-longest c =
+    let segment = c.args.segment.now in
+    let standing = c.loop-longest.standing in
+    let (exact, counted, met) = rw c.in-Some.is at c.in_ok-_found.ensures in
+    let h = c.loop-longest.invariant in
+    (standing.memo, met h.2, longest-most segment standing c.loop-longest.longest.items h.1)

@@ -114,5 +114,6 @@ returns-in_ok-push-in-Ok-true g c =
         p.memo ∙ visited_is,
         subst (λ ps. LeadsTo g.start calls ps config) (sym (ap places p.levels ∙ places-push w.levels.items level)) leads,
         rw (p.levels, p.next) more,
+        ap places p.levels ∙ places-push w.levels.items level,
       );
     }

@@ -9,17 +9,19 @@ use Rattle.search.specs.LeastCounts.{HasCount}
 use Rattle.search.specs.LongestFront.{HasMetEnough}
 use Rattle.search.specs.Standing.{places, Stands, HasMoved, IsExhausted}
 use Rattle.search.specs.Walk.{walk_at, GoesOn}
-use Rattle.search.proofs.CursorLemmas.{counted_at_cursor, CountIsAbove-at_cursor, IsLeastOrder-at_cursor, HasCount-at_order}
+use Rattle.search.proofs.CursorLemmas.{counted_at_cursor, met_in_turn, CountIsAbove-at_cursor, IsLeastOrder-at_cursor, HasCount-at_order}
 use Rattle.search.proofs.walk.make_turn.Goals as goal
 
 -- what was visited is what was met
 met : (segment : SegmentView) (w : Standing) (budget : ℕ) → Stands segment.start segment.calls w
     → ((count : ℕ) → HasCount segment.start segment.calls count → min count (budget + 1) ≤ length w.memo)
-    → HasMetEnough segment.start segment.calls budget w.memo
-met segment w budget s enough = record {
+    → length w.memo ≤ budget + 1 → HasMetEnough segment.start segment.calls budget w.memo
+met segment w budget s enough few = record {
   distinct = s.cursor.distinct;
   each = counted_at_cursor segment.start segment.calls (places w.levels.items) w.next w.memo s.cursor;
+  in_turn = met_in_turn segment.start segment.calls (places w.levels.items) w.next w.memo s.cursor;
   enough = enough;
+  few = few;
 }
 
 -- all that counts was visited
@@ -77,7 +79,7 @@ returns-in-Made c =
     let within : length old.memo ≤ c.args.budget = omega (arith, c.if-len-budget.false, c.len.ensures.len) in
     let step = rw c.in-Made.is at c.in_ok-make_step.ensures in
     let moved = subst (λ from. HasMoved from segment.calls old new) s.begins (rw c.calls.ensures.calls at step) in
-    (moved, goes_on segment c.args.budget old new within moved)
+    (moved, goes_on segment c.args.budget old new within moved, within)
 
 pub returns-in_ok-order-in-Order : goal.returns-in_ok-order-in-Order
 returns-in_ok-order-in-Order c =

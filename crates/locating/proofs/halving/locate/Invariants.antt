@@ -1,6 +1,0 @@
--- What is known, and that the turns that are left suffice.
-use Rattle.locating.proofs.TurnLemmas.{IsKnownBefore}
-use Rattle.locating.proofs.halving.locate.Given as goal
-
-abbrev pub invariant-loop : goal.invariant-loop
-invariant-loop g l = IsKnownBefore l.budget l.fn.history l.counter l.found
