@@ -17,6 +17,7 @@ use Rattle.art_rows.specs.declared.table.Shape.{Shape}
 use Rattle.art_steps.specs.declared.variant.Variant.{Variant}
 use Rattle.art_core.specs.declared.process.Process.{Process}
 use Rattle.art_core.specs.Core.{begun, idle, invoked}
+use Rattle.art_shared.specs.declared.view.Setup.{Setup}
 use Rattle.art_shared.specs.declared.view.View.{View}
 use Rattle.art_shared.specs.Views.{Numbered, numbers_of}
 use Rattle.art_shared.specs.Ends.{HasOwnEvents}
@@ -40,9 +41,10 @@ calls-logged ((stamp, Invoke p call) ∷ log) = ap (λ l. call ∷ l) (calls-log
 calls-logged ((stamp, Answer p reply) ∷ log) = calls-logged log
 
 -- a process whose events are those of its log did in them what it did by its log
-ended-in : (events : List Event) (p limit : ℕ) (q : Process) (script : List Call) → events_of p events ≡ map (λ e. e.1) q.log → HasDone limit script q
+ended-in : (setup : Setup) (events : List Event) (p number limit : ℕ) (q : Process) (script : List Call) → events_of p events ≡ map (λ e. e.1) q.log
+    → HasDone setup number limit script q
     → HasFinished events p script ⊎ HasStopped events p script
-ended-in events p limit q script its done =
+ended-in setup events p number limit q script its done =
     let calls : drives.invoked (events_of p events) ≡ begun q = ap drives.invoked its ∙ calls-logged q.log in
     ⊎_elim (λ (h : HasAnsweredAll script q). inl (record { calls = calls ∙ h.calls; completed = ap (ends_waiting false) its ∙ h.completed }))
     (λ (h : HasStoppedIn script q). inr (record { rest = h.rest; calls = ap (λ l. l ++ h.rest) calls ∙ h.calls; pending = ap (ends_waiting false) its ∙ h.pending }))
@@ -60,7 +62,7 @@ numbered-at xs n k d numbers within =
 module _ (shape : Shape) (variant : Variant) (limit : ℕ) (scripts : List (List Call)) (v : View) (history : HistoryView)
     (gives : IsHistoryOf (setup_with shape variant (length scripts) (longest scripts)) v history)
     (own : HasOwnEvents (setup_with shape variant (length scripts) (longest scripts)) v history.events)
-    (done : All (HasDoneOwn limit scripts) v.processes) (small : limit < 2 ^ 32)
+    (done : All (HasDoneOwn (setup_with shape variant (length scripts) (longest scripts)) limit scripts) v.processes) (small : limit < 2 ^ 32)
     (order : IsLinearizableIn (setup_with shape variant (length scripts) (longest scripts)) v history) where
   many : length v.processes ≡ length scripts
   many = omega (arith, ap length own.numbers, length-map v.processes (λ (x : Numbered). x.0), length-range_with_len 0 (length scripts))
@@ -70,7 +72,7 @@ module _ (shape : Shape) (variant : Variant) (limit : ℕ) (scripts : List (List
 
   -- the process at a place did the script there
   did : (k : ℕ) (d : Numbered) (script : List Call) → k < length v.processes → slice_get scripts k ≡ Some script
-      → HasDone limit script (slice_index_or v.processes k d).1
+      → HasDone (setup_with shape variant (length scripts) (longest scripts)) (slice_index_or v.processes k d).0 limit script (slice_index_or v.processes k d).1
   did k d script within at = done k d within script (ap (slice_get scripts) (number k d within) ∙ at)
 
   ended : (p : ℕ) (script : List Call) → slice_get scripts p ≡ Some script → HasFinished history.events p script ⊎ HasStopped history.events p script
@@ -78,10 +80,10 @@ module _ (shape : Shape) (variant : Variant) (limit : ℕ) (scripts : List (List
       let within : p < length v.processes = omega (arith, many, slice_get_within scripts p script at) in
       let x = slice_index_or v.processes p (0, idle) in
       let its = own.each p (0, idle) within in
-      ended-in history.events p limit x.1 script (ap (λ n. events_of n history.events) (sym (number p (0, idle) within)) ∙ its)
+      ended-in (setup_with shape variant (length scripts) (longest scripts)) history.events p x.0 limit x.1 script (ap (λ n. events_of n history.events) (sym (number p (0, idle) within)) ∙ its)
       (did p (0, idle) script within at)
 
-  limited : All (λ x. IsLimited limit x.1) v.processes
+  limited : All (IsLimited (setup_with shape variant (length scripts) (longest scripts)) limit) v.processes
   limited k d within =
       let script = slice_get-below scripts k (omega (arith, many, within)) in
       (did k d script.0 within script.1).limited

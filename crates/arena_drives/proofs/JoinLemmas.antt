@@ -8,7 +8,7 @@ use Rattle.events.specs.declared.memory.Memory.{Memory}
 use Rattle.art_shared.specs.Views.{Numbered, placed, merge}
 use Rattle.running.specs.declared.arena.Arena.{Arena}
 use Rattle.running.specs.declared.pass.Pass.{Pass}
-use Rattle.running.specs.Passes.{shows}
+use Rattle.running.specs.Passes.{shows, opened_for}
 use Rattle.running.proofs.GatherLemmas.{merge-length}
 use Rattle.arena_drives.specs.Passes.{HasDoneOwn, IsPassAfter, gathered, joined}
 
@@ -29,7 +29,7 @@ module _ (a : Arena) (limit : ℕ) (scripts : List (List Call)) where
   After d = IfOk d (IsPassAfter a limit scripts)
 
   abbrev Own : Numbered → Type 0
-  Own = HasDoneOwn limit scripts
+  Own = HasDoneOwn (opened_for a) limit scripts
 
   own-pass : (p : Pass) → IsPassAfter a limit scripts p → All Own (shows p).processes
   own-pass p h = subst (All Own) (sym h.is) (All-cons Own h.process [] h.done (All-nil Own))

@@ -6,7 +6,7 @@ use Rattle.art_core.specs.Core.{idle}
 use Rattle.art_shared.specs.declared.view.Setup.{Setup}
 use Rattle.art_shared.specs.declared.view.View.{View}
 use Rattle.art_shared.specs.Views.{Numbered, view, without_last, last_alone}
-use Rattle.arena_drives.specs.Passes.{alone}
+use Rattle.arena_drives.specs.ArenaDrives.{alone}
 
 abbrev idle_at : ℕ → Numbered
 idle_at p = (p, idle)

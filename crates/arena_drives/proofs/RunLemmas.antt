@@ -18,7 +18,7 @@ use Rattle.art_shared.specs.declared.view.Setup.{Setup}
 use Rattle.art_shared.specs.declared.view.View.{View}
 use Rattle.art_shared.specs.Views.{view, open_move, moved_first, moved_if}
 use Rattle.running.specs.Steps.{is_open, Ran}
-use Rattle.arena_drives.specs.Passes.{alone}
+use Rattle.arena_drives.specs.ArenaDrives.{alone}
 
 -- The last event of a list says whether the list ends with an invocation.
 

@@ -25,20 +25,20 @@ both-within : (a b c d e : ℕ) → a ≤ c → b ≤ d → e ≡ c + d → a + 
 both-within a b c d e first second is = omega (arith, first, second, is)
 
 -- at most so many for each call
-steps-within : (limit : ℕ) (xs : List Numbered) → All (λ x. IsLimited limit x.1) xs → steps_of xs ≤ (limit + 1) * calls_of xs
-steps-within limit [] all = omega arith
-steps-within limit (x ∷ xs) all =
+steps-within : (setup : Setup) (limit : ℕ) (xs : List Numbered) → All (IsLimited setup limit) xs → steps_of xs ≤ (limit + 1) * calls_of xs
+steps-within setup limit [] all = omega arith
+steps-within setup limit (x ∷ xs) all =
     subst (λ n. n ≤ (limit + 1) * calls_of (x ∷ xs)) (sym (sum_by-cons (λ n. n) x.1.steps (map (λ q. q.steps) (map (λ x. x.1) xs))))
     (subst (λ n. x.1.steps + steps_of xs ≤ (limit + 1) * n)
     (sym (sum_by-cons (λ n. n) (length (begun x.1)) (map (λ script. length script) (map begun (map (λ x. x.1) xs)))))
     (both-within x.1.steps (steps_of xs) ((limit + 1) * length (begun x.1)) ((limit + 1) * calls_of xs) ((limit + 1) * (length (begun x.1) + calls_of xs))
-    (All-head (λ (x : Numbered). IsLimited limit x.1) x xs all).steps
-    (steps-within limit xs (All-tail (λ (x : Numbered). IsLimited limit x.1) x xs all)) (mul-add (limit + 1) (length (begun x.1)) (calls_of xs))))
+    (All-head (IsLimited setup limit) x xs all).steps
+    (steps-within setup limit xs (All-tail (IsLimited setup limit) x xs all)) (mul-add (limit + 1) (length (begun x.1)) (calls_of xs))))
 
 -- so fewer than those for which the laws of runs are said
 pub few-steps : (setup : Setup) (limit : ℕ) (v : View) (words : List ℕ) → limit < 2 ^ 32 → IsPlan (plan_of setup v)
-    → All (λ x. IsLimited limit x.1) v.processes → HasFewSteps (state_of words v)
+    → All (IsLimited setup limit) v.processes → HasFewSteps (state_of words v)
 few-steps setup limit v words small within limited =
-    let all = steps-within limit v.processes limited in
+    let all = steps-within setup limit v.processes limited in
     let product = mul-le (limit + 1) (calls_of v.processes) (2 ^ 32) call_limit (omega (arith, small)) within.few_calls in
     omega (arith, all, product)

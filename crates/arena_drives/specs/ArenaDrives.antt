@@ -1,5 +1,5 @@
 -- What is recorded while each process does the calls of a script of its own on one tree.
-use Rattle.std.specs.Prelude.{◌≡◌, ◌⊎◌, ℕ, ◌+◌, ◌*◌, ◌≤◌, is_some, IsTrue, List, length, Some, slice_get, All}
+use Rattle.std.specs.Prelude.{◌≡◌, ◌⊎◌, ℕ, ◌+◌, ◌*◌, ◌≤◌, is_some, IsTrue, List, [], ◌∷◌, length, Some, None, slice_get, All}
 use Rattle.events.specs.declared.event.Call.{Call}
 use Rattle.events.specs.HistoryView.{HistoryView}
 use Rattle.orders.specs.Orders.{IsLinearizableHistory}
@@ -7,17 +7,40 @@ use Rattle.art_rows.specs.declared.table.Shape.{Shape}
 use Rattle.art_steps.specs.declared.variant.Variant.{Variant}
 use Rattle.art_steps.specs.declared.variant.Variant.TheVariants.{Coupled, Optimistic}
 use Rattle.art_core.specs.declared.process.Process.{Process}
-use Rattle.art_core.specs.Core.{begun}
+use Rattle.art_core.specs.Core.{begun, idle}
+use Rattle.art_shared.specs.declared.view.Setup.{Setup}
 use Rattle.art_shared.specs.declared.view.View.{View}
+use Rattle.art_shared.specs.Views.{Numbered, view}
 use Rattle.drives.specs.Drives.{HasFinished, HasStopped, HaveScripts, longest}
 use Rattle.running.specs.Passes.{setup_with}
 use Rattle.running.specs.Closing.{IsHistoryOf}
+use Rattle.running.specs.Steps.{HasInvoked, Ran}
 
--- A process made at most so many steps for each of its calls, beside that of the call's invocation: no more in sum, and where its last call is open, all of
--- them are accesses of that call.
-pub record IsLimited (limit : ℕ) (q : Process) : Type 0 where
-  pub steps : q.steps ≤ (limit + 1) * length (begun q)
-  pub pending : IsTrue (is_some q.call) → length q.got ≡ limit
+-- a view of one process
+abbrev pub alone : Setup → ℕ → Process → View
+alone setup number q = view setup ((number, q) ∷ [])
+
+-- A process that has no open call invokes this one, and then makes at most so many steps of it.
+pub record DoesCall (setup : Setup) (number limit : ℕ) (call : Call) (old new : Process) : Type 0 where
+  pub none : old.call ≡ None
+  pub invoking : Process
+  pub invoked : HasInvoked call (alone setup number old) (alone setup number invoking)
+  pub made : ℕ
+  pub few : made ≤ limit
+  pub ran : Ran made (alone setup number invoking) (alone setup number new)
+
+-- it does calls so, one after another, and nothing else
+abbrev pub DoesCalls : Setup → ℕ → ℕ → List Call → Process → Process → Type 0
+DoesCalls setup number limit [] old new = new ≡ old
+DoesCalls setup number limit (call ∷ calls) old new =
+    (mid : Process) × DoesCall setup number limit call old mid × DoesCalls setup number limit calls mid new
+
+-- From before its first step on a process did the calls that it began, with at most so many steps of each beside that of its invocation, so no more in sum.
+-- Where the last one is open, all of these are accesses of it.
+pub record IsLimited (setup : Setup) (limit : ℕ) (x : Numbered) : Type 0 where
+  pub each : DoesCalls setup x.0 limit (begun x.1) idle x.1
+  pub steps : x.1.steps ≤ (limit + 1) * length (begun x.1)
+  pub pending : IsTrue (is_some x.1.call) → length x.1.got ≡ limit
 
 -- The history is one that an arena of the shape and the variant gives when it closes: that of a state of the core which some schedule gives, and in which no
 -- process is past its limit. Each process did its script, or it stopped within it, and then the last of its calls alone is pending. There is no other process.
@@ -25,7 +48,7 @@ pub record IsLimited (limit : ℕ) (q : Process) : Type 0 where
 pub record IsArenaDriveOf (shape : Shape) (variant : Variant) (limit : ℕ) (scripts : List (List Call)) (history : HistoryView) : Type 0 where
   pub view : View
   pub gives : IsHistoryOf (setup_with shape variant (length scripts) (longest scripts)) view history
-  pub limited : All (λ x. IsLimited limit x.1) view.processes
+  pub limited : All (IsLimited (setup_with shape variant (length scripts) (longest scripts)) limit) view.processes
   pub processes : HaveScripts scripts history.events
   pub ended : (p : ℕ) (script : List Call) → slice_get scripts p ≡ Some script → HasFinished history.events p script ⊎ HasStopped history.events p script
   pub linearizable : (variant ≡ Coupled) ⊎ (variant ≡ Optimistic) → IsLinearizableHistory history

@@ -7,17 +7,13 @@ use Rattle.art_core.specs.declared.process.Process.{Process}
 use Rattle.art_core.specs.Core.{begun, idle}
 use Rattle.art_shared.specs.declared.view.Setup.{Setup}
 use Rattle.art_shared.specs.declared.view.View.{View}
-use Rattle.art_shared.specs.Views.{Numbered, view, merge}
+use Rattle.art_shared.specs.Views.{Numbered, merge}
 use Rattle.running.specs.declared.arena.Arena.{Arena}
 use Rattle.running.specs.declared.pass.Pass.{Pass}
 use Rattle.running.specs.declared.fault.ArenaClose.{ArenaClose}
 use Rattle.running.specs.declared.fault.ArenaClose.TheVariants as faults
 use Rattle.running.specs.Passes.{shows, opened_for, IsPassOf}
-use Rattle.arena_drives.specs.ArenaDrives.{IsLimited}
-
--- a view of one process
-abbrev pub alone : Setup → ℕ → Process → View
-alone setup number q = view setup ((number, q) ∷ [])
+use Rattle.arena_drives.specs.ArenaDrives.{alone, IsLimited}
 
 -- a pass with one process, which has begun nothing yet
 pub record IsReady (a : Arena) (p : Pass) : Type 0 where
@@ -42,19 +38,19 @@ pub record HasStoppedIn (script : List Call) (q : Process) : Type 0 where
   pub pending : is_pending q ≡ true
 
 -- one of both, within the limit
-pub record HasDone (limit : ℕ) (script : List Call) (q : Process) : Type 0 where
+pub record HasDone (setup : Setup) (number limit : ℕ) (script : List Call) (q : Process) : Type 0 where
   pub ended : HasAnsweredAll script q ⊎ HasStoppedIn script q
-  pub limited : IsLimited limit q
+  pub limited : IsLimited setup limit (number, q)
 
 -- the view shows one process, with this number, which did the script
-pub record ShowsDone (number limit : ℕ) (script : List Call) (v : View) : Type 0 where
+pub record ShowsDone (setup : Setup) (number limit : ℕ) (script : List Call) (v : View) : Type 0 where
   pub process : Process
   pub is : v.processes ≡ (number, process) ∷ []
-  pub done : HasDone limit script process
+  pub done : HasDone setup number limit script process
 
 -- a process did its own of the scripts
-abbrev pub HasDoneOwn : ℕ → List (List Call) → Numbered → Type 0
-HasDoneOwn limit scripts x = (script : List Call) → slice_get scripts x.0 ≡ Some script → HasDone limit script x.1
+abbrev pub HasDoneOwn : Setup → ℕ → List (List Call) → Numbered → Type 0
+HasDoneOwn setup limit scripts x = (script : List Call) → slice_get scripts x.0 ≡ Some script → HasDone setup x.0 limit script x.1
 
 -- the pass of one process, which did its own of the scripts
 pub record IsPassAfter (a : Arena) (limit : ℕ) (scripts : List (List Call)) (p : Pass) : Type 0 where
@@ -62,7 +58,7 @@ pub record IsPassAfter (a : Arena) (limit : ℕ) (scripts : List (List Call)) (p
   pub process : Numbered
   pub is : (shows p).processes ≡ process ∷ []
   pub known : process.0 < length scripts
-  pub done : HasDoneOwn limit scripts process
+  pub done : HasDoneOwn (opened_for a) limit scripts process
 
 -- the processes of some passes, and then those of others, each at its place; none where a process wanted memory
 abbrev pub gathered : List Numbered → List (Result Pass Memory) → Option (List Numbered)

@@ -7,7 +7,7 @@ ghost use Rattle.arena_drives.specs.ArenaDrives.{IsArenaDriveOf};
 ghost use Rattle.arena_drives.specs.Passes.{IsReady, IsPassAfter, WantsMemory};
 
 use crate::parts::{join_all, part_all};
-use crate::script::do_script;
+use crate::script::{do_script, enter};
 use art::{Shape, TreeCall, Variant};
 use drives::longest;
 use events::{History, Memory};
@@ -20,9 +20,9 @@ use std::thread::Threads;
 
 /// What happens when each process of the plan does its script on one tree, which is empty at first, one call after another,
 /// in a thread of its own: it enters the gate once, with its number, and then begins each call and makes at most `limit` steps
-/// of it. A process whose call is still open after them stops there. A process that gets no thread does its script later, in
-/// the thread that was to start it. The call returns once all processes are done or have stopped. It costs a thread for each
-/// process, and an atomic step for each step of a call. `Err` is want of memory.
+/// of it beside its invocation. A process whose call is still open after them stops there. A process that gets no thread does
+/// its script later, in the thread that was to start it. The call returns once all processes are done or have stopped. It
+/// costs a thread for each process, an atomic step for each step of a call, and two for its invocation. `Err` is want of memory.
 pub fn drive_arena<R: Threads + Sync, G: Gate + Sync>(
     rt: &R,
     alloc: Global,
@@ -87,8 +87,7 @@ fn do_own_script<G: Gate>(
     ensures { IfOk result (IsPassAfter arena.now limit (map (λ script. script.items) scripts.now)) }
 {
     let process = usize::from(pass.process());
-    gate.enter(process);
-    do_script(alloc, arena, pass, &scripts[process], limit)
+    do_script(alloc, arena, enter(gate, pass), &scripts[process], limit)
 }
 
 /// An arena was not closed only for want of memory.

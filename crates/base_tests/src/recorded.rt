@@ -1,5 +1,6 @@
 // What a recorder records, by hand and of a map under a lock.
-ghost use Rattle.std.specs.Prelude.{◌≤◌, IfOk};
+ghost use Rattle.std.specs.Prelude.{◌≡◌, ◌≤◌, IfOk};
+ghost use Rattle.events.specs.declared.event.Reply.TheVariants as replies;
 ghost use Rattle.recorder.specs.Recorders.{IsPassOf};
 
 use history::{Call, Pairs, Reply, write_history};
@@ -137,6 +138,8 @@ fn no_calls_make_no_events(rt: HostRuntime) -> Result<(), Fail> {
 struct Nothing;
 
 impl Subject for Nothing {
+    ghost may_answer = { λ _ _ reply. reply ≡ replies.None };
+
     fn call(&self, _call: &Call) -> Reply {
         Reply::None
     }

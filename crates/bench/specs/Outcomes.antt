@@ -12,6 +12,7 @@ use Rattle.command_line.specs.declared.fault.LineFault.{LineFault}
 use Rattle.command_line.specs.declared.fault.LineFault.TheVariants as line_faults
 use Rattle.command_line.specs.Lines.{IsLineOf}
 use Rattle.command_line.specs.LineFaults.{IsAccepted, IsFaultAt}
+use Rattle.locked_map.specs.Answers.{IsAnswerOf}
 use Rattle.outcomes.specs.declared.outcome.Outcome.{Outcome}
 use Rattle.outcomes.specs.declared.outcome.Outcome.TheVariants.{Memory, Words}
 use Rattle.outcomes.specs.Ends.{Change, IsUnused, IsSound}
@@ -33,7 +34,7 @@ variant_of trees.EarlyRelease = Some variants.EarlyRelease
 -- the outcome of a drive: on a tree of this shape within the limit, or at the map under a lock
 abbrev pub IsDrivenOutcome : Option Variant → Shape → ℕ → Change → Outcome → Type 0
 IsDrivenOutcome (Some variant) shape limit source outcome = IsTreeDriveOutcome shape variant limit source outcome
-IsDrivenOutcome None shape limit source outcome = IsDriveOutcome source outcome
+IsDrivenOutcome None shape limit source outcome = IsDriveOutcome IsAnswerOf source outcome
 
 -- the outcome of what a line asks for
 abbrev pub IsLineOutcome : Line → Change → Outcome → Type 0

@@ -169,3 +169,43 @@ fn a_plan_is_drivable_where_its_longest_script_fits_as_often_as_it_has_scripts(
     }
     Ok(())
 }
+
+/// As many processes as there may be, and as many calls of one: each wants memory for the most that it may.
+#[test]
+fn the_largest_plans_are_driven(rt: HostRuntime) -> Result<(), Fail> {
+    let alloc = rt.alloc();
+    let plans: [&[u32]; 2] = [&[64; 64], &[4096]];
+    for lengths in &plans {
+        let text = gets(alloc, lengths)?;
+        let history = driven(&rt, alloc, &text, &LockedMap::new(&rt, alloc))?;
+        assert_eq!(rt; history.calls().len(), 4096);
+        assert_eq!(rt; history.events().len(), 8192);
+    }
+    Ok(())
+}
+
+/// The longest answer is recorded.
+#[test]
+fn an_answer_of_4096_pairs_is_recorded(rt: HostRuntime) -> Result<(), Fail> {
+    let alloc = rt.alloc();
+    let map = LockedMap::new(&rt, alloc);
+    for key in 0..4096 {
+        assert!(rt; matches!(map.call(&Call::Insert(key, 1)), Reply::None));
+    }
+    let text = r#"{"scripts":[[["scan",0,4095]]],"version":1}"#;
+    let history = driven(&rt, alloc, text, &map)?;
+    let mut listed = 0;
+    for operation in history.calls() {
+        if let Some(
+            Response {
+                res: _,
+                reply: Reply::Pairs(pairs),
+            },
+        ) = &operation.response
+        {
+            listed = pairs.as_slice().len();
+        }
+    }
+    assert_eq!(rt; listed, 4096);
+    Ok(())
+}

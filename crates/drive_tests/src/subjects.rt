@@ -1,4 +1,7 @@
 // Subjects that are known to answer wrongly, or that wait for calls of other processes.
+ghost use Rattle.std.specs.Prelude.{◌≡◌, ℕ};
+ghost use Rattle.events.specs.declared.event.Reply.TheVariants as replies;
+
 use history::{Call, Reply};
 use recorder::Subject;
 use std::sync::atomic::{AtomicBool, AtomicU64, Ordering};
@@ -8,6 +11,8 @@ use std::thread;
 pub(crate) struct Forgetful;
 
 impl Subject for Forgetful {
+    ghost may_answer = { λ _ _ reply. reply ≡ replies.None };
+
     fn call(&self, _call: &Call) -> Reply {
         Reply::None
     }
@@ -51,6 +56,8 @@ impl Meeting {
 }
 
 impl Subject for Meeting {
+    ghost may_answer = { λ _ _ reply. (value : ℕ) × (reply ≡ replies.Some value) };
+
     fn call(&self, call: &Call) -> Reply {
         let key = call.low_key();
         match key {

@@ -1,8 +1,8 @@
 -- The passes of all processes after their scripts, and the history that they make.
-use Rattle.std.proofs.Common.{◌≡◌, ℕ, ◌<◌, Bool, true, false, ◌&&◌, nat_lt, List, [], ◌∷◌, length, map, Some, Ok, Err, refl, sym, ap, ◌∙◌, arith, subst}
+use Rattle.std.proofs.Common.{◌≡◌, ℕ, ◌<◌, Bool, true, false, ◌&&◌, nat_lt, List, [], ◌∷◌, length, map, Some, Ok, Err, inl, inr, refl, sym, ap, ◌∙◌, arith, subst}
 use Rattle.std.specs.Prelude.{All, Contains, Result, IfOk, flat_map, slice_get, slice_index_or}
 use Rattle.std.specs.List.{list_all, range_with_len}
-use Rattle.std.proofs.lemmas.Bool.{lt-ltb, ltb-true}
+use Rattle.std.proofs.lemmas.Bool.{lt-ltb, ltb-true, cases_lt}
 use Rattle.std.proofs.lemmas.List.{get_or-map, length-map}
 use Rattle.std.proofs.lemmas.List.Concat.{flat_map-cons}
 use Rattle.std.proofs.lemmas.List.Elements.{All-head, All-tail, All-cons, All-nil, All-weaker, All-contains}
@@ -11,6 +11,7 @@ use Rattle.std.proofs.lemmas.List.FromFn.{get_or-range_with_len, length-range_wi
 use Rattle.std.proofs.lemmas.Option.{slice_get-get_or, get_or_from_slice_get, slice_get_within, same_Some}
 use Rattle.list_laws.proofs.NumberLemmas.{slice_get-below}
 use Rattle.events.specs.declared.event.Call.{Call}
+use Rattle.events.specs.declared.event.Reply.{Reply}
 use Rattle.events.specs.declared.event.Event.{Event}
 use Rattle.events.specs.declared.memory.Memory.{Memory}
 use Rattle.events.specs.Events.{process_of, events_of}
@@ -24,8 +25,9 @@ use Rattle.recorder.specs.Passes.{process_number, log_of, events_by}
 use Rattle.recorder.specs.Recorders.{processes_of, IsPassOf, HasProcesses, history_of, HasOwnEvents}
 use Rattle.recorder.specs.Closing.{IsOneOfEach}
 use Rattle.drives.specs.Drives.{invoked, HasFinished, IsDriveOf}
-use Rattle.drives.specs.Passes.{AreOwn, HasRecordedScript, IsPassAfter, EachIsAfter}
+use Rattle.drives.specs.Passes.{AreOwn, AnswersFit, HasRecordedScript, IsPassAfter, EachIsAfter}
 use Rattle.drives.proofs.ScriptLemmas.{own-events}
+use Rattle.drives.proofs.AnswerLemmas.{events_of-none, AreAnswered-own}
 
 -- two facts of a value, if there is one, give a third
 pub both-of : {A E : Type 0} (r : Result A E) (P Q S : A → Type 0) → ((a : A) → P a → Q a → S a) → IfOk r P → IfOk r Q → IfOk r S
@@ -49,14 +51,15 @@ process-at passes n i x numbers within is =
     omega (arith, ap process_number is, here, same, there)
 
 -- a process did its own of the scripts
-pub after-script : (r : Recorder) (scripts : List (List Call)) (script : List Call) (n : ℕ) (done : Result Pass Memory) → slice_get scripts n ≡ Some script
-    → IfOk done (IsPassOf r) → IfOk done (λ p. process_number p ≡ n) → IfOk done (HasRecordedScript script) → IfOk done (IsPassAfter r scripts n)
-after-script r scripts script n (Ok p) at own process recorded = record {
+pub after-script : (may_answer : Call → Reply → Type 0) (r : Recorder) (scripts : List (List Call)) (script : List Call) (n : ℕ) (done : Result Pass Memory)
+    → slice_get scripts n ≡ Some script → IfOk done (IsPassOf r) → IfOk done (λ p. process_number p ≡ n) → IfOk done (HasRecordedScript may_answer script)
+    → IfOk done (IsPassAfter may_answer r scripts n)
+after-script may_answer r scripts script n (Ok p) at own process recorded = record {
   own = own;
   process_is = process;
-  recorded = λ other there. subst (λ s. HasRecordedScript s p) (same_Some script other (sym at ∙ there)) recorded;
+  recorded = λ other there. subst (λ s. HasRecordedScript may_answer s p) (same_Some script other (sym at ∙ there)) recorded;
 }
-after-script r scripts script n (Err e) at own process recorded = tt
+after-script may_answer r scripts script n (Err e) at own process recorded = tt
 
 abbrev Ok-pass : Pass → Result Pass Memory
 Ok-pass pass = Ok pass
@@ -65,14 +68,14 @@ pub length-values : (done : List (Result Pass Memory)) (passes : List Pass) → 
 length-values done passes all = ap length all ∙ length-map passes Ok-pass
 
 -- what all processes gave back, where none wanted memory
-pub each-pass : (r : Recorder) (scripts : List (List Call)) (done : List (Result Pass Memory)) (passes : List Pass)
-    → EachIsAfter r scripts done → done ≡ map (λ pass. Ok pass) passes
-    → (process : ℕ) (d : Pass) → process < length passes → IsPassAfter r scripts process (slice_index_or passes process d)
-each-pass r scripts done passes each all process d within =
+pub each-pass : (may_answer : Call → Reply → Type 0) (r : Recorder) (scripts : List (List Call)) (done : List (Result Pass Memory)) (passes : List Pass)
+    → EachIsAfter may_answer r scripts done → done ≡ map (λ pass. Ok pass) passes
+    → (process : ℕ) (d : Pass) → process < length passes → IsPassAfter may_answer r scripts process (slice_index_or passes process d)
+each-pass may_answer r scripts done passes each all process d within =
     let inside : process < length done = let many = length-values done passes all in omega arith in
     let is : slice_index_or done process (Ok d) ≡ Ok (slice_index_or passes process d) =
     ap (λ l. slice_index_or l process (Ok d)) all ∙ get_or-map (λ pass. Ok pass) passes process d (Ok d) within in
-    subst (λ o. IfOk o (IsPassAfter r scripts process)) is (each process (Ok d) inside)
+    subst (λ o. IfOk o (IsPassAfter may_answer r scripts process)) is (each process (Ok d) inside)
 
 -- what all items pass
 list_all-from_All : {X : Type 0} (f : X → Bool) (xs : List X) → All (λ x. f x ≡ true) xs → list_all f xs ≡ true
@@ -124,8 +127,8 @@ module _ (n : ℕ) where
 
 -- The passes of all processes, by process.
 
-module _ (r : Recorder) (scripts : List (List Call)) (passes : List Pass)
-    (each : (process : ℕ) (d : Pass) → process < length passes → IsPassAfter r scripts process (slice_index_or passes process d))
+module _ (may_answer : Call → Reply → Type 0) (r : Recorder) (scripts : List (List Call)) (passes : List Pass)
+    (each : (process : ℕ) (d : Pass) → process < length passes → IsPassAfter may_answer r scripts process (slice_index_or passes process d))
     (many : length passes ≡ length scripts) where
   pub are-own : All (IsPassOf r) passes
   are-own k d within = (each k d within).own
@@ -149,13 +152,13 @@ module _ (r : Recorder) (scripts : List (List Call)) (passes : List Pass)
           )
 
   -- the pass of a process, with what it recorded
-  pub pass-of : (p : ℕ) (script : List Call) → slice_get scripts p ≡ Some script → (x : Pass) × Contains passes x × (process_number x ≡ p) × HasRecordedScript script x
+  pub pass-of : (p : ℕ) (script : List Call) → slice_get scripts p ≡ Some script → (x : Pass) × Contains passes x × (process_number x ≡ p) × HasRecordedScript may_answer script x
   pass-of p script at =
       let below : p < length passes = omega (arith, many, slice_get_within scripts p script at) in
       let there = slice_get-below passes p below in
       let here = each p there.0 below in
       let is : slice_index_or passes p there.0 ≡ there.0 = get_or_from_slice_get passes p there.0 there.0 there.1 in
-      let after : IsPassAfter r scripts p there.0 = subst (IsPassAfter r scripts p) is here in
+      let after : IsPassAfter may_answer r scripts p there.0 = subst (IsPassAfter may_answer r scripts p) is here in
       (there.0, (p, below, is), after.process_is, after.recorded script at)
 
   -- all of it is known
@@ -167,17 +170,35 @@ module _ (r : Recorder) (scripts : List (List Call)) (passes : List Pass)
       ((after.recorded script.0 script.1).own, let same = after.process_is in omega arith)
 
   -- so it is what is recorded of the scripts
-  pub drive-of : HasOwnEvents passes → IsDriveOf scripts (with_no_start (history_of passes))
-  drive-of own = record { start = refl; processes = history-known (length scripts) passes are-known; finished = finished }
+  pub drive-of : HasOwnEvents passes → IsDriveOf may_answer scripts (with_no_start (history_of passes))
+  drive-of own = record { start = refl; processes = history-known (length scripts) passes are-known; finished = finished; answered = AreAnswered-own may_answer (history_of passes) answers }
     where
+      its-events : (p : ℕ) (script : List Call) → slice_get scripts p ≡ Some script
+          → (x : Pass) × (events_of p (history_of passes) ≡ events_by x) × (process_number x ≡ p) × HasRecordedScript may_answer script x
+      its-events p script at =
+          let pass = pass-of p script at in
+          let x = pass.0 in (
+            x,
+            subst (λ q. events_of q (history_of passes) ≡ events_by x) pass.2 (All-contains (λ p. events_of (process_number p) (history_of passes) ≡ events_by p) passes x own pass.1),
+            pass.2,
+            pass.3,
+          )
+
       finished : (p : ℕ) (script : List Call) → slice_get scripts p ≡ Some script → HasFinished (history_of passes) p script
       finished p script at =
-          let pass = pass-of p script at in
+          let pass = its-events p script at in
           let x = pass.0 in
           let recorded = pass.3 in
-          let its : events_of p (history_of passes) ≡ events_by x =
-          subst (λ q. events_of q (history_of passes) ≡ events_by x) pass.2 (All-contains (λ p. events_of (process_number p) (history_of passes) ≡ events_by p) passes x own pass.1) in
           let kept : events_of p (events_by x) ≡ events_by x = subst (λ q. events_of q (events_by x) ≡ events_by x) pass.2 (own-events x recorded.own) in
-          let same : events_of p (history_of passes) ≡ events_of p (events_by x) = its ∙ sym kept in
+          let same : events_of p (history_of passes) ≡ events_of p (events_by x) = pass.1 ∙ sym kept in
           let done : HasFinished (events_by x) p script = subst (λ q. HasFinished (events_by x) q script) pass.2 recorded.finished in
           record { calls = ap invoked same ∙ done.calls; completed = ap (ends_waiting false) same ∙ done.completed }
+
+      -- a process that has no script has no events
+      answers : (p : ℕ) → AnswersFit may_answer (events_of p (history_of passes))
+      answers p = elim (cases_lt p (length scripts)) [
+        | inr above ↦ rw (events_of-none (length scripts) p (history_of passes) (history-known (length scripts) passes are-known) above) tt
+        | inl below ↦ let script = slice_get-below scripts p below in
+            let pass = its-events p script.0 script.1 in
+            subst (AnswersFit may_answer) (sym pass.1) pass.3.answered
+      ]

@@ -1,3 +1,4 @@
 mod ScriptLemmas
+mod AnswerLemmas
 mod RoomLemmas
 mod DriveLemmas

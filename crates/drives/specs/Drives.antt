@@ -1,13 +1,15 @@
 -- What is recorded while each process does the calls of a script of its own.
-use Rattle.std.specs.Prelude.{◌≡◌, ℕ, ◌*◌, ◌<◌, ◌≤◌, true, false, List, [], ◌∷◌, ◌++◌, length, map, Some, slice_get, All}
+use Rattle.std.specs.Prelude.{◌≡◌, ℕ, ◌*◌, ◌<◌, ◌≤◌, true, false, List, [], ◌∷◌, ◌++◌, length, map, Some, IfSome, slice_get, All}
 use Rattle.list_laws.specs.Lists.{greatest}
 use Rattle.events.specs.Limits.{call_limit}
 use Rattle.events.specs.declared.event.Call.{Call}
+use Rattle.events.specs.declared.event.Reply.{Reply}
 use Rattle.events.specs.declared.event.Event.{Event}
 use Rattle.events.specs.declared.event.Event.TheVariants.{Invoke, Answer}
 use Rattle.events.specs.Events.{process_of, events_of}
 use Rattle.events.specs.HistoryFaults.{has_open_call}
 use Rattle.events.specs.HistoryView.{HistoryView}
+use Rattle.events.specs.Operations.{operations}
 
 -- the calls that are invoked, in their order
 abbrev pub invoked : List Event → List Call
@@ -34,11 +36,17 @@ pub record HasStopped (events : List Event) (p : ℕ) (script : List Call) : Typ
 abbrev pub HaveScripts : List (List Call) → List Event → Type 0
 HaveScripts scripts events = All (λ e. process_of e < length scripts) events
 
--- what is recorded of scripts: the map holds nothing at the start, each process did its script, and there is no other process
-pub record IsDriveOf (scripts : List (List Call)) (history : HistoryView) : Type 0 where
+-- each reply to a call is one that may be given to it
+abbrev pub AreAnswered : (Call → Reply → Type 0) → List Event → Type 0
+AreAnswered may_answer events = All (λ a. IfSome a.response (λ r. may_answer a.call r.reply)) (operations events)
+
+-- what is recorded of scripts, at a subject that may answer so: the map holds nothing at the start, each process did its script, there is no other process,
+-- and each reply is one that the subject may give to its call
+pub record IsDriveOf (may_answer : Call → Reply → Type 0) (scripts : List (List Call)) (history : HistoryView) : Type 0 where
   pub start : history.start ≡ []
   pub processes : HaveScripts scripts history.events
   pub finished : (p : ℕ) (script : List Call) → slice_get scripts p ≡ Some script → HasFinished history.events p script
+  pub answered : AreAnswered may_answer history.events
 
 -- how many calls the longest script has
 abbrev pub longest : List (List Call) → ℕ

@@ -1,6 +1,9 @@
 -- What a pass shows of the script of its process.
-use Rattle.std.specs.Prelude.{◌≡◌, ℕ, ◌<◌, List, [], length, Some, Result, IfOk, slice_get, slice_index_or, All}
+use Rattle.std.specs.Prelude.{◌≡◌, ⊤, ℕ, ◌<◌, List, [], ◌∷◌, length, Option, Some, None, IfSome, Result, IfOk, slice_get, slice_index_or, All}
 use Rattle.events.specs.declared.event.Call.{Call}
+use Rattle.events.specs.declared.event.Reply.{Reply}
+use Rattle.events.specs.declared.event.Event.{Event}
+use Rattle.events.specs.declared.event.Event.TheVariants.{Invoke, Answer}
 use Rattle.events.specs.declared.memory.Memory.{Memory}
 use Rattle.events.specs.Events.{process_of}
 use Rattle.recorder.specs.declared.pass.Pass.{Pass}
@@ -13,10 +16,23 @@ use Rattle.drives.specs.Drives.{HasFinished}
 abbrev pub AreOwn : Pass → Type 0
 AreOwn p = All (λ e. process_of e ≡ process_number p) (events_by p)
 
--- by the events of the pass, its process did this script
-pub record HasRecordedScript (script : List Call) (p : Pass) : Type 0 where
+-- the first reply among events
+abbrev pub first_reply : List Event → Option Reply
+first_reply [] = None
+first_reply (Invoke p call ∷ events) = first_reply events
+first_reply (Answer p reply ∷ events) = Some reply
+
+-- of events of one process: the first reply after each call is one that may be given to it
+abbrev pub AnswersFit : (Call → Reply → Type 0) → List Event → Type 0
+AnswersFit may_answer [] = ⊤
+AnswersFit may_answer (Invoke p call ∷ events) = IfSome (first_reply events) (may_answer call) × AnswersFit may_answer events
+AnswersFit may_answer (Answer p reply ∷ events) = AnswersFit may_answer events
+
+-- by the events of the pass, its process did this script, and was answered so
+pub record HasRecordedScript (may_answer : Call → Reply → Type 0) (script : List Call) (p : Pass) : Type 0 where
   pub own : AreOwn p
   pub finished : HasFinished (events_by p) (process_number p) script
+  pub answered : AnswersFit may_answer (events_by p)
 
 -- a pass of one of so many processes, which has recorded nothing yet
 pub record IsReady (r : Recorder) (processes : ℕ) (p : Pass) : Type 0 where
@@ -25,11 +41,12 @@ pub record IsReady (r : Recorder) (processes : ℕ) (p : Pass) : Type 0 where
   pub fresh : log_of p ≡ []
 
 -- the pass of a process, which did its own of the scripts
-pub record IsPassAfter (r : Recorder) (scripts : List (List Call)) (process : ℕ) (p : Pass) : Type 0 where
+pub record IsPassAfter (may_answer : Call → Reply → Type 0) (r : Recorder) (scripts : List (List Call)) (process : ℕ) (p : Pass) : Type 0 where
   pub own : IsPassOf r p
   pub process_is : process_number p ≡ process
-  pub recorded : (script : List Call) → slice_get scripts process ≡ Some script → HasRecordedScript script p
+  pub recorded : (script : List Call) → slice_get scripts process ≡ Some script → HasRecordedScript may_answer script p
 
 -- what all processes gave back, by process: a pass with which each did its script, where it did not want memory
-abbrev pub EachIsAfter : Recorder → List (List Call) → List (Result Pass Memory) → Type 0
-EachIsAfter r scripts done = (process : ℕ) (d : Result Pass Memory) → process < length done → IfOk (slice_index_or done process d) (IsPassAfter r scripts process)
+abbrev pub EachIsAfter : (Call → Reply → Type 0) → Recorder → List (List Call) → List (Result Pass Memory) → Type 0
+EachIsAfter may_answer r scripts done =
+    (process : ℕ) (d : Result Pass Memory) → process < length done → IfOk (slice_index_or done process d) (IsPassAfter may_answer r scripts process)

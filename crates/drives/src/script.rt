@@ -6,7 +6,7 @@ ghost use Rattle.recorder.specs.Passes.{process_number, calls_of, log_of, events
 ghost use Rattle.recorder.specs.Recorders.{IsPassOf};
 ghost use Rattle.recorder.specs.declared.fault.RecorderFault.TheVariants as faults;
 ghost use Rattle.drives.specs.Drives.{invoked};
-ghost use Rattle.drives.specs.Passes.{AreOwn, HasRecordedScript};
+ghost use Rattle.drives.specs.Passes.{AreOwn, AnswersFit, HasRecordedScript};
 
 use art_steps::TreeCall;
 use events::{Call, Memory};
@@ -25,7 +25,7 @@ pub(crate) fn do_script<S: Subject>(
     requires calls { All (λ call. IsTrue (is_tree_call call)) script.now }
     ensures own { IfOk result (IsPassOf recorder.now) }
     ensures process { IfOk result (λ p. process_number p ≡ process_number pass) }
-    ensures recorded { IfOk result (HasRecordedScript script.now) }
+    ensures recorded { IfOk result (HasRecordedScript (S.may_answer subject.now) script.now) }
 {
     for call in script {
         do_call(recorder, subject, &mut pass, call.call())?;
@@ -49,6 +49,8 @@ fn do_call<S: Subject>(
     ensures calls { OnOk result (invoked (events_by pass.new) ≡ invoked (events_by pass.old) ++ call ∷ []) }
     ensures idle { OnOk result (is_waiting pass.new ≡ false) }
     ensures events { AreOwn pass.old → OnOk result (AreOwn pass.new) }
+    ensures answered { AreOwn pass.old → AnswersFit (S.may_answer subject.now) (events_by pass.old)
+        → OnOk result (AnswersFit (S.may_answer subject.now) (events_by pass.new)) }
 {
     if let Err(fault) = recorder.invoke(pass, call) {
         return Err(want_of_memory(fault));

@@ -30,7 +30,7 @@ pub fn drive_subject<R: Threads + Sync, S: Subject + Sync>(
     subject: &S,
 ) -> Result<History, Memory>
     requires { IsDrivable plan.now }
-    ensures { IfOk result (λ h. IsDriveOf plan.now h) }
+    ensures { IfOk result (λ h. IsDriveOf (S.may_answer subject.now) plan.now h) }
 {
     let scripts = plan.scripts();
     let (recorder, passes) = Recorder::open(alloc, scripts.len() as u8, longest(scripts) as u32)?;
@@ -55,7 +55,7 @@ fn do_scripts<R: Threads + Sync, S: Subject + Sync>(
     requires room { All (λ script. vec_len script ≤ calls_for_each recorder.now) scripts.now }
     requires calls { AreTreeCalls (map (λ script. script.items) scripts.now) }
     ensures many { IfOk result (λ done. vec_len done ≡ length scripts.now) }
-    ensures done { IfOk result (λ done. EachIsAfter recorder.now (map (λ script. script.items) scripts.now) done.items) }
+    ensures done { IfOk result (λ done. EachIsAfter (S.may_answer subject.now) recorder.now (map (λ script. script.items) scripts.now) done.items) }
 {
     thread::map_vec(
         rt,
@@ -74,7 +74,7 @@ fn do_own_script<S: Subject>(
     requires ready { IsReady recorder.now (length scripts.now) pass }
     requires room { All (λ script. vec_len script ≤ calls_for_each recorder.now) scripts.now }
     requires calls { AreTreeCalls (map (λ script. script.items) scripts.now) }
-    ensures { IfOk result (IsPassAfter recorder.now (map (λ script. script.items) scripts.now) (process_number pass)) }
+    ensures { IfOk result (IsPassAfter (S.may_answer subject.now) recorder.now (map (λ script. script.items) scripts.now) (process_number pass)) }
 {
     let script = &scripts[usize::from(pass.process())];
     do_script(recorder, subject, pass, script)

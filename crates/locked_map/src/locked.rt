@@ -29,6 +29,8 @@ impl<'a, R: Wait> LockedMap<'a, R> {
 }
 
 impl<'a, R: Wait> Subject for LockedMap<'a, R> {
+    ghost may_answer = { λ _. IsAnswerOf };
+
     /// Waits for the lock, then does the call. It costs what the sorted map's call costs.
     fn call(&self, call: &Call) -> Reply
         ensures short { pair_count result ≤ pair_limit }

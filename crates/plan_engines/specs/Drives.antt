@@ -2,6 +2,7 @@
 use Rattle.std.specs.Prelude.{◌≡◌, ◌≢◌, ◌⊎◌, ℕ, List}
 use Rattle.serde_json.specs.Written.{compact_text}
 use Rattle.events.specs.declared.event.Call.{Call}
+use Rattle.events.specs.declared.event.Reply.{Reply}
 use Rattle.events.specs.HistoryView.{HistoryView}
 use Rattle.history_text.specs.Texts.{history_data}
 use Rattle.plans.specs.declared.fault.PlanFault.{PlanFault}
@@ -44,9 +45,9 @@ pub record IsDrivenAnswer (IsHistoryOf : List (List Call) → HistoryView → Ty
   pub answer_is : answer ≡ Yes
   pub bytes_are : bytes ≡ line (compact_text (history_data history))
 
--- that history is one at a subject, each process with its whole script,
-abbrev pub IsDriveAnswer : List ℕ → Answer → List ℕ → Type 0
-IsDriveAnswer = IsDrivenAnswer IsDriveOf
+-- that history is one at a subject that may answer so, each process with its whole script,
+abbrev pub IsDriveAnswer : (Call → Reply → Type 0) → List ℕ → Answer → List ℕ → Type 0
+IsDriveAnswer may_answer = IsDrivenAnswer (IsDriveOf may_answer)
 
 -- or one on a tree of this shape and variant, with at most so many steps of each call
 abbrev pub IsTreeDriveAnswer : Shape → Variant → ℕ → List ℕ → Answer → List ℕ → Type 0

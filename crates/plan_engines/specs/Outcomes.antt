@@ -1,5 +1,7 @@
 -- How a run comes out that draws a plan, or that reads a plan or a replay.
 use Rattle.std.specs.Prelude.{◌≡◌, ⊤, ℕ, List, string_bytes}
+use Rattle.events.specs.declared.event.Call.{Call}
+use Rattle.events.specs.declared.event.Reply.{Reply}
 use Rattle.events.specs.HistoryView.{HistoryView}
 use Rattle.history_text.specs.Texts.{history_data}
 use Rattle.serde_json.specs.Written.{compact_text}
@@ -26,9 +28,9 @@ IsGenerateOutcome seed mix processes calls outcome = ⊥
 abbrev pub IsReplayOutcome : Change → Outcome → Type 0
 IsReplayOutcome source outcome = IsReadOutcome IsReplayAnswer IsReplayRefusal source outcome
 
--- the outcome of `drive`, at a subject
-abbrev pub IsDriveOutcome : Change → Outcome → Type 0
-IsDriveOutcome source outcome = IsReadOutcome IsDriveAnswer IsDriveRefusal source outcome
+-- the outcome of `drive`, at a subject that may answer so
+abbrev pub IsDriveOutcome : (Call → Reply → Type 0) → Change → Outcome → Type 0
+IsDriveOutcome may_answer source outcome = IsReadOutcome (IsDriveAnswer may_answer) IsDriveRefusal source outcome
 
 -- and on a tree
 abbrev pub IsTreeDriveOutcome : Shape → Variant → ℕ → Change → Outcome → Type 0

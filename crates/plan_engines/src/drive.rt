@@ -29,7 +29,7 @@ pub fn run_drive<R: Threads + Sync, S: Source, O: Sink, F: Sink, J: Subject + Sy
     requires output { O.failures output.old < u64.MAX }
     requires faults { F.failures faults.old < u64.MAX }
     ensures { IsRun
-        (IsDriveOutcome (change S.remaining S.failures source.old source.new))
+        (IsDriveOutcome (J.may_answer subject.now) (change S.remaining S.failures source.old source.new))
         (change O.written O.failures output.old output.new)
         (change F.written F.failures faults.old faults.new) result }
 {
@@ -49,7 +49,7 @@ pub fn drive_outcome<R: Threads + Sync, J: Subject + Sync>(
     text: &[u8],
     subject: &J,
 ) -> Outcome
-    ensures { IsTextOutcome IsDriveAnswer IsDriveRefusal (Some text.now) result }
+    ensures { IsTextOutcome (IsDriveAnswer (J.may_answer subject.now)) IsDriveRefusal (Some text.now) result }
 {
     let plan = match drivable_plan(alloc, text) {
         Ok(plan) => plan,

@@ -34,7 +34,7 @@ depth-scripts scripts = omega (arith, items_depth-map script_data 3 depth-script
 pub depth-plan : (scripts : List (List Call)) → depth (written_data scripts) ≤ 5
 depth-plan scripts = omega (arith, depth-scripts scripts)
 
-abbrev IsTreeCall : Call → Type 0
+abbrev pub IsTreeCall : Call → Type 0
 IsTreeCall call = IsTrue (is_tree_call call)
 
 -- a call that a tree can do may stand in a text that may hold a replace

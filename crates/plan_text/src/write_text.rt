@@ -1,13 +1,12 @@
 // From a plan to its text.
-ghost use Rattle.std.specs.Prelude.{◌≡◌, ◌≤◌, not, map, IfOk, OnOk, string_bytes, string_len};
+ghost use Rattle.std.specs.Prelude.{◌≡◌, not, map, IfOk, OnOk, string_bytes};
 ghost use Rattle.serde_json.specs.View.{view};
 ghost use Rattle.serde_json.specs.Written.{compact_text};
 ghost use Rattle.events.specs.PlainHistories.{is_replace};
 ghost use Rattle.history_text.specs.Texts.{call_data};
-ghost use Rattle.plans.specs.Plans.{AreTreeCalls};
+ghost use Rattle.plans.specs.Plans.{AreScripts};
 ghost use Rattle.plan_text.specs.Scripts.{script_data, scripts_data};
 ghost use Rattle.plan_text.specs.PlanTexts.{is_plain_script, are_plain_scripts, written_data, SpellsPlan};
-ghost use Rattle.history_text.specs.Limits.{text_limit};
 
 use art_steps::TreeCall;
 use events::{Call, Memory};
@@ -17,11 +16,10 @@ use serde_json::{Value, json};
 use std::alloc::{AllocError, Global};
 
 /// The text of a plan in the compact form: no spaces, members by rising bytes, numbers in plain decimal. It is of version 1
-/// where no call is a replace, else of version 2. A text of more than `MAX_TEXT` bytes is written too, and the reader
-/// refuses it.
+/// where no call is a replace, else of version 2. It is never too long for the reader.
 pub fn write_plan(alloc: Global, plan: &Plan) -> Result<String, Memory>
     ensures compact { IfOk result (λ text. string_bytes text ≡ compact_text (written_data plan.now)) }
-    ensures again { IfOk result (λ text. string_len text ≤ text_limit → SpellsPlan (string_bytes text) plan.now) }
+    ensures again { IfOk result (λ text. SpellsPlan (string_bytes text) plan.now) }
 {
     let value = plan_value(alloc, plan)?;
     Ok(value.to_string(alloc)?)
@@ -29,7 +27,7 @@ pub fn write_plan(alloc: Global, plan: &Plan) -> Result<String, Memory>
 
 fn plan_value(alloc: Global, plan: &Plan) -> Result<Value, AllocError>
     ensures value { IfOk result (λ value. view value ≡ written_data plan.now) }
-    ensures calls { OnOk result (AreTreeCalls plan.now) }
+    ensures scripts { OnOk result (AreScripts plan.now) }
 {
     let scripts = scripts_value(alloc, plan.scripts())?;
     if are_plain_scripts(plan.scripts()) {

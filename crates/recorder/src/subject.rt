@@ -5,11 +5,19 @@ ghost use Rattle.events.specs.Limits.{pair_limit};
 
 use events::{Call, Reply};
 
-/// An index on which threads call side by side. Nothing is known of what it answers, but that no reply is too long.
+/// An index on which threads call side by side. Of what it answers is known only what it tells itself, and that no reply is
+/// too long.
 pub trait Subject {
+    ghost use Rattle.events.specs.declared.event.Call.{Call};
+    ghost use Rattle.events.specs.declared.event.Reply.{Reply};
+
+    // Which replies it may give to a call.
+    ghost may_answer: { Self → Call → Reply → Type 0 };
+
     /// Does the call and answers it.
     fn call(&self, call: &Call) -> Reply
-        ensures { pair_count result ≤ pair_limit };
+        ensures short { pair_count result ≤ pair_limit }
+        ensures answer { may_answer self.now call.now result };
 }
 
 /// How many pairs a reply lists.

@@ -13,8 +13,9 @@ use events::Memory;
 use std::alloc::Global;
 
 impl Arena {
-    /// The pass's least process begins a call: the stamp of its invocation, which is one step. Room for the event is taken
-    /// before; `Err` is want of it, and then nothing has changed.
+    /// The pass's least process begins a call: the stamp of its invocation, which is one step of the process. These are two
+    /// atomic steps on the clock, of which the first leaves the words as they are. Room for the event is taken before; `Err`
+    /// is want of it, and then nothing has changed.
     pub fn begin(&self, pass: &mut Pass, call: TreeCall) -> Result<(), Memory>
         requires own { IsPassOf self.now pass.old }
         requires idle { IsTrue (is_idle (shows pass.old)) }

@@ -3,8 +3,8 @@
 //! An [`Arena`] has the words of one tree. A [`Pass`] holds some of its processes, and runs the least of them:
 //! [`Arena::begin`] begins a call and [`Arena::advance`] makes steps of it. Passes go to threads of their own:
 //! [`Arena::split`] gives the greatest process of a pass to a pass of its own, and [`Arena::join`] takes a pass in again. Each
-//! step is one atomic step on one word, and none waits for another thread. Whoever has all processes can close the arena, open
-//! calls or not, and gets the history of what they did.
+//! step is one atomic step on one word, but for an invocation, which is two, and none waits for another thread. Whoever has all
+//! processes can close the arena, open calls or not, and gets the history of what they did.
 #![tactic(auto)]
 
 mod arena;

@@ -1,4 +1,6 @@
 // Plans that are done by the program, with histories and lines worked out by hand.
+ghost use Rattle.std.specs.Prelude.{◌≡◌};
+ghost use Rattle.events.specs.declared.event.Reply.TheVariants as replies;
 
 use super::failing_ends::{assert_reads_fail, assert_writes_fail};
 use super::leaves;
@@ -184,6 +186,8 @@ fn a_map_under_a_lock_is_linearizable(rt: HostRuntime) -> Result<(), Fail> {
 struct Ones;
 
 impl Subject for Ones {
+    ghost may_answer = { λ _ _ reply. reply ≡ replies.Some 1 };
+
     fn call(&self, _call: &Call) -> Reply {
         Reply::Some(1)
     }

@@ -9,7 +9,7 @@ use Rattle.arena_drives.proofs.script.do_script.Goals as goal
 pub returns-in-Going-clause-done : goal.returns-in-Going-clause-done
 returns-in-Going-clause-done c =
     let setup = opened_for c.args.arena.now in
-    let number = least_process (shows c.args.pass) in
+    let number = least_process (shows c.args.entered.pass) in
     let limit = c.args.limit in
     let script = c.args.script.now in
     let i = c.loop-call.call-index in
@@ -25,7 +25,7 @@ returns-in-Going-clause-done c =
 pub loop-call-preserved : goal.loop-call-preserved
 loop-call-preserved c =
     let setup = opened_for c.args.arena.now in
-    let number = least_process (shows c.args.pass) in
+    let number = least_process (shows c.args.entered.pass) in
     let limit = c.args.limit in
     let script = c.args.script.now in
     let i = c.loop-call.call-index in

@@ -1,4 +1,5 @@
 use Rattle.std.proofs.Common.{◌≡◌, length, map, sym, ap, subst, ◌∙◌, arith}
+use Rattle.std.specs.Prelude.{All}
 use Rattle.std.proofs.lemmas.List.{length-map}
 use Rattle.art_shared.specs.Ends.{HasOwnEvents}
 use Rattle.drives.specs.Drives.{longest}
@@ -6,6 +7,7 @@ use Rattle.running.specs.Passes.{shows, opened_for, setup_with}
 use Rattle.running.specs.Closing.{HoldsAll, IsHistoryOf}
 use Rattle.running.specs.Linearizable.{IsLinearizableIn}
 use Rattle.arena_drives.specs.ArenaDrives.{IsArenaDriveOf}
+use Rattle.arena_drives.specs.Passes.{HasDoneOwn}
 use Rattle.arena_drives.proofs.JoinLemmas.{AreDone, joined-done}
 use Rattle.arena_drives.proofs.DriveLemmas.{drive-of, memory-wanted}
 use Rattle.arena_drives.proofs.tree.drive_arena.Goals as goal
@@ -47,5 +49,5 @@ returns-in-Ok g c =
     let h = c.in-Ok.history in
     subst (λ plan. IsArenaDriveOf c.args.shape c.args.variant c.args.limit plan h) c.scripts-scripts.ensures.same
     (drive-of c.args.shape c.args.variant c.args.limit scripts v h (subst (λ s. IsHistoryOf s v h) setup c.in-Ok.ensures.history)
-    (subst (λ s. HasOwnEvents s v h.events) setup c.in-Ok.ensures.own_events) (done g d).done (omega (arith, c.ranges.limit))
+    (subst (λ s. HasOwnEvents s v h.events) setup c.in-Ok.ensures.own_events) (subst (λ s. All (HasDoneOwn s c.args.limit scripts) v.processes) setup (done g d).done) (omega (arith, c.ranges.limit))
     (subst (λ s. IsLinearizableIn s v h) setup c.in-Ok.ensures.linearizable))

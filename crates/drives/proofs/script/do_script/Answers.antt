@@ -32,4 +32,5 @@ returns-clause-recorded g c =
         calls = own-calls c.loop-call.pass kept.events ∙ (kept.done ∙ take_all c.loop-call.call-index c.args.script.now c.loop-call-test.false);
         completed = kept.idle;
       };
+      answered = kept.answered;
     }

@@ -2,7 +2,7 @@ use Rattle.std.proofs.Common.{◌≡◌, false, take}
 use Rattle.recorder.specs.Passes.{process_number, calls_of, events_by, is_waiting}
 use Rattle.recorder.specs.Recorders.{IsPassOf}
 use Rattle.drives.specs.Drives.{invoked}
-use Rattle.drives.specs.Passes.{AreOwn}
+use Rattle.drives.specs.Passes.{AreOwn, AnswersFit}
 use Rattle.drives.proofs.script.do_script.Given as goal
 
 abbrev pub invariant-loop-call : goal.invariant-loop-call
@@ -13,4 +13,5 @@ invariant-loop-call g l = record {
   events : AreOwn l.pass;
   done : invoked (events_by l.pass) ≡ take l.call-index l.script;
   idle : is_waiting l.pass ≡ false;
+  answered : AnswersFit (g.S.Subject.may_answer l.subject) (events_by l.pass);
 }

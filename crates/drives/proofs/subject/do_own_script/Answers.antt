@@ -24,5 +24,5 @@ returns g c =
     let number : c.from.result ≡ process_number c.args.pass = c.from.ensures ∙ c.process.ensures in
     let its : slice_get scripts (process_number c.args.pass) ≡ Some c.deref.result.now =
     ap (slice_get scripts) (sym number) ∙ (at ∙ ap Some (sym c.deref.ensures.value)) in
-    after-script c.args.recorder.now scripts c.deref.result.now (process_number c.args.pass) c.do_script.result its c.do_script.ensures.own
+    after-script (g.S.Subject.may_answer c.args.subject.now) c.args.recorder.now scripts c.deref.result.now (process_number c.args.pass) c.do_script.result its c.do_script.ensures.own
     c.do_script.ensures.process c.do_script.ensures.recorded

@@ -19,14 +19,15 @@ returns-clause-many g c =
 pub returns-clause-done : goal.returns-clause-done
 returns-clause-done g c =
     let r = c.args.recorder.now in
+    let may = g.S.Subject.may_answer c.args.subject.now in
     let passes = c.args.passes in
     let scripts = map (λ script. script.items) c.args.scripts.now in
-    both-of c.map_vec.result (λ done. vec_len done ≡ vec_len passes) _ (λ done. EachIsAfter r scripts done.items)
+    both-of c.map_vec.result (λ done. vec_len done ≡ vec_len passes) _ (λ done. EachIsAfter may r scripts done.items)
     (λ done len each process d within.
     let inside : process < length passes.items = let of = passes.ok.0 in let of_done = done.ok.0 in omega (arith, len, of, of_done, within) in
     let given = (each process d inside).1 in
     let number = process-at passes.items (length c.args.scripts.now) process given.job c.requires.numbers inside given.job_read in
     let met = given.call.met in
-    let its : IfOk (slice_index_or done.items process d) (IsPassAfter r scripts (process_number given.job)) = search rules in
-    subst (λ n. IfOk (slice_index_or done.items process d) (IsPassAfter r scripts n)) number its)
+    let its : IfOk (slice_index_or done.items process d) (IsPassAfter may r scripts (process_number given.job)) = search rules in
+    subst (λ n. IfOk (slice_index_or done.items process d) (IsPassAfter may r scripts n)) number its)
     c.map_vec.ensures.len c.map_vec.ensures.each

@@ -1,4 +1,4 @@
--- The value has no float and nests five deep at most, so it has a text that reads as it.
+-- The value has no float and nests five deep at most, so it has a text that reads as it, and this is not too long.
 use Rattle.std.proofs.Common.{◌≡◌, ◌≤◌, Some, ap, ◌∙◌, arith}
 use Rattle.std.proofs.lemmas.Str.{IsUtf8-string_bytes}
 use Rattle.serde_json.specs.Data.{depth}
@@ -7,6 +7,7 @@ use Rattle.serde_json.specs.Read.{max_depth}
 use Rattle.serde_json.specs.Written.{has_float, compact_text}
 use Rattle.plan_text.specs.PlanTexts.{written_data}
 use Rattle.plan_text.proofs.WrittenPlanLemmas.{has_float-plan, depth-plan, Spells-written}
+use Rattle.plan_text.proofs.PlanSizeLemmas.{size-plan}
 use Rattle.plan_text.proofs.write_text.write_plan.Goals as goal
 use Rattle.plan_text.proofs.write_text.write_plan.Goals.{After-to_string}
 
@@ -23,10 +24,11 @@ returns-clause-compact c =
     c.in_ok-to_string.ensures.text (ap has_float is ∙ has_float-plan c.args.plan.now) ∙ ap compact_text is
 
 pub returns-clause-again : goal.returns-clause-again
-returns-clause-again c = λ fits.
+returns-clause-again c =
     let before = (goal.at.returns-clause-again c).After-to_string in
-    Spells-written _ c.args.plan.now c.in_ok-value.ensures.calls (record {
-      fits = omega (arith, c.in_ok-to_string.field-0.bytes.ok.0);
+    let text = c.in_ok-to_string.ensures.text (ap has_float (same before) ∙ has_float-plan c.args.plan.now) ∙ ap compact_text (same before) in
+    Spells-written _ c.args.plan.now c.in_ok-value.ensures.scripts.calls (record {
+      fits = rw text (size-plan c.args.plan.now c.in_ok-value.ensures.scripts);
       utf8 = IsUtf8-string_bytes c.in_ok-to_string.field-0;
       value = c.in_ok-to_string.ensures.reads_back (shallow before) ∙ ap Some (same before);
     })
