@@ -4,8 +4,7 @@ ghost use Rattle.art_rows.specs.Table.{first_base, row_words, rows_of, table_wor
 ghost use Rattle.art_rows.specs.Words.{child_of as child_in, is_small_child};
 
 use crate::table::{Child, Kind, Shape};
-use events::Memory;
-use std::alloc::Global;
+use std::alloc::{AllocError, Global};
 
 fn row_size(kind: Kind) -> u64
     ensures { result ≡ row_words kind }
@@ -96,7 +95,7 @@ impl Shape {
     }
 
     /// The words of the table as it is opened.
-    pub fn opening(&self, alloc: Global) -> Result<Vec<u64>, Memory>
+    pub fn opening(&self, alloc: Global) -> Result<Vec<u64>, AllocError>
         requires root { 1 ≤ self.now.rows256 }
         ensures { IfOk result (λ words. words.items ≡ opening self.now) }
     {

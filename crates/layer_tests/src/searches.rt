@@ -113,6 +113,27 @@ fn an_order_has_the_numbers_of_the_history(rt: HostRuntime) -> Result<(), Fail> 
     Ok(())
 }
 
+/// One turn of a search: how it goes on, or what it found and behind how many configurations, as it is printed.
+fn turned(alloc: Global, walk: Walk) -> Result<Result<Walk, String>, Fail> {
+    let len = walk.len();
+    match walk.turn(alloc)? {
+        Turn::Going(on) => Ok(Ok(on)),
+        Turn::Done(found) => Ok(Err(format!(in alloc; "{len} {found:?}")?)),
+    }
+}
+
+/// What a search finds that goes on turn by turn.
+fn found_by_turns(alloc: Global, segment: &Segment, budget: u32) -> Result<String, Fail> {
+    let mut walk = Walk::open(alloc, segment, budget.clamp(1, MAX_BUDGET))?;
+    for _turn in 0..100 {
+        match turned(alloc, walk)? {
+            Ok(on) => walk = on,
+            Err(end) => return Ok(end),
+        }
+    }
+    Err(Fail::new("it does not end"))
+}
+
 /// A search turn by turn finds the same, at the last of the configurations that count.
 #[test]
 fn a_search_goes_on_turn_by_turn(rt: HostRuntime) -> Result<(), Fail> {
@@ -120,19 +141,9 @@ fn a_search_goes_on_turn_by_turn(rt: HostRuntime) -> Result<(), Fail> {
     let Some(whole) = Segment::whole(alloc, &history_of(alloc, GET_MISSES_OPEN_INSERT)?)? else {
         return Err(Fail::new("no call belongs to a segment"));
     };
-    let mut walk = Walk::open(alloc, &whole, 1000)?;
-    for _turn in 0..100 {
-        let len = walk.len();
-        match walk.turn(alloc)? {
-            Turn::Going(on) => walk = on,
-            Turn::Done(found) => {
-                let end = format!(in alloc; "{len} {found:?}")?;
-                assert!(rt; end.as_str() == "4 Order([1, 0])", "{end}");
-                return Ok(());
-            }
-        }
-    }
-    Err(Fail::new("it does not end"))
+    let end = found_by_turns(alloc, &whole, 1000)?;
+    assert!(rt; end.as_str() == "4 Order([1, 0])", "{end}");
+    Ok(())
 }
 
 /// Events, a budget, and the longest front that a search of all calls but pending gets and scans meets.

@@ -13,7 +13,7 @@ use Rattle.art_core.specs.NamedTurns.{process_of_item, next_point, point_in, fin
 use Rattle.art_core.proofs.NamedTurnLemmas.{made-more, whole-more}
 use Rattle.machine.specs.declared.runner.Runner.{Runner}
 use Rattle.machine.specs.declared.machines.Machine.{Machine}
-use Rattle.machine.specs.declared.fault.MachineFault.{MachineFault}
+use Rattle.plans.specs.declared.fault.MachineFault.{MachineFault}
 use Rattle.machine.specs.Fitting.{FitsProcess}
 use Rattle.machine.specs.Machines.{Shows, turns_left}
 use Rattle.machine.specs.Refusals.{IsRefusedIn}

@@ -26,8 +26,8 @@ use Rattle.art_core.proofs.HistoryLemmas.{run-lengths}
 use Rattle.art_core.proofs.StartLemmas.{run-steps}
 use Rattle.machine.specs.declared.machines.Machine.{Machine}
 use Rattle.machine.specs.declared.starting.TheConstants.{START_TURNS}
-use Rattle.machine.specs.declared.fault.MachineFault.{MachineFault}
-use Rattle.machine.specs.declared.fault.MachineFault.TheVariants as faults
+use Rattle.plans.specs.declared.fault.MachineFault.{MachineFault}
+use Rattle.plans.specs.declared.fault.MachineFault.TheVariants as faults
 use Rattle.machine.specs.Running.{HasMadeItem, HasStoppedIn, IsOpened}
 use Rattle.machine.specs.Starting.{HasInserted, IsNotOpened}
 

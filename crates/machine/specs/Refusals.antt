@@ -1,8 +1,8 @@
 -- Why a turn is refused.
 use Rattle.std.specs.Prelude.{◌≡◌, ℕ, ◌<◌, ◌≤◌, length, slice_get, None, IsSome, IsSomeAnd}
 use Rattle.art_core.specs.Core.{Plan, State, next_move}
-use Rattle.machine.specs.declared.fault.MachineFault.{MachineFault}
-use Rattle.machine.specs.declared.fault.MachineFault.TheVariants.{NoProcess, NothingToDo, TurnLimit, Memory, TooLong, NotJson, Shape, StartRefused}
+use Rattle.plans.specs.declared.fault.MachineFault.{MachineFault}
+use Rattle.plans.specs.declared.fault.MachineFault.TheVariants.{NoProcess, NothingToDo, TurnLimit, Memory, TooLong, NotJson, Shape, StartRefused}
 
 -- process p has something to do: an open call, or one of its script to begin
 abbrev pub HasMove : Plan → State → ℕ → Type 0

@@ -7,7 +7,7 @@ use Rattle.art_core.specs.declared.item.Item.{Item}
 use Rattle.art_core.specs.Core.{Plan, State, opened}
 use Rattle.art_core.specs.NamedTurns.{process_of_item, WantsTurn, AreMade, IsMadeWhole, AreMadeWhole}
 use Rattle.machine.specs.declared.machines.Machine.{Machine}
-use Rattle.machine.specs.declared.fault.MachineFault.{MachineFault}
+use Rattle.plans.specs.declared.fault.MachineFault.{MachineFault}
 use Rattle.machine.specs.Machines.{Shows, start_of, turns_left}
 use Rattle.machine.specs.Refusals.{IsRefusedIn}
 

@@ -8,8 +8,8 @@ use Rattle.art_core.specs.declared.process.Process.{Process}
 use Rattle.art_core.specs.Core.{State, next_move, opened_on}
 use Rattle.art_core.specs.Starts.{AreInsertedIn, StartsOn, IsStartRefused, start_plan}
 use Rattle.machine.specs.declared.machines.Machine.{Machine}
-use Rattle.machine.specs.declared.fault.MachineFault.{MachineFault}
-use Rattle.machine.specs.declared.fault.MachineFault.TheVariants as faults
+use Rattle.plans.specs.declared.fault.MachineFault.{MachineFault}
+use Rattle.plans.specs.declared.fault.MachineFault.TheVariants as faults
 use Rattle.machine.specs.Machines.{Shows, start_of, turns_left}
 use Rattle.machine.specs.Running.{plan_of}
 

@@ -1,7 +1,6 @@
 //! The core run by schedules: processes that make the accesses of their calls over a vector of words, one step a turn.
 #![tactic(auto)]
 
-mod fault;
 mod machine_turn;
 mod machines;
 mod opening;
@@ -13,5 +12,5 @@ mod surface;
 mod table;
 mod turns;
 
-pub use fault::{MachineFault, RunFault};
 pub use machines::Machine;
+pub use plans::{MachineFault, RunFault};

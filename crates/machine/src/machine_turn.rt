@@ -1,7 +1,7 @@
 // A turn of a machine.
-use crate::fault::MachineFault;
 use crate::machines::Machine;
 use art_versions::{answered_gets_have_moments, answered_scans_have_moments};
+use plans::MachineFault;
 use std::alloc::Global;
 
 impl Machine {

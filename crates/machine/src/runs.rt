@@ -1,11 +1,11 @@
 // Runs of schedules.
 ghost use Rattle.std.specs.Prelude.{◌≡◌, ◌↔◌, IsTrue, Some};
 
-use crate::fault::{MachineFault, RunFault};
 use crate::machines::Machine;
 use art::Point;
 use art_core::Item;
 use art_versions::{answered_gets_have_moments, answered_scans_have_moments};
+use plans::{MachineFault, RunFault};
 use std::alloc::Global;
 
 impl Machine {

@@ -8,16 +8,16 @@ ghost use Rattle.art_core.specs.declared.process.Process.{Process};
 ghost use Rattle.art_core.specs.Core.{Plan, State, answered, finished};
 ghost use Rattle.art_core.specs.Plans.{IsPlan};
 ghost use Rattle.art_core.specs.Starts.{StartsOn, inserts, start_plan};
-ghost use Rattle.machine.specs.declared.fault.MachineFault.TheVariants as faults;
+ghost use Rattle.plans.specs.declared.fault.MachineFault.TheVariants as faults;
 ghost use Rattle.machine.specs.Machines.{Shows};
 ghost use Rattle.machine.specs.Starting.{HasInserted, IsNotOpened};
 
-use crate::fault::MachineFault;
 use crate::machines::Machine;
 use art::{Shape, TreeCall, Variant};
 use art_core::Item;
 use art_serial::starts_end;
 use events::{Call, Event, Memory, Reply};
+use plans::MachineFault;
 use std::alloc::Global;
 
 /// Turns for the inserts of the pairs with which a machine starts: more than they take.

@@ -1,10 +1,10 @@
 // Opening a machine, and what it shows.
-use crate::fault::MachineFault;
 use crate::machines::Machine;
 use crate::opening::runners;
 use crate::starting::starting_words;
 use art::{Shape, TreeCall, Variant};
 use events::Memory;
+use plans::MachineFault;
 use std::alloc::Global;
 
 impl Machine {
@@ -13,7 +13,7 @@ impl Machine {
     ghost use Rattle.art_core.specs.Plans.{IsPlan};
     ghost use Rattle.art_core.specs.Starts.{StartsOn, IsStartOf};
     ghost use Rattle.machine.specs.Machines.{Shows, start_of, turns_left};
-    ghost use Rattle.machine.specs.declared.fault.MachineFault.TheVariants as faults;
+    ghost use Rattle.plans.specs.declared.fault.MachineFault.TheVariants as faults;
     ghost use Rattle.machine.specs.Running.{plan_of, IsOpened};
     ghost use Rattle.machine.specs.Starting.{IsOpenedWith, IsNotOpened};
 

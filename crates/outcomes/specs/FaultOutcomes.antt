@@ -2,34 +2,18 @@
 use Rattle.std.specs.Prelude.{◌≡◌, ◌≢◌, ⊤, string_bytes}
 use Rattle.events.specs.declared.fault.HistoryFault.{HistoryFault}
 use Rattle.events.specs.declared.fault.HistoryFault.TheVariants as histories
-use Rattle.plans.specs.declared.fault.PlanFault.{PlanFault}
-use Rattle.plans.specs.declared.fault.PlanFault.TheVariants as plans
-use Rattle.replays.specs.declared.fault.ReplayFault.{ReplayFault}
-use Rattle.replays.specs.declared.fault.ReplayFault.TheVariants as replays
 use Rattle.certificate.specs.declared.fault.OrderFault.{OrderFault}
 use Rattle.certificate.specs.declared.fault.OrderFault.TheVariants as orders
 use Rattle.outcomes.specs.declared.outcome.Answer.TheVariants.{No}
 use Rattle.outcomes.specs.declared.outcome.Outcome.{Outcome}
 use Rattle.outcomes.specs.declared.outcome.Outcome.TheVariants.{Answered, Refused, Memory}
-use Rattle.outcomes.specs.Lines.{history_fault_line, order_fault_line, plan_fault_line, replay_fault_line}
+use Rattle.outcomes.specs.Lines.{history_fault_line, order_fault_line}
 
 -- the outcome of a text with this fault
 abbrev pub IsHistoryFaultOutcome : HistoryFault → Outcome → Type 0
 IsHistoryFaultOutcome fault (Refused bytes) = (fault ≢ histories.Memory) × (string_bytes bytes ≡ history_fault_line fault)
 IsHistoryFaultOutcome fault Memory = ⊤
 IsHistoryFaultOutcome fault outcome = ⊥
-
--- the outcome where there is no plan, for this fault
-abbrev pub IsPlanFaultOutcome : PlanFault → Outcome → Type 0
-IsPlanFaultOutcome fault (Refused bytes) = (fault ≢ plans.Memory) × (string_bytes bytes ≡ plan_fault_line fault)
-IsPlanFaultOutcome fault Memory = ⊤
-IsPlanFaultOutcome fault outcome = ⊥
-
--- the outcome where a replay gives no history, for this fault
-abbrev pub IsReplayFaultOutcome : ReplayFault → Outcome → Type 0
-IsReplayFaultOutcome fault (Refused bytes) = (fault ≢ replays.Memory) × (string_bytes bytes ≡ replay_fault_line fault)
-IsReplayFaultOutcome fault Memory = ⊤
-IsReplayFaultOutcome fault outcome = ⊥
 
 -- the outcome of a check with this fault
 abbrev pub IsOrderFaultOutcome : OrderFault → Outcome → Type 0

@@ -1,13 +1,11 @@
 // How a run comes out, before anything is written.
 ghost use Rattle.std.specs.Prelude.{◌≡◌, MatchResult};
-ghost use Rattle.outcomes.specs.FaultOutcomes.{IsHistoryFaultOutcome, IsOrderFaultOutcome, IsPlanFaultOutcome, IsReplayFaultOutcome};
+ghost use Rattle.outcomes.specs.FaultOutcomes.{IsHistoryFaultOutcome, IsOrderFaultOutcome};
 ghost use Rattle.outcomes.specs.Statuses.{answer_status};
 
-use crate::lines::{history_fault_line, order_fault_line, plan_fault_line, replay_fault_line};
+use crate::lines::{history_fault_line, order_fault_line};
 use certificate::OrderFault;
 use events::HistoryFault;
-use plans::PlanFault;
-use replays::ReplayFault;
 use std::alloc::{AllocError, Global};
 
 /// The exit status of an answer that is yes, `ok`, or a text.
@@ -101,26 +99,6 @@ impl Outcome {
         match fault {
             HistoryFault::Memory => Outcome::Memory,
             _ => Outcome::refused(history_fault_line(alloc, fault)),
-        }
-    }
-
-    /// The refusal where there is no plan, or want of memory.
-    pub fn of_plan_fault(alloc: Global, fault: PlanFault) -> Outcome
-        ensures { IsPlanFaultOutcome fault result }
-    {
-        match fault {
-            PlanFault::Memory => Outcome::Memory,
-            _ => Outcome::refused(plan_fault_line(alloc, fault)),
-        }
-    }
-
-    /// The refusal of a text that gives no history of a replay, or want of memory.
-    pub fn of_replay_fault(alloc: Global, fault: &ReplayFault) -> Outcome
-        ensures { IsReplayFaultOutcome fault.now result }
-    {
-        match fault {
-            ReplayFault::Memory => Outcome::Memory,
-            _ => Outcome::refused(replay_fault_line(alloc, fault)),
         }
     }
 

@@ -1,8 +1,8 @@
 -- The text of a replay that was read up to one byte more than a text may have tells all that is to be told of the whole.
 use Rattle.std.proofs.Common.{ℕ, ◌+◌, ◌<◌, List, length, take, subst, inl, inr, arith, length-take}
 use Rattle.history_text.specs.Limits.{text_limit}
-use Rattle.machine.specs.declared.fault.MachineFault.{MachineFault}
-use Rattle.machine.specs.declared.fault.MachineFault.TheVariants as machines
+use Rattle.plans.specs.declared.fault.MachineFault.{MachineFault}
+use Rattle.plans.specs.declared.fault.MachineFault.TheVariants as machines
 use Rattle.replay_text.specs.Replays.{ReplayView}
 use Rattle.replay_text.specs.ReplayTexts.{SpellsReplay}
 use Rattle.replay_text.specs.ReplayTextFaults.{IsReplayTextFault}

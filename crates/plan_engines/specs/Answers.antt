@@ -14,7 +14,8 @@ use Rattle.replays.specs.declared.fault.ReplayFault.TheVariants as replays
 use Rattle.replays.specs.Played.{IsPlayed, IsUnplayed}
 use Rattle.outcomes.specs.declared.outcome.Answer.{Answer}
 use Rattle.outcomes.specs.declared.outcome.Answer.TheVariants.{Yes}
-use Rattle.outcomes.specs.Lines.{line, plan_fault_line, replay_fault_line}
+use Rattle.outcomes.specs.Lines.{line}
+use Rattle.plan_engines.specs.Faults.{plan_fault_line, replay_fault_line}
 
 -- `generate` answers so: yes, with the compact text of the plan that is drawn
 pub record IsGenerateAnswer (seed : ℕ) (mix : Mix) (processes calls : ℕ) (answer : Answer) (bytes : List ℕ) : Type 0 where

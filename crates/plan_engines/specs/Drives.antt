@@ -16,7 +16,8 @@ use Rattle.art_steps.specs.declared.variant.Variant.{Variant}
 use Rattle.arena_drives.specs.ArenaDrives.{IsArenaDriveOf}
 use Rattle.outcomes.specs.declared.outcome.Answer.{Answer}
 use Rattle.outcomes.specs.declared.outcome.Answer.TheVariants.{Yes}
-use Rattle.outcomes.specs.Lines.{line, plan_fault_line}
+use Rattle.outcomes.specs.Lines.{line}
+use Rattle.plan_engines.specs.Faults.{plan_fault_line}
 
 -- the text spells a plan for which there is room
 pub record SpellsDrivable (text : List ℕ) (scripts : List (List Call)) : Type 0 where

@@ -3,6 +3,7 @@ ghost use Rattle.std.specs.Prelude.{IfOk, IfErr};
 ghost use Rattle.plan_engines.specs.Drives.{SpellsDrivable};
 ghost use Rattle.plan_engines.specs.Outcomes.{IsUndrivenOutcome, IsHistoryOutcome};
 
+use crate::faults::plan_fault_outcome;
 use drives::is_drivable;
 use events::History;
 use history_text::write_history;
@@ -18,10 +19,10 @@ pub(crate) fn drivable_plan(alloc: Global, text: &[u8]) -> Result<Plan, Outcome>
 {
     let plan = match read_plan(alloc, text) {
         Ok(plan) => plan,
-        Err(fault) => return Err(Outcome::of_plan_fault(alloc, fault)),
+        Err(fault) => return Err(plan_fault_outcome(alloc, fault)),
     };
     if !is_drivable(&plan) {
-        return Err(Outcome::of_plan_fault(alloc, PlanFault::TooMany));
+        return Err(plan_fault_outcome(alloc, PlanFault::TooMany));
     }
     Ok(plan)
 }

@@ -4,6 +4,7 @@ ghost use Rattle.outcomes.specs.Ends.{change};
 ghost use Rattle.plan_engines.specs.Outcomes.{IsGenerateOutcome};
 ghost use Rattle.outcomes.specs.Runs.{IsRun};
 
+use crate::faults::plan_fault_outcome;
 use outcomes::{Answer, Outcome, line_of, write_outcome};
 use plan_text::write_plan;
 use std::alloc::Global;
@@ -37,7 +38,7 @@ pub fn generate_outcome(alloc: Global, seed: u64, mix: &Mix, processes: u32, cal
 {
     let plan = match plan(alloc, seed, mix, processes, calls) {
         Ok(plan) => plan,
-        Err(fault) => return Outcome::of_plan_fault(alloc, fault),
+        Err(fault) => return plan_fault_outcome(alloc, fault),
     };
     match write_plan(alloc, &plan) {
         Ok(text) => Outcome::answered(Answer::Yes, line_of(text)),

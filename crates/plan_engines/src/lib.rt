@@ -4,6 +4,7 @@
 
 mod drivable;
 mod drive;
+mod faults;
 mod generate;
 mod replay;
 mod tree_drive;

@@ -6,6 +6,7 @@ ghost use Rattle.plan_engines.specs.Outcomes.{IsReplayOutcome};
 ghost use Rattle.outcomes.specs.Outcomes.{IsTextOutcome};
 ghost use Rattle.outcomes.specs.Runs.{IsRun};
 
+use crate::faults::replay_fault_outcome;
 use history_text::{MAX_TEXT, write_history};
 use outcomes::{Answer, Outcome, line_of, text_from, write_outcome};
 use replays::replay_history;
@@ -40,7 +41,7 @@ pub fn replay_outcome(alloc: Global, text: &[u8]) -> Outcome
 {
     let history = match replay_history(alloc, text) {
         Ok(history) => history,
-        Err(fault) => return Outcome::of_replay_fault(alloc, &fault),
+        Err(fault) => return replay_fault_outcome(alloc, &fault),
     };
     match write_history(alloc, &history) {
         Ok(text) => Outcome::answered(Answer::Yes, line_of(text)),

@@ -29,3 +29,33 @@ impl From<Memory> for PlanFault {
         PlanFault::Memory
     }
 }
+
+/// Why a turn was refused, a text is no replay, or a machine is not opened.
+#[derive(Clone, Copy, Debug, PartialEq, Eq)]
+pub enum MachineFault {
+    /// There is no such process.
+    NoProcess,
+    /// The process has no open call, and none left in its script.
+    NothingToDo,
+    /// No turn is left to the machine.
+    TurnLimit,
+    /// Memory was wanted.
+    Memory,
+    /// A text is longer than texts may be.
+    TooLong,
+    /// A text is no JSON.
+    NotJson,
+    /// A text has not the form of a replay, or passes a limit.
+    Shape,
+    /// A pair that a machine was to start with has no place in the tree.
+    StartRefused,
+}
+
+/// The item of a schedule whose turn was refused, and why. The turns before it stand.
+#[derive(Clone, Copy, Debug, PartialEq, Eq)]
+pub struct RunFault {
+    /// The item's place in the schedule, from 0.
+    pub item: usize,
+    /// Why its turn was refused.
+    pub fault: MachineFault,
+}

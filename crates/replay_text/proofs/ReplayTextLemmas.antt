@@ -1,5 +1,5 @@
 -- A text spells one replay only, and has one fault.
-use Rattle.machine.specs.declared.fault.MachineFault.TheVariants as faults
+use Rattle.plans.specs.declared.fault.MachineFault.TheVariants as faults
 use Rattle.std.proofs.Common.{◌≡◌, ℕ, List, map, get_or, Option, Some, None, is_some, Result, IfOk, IfNone, IfSome}
 use Rattle.std.proofs.Common.{Ok, Err, refl, sym, ap, ◌∙◌, subst, arith}
 use Rattle.serde_json.specs.Data.{Data, string}
@@ -16,7 +16,7 @@ use Rattle.art_steps.specs.declared.variant.Variant.{Variant}
 use Rattle.art_steps.specs.declared.variant.Variant.TheVariants.{Coupled, Optimistic, ReadUnchecked, ScanUnvalidated, LockUnchecked, EarlyRelease}
 use Rattle.art_core.specs.declared.item.Item.{Item}
 use Rattle.art_core.specs.declared.item.Item.TheVariants.{Turns, End, Until}
-use Rattle.machine.specs.declared.fault.MachineFault.{MachineFault}
+use Rattle.plans.specs.declared.fault.MachineFault.{MachineFault}
 use Rattle.plan_text.proofs.AmongLemmas.{none-follows}
 use Rattle.plan_text.proofs.JsonLemmas.{long_or_short, long_or_json, none_or_json}
 use Rattle.plan_text.proofs.PlanTextLemmas.{scripts_data_injective}

@@ -1,10 +1,10 @@
 -- The first fault of a text that spells no replay.
-use Rattle.machine.specs.declared.fault.MachineFault.TheVariants as faults
+use Rattle.plans.specs.declared.fault.MachineFault.TheVariants as faults
 use Rattle.std.specs.Prelude.{ℕ, List, ⊤}
 use Rattle.serde_json.specs.Data.{Data}
 use Rattle.history_text.specs.Texts.{IsJson}
 use Rattle.history_text.specs.JsonFaults.{IsTooLong, IsNoJson}
-use Rattle.machine.specs.declared.fault.MachineFault.{MachineFault}
+use Rattle.plans.specs.declared.fault.MachineFault.{MachineFault}
 use Rattle.replay_text.specs.Replays.{ReplayView}
 use Rattle.replay_text.specs.ReplayTexts.{SpellsReplayAs}
 

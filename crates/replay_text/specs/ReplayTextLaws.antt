@@ -1,7 +1,7 @@
 -- Laws of the texts of replays.
-use Rattle.machine.specs.declared.fault.MachineFault.TheVariants as faults
+use Rattle.plans.specs.declared.fault.MachineFault.TheVariants as faults
 use Rattle.std.specs.Prelude.{◌≡◌, ◌≢◌, ℕ, List}
-use Rattle.machine.specs.declared.fault.MachineFault.{MachineFault}
+use Rattle.plans.specs.declared.fault.MachineFault.{MachineFault}
 use Rattle.replay_text.specs.Replays.{ReplayView}
 use Rattle.replay_text.specs.ReplayTexts.{SpellsReplay}
 use Rattle.replay_text.specs.ReplayTextFaults.{IsReplayTextFault}

@@ -9,8 +9,8 @@ use Rattle.art_steps.specs.TreeCalls.{is_tree_call}
 use Rattle.art_core.specs.declared.item.Item.{Item}
 use Rattle.art_core.specs.declared.item.Item.TheVariants.{Turns, End, Until}
 use Rattle.art_core.specs.Starts.{IsStartOf}
+use Rattle.art_core.specs.Core.{Plan}
 use Rattle.art_core.specs.Plans.{IsPlan}
-use Rattle.machine.specs.Running.{plan_of}
 
 -- the most turns of a machine, and of an item
 abbrev pub turn_limit : ℕ
@@ -29,6 +29,10 @@ pub record ReplayView : Type 0 where
   pub scripts : List (List Call)
   pub schedule : List Item
 
+-- what a replay runs
+abbrev pub plan_in : ReplayView → Plan
+plan_in r = record { shape = r.shape; variant = r.variant; scripts = r.scripts }
+
 -- whether an item that names a number of turns names some, and not too many
 abbrev pub is_item : Item → Bool
 is_item (Turns process turns) = nat_le 1 turns && nat_le turns turn_limit
@@ -39,7 +43,7 @@ is_item (Until process point) = true
 pub record IsReplay (r : ReplayView) : Type 0 where
   pub some_turn : 1 ≤ r.limit
   pub few_turns : r.limit ≤ turn_limit
-  pub plan : IsPlan (plan_of r.shape r.variant r.scripts)
-  pub start : IsStartOf (plan_of r.shape r.variant r.scripts) r.start
+  pub plan : IsPlan (plan_in r)
+  pub start : IsStartOf (plan_in r) r.start
   pub few_items : length r.schedule ≤ item_limit
   pub items : All (λ item. IsTrue (is_item item)) r.schedule

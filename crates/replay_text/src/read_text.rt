@@ -2,7 +2,7 @@
 ghost use Rattle.std.specs.Prelude.{◌≡◌, IfOk, IfErr, IfSome, IfNone};
 ghost use Rattle.serde_json.specs.View.{view};
 ghost use Rattle.history_text.specs.Texts.{IsJson};
-ghost use Rattle.machine.specs.declared.fault.MachineFault.TheVariants as faults;
+ghost use Rattle.plans.specs.declared.fault.MachineFault.TheVariants as faults;
 ghost use Rattle.replay_text.specs.Replays.{ReplayView};
 ghost use Rattle.replay_text.specs.ReplayTexts.{SpellsReplayAs, SpellsReplay};
 ghost use Rattle.replay_text.specs.ReplayTextFaults.{SpellsNoReplay, IsReplayTextFault};
@@ -14,7 +14,7 @@ use crate::replay::Replay;
 use crate::starting_pairs::start_of;
 use events::Memory;
 use history_text::{JsonFault, json_of};
-use machine::MachineFault;
+use plans::MachineFault;
 use serde_json::Value;
 use std::alloc::Global;
 

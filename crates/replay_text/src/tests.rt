@@ -2,7 +2,7 @@ use crate::read_replay;
 use art_core::Item;
 use art_rows::Shape;
 use art_steps::{Point, Variant};
-use machine::MachineFault;
+use plans::MachineFault;
 use std::alloc::Global;
 use std::process::Abort;
 use std::test::Fail;

@@ -6,13 +6,13 @@ use Rattle.art_core.specs.declared.item.Item.{Item}
 use Rattle.art_core.specs.Core.{Plan, State, opened_on}
 use Rattle.art_core.specs.Starts.{StartsOn}
 use Rattle.machine.specs.declared.machines.Machine.{Machine}
-use Rattle.machine.specs.declared.fault.MachineFault.{MachineFault}
-use Rattle.machine.specs.declared.fault.RunFault.{RunFault}
+use Rattle.plans.specs.declared.fault.MachineFault.{MachineFault}
+use Rattle.plans.specs.declared.fault.RunFault.{RunFault}
 use Rattle.machine.specs.Running.{HasStoppedAt}
-use Rattle.replay_text.specs.Replays.{ReplayView}
+use Rattle.replay_text.specs.Replays.{ReplayView, plan_in}
 use Rattle.replays.specs.declared.fault.ReplayFault.{ReplayFault}
 use Rattle.replays.specs.declared.fault.ReplayFault.TheVariants as faults
-use Rattle.replays.specs.Played.{is_memory, Records, StopsAt, plan_in, Plays, IsUnrecorded, IsUnplayedFor}
+use Rattle.replays.specs.Played.{is_memory, Records, StopsAt, Plays, IsUnrecorded, IsUnplayedFor}
 
 -- what holds of an answer may be said otherwise
 pub if_ok : {A E : Type 0} {P Q : A → Type 0} (result : Result A E) → ((a : A) → P a → Q a) → IfOk result P → IfOk result Q

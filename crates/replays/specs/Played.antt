@@ -6,12 +6,11 @@ use Rattle.art_core.specs.declared.item.Item.{Item}
 use Rattle.art_core.specs.Core.{Plan, State, opened_on, history_of}
 use Rattle.art_core.specs.NamedTurns.{process_of_item, WantsTurn, AreMade, AreMadeWhole}
 use Rattle.art_core.specs.Starts.{StartsOn}
-use Rattle.machine.specs.declared.fault.MachineFault.{MachineFault}
-use Rattle.machine.specs.declared.fault.MachineFault.TheVariants as machines
+use Rattle.plans.specs.declared.fault.MachineFault.{MachineFault}
+use Rattle.plans.specs.declared.fault.MachineFault.TheVariants as machines
 use Rattle.machine.specs.Refusals.{IsRefusedIn}
-use Rattle.machine.specs.Running.{plan_of}
 use Rattle.machine.specs.Starting.{IsNotOpened}
-use Rattle.replay_text.specs.Replays.{ReplayView}
+use Rattle.replay_text.specs.Replays.{ReplayView, plan_in}
 use Rattle.replay_text.specs.ReplayTexts.{SpellsReplay}
 use Rattle.replay_text.specs.ReplayTextFaults.{IsReplayTextFault}
 use Rattle.replays.specs.declared.fault.ReplayFault.{ReplayFault}
@@ -50,10 +49,6 @@ pub record StopsAt (plan : Plan) (items : List Item) (first : State) (left place
   pub refused : IsRefusedIn plan state rest (process_of_item item) fault
 
 -- ---- the run of a replay
-
--- what a replay runs
-abbrev pub plan_in : ReplayView → Plan
-plan_in r = plan_of r.shape r.variant r.scripts
 
 -- from the words on which its tree has the starting pairs, its schedule records this history
 pub record Plays (r : ReplayView) (history : HistoryView) : Type 0 where

@@ -1,4 +1,4 @@
-use machine::{MachineFault, RunFault};
+use plans::{MachineFault, RunFault};
 
 /// Why a text of a replay gives no history.
 #[derive(Clone, Copy, Debug, PartialEq, Eq)]

@@ -9,7 +9,8 @@ ghost use Rattle.replays.specs.declared.fault.ReplayFault.TheVariants as faults;
 use crate::fault::ReplayFault;
 use art_core::Item;
 use events::History;
-use machine::{Machine, MachineFault, RunFault};
+use machine::Machine;
+use plans::{MachineFault, RunFault};
 use replay_text::{Replay, read_replay};
 use std::alloc::Global;
 

@@ -7,8 +7,8 @@ use Rattle.plan_text.specs.PlanTexts.{SpellsPlan}
 use Rattle.drives.specs.Drives.{IsDrivable}
 use Rattle.outcomes.specs.declared.outcome.Outcome.{Outcome}
 use Rattle.outcomes.specs.declared.outcome.Outcome.TheVariants.{Answered, Refused, Memory, Words, Failed}
-use Rattle.outcomes.specs.FaultOutcomes.{IsPlanFaultOutcome}
 use Rattle.plan_engines.specs.Drives.{IsUndriven}
+use Rattle.plan_engines.specs.Faults.{IsPlanFaultOutcome}
 use Rattle.plan_engines.specs.Outcomes.{IsUndrivenOutcome}
 use Rattle.plan_engines.proofs.drivable.drivable_plan.Goals as goal
 
@@ -31,6 +31,6 @@ undrivable text scripts spelled are many = inr (refl, (scripts, spelled, are, ma
 
 pub returns-then-not-is_drivable-clause-refused : goal.returns-then-not-is_drivable-clause-refused
 returns-then-not-is_drivable-clause-refused c =
-    undriven c.args.text.now plans.TooMany c.of_plan_fault-then-not-is_drivable.result
+    undriven c.args.text.now plans.TooMany c.plan_fault_outcome-then-not-is_drivable.result
     (undrivable c.args.text.now c.in-Ok.plan c.in-Ok.ensures.spelled c.in-Ok.ensures.within
-    (denied c.is_drivable.result _ c.is_drivable.ensures c.if-not-is_drivable.true)) c.of_plan_fault-then-not-is_drivable.ensures
+    (denied c.is_drivable.result _ c.is_drivable.ensures c.if-not-is_drivable.true)) c.plan_fault_outcome-then-not-is_drivable.ensures

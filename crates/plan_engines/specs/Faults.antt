@@ -1,0 +1,55 @@
+-- How the fault of a plan or of a replay is told: its line, and the outcome.
+use Rattle.std.specs.Prelude.{◌≡◌, ◌≢◌, ⊤, ℕ, List, ◌++◌, codes, decimal, string_bytes}
+use Rattle.plans.specs.declared.fault.PlanFault.{PlanFault}
+use Rattle.plans.specs.declared.fault.PlanFault.TheVariants as plans
+use Rattle.plans.specs.declared.fault.MachineFault.{MachineFault}
+use Rattle.plans.specs.declared.fault.MachineFault.TheVariants as machines
+use Rattle.plans.specs.declared.fault.RunFault.{RunFault}
+use Rattle.replays.specs.declared.fault.ReplayFault.{ReplayFault}
+use Rattle.replays.specs.declared.fault.ReplayFault.TheVariants as replays
+use Rattle.outcomes.specs.declared.outcome.Outcome.{Outcome}
+use Rattle.outcomes.specs.declared.outcome.Outcome.TheVariants.{Refused, Memory}
+use Rattle.outcomes.specs.Lines.{line, memory_line}
+
+-- why there is no plan
+abbrev pub plan_fault_line : PlanFault → List ℕ
+plan_fault_line plans.BadMix = line (codes "plan: 1 BadMix")
+plan_fault_line plans.BadRange = line (codes "plan: 2 BadRange")
+plan_fault_line plans.TooMany = line (codes "plan: 3 TooMany")
+plan_fault_line plans.Memory = memory_line
+plan_fault_line plans.TooLong = line (codes "plan: 5 TooLong")
+plan_fault_line plans.NotJson = line (codes "plan: 6 NotJson")
+plan_fault_line plans.Shape = line (codes "plan: 7 Shape")
+
+-- the number and the name of a machine's fault
+abbrev pub machine_fault_name : MachineFault → List ℕ
+machine_fault_name machines.NoProcess = codes "1 NoProcess"
+machine_fault_name machines.NothingToDo = codes "2 NothingToDo"
+machine_fault_name machines.TurnLimit = codes "3 TurnLimit"
+machine_fault_name machines.Memory = codes "4 Memory"
+machine_fault_name machines.TooLong = codes "5 TooLong"
+machine_fault_name machines.NotJson = codes "6 NotJson"
+machine_fault_name machines.Shape = codes "7 Shape"
+machine_fault_name machines.StartRefused = codes "8 StartRefused"
+
+-- where a schedule stops, and why
+abbrev pub stop_line : RunFault → List ℕ
+stop_line stop = line (codes "schedule: item " ++ decimal stop.item ++ codes ": " ++ machine_fault_name stop.fault)
+
+-- why a text of a replay gives no history
+abbrev pub replay_fault_line : ReplayFault → List ℕ
+replay_fault_line (replays.Replay fault) = line (codes "replay: " ++ machine_fault_name fault)
+replay_fault_line (replays.Schedule stop) = stop_line stop
+replay_fault_line replays.Memory = memory_line
+
+-- the outcome where there is no plan, for this fault
+abbrev pub IsPlanFaultOutcome : PlanFault → Outcome → Type 0
+IsPlanFaultOutcome fault (Refused bytes) = (fault ≢ plans.Memory) × (string_bytes bytes ≡ plan_fault_line fault)
+IsPlanFaultOutcome fault Memory = ⊤
+IsPlanFaultOutcome fault outcome = ⊥
+
+-- the outcome where a replay gives no history, for this fault
+abbrev pub IsReplayFaultOutcome : ReplayFault → Outcome → Type 0
+IsReplayFaultOutcome fault (Refused bytes) = (fault ≢ replays.Memory) × (string_bytes bytes ≡ replay_fault_line fault)
+IsReplayFaultOutcome fault Memory = ⊤
+IsReplayFaultOutcome fault outcome = ⊥

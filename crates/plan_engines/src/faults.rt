@@ -1,0 +1,87 @@
+// How the fault of a plan or of a replay is told.
+ghost use Rattle.std.specs.Prelude.{◌≡◌, IfOk, string_bytes};
+ghost use Rattle.plan_engines.specs.Faults.{plan_fault_line, machine_fault_name, stop_line, replay_fault_line, IsPlanFaultOutcome, IsReplayFaultOutcome};
+
+use outcomes::Outcome;
+use plans::{MachineFault, PlanFault, RunFault};
+use replays::ReplayFault;
+use std::alloc::{AllocError, Global};
+
+/// The refusal where there is no plan, or want of memory.
+pub(crate) fn plan_fault_outcome(alloc: Global, fault: PlanFault) -> Outcome
+    ensures { IsPlanFaultOutcome fault result }
+{
+    match fault {
+        PlanFault::Memory => Outcome::Memory,
+        _ => Outcome::refused(plan_fault_line(alloc, fault)),
+    }
+}
+
+/// The refusal of a text that gives no history of a replay, or want of memory.
+pub(crate) fn replay_fault_outcome(alloc: Global, fault: &ReplayFault) -> Outcome
+    ensures { IsReplayFaultOutcome fault.now result }
+{
+    match fault {
+        ReplayFault::Memory => Outcome::Memory,
+        _ => Outcome::refused(replay_fault_line(alloc, fault)),
+    }
+}
+
+/// Why there is no plan.
+fn plan_fault_line(alloc: Global, fault: PlanFault) -> Result<String, AllocError>
+    ensures { IfOk result (λ line. string_bytes line ≡ plan_fault_line fault) }
+{
+    String::from_str(
+        alloc,
+        match fault {
+            PlanFault::BadMix => "plan: 1 BadMix\n",
+            PlanFault::BadRange => "plan: 2 BadRange\n",
+            PlanFault::TooMany => "plan: 3 TooMany\n",
+            PlanFault::Memory => "memory\n",
+            PlanFault::TooLong => "plan: 5 TooLong\n",
+            PlanFault::NotJson => "plan: 6 NotJson\n",
+            PlanFault::Shape => "plan: 7 Shape\n",
+        },
+    )
+}
+
+/// The number and the name of a machine's fault.
+fn machine_fault_name(fault: MachineFault) -> &'static str
+    ensures { result.now ≡ machine_fault_name fault }
+{
+    match fault {
+        MachineFault::NoProcess => "1 NoProcess",
+        MachineFault::NothingToDo => "2 NothingToDo",
+        MachineFault::TurnLimit => "3 TurnLimit",
+        MachineFault::Memory => "4 Memory",
+        MachineFault::TooLong => "5 TooLong",
+        MachineFault::NotJson => "6 NotJson",
+        MachineFault::Shape => "7 Shape",
+        MachineFault::StartRefused => "8 StartRefused",
+    }
+}
+
+/// Where a schedule stops, and why.
+fn stop_line(alloc: Global, stop: &RunFault) -> Result<String, AllocError>
+    ensures { IfOk result (λ line. string_bytes line ≡ stop_line stop.now) }
+{
+    let item = stop.item;
+    let mut line = format!(in alloc; "schedule: item {item}: ")?;
+    line.push_str(machine_fault_name(stop.fault))?;
+    line.push_str("\n")?;
+    Ok(line)
+}
+
+/// Why a text of a replay gives no history.
+fn replay_fault_line(alloc: Global, fault: &ReplayFault) -> Result<String, AllocError>
+    ensures { IfOk result (λ line. string_bytes line ≡ replay_fault_line fault.now) }
+{
+    match fault {
+        ReplayFault::Replay(fault) => {
+            let name = machine_fault_name(*fault);
+            format!(in alloc; "replay: {name}\n")
+        }
+        ReplayFault::Schedule(stop) => stop_line(alloc, stop),
+        ReplayFault::Memory => String::from_str(alloc, "memory\n"),
+    }
+}
