@@ -64,10 +64,6 @@ store word value = λ again after. access (Store word value) None (λ _. after t
 abbrev pub store_at : Point → ℕ → ℕ → Part (Unit {0})
 store_at point word value = λ again after. access (Store word value) (Some point) (λ _. after tt)
 
--- the word before; it was exchanged where that is from
-abbrev pub exchange_at : Point → ℕ → ℕ → ℕ → Part ℕ
-exchange_at point word from to = λ again. access (Exchange word from to) (Some point)
-
 abbrev pub exchange : ℕ → ℕ → ℕ → Part ℕ
 exchange word from to = λ again. access (Exchange word from to) None
 

@@ -41,13 +41,6 @@ module _ (f : FollowerView) (group : Group) (goes : List Bool) (early : List Ope
       (subst (λ (calls : List Operation). IsSearchable (within group.part.range.low group.part.range.high f.known) calls) (sym early_is)
       (searchable f goes group.part.range.low group.part.range.high h))
 
-  -- where all of the group goes, its order is theirs
-  pub order_of_all : (order : List ℕ) → IsOrder group.part.start.items group.part.calls.items order → goes ≡ group.marks.items
-      → IsOrder group.part.start.items early order
-  order_of_all order is all =
-      subst (λ (calls : List Operation). IsOrder group.part.start.items calls order)
-      (part.calls ∙ (ap (λ (marks : List Bool). marked marks (calls_of f.left)) (sym all) ∙ sym early_is)) is
-
   -- their order is one from the known pairs of the range
   pub order_of_marked : (order : List ℕ) → IsOrder group.part.start.items early order
       → IsOrder (within group.part.range.low group.part.range.high f.known) (marked_left f goes) order
@@ -65,13 +58,6 @@ module _ (f : FollowerView) (group : Group) (goes : List Bool) (early : List Ope
       (sym (gone_is ∙ ap (λ (calls : List Operation). after_settlement f goes (after_calls f.known (calls_at calls order))) early_is))
       (law start events f group.part.range goes order follows may_go_of (order_of_marked order is))
 
-  pub has_settled : (g : FollowerView) (next : Contents) → g ≡ after_settlement f goes next → HasSettled f group.marks.items g
-  has_settled g next gone_is = record {
-    marks = goes;
-    settled = settled;
-    is = gone_is ∙ ap (λ (known : Contents). after_settlement f goes known) (sym (ap (λ (g : FollowerView). g.known) gone_is));
-  }
-
   -- they have an order where events are followed
   pub early_has_order : SettlementsHaveOrders → (start : Contents) (events : List Event) → IsFollowing start events f
       → IsLinearizable group.part.start.items early
@@ -79,20 +65,6 @@ module _ (f : FollowerView) (group : Group) (goes : List Bool) (early : List Ope
       subst (λ (pairs : Contents). IsLinearizable pairs early) (sym part.start)
       (subst (λ (calls : List Operation). IsLinearizable (within group.part.range.low group.part.range.high f.known) calls) (sym early_is)
       (law start events f group.part.range goes follows may_go_of))
-
-  pub spent_of : (budget : ℕ) (loss : Loss) (calls_is : loss ≡ record group.part { calls = loss.calls }) → loss.calls.items ≡ early
-      → ReachesMoreThan group.part.start.items early budget → IsSpentOf f group budget loss
-  spent_of budget loss is calls reached = record {
-    event = ap (λ (l : Loss). l.event) is;
-    number = ap (λ (l : Loss). l.number) is;
-    range = ap (λ (l : Loss). l.range) is;
-    start = ap (λ (l : Loss). l.start) is;
-    marks = goes;
-    among = settled.in_group;
-    calls = calls ∙ early_is;
-    reached = subst (λ (pairs : Contents). ReachesMoreThan pairs loss.calls.items budget) (sym (ap (λ (l : Loss). l.start.items) is))
-        (subst (λ (calls : List Operation). ReachesMoreThan group.part.start.items calls budget) (sym calls) reached);
-  }
 
 -- a search of those that may go was given up
 pub is_spent_of : (f : FollowerView) (place : ℕ) (call : LeftCall) (reply : Reply) (budget : ℕ) (group : Group) (loss : Loss)

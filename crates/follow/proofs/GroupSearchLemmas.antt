@@ -37,13 +37,6 @@ searchable f marks low high h = record {
   none_precedes_itself = All-marked (λ a. precedes a a ≡ false) marks (calls_of f.left) h.none_precedes_itself;
 }
 
-pub part_searchable : (f : FollowerView) (group : Group) → IsFollowerView f → IsPartOf f group
-    → IsSearchable group.part.start.items group.part.calls.items
-part_searchable f group h part =
-    subst (λ (start : Contents). IsSearchable start group.part.calls.items) (sym part.start)
-    (subst (λ (calls : List Operation). IsSearchable (within group.part.range.low group.part.range.high f.known) calls) (sym part.calls)
-    (searchable f group.marks.items group.part.range.low group.part.range.high h))
-
 -- the calls that are searched are those of the group
 pub part_calls : (f : FollowerView) (group : Group) → IsPartOf f group
     → group.part.calls.items ≡ group_in group.part.range (calls_of f.left)

@@ -6,10 +6,6 @@ use Rattle.std.proofs.lemmas.List.{take-take, drop-drop, drop_min, drop-append-l
 use Rattle.std.proofs.lemmas.Slice.{between_is, between_from_start}
 use Rattle.std.proofs.Math.Seq.{take-add}
 
--- nothing stands between a place and itself
-pub between_none : (xs : List ℕ) (i : ℕ) → between i i xs ≡ []
-between_none xs i = let none : i - i ≡ 0 = omega arith in rw none refl
-
 -- the first of what stands there
 pub between_front : (xs : List ℕ) (from to count : ℕ) → from + count ≤ to → between from (from + count) xs ≡ take count (between from to xs)
 between_front xs from to count within =
@@ -42,13 +38,6 @@ between_grown old new from to count order within kept =
 -- so much stands there
 pub length_between : (xs : List ℕ) (from to : ℕ) → from ≤ to → to ≤ length xs → length (between from to xs) ≡ to - from
 length_between xs from to order within = omega (arith, length-take (to - from) (drop from xs), length-drop from xs)
-
--- what was moved to the front
-pub between_moved : (xs : List ℕ) (from to : ℕ) → from ≤ to → to ≤ length xs
-    → between 0 (to - from) (copy_within xs from to 0) ≡ between from to xs
-between_moved xs from to order within =
-    between_from_start (copy_within xs from to 0) (to - from)
-    ∙ take_at (take (to - from) (drop from xs)) (drop (0 + (to - from)) xs) (to - from) (length_between xs from to order within)
 
 -- what stands before a place stands between places before it
 pub between_same : (xs ys : List ℕ) (i j : ℕ) → take j xs ≡ take j ys → between i j xs ≡ between i j ys

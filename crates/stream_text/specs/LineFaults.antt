@@ -62,9 +62,6 @@ IsStartFault start version fault = ⊥
 
 -- ---- of a first value, which is that of starting pairs where its members say so
 
-abbrev pub IsStartObject : Data → Type 0
-IsStartObject d = (start version : Data) × (d ≡ start_object start version)
-
 abbrev pub IsFirstFault : Data → LineFault → Type 0
 IsFirstFault d fault =
     ((start version : Data) × (d ≡ start_object start version) × IsStartFault start version fault)
