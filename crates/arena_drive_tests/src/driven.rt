@@ -136,3 +136,23 @@ fn four_processes_on_a_tree_that_skips_a_rule_come_to_an_end(rt: HostRuntime) ->
     }
     Ok(())
 }
+
+/// As many processes as there may be, and as many calls of one: each wants memory for the most that it may. Gets stop nobody.
+#[test]
+fn the_largest_plans_are_driven(rt: HostRuntime) -> Result<(), Fail> {
+    let alloc = rt.alloc();
+    let gets = Mix {
+        get: 100,
+        insert: 0,
+        remove: 0,
+        scan: 0,
+        lo: 0,
+        hi: 20,
+    };
+    for (processes, calls) in [(64, 64), (1, 4096)] {
+        let plan = plan(alloc, 1, &gets, processes, calls)?;
+        let history = driven_plan(&rt, alloc, &plan, Variant::Optimistic, STEPS, &OpenGate)?;
+        assert_eq!(rt; history.events().len(), 8192, "{processes} processes");
+    }
+    Ok(())
+}

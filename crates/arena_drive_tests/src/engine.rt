@@ -1,9 +1,10 @@
-// The engine that drives a plan on a tree, over ends in memory.
+// The engines that drive a plan on a tree, or replay one, over ends in memory.
 ghost use Rattle.art_rows.specs.Table.{IsWithinLimits};
 
 use crate::setups::DEFAULT;
 use art::{Shape, Variant};
-use plan_engines::run_tree_drive;
+use layer_tests::worked::pairs_listed;
+use plan_engines::{run_replay, run_tree_drive};
 use pool::OpenGate;
 use std::alloc::Global;
 use std::process::Abort;
@@ -58,5 +59,32 @@ fn the_engine_writes_the_history_or_the_first_fault(rt: HostRuntime) -> Result<(
     leaves(&rt, alloc, plan, DEFAULT, 1, (0, pending, ""))?;
     let none = r#"{"scripts":[],"version":1}"#;
     leaves(&rt, alloc, none, DEFAULT, 1, (3, "", "plan: 3 TooMany\n"))?;
+    Ok(())
+}
+
+/// A replay that starts with as many pairs as it may, has as many processes, and gives the longest answer.
+#[test]
+fn the_largest_replay_is_run(rt: HostRuntime) -> Result<(), Fail> {
+    let alloc = rt.alloc();
+    let pairs = pairs_listed(alloc, 4096)?;
+    let mut scripts = String::from_str(alloc, r#"[["scan",0,4095]]"#)?;
+    for _idle in 1..64 {
+        scripts.push_str(",[]")?;
+    }
+    let text = format!(in alloc;
+        "{{\"limit\":1000000,\"rows\":[64,32,32,32],\"schedule\":[[0,\"end\"]],\"scripts\":[{scripts}],\
+        \"start\":[{pairs}],\"variant\":\"optimistic\",\"version\":2}}"
+    )?;
+    let mut source = MemorySource::new(Vec::from_slice(alloc, text.as_bytes())?, 100, None);
+    let mut out = MemorySink::new(Vec::new(alloc), 100, None);
+    let mut err = MemorySink::new(Vec::new(alloc), 100, None);
+    let status = run_replay(alloc, &mut source, &mut out, &mut err);
+    assert_eq!(rt; status, 0);
+    let written = format!(in alloc;
+        "{{\"events\":[{{\"invoke\":[\"scan\",0,4095],\"process\":0}},{{\"answer\":[{pairs}],\"process\":0}}],\
+        \"start\":[{pairs}],\"version\":2}}\n"
+    )?;
+    assert!(rt; out.bytes() == written.as_bytes());
+    assert!(rt; err.bytes().is_empty());
     Ok(())
 }

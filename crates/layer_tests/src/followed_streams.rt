@@ -366,13 +366,14 @@ fn lost_beside_searches(alloc: Global, events: &[Event]) -> Result<bool, Fail> {
 
 #[test]
 fn random_streams_are_followed(rt: HostRuntime) -> Result<(), Fail> {
-    let mut lost = 0;
+    let mut lost = Vec::new(rt.alloc());
     for seed in 0..200 {
         let events = some_events(rt.alloc(), seed * 7919 + 1, 70)?;
         if lost_beside_searches(rt.alloc(), &events)? {
-            lost += 1;
+            lost.push(seed)?;
         }
     }
-    assert!(rt; 40 < lost && lost < 190, "{lost}");
+    let count = lost.len();
+    assert!(rt; 40 < count && count < 190, "{count}");
     Ok(())
 }

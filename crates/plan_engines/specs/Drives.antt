@@ -50,7 +50,7 @@ pub record IsDrivenAnswer (IsHistoryOf : List (List Call) → HistoryView → Ty
 abbrev pub IsDriveAnswer : (Call → Reply → Type 0) → List ℕ → Answer → List ℕ → Type 0
 IsDriveAnswer may_answer = IsDrivenAnswer (IsDriveOf may_answer)
 
--- or one on a tree of this shape and variant, with at most so many steps of each call
+-- or one on a tree of this shape and variant, with at most so many steps of each call beside that of its invocation
 abbrev pub IsTreeDriveAnswer : Shape → Variant → ℕ → List ℕ → Answer → List ℕ → Type 0
 IsTreeDriveAnswer shape variant limit = IsDrivenAnswer (IsArenaDriveOf shape variant limit)
 

@@ -3,7 +3,7 @@ ghost use Rattle.std.specs.Prelude.{◌≤◌};
 
 use crate::gates::no_visits;
 use history::{Event, History, read_history};
-use judge::{MAX_BUDGET, Verdict, judge_alone};
+use judge::{MAX_BUDGET, Verdict, judge_alone, judge_text};
 use layer_tests::worked::{
     EFFECT_LATER_THAN_THE_INVOCATION, GET_IS_ANSWERED_BY_A_LIST, GET_MISSES_ANSWERED_INSERT,
     GET_MISSES_OPEN_INSERT, GET_MISSES_PENDING_INSERT, GET_MISSES_REFUSED_INSERT,
@@ -13,7 +13,7 @@ use layer_tests::worked::{
     PENDING_REMOVE, REFUSED_SCAN_TIES_KEYS, SCAN_LISTS_KEYS_THAT_FALL,
     SCAN_MISSES_THE_FIRST_OF_TWO_INSERTS, SCAN_OF_ALL_KEYS,
     SCANS_SEE_TWO_INSERTS_IN_DIFFERENT_ORDER, TWO_GETS_SEE_WHAT_NOBODY_INSERTED, TWO_KEYS,
-    TWO_KEYS_AND_A_PENDING_SCAN, TWO_KEYS_BY_FALLING_KEY, gets, history_of,
+    TWO_KEYS_AND_A_PENDING_SCAN, TWO_KEYS_BY_FALLING_KEY, gets, history_of, pairs_listed,
 };
 use locating::{Location, MAX_JUDGEMENTS, locate, location_line};
 use pool::{MAX_WORKERS, OpenGate};
@@ -331,4 +331,22 @@ fn lines(rt: HostRuntime) -> Result<(), Fail> {
         assert!(&rt; line.as_str() == *want, "{line}");
     }
     Ok(())
+}
+
+/// As many starting pairs as there may be: a scan lists them all, and one after it none.
+#[test]
+fn a_scan_of_the_most_starting_pairs(rt: HostRuntime) -> Result<(), Fail> {
+    let alloc = rt.alloc();
+    let pairs = pairs_listed(alloc, 4096)?;
+    let text = format!(in alloc;
+        "{{\"events\":[{{\"invoke\":[\"scan\",0,4095],\"process\":0}},{{\"answer\":[{pairs}],\"process\":0}},\
+        {{\"invoke\":[\"scan\",0,4095],\"process\":0}},{{\"answer\":[],\"process\":0}}],\
+        \"start\":[{pairs}],\"version\":2}}"
+    )?;
+    let judged = judge_text(&rt, alloc, text.as_bytes(), 1000, 4, &OpenGate);
+    let report = r#"{"calls":[0,1],"hi":4095,"lo":0,"verdict":"no"}"#;
+    assert!(rt; judged.is_ok_and(|answer| answer.1.as_str() == report));
+    let history = read_history(alloc, text.as_bytes())?;
+    let want = Location::No { call: 1, event: 3 };
+    assert_located(&rt, alloc, &history, 1000, want)
 }

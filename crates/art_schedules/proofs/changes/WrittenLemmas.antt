@@ -9,7 +9,7 @@ use Rattle.art_rows.proofs.ByteLemmas.{key_byte-small}
 use Rattle.art_core.specs.Meaning.{Reached}
 use Rattle.art_serial.specs.writes.Writes.{IsOutside}
 use Rattle.art_serial.proofs.alone.PlaceLemmas.{Sits, sits-part, sits-inside}
-use Rattle.art_serial.proofs.alone.SlotLemmas.{IsSlot, slot-is, row-keys, form-same}
+use Rattle.art_serial.proofs.alone.SlotLemmas.{slot-is, row-keys, form-same, IsChildWord}
 use Rattle.art_serial.proofs.alone.LikeLemmas.{sits}
 use Rattle.art_serial.proofs.inserts.OutcomeLemmas.{split, child-same}
 use Rattle.art_schedules.specs.changes.Written.{StoresAreSlots, HungRowsAreSlots, ChildrenAreOfRows, PutsAreChildren, PairsAreFresh, CopiesAreFresh}
@@ -27,7 +27,7 @@ stores-are-slots words calm later base kind x slot word byte at inside before af
       ∙ (ap (λ w. slice_index (slice_set words slot word) w) (sym its-place.is) ∙ get_or-set_same words slot word 0 inside));
 }
   where
-    its-place : IsSlot base kind slot
+    its-place : IsChildWord base kind slot
     its-place = slot-is calm base kind x slot byte at
 
 pub hung-rows-are-slots : HungRowsAreSlots
@@ -44,7 +44,7 @@ hung-rows-are-slots s n words written calm later base kind x slot fresh larger r
     place : Sits s base kind
     place = sits s n calm rest reached
 
-    its-place : IsSlot base kind slot
+    its-place : IsChildWord base kind slot
     its-place = slot-is calm base kind x slot byte at
 
     outside : (j : ℕ) → j < row_words kind

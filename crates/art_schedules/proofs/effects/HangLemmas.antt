@@ -33,7 +33,7 @@ use Rattle.art_core.specs.Forms.{level_in, path_in}
 use Rattle.art_serial.specs.trees.Trees.{IsAtRest, SameRow, LeadsTo, Parts}
 use Rattle.art_serial.proofs.alone.PlaceLemmas.{sits-kind_at}
 use Rattle.art_serial.proofs.alone.LikeLemmas.{sits}
-use Rattle.art_serial.proofs.alone.SlotLemmas.{IsSlot, slot-is, row-keys, form-same}
+use Rattle.art_serial.proofs.alone.SlotLemmas.{slot-is, row-keys, form-same, IsChildWord}
 use Rattle.art_serial.proofs.inserts.OutcomeLemmas.{child-same}
 use Rattle.art_serial.specs.writes.Writes.{HasPut, IsOutside}
 use Rattle.art_serial.proofs.trees.Changes.{way_byte}
@@ -68,7 +68,7 @@ module _ (c : Setting) (n : ℕ) (real after first words : List ℕ) (rest : IsA
   pub slot-inside : (base : ℕ) (kind : Kind) (y slot : ℕ) → Reached s after base kind → y < 256 → slot_of after base kind y ≡ Some slot
       → (base + 1 ≤ slot) × (slot < base + row_words kind) × (slot < length first)
   slot-inside base kind y slot r small has =
-      let place : IsSlot base kind slot = slot-is after base kind y slot small has in
+      let place : IsChildWord base kind slot = slot-is after base kind y slot small has in
       let ends = row_ends s base kind (row-kind base kind r) in (
         omega (arith, place.is, place.low, first-some kind),
         omega (arith, place.is, place.high),

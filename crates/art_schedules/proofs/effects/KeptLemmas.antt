@@ -21,7 +21,7 @@ use Rattle.art_stages.specs.Stages.{row_at, byte_in}
 use Rattle.art_core.specs.Meaning.{Reached, below, slot_of, child_in, child_on}
 use Rattle.art_core.specs.Forms.{level_in, path_in}
 use Rattle.art_serial.specs.trees.Trees.{SameRow, LeadsTo, Parts}
-use Rattle.art_serial.proofs.alone.SlotLemmas.{IsSlot, slot-is, row-keys, slot-same, keys-same, count-same, form-same}
+use Rattle.art_serial.proofs.alone.SlotLemmas.{slot-is, row-keys, slot-same, keys-same, count-same, form-same, IsChildWord}
 use Rattle.art_serial.proofs.inserts.OutcomeLemmas.{child-same}
 use Rattle.art_serial.proofs.trees.Changes.{way_byte}
 use Rattle.art_versions.specs.versions.Locking.{all_of, rows_of_hold}
@@ -48,7 +48,7 @@ upper-each P h e = go h.row h.above e
 pub slot-word : (words later : List ℕ) (base : ℕ) (kind : Kind) (x slot : ℕ) → x < 256 → SameRow words later base kind → slot_of words base kind x ≡ Some slot
     → slice_index later slot ≡ slice_index words slot
 slot-word words later base kind x slot byte same at =
-    let place : IsSlot base kind slot = slot-is words base kind x slot byte at in
+    let place : IsChildWord base kind slot = slot-is words base kind x slot byte at in
     ap (slice_index later) place.is
     ∙ (same place.place (omega (arith, first-some kind, place.low)) place.high ∙ ap (slice_index words) (sym place.is))
 
@@ -166,7 +166,7 @@ module _ (c : Setting) (n : ℕ) (calm after : List ℕ) (pairs : Contents) (gon
       → HasWordAt calm real base kind x slot word → HasWordAt after later base kind x slot word
   slot-kept real later base kind x slot word byte same own has =
       let at = slot-same calm after base kind x byte (row-keys calm after base kind same) ∙ has.at in
-      let place : IsSlot base kind slot = slot-is calm base kind x slot byte has.at in
+      let place : IsChildWord base kind slot = slot-is calm base kind x slot byte has.at in
       record {
         at = at;
         others = λ j low high ne. own j low high ∙ (has.others j low high ne ∙ sym (same j low high));

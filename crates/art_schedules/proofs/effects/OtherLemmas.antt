@@ -1,5 +1,5 @@
 -- A call at work, or at its end, while another process steps.
-use Rattle.std.proofs.Common.{◌≡◌, ◌≢◌, ◌⊎◌, inl, inr, ℕ, ◌+◌, ◌-◌, ◌<◌, ◌≤◌, List, [], ◌∷◌, ◌++◌, slice_index, true, false, refl, sym, ap, ◌∙◌, subst, arith}
+use Rattle.std.proofs.Common.{◌≡◌, ◌≢◌, ◌⊎◌, inl, inr, ℕ, ◌+◌, ◌<◌, ◌≤◌, List, [], ◌∷◌, ◌++◌, slice_index, true, false, refl, sym, ap, ◌∙◌, subst, arith}
 use Rattle.std.specs.Prelude.{Option, Some, None}
 use Rattle.std.proofs.lemmas.Bool.{cases_lt, cases_eq}
 use Rattle.std.proofs.lemmas.Option.{same_Some}
@@ -8,7 +8,7 @@ use Rattle.events.specs.declared.event.Reply.{Reply}
 use Rattle.map_object.specs.MapObject.{Contents}
 use Rattle.art_rows.specs.declared.table.Shape.{Shape}
 use Rattle.art_rows.specs.declared.table.Kind.{Kind}
-use Rattle.art_rows.specs.declared.table.Kind.TheVariants.{Four, Sixteen, FortyEight, Full}
+use Rattle.art_rows.specs.declared.table.Kind.TheVariants.{Four}
 use Rattle.art_rows.specs.declared.table.Child.TheVariants.{Row}
 use Rattle.art_rows.specs.Table.{row_words, kind_at}
 use Rattle.art_rows.specs.Words.{child_of, row_word, is_obsolete}
@@ -32,11 +32,9 @@ use Rattle.art_core.specs.Core.{Plan, State}
 use Rattle.art_core.specs.Meaning.{Reached, below, slot_of, child_on}
 use Rattle.art_serial.specs.trees.Trees.{IsAtRest, SameRow, IsClaimed}
 use Rattle.art_serial.specs.trees.Children.{ChildrenAreRead}
-use Rattle.art_serial.proofs.alone.SlotLemmas as slots
-use Rattle.art_serial.proofs.alone.SlotLemmas.{slot-is}
 use Rattle.art_serial.proofs.trees.Changes.{way_byte}
 use Rattle.art_versions.specs.versions.Locking.{lock_of, locks_of, rows_of_hold}
-use Rattle.art_versions.specs.versions.Holding.{Named, Each, IsNamed, IsSlot, Knows, child_rows, holds, fills}
+use Rattle.art_versions.specs.versions.Holding.{Named, Each, IsNamed, Knows, child_rows, holds, fills}
 use Rattle.art_versions.specs.versions.Effects.{IsAmong, IsBehindVersion}
 use Rattle.art_versions.specs.versions.Versions.{IsOpen, IsSettled, stage_of, held_by, filled_by, IsAtStage}
 use Rattle.art_versions.specs.versions.Steady as steady
@@ -62,6 +60,7 @@ use Rattle.art_schedules.proofs.effects.AroundLemmas.{Around, around, other-open
 use Rattle.art_schedules.proofs.effects.KeptLemmas.{begins-kept, inside-kept, unreached-kept, pending-kept, NewStays, GoneStays}
 use Rattle.art_schedules.proofs.effects.StageLemmas.{place-work, grow-fills}
 use Rattle.art_schedules.specs.work.Ways.{IsInTree, IsSame}
+use Rattle.art_schedules.proofs.calm.ReachedLemmas.{slot-of-row}
 
 -- of each row that is held
 pub each-with : (P Q : Held → Type 0) (rows : List Held) → ((row : Held) → IsAmong (lock_of row) (locks_of rows) → P row → Q row) → Each P rows → Each Q rows
@@ -71,13 +70,6 @@ each-with P Q (row ∷ rows) f e = (f row (inl refl) e.0, each-with P Q rows (λ
 pub each-of : (Q : Held → Type 0) (rows : List Held) → ((row : Held) → IsAmong (lock_of row) (locks_of rows) → Q row) → Each Q rows
 each-of Q [] f = tt
 each-of Q (row ∷ rows) f = (f row (inl refl), each-of Q rows (λ x among. f x (inr among)))
-
--- a slot is a child's word
-pub slot-of-row : (base : ℕ) (kind : Kind) (slot : ℕ) → slots.IsSlot base kind slot → IsSlot base kind slot
-slot-of-row base Four slot x = (x.place - 3, omega (arith, x.low, x.high), omega (arith, x.is, x.low))
-slot-of-row base Sixteen slot x = (x.place - 5, omega (arith, x.low, x.high), omega (arith, x.is, x.low))
-slot-of-row base FortyEight slot x = (x.place - 35, omega (arith, x.low, x.high), omega (arith, x.is, x.low))
-slot-of-row base Full slot x = (x.place - 2, omega (arith, x.low, x.high), omega (arith, x.is, x.low))
 
 -- all rows are held before the claim
 pub holds-claiming : (c : Setting) (h : Hold) (work : Work) → claims_row work ≡ true → holds c (OnKey (work_at c h work)) ≡ locks_of (rows_of_hold h)
@@ -351,7 +343,7 @@ module _ (read : ChildrenAreRead) (plan : Plan) (p : ℕ) (s t : State) (calm af
     settled-slot : (base : ℕ) (kind : Kind) (y slot b : ℕ) (l : Kind) → kind_at shape base ≡ Some kind → y < 256 → slot_of calm base kind y ≡ Some slot
         → slice_index s.words slot ≡ row_word b → kind_at shape b ≡ Some l → IsSettled variant shape s b l
     settled-slot base kind y slot b l row small has word its =
-        let good = x.before.children slot base kind row (slot-of-row base kind slot (slot-is calm base kind y slot small has)) in
+        let good = x.before.children slot base kind row (slot-of-row calm base kind y slot small has) in
         let child : child_of shape (slice_index s.words slot) ≡ Row b l = ap (child_of shape) word ∙ read shape (Row b l) its in
         (subst (λ z. Each (IsNamed (IsSettled variant shape s)) (child_rows z)) child good).0
 

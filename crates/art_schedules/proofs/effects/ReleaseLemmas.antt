@@ -27,7 +27,7 @@ use Rattle.art_core.specs.Core.{Plan, State}
 use Rattle.art_core.specs.Meaning.{Means}
 use Rattle.art_serial.specs.trees.Trees.{IsAtRest, SameRow, IsFree, IsClaimed}
 use Rattle.art_serial.specs.trees.Children.{ChildrenAreRead}
-use Rattle.art_serial.proofs.alone.SlotLemmas.{IsSlot, slot-is}
+use Rattle.art_serial.proofs.alone.SlotLemmas.{slot-is, IsChildWord}
 use Rattle.art_serial.proofs.writes.StoreLemmas.{stored-at}
 use Rattle.art_serial.proofs.words.VersionLemmas.{obsolete_obsolete, obsolete_released}
 use Rattle.art_serial.proofs.trees.Changes.{way_byte}
@@ -62,7 +62,7 @@ use Rattle.art_schedules.specs.work.Ways.{IsSame}
 slot-later : (calm real later : List ℕ) (base : ℕ) (kind : Kind) (y slot word : ℕ) → y < 256 → SameRow real later base kind
     → HasWordAt calm real base kind y slot word → HasWordAt calm later base kind y slot word
 slot-later calm real later base kind y slot word small same has =
-    let place : IsSlot base kind slot = slot-is calm base kind y slot small has.at in
+    let place : IsChildWord base kind slot = slot-is calm base kind y slot small has.at in
     record {
       at = has.at;
       others = λ j low high ne. same j low high ∙ has.others j low high ne;

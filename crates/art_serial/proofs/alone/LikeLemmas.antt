@@ -14,7 +14,7 @@ use Rattle.art_core.specs.Meaning.{Reached, child_in, slot_of}
 use Rattle.art_core.specs.Forms.{HasForm}
 use Rattle.art_serial.specs.trees.Trees.{IsAtRest, SameRow, ChangesAt}
 use Rattle.art_serial.proofs.alone.PlaceLemmas.{Sits, sits-part, sits-inside, sits-kind_at}
-use Rattle.art_serial.proofs.alone.SlotLemmas.{IsSlot, slot-is, slot-same, form-same, SameKeys}
+use Rattle.art_serial.proofs.alone.SlotLemmas.{slot-is, slot-same, form-same, SameKeys, IsChildWord}
 use Rattle.art_serial.proofs.trees.RowSlots.{one_slot}
 
 -- the word is the version of a row that is reached: of a live one, which is unlocked unless it is held
@@ -98,7 +98,8 @@ module _ (s : Shape) (n : ℕ) (words : List ℕ) (rest : IsAtRest s n words) wh
 
   -- a child's word is set
   pub like-slot : {now : List ℕ} {held : ℕ → Type 0} {base slot : ℕ} {kind : Kind} (value : ℕ) → Like s words words now held → Reached s words base kind
-      → IsSlot base kind slot → value < 18446744073709551616 → Like s words (slice_set words slot value) (slice_set now slot value) held
+      → IsChildWord base kind slot → value < 18446744073709551616
+      → Like s words (slice_set words slot value) (slice_set now slot value) held
   like-slot {now} {held} {base} {slot} {kind} value like reached at little = record {
     long = length-set now slot value ∙ like.long;
     small = All-set (λ w. w < 18446744073709551616) now slot value little like.small;
@@ -150,7 +151,7 @@ module _ (s : Shape) (n : ℕ) (words : List ℕ) (rest : IsAtRest s n words) wh
 
   module _ (later : List ℕ) (base slot value x : ℕ) (kind : Kind) (like : Like s words (slice_set words slot value) later Nothing)
       (reached : Reached s words base kind) (byte : x < 256) (at : slot_of words base kind x ≡ Some slot) where
-    is-slot : IsSlot base kind slot
+    is-slot : IsChildWord base kind slot
     is-slot = slot-is words base kind x slot byte at
 
     untouched : {b : ℕ} {k : Kind} → Reached s words b k → (j : ℕ) → 1 ≤ j → j < row_words k → (b + j ≡ slot → ⊥)

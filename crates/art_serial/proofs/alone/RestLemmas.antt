@@ -12,8 +12,8 @@ use Rattle.art_rows.proofs.KindLemmas.{claims-few, two-words}
 use Rattle.art_core.specs.Meaning.{Reached}
 use Rattle.art_serial.specs.trees.Trees.{IsAtRest, HasRows}
 use Rattle.art_serial.proofs.alone.PlaceLemmas.{Sits, sits-part, sits-inside, kind_at-sits}
-use Rattle.art_serial.proofs.alone.SlotLemmas.{IsSlot}
 use Rattle.art_serial.proofs.alone.LikeLemmas.{Like, IsVersion, Nothing, sits}
+use Rattle.art_serial.proofs.alone.SlotLemmas.{IsChildWord}
 
 module _ (s : Shape) (n : ℕ) (words : List ℕ) (rest : IsAtRest s n words) where
   -- a word inside of a row that was reached, but its version
@@ -32,7 +32,7 @@ module _ (s : Shape) (n : ℕ) (words : List ℕ) (rest : IsAtRest s n words) wh
       go (inr v) = inr (inl v)
 
   pub slot-settles : (later : List ℕ) (base slot value : ℕ) (kind : Kind) → Like s words (slice_set words slot value) later Nothing
-      → Reached s words base kind → IsSlot base kind slot → (w : ℕ) → Settles later w
+      → Reached s words base kind → IsChildWord base kind slot → (w : ℕ) → Settles later w
   slot-settles later base slot value kind like reached at w = go (w == slot) refl (like.word w)
     where
       low : (k : Kind) → 2 ≤ first_child k

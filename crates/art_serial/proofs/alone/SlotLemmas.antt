@@ -19,7 +19,7 @@ use Rattle.art_serial.specs.alone.Finding.{found_in, keys_in_row, count_in_row, 
 -- ---- where slots are
 
 -- a child's word in the row
-pub record IsSlot (base : ℕ) (kind : Kind) (slot : ℕ) : Type 0 where
+pub record IsChildWord (base : ℕ) (kind : Kind) (slot : ℕ) : Type 0 where
   pub place : ℕ
   pub is : slot ≡ base + place
   pub low : first_child kind ≤ place
@@ -32,14 +32,15 @@ placed base kind None slot e = absurd (none-some slot e)
 placed base kind (Some i) slot e = (i, refl, sym (same_Some (base + first_child kind + i) slot e))
 
 entry_placed : (base e slot : ℕ) (b : Bool) → (e == 0) ≡ b → e ≤ 48 → (if b then None else Some (child_at FortyEight base (e - 1))) ≡ Some slot
-    → IsSlot base FortyEight slot
+    → IsChildWord base FortyEight slot
 entry_placed base e slot true is most h = absurd (none-some slot h)
 entry_placed base e slot false is most h =
     let same = same_Some (child_at FortyEight base (e - 1)) slot h in
     record { place = 35 + (e - 1); is = omega (arith, same); low = omega arith; high = omega (arith, most) }
 
 -- the slot of a byte is a child's word in the row
-pub slot-is : (words : List ℕ) (base : ℕ) (kind : Kind) (x slot : ℕ) → x < 256 → slot_of words base kind x ≡ Some slot → IsSlot base kind slot
+pub slot-is : (words : List ℕ) (base : ℕ) (kind : Kind) (x slot : ℕ) → x < 256 → slot_of words base kind x ≡ Some slot
+    → IsChildWord base kind slot
 slot-is words base Four x slot byte h =
     let keys = keys4_of (slice_index words (keys_at base)) in
     let (i, at, is) = placed base Four (place_of x keys) slot h in

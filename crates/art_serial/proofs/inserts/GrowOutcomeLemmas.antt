@@ -29,7 +29,7 @@ use Rattle.art_serial.specs.alone.Finding.{keys_in_row, count_in_row}
 use Rattle.art_serial.proofs.alone.AloneLemmas.{ends-bind, bind-comes, then-comes, store-comes}
 use Rattle.art_serial.proofs.alone.RowRunLemmas.{with_unlocked, with_claim, claim-ends, claim-comes, unlock_obsolete-comes, unlock_all-comes}
 use Rattle.art_serial.proofs.alone.PlaceLemmas.{Sits, sits-part, sits-inside, sits-kind_at}
-use Rattle.art_serial.proofs.alone.SlotLemmas.{IsSlot, slot-is, form-same, row-keys, slot-same, keys-same, count-same}
+use Rattle.art_serial.proofs.alone.SlotLemmas.{slot-is, form-same, row-keys, slot-same, keys-same, count-same, IsChildWord}
 use Rattle.art_serial.proofs.alone.LikeLemmas.{Nothing, sits}
 use Rattle.art_serial.proofs.alone.WayLemmas.{below-other, level-most}
 use Rattle.art_serial.specs.inserts.Settled.{IsInside, IsNew, IsNewRow}
@@ -113,7 +113,7 @@ module _ (trees : SameTreesAreOne) (hangs : GrownRowsAreHung) (written : RowsAre
           (record { number = number; low = low; is = refl }) li lj e in
           omega (arith, numbers, was, subst (λ q. its.number < slice_index words (claims_of q)) kinds its.claimed)
 
-      is-slot : IsSlot a.base a.kind slot
+      is-slot : IsChildWord a.base a.kind slot
       is-slot = slot-is words a.base a.kind y slot y_byte at
 
       early : 1 ≤ is-slot.place

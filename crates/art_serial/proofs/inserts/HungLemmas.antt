@@ -10,7 +10,7 @@ use Rattle.art_core.specs.Meaning.{Reached, child_in, slot_of}
 use Rattle.art_core.specs.Forms.{HasForm}
 use Rattle.art_serial.specs.trees.Trees.{IsAtRest, ChangesAt}
 use Rattle.art_serial.proofs.alone.PlaceLemmas.{sits-part}
-use Rattle.art_serial.proofs.alone.SlotLemmas.{IsSlot, slot-is, slot-same, form-same, SameKeys}
+use Rattle.art_serial.proofs.alone.SlotLemmas.{slot-is, slot-same, form-same, SameKeys, IsChildWord}
 use Rattle.art_serial.proofs.alone.LikeLemmas.{sits}
 use Rattle.art_serial.proofs.trees.RowSlots.{one_slot}
 
@@ -18,7 +18,7 @@ module _ (s : Shape) (n : ℕ) (words : List ℕ) (rest : IsAtRest s n words) (l
     (reached : Reached s words base kind) (byte : x < 256) (at : slot_of words base kind x ≡ Some slot)
     (untouched : (b : ℕ) (k : Kind) → Reached s words b k → (j : ℕ) → 1 ≤ j → j < row_words k → (b + j ≡ slot → ⊥)
     → slice_index later (b + j) ≡ slice_index words (b + j)) (now : slice_index later slot ≡ value) where
-  is-slot : IsSlot base kind slot
+  is-slot : IsChildWord base kind slot
   is-slot = slot-is words base kind x slot byte at
 
   elsewhere : {b : ℕ} {k : Kind} → Reached s words b k → (j : ℕ) → j < row_words k → b + j ≡ slot → (b ≡ base) × (j ≡ is-slot.place)

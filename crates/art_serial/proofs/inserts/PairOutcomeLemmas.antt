@@ -30,7 +30,7 @@ use Rattle.art_serial.specs.alone.Alone.{Comes, Ends}
 use Rattle.art_serial.proofs.alone.AloneLemmas.{ends-bind}
 use Rattle.art_serial.proofs.alone.RowRunLemmas.{with_unlocked, with_claim, claim-ends}
 use Rattle.art_serial.proofs.alone.PlaceLemmas.{Sits, sits-part, sits-inside, sits-kind_at}
-use Rattle.art_serial.proofs.alone.SlotLemmas.{IsSlot, slot-is, form-same, row-keys}
+use Rattle.art_serial.proofs.alone.SlotLemmas.{slot-is, form-same, row-keys, IsChildWord}
 use Rattle.art_serial.proofs.alone.LikeLemmas.{Nothing, sits}
 use Rattle.art_serial.specs.inserts.Settled.{IsInside, IsNew, IsNewRow}
 use Rattle.art_serial.proofs.inserts.NearLemmas.{Near, near-out, near-plain, near-live, near-behind}
@@ -97,7 +97,7 @@ module _ (trees : SameTreesAreOne) (hangs : PairsAreHung) (written : writes.Pair
           (record { number = slice_index now (claims_of Four); low = low; is = refl }) li lj e in
           omega (arith, numbers, was, subst (λ q. its.number < slice_index words (claims_of q)) kinds its.claimed)
 
-      is-slot : IsSlot base kind slot
+      is-slot : IsChildWord base kind slot
       is-slot = slot-is words base kind x slot byte at
 
       early : 1 ≤ is-slot.place

@@ -26,7 +26,7 @@ use Rattle.art_serial.specs.alone.Alone.{Comes}
 use Rattle.art_serial.specs.alone.Finding.{keys_in_row, count_in_row}
 use Rattle.art_serial.proofs.alone.RowRunLemmas.{with_unlocked}
 use Rattle.art_serial.proofs.alone.PlaceLemmas.{Sits, sits-part, sits-inside}
-use Rattle.art_serial.proofs.alone.SlotLemmas.{IsSlot, slot-is, form-same, row-keys, slot-same, keys-same, count-same}
+use Rattle.art_serial.proofs.alone.SlotLemmas.{slot-is, form-same, row-keys, slot-same, keys-same, count-same, IsChildWord}
 use Rattle.art_serial.proofs.alone.LikeLemmas.{Nothing, sits}
 use Rattle.art_serial.specs.inserts.Settled.{IsInside}
 use Rattle.art_serial.proofs.inserts.NearLemmas.{Near, near-out, near-live, near-row, near-behind}
@@ -65,7 +65,7 @@ module _ (puts : LeavesArePut) (written : writes.PutsWriteLeaves) (read : WordsA
       (x : ℕ) (leads : LeadsTo s words key r.base r.kind x) (byte : x < 256) where
     module _ (slot : ℕ) (at : slot_of words r.base r.kind x ≡ Some slot) (free : IsFree s words key r.base r.kind x) (old : Option ℕ)
         (has : value_at m key ≡ old) where
-      is-slot : IsSlot r.base r.kind slot
+      is-slot : IsChildWord r.base r.kind slot
       is-slot = slot-is words r.base r.kind x slot byte at
 
       early : 1 ≤ is-slot.place
