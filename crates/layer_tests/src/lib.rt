@@ -6,8 +6,6 @@
 #![tactic(auto)]
 
 #[cfg(test)]
-mod followed_streams;
-#[cfg(test)]
 mod long_calls;
 #[cfg(test)]
 mod merges;

@@ -1,5 +1,5 @@
 //! Tests of what judges streams of events, through its public calls: which lines spell which events, the first fault of each other line,
-//! sources that are cut at arbitrary places or fail midway, and searches of calls.
+//! sources that are cut at arbitrary places or fail midway, searches of calls, and followers.
 //!
 //! Expected answers were worked out by hand. Run with each allocation refused in turn, each test has to fail for want of memory alone.
 #![tactic(auto)]
@@ -10,5 +10,7 @@ mod call_searches;
 mod cuts;
 #[cfg(test)]
 mod faults;
+#[cfg(test)]
+mod followed_streams;
 #[cfg(test)]
 mod spelled;

@@ -2,7 +2,9 @@
 // an exact search of all calls so far says the same.
 ghost use Rattle.std.specs.Prelude.{◌<◌};
 
-use crate::worked::{
+use follow::{Answered, FollowFault, Follower, Loss};
+use history::{Call, Event, History, Reply, Segment};
+use layer_tests::worked::{
     EFFECT_LATER_THAN_THE_INVOCATION, GET_IS_ANSWERED_BY_A_LIST, GET_MISSES_ANSWERED_INSERT,
     GET_MISSES_PENDING_INSERT, GET_MISSES_REFUSED_INSERT, GET_SEES_PENDING_INSERT,
     GET_SEES_REFUSED_INSERT, GET_SEES_WHAT_NOBODY_INSERTED, INSERT_THEN_GET,
@@ -10,8 +12,6 @@ use crate::worked::{
     SCAN_LISTS_KEYS_THAT_FALL, SCAN_MISSES_THE_FIRST_OF_TWO_INSERTS, SCAN_OF_ALL_KEYS,
     SCANS_SEE_TWO_INSERTS_IN_DIFFERENT_ORDER, TWO_KEYS_AND_A_PENDING_SCAN, history_of,
 };
-use follow::{Answered, FollowFault, Follower, Loss};
-use history::{Call, Event, History, Reply, Segment};
 use map_object::SortedMap;
 use search::{Found, search};
 use std::alloc::Global;
