@@ -1,5 +1,6 @@
 -- The history of an arena that closes after all processes did their scripts.
-use Rattle.std.proofs.Common.{◌≡◌, ℕ, ◌^◌, ◌<◌, ◌⊎◌, inl, inr, ⊎_elim, false, List, [], ◌∷◌, ◌++◌, length, map, Some, refl, sym, ap, ◌∙◌, arith}
+use Rattle.std.proofs.Common.{◌≡◌, ℕ, ◌^◌, ◌<◌, ◌⊎◌, inl, inr, ⊎_elim, false, List, [], ◌∷◌, ◌++◌, length, map, Some, refl, sym, ap, ◌∙◌}
+use Rattle.std.proofs.Common.{arith}
 use Rattle.std.specs.Prelude.{All, filter_map, slice_get, slice_index_or}
 use Rattle.std.specs.List.{range_with_len}
 use Rattle.std.proofs.lemmas.List.{get_or-map, length-map}
@@ -41,17 +42,21 @@ calls-logged ((stamp, Invoke p call) ∷ log) = ap (λ l. call ∷ l) (calls-log
 calls-logged ((stamp, Answer p reply) ∷ log) = calls-logged log
 
 -- a process whose events are those of its log did in them what it did by its log
-ended-in : (setup : Setup) (events : List Event) (p number limit : ℕ) (q : Process) (script : List Call) → events_of p events ≡ map (λ e. e.1) q.log
+ended-in : (setup : Setup) (events : List Event) (p number limit : ℕ) (q : Process) (script : List Call)
+    → events_of p events ≡ map (λ e. e.1) q.log
     → HasDone setup number limit script q
     → HasFinished events p script ⊎ HasStopped events p script
 ended-in setup events p number limit q script its done =
     let calls : drives.invoked (events_of p events) ≡ begun q = ap drives.invoked its ∙ calls-logged q.log in
-    ⊎_elim (λ (h : HasAnsweredAll script q). inl (record { calls = calls ∙ h.calls; completed = ap (ends_waiting false) its ∙ h.completed }))
-    (λ (h : HasStoppedIn script q). inr (record { rest = h.rest; calls = ap (λ l. l ++ h.rest) calls ∙ h.calls; pending = ap (ends_waiting false) its ∙ h.pending }))
+    ⊎_elim (λ (h : HasAnsweredAll script q). inl
+        (record { calls = calls ∙ h.calls; completed = ap (ends_waiting false) its ∙ h.completed }))
+    (λ (h : HasStoppedIn script q). inr (record { rest = h.rest; calls = ap (λ l. l ++ h.rest) calls ∙ h.calls; pending = ap
+        (ends_waiting false) its ∙ h.pending }))
     done.ended
 
 -- the process at a place has its number
-numbered-at : (xs : List Numbered) (n k : ℕ) (d : Numbered) → numbers_of xs ≡ range_with_len 0 n → k < length xs → (slice_index_or xs k d).0 ≡ k
+numbered-at : (xs : List Numbered) (n k : ℕ) (d : Numbered) → numbers_of xs ≡ range_with_len 0 n → k < length xs
+    → (slice_index_or xs k d).0 ≡ k
 numbered-at xs n k d numbers within =
     let many : length xs ≡ n = omega (arith, ap length numbers, length-map xs (λ (x : Numbered). x.0), length-range_with_len 0 n) in
     let here = get_or-map (λ (x : Numbered). x.0) xs k d 0 within in
@@ -62,7 +67,8 @@ numbered-at xs n k d numbers within =
 module _ (shape : Shape) (variant : Variant) (limit : ℕ) (scripts : List (List Call)) (v : View) (history : HistoryView)
     (gives : IsHistoryOf (setup_with shape variant (length scripts) (longest scripts)) v history)
     (own : HasOwnEvents (setup_with shape variant (length scripts) (longest scripts)) v history.events)
-    (done : All (HasDoneOwn (setup_with shape variant (length scripts) (longest scripts)) limit scripts) v.processes) (small : limit < 2 ^ 32)
+    (done : All (HasDoneOwn (setup_with shape variant (length scripts) (longest scripts)) limit scripts) v.processes)
+        (small : limit < 2 ^ 32)
     (order : IsLinearizableIn (setup_with shape variant (length scripts) (longest scripts)) v history) where
   many : length v.processes ≡ length scripts
   many = omega (arith, ap length own.numbers, length-map v.processes (λ (x : Numbered). x.0), length-range_with_len 0 (length scripts))
@@ -72,15 +78,18 @@ module _ (shape : Shape) (variant : Variant) (limit : ℕ) (scripts : List (List
 
   -- the process at a place did the script there
   did : (k : ℕ) (d : Numbered) (script : List Call) → k < length v.processes → slice_get scripts k ≡ Some script
-      → HasDone (setup_with shape variant (length scripts) (longest scripts)) (slice_index_or v.processes k d).0 limit script (slice_index_or v.processes k d).1
+      → HasDone (setup_with shape variant (length scripts) (longest scripts)) (slice_index_or v.processes k d).0 limit script
+          (slice_index_or v.processes k d).1
   did k d script within at = done k d within script (ap (slice_get scripts) (number k d within) ∙ at)
 
-  ended : (p : ℕ) (script : List Call) → slice_get scripts p ≡ Some script → HasFinished history.events p script ⊎ HasStopped history.events p script
+  ended : (p : ℕ) (script : List Call) → slice_get scripts p ≡ Some script → HasFinished history.events p script
+      ⊎ HasStopped history.events p script
   ended p script at =
       let within : p < length v.processes = omega (arith, many, slice_get_within scripts p script at) in
       let x = slice_index_or v.processes p (0, idle) in
       let its = own.each p (0, idle) within in
-      ended-in (setup_with shape variant (length scripts) (longest scripts)) history.events p x.0 limit x.1 script (ap (λ n. events_of n history.events) (sym (number p (0, idle) within)) ∙ its)
+      ended-in (setup_with shape variant (length scripts) (longest scripts)) history.events p x.0 limit x.1 script
+          (ap (λ n. events_of n history.events) (sym (number p (0, idle) within)) ∙ its)
       (did p (0, idle) script within at)
 
   limited : All (IsLimited (setup_with shape variant (length scripts) (longest scripts)) limit) v.processes
@@ -101,6 +110,7 @@ module _ (shape : Shape) (variant : Variant) (limit : ℕ) (scripts : List (List
   }
 
 -- an arena whose pass holds all processes was not closed only for want of memory
-pub memory-wanted : (a : Arena) (p : Pass) (fault : ArenaClose) → HoldsAll (opened_for a) (shows p) → IsHandedBack a p fault → WantsMemory fault
+pub memory-wanted : (a : Arena) (p : Pass) (fault : ArenaClose) → HoldsAll (opened_for a) (shows p) → IsHandedBack a p fault
+    → WantsMemory fault
 memory-wanted a p (faults.StillOut back given) all h = absurd (h.1 all)
 memory-wanted a p (faults.Memory back given) all h = tt

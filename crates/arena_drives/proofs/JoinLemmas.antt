@@ -49,11 +49,13 @@ module _ (a : Arena) (limit : ℕ) (scripts : List (List Call)) where
       let long = merge-length xs (shows p).processes in
       let one = ap (λ l. length l) here.is in
       let rest =
-      gathered-done done (merge xs (shows p).processes) all (All-tail After (Ok p) done h) (all-merge Own xs (shows p).processes own (own-pass p here)) is in
+      gathered-done done (merge xs (shows p).processes) all (All-tail After (Ok p) done h)
+          (all-merge Own xs (shows p).processes own (own-pass p here)) is in
       record { done = rest.done; many = let m = rest.many in omega arith }
   gathered-done (Err e ∷ done) xs all h own is = absurd (none-some all is)
 
-  pub joined-done : (done : List (Result Pass Memory)) (all : List Numbered) → All After done → joined done ≡ Some all → AreDone (length done) all
+  pub joined-done : (done : List (Result Pass Memory)) (all : List Numbered) → All After done → joined done ≡ Some all
+      → AreDone (length done) all
   joined-done [] all h is = absurd (none-some all is)
   joined-done (Ok p ∷ done) all h is =
       let here = All-head After (Ok p) done h in

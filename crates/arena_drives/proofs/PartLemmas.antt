@@ -38,4 +38,5 @@ module _ (setup : Setup) (n m : ℕ) (more : m ≡ n + 1) (v : View) (shown : v 
       ap (λ k. view v.setup (drop k v.processes)) one-less
       ∙ (ap (λ z. view z.setup (drop n z.processes)) shown
       ∙ ap (view setup)
-      (ap (drop n) (ap first_idle more ∙ map-range_with_len_more idle_at 0 n n (omega arith)) ∙ drop-last (first_idle n) (n, idle) n (sym (length-idle n))))
+      (ap (drop n) (ap first_idle more ∙ map-range_with_len_more idle_at 0 n n (omega arith))
+          ∙ drop-last (first_idle n) (n, idle) n (sym (length-idle n))))

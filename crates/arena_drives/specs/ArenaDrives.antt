@@ -35,20 +35,25 @@ DoesCalls setup number limit [] old new = new ≡ old
 DoesCalls setup number limit (call ∷ calls) old new =
     (mid : Process) × DoesCall setup number limit call old mid × DoesCalls setup number limit calls mid new
 
--- From before its first step on a process did the calls that it began, with at most so many steps of each beside that of its invocation, so no more in sum.
+-- From before its first step on a process did the calls that it began, with at most so many steps of each beside that of its invocation, so
+-- no more in sum.
 -- Where the last one is open, all of these are accesses of it.
 pub record IsLimited (setup : Setup) (limit : ℕ) (x : Numbered) : Type 0 where
   pub each : DoesCalls setup x.0 limit (begun x.1) idle x.1
   pub steps : x.1.steps ≤ (limit + 1) * length (begun x.1)
   pub pending : IsTrue (is_some x.1.call) → length x.1.got ≡ limit
 
--- The history is one that an arena of the shape and the variant gives when it closes: that of a state of the core which some schedule gives, and in which no
--- process is past its limit. Each process did its script, or it stopped within it, and then the last of its calls alone is pending. There is no other process.
+-- The history is one that an arena of the shape and the variant gives when it closes: that of a state of the core which some schedule
+-- gives, and in which no
+-- process is past its limit. Each process did its script, or it stopped within it, and then the last of its calls alone is pending. There
+-- is no other process.
 -- Where the tree is a full one, the history has an order.
-pub record IsArenaDriveOf (shape : Shape) (variant : Variant) (limit : ℕ) (scripts : List (List Call)) (history : HistoryView) : Type 0 where
+pub record IsArenaDriveOf (shape : Shape) (variant : Variant) (limit : ℕ) (scripts : List (List Call))
+    (history : HistoryView) : Type 0 where
   pub view : View
   pub gives : IsHistoryOf (setup_with shape variant (length scripts) (longest scripts)) view history
   pub limited : All (IsLimited (setup_with shape variant (length scripts) (longest scripts)) limit) view.processes
   pub processes : HaveScripts scripts history.events
-  pub ended : (p : ℕ) (script : List Call) → slice_get scripts p ≡ Some script → HasFinished history.events p script ⊎ HasStopped history.events p script
+  pub ended : (p : ℕ) (script : List Call) → slice_get scripts p ≡ Some script → HasFinished history.events p script
+      ⊎ HasStopped history.events p script
   pub linearizable : (variant ≡ Coupled) ⊎ (variant ≡ Optimistic) → IsLinearizableHistory history

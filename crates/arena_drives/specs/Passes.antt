@@ -1,5 +1,6 @@
 -- Passes of one process each, before and after its script, and the pass of all.
-use Rattle.std.specs.Prelude.{◌≡◌, ◌⊎◌, ⊤, ℕ, ◌<◌, Bool, true, false, List, [], ◌∷◌, ◌++◌, map, length, Option, Some, None, Result, Ok, Err, slice_get}
+use Rattle.std.specs.Prelude.{◌≡◌, ◌⊎◌, ⊤, ℕ, ◌<◌, Bool, true, false, List, [], ◌∷◌, ◌++◌, map, length, Option, Some, None, Result, Ok, Err}
+use Rattle.std.specs.Prelude.{slice_get}
 use Rattle.events.specs.declared.event.Call.{Call}
 use Rattle.events.specs.declared.memory.Memory.{Memory}
 use Rattle.events.specs.HistoryFaults.{ends_waiting}

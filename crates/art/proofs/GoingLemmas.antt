@@ -92,7 +92,8 @@ keys_of_key call made same other = ap keys_between (sym same) ∙ none_between m
 at_scan : (a low b high : ℕ) (s t : ScanAt) → a ≡ low → b ≡ high → s ≡ t → OnScan a b s ≡ OnScan low high t
 at_scan a low b high s t e f g = ap (λ x. OnScan x b s) e ∙ (ap (λ x. OnScan low x s) f ∙ ap (OnScan low high) g)
 
-pub begun_scan : (c : Setting) (low high : ℕ) (s : Scanning) → Scan low high ≡ c.call → low_of s ≡ low → high_of s ≡ high → scan_of s ≡ scan_start c
+pub begun_scan : (c : Setting) (low high : ℕ) (s : Scanning) → Scan low high ≡ c.call → low_of s ≡ low → high_of s ≡ high
+    → scan_of s ≡ scan_start c
     → at_of (ScanIs s) ≡ call_begun c
 begun_scan c low high s same e f g =
     at_scan (low_of s) low (high_of s) high (scan_of s) (scan_start c) e f g ∙ ap (λ x. begun_as x c) same
@@ -107,7 +108,8 @@ start_asks : (c : Setting) (l : Bool) → is_some (reply_of (turn_at c (start_at
 start_asks c true = refl
 start_asks c false = refl
 
-enter_asks : (c : Setting) (l : Bool) → is_some (reply_of (scan_turn c (if l then at (Lock Root true) no_walk else at (Wait Root) no_walk))) ≡ false
+enter_asks : (c : Setting) (l : Bool) → is_some (reply_of (scan_turn c (if l then at (Lock Root true) no_walk else at (Wait Root)
+    no_walk))) ≡ false
 enter_asks c true = refl
 enter_asks c false = refl
 
@@ -154,7 +156,8 @@ asks_of (Answers r) a e = absurd (none_some e)
 access_asks : (t : Turn) (a : Access) → access_of t ≡ Some a → is_some (reply_of t) ≡ false
 access_asks t a e = ap (λ t. is_some (reply_of t)) (asks_of t a e).1
 
-pub in_table : (c : Setting) (at : CallAt) (a : Access) → 1 ≤ c.shape.rows256 → (is_some (reply_of (rest_at c at [])) ≡ false → ∥ IsReached c at ∥₁)
+pub in_table : (c : Setting) (at : CallAt) (a : Access) → 1 ≤ c.shape.rows256
+    → (is_some (reply_of (rest_at c at [])) ≡ false → ∥ IsReached c at ∥₁)
     → access_of (rest_at c at []) ≡ Some a → word_of a < table_words c.shape
 in_table c at a root reached asks = ∥∥₁_elim (reached (access_asks (rest_at c at []) a asks)) (Prim.hlevel props) λ (x : IsReached c at).
     let found = asks_of (rest_at c at []) a asks in
@@ -182,7 +185,8 @@ reached_more c at next w reached goes =
     (λ (x : IsReached c at). (x.0 ++ w ∷ [], fits_more c x.0 w (rest_at c at) (rest_at c next) x.1 goes))
 
 module _ (c : Setting) (going : Going) (k after : KeyCall) (w : ℕ) (result : Option Reply) (is : going ≡ KeyIs k)
-    (keys : keys_between c.call ≡ scanned_in going) (next : after.stage ≡ stage_after c k.stage w) (reply : reply_of (turn_at c after.stage) ≡ result) where
+    (keys : keys_between c.call ≡ scanned_in going) (next : after.stage ≡ stage_after c k.stage w)
+        (reply : reply_of (turn_at c after.stage) ≡ result) where
   pub key_fits : (rest : List ℕ) → rest_at c (at_of (KeyIs after)) rest ≡ rest_at c (at_of going) (w ∷ rest)
   key_fits rest = key_on c k.stage after.stage w rest (keys ∙ ap scanned_in is) next ∙ ap (λ g. rest_at c (at_of g) (w ∷ rest)) (sym is)
 
@@ -195,7 +199,8 @@ module _ (c : Setting) (going : Going) (k after : KeyCall) (w : ℕ) (result : O
   pub key_keys : keys_between c.call ≡ scanned_in (KeyIs after)
   key_keys = keys ∙ ap scanned_in is
 
-  pub key_reached : reply_of (rest_at c (at_of going) []) ≡ None → (is_some (reply_of (rest_at c (at_of going) [])) ≡ false → ∥ IsReached c (at_of going) ∥₁)
+  pub key_reached : reply_of (rest_at c (at_of going) []) ≡ None
+      → (is_some (reply_of (rest_at c (at_of going) [])) ≡ false → ∥ IsReached c (at_of going) ∥₁)
       → is_some (reply_of (rest_at c (at_of (KeyIs after)) [])) ≡ false → ∥ IsReached c (at_of (KeyIs after)) ∥₁
   key_reached asked reached h = reached_more c (at_of going) (at_of (KeyIs after)) w (reached (ap is_some asked)) key_fits
 
@@ -207,9 +212,11 @@ module _ (c : Setting) (going : Going) (s after : Scanning) (is : going ≡ Scan
   pub scan_same : scan_of after ≡ scan_of s → at_of (ScanIs after) ≡ at_of going
   scan_same e = at_scan (low_of after) (low_of s) (high_of after) (high_of s) (scan_of after) (scan_of s) low high e ∙ ap at_of (sym is)
 
-  pub scan_still_reached : scan_of after ≡ scan_of s → (is_some (reply_of (rest_at c (at_of going) [])) ≡ false → ∥ IsReached c (at_of going) ∥₁)
+  pub scan_still_reached : scan_of after ≡ scan_of s
+      → (is_some (reply_of (rest_at c (at_of going) [])) ≡ false → ∥ IsReached c (at_of going) ∥₁)
       → is_some (reply_of (rest_at c (at_of (ScanIs after)) [])) ≡ false → ∥ IsReached c (at_of (ScanIs after)) ∥₁
-  scan_still_reached e reached = subst (λ at. is_some (reply_of (rest_at c at [])) ≡ false → ∥ IsReached c at ∥₁) (sym (scan_same e)) reached
+  scan_still_reached e reached = subst (λ at. is_some (reply_of (rest_at c at [])) ≡ false → ∥ IsReached c at ∥₁)
+      (sym (scan_same e)) reached
 
   module _ (w : ℕ) (result : Option Reply)
       (next : result ≡ None → scan_of after ≡ scan_after c (low_of s) (high_of s) (scan_of s) w)
@@ -217,12 +224,14 @@ module _ (c : Setting) (going : Going) (s after : Scanning) (is : going ≡ Scan
       (over : is_some (reply_of (scan_turn c (scan_of after))) ≡ is_some result) where
     goes_on_scan : (rest : List ℕ) → rest_at c (OnScan (low_of s) (high_of s) (scan_after c (low_of s) (high_of s) (scan_of s) w)) rest
         ≡ rest_at c (at_of going) (w ∷ rest)
-    goes_on_scan rest = scan_on c (low_of s) (high_of s) (scan_of s) w rest (keys ∙ ap scanned_in is) ∙ ap (λ g. rest_at c (at_of g) (w ∷ rest)) (sym is)
+    goes_on_scan rest = scan_on c (low_of s) (high_of s) (scan_of s) w rest (keys ∙ ap scanned_in is)
+        ∙ ap (λ g. rest_at c (at_of g) (w ∷ rest)) (sym is)
 
     pub scan_fits : result ≡ None → (rest : List ℕ) → rest_at c (at_of (ScanIs after)) rest ≡ rest_at c (at_of going) (w ∷ rest)
     scan_fits none rest =
         ap (λ x. rest_at c x rest)
-        (at_scan (low_of after) (low_of s) (high_of after) (high_of s) (scan_of after) (scan_after c (low_of s) (high_of s) (scan_of s) w) low high (next none))
+        (at_scan (low_of after) (low_of s) (high_of after) (high_of s) (scan_of after) (scan_after c (low_of s) (high_of s) (scan_of s) w)
+            low high (next none))
         ∙ goes_on_scan rest
 
     pub scan_reply : reply_of (rest_at c (at_of going) (w ∷ [])) ≡ result
@@ -237,4 +246,5 @@ module _ (c : Setting) (going : Going) (s after : Scanning) (is : going ≡ Scan
         → (is_some (reply_of (rest_at c (at_of going) [])) ≡ false → ∥ IsReached c (at_of going) ∥₁)
         → is_some (reply_of (rest_at c (at_of (ScanIs after)) [])) ≡ false → ∥ IsReached c (at_of (ScanIs after)) ∥₁
     scan_reached asked reached h =
-        reached_more c (at_of going) (at_of (ScanIs after)) w (reached (ap is_some asked)) (scan_fits (unanswered result (sym scan_over ∙ h)))
+        reached_more c (at_of going) (at_of (ScanIs after)) w (reached (ap is_some asked))
+            (scan_fits (unanswered result (sym scan_over ∙ h)))

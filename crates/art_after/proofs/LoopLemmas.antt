@@ -7,7 +7,8 @@ use Rattle.art_stages.specs.declared.stage.Hold.{Hold}
 use Rattle.art_stages.specs.declared.stage.Keys.{Keys}
 use Rattle.art_stages.specs.declared.stage.Growing.{Growing}
 use Rattle.art_stages.specs.declared.stage.Spread.{Spread}
-use Rattle.art_stages.specs.declared.stage.Stage.TheVariants.{PutLeaf, PutLoad, GrowLeaf, GrowLoad, SpreadIndex, SpreadLoad, GrowKeys, GrowCount}
+use Rattle.art_stages.specs.declared.stage.Stage.TheVariants.{PutLeaf, PutLoad, GrowLeaf, GrowLoad, SpreadIndex, SpreadLoad, GrowKeys}
+use Rattle.art_stages.specs.declared.stage.Stage.TheVariants.{GrowCount}
 use Rattle.art_stages.specs.Automaton.{moves_at, copies_at, spreads_at, entries_at, keys_at_after}
 
 less_one : (n : ℕ) → suc n - 1 ≡ n
@@ -49,13 +50,16 @@ pub entries_none : (s : Spread) (i n : ℕ) → n ≡ 0 → entries_at s i n ≡
 entries_none s i zero e = refl
 entries_none s i (suc n) e = absurd (omega (arith, e))
 
-pub entries_skip : (s : Spread) (i n : ℕ) → (n ≡ 0 → ⊥) → slice_index (entries_of s.word) i ≡ 0 → entries_at s i n ≡ entries_at s (i + 1) (n - 1)
+pub entries_skip : (s : Spread) (i n : ℕ) → (n ≡ 0 → ⊥) → slice_index (entries_of s.word) i ≡ 0
+    → entries_at s i n ≡ entries_at s (i + 1) (n - 1)
 entries_skip s i zero some e = absurd (some refl)
 entries_skip s i (suc n) some e =
     ap (λ b. if b then entries_at s (i + 1) n else SpreadLoad s i n) (eq-eqb (slice_index (entries_of s.word) i) 0 e)
     ∙ ap (entries_at s (i + 1)) (sym (less_one n))
 
-pub entries_some : (s : Spread) (i n : ℕ) → (n ≡ 0 → ⊥) → (slice_index (entries_of s.word) i ≡ 0 → ⊥) → entries_at s i n ≡ SpreadLoad s i (n - 1)
+pub entries_some : (s : Spread) (i n : ℕ) → (n ≡ 0 → ⊥) → (slice_index (entries_of s.word) i ≡ 0 → ⊥)
+    → entries_at s i n ≡ SpreadLoad s i (n - 1)
 entries_some s i zero some e = absurd (some refl)
 entries_some s i (suc n) some e =
-    ap (λ b. if b then entries_at s (i + 1) n else SpreadLoad s i n) (ne_eqb (slice_index (entries_of s.word) i) 0 e) ∙ ap (SpreadLoad s i) (sym (less_one n))
+    ap (λ b. if b then entries_at s (i + 1) n else SpreadLoad s i n) (ne_eqb (slice_index (entries_of s.word) i) 0 e)
+        ∙ ap (SpreadLoad s i) (sym (less_one n))

@@ -26,7 +26,8 @@ after_words c p keys = words_at (locks c.variant) (is_insert c.call) (releases_e
 
 -- once the index word of the byte is read,
 abbrev pub after_index : Setting → Position → ℕ → Stage
-after_index c p w = indexed_at (locks c.variant) (is_insert c.call) (releases_early c.variant) c p w (slice_index (entries_of w) (byte_in c p.row % 8))
+after_index c p w = indexed_at (locks c.variant) (is_insert c.call) (releases_early c.variant) c p w (slice_index (entries_of w)
+    (byte_in c p.row % 8))
 
 -- once FIND's first word is read,
 abbrev pub after_first : Setting → Position → ℕ → Stage

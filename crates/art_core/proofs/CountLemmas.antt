@@ -65,7 +65,8 @@ module _ (plan : Plan) where
 
         go : (o : Option Call) → q.call ≡ o → move_from plan p q o ≡ Some m → IsCounted p (after_move p m n q)
         go None is k = call-of is (next_call plan p q) refl k
-        go (Some call) is k = ends call m is (act plan.shape plan.variant call q.got) (same_Some (move_of (act plan.shape plan.variant call q.got)) m k)
+        go (Some call) is k = ends call m is (act plan.shape plan.variant call q.got)
+            (same_Some (move_of (act plan.shape plan.variant call q.got)) m k)
 
   abbrev pub are_counted : State → Type 0
   are_counted s = (i : ℕ) (q : Process) → slice_get s.processes i ≡ Some q → IsCounted i q
@@ -110,7 +111,8 @@ module _ (plan : Plan) where
 
 pub opened-counted : (plan : Plan) → are_counted plan (opened plan)
 opened-counted plan i q at =
-    subst (λ q. IsCounted plan i q) (sym (all-idle (length plan.scripts) i q at)) (record { counts = refl; within = λ script at. omega arith })
+    subst (λ q. IsCounted plan i q) (sym (all-idle (length plan.scripts) i q at))
+        (record { counts = refl; within = λ script at. omega arith })
 
 pub starts-are-answered : StartsAreAnswered
 starts-are-answered shape variant start words h =

@@ -2,7 +2,8 @@
 use Rattle.std.proofs.Common.{◌≡◌, ◌≢◌, ℕ, zero, suc, ◌+◌, ◌*◌, ◌%◌, ◌^◌, ◌<◌, ◌≤◌, ◌==◌, Bool, true, false, ◌&&◌, cond, arith, refl, sym}
 use Rattle.std.proofs.Common.{List, [], ◌∷◌, ◌++◌, length, map}
 use Rattle.std.proofs.Common.{ap, subst, ◌∙◌, inl, inr, eq-eqb, ne_eqb, IsTrue, get_or-set_other, get_or-set_same, sum}
-use Rattle.std.specs.Prelude.{Option, Some, None, is_some, ◌⊎◌, nat_lt, nat_le, All, slice_get, slice_index, slice_set, replicate, flat_map, filter_map, sum_by}
+use Rattle.std.specs.Prelude.{Option, Some, None, is_some, ◌⊎◌, nat_lt, nat_le, All, slice_get, slice_index, slice_set, replicate, flat_map}
+use Rattle.std.specs.Prelude.{filter_map, sum_by}
 use Rattle.std.specs.List.{AllZip}
 use Rattle.std.proofs.lemmas.Bool.{lt-leb, lt-ltb, le-leb}
 use Rattle.std.proofs.lemmas.List.{length-set, length-append, length-replicate, map-set}
@@ -36,7 +37,8 @@ use Rattle.art_steps.specs.Steps.{Turn, Asks, Answers}
 use Rattle.art_steps.specs.TreeCalls.{is_tree_call}
 use Rattle.art_steps.proofs.AccessLemmas.{act-stays, act-small}
 use Rattle.art_core.specs.declared.process.Process.{Process}
-use Rattle.art_core.specs.Core.{Plan, State, Move, Invokes, Makes, Responds, begun, moved, word_of_move, after_move, idle, opened, opened_on, history_of}
+use Rattle.art_core.specs.Core.{Plan, State, Move, Invokes, Makes, Responds, begun, moved, word_of_move, after_move, idle, opened}
+use Rattle.art_core.specs.Core.{opened_on, history_of}
 use Rattle.art_core.specs.Core.{move_of, invoked, next_in, next_call, next_move, move_from, invocation, moved_by, step_of, step}
 use Rattle.art_core.specs.Runs.{run_on, HasFewSteps}
 use Rattle.art_core.specs.Starts.{StartsOn, start_plan}
@@ -57,7 +59,8 @@ sum-changed f xs p x y h =
     let at = ap f (get_or_from_slice_get xs p x x h) in
     omega (arith, e, at, sum-map f (slice_set xs p y), sum-map f xs)
 
-pub map-same : {A B : Type 0} (f : A → B) (xs : List A) (p : ℕ) (x y : A) → slice_get xs p ≡ Some x → f y ≡ f x → map f (slice_set xs p y) ≡ map f xs
+pub map-same : {A B : Type 0} (f : A → B) (xs : List A) (p : ℕ) (x y : A) → slice_get xs p ≡ Some x → f y ≡ f x
+    → map f (slice_set xs p y) ≡ map f xs
 map-same f [] p x y h e = refl
 map-same f (z ∷ zs) zero x y h e = ap (λ b. b ∷ map f zs) (e ∙ sym (ap f (same_Some z x h)))
 map-same f (z ∷ zs) (suc p) x y h e = ap (λ bs. f z ∷ bs) (map-same f zs p x y h e)
@@ -112,7 +115,8 @@ calls-within processes scripts h =
     subst (λ n. n ≤ sum (map (λ script. length script) scripts)) (sym (sum-map (λ q. length (begun q)) processes))
     (subst (λ n. sum_by (λ q. length (begun q)) processes ≤ n) (sym (sum-map (λ script. length script) scripts)) (go processes scripts h))
   where
-    go : (ps : List Process) (ss : List (List Call)) → AllZip has_begun ps ss → sum_by (λ q. length (begun q)) ps ≤ sum_by (λ script. length script) ss
+    go : (ps : List Process) (ss : List (List Call)) → AllZip has_begun ps ss
+        → sum_by (λ q. length (begun q)) ps ≤ sum_by (λ script. length script) ss
     go [] [] k = omega arith
     go [] (y ∷ ys) k = absurd k
     go (x ∷ xs) [] k = absurd k
@@ -233,7 +237,8 @@ has-range (Scan low high) h = and-left (nat_le low high) _ h
         no : IsTrue false → ⊥
         no x = cc
 
-module _ (plan : Plan) (within : IsPlan plan) (s : State) (p : ℕ) (q : Process) (h : IsLogged plan s) (here : slice_get s.processes p ≡ Some q)
+module _ (plan : Plan) (within : IsPlan plan) (s : State) (p : ℕ) (q : Process) (h : IsLogged plan s)
+    (here : slice_get s.processes p ≡ Some q)
     (few : slice_index s.words 0 + 1 < 2 ^ 64) where
   abbrev now : ℕ
   now = slice_index s.words 0
@@ -266,7 +271,8 @@ module _ (plan : Plan) (within : IsPlan plan) (s : State) (p : ℕ) (q : Process
         log = refl;
         call = refl;
         begins = one-more;
-        within = λ other at. subst (λ l. length (begun (after_move p (Invokes call) now q)) ≤ length l) (same_Some script.0 other (sym script.1 ∙ at))
+        within = λ other at. subst (λ l. length (begun (after_move p (Invokes call) now q)) ≤ length l)
+            (same_Some script.0 other (sym script.1 ∙ at))
             (let below = slice_get_within script.0 (length (begun q)) call script.2 in omega (arith, one-more));
         steps = refl;
       }
@@ -287,7 +293,8 @@ module _ (plan : Plan) (within : IsPlan plan) (s : State) (p : ℕ) (q : Process
       sound =
           let ranged : has_range call ≡ true = has-range call is-call in
           let own : nat_lt p process_limit ≡ true = known in
-          let left : nat_le call_limit (call_count (logged s.processes)) ≡ false = lt-leb call_limit (call_count (logged s.processes)) room in
+          let left : nat_le call_limit (call_count (logged s.processes)) ≡ false =
+              lt-leb call_limit (call_count (logged s.processes)) room in
           let turn : has_open_call p (logged s.processes) ≡ false = h.opens p q here ∙ ap (λ o. is_some o) idle in
           rw (ranged, own, left, turn) refl
 
@@ -306,7 +313,8 @@ module _ (plan : Plan) (within : IsPlan plan) (s : State) (p : ℕ) (q : Process
         begins = as-many ∙ omega arith;
         within = λ script at.
             let z = zip_left has_begun s.processes plan.scripts p q h.scripts here in
-            subst (λ n. n ≤ length script) (sym as-many) (subst (λ l. length (begun q) ≤ length l) (same_Some z.0 script (sym z.1 ∙ at)) z.2);
+            subst (λ n. n ≤ length script) (sym as-many)
+                (subst (λ l. length (begun q) ≤ length l) (same_Some z.0 script (sym z.1 ∙ at)) z.2);
         steps = refl;
       }
 
@@ -318,7 +326,8 @@ module _ (plan : Plan) (within : IsPlan plan) (s : State) (p : ℕ) (q : Process
           let turn : has_open_call p (logged s.processes) ≡ true = h.opens p q here ∙ ap (λ o. is_some o) open-call in
           rw (own, small, turn) refl
 
-  makes : (call : Call) (a : Access) (point : Option Point) → act plan.shape plan.variant call q.got ≡ Asks a point → IsLogged plan (moved s p q (Makes a))
+  makes : (call : Call) (a : Access) (point : Option Point) → act plan.shape plan.variant call q.got ≡ Asks a point
+      → IsLogged plan (moved s p q (Makes a))
   makes call a point asks =
       let stays = act-stays plan.shape plan.variant call within.shape.root q.got a point asks in
       accesses plan s p q (after_move p (Makes a) (slice_index s.words (word_of a)) q) h here few (word_of a) _ stays.0 refl refl refl
@@ -331,15 +340,18 @@ module _ (plan : Plan) (within : IsPlan plan) (s : State) (p : ℕ) (q : Process
       begins (Some call) f l = subst (λ m. IsLogged plan (moved s p q m)) (same_Some (Invokes call) m l) (invokes call e f)
   one-drawn (Some call) m e k = goes (act plan.shape plan.variant call q.got) refl k
     where
-      goes : (t : Turn) → act plan.shape plan.variant call q.got ≡ t → ◌≡◌ {A = Option Move} (Some (move_of t)) (Some m) → IsLogged plan (moved s p q m)
+      goes : (t : Turn) → act plan.shape plan.variant call q.got ≡ t → ◌≡◌ {A = Option Move} (Some (move_of t)) (Some m)
+          → IsLogged plan (moved s p q m)
       goes (Asks a point) f l = subst (λ m. IsLogged plan (moved s p q m)) (same_Some (Makes a) m l) (makes call a point f)
       goes (Answers reply) f l = subst (λ m. IsLogged plan (moved s p q m)) (same_Some (Responds reply) m l) (responds call reply e f)
 
 -- a move after few steps
-pub one-move : (plan : Plan) (within : IsPlan plan) (s : State) (p : ℕ) (q : Process) (h : IsLogged plan s) (here : slice_get s.processes p ≡ Some q)
+pub one-move : (plan : Plan) (within : IsPlan plan) (s : State) (p : ℕ) (q : Process) (h : IsLogged plan s)
+    (here : slice_get s.processes p ≡ Some q)
     → sum (map (λ q. q.steps) s.processes) + 1 < 2 ^ 61
     → (o : Option Call) (m : Move) → q.call ≡ o → move_from plan p q o ≡ Some m → IsLogged plan (moved s p q m)
-one-move plan within s p q h here few = let small : slice_index s.words 0 + 1 < 2 ^ 64 = omega (arith, h.clock) in one-drawn plan within s p q h here small
+one-move plan within s p q h here few = let small : slice_index s.words 0 + 1 < 2 ^ 64 =
+    omega (arith, h.clock) in one-drawn plan within s p q h here small
 
 -- A step is a move of a process.
 
@@ -387,11 +399,13 @@ pub nowhere : (plan : Plan) (schedule : List ℕ) (s : State) → run_on plan No
 nowhere plan [] s h = none-some s h
 nowhere plan (p ∷ schedule) s h = none-some s h
 
-pub steps-rise : (plan : Plan) (schedule : List ℕ) (first s : State) → run_on plan (Some first) schedule ≡ Some s → all_steps first ≤ all_steps s
+pub steps-rise : (plan : Plan) (schedule : List ℕ) (first s : State) → run_on plan (Some first) schedule ≡ Some s
+    → all_steps first ≤ all_steps s
 steps-rise plan [] first s h = let same = ap all_steps (same_Some first s h) in omega arith
 steps-rise plan (p ∷ schedule) first s h = go (step plan first p) refl (steps-rise plan schedule) h
   where
-    go : (o : Option State) → step plan first p ≡ o → ((next s : State) → run_on plan (Some next) schedule ≡ Some s → all_steps next ≤ all_steps s)
+    go : (o : Option State) → step plan first p ≡ o
+        → ((next s : State) → run_on plan (Some next) schedule ≡ Some s → all_steps next ≤ all_steps s)
         → run_on plan o schedule ≡ Some s → all_steps first ≤ all_steps s
     go None e later k = absurd (nowhere plan schedule s k)
     go (Some next) e later k = let rest = later next s k in omega (arith, one-step plan first p next e)
@@ -412,7 +426,8 @@ logged-on plan within (p ∷ schedule) first s h gives few = go (step plan first
         let m = is-moved plan first p next e in
         let bound = steps-rise plan schedule next s k in
         let fewer : all_steps first + 1 < 2 ^ 61 = omega (arith, one-step plan first p next e) in
-        later next (subst (IsLogged plan) (sym m.is) (one-move plan within first p m.process h m.here fewer m.process.call m.move refl m.is_next)) k few
+        later next (subst (IsLogged plan) (sym m.is)
+            (one-move plan within first p m.process h m.here fewer m.process.call m.move refl m.is_next)) k few
 
 pub no-logs : (n : ℕ) → flat_map (λ log. log) (map (λ q. q.log) (replicate n idle)) ≡ []
 no-logs zero = refl
@@ -431,7 +446,8 @@ sum-none : (f : Process → ℕ) (n : ℕ) → f idle ≡ 0 → sum (map f (repl
 sum-none f n e = sum-map f (replicate n idle) ∙ (sum_by-replicate f n idle ∙ (ap (λ k. n * k) e ∙ omega arith))
 
 -- before the first step, on words of the table with the clock at 0
-pub opened-logged : (plan : Plan) (words : List ℕ) → length words ≡ table_words plan.shape → slice_index words 0 ≡ 0 → IsLogged plan (opened_on plan words)
+pub opened-logged : (plan : Plan) (words : List ℕ) → length words ≡ table_words plan.shape → slice_index words 0 ≡ 0
+    → IsLogged plan (opened_on plan words)
 opened-logged plan words long zeroed =
     let n = length plan.scripts in
     let none : logged (replicate n idle) ≡ [] = ap events_by_stamp (no-logs n) in
@@ -480,9 +496,11 @@ pub start-length : (shape : Shape) (variant : Variant) (start : Contents) (words
 start-length shape variant start words h =
     let plan = start_plan shape variant start in
     ap (λ w. length w) h.leaves
-    ∙ (length-set h.state.words 0 0 ∙ ((run-lengths plan h.inserted.schedule (opened plan) h.state h.inserted.gives).0 ∙ opening-length shape))
+    ∙ (length-set h.state.words 0 0 ∙ ((run-lengths plan h.inserted.schedule (opened plan) h.state h.inserted.gives).0
+    ∙ opening-length shape))
 
-pub start-clock : (shape : Shape) (variant : Variant) (start : Contents) (words : List ℕ) → StartsOn shape variant start words → slice_index words 0 ≡ 0
+pub start-clock : (shape : Shape) (variant : Variant) (start : Contents) (words : List ℕ) → StartsOn shape variant start words
+    → slice_index words 0 ≡ 0
 start-clock shape variant start words h = ap (λ w. slice_index w 0) h.leaves ∙ at-zero h.state.words
   where
     at-zero : (ws : List ℕ) → slice_index (slice_set ws 0 0) 0 ≡ 0

@@ -34,7 +34,8 @@ module _ (plan : Plan) (item : Item) (first : State) where
   }
 
 -- one item more was made whole
-pub whole-more : (plan : Plan) (items : List Item) (item : Item) (first between now : State) (n m : ℕ) → AreMadeWhole plan items first n between
+pub whole-more : (plan : Plan) (items : List Item) (item : Item) (first between now : State) (n m : ℕ)
+    → AreMadeWhole plan items first n between
     → IsMadeWhole plan item between m now → AreMadeWhole plan (items ++ item ∷ []) first (n + m) now
 whole-more plan [] item first between now n m h whole =
     (m, 0, now, subst (λ s. IsMadeWhole plan item s m now) (sym h.1) whole, (refl, refl), let none = h.0 in omega arith)
@@ -43,7 +44,8 @@ whole-more plan (i ∷ is) item first between now n m h whole =
 
 -- There is one way only.
 
-one-item : (plan : Plan) (item : Item) (first s t : State) (n m : ℕ) → IsMadeWhole plan item first n s → IsMadeWhole plan item first m t → (n ≡ m) × (s ≡ t)
+one-item : (plan : Plan) (item : Item) (first s t : State) (n m : ℕ) → IsMadeWhole plan item first n s → IsMadeWhole plan item first m t
+    → (n ≡ m) × (s ≡ t)
 one-item plan item first s t n m h k = elim (cases_lt n m) [
   | inl less ↦ absurd (h.over (k.turns.wanted n s less h.turns.gives))
   | inr more ↦ elim (cases_lt m n) [

@@ -3,7 +3,8 @@ use Rattle.std.proofs.Common.{refl}
 use Rattle.art_steps.specs.Computing.{computing}
 use Rattle.art_core.specs.Core.{step, history_of}
 use Rattle.art_core.specs.Schedules.{schedule_run}
-use Rattle.art_core.specs.WorkedRows.{eights, words_at, events, last_event, deep, shifted, shifted_items, lost, lost_items, torn, torn_items, early}
+use Rattle.art_core.specs.WorkedRows.{eights, words_at, events, last_event, deep, shifted, shifted_items, lost, lost_items, torn}
+use Rattle.art_core.specs.WorkedRows.{torn_items, early}
 use Rattle.art_core.specs.WorkedRows.{early_items, one_each, count_events, beside, WorkedRows}
 
 pub worked-rows : WorkedRows

@@ -15,12 +15,14 @@ use Rattle.list_laws.proofs.ZipLemmas.{zip_left}
 use Rattle.events.specs.declared.event.Call.{Call}
 use Rattle.art_steps.specs.Act.{act}
 use Rattle.art_core.specs.declared.process.Process.{Process}
-use Rattle.art_core.specs.Core.{Plan, State, Move, Invokes, Makes, Responds, invoked, moved, word_of_move, after_move, idle, opened, begun, next_in, next_call}
+use Rattle.art_core.specs.Core.{Plan, State, Move, Invokes, Makes, Responds, invoked, moved, word_of_move, after_move, idle, opened, begun}
+use Rattle.art_core.specs.Core.{next_in, next_call}
 use Rattle.art_core.specs.Core.{invocation, move_of, move_from, next_move, moved_by, step_of, step}
 use Rattle.art_core.specs.Runs.{run_on, Gives}
 use Rattle.art_core.specs.Laws.{Begins, begun_plan, MayMove}
 
-pub run-on-append : (plan : Plan) (s : Option State) (earlier later : List ℕ) → run_on plan s (earlier ++ later) ≡ run_on plan (run_on plan s earlier) later
+pub run-on-append : (plan : Plan) (s : Option State) (earlier later : List ℕ)
+    → run_on plan s (earlier ++ later) ≡ run_on plan (run_on plan s earlier) later
 run-on-append plan None [] [] = refl
 run-on-append plan None [] (p ∷ later) = refl
 run-on-append plan None (p ∷ earlier) [] = refl
@@ -36,7 +38,8 @@ some-same h = cc
 none-some : {A : Type 0} {y : A} → ◌≡◌ {A = Option A} None (Some y) → ⊥
 none-some h = cc
 
-begins-get : (script longer : List Call) (i : ℕ) (call : Call) → Begins script longer → slice_get script i ≡ Some call → slice_get longer i ≡ Some call
+begins-get : (script longer : List Call) (i : ℕ) (call : Call) → Begins script longer → slice_get script i ≡ Some call
+    → slice_get longer i ≡ Some call
 begins-get script longer i call b h =
     ap (λ l. slice_get l i) b.1 ∙ (slice_get-append_left script b.0 i (slice_get_within script i call h) ∙ h)
 
@@ -45,13 +48,15 @@ module _ (plan longer : Plan) (shape : longer.shape ≡ plan.shape) (variant : l
   next-call-longer : (p : ℕ) (q : Process) (call : Call) → next_call plan p q ≡ Some call → next_call longer p q ≡ Some call
   next-call-longer p q call h = go (slice_get plan.scripts p) refl h
     where
-      go : (o : Option (List Call)) → slice_get plan.scripts p ≡ o → next_in o (length (begun q)) ≡ Some call → next_call longer p q ≡ Some call
+      go : (o : Option (List Call)) → slice_get plan.scripts p ≡ o → next_in o (length (begun q)) ≡ Some call
+          → next_call longer p q ≡ Some call
       go None e k = absurd (none-some k)
       go (Some script) e k =
           let z = zip_left Begins plan.scripts longer.scripts p script zip e in
           ap (λ o. next_in o (length (begun q))) z.1 ∙ begins-get script z.0 (length (begun q)) call z.2 k
 
-  next-move-longer : (p : ℕ) (q : Process) (asked : Option Call) (m : Move) → move_from plan p q asked ≡ Some m → move_from longer p q asked ≡ Some m
+  next-move-longer : (p : ℕ) (q : Process) (asked : Option Call) (m : Move) → move_from plan p q asked ≡ Some m
+      → move_from longer p q asked ≡ Some m
   next-move-longer p q (Some call) m h =
       ap (λ shape. Some (move_of (act shape longer.variant call q.got))) shape
       ∙ (ap (λ variant. Some (move_of (act plan.shape variant call q.got))) variant ∙ h)
@@ -65,7 +70,8 @@ module _ (plan longer : Plan) (shape : longer.shape ≡ plan.shape) (variant : l
   unfolding step
   step-longer s p s' h = go (slice_get s.processes p) h
     where
-      moves : (q : Process) (o : Option Move) → next_move plan p q ≡ o → moved_by s p q o ≡ Some s' → moved_by s p q (next_move longer p q) ≡ Some s'
+      moves : (q : Process) (o : Option Move) → next_move plan p q ≡ o → moved_by s p q o ≡ Some s'
+          → moved_by s p q (next_move longer p q) ≡ Some s'
       moves q None e k = absurd (none-some k)
       moves q (Some m) e k = ap (moved_by s p q) (next-move-longer p q q.call m e) ∙ k
 
@@ -77,7 +83,8 @@ module _ (plan longer : Plan) (shape : longer.shape ≡ plan.shape) (variant : l
   none-stays [] s h = none-some h
   none-stays (p ∷ schedule) s h = none-some h
 
-  goes-on : (schedule : List ℕ) (s : State) → ((first : State) → run_on plan (Some first) schedule ≡ Some s → run_on longer (Some first) schedule ≡ Some s)
+  goes-on : (schedule : List ℕ) (s : State) → ((first : State) → run_on plan (Some first) schedule ≡ Some s → run_on longer (Some first)
+      schedule ≡ Some s)
       → (first : State) (p : ℕ) (o : Option State) → step plan first p ≡ o → run_on plan o schedule ≡ Some s
       → run_on longer (step longer first p) schedule ≡ Some s
   goes-on schedule s later first p None e k = absurd (none-stays schedule s k)
@@ -108,7 +115,8 @@ get-set [] p q q' e = absurd (none-some e)
 get-set (r ∷ rs) zero q q' e = refl
 get-set (r ∷ rs) (suc p) q q' e = get-set rs p q q' e
 
-pub begun-more : (q : Process) (e : Stamped) → filter_map (λ x. invoked x.1) (q.log ++ e ∷ []) ≡ begun q ++ filter_map (λ x. invoked x.1) (e ∷ [])
+pub begun-more : (q : Process) (e : Stamped) → filter_map (λ x. invoked x.1) (q.log ++ e ∷ []) ≡ begun q ++ filter_map
+    (λ x. invoked x.1) (e ∷ [])
 begun-more q e = filter_map-append (λ x. invoked x.1) q.log (e ∷ [])
 
 grows : (p n : ℕ) (m : Move) (q : Process) → Begins (begun q) (begun (after_move p m n q))
@@ -141,12 +149,14 @@ module _ (shape : Shape) (variant : Variant) (s : State) (p : ℕ) (q : Process)
       (length-map s.processes begun
       ∙ (sym (length-set s.processes p (after_move p m n q)) ∙ sym (length-map (slice_set s.processes p (after_move p m n q)) begun)))
 
-  pub move-reached : (schedule : List ℕ) → Gives (begun_plan shape variant s.processes) (opened (begun_plan shape variant s.processes)) schedule s
+  pub move-reached : (schedule : List ℕ) → Gives (begun_plan shape variant s.processes)
+      (opened (begun_plan shape variant s.processes)) schedule s
       → MayMove shape variant q q.call m
       → Gives longer_plan (opened longer_plan) (schedule ++ p ∷ []) (moved s p q m)
   move-reached schedule gives may =
       let longer =
-      run-longer (begun_plan shape variant s.processes) longer_plan refl refl (begins-set s.processes p q (after_move p m n q) here (grows p n m q))
+      run-longer (begun_plan shape variant s.processes) longer_plan refl refl
+          (begins-set s.processes p q (after_move p m n q) here (grows p n m q))
       (opened (begun_plan shape variant s.processes)) schedule s gives in
       let first = subst (λ f. Gives longer_plan f schedule s) its-opening longer in
       run-on-append longer_plan (Some (opened longer_plan)) schedule (p ∷ [])

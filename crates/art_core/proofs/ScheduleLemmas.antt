@@ -140,7 +140,8 @@ at-yes q (Some a) h = ap Some (sym (unfolded a) ∙ (ap point-at (sym (eqb-true 
 at-no : (q : Point) (o : Option Point) → is_at q o ≡ false → o ≡ Some q → ⊥
 at-no q o h e = true-false (ap (is_at q) e ∙ eq-eqb (point_number q) (point_number q) refl) h
 
-one-item : (plan : Plan) (item : Item) (r : Run) → (made plan item r).refused ≡ None → IsComputed plan item r.state r.left (made plan item r)
+one-item : (plan : Plan) (item : Item) (r : Run) → (made plan item r).refused ≡ None
+    → IsComputed plan item r.state r.left (made plan item r)
 one-item plan (Turns p count) r ok =
     let c = counted plan p count r.state count 0 r (made-none plan (Turns p count) r.state) (omega arith) ok in
     record { made = c.made; turns = c.turns; costs = c.costs ∙ omega arith }

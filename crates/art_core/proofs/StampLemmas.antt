@@ -67,7 +67,8 @@ module _ (plan : Plan) (within : IsPlan plan) where
       calls None k = absurd (none-some m k)
       calls (Some call) k = subst Elsewhere (same_Some (Invokes call) m k) tt
 
-      turns : (call : Call) (t : Turn) → act plan.shape plan.variant call q.got ≡ t → ◌≡◌ {A = Option Move} (Some (move_of t)) (Some m) → Elsewhere m
+      turns : (call : Call) (t : Turn) → act plan.shape plan.variant call q.got ≡ t
+          → ◌≡◌ {A = Option Move} (Some (move_of t)) (Some m) → Elsewhere m
       turns call (Asks a point) e k =
           subst Elsewhere (same_Some (Makes a) m k) (act-stays plan.shape plan.variant call within.shape.root q.got a point e).0
       turns call (Answers reply) e k = subst Elsewhere (same_Some (Responds reply) m k) tt
@@ -89,7 +90,8 @@ module _ (plan : Plan) (within : IsPlan plan) where
   few-events : (s : State) → IsTicked s → slice_index s.words 0 ≤ 8192
   few-events s t =
       let half = sums-within (λ q. length q.log) (λ q. length (begun q)) s.processes
-      (λ i q at. let parts = log-parts q.log in let c = (t.counted i q at).counts in let less = cond-small (is_some q.call) in omega arith) in
+      (λ i q at. let parts = log-parts q.log in let c = (t.counted i q at).counts in let less =
+          cond-small (is_some q.call) in omega arith) in
       let calls = calls-within s.processes plan.scripts t.logged.scripts in
       let sums = sum-map (λ q. length (begun q)) s.processes in
       let few = within.few_calls in
@@ -117,7 +119,8 @@ module _ (plan : Plan) (within : IsPlan plan) where
       go (Makes a) away some ticks =
           let other : 0 ≢ word_of a = λ e. omega arith in
           let new = changed a (slice_index s.words (word_of a)) in
-          let at : slice_index (slice_set s.words (word_of a) new) 0 ≡ slice_index s.words 0 = get_or-set_other s.words (word_of a) 0 new 0 other in
+          let at : slice_index (slice_set s.words (word_of a) new) 0 ≡ slice_index s.words 0 =
+              get_or-set_other s.words (word_of a) 0 new 0 other in
           let q' = after_move p (Makes a) (slice_index s.words (word_of a)) q in
           let same : events (slice_set s.processes p q') + length q.log ≡ events s.processes + length q.log =
           sum-changed (λ q. length q.log) s.processes p q q' here in
@@ -130,7 +133,8 @@ module _ (plan : Plan) (within : IsPlan plan) where
       let small : slice_index s.words 0 + 1 < 2 ^ 64 = omega arith in
       let some : 0 < length s.words = let long = t.logged.table in omega arith in
       record {
-        logged = subst (IsLogged plan) (sym m.is) (one-drawn plan within s p m.process t.logged m.here small m.process.call m.move refl m.is_next);
+        logged = subst (IsLogged plan) (sym m.is)
+            (one-drawn plan within s p m.process t.logged m.here small m.process.call m.move refl m.is_next);
         ticks = subst (λ n. slice_index n.words 0 ≤ events n.processes) (sym m.is)
             (ticks-on s p m.process m.move m.here (elsewhere p m.process m.move m.is_next) some t.ticks);
         counted = counted-step plan s p next e t.counted;
@@ -154,7 +158,8 @@ module _ (plan : Plan) (within : IsPlan plan) where
   }
 
 -- each log is among all of them
-logs-below : (n : ℕ) (ps : List Process) → AreBelow n (flat_map (λ log. log) (map (λ q. q.log) ps)) → All (λ q. All (λ (e : Stamped). e.0 < n) q.log) ps
+logs-below : (n : ℕ) (ps : List Process) → AreBelow n (flat_map (λ log. log) (map (λ q. q.log) ps))
+    → All (λ q. All (λ (e : Stamped). e.0 < n) q.log) ps
 logs-below n [] below = All-nil _
 logs-below n (q ∷ ps) below =
     All-cons (λ q. All (λ (e : Stamped). e.0 < n) q.log) q ps (all-below q.log (AreBelow-front n q.log _ below))

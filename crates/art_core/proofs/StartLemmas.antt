@@ -13,7 +13,8 @@ use Rattle.art_rows.specs.declared.table.Shape.{Shape}
 use Rattle.art_rows.specs.Table.{opening, table_words, info_at, root_base, clock}
 use Rattle.art_steps.specs.declared.variant.Variant.{Variant}
 use Rattle.art_core.specs.declared.process.Process.{Process}
-use Rattle.art_core.specs.Core.{Plan, State, Move, Invokes, Makes, Responds, idle, opened, step, next_move, word_of_move, after_move, answered, finished}
+use Rattle.art_core.specs.Core.{Plan, State, Move, Invokes, Makes, Responds, idle, opened, step, next_move, word_of_move, after_move}
+use Rattle.art_core.specs.Core.{answered, finished}
 use Rattle.art_core.specs.Runs.{run_on}
 use Rattle.art_core.specs.Starts.{StartsOn, start_plan}
 use Rattle.art_core.specs.Laws.{StartsAreOne}
@@ -111,7 +112,8 @@ module _ (plan : Plan) where
       (schedule, subst (λ u. run_on plan (Some u) schedule ≡ Some s) (same_Some first t k) h)
   goes-to-end [] (q ∷ earlier) first s t process one h k is over = go (step plan first q) refl k
     where
-      go : (o : Option State) → step plan first q ≡ o → run_on plan o earlier ≡ Some t → (rest : List ℕ) × (run_on plan (Some t) rest ≡ Some s)
+      go : (o : Option State) → step plan first q ≡ o → run_on plan o earlier ≡ Some t → (rest : List ℕ)
+          × (run_on plan (Some t) rest ≡ Some s)
       go None e l = absurd (nowhere plan earlier t l)
       go (Some next) e l =
           let same = same_Some first s h in
@@ -119,9 +121,12 @@ module _ (plan : Plan) where
   goes-to-end (p ∷ schedule) (q ∷ earlier) first s t process one h k is over =
       go (step plan first p) (step plan first q) refl refl h k (λ next. goes-to-end schedule earlier next s t process)
     where
-      go : (o u : Option State) → step plan first p ≡ o → step plan first q ≡ u → run_on plan o schedule ≡ Some s → run_on plan u earlier ≡ Some t
-          → ((next : State) → length next.processes ≡ 1 → run_on plan (Some next) schedule ≡ Some s → run_on plan (Some next) earlier ≡ Some t
-          → slice_get s.processes 0 ≡ Some process → next_move plan 0 process ≡ None → (rest : List ℕ) × (run_on plan (Some t) rest ≡ Some s))
+      go : (o u : Option State) → step plan first p ≡ o → step plan first q ≡ u → run_on plan o schedule ≡ Some s
+          → run_on plan u earlier ≡ Some t
+          → ((next : State) → length next.processes ≡ 1 → run_on plan (Some next) schedule ≡ Some s
+          → run_on plan (Some next) earlier ≡ Some t
+          → slice_get s.processes 0 ≡ Some process → next_move plan 0 process ≡ None → (rest : List ℕ)
+          × (run_on plan (Some t) rest ≡ Some s))
           → (rest : List ℕ) × (run_on plan (Some t) rest ≡ Some s)
       go None u e f l m later = absurd (nowhere plan schedule s l)
       go (Some next) None e f l m later = absurd (nowhere plan earlier t m)
@@ -140,15 +145,19 @@ module _ (plan : Plan) where
       go None e l = absurd (nowhere plan rest s l)
       go (Some next) e l = absurd (at-end t process one is over p next e)
 
-  answers-stay-on : (reply : Reply) (rest : List ℕ) (s t : State) (process last : Process) → length t.processes ≡ 1 → slice_get t.processes 0 ≡ Some process
-      → slice_get s.processes 0 ≡ Some last → Contains (finished process) reply → run_on plan (Some t) rest ≡ Some s → Contains (finished last) reply
+  answers-stay-on : (reply : Reply) (rest : List ℕ) (s t : State) (process last : Process) → length t.processes ≡ 1
+      → slice_get t.processes 0 ≡ Some process
+      → slice_get s.processes 0 ≡ Some last → Contains (finished process) reply → run_on plan (Some t) rest ≡ Some s
+      → Contains (finished last) reply
   answers-stay-on reply [] s t process last one is ends has h =
-      subst (λ q. Contains (finished q) reply) (same_Some process last (sym is ∙ (ap (λ u. slice_get u.processes 0) (same_Some t s h) ∙ ends))) has
+      subst (λ q. Contains (finished q) reply)
+          (same_Some process last (sym is ∙ (ap (λ u. slice_get u.processes 0) (same_Some t s h) ∙ ends))) has
   answers-stay-on reply (p ∷ rest) s t process last one is ends has h =
       go (step plan t p) refl h (λ next after. answers-stay-on reply rest s next after last)
     where
       go : (o : Option State) → step plan t p ≡ o → run_on plan o rest ≡ Some s
-          → ((next : State) (after : Process) → length next.processes ≡ 1 → slice_get next.processes 0 ≡ Some after → slice_get s.processes 0 ≡ Some last
+          → ((next : State) (after : Process) → length next.processes ≡ 1 → slice_get next.processes 0 ≡ Some after
+          → slice_get s.processes 0 ≡ Some last
           → Contains (finished after) reply → run_on plan (Some next) rest ≡ Some s → Contains (finished last) reply)
           → Contains (finished last) reply
       go None e l later = absurd (nowhere plan rest s l)
@@ -159,17 +168,20 @@ module _ (plan : Plan) where
 pub starts-are-one : StartsAreOne
 starts-are-one shape variant start words h = (
   λ other k.
-      let to = goes-to-end plan h.inserted.schedule k.inserted.schedule (opened plan) h.state k.state h.process refl h.inserted.gives k.inserted.gives
+      let to = goes-to-end plan h.inserted.schedule k.inserted.schedule (opened plan) h.state k.state h.process refl
+          h.inserted.gives k.inserted.gives
       h.inserted.is_process h.all in
       let one = (run-lengths plan k.inserted.schedule (opened plan) k.state k.inserted.gives).1 in
       let same = stays-at-end plan to.0 h.state k.state k.process one k.inserted.is_process k.all to.1 in
       h.leaves ∙ (ap (λ s. slice_set s.words clock 0) (sym same) ∙ sym k.leaves),
   λ k.
-      let to = goes-to-end plan h.inserted.schedule k.inserted.schedule (opened plan) h.state k.state h.process refl h.inserted.gives k.inserted.gives
+      let to = goes-to-end plan h.inserted.schedule k.inserted.schedule (opened plan) h.state k.state h.process refl
+          h.inserted.gives k.inserted.gives
       h.inserted.is_process h.all in
       let one = (run-lengths plan k.inserted.schedule (opened plan) k.state k.inserted.gives).1 in
       All-contains (λ reply. reply ≢ replies.Refused) (finished h.process) replies.Refused h.accepted
-      (answers-stay-on plan replies.Refused to.0 h.state k.state k.process h.process one k.inserted.is_process h.inserted.is_process k.refused to.1) refl,
+      (answers-stay-on plan replies.Refused to.0 h.state k.state k.process h.process one k.inserted.is_process h.inserted.is_process
+          k.refused to.1) refl,
 )
   where
     plan : Plan

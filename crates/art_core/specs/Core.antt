@@ -1,5 +1,6 @@
 -- The core: its states, and one step of a process.
-use Rattle.std.specs.Prelude.{ℕ, ◌+◌, ◌%◌, ◌^◌, List, [], ◌∷◌, ◌++◌, length, map, replicate, filter_map, slice_get, slice_index, slice_set, Option, Some, None}
+use Rattle.std.specs.Prelude.{ℕ, ◌+◌, ◌%◌, ◌^◌, List, [], ◌∷◌, ◌++◌, length, map, replicate, filter_map, slice_get, slice_index, slice_set}
+use Rattle.std.specs.Prelude.{Option, Some, None}
 use Rattle.events.specs.declared.event.Call.{Call}
 use Rattle.events.specs.declared.event.Reply.{Reply}
 use Rattle.events.specs.declared.event.Event.{Event}

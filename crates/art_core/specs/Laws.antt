@@ -21,7 +21,8 @@ use Rattle.art_core.specs.Schedules.{Run, begun_run, items_made}
 
 -- a schedule goes on where an earlier one has come to
 abbrev pub RunsGoOn : Type 0
-RunsGoOn = (plan : Plan) (first : State) (earlier later : List ℕ) → run_from plan first (earlier ++ later) ≡ run_on plan (run_from plan first earlier) later
+RunsGoOn = (plan : Plan) (first : State) (earlier later : List ℕ)
+    → run_from plan first (earlier ++ later) ≡ run_on plan (run_from plan first earlier) later
 
 -- the one list begins the other
 abbrev pub Begins : List Call → List Call → Type 0
@@ -29,7 +30,8 @@ Begins script longer = (rest : List Call) × (longer ≡ script ++ rest)
 
 -- a schedule that runs on scripts runs on longer ones, to the same state
 abbrev pub RunsOnLongerScripts : Type 0
-RunsOnLongerScripts = (plan longer : Plan) (first : State) (schedule : List ℕ) (s : State) → longer.shape ≡ plan.shape → longer.variant ≡ plan.variant
+RunsOnLongerScripts = (plan longer : Plan) (first : State) (schedule : List ℕ) (s : State) → longer.shape ≡ plan.shape
+    → longer.variant ≡ plan.variant
     → AllZip Begins plan.scripts longer.scripts → Gives plan first schedule s → Gives longer first schedule s
 
 -- the calls begun so far as scripts
@@ -41,13 +43,15 @@ abbrev pub MayMove : Shape → Variant → Process → Option Call → Move → 
 MayMove shape variant q None m = (call : Call) × (m ≡ Invokes call)
 MayMove shape variant q (Some call) m = m ≡ move_of (act shape variant call q.got)
 
--- Where a schedule gives a state, with the calls begun so far as scripts, it gives the next one with one process more behind it: whatever a process does next,
+-- Where a schedule gives a state, with the calls begun so far as scripts, it gives the next one with one process more behind it: whatever a
+-- process does next,
 -- its call included.
 abbrev pub MovesAreReached : Type 0
 MovesAreReached = (shape : Shape) (variant : Variant) (s : State) (schedule : List ℕ) (p : ℕ) (q : Process) (m : Move)
     → Gives (begun_plan shape variant s.processes) (opened (begun_plan shape variant s.processes)) schedule s
     → slice_get s.processes p ≡ Some q → MayMove shape variant q q.call m
-    → Gives (begun_plan shape variant (moved s p q m).processes) (opened (begun_plan shape variant (moved s p q m).processes)) (schedule ++ p ∷ [])
+    → Gives (begun_plan shape variant (moved s p q m).processes) (opened (begun_plan shape variant (moved s p q m).processes))
+        (schedule ++ p ∷ [])
     (moved s p q m)
 
 -- The clock is above all stamps, and counts few of them; what was logged is a history.
@@ -58,12 +62,14 @@ pub record IsClocked (s : State) : Type 0 where
 
 -- So it is in each state that a schedule of a plan within the limits gives, however many steps were made.
 abbrev pub ClocksAreAhead : Type 0
-ClocksAreAhead = (plan : Plan) (words schedule : List ℕ) (s : State) → IsPlan plan → length words ≡ table_words plan.shape → slice_index words clock ≡ 0
+ClocksAreAhead = (plan : Plan) (words schedule : List ℕ) (s : State) → IsPlan plan → length words ≡ table_words plan.shape
+    → slice_index words clock ≡ 0
     → Gives plan (opened_on plan words) schedule s → IsClocked s
 
 -- The turns that items name are as many, and lead to one state.
 abbrev pub NamedTurnsAreOne : Type 0
-NamedTurnsAreOne = (plan : Plan) (items : List Item) (first s t : State) (n m : ℕ) → AreMadeWhole plan items first n s → AreMadeWhole plan items first m t
+NamedTurnsAreOne = (plan : Plan) (items : List Item) (first s t : State) (n m : ℕ) → AreMadeWhole plan items first n s
+    → AreMadeWhole plan items first m t
     → (n ≡ m) × (s ≡ t)
 
 -- a run that was not refused made all the turns that its items name
@@ -74,7 +80,8 @@ pub record HasComputed (plan : Plan) (items : List Item) (first : State) (left :
 
 -- What is computed of a schedule is what its items name.
 abbrev pub SchedulesCompute : Type 0
-SchedulesCompute = (plan : Plan) (items : List Item) (first : State) (left : ℕ) → (items_made plan items (begun_run first left)).refused ≡ None
+SchedulesCompute = (plan : Plan) (items : List Item) (first : State) (left : ℕ)
+    → (items_made plan items (begun_run first left)).refused ≡ None
     → HasComputed plan items first left (items_made plan items (begun_run first left))
 
 -- Pairs start on one list of words only, and on none where one of them is refused.

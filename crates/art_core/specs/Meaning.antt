@@ -1,5 +1,6 @@
 -- What the words of a tree mean.
-use Rattle.std.specs.Prelude.{◌≡◌, ℕ, zero, suc, ◌-◌, ◌%◌, ◌<◌, ◌↔◌, ◌==◌, if◌then◌else◌, false, List, [], ◌∷◌, take, drop, slice_index, flat_map, Contains}
+use Rattle.std.specs.Prelude.{◌≡◌, ℕ, zero, suc, ◌-◌, ◌%◌, ◌<◌, ◌↔◌, ◌==◌, if◌then◌else◌, false, List, [], ◌∷◌, take, drop, slice_index}
+use Rattle.std.specs.Prelude.{flat_map, Contains}
 use Rattle.std.specs.Prelude.{Option, Some, None, option_map}
 use Rattle.map_object.specs.MapObject.{Contents, IsRising}
 use Rattle.art_rows.specs.declared.table.Shape.{Shape}
@@ -19,7 +20,8 @@ entry_slot base e = if e == 0 then None else Some (child_at FortyEight base (e -
 abbrev pub slot_of : List ℕ → ℕ → Kind → ℕ → Option ℕ
 slot_of words base Four x = option_map (child_at Four base) (place_of x (keys4_of (slice_index words (keys_at base))))
 slot_of words base Sixteen x = option_map (child_at Sixteen base)
-    (place_of x (keys16_of (slice_index words (count_at Sixteen base)) (slice_index words (keys_at base)) (slice_index words (more_keys_at base))))
+    (place_of x (keys16_of (slice_index words (count_at Sixteen base)) (slice_index words (keys_at base))
+        (slice_index words (more_keys_at base))))
 slot_of words base FortyEight x = entry_slot base (slice_index (entries_of (slice_index words (index_at base x))) (x % 8))
 slot_of words base Full x = Some (child_at Full base x)
 

@@ -1,5 +1,6 @@
 -- A moment at which what a call has read stands still.
-use Rattle.std.specs.Prelude.{◌≡◌, ◌≢◌, ℕ, zero, suc, ◌+◌, ◌<◌, ◌≤◌, ◌⊎◌, false, List, [], ◌∷◌, ◌++◌, length, take, slice_get, slice_index, Option, Some, None}
+use Rattle.std.specs.Prelude.{◌≡◌, ◌≢◌, ℕ, zero, suc, ◌+◌, ◌<◌, ◌≤◌, ◌⊎◌, false, List, [], ◌∷◌, ◌++◌, length, take, slice_get, slice_index}
+use Rattle.std.specs.Prelude.{Option, Some, None}
 use Rattle.events.specs.declared.event.Call.{Call}
 use Rattle.events.specs.declared.event.Reply.{Reply}
 use Rattle.art_rows.specs.declared.table.Kind.{Kind}

@@ -43,7 +43,8 @@ WantsTurn plan (Until p point) first made now = HasNotAnswered p first now × (n
 -- So many turns of the item's process lead from the first state to the present one, and it names each of them.
 pub record AreMade (plan : Plan) (item : Item) (first : State) (made : ℕ) (now : State) : Type 0 where
   pub gives : Gives plan first (replicate made (process_of_item item)) now
-  pub wanted : (earlier : ℕ) (s : State) → earlier < made → Gives plan first (replicate earlier (process_of_item item)) s → WantsTurn plan item first earlier s
+  pub wanted : (earlier : ℕ) (s : State) → earlier < made → Gives plan first (replicate earlier (process_of_item item)) s
+      → WantsTurn plan item first earlier s
 
 -- these are all the turns that it names
 pub record IsMadeWhole (plan : Plan) (item : Item) (first : State) (made : ℕ) (now : State) : Type 0 where
@@ -54,4 +55,5 @@ pub record IsMadeWhole (plan : Plan) (item : Item) (first : State) (made : ℕ) 
 abbrev pub AreMadeWhole : Plan → List Item → State → ℕ → State → Type 0
 AreMadeWhole plan [] first made now = (made ≡ 0) × (first ≡ now)
 AreMadeWhole plan (item ∷ items) first made now =
-    (here : ℕ) × (later : ℕ) × (between : State) × IsMadeWhole plan item first here between × AreMadeWhole plan items between later now × (made ≡ here + later)
+    (here : ℕ) × (later : ℕ) × (between : State) × IsMadeWhole plan item first here between × AreMadeWhole plan items between later now
+        × (made ≡ here + later)

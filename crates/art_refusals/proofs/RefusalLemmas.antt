@@ -1,5 +1,6 @@
 -- A refused call's last claim found the capacity of its kind reached.
-use Rattle.std.proofs.Common.{◌≡◌, ℕ, zero, suc, ◌<◌, ◌≤◌, List, [], ◌∷◌, ◌++◌, append_assoc, length, take, refl, ap, sym, subst, ◌∙◌, Bool, true, false}
+use Rattle.std.proofs.Common.{◌≡◌, ℕ, zero, suc, ◌<◌, ◌≤◌, List, [], ◌∷◌, ◌++◌, append_assoc, length, take, refl, ap, sym, subst, ◌∙◌, Bool}
+use Rattle.std.proofs.Common.{true, false}
 use Rattle.std.proofs.Common.{arith, inl, inr, ◌⊎◌}
 use Rattle.std.proofs.lemmas.Bool.{false≢true}
 use Rattle.std.proofs.lemmas.List.{append-nil}
@@ -20,7 +21,8 @@ use Rattle.art_rows.specs.declared.table.Shape.{Shape}
 use Rattle.art_steps.specs.declared.variant.Variant.{Variant}
 use Rattle.art_stages.specs.declared.stage.Held.{Held}
 use Rattle.art_stages.specs.declared.stage.ScanStep.{ScanStep}
-use Rattle.art_stages.specs.declared.stage.ScanStep.TheVariants.{Lock, Exchange, Wait, Info, Keys, FirstKeys, SecondKeys, Index, Child, Release}
+use Rattle.art_stages.specs.declared.stage.ScanStep.TheVariants.{Lock, Exchange, Wait, Info, Keys, FirstKeys, SecondKeys, Index, Child}
+use Rattle.art_stages.specs.declared.stage.ScanStep.TheVariants.{Release}
 use Rattle.art_stages.specs.declared.stage.ScanStep.TheVariants.{Over as ScanOver}
 use Rattle.art_stages.specs.Scans.{ScanAt, at, scan_in, scan_turn, scan_start, scan_after, keys_turn, release_turn}
 use Rattle.art_stages.proofs.ScanLemmas.{scan_next, scan_begins, scan_goes_on}
@@ -64,19 +66,23 @@ module _ (c : Setting) (pre : List ℕ) (w : ℕ) (stage : Stage) (fits : Fits c
     asks = ap (act c.shape c.variant c.call) (take_before j pre (w ∷ []) (omega (arith, x.made))) ∙ x.asks;
   }
 
-  claim_before : (j : ℕ) (kind : Kind) → j < length pre → Claims c.shape c.variant c.call (pre ++ w ∷ []) j kind → Claims c.shape c.variant c.call pre j kind
+  claim_before : (j : ℕ) (kind : Kind) → j < length pre → Claims c.shape c.variant c.call (pre ++ w ∷ []) j kind
+      → Claims c.shape c.variant c.call pre j kind
   claim_before j kind h x = record {
     made = h;
     point = x.point;
     asks = ap (act c.shape c.variant c.call) (sym (take_before j pre (w ∷ []) (omega (arith, h)))) ∙ x.asks;
   }
 
-  claim_last : (j : ℕ) (kind : Kind) → j ≡ length pre → Claims c.shape c.variant c.call (pre ++ w ∷ []) j kind → is_add (turn_at c stage) ≡ true
+  claim_last : (j : ℕ) (kind : Kind) → j ≡ length pre → Claims c.shape c.variant c.call (pre ++ w ∷ []) j kind
+      → is_add (turn_at c stage) ≡ true
   claim_last j kind e x =
       ap is_add (sym turn)
-      ∙ (ap (λ xs. is_add (act c.shape c.variant c.call xs)) (sym (ap (λ k. take k (pre ++ w ∷ [])) e ∙ take_all pre (w ∷ []))) ∙ ap is_add x.asks)
+      ∙ (ap (λ xs. is_add (act c.shape c.variant c.call xs)) (sym (ap (λ k. take k (pre ++ w ∷ [])) e ∙ take_all pre (w ∷ [])))
+      ∙ ap is_add x.asks)
 
-  still_refused : refuses stage ≡ true → RefusedAtCapacity c.shape c.variant c.call pre → RefusedAtCapacity c.shape c.variant c.call (pre ++ w ∷ [])
+  still_refused : refuses stage ≡ true → RefusedAtCapacity c.shape c.variant c.call pre
+      → RefusedAtCapacity c.shape c.variant c.call (pre ++ w ∷ [])
   still_refused r x = record {
     i = x.i;
     kind = x.kind;
@@ -95,7 +101,8 @@ module _ (c : Setting) (pre : List ℕ) (w : ℕ) (stage : Stage) (fits : Fits c
           up (inl a) = inl (omega (arith, a))
           up (inr a) = inr (ap suc a)
 
-      at_most : (j : ℕ) (kind : Kind) → Claims c.shape c.variant c.call (pre ++ w ∷ []) j kind → (j < length pre) ⊎ (j ≡ length pre) → j ≤ x.i
+      at_most : (j : ℕ) (kind : Kind) → Claims c.shape c.variant c.call (pre ++ w ∷ []) j kind → (j < length pre)
+          ⊎ (j ≡ length pre) → j ≤ x.i
       at_most j kind y (inl h) = x.last j kind (claim_before j kind h y)
       at_most j kind y (inr e) = absurd (false≢true (sym (no_claim c stage r) ∙ claim_last j kind e y))
 

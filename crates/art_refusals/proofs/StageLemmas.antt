@@ -33,15 +33,22 @@ use Rattle.art_stages.specs.declared.stage.Work.TheVariants as work
 use Rattle.art_stages.specs.declared.stage.Target.TheVariants.{Root, Below, Taken}
 use Rattle.art_stages.specs.declared.stage.PairWord.TheVariants as pair_word
 use Rattle.art_stages.specs.declared.stage.Outcome.TheVariants.{Value, Refused}
-use Rattle.art_stages.specs.declared.stage.Stage.TheVariants.{Lock, Exchange, Wait, Leave, Between, Info, Find, FindKeys, FindMore, FindCount, Slot, Check}
-use Rattle.art_stages.specs.declared.stage.Stage.TheVariants.{CheckLast, LetGo, Take, Write, ClaimPair, StorePair, PutLoad, PutStore, PutLeaf, PutKeys, PutMore}
-use Rattle.art_stages.specs.declared.stage.Stage.TheVariants.{PutCount, ClaimGrow, GrowInfo, GrowLoad, GrowStore, SpreadIndex, SpreadLoad, SpreadStore}
+use Rattle.art_stages.specs.declared.stage.Stage.TheVariants.{Lock, Exchange, Wait, Leave, Between, Info, Find, FindKeys, FindMore}
+use Rattle.art_stages.specs.declared.stage.Stage.TheVariants.{FindCount, Slot, Check}
+use Rattle.art_stages.specs.declared.stage.Stage.TheVariants.{CheckLast, LetGo, Take, Write, ClaimPair, StorePair, PutLoad, PutStore}
+use Rattle.art_stages.specs.declared.stage.Stage.TheVariants.{PutLeaf, PutKeys, PutMore}
+use Rattle.art_stages.specs.declared.stage.Stage.TheVariants.{PutCount, ClaimGrow, GrowInfo, GrowLoad, GrowStore, SpreadIndex, SpreadLoad}
+use Rattle.art_stages.specs.declared.stage.Stage.TheVariants.{SpreadStore}
 use Rattle.art_stages.specs.declared.stage.Stage.TheVariants.{GrowLeaf, GrowKeys, GrowCount, Hang, Obsolete, Unlock, Over}
 use Rattle.art_stages.specs.Stages.{row_at, count_in}
-use Rattle.art_stages.specs.Automaton.{between_turn, find_turn, pair_turn, put_keys_turn, grow_keys_turn, grow_leaf_turn, grow_count_turn, store_of, turn_at}
-use Rattle.art_stages.specs.Automaton.{start_at, release_at, moves_at, put_at, work_at, take_at, taken_at, overwrite_at, seek_coupled, insert_coupled}
-use Rattle.art_stages.specs.Automaton.{let_go_at, place_coupled, overwrite_unlocked, seek_unlocked, grow_unlocked, insert_unlocked, found_at, checked_at}
-use Rattle.art_stages.specs.Automaton.{among_at, indexed_at, find_at, arrived_at, entered_at, below_at, pair_after, put_keys_after, copies_at}
+use Rattle.art_stages.specs.Automaton.{between_turn, find_turn, pair_turn, put_keys_turn, grow_keys_turn, grow_leaf_turn, grow_count_turn}
+use Rattle.art_stages.specs.Automaton.{store_of, turn_at}
+use Rattle.art_stages.specs.Automaton.{start_at, release_at, moves_at, put_at, work_at, take_at, taken_at, overwrite_at, seek_coupled}
+use Rattle.art_stages.specs.Automaton.{insert_coupled}
+use Rattle.art_stages.specs.Automaton.{let_go_at, place_coupled, overwrite_unlocked, seek_unlocked, grow_unlocked, insert_unlocked}
+use Rattle.art_stages.specs.Automaton.{found_at, checked_at}
+use Rattle.art_stages.specs.Automaton.{among_at, indexed_at, find_at, arrived_at, entered_at, below_at, pair_after, put_keys_after}
+use Rattle.art_stages.specs.Automaton.{copies_at}
 use Rattle.art_stages.specs.Automaton.{spreads_at, entries_at, fill_at, leaf_after, keys_at_after, after_with, keys_one}
 
 abbrev pub refuses : Stage → Bool
@@ -195,7 +202,8 @@ overwrite_no n slot value (Some word) = refl
 seek_coupled_no : (e : Bool) (c : Setting) (n : Held) (f : Finding) → refuses (seek_coupled e c n f) ≡ false
 seek_coupled_no e c n (Lacks keys) = refl
 seek_coupled_no e c n (Has slot Empty) = refl
-seek_coupled_no e c n (Has slot (Leaf key value)) = either (key == key_of c.call) _ _ (overwrite_no n slot value (overwriting c.call value)) refl
+seek_coupled_no e c n (Has slot (Leaf key value)) =
+    either (key == key_of c.call) _ _ (overwrite_no n slot value (overwriting c.call value)) refl
 seek_coupled_no e c n (Has slot (ChildRow base kind)) = either e _ _ refl refl
 
 insert_coupled_no : (c : Setting) (n : Held) (f : Finding) → refuses (insert_coupled c n f) ≡ false
@@ -210,7 +218,8 @@ let_go_no c n (Some above) slot f = refl
 
 place_coupled_no : (c : Setting) (p : Position) (f : Finding) → refuses (place_coupled c p f) ≡ false
 place_coupled_no c p (Has slot child) = let_go_no c p.row p.above p.slot (Has slot child)
-place_coupled_no c p (Lacks keys) = either (is_full (row_at p.row) (count_in p.row.kind keys)) _ _ refl (let_go_no c p.row p.above p.slot (Lacks keys))
+place_coupled_no c p (Lacks keys) = either (is_full (row_at p.row) (count_in p.row.kind keys)) _ _ refl (let_go_no c p.row p.above
+    p.slot (Lacks keys))
 
 overwrite_unlocked_no : (c : Setting) (n : Held) (slot value : ℕ) (o : Option ℕ) → refuses (overwrite_unlocked c n slot value o) ≡ false
 overwrite_unlocked_no c n slot value None = refl
@@ -219,10 +228,12 @@ overwrite_unlocked_no c n slot value (Some word) = take_no c _
 seek_unlocked_no : (c : Setting) (n : Held) (f : Finding) → refuses (seek_unlocked c n f) ≡ false
 seek_unlocked_no c n (Lacks keys) = refl
 seek_unlocked_no c n (Has slot Empty) = refl
-seek_unlocked_no c n (Has slot (Leaf key value)) = either (key == key_of c.call) _ _ (overwrite_unlocked_no c n slot value (overwriting c.call value)) refl
+seek_unlocked_no c n (Has slot (Leaf key value)) =
+    either (key == key_of c.call) _ _ (overwrite_unlocked_no c n slot value (overwriting c.call value)) refl
 seek_unlocked_no c n (Has slot (ChildRow base kind)) = refl
 
-grow_unlocked_no : (c : Setting) (n : Held) (above : Option Held) (slot : ℕ) (keys : Keys) → refuses (grow_unlocked c n above slot keys) ≡ false
+grow_unlocked_no : (c : Setting) (n : Held) (above : Option Held) (slot : ℕ) (keys : Keys)
+    → refuses (grow_unlocked c n above slot keys) ≡ false
 grow_unlocked_no c n None slot keys = take_no c _
 grow_unlocked_no c n (Some above) slot keys = take_no c _
 
@@ -231,7 +242,8 @@ insert_unlocked_no c p (Lacks keys) =
     either (is_full (row_at p.row) (count_in p.row.kind keys)) _ _ (grow_unlocked_no c p.row p.above p.slot keys) (take_no c _)
 insert_unlocked_no c p (Has slot Empty) = take_no c _
 insert_unlocked_no c p (Has slot (Leaf key value)) =
-    either (key == key_of c.call) _ _ (take_no c _) (either (nat_le (keys_differ_at key (key_of c.call)) (row_at p.row).level) _ _ refl (take_no c _))
+    either (key == key_of c.call) _ _ (take_no c _)
+        (either (nat_le (keys_differ_at key (key_of c.call)) (row_at p.row).level) _ _ refl (take_no c _))
 insert_unlocked_no c p (Has slot (ChildRow base kind)) = refl
 
 found_no : (l i e : Bool) (c : Setting) (p : Position) (f : Finding) → refuses (found_at l i e c p f) ≡ false
@@ -249,7 +261,8 @@ among_no l i e c p keys None = checked_no l i e c p (Lacks keys)
 among_no l i e c p keys (Some place) = refl
 
 indexed_no : (l i e : Bool) (c : Setting) (p : Position) (index entry : ℕ) → refuses (indexed_at l i e c p index entry) ≡ false
-indexed_no l i e c p index entry = either (entry == 0) _ _ (either (is_insert c.call) _ _ refl (checked_no l i e c p (Lacks (keys_one index)))) refl
+indexed_no l i e c p index entry = either (entry == 0) _ _ (either (is_insert c.call) _ _ refl
+    (checked_no l i e c p (Lacks (keys_one index)))) refl
 
 find_no : (l i e : Bool) (kind : Kind) (c : Setting) (p : Position) (w : ℕ) → refuses (find_at l i e kind c p w) ≡ false
 find_no l i e Four c p w = among_no l i e c p _ _
@@ -318,7 +331,8 @@ keys_no g j (suc n) = refl
 -- A call comes to a stage that refuses from another one, or from a claim at or past the capacity.
 
 abbrev pub Came : Setting → Stage → ℕ → Type 0
-Came c stage w = (refuses stage ≡ true) ⊎ ((kind : Kind) × (turn_at c stage ≡ Asks (Add (claims_of kind)) None) × (rows_of c.shape kind ≤ w))
+Came c stage w = (refuses stage ≡ true) ⊎ ((kind : Kind) × (turn_at c stage ≡ Asks (Add (claims_of kind)) None)
+    × (rows_of c.shape kind ≤ w))
 
 -- the stages from which it may
 abbrev may_refuse : Stage → Bool
@@ -402,7 +416,8 @@ module _ (c : Setting) (w : ℕ) where
   came l i e (Take t) h = not_there l i e (Take t) refl h
   came l i e (Write k slot word value) h = not_there l i e (Write k slot word value) refl h
   came l i e (ClaimPair k p) h =
-      from_claim (ClaimPair k p) (StorePair k p (base_of c.shape Four w) pair_word.Info) k Four (nat_lt w (rows_of c.shape Four)) refl refl refl h
+      from_claim (ClaimPair k p) (StorePair k p (base_of c.shape Four w) pair_word.Info) k Four
+          (nat_lt w (rows_of c.shape Four)) refl refl refl h
   came l i e (StorePair k p base word) h = not_there l i e (StorePair k p base word) refl h
   came l i e (PutLoad k keys left) h = not_there l i e (PutLoad k keys left) refl h
   came l i e (PutStore k keys left word) h = not_there l i e (PutStore k keys left word) refl h
@@ -411,7 +426,8 @@ module _ (c : Setting) (w : ℕ) where
   came l i e (PutMore k keys) h = not_there l i e (PutMore k keys) refl h
   came l i e (PutCount k keys) h = not_there l i e (PutCount k keys) refl h
   came l i e (ClaimGrow k slot keys) h =
-      from_claim (ClaimGrow k slot keys) (GrowInfo (record { hold = k; slot = slot; keys = keys; base = base_of c.shape (next_kind k.row.kind) w })) k
+      from_claim (ClaimGrow k slot keys) (GrowInfo (record { hold = k; slot = slot; keys = keys; base = base_of c.shape
+          (next_kind k.row.kind) w })) k
       (next_kind k.row.kind) (nat_lt w (rows_of c.shape (next_kind k.row.kind))) refl refl refl h
   came l i e (GrowInfo g) h = not_there l i e (GrowInfo g) refl h
   came l i e (GrowLoad g place left) h = not_there l i e (GrowLoad g place left) refl h

@@ -1,5 +1,6 @@
 -- The places of bytes in a word.
-use Rattle.std.proofs.Common.{◌≡◌, ℕ, zero, suc, ◌+◌, ◌-◌, ◌/◌, ◌%◌, List, [], ◌∷◌, ◌++◌, length, take, ◌≤◌, refl, ap, ◌∙◌, Bool, true, false, arith}
+use Rattle.std.proofs.Common.{◌≡◌, ℕ, zero, suc, ◌+◌, ◌-◌, ◌/◌, ◌%◌, List, [], ◌∷◌, ◌++◌, length, take, ◌≤◌, refl, ap, ◌∙◌, Bool, true}
+use Rattle.std.proofs.Common.{false, arith}
 use Rattle.std.specs.Prelude.{◌==◌, nat_le, if◌then◌else◌, Option, Some, None, option_map}
 use Rattle.art_rows.specs.Words.{low_bytes, place_of, count_of, keys16_of}
 
@@ -14,7 +15,8 @@ place_first x (suc n) w h e = ap (λ b. if b then Some 0 else option_map (λ i. 
 less : (n m : ℕ) → suc n - 1 ≡ m → n ≡ m
 less n m e = omega (arith, e)
 
-pub place_none : (x n w : ℕ) → (n ≡ 0 → ⊥) → (w % 256 == x) ≡ false → place_of x (low_bytes (n - 1) (w / 256)) ≡ None → place_of x (low_bytes n w) ≡ None
+pub place_none : (x n w : ℕ) → (n ≡ 0 → ⊥) → (w % 256 == x) ≡ false → place_of x (low_bytes (n - 1) (w / 256)) ≡ None
+    → place_of x (low_bytes n w) ≡ None
 place_none x zero w h e p = absurd (h refl)
 place_none x (suc n) w h e p =
     ap (λ b. if b then Some 0 else option_map (λ i. i + 1) (place_of x (low_bytes n (w / 256)))) e
@@ -48,7 +50,8 @@ place_append x (y ∷ ys) zs = go (y == x) (place_append x ys zs)
     moved None (Some i) n = ap Some (omega arith)
 
     go : (b : Bool) → place_of x (ys ++ zs) ≡ joined (place_of x ys) (place_of x zs) (length ys)
-        → (if b then Some 0 else option_map (λ i. i + 1) (place_of x (ys ++ zs))) ≡ joined (if b then Some 0 else option_map (λ i. i + 1) (place_of x ys))
+        → (if b then Some 0 else option_map (λ i. i + 1) (place_of x (ys ++ zs))) ≡ joined
+            (if b then Some 0 else option_map (λ i. i + 1) (place_of x ys))
         (place_of x zs) (suc (length ys))
     go true e = refl
     go false e = ap (λ o. option_map (λ i. i + 1) o) e ∙ moved (place_of x ys) (place_of x zs) (length ys)
@@ -75,7 +78,8 @@ take_bytes (suc (suc (suc (suc (suc (suc (suc (suc (suc (suc (suc (suc (suc zero
 take_bytes (suc (suc (suc (suc (suc (suc (suc (suc (suc (suc (suc (suc (suc (suc zero)))))))))))))) a b h = refl
 take_bytes (suc (suc (suc (suc (suc (suc (suc (suc (suc (suc (suc (suc (suc (suc (suc zero))))))))))))))) a b h = refl
 take_bytes (suc (suc (suc (suc (suc (suc (suc (suc (suc (suc (suc (suc (suc (suc (suc (suc zero)))))))))))))))) a b h = refl
-take_bytes (suc (suc (suc (suc (suc (suc (suc (suc (suc (suc (suc (suc (suc (suc (suc (suc (suc n))))))))))))))))) a b h = absurd (omega (arith, h))
+take_bytes (suc (suc (suc (suc (suc (suc (suc (suc (suc (suc (suc (suc (suc (suc (suc (suc (suc n))))))))))))))))) a b h =
+    absurd (omega (arith, h))
 
 -- the keys of a row of kind 16, by their count
 pub most_of : (count : ℕ) → count_of 16 count ≤ 16

@@ -1,12 +1,14 @@
 -- Words with a byte put in.
-use Rattle.std.proofs.Common.{◌≡◌, ℕ, zero, suc, ◌+◌, ◌-◌, ◌*◌, ◌/◌, ◌%◌, ◌^◌, ◌<◌, ◌≤◌, List, [], ◌∷◌, ◌++◌, length, take, drop, map, set, refl, ap, sym}
+use Rattle.std.proofs.Common.{◌≡◌, ℕ, zero, suc, ◌+◌, ◌-◌, ◌*◌, ◌/◌, ◌%◌, ◌^◌, ◌<◌, ◌≤◌, List, [], ◌∷◌, ◌++◌, length, take, drop, map, set}
+use Rattle.std.proofs.Common.{refl, ap, sym}
 use Rattle.std.proofs.Common.{subst, ◌∙◌, ⊎_elim, Bool, true, false, arith}
 use Rattle.std.specs.Prelude.{min, nat_le, nat_lt, if◌then◌else◌}
 use Rattle.std.proofs.Math.Nat.{pow-suc, pow-le-pow_right}
 use Rattle.std.proofs.lemmas.Nat.{div_below}
 use Rattle.std.proofs.lemmas.Bool.{cases_lt}
 use Rattle.std.proofs.lemmas.List.{append-nil, length-take}
-use Rattle.art_rows.specs.Words.{packed, low_bytes, new_place, with_key, count_of, entry_of, keys4_of, keys16_of, keys4_word, keys16_word, more_keys16_word}
+use Rattle.art_rows.specs.Words.{packed, low_bytes, new_place, with_key, count_of, entry_of, keys4_of, keys16_of, keys4_word, keys16_word}
+use Rattle.art_rows.specs.Words.{more_keys16_word}
 use Rattle.art_rows.proofs.ReaderLemmas.{bytes_of, take_bytes, most_of}
 
 -- One byte more.
@@ -72,7 +74,8 @@ less a b h = grind arith
 not_less : (a b : ℕ) → b ≤ a → nat_lt a b ≡ false
 not_less a b h = grind arith
 
-pub less_more : (x n w r : ℕ) → (n ≡ 0 → ⊥) → w % 256 < x → r ≡ new_place x (low_bytes (n - 1) (w / 256)) → r + 1 ≡ new_place x (low_bytes n w)
+pub less_more : (x n w r : ℕ) → (n ≡ 0 → ⊥) → w % 256 < x → r ≡ new_place x (low_bytes (n - 1) (w / 256))
+    → r + 1 ≡ new_place x (low_bytes n w)
 less_more x n w r some h e = sym (new_place_more x n w r true some (less (w % 256) x h) e ∙ omega arith)
 
 pub less_same : (x n w r : ℕ) → (n ≡ 0 → ⊥) → x ≤ w % 256 → r ≡ new_place x (low_bytes (n - 1) (w / 256)) → r ≡ new_place x (low_bytes n w)
@@ -83,7 +86,8 @@ new_place-append x [] zs = omega arith
 new_place-append x (y ∷ ys) zs = go (nat_lt y x) (new_place-append x ys zs)
   where
     go : (b : Bool) → new_place x (ys ++ zs) ≡ new_place x ys + new_place x zs
-        → (if b then suc (new_place x (ys ++ zs)) else new_place x (ys ++ zs)) ≡ (if b then suc (new_place x ys) else new_place x ys) + new_place x zs
+        → (if b then suc (new_place x (ys ++ zs)) else new_place x (ys ++ zs)) ≡ (if b then suc (new_place x ys) else new_place x
+            ys) + new_place x zs
     go true e = omega (arith, e)
     go false e = e
 
@@ -115,7 +119,8 @@ put_later x n w zero r some many e = absurd (some refl)
 put_later x zero w (suc p) r some many e = absurd (many refl)
 put_later x (suc n) w (suc p) r some many e =
     ap (λ r. w % 256 + 256 * r)
-    (e ∙ (ap (λ k. packed (put_in x k (low_bytes (suc n - 1) (w / 256)))) (less_one p) ∙ ap (λ k. packed (put_in x p (low_bytes k (w / 256)))) (less_one n)))
+    (e ∙ (ap (λ k. packed (put_in x k (low_bytes (suc n - 1) (w / 256)))) (less_one p)
+        ∙ ap (λ k. packed (put_in x p (low_bytes k (w / 256)))) (less_one n)))
 
 -- Kind 4.
 
@@ -274,16 +279,19 @@ place4 x w n r e h = h ∙ ap (new_place x) (sym (keys4_from w n e))
 pub bytes4_with : (x w n p r : ℕ) → n ≡ length (keys4_of w) → p ≡ new_place x (keys4_of w) → r ≡ packed (put_in x p (low_bytes n (w / 256)))
     → r ≡ packed (with_key x (keys4_of w))
 bytes4_with x w n p r e at h =
-    h ∙ (ap (λ q. packed (put_in x q (low_bytes n (w / 256)))) at ∙ ap (λ ys. packed (put_in x (new_place x (keys4_of w)) ys)) (sym (keys4_from w n e)))
+    h ∙ (ap (λ q. packed (put_in x q (low_bytes n (w / 256)))) at
+        ∙ ap (λ ys. packed (put_in x (new_place x (keys4_of w)) ys)) (sym (keys4_from w n e)))
 
 pub power_most : (n r : ℕ) → n ≤ 4 → r < 256 ^ (n + 1) → r < 256 ^ 5
 power_most n r few h = let most : 256 ^ (n + 1) ≤ 256 ^ 5 =
     pow-le-pow_right {n = 256} (omega arith) {i = n + 1} {j = 5} (omega (arith, few)) in omega (arith, most, h)
 
-pub word4_with : (x w n r : ℕ) → n ≡ length (keys4_of w) → r ≡ packed (with_key x (keys4_of w)) → n + 1 + 256 * r ≡ keys4_word (with_key x (keys4_of w))
+pub word4_with : (x w n r : ℕ) → n ≡ length (keys4_of w) → r ≡ packed (with_key x (keys4_of w))
+    → n + 1 + 256 * r ≡ keys4_word (with_key x (keys4_of w))
 word4_with x w n r e h =
     ap (λ r. n + 1 + 256 * r) h
-    ∙ ap (λ k. k + 256 * packed (with_key x (keys4_of w))) (ap (λ k. k + 1) e ∙ sym (length-put_in x (new_place x (keys4_of w)) (keys4_of w)))
+    ∙ ap (λ k. k + 256 * packed (with_key x (keys4_of w)))
+        (ap (λ k. k + 1) e ∙ sym (length-put_in x (new_place x (keys4_of w)) (keys4_of w)))
 
 pub place16_few : (x count first second n r : ℕ) → n ≡ count_of 16 count → n ≤ 8 → r ≡ new_place x (low_bytes n first)
     → r ≡ new_place x (keys16_of count first second)
@@ -303,7 +311,8 @@ with16 x p keys ys e at = ap (λ q. put_in x q keys) (sym at) ∙ ap (put_in x p
 
 module _ (x count first second n p r : ℕ) (e : n ≡ count_of 16 count) (at : p ≡ new_place x (keys16_of count first second)) where
   few_with : n < 8 → with_key x (keys16_of count first second) ≡ put_in x p (low_bytes n first)
-  few_with h = with16 x p (keys16_of count first second) (low_bytes n first) (keys16_as count first second n e ∙ few_bytes n first second (omega (arith, h))) at
+  few_with h = with16 x p (keys16_of count first second) (low_bytes n first) (keys16_as count first second n e ∙ few_bytes n first second
+      (omega (arith, h))) at
 
   many_with : 8 ≤ n → with_key x (keys16_of count first second) ≡ put_in x p (low_bytes 8 first ++ low_bytes (n - 8) second)
   many_with h =
@@ -346,7 +355,8 @@ module _ (x count first second n p r : ℕ) (e : n ≡ count_of 16 count) (at : 
 
   pub second_kept : 8 ≤ n → 16 ≤ p → second < 2 ^ 64 → second ≡ more_keys16_word (with_key x (keys16_of count first second))
   second_kept h behind fits =
-      sym (ap (λ ys. packed (take 8 ys)) (ap (drop 8) (many_with h) ∙ second_more x p first (low_bytes (n - 8) second) (omega (arith, behind)))
+      sym (ap (λ ys. packed (take 8 ys)) (ap (drop 8) (many_with h) ∙ second_more x p first (low_bytes (n - 8) second)
+          (omega (arith, behind)))
       ∙ (ap (λ k. packed (take 8 (put_in x (p - 8) (low_bytes k second)))) eight
       ∙ (ap (λ k. packed (take 8 (put_in x k (low_bytes 8 second)))) last ∙ packed-low_bytes 8 second fits)))
     where
@@ -365,7 +375,8 @@ entries_none (suc n) w e = absurd (omega (arith, e))
 pub entries_more : (n w r : ℕ) → (n ≡ 0 → ⊥) → r ≡ packed (map entry_of (low_bytes (n - 1) (w / 256)))
     → entry_of (w % 256) + 256 * r ≡ packed (map entry_of (low_bytes n w))
 entries_more zero w r some e = absurd (some refl)
-entries_more (suc n) w r some e = ap (λ r. entry_of (w % 256) + 256 * r) (e ∙ ap (λ k. packed (map entry_of (low_bytes k (w / 256)))) (less_one n))
+entries_more (suc n) w r some e = ap (λ r. entry_of (w % 256) + 256 * r)
+    (e ∙ ap (λ k. packed (map entry_of (low_bytes k (w / 256)))) (less_one n))
 
 pub set_none : (n w p e : ℕ) → n ≡ 0 → packed (set (map entry_of (low_bytes n w)) p e) ≡ 0
 set_none zero w zero e h = refl

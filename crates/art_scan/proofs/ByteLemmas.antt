@@ -25,7 +25,8 @@ numbers_split x (suc n) m =
     ap (numbers x) (suc_left n m)
     ∙ ap (λ ys. x ∷ ys) (numbers_split (x + 1) n m ∙ ap (λ y. numbers (x + 1) n ++ numbers y m) (suc_right x n))
 
-none_in : (j : ℕ) (p : ℕ → Bool) (x n : ℕ) → ((y : ℕ) → x ≤ y → y < x + n → in_word j y ≡ false) → filter (in_word j) (filter p (numbers x n)) ≡ []
+none_in : (j : ℕ) (p : ℕ → Bool) (x n : ℕ) → ((y : ℕ) → x ≤ y → y < x + n → in_word j y ≡ false)
+    → filter (in_word j) (filter p (numbers x n)) ≡ []
 none_in j p x zero h = refl
 none_in j p x (suc n) h = go (p x) (none_in j p (x + 1) n (λ y a b. h y (omega (arith, a)) (omega (arith, b))))
   where
@@ -70,14 +71,16 @@ word_split j k r p e =
     ∙ (ap (λ x. chosen j p (numbers 0 (8 * j) ++ numbers x (k + r))) (zero_left (8 * j))
     ∙ (ap (λ ys. chosen j p (numbers 0 (8 * j) ++ ys)) (numbers_split (8 * j) k r)
     ∙ (chosen_append j p (numbers 0 (8 * j)) (numbers (8 * j) k ++ numbers (8 * j + k) r)
-    ∙ (ap (λ ys. ys ++ chosen j p (numbers (8 * j) k ++ numbers (8 * j + k) r)) (none_in j p 0 (8 * j) (λ y a b. before j y (omega (arith, b))))
+    ∙ (ap (λ ys. ys ++ chosen j p (numbers (8 * j) k ++ numbers (8 * j + k) r))
+        (none_in j p 0 (8 * j) (λ y a b. before j y (omega (arith, b))))
     ∙ (chosen_append j p (numbers (8 * j) k) (numbers (8 * j + k) r)
     ∙ (ap (λ ys. ys ++ chosen j p (numbers (8 * j + k) r)) (all_in j p (8 * j) k (λ y a b. within j y a (omega (arith, b, e))))
     ∙ (ap (λ ys. filter p (numbers (8 * j) k) ++ ys) (none_in j p (8 * j + k) r (λ y a b. behind j y (omega (arith, a, e))))
     ∙ append-nil (filter p (numbers (8 * j) k)))))))))
 
 -- the bytes of an index word are eight
-pub word_bytes : (j n k : ℕ) (p : ℕ → Bool) → j ≤ 31 → n ≡ 256 → k ≡ 8 → filter (in_word j) (filter p (numbers 0 n)) ≡ filter p (numbers (8 * j) k)
+pub word_bytes : (j n k : ℕ) (p : ℕ → Bool) → j ≤ 31 → n ≡ 256 → k ≡ 8
+    → filter (in_word j) (filter p (numbers 0 n)) ≡ filter p (numbers (8 * j) k)
 word_bytes j n k p h e f = ap (λ m. filter (in_word j) (filter p (numbers 0 m))) (omega (arith, h, e, f)) ∙ word_split j k (248 - 8 * j) p f
 
 -- bytes that are not walked are passed over

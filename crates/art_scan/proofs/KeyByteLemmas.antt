@@ -21,7 +21,8 @@ keys4_bytes w = go (nat_le (w % 256) 4) ∙ ap (λ n. low_bytes n (w / 256)) (sy
     go true = refl
     go false = refl
 
-pub bare_slot : (kind : Kind) (f : Frame) (y : ℕ) → has_keys kind ≡ true → place_of y (keys_among kind f.keys) ≡ None → frame_slot kind f y ≡ None
+pub bare_slot : (kind : Kind) (f : Frame) (y : ℕ) → has_keys kind ≡ true → place_of y (keys_among kind f.keys) ≡ None
+    → frame_slot kind f y ≡ None
 bare_slot Four f y h e = ap (place_slot f.row.kind f.row.base) e
 bare_slot Sixteen f y h e = ap (place_slot f.row.kind f.row.base) e
 bare_slot FortyEight f y h e = absurd (false≢true h)

@@ -18,7 +18,8 @@ less_one n = omega arith
 
 -- index words
 
-list_some : (n : Held) (w : Walk) (j m : ℕ) (xs : List ℕ) (other : ScanAt) → has_any xs ≡ true → index_at_list n w j m xs other ≡ at (Index n j m) w
+list_some : (n : Held) (w : Walk) (j m : ℕ) (xs : List ℕ) (other : ScanAt) → has_any xs ≡ true
+    → index_at_list n w j m xs other ≡ at (Index n j m) w
 list_some n w j m [] other h = absurd (false≢true h)
 list_some n w j m (x ∷ xs) other h = refl
 
@@ -34,7 +35,8 @@ words_some low high n w j (suc m) other some h =
     ∙ ap (λ k. at (Index n j k) w) (sym (less_one m))
 
 pub words_skip : (low high : ℕ) (n : Held) (w : Walk) (j m : ℕ) (other : ScanAt) → (m ≡ 0 → ⊥)
-    → has_any (filter (in_word j) (bytes_of low high (row_at n))) ≡ false → words_at low high n w j m other ≡ words_at low high n w (j + 1) (m - 1) other
+    → has_any (filter (in_word j) (bytes_of low high (row_at n))) ≡ false
+    → words_at low high n w j m other ≡ words_at low high n w (j + 1) (m - 1) other
 words_skip low high n w j zero other some h = absurd (some refl)
 words_skip low high n w j (suc m) other some h =
     list_none n w j m (filter (in_word j) (bytes_of low high (row_at n))) (words_at low high n w (j + 1) m other) h
@@ -49,7 +51,8 @@ module _ (test : ℕ → Bool) (slot_of : ℕ → Option ℕ) (child : ℕ → �
   bytes_found x (suc n) slot other some t e =
       ap (λ b. if b then slot_at (slot_of x) (child (x + 1) n) (bytes_at test slot_of child (x + 1) n other)
       else bytes_at test slot_of child (x + 1) n other) t
-      ∙ (ap (λ o. slot_at o (child (x + 1) n) (bytes_at test slot_of child (x + 1) n other)) e ∙ ap (λ k. child (x + 1) k slot) (sym (less_one n)))
+      ∙ (ap (λ o. slot_at o (child (x + 1) n) (bytes_at test slot_of child (x + 1) n other)) e
+      ∙ ap (λ k. child (x + 1) k slot) (sym (less_one n)))
 
   pub bytes_empty : (x n : ℕ) (other : ScanAt) → (n ≡ 0 → ⊥) → test x ≡ true → slot_of x ≡ None
       → bytes_at test slot_of child x n other ≡ bytes_at test slot_of child (x + 1) (n - 1) other
@@ -82,14 +85,16 @@ frame_bytes Sixteen low high w f other = refl
 frame_bytes FortyEight low high w f other = refl
 frame_bytes Full low high w f other = refl
 
-pub behind_none : (kind : Kind) (low high : ℕ) (w : Walk) (f : Frame) (other : ScanAt) → (kind ≡ FortyEight → ⊥) → behind_bytes kind low high w f other ≡ other
+pub behind_none : (kind : Kind) (low high : ℕ) (w : Walk) (f : Frame) (other : ScanAt) → (kind ≡ FortyEight → ⊥)
+    → behind_bytes kind low high w f other ≡ other
 behind_none Four low high w f other h = refl
 behind_none Sixteen low high w f other h = refl
 behind_none FortyEight low high w f other h = absurd (h refl)
 behind_none Full low high w f other h = refl
 
 -- bytes without a slot are passed over, whether they are walked or not
-pub bytes_bare : (test : ℕ → Bool) (slot_of : ℕ → Option ℕ) (child : ℕ → ℕ → ℕ → ScanAt) (x n : ℕ) (other : ScanAt) → (n ≡ 0 → ⊥) → slot_of x ≡ None
+pub bytes_bare : (test : ℕ → Bool) (slot_of : ℕ → Option ℕ) (child : ℕ → ℕ → ℕ → ScanAt) (x n : ℕ) (other : ScanAt) → (n ≡ 0 → ⊥)
+    → slot_of x ≡ None
     → bytes_at test slot_of child x n other ≡ bytes_at test slot_of child (x + 1) (n - 1) other
 bytes_bare test slot_of child x n other some e = go (test x) refl
   where
@@ -101,9 +106,11 @@ bytes_bare test slot_of child x n other some e = go (test x) refl
 pub frame_from : (kind : Kind) (low high : ℕ) (w : Walk) (f : Frame) (d : ℕ) (other : ScanAt) → d ≤ f.left
     → ((y : ℕ) → f.byte ≤ y → y < f.byte + d → frame_test kind low high f y ≡ false)
     → frame_at kind low high w f other
-    ≡ bytes_at (frame_test kind low high f) (frame_slot kind f) (child_from w f) (f.byte + d) (f.left - d) (behind_bytes kind low high w f other)
+    ≡ bytes_at (frame_test kind low high f) (frame_slot kind f) (child_from w f) (f.byte + d) (f.left - d)
+        (behind_bytes kind low high w f other)
 frame_from kind low high w f d other most h =
     frame_bytes kind low high w f other
     ∙ (ap (λ n. bytes_at (frame_test kind low high f) (frame_slot kind f) (child_from w f) f.byte n (behind_bytes kind low high w f other))
     (omega (arith, most))
-    ∙ bytes_skip (frame_test kind low high f) (frame_slot kind f) (child_from w f) f.byte d (f.left - d) (behind_bytes kind low high w f other) h)
+    ∙ bytes_skip (frame_test kind low high f) (frame_slot kind f) (child_from w f) f.byte d (f.left - d)
+        (behind_bytes kind low high w f other) h)

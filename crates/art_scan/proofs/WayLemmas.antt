@@ -8,14 +8,16 @@ use Rattle.art_steps.specs.Steps.{reply_of}
 use Rattle.art_stages.specs.declared.stage.Held.{Held}
 use Rattle.art_stages.specs.declared.stage.Frame.{Frame}
 use Rattle.art_stages.specs.declared.stage.ScanStep.{ScanStep}
-use Rattle.art_stages.specs.declared.stage.ScanStep.TheVariants.{Lock, Exchange, Wait, Info, Keys, FirstKeys, SecondKeys, Index, Child, Release, Over}
+use Rattle.art_stages.specs.declared.stage.ScanStep.TheVariants.{Lock, Exchange, Wait, Info, Keys, FirstKeys, SecondKeys, Index, Child}
+use Rattle.art_stages.specs.declared.stage.ScanStep.TheVariants.{Release, Over}
 use Rattle.art_stages.specs.Automaton.{keys_one}
 use Rattle.art_stages.specs.Scans.{Walk, at, on_way, with_frame, frame_of, frame_at, way_at, scan_turn, resume_at, row_begins, visit_list}
 use Rattle.art_scan.specs.Sound.{is_over}
 use Rattle.art_scan.specs.Walks.{has_any}
 
 -- a way is gone on whatever way the walk has
-pub way_same : (c : Setting) (low high : ℕ) (w : Walk) (other fs : List Frame) → way_at c low high w fs ≡ way_at c low high (on_way w other) fs
+pub way_same : (c : Setting) (low high : ℕ) (w : Walk) (other fs : List Frame)
+    → way_at c low high w fs ≡ way_at c low high (on_way w other) fs
 way_same c low high w other [] = refl
 way_same c low high w other (f ∷ fs) = ap (frame_at f.row.kind low high (on_way w fs) f) (way_same c low high w other fs)
 
@@ -27,7 +29,8 @@ pub begins_full : (c : Setting) (low high : ℕ) (n : Held) (w : Walk) → n.kin
     → resume_at c low high (with_frame w (frame_of n (keys_one 0) 0 0)) ≡ row_begins n.kind c low high n w
 begins_full c low high n w e =
     resume_frame c low high w (frame_of n (keys_one 0) 0 0)
-    ∙ (ap (λ k. frame_at k low high w (frame_of n (keys_one 0) 0 0) (resume_at c low high w)) e ∙ sym (ap (λ k. row_begins k c low high n w) e))
+    ∙ (ap (λ k. frame_at k low high w (frame_of n (keys_one 0) 0 0) (resume_at c low high w)) e
+    ∙ sym (ap (λ k. row_begins k c low high n w) e))
 
 pub visit_some : (c : Setting) (low high : ℕ) (n : Held) (w : Walk) (xs : List ℕ) → has_any xs ≡ true
     → row_begins n.kind c low high n w ≡ visit_list c low high n w xs

@@ -35,12 +35,14 @@ counted Full keys h = absurd (false≢true h)
 
 pub entry_some : (ks : List ℕ) (x y i : ℕ) → Some i ≡ place_of y ks → i + 1 ≡ new_entry (ks ++ x ∷ []) y
 entry_some ks x y i e =
-    let at : place_of y (ks ++ x ∷ []) ≡ Some i = place_append y ks (x ∷ []) ∙ ap (λ o. joined o (place_of y (x ∷ [])) (length ks)) (sym e) in
+    let at : place_of y (ks ++ x ∷ []) ≡ Some i = place_append y ks (x ∷ [])
+        ∙ ap (λ o. joined o (place_of y (x ∷ [])) (length ks)) (sym e) in
     rw at refl
 
 pub entry_new : (ks : List ℕ) (x y : ℕ) → None ≡ place_of y ks → x ≡ y → length ks + 1 ≡ new_entry (ks ++ x ∷ []) y
 entry_new ks x y e h =
-    let at : place_of y (ks ++ x ∷ []) ≡ Some (0 + length ks) = place_append y ks (x ∷ []) ∙ (ap (λ o. joined o (place_of y (x ∷ [])) (length ks)) (sym e)
+    let at : place_of y (ks ++ x ∷ []) ≡ Some (0 + length ks) = place_append y ks (x ∷ [])
+        ∙ (ap (λ o. joined o (place_of y (x ∷ [])) (length ks)) (sym e)
     ∙ ap (λ b. option_map (λ i. i + length ks) (if b then Some 0 else None)) (eq-eqb x y h)) in
     rw at (omega arith)
 

@@ -10,7 +10,8 @@ use Rattle.art_stages.specs.declared.stage.Work.TheVariants as work
 use Rattle.art_stages.specs.declared.stage.Target.{Target}
 use Rattle.art_stages.specs.declared.stage.Target.TheVariants.{Taken}
 use Rattle.art_stages.specs.declared.stage.Stage.{Stage}
-use Rattle.art_stages.specs.declared.stage.Stage.TheVariants.{Lock, Exchange, Wait, Check, LetGo, Take, ClaimPair, StorePair, PutLoad, PutStore, PutMore}
+use Rattle.art_stages.specs.declared.stage.Stage.TheVariants.{Lock, Exchange, Wait, Check, LetGo, Take, ClaimPair, StorePair, PutLoad}
+use Rattle.art_stages.specs.declared.stage.Stage.TheVariants.{PutStore, PutMore}
 use Rattle.art_stages.specs.declared.stage.Stage.TheVariants.{GrowLoad, GrowStore, SpreadIndex, SpreadLoad, SpreadStore, GrowKeys}
 
 -- the kinds whose children are found by key bytes

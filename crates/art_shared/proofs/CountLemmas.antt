@@ -29,4 +29,5 @@ module _ (f : Noted → ℕ) where
       let is : f x ≡ f v = ap f (some-injective x v e) in let r = sum-one xs j w d in let all = sum_by-cons f x xs in omega arith
   sum-two (x ∷ xs) (suc i) zero v w n e d =
       let is : f x ≡ f w = ap f (some-injective x w d) in let r = sum-one xs i v e in let all = sum_by-cons f x xs in omega arith
-  sum-two (x ∷ xs) (suc i) (suc j) v w n e d = let r = sum-two xs i j v w (λ h. n (ap suc h)) e d in let all = sum_by-cons f x xs in omega arith
+  sum-two (x ∷ xs) (suc i) (suc j) v w n e d = let r = sum-two xs i j v w (λ h. n (ap suc h)) e d in let all =
+      sum_by-cons f x xs in omega arith

@@ -1,5 +1,6 @@
 -- The beginning, and the end.
-use Rattle.std.proofs.Common.{◌≡◌, ℕ, zero, suc, ◌+◌, ◌-◌, ◌<◌, ◌≤◌, ◌⊎◌, inl, inr, ⊎_elim, List, [], ◌∷◌, length, map, get_or, set, sym, refl, ap, subst, ◌∙◌, arith, replicate}
+use Rattle.std.proofs.Common.{◌≡◌, ℕ, zero, suc, ◌+◌, ◌-◌, ◌<◌, ◌≤◌, ◌⊎◌, inl, inr, ⊎_elim, List, [], ◌∷◌, length, map, get_or, set, sym}
+use Rattle.std.proofs.Common.{refl, ap, subst, ◌∙◌, arith, replicate}
 use mathlib.Core.Option.{some-ne-none}
 use Rattle.std.specs.Prelude.{Some, slice_get}
 use Rattle.std.specs.List.{range_with_len}
@@ -50,7 +51,8 @@ idle-once : (p a n : ℕ) → a ≤ p → p < a + n → times p (idle_from a n) 
 idle-once p a zero low high = absurd (omega arith)
 idle-once p a (suc n) low high = ⊎_elim
     (λ e. let x = times-hit p (a, idle) (idle_from (a + 1) n) e in let y = idle-absent p (a + 1) n (omega arith) in omega arith)
-    (λ lt. let x = times-miss p (a, idle) (idle_from (a + 1) n) (λ e. omega arith) in let y = idle-once p (a + 1) n (omega arith) (omega arith) in omega arith) (first (cases_lt a p))
+    (λ lt. let x = times-miss p (a, idle) (idle_from (a + 1) n) (λ e. omega arith) in let y =
+        idle-once p (a + 1) n (omega arith) (omega arith) in omega arith) (first (cases_lt a p))
   where
     first : (a < p) ⊎ (p ≤ a) → (p ≡ a) ⊎ (a < p)
     first (inl lt) = inr lt
@@ -80,7 +82,8 @@ opens setup = (
         (ap (λ z. z.view.setup) (sym t), get-replicate setup.processes p (omega arith) ∙ ap Some (sym r.2)))
         (at_snoc [] (first_view setup) u j e);
     once = λ p lt. let one = idle-once p 0 setup.processes (omega arith) (omega arith) in omega arith;
-    rising = λ j u e. ⊎_elim (λ t. absurd (some-ne-none u (sym t))) (λ t. subst (λ z. Rises z.view.processes) t (idle-rises 0 setup.processes))
+    rising = λ j u e. ⊎_elim (λ t. absurd (some-ne-none u (sym t)))
+        (λ t. subst (λ z. Rises z.view.processes) t (idle-rises 0 setup.processes))
         (at_snoc [] (first_view setup) u j e);
   },
 )
@@ -89,16 +92,19 @@ opens setup = (
 
 above-has : (b : ℕ) (l : List Numbered) (p : ℕ) (q : Process) → Above b l → Has (p, q) l → b < p
 above-has b [] p q h t = absurd t
-above-has b (x ∷ xs) p q h t = ⊎_elim (λ e. let is : p ≡ x.0 = ap (λ (y : Numbered). y.0) e in let lt = h.0 in omega arith) (λ u. above-has b xs p q h.1 u) t
+above-has b (x ∷ xs) p q h t = ⊎_elim (λ e. let is : p ≡ x.0 = ap (λ (y : Numbered). y.0) e in let lt = h.0 in omega arith)
+    (λ u. above-has b xs p q h.1 u) t
 
 -- numbers that rise from low on and stay below high are no more than there are between
-room : (l : List Numbered) (low high : ℕ) → low ≤ high → Rises l → ((p : ℕ) (q : Process) → Has (p, q) l → (low ≤ p) × (p < high)) → length l + low ≤ high
+room : (l : List Numbered) (low high : ℕ) → low ≤ high → Rises l → ((p : ℕ) (q : Process) → Has (p, q) l → (low ≤ p) × (p < high))
+    → length l + low ≤ high
 room [] low high le h within = omega arith
 room (x ∷ xs) low high le h within =
     let here = within x.0 x.1 (inl refl) in
     let bottom = here.0 in
     let top = here.1 in
-    let rest = room xs (x.0 + 1) high (omega arith) h.1 (λ p q t. let lt = above-has x.0 xs p q h.0 t in (omega arith, (within p q (inr t)).1)) in
+    let rest = room xs (x.0 + 1) high (omega arith) h.1
+        (λ p q t. let lt = above-has x.0 xs p q h.0 t in (omega arith, (within p q (inr t)).1)) in
     omega arith
 
 collected : (i : ℕ) (l : List Numbered) (processes : List Process) → Rises l → length l ≡ length processes
@@ -111,7 +117,8 @@ collected i (x ∷ xs) (r ∷ ps) h long at =
     let low = here.0 in
     let within = slice_get_within (r ∷ ps) (x.0 - i) x.1 here.1 in
     let after : (p : ℕ) (q : Process) → Has (p, q) xs → (x.0 + 1 ≤ p) × (p < i + length (r ∷ ps)) =
-    λ p q t. let lt = above-has x.0 xs p q h.0 t in let inside = slice_get_within (r ∷ ps) (p - i) q (at p q (inr t)).1 in (omega arith, omega arith) in
+    λ p q t. let lt = above-has x.0 xs p q h.0 t in let inside =
+        slice_get_within (r ∷ ps) (p - i) q (at p q (inr t)).1 in (omega arith, omega arith) in
     let few = room xs (x.0 + 1) (i + length (r ∷ ps)) (omega arith) h.1 after in
     let is : x.0 ≡ i = omega arith in
     let none : x.0 - i ≡ 0 = omega arith in
@@ -134,12 +141,14 @@ numbered i (suc n) (x ∷ xs) h long within =
     λ p q t. let lt = above-has x.0 xs p q h.0 t in (omega arith, (within p q (inr t)).1) in
     let few = room xs (x.0 + 1) (i + suc n) (omega arith) h.1 after in
     let is : x.0 ≡ i = omega arith in
-    let rest = numbered (i + 1) n xs h.1 (omega arith) (λ p q t. let a = after p q t in let from = a.0 in let to = a.1 in (omega arith, omega arith)) in
+    let rest = numbered (i + 1) n xs h.1 (omega arith)
+        (λ p q t. let a = after p q t in let from = a.0 in let to = a.1 in (omega arith, omega arith)) in
     ap (λ z. z ∷ numbers_of xs) is ∙ ap (λ zs. i ∷ zs) rest
 
 module _ (setup : Setup) (limits : IsSetup setup) where
   -- what a schedule gives, where the processes are those of the view
-  pub ended : (id : ℕ) (v : Noted) (s : Table Call Noted) → length v.view.processes ≡ setup.processes → Seen (Kept setup) id v s → Ended setup v.view
+  pub ended : (id : ℕ) (v : Noted) (s : Table Call Noted) → length v.view.processes ≡ setup.processes → Seen (Kept setup) id v s
+      → Ended setup v.view
   ended id v s all seen =
       let r = seen.0.1 in
       let many = r.given.many in
@@ -149,10 +158,13 @@ module _ (setup : Setup) (limits : IsSetup setup) where
       (omega arith, ap (λ n. slice_get r.processes n) (sym same) ∙ (r.shows id v seen.1 p q t).1)) in
       let numbers = numbered 0 setup.processes v.view.processes (r.rising id v seen.1) all
       (λ p q t. let below = shown-below setup s.words s.views r id v seen.1 p q t in (omega arith, omega arith)) in
-      let its = owned (begun_plan setup.shape setup.variant r.processes) (given-plan setup limits s.words r.processes r.given) r.given.schedule
+      let its = owned (begun_plan setup.shape setup.variant r.processes)
+          (given-plan setup limits s.words r.processes r.given) r.given.schedule
       (record { words = s.words; processes = r.processes }) r.given.gives in
-      let plan = subst (λ l. IsPlan (begun_plan setup.shape setup.variant l)) (sym same) (given-plan setup limits s.words r.processes r.given) in
-      let gives = subst (λ l. Gives (begun_plan setup.shape setup.variant l) (opened (begun_plan setup.shape setup.variant l)) r.given.schedule
+      let plan = subst (λ l. IsPlan (begun_plan setup.shape setup.variant l)) (sym same)
+          (given-plan setup limits s.words r.processes r.given) in
+      let gives = subst (λ l. Gives (begun_plan setup.shape setup.variant l)
+          (opened (begun_plan setup.shape setup.variant l)) r.given.schedule
       (record { words = s.words; processes = l })) (sym same) r.given.gives in
       record {
         words = s.words;
@@ -164,7 +176,8 @@ module _ (setup : Setup) (limits : IsSetup setup) where
         own = own-events setup s.words v.view r.processes same many numbers (λ p q t. (r.shows id v seen.1 p q t).1) its;
         run = λ few. record {
           within = plan;
-          start_within = record { rising = AllPairs-nil (λ (a b : ℕ × ℕ). a.0 < b.0); calls = All-nil _; few = omega (arith, plan.few_calls) };
+          start_within = record { rising = AllPairs-nil (λ (a b : ℕ × ℕ). a.0 < b.0); calls = All-nil _; few = omega
+              (arith, plan.few_calls) };
           starts = no-start setup.shape setup.variant;
           gives = gives;
           few_steps = few;
@@ -172,7 +185,8 @@ module _ (setup : Setup) (limits : IsSetup setup) where
       }
 
   -- a look changes nothing, and shows what is so
-  pub look-allowed : (slots id : ℕ) (me : Seated) → me.0.view.setup ≡ setup → (st : Step Call) → Allows (Kept setup) slots id me 0 (λ n. n) (Looks st me)
+  pub look-allowed : (slots id : ℕ) (me : Seated) → me.0.view.setup ≡ setup → (st : Step Call)
+      → Allows (Kept setup) slots id me 0 (λ n. n) (Looks st me)
   look-allowed slots id me same st s r _ at _ =
       let still : set s.words 0 (get_or s.words 0 0) ≡ s.words = set-get_or s.words 0 0 in
       let here : length me.0.view.processes + 0 ≤ setup.processes =

@@ -50,7 +50,8 @@ few-begun setup p n (Makes a) q may few = few
 few-begun setup p n (Responds reply) q may few =
     let one = ap (λ l. length l) (begun-after p n (Responds reply) q) ∙ length-append (begun q) [] in omega arith
 
-calls-begun : (setup : Setup) (p n : ℕ) (m : Move) (q : Process) → MayBegin setup q m → AreTreeCalls (begun q) → AreTreeCalls (begun (after_move p m n q))
+calls-begun : (setup : Setup) (p n : ℕ) (m : Move) (q : Process) → MayBegin setup q m → AreTreeCalls (begun q)
+    → AreTreeCalls (begun (after_move p m n q))
 calls-begun setup p n m q may calls =
     subst AreTreeCalls (sym (begun-after p n m q)) (All-append (λ call. IsTrue (is_tree_call call)) (begun q) (begins m) calls (new m may))
   where
@@ -96,7 +97,8 @@ module _ (setup : Setup) where
   abbrev lengths : List Process → ℕ
   lengths processes = sum_by (λ q. length (begun q)) processes
 
-  few-in-all : (processes : List Process) → All (λ q. length (begun q) ≤ setup.calls_each) processes → lengths processes ≤ length processes * setup.calls_each
+  few-in-all : (processes : List Process) → All (λ q. length (begun q) ≤ setup.calls_each) processes
+      → lengths processes ≤ length processes * setup.calls_each
   few-in-all [] h = omega arith
   few-in-all (x ∷ xs) h =
       let first : length (begun x) ≤ setup.calls_each = h 0 x (omega arith) in
@@ -123,7 +125,8 @@ module _ (setup : Setup) where
         sum-lengths [] = refl
         sum-lengths (x ∷ xs) =
             let r = sum-lengths xs in
-            omega (arith, sum_by-cons (λ (script : List Call). length script) (begun x) (map begun xs), sum_by-cons (λ q. length (begun q)) x xs)
+            omega (arith, sum_by-cons (λ (script : List Call). length script) (begun x) (map begun xs), sum_by-cons
+                (λ q. length (begun q)) x xs)
 
         total-few : sum (map (λ script. length script) (map begun processes)) ≤ 4096
         total-few =
@@ -135,5 +138,7 @@ module _ (setup : Setup) where
     -- the clock is above all stamps
     pub given-clocked : IsClocked (record { words = words; processes = processes })
     given-clocked =
-        clocks-are-ahead (begun_plan setup.shape setup.variant processes) (opening setup.shape) g.schedule (record { words = words; processes = processes })
-        given-plan (opening-length setup.shape) (start-clock setup.shape setup.variant [] (opening setup.shape) (no-start setup.shape setup.variant)) g.gives
+        clocks-are-ahead (begun_plan setup.shape setup.variant processes) (opening setup.shape) g.schedule
+            (record { words = words; processes = processes })
+        given-plan (opening-length setup.shape)
+            (start-clock setup.shape setup.variant [] (opening setup.shape) (no-start setup.shape setup.variant)) g.gives

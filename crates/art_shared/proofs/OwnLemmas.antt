@@ -1,5 +1,6 @@
 -- In what a state logs, the events of each process are those of its log.
-use Rattle.std.proofs.Common.{◌≡◌, ℕ, zero, suc, ◌<◌, ◌==◌, true, false, cond, inl, inr, List, [], ◌∷◌, ◌++◌, length, map, sym, refl, ap, subst, ◌∙◌, arith}
+use Rattle.std.proofs.Common.{◌≡◌, ℕ, zero, suc, ◌<◌, ◌==◌, true, false, cond, inl, inr, List, [], ◌∷◌, ◌++◌, length, map, sym, refl, ap}
+use Rattle.std.proofs.Common.{subst, ◌∙◌, arith}
 use Rattle.std.proofs.Common.{eq-eqb, ne_eqb, replicate}
 use Rattle.std.specs.Prelude.{Option, Some, None, All, slice_get, slice_index, slice_set, flat_map}
 use Rattle.std.specs.List.{range_with_len}
@@ -13,7 +14,8 @@ use Rattle.logs.specs.Logs.{Stamped, events_by_stamp, history_of_logs}
 use Rattle.logs.proofs.GrowthLemmas.{AreBelow, AreBelow-append, history-push}
 use Rattle.art_rows.specs.Table.{opening}
 use Rattle.art_core.specs.declared.process.Process.{Process}
-use Rattle.art_core.specs.Core.{Plan, State, Move, Invokes, Makes, Responds, step, moved, word_of_move, after_move, idle, opened, history_of}
+use Rattle.art_core.specs.Core.{Plan, State, Move, Invokes, Makes, Responds, step, moved, word_of_move, after_move, idle, opened}
+use Rattle.art_core.specs.Core.{history_of}
 use Rattle.art_core.specs.Runs.{Gives, run_on}
 use Rattle.art_core.specs.Plans.{IsPlan}
 use Rattle.art_core.specs.Laws.{IsClocked}
@@ -72,7 +74,8 @@ module _ (ps : List Process) (p : ℕ) (q q' : Process) (here : slice_get ps p �
     ];
     known = subst (λ n. All (λ e. process_of e < n) (logged (slice_set ps p q'))) (sym (length-set ps p q'))
         (subst (All (λ e. process_of e < length ps)) (sym more)
-        (All-push (λ e. process_of e < length ps) (logged ps) e o.known (let within = slice_get_within ps p q here in omega (arith, its, within))));
+        (All-push (λ e. process_of e < length ps) (logged ps) e o.known
+            (let within = slice_get_within ps p q here in omega (arith, its, within))));
   }
     where
       more : logged (slice_set ps p q') ≡ logged ps ++ e ∷ []
@@ -84,7 +87,8 @@ module _ (ps : List Process) (p : ℕ) (q q' : Process) (here : slice_get ps p �
 
 -- Each step of a schedule keeps it.
 
-logs-below : (n : ℕ) (ps : List Process) → All (λ q. All (λ (e : Stamped). e.0 < n) q.log) ps → AreBelow n (flat_map (λ log. log) (logs_of ps))
+logs-below : (n : ℕ) (ps : List Process) → All (λ q. All (λ (e : Stamped). e.0 < n) q.log) ps
+    → AreBelow n (flat_map (λ log. log) (logs_of ps))
 logs-below n [] h = tt
 logs-below n (q ∷ ps) h =
     AreBelow-append n q.log (flat_map (λ log. log) (logs_of ps)) (one q.log (All-head (λ q. All (λ (e : Stamped). e.0 < n) q.log) q ps h))
@@ -111,7 +115,8 @@ module _ (plan : Plan) (within : IsPlan plan) where
       clocks-are-ahead plan (opening plan.shape) schedule s within (opening-length plan.shape)
       (start-clock plan.shape plan.variant [] (opening plan.shape) (no-start plan.shape plan.variant)) gives
 
-  owned-on : (earlier schedule : List ℕ) (first s : State) → Gives plan (opened plan) earlier first → run_on plan (Some first) schedule ≡ Some s
+  owned-on : (earlier schedule : List ℕ) (first s : State) → Gives plan (opened plan) earlier first
+      → run_on plan (Some first) schedule ≡ Some s
       → AreOwned first.processes → AreOwned s.processes
   owned-on earlier [] first s given e o = subst (λ s. AreOwned s.processes) (same_Some first s e) o
   owned-on earlier (p ∷ schedule) first s given e o = go (step plan first p) refl e (λ next. owned-on (earlier ++ p ∷ []) schedule next s)
@@ -123,7 +128,8 @@ module _ (plan : Plan) (within : IsPlan plan) where
       go None f l later = absurd (nowhere plan schedule s l)
       go (Some next) f l later =
           let m = is-moved plan first p next f in
-          let further = run-on-append plan (Some (opened plan)) earlier (p ∷ []) ∙ (ap (λ o. run_on plan o (p ∷ [])) given ∙ ap (λ o. run_on plan o []) f) in
+          let further = run-on-append plan (Some (opened plan)) earlier (p ∷ [])
+              ∙ (ap (λ o. run_on plan o (p ∷ [])) given ∙ ap (λ o. run_on plan o []) f) in
           later next further l
           (subst (λ s. AreOwned s.processes) (sym m.is) (owned-move first p m.process m.move m.here (clocked earlier first given) o))
 
@@ -157,5 +163,6 @@ own-events setup words v ps same many numbers at o =
       numbers = numbers;
       each = each-had (λ x. events_of x.0 (history_of (state_of words v)) ≡ map (λ (e : Stamped). e.1) x.1.log) v.processes
           (λ x t. ap (events_of x.0) logs ∙ o.each x.0 x.1 (at x.0 x.1 t));
-      known = subst (All (λ e. process_of e < setup.processes)) (sym logs) (subst (λ n. All (λ e. process_of e < n) (logged ps)) many o.known);
+      known = subst (All (λ e. process_of e < setup.processes)) (sym logs)
+          (subst (λ n. All (λ e. process_of e < n) (logged ps)) many o.known);
     }

@@ -29,7 +29,8 @@ get-set-other (z ∷ zs) zero (suc i) x n = refl
 get-set-other (z ∷ zs) (suc p) zero x n = refl
 get-set-other (z ∷ zs) (suc p) (suc i) x n = get-set-other zs p i x (λ e. n (ap suc e))
 
-module _ (setup : Setup) (words : List ℕ) (views : List Noted) (r : IsReached setup words views) (id : ℕ) (v : Noted) (at : get_elem? views id ≡ some v) where
+module _ (setup : Setup) (words : List ℕ) (views : List Noted) (r : IsReached setup words views) (id : ℕ) (v : Noted)
+    (at : get_elem? views id ≡ some v) where
   -- a process of a view is one of the core's, with a number that is known
   pub shown-below : (p : ℕ) (q : Process) → Has (p, q) v.view.processes → p < setup.processes
   shown-below p q h = let within = slice_get_within r.processes p q (r.shows id v at p q h).1 in let many = r.given.many in omega arith
@@ -38,13 +39,15 @@ module _ (setup : Setup) (words : List ℕ) (views : List Noted) (r : IsReached 
   pub reached-noted : (asked : Option Call) → IsReached setup words (set views id (noted v.view asked))
   reached-noted asked =
       let w : Noted = noted v.view asked in
-      let old : (j : ℕ) (u : Noted) → get_elem? (set views id w) j ≡ some u → (k : ℕ) × (o : Noted) × (get_elem? views k ≡ some o) × (o.view ≡ u.view) =
+      let old : (j : ℕ) (u : Noted) → get_elem? (set views id w) j ≡ some u → (k : ℕ) × (o : Noted) × (get_elem? views k ≡ some o)
+          × (o.view ≡ u.view) =
       λ j u e. ⊎_elim (λ t. (id, v, at, ap (λ z. z.view) t.1)) (λ t. (j, u, t.1, refl)) (at_set views id j w u e) in
       record {
         processes = r.processes;
         given = r.given;
         shows = λ j u e p q h. let o = old j u e in
-            subst (λ z. (z.setup ≡ setup) × (slice_get r.processes p ≡ Some q)) o.3 (r.shows o.0 o.1 o.2 p q (subst (λ z. Has (p, q) z.processes) (sym o.3) h));
+            subst (λ z. (z.setup ≡ setup) × (slice_get r.processes p ≡ Some q)) o.3
+                (r.shows o.0 o.1 o.2 p q (subst (λ z. Has (p, q) z.processes) (sym o.3) h));
         once = λ p lt. let t = sum-set (times_in p) views id v w at in let one = r.once p lt in omega arith;
         rising = λ j u e. let o = old j u e in subst (λ z. Rises z.processes) o.3 (r.rising o.0 o.1 o.2);
       }
@@ -126,7 +129,8 @@ module _ (setup : Setup) (words : List ℕ) (views : List Noted) (r : IsReached 
           omega arith
 
 -- a step of the first process of a view
-module _ (setup : Setup) (words new_words : List ℕ) (views : List Noted) (r : IsReached setup words views) (id : ℕ) (asked later : Option Call)
+module _ (setup : Setup) (words new_words : List ℕ) (views : List Noted) (r : IsReached setup words views) (id : ℕ)
+    (asked later : Option Call)
     (p : ℕ) (q q' : Process) (rest : List Numbered) (at : get_elem? views id ≡ some (noted (view setup ((p, q) ∷ rest)) asked)) where
   abbrev old : Noted
   old = noted (view setup ((p, q) ∷ rest)) asked
@@ -172,5 +176,6 @@ module _ (setup : Setup) (words new_words : List ℕ) (views : List Noted) (r : 
         (λ t. let s = r.shows j u t.1 i x h in (s.0, get-set-other r.processes p i q' (elsewhere j u i x h t.0 t.1) ∙ s.1))
         (at_set views id j new u e);
     once = λ i lt. let t = sum-set (times_in i) views id old new at in let one = r.once i lt in omega arith;
-    rising = λ j u e. ⊎_elim (λ t. subst (λ z. Rises z.view.processes) t.1 (r.rising id old at)) (λ t. r.rising j u t.1) (at_set views id j new u e);
+    rising = λ j u e. ⊎_elim (λ t. subst (λ z. Rises z.view.processes) t.1 (r.rising id old at)) (λ t. r.rising j u t.1)
+        (at_set views id j new u e);
   }

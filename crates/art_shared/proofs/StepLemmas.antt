@@ -51,7 +51,8 @@ pub record HasFirst (v : View) (m : Move) : Type 0 where
 
 -- its open call's
 module _ (setup : Setup) (m : Move) where
-  open-first : (processes : List Numbered) → ((call : Call) → m ≡ Invokes call → ⊥) → next_in setup processes ≡ Some m → HasFirst (view setup processes) m
+  open-first : (processes : List Numbered) → ((call : Call) → m ≡ Invokes call → ⊥) → next_in setup processes ≡ Some m
+      → HasFirst (view setup processes) m
   open-first [] open-call next = absurd (none-some m next)
   open-first ((p, q) ∷ others) open-call next = record {
     p = p;
@@ -79,7 +80,8 @@ responds-first : (v : View) (reply : Reply) → next_of v ≡ Some (Responds rep
 responds-first v reply next = open-first v.setup (Responds reply) v.processes (λ call e. cc) next
 
 -- its next call's
-idle-first : (setup : Setup) (call : Call) (processes : List Numbered) → IsTrue (is_tree_call call) → IsTrue (is_idle (view setup processes))
+idle-first : (setup : Setup) (call : Call) (processes : List Numbered) → IsTrue (is_tree_call call)
+    → IsTrue (is_idle (view setup processes))
     → 0 < calls_left (view setup processes) → HasFirst (view setup processes) (Invokes call)
 idle-first setup call [] tree idle left = absurd (omega arith)
 idle-first setup call ((p, q) ∷ others) tree idle left = record {
@@ -103,12 +105,15 @@ abbrev pub IsInside : Setup → Move → Type 0
 IsInside setup (Makes a) = (0 < word_of a) × (word_of a < table_words setup.shape)
 IsInside setup m = Unit {0}
 
-inside-in : (setup : Setup) (m : Move) → 1 ≤ setup.shape.rows256 → (processes : List Numbered) → next_in setup processes ≡ Some m → IsInside setup m
+inside-in : (setup : Setup) (m : Move) → 1 ≤ setup.shape.rows256 → (processes : List Numbered) → next_in setup processes ≡ Some m
+    → IsInside setup m
 inside-in setup m root [] next = absurd (none-some m next)
 inside-in setup m root ((p, q) ∷ others) next = go q.call next
   where
-    turns : (call : Call) (t : Turn) → act setup.shape setup.variant call q.got ≡ t → ◌≡◌ {A = Option Move} (Some (move_of t)) (Some m) → IsInside setup m
-    turns call (Asks a point) e k = subst (IsInside setup) (same_Some (Makes a) m k) (act-stays setup.shape setup.variant call root q.got a point e)
+    turns : (call : Call) (t : Turn) → act setup.shape setup.variant call q.got ≡ t → ◌≡◌ {A = Option Move} (Some (move_of t)) (Some m)
+        → IsInside setup m
+    turns call (Asks a point) e k = subst (IsInside setup) (same_Some (Makes a) m k) (act-stays setup.shape setup.variant call
+        root q.got a point e)
     turns call (Answers reply) e k = subst (IsInside setup) (same_Some (Responds reply) m k) tt
 
     go : (o : Option Call) → open_move setup q.got o ≡ Some m → IsInside setup m
@@ -119,7 +124,8 @@ pub access-inside : (setup : Setup) → IsSetup setup → (v : View) → v.setup
     → {n : ℕ} → n ≡ table_words setup.shape → word_of a < n
 access-inside setup limits v same a next words =
     let root : 1 ≤ v.setup.shape.rows256 = subst (λ z. 1 ≤ z.shape.rows256) (sym same) limits.shape.root in
-    let here : word_of a < table_words setup.shape = subst (λ z. word_of a < table_words z.shape) same (inside-in v.setup (Makes a) root v.processes next).1 in
+    let here : word_of a < table_words setup.shape =
+        subst (λ z. word_of a < table_words z.shape) same (inside-in v.setup (Makes a) root v.processes next).1 in
     subst (λ k. word_of a < k) (sym words) here
 
 pub either-if : (b : Bool) (x y : ℕ) → either b x y ≡ (if b then x else y)
@@ -175,11 +181,13 @@ module _ (setup : Setup) (limits : IsSetup setup) (slots id : ℕ) (me : Seated)
             length-set s.words i (f n) ∙ r.0,
             reached-step setup s.words (set s.words i (f n)) s.views r.1 id me.0.asked later first.p first.q q' first.others here given,
           ),
-          tells n (λ clock. subst (λ k. AllStamps (λ stamp. stamp < get_or s.words k 0) me.0.view) (sym clock) (stamps-below s.words s.views r.1 at)),
+          tells n (λ clock. subst (λ k. AllStamps (λ stamp. stamp < get_or s.words k 0) me.0.view) (sym clock)
+              (stamps-below s.words s.views r.1 at)),
         )
 
   -- an access that finds n, and tells so
-  pub access-allowed : (a : Access) (next : next_of me.0.view ≡ Some (Makes a)) (f : ℕ → ℕ) → ((n : ℕ) → f n ≡ new_word (Makes a) n) → (st : Step Call)
+  pub access-allowed : (a : Access) (next : next_of me.0.view ≡ Some (Makes a)) (f : ℕ → ℕ) → ((n : ℕ) → f n ≡ new_word (Makes a) n)
+      → (st : Step Call)
       → Allows (Kept setup) slots id me (word_of a) f (Advances st me)
   access-allowed a next f alike st =
       let first = makes-first me.0.view a next in
@@ -218,7 +226,8 @@ module _ (setup : Setup) (limits : IsSetup setup) (slots id : ℕ) (me : Seated)
       ))
 
   -- the stamp of the invocation that was noted
-  pub invocation-allowed : (call : Call) → me.0.asked ≡ Some call → IsTrue (is_tree_call call) → IsTrue (is_idle me.0.view) → 0 < calls_left me.0.view
+  pub invocation-allowed : (call : Call) → me.0.asked ≡ Some call → IsTrue (is_tree_call call) → IsTrue (is_idle me.0.view)
+      → 0 < calls_left me.0.view
       → (st : Step Call) → Allows (Kept setup) slots id me 0 (λ n. (n + 1) % 2 ^ 64) (InvokesAsked st me)
   invocation-allowed call asked tree idle left st =
       let first = idle-first me.0.view.setup call me.0.view.processes tree idle left in
@@ -226,7 +235,8 @@ module _ (setup : Setup) (limits : IsSetup setup) (slots id : ℕ) (me : Seated)
       (λ n stamps. (
         refl,
         ap (λ z. view z ((first.p, after_move first.p (Invokes call) n first.q) ∷ first.others)) (sym same)
-            ∙ (ap (λ l. view me.0.view.setup (moved_first (Invokes call) n l)) (sym first.is) ∙ ap (λ o. with_asked o me.0.view n) (sym asked)),
+            ∙ (ap (λ l. view me.0.view.setup (moved_first (Invokes call) n l)) (sym first.is)
+            ∙ ap (λ o. with_asked o me.0.view n) (sym asked)),
         stamps refl,
       ))
 
@@ -242,7 +252,8 @@ module _ (setup : Setup) (limits : IsSetup setup) (slots id : ℕ) (me : Seated)
         w,
         keeps,
         tt,
-        exchanged n 0 0 (λ z. Kept setup (stepped s 0 z id me.1 w keeps)) (λ e. subst (λ z. Kept setup (stepped s 0 z id me.1 w keeps)) e kept) (λ _. kept),
+        exchanged n 0 0 (λ z. Kept setup (stepped s 0 z id me.1 w keeps))
+            (λ e. subst (λ z. Kept setup (stepped s 0 z id me.1 w keeps)) e kept) (λ _. kept),
         (refl, λ c e. ap (λ z. noted me.0.view (Some z)) (some-injective call c e)),
       )
 

@@ -25,14 +25,18 @@ key_behind c stage (w ∷ got) more s = key_behind c (stage_after c stage w) got
 scan_behind : (c : Setting) (low high : ℕ) (scan : ScanAt) (got more : List ℕ) → c.call ≡ Scan low high
     → rest_at c (after_all c (OnScan low high scan) got) more ≡ rest_at c (OnScan low high scan) (got ++ more)
 scan_behind c low high scan [] more s = refl
-scan_behind c low high scan (w ∷ got) more s = scan_behind c low high (scan_after c low high scan w) got more s ∙ scan_goes_on c low high scan w (got ++ more) s
+scan_behind c low high scan (w ∷ got) more s = scan_behind c low high (scan_after c low high scan w) got more s
+    ∙ scan_goes_on c low high scan w (got ++ more) s
 
 behind_as : (c : Setting) (call : Call) (got more : List ℕ) → c.call ≡ call
     → rest_at c (after_all c (begun_as call c) got) more ≡ act c.shape c.variant c.call (got ++ more)
 behind_as c (Get k) got more e = key_behind c (start_at (locks c.variant)) got more (ap is_scan e) ∙ begins c (got ++ more) (ap is_scan e)
-behind_as c (Insert k v) got more e = key_behind c (start_at (locks c.variant)) got more (ap is_scan e) ∙ begins c (got ++ more) (ap is_scan e)
-behind_as c (Remove k) got more e = key_behind c (start_at (locks c.variant)) got more (ap is_scan e) ∙ begins c (got ++ more) (ap is_scan e)
-behind_as c (Replace k old new) got more e = key_behind c (start_at (locks c.variant)) got more (ap is_scan e) ∙ begins c (got ++ more) (ap is_scan e)
+behind_as c (Insert k v) got more e = key_behind c (start_at (locks c.variant)) got more (ap is_scan e)
+    ∙ begins c (got ++ more) (ap is_scan e)
+behind_as c (Remove k) got more e = key_behind c (start_at (locks c.variant)) got more (ap is_scan e)
+    ∙ begins c (got ++ more) (ap is_scan e)
+behind_as c (Replace k old new) got more e = key_behind c (start_at (locks c.variant)) got more (ap is_scan e)
+    ∙ begins c (got ++ more) (ap is_scan e)
 behind_as c (Scan low high) got more e = scan_behind c low high (scan_start c) got more e ∙ scan_begins c low high (got ++ more) e
 
 pub behind : (c : Setting) (got more : List ℕ) → rest_at c (call_behind c got) more ≡ act c.shape c.variant c.call (got ++ more)

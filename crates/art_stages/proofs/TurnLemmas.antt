@@ -12,32 +12,40 @@ use Rattle.art_stages.specs.declared.stage.PairWord.{PairWord}
 use Rattle.art_stages.specs.declared.stage.PairWord.TheVariants as pair_word
 use Rattle.art_stages.specs.declared.stage.Growing.{Growing}
 use Rattle.art_stages.specs.declared.stage.Stage.{Stage}
-use Rattle.art_stages.specs.declared.stage.Stage.TheVariants.{Lock, Exchange, Wait, Leave, Between, Info, Find, FindKeys, FindMore, FindCount, Slot, Check}
-use Rattle.art_stages.specs.declared.stage.Stage.TheVariants.{CheckLast, LetGo, Take, Write, ClaimPair, StorePair, PutLoad, PutStore, PutLeaf, PutKeys, PutMore}
-use Rattle.art_stages.specs.declared.stage.Stage.TheVariants.{PutCount, ClaimGrow, GrowInfo, GrowLoad, GrowStore, SpreadIndex, SpreadLoad, SpreadStore}
+use Rattle.art_stages.specs.declared.stage.Stage.TheVariants.{Lock, Exchange, Wait, Leave, Between, Info, Find, FindKeys, FindMore}
+use Rattle.art_stages.specs.declared.stage.Stage.TheVariants.{FindCount, Slot, Check}
+use Rattle.art_stages.specs.declared.stage.Stage.TheVariants.{CheckLast, LetGo, Take, Write, ClaimPair, StorePair, PutLoad, PutStore}
+use Rattle.art_stages.specs.declared.stage.Stage.TheVariants.{PutLeaf, PutKeys, PutMore}
+use Rattle.art_stages.specs.declared.stage.Stage.TheVariants.{PutCount, ClaimGrow, GrowInfo, GrowLoad, GrowStore, SpreadIndex, SpreadLoad}
+use Rattle.art_stages.specs.declared.stage.Stage.TheVariants.{SpreadStore}
 use Rattle.art_stages.specs.declared.stage.Stage.TheVariants.{GrowLeaf, GrowKeys, GrowCount, Hang, Obsolete, Unlock, Over}
 use Rattle.art_steps.specs.Steps.{Rest, store, Part}
-use Rattle.art_steps.specs.Rows.{Setting, locks, is_insert, releases_early, lock_again, lock, wait, unlock, unlock_obsolete, unlock_all, check, find_child}
+use Rattle.art_steps.specs.Rows.{Setting, locks, is_insert, releases_early, lock_again, lock, wait, unlock, unlock_obsolete, unlock_all}
+use Rattle.art_steps.specs.Rows.{check, find_child}
 use Rattle.art_steps.specs.Rows.{find_in, find, load_child, claim}
 use Rattle.art_steps.specs.Updates.{pair, pair_in, copy_child, store_index, spread_index, grow}
 use Rattle.art_steps.specs.Act.{act}
 use Rattle.art_stages.specs.Stages.{held, part_of, ends, rest_in}
-use Rattle.art_stages.specs.Automaton.{between_turn, find_turn, pair_turn, put_keys_turn, grow_keys_turn, grow_leaf_turn, grow_count_turn, turn_at}
+use Rattle.art_stages.specs.Automaton.{between_turn, find_turn, pair_turn, put_keys_turn, grow_keys_turn, grow_leaf_turn, grow_count_turn}
+use Rattle.art_stages.specs.Automaton.{turn_at}
 
-between_next : (l i e : Bool) (c : Setting) (d : Down) (kept : ℕ) (again : Rest) → part_of l i e c (Between d kept) again ends [] ≡ between_turn l d
+between_next : (l i e : Bool) (c : Setting) (d : Down) (kept : ℕ) (again : Rest)
+    → part_of l i e c (Between d kept) again ends [] ≡ between_turn l d
 unfolding part_of unlock check
 between_next true i e c d kept again = refl
 between_next false i e c d kept again = refl
 
 find_next : (c : Setting) (base : ℕ) (kind : Kind) (info kept : ℕ) (above : Option Held) (slot : ℕ)
-    → rest_in c (Find (record { row = held base kind info kept; above = above; slot = slot })) [] ≡ find_turn kind c (held base kind info kept)
+    → rest_in c (Find (record { row = held base kind info kept; above = above; slot = slot })) [] ≡ find_turn kind c
+        (held base kind info kept)
 unfolding rest_in part_of find find_in
 find_next c base Four info kept above slot = refl
 find_next c base Sixteen info kept above slot = refl
 find_next c base FortyEight info kept above slot = refl
 find_next c base Full info kept above slot = refl
 
-pair_next : (c : Setting) (h : Hold) (p : Pair) (base : ℕ) (word : PairWord) → rest_in c (StorePair h p base word) [] ≡ pair_turn c p base word
+pair_next : (c : Setting) (h : Hold) (p : Pair) (base : ℕ) (word : PairWord)
+    → rest_in c (StorePair h p base word) [] ≡ pair_turn c p base word
 unfolding rest_in part_of
 pair_next c h p base pair_word.Info = refl
 pair_next c h p base pair_word.Keys = refl
@@ -73,7 +81,8 @@ grow_keys_next c old FortyEight info kept above slot keys base j left = refl
 grow_keys_next c old Full info kept above slot keys base j left = refl
 
 grow_leaf_next : (c : Setting) (old : ℕ) (kind : Kind) (info kept : ℕ) (above : Option Held) (slot : ℕ) (keys : Keys) (base : ℕ)
-    → rest_in c (GrowLeaf (growing_of old kind info kept above slot keys base)) [] ≡ grow_leaf_turn kind c (growing_of old kind info kept above slot keys base)
+    → rest_in c (GrowLeaf (growing_of old kind info kept above slot keys base)) [] ≡ grow_leaf_turn kind c
+        (growing_of old kind info kept above slot keys base)
 unfolding rest_in part_of
 grow_leaf_next c old Four info kept above slot keys base = refl
 grow_leaf_next c old Sixteen info kept above slot keys base = refl
@@ -81,7 +90,8 @@ grow_leaf_next c old FortyEight info kept above slot keys base = refl
 grow_leaf_next c old Full info kept above slot keys base = refl
 
 grow_count_next : (c : Setting) (old : ℕ) (kind : Kind) (info kept : ℕ) (above : Option Held) (slot : ℕ) (keys : Keys) (base : ℕ)
-    → rest_in c (GrowCount (growing_of old kind info kept above slot keys base)) [] ≡ grow_count_turn kind (growing_of old kind info kept above slot keys base)
+    → rest_in c (GrowCount (growing_of old kind info kept above slot keys base)) [] ≡ grow_count_turn kind
+        (growing_of old kind info kept above slot keys base)
 unfolding rest_in part_of
 grow_count_next c old Four info kept above slot keys base = refl
 grow_count_next c old Sixteen info kept above slot keys base = refl
@@ -89,13 +99,15 @@ grow_count_next c old FortyEight info kept above slot keys base = refl
 grow_count_next c old Full info kept above slot keys base = refl
 
 pub next : (c : Setting) (stage : Stage) → rest_in c stage [] ≡ turn_at c stage
-unfolding rest_in part_of lock lock_again wait unlock unlock_obsolete unlock_all check find_child load_child claim pair pair_in copy_child spread_index grow
+unfolding rest_in part_of lock lock_again wait unlock unlock_obsolete unlock_all check find_child load_child claim pair pair_in
+    copy_child spread_index grow
 next c (Lock t true) = refl
 next c (Lock t false) = refl
 next c (Exchange t v) = refl
 next c (Wait t) = refl
 next c (Leave d) = refl
-next c (Between d kept) = between_next (locks c.variant) (is_insert c.call) (releases_early c.variant) c d kept (act c.shape c.variant c.call)
+next c (Between d kept) = between_next (locks c.variant) (is_insert c.call) (releases_early c.variant) c d kept
+    (act c.shape c.variant c.call)
 next c (Info d kept) = refl
 next c (Find p) = find_next c p.row.base p.row.kind p.row.info p.row.kept p.above p.slot
 next c (FindKeys p count) = refl
@@ -123,7 +135,8 @@ next c (SpreadIndex g j left) = refl
 next c (SpreadLoad s i left) = refl
 next c (SpreadStore s i left word) = refl
 next c (GrowLeaf g) = grow_leaf_next c g.hold.row.base g.hold.row.kind g.hold.row.info g.hold.row.kept g.hold.above g.slot g.keys g.base
-next c (GrowKeys g j left) = grow_keys_next c g.hold.row.base g.hold.row.kind g.hold.row.info g.hold.row.kept g.hold.above g.slot g.keys g.base j left
+next c (GrowKeys g j left) = grow_keys_next c g.hold.row.base g.hold.row.kind g.hold.row.info g.hold.row.kept g.hold.above g.slot
+    g.keys g.base j left
 next c (GrowCount g) = grow_count_next c g.hold.row.base g.hold.row.kind g.hold.row.info g.hold.row.kept g.hold.above g.slot g.keys g.base
 next c (Hang g) = refl
 next c (Obsolete h) = refl

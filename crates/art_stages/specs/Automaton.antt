@@ -1,11 +1,13 @@
 -- The automaton of a call on a key: what a stage does next, and which stage comes after a word that it got.
-use Rattle.std.specs.Prelude.{ℕ, zero, suc, ◌+◌, ◌-◌, ◌*◌, ◌%◌, [], ◌∷◌, ◌++◌, map, set, take, slice_index, Bool, true, false, ◌==◌, nat_lt, nat_le}
+use Rattle.std.specs.Prelude.{ℕ, zero, suc, ◌+◌, ◌-◌, ◌*◌, ◌%◌, [], ◌∷◌, ◌++◌, map, set, take, slice_index, Bool, true, false, ◌==◌, nat_lt}
+use Rattle.std.specs.Prelude.{nat_le}
 use Rattle.std.specs.Prelude.{if◌then◌else◌, Option, Some, None}
 use Rattle.art_rows.specs.declared.table.Kind.{Kind}
 use Rattle.art_rows.specs.declared.table.Kind.TheVariants.{Four, Sixteen, FortyEight, Full}
 use Rattle.art_rows.specs.declared.table.Child.TheVariants.{Empty, Row as ChildRow, Leaf}
 use Rattle.art_rows.specs.Table.{rows_of, claims_of, base_of, info_at, keys_at, more_keys_at, index_at, count_at, child_at}
-use Rattle.art_rows.specs.Words.{is_locked, is_obsolete, locked_word, released_word, obsolete_word, key_bytes, entries_of, entries_word, place_of, info_word}
+use Rattle.art_rows.specs.Words.{is_locked, is_obsolete, locked_word, released_word, obsolete_word, key_bytes, entries_of, entries_word}
+use Rattle.art_rows.specs.Words.{place_of, info_word}
 use Rattle.art_rows.specs.Words.{keys4_word, keys16_word, more_keys16_word, child_of, child_word, row_word}
 use Rattle.art_stages.specs.declared.stage.Held.{Held}
 use Rattle.art_stages.specs.declared.stage.Keys.{Keys}
@@ -27,16 +29,21 @@ use Rattle.art_stages.specs.declared.stage.Spread.{Spread}
 use Rattle.art_stages.specs.declared.stage.Outcome.{Outcome}
 use Rattle.art_stages.specs.declared.stage.Outcome.TheVariants.{Value, Refused}
 use Rattle.art_stages.specs.declared.stage.Stage.{Stage}
-use Rattle.art_stages.specs.declared.stage.Stage.TheVariants.{Lock, Exchange, Wait, Leave, Between, Info, Find, FindKeys, FindMore, FindCount, Slot, Check}
-use Rattle.art_stages.specs.declared.stage.Stage.TheVariants.{CheckLast, LetGo, Take, Write, ClaimPair, StorePair, PutLoad, PutStore, PutLeaf, PutKeys, PutMore}
-use Rattle.art_stages.specs.declared.stage.Stage.TheVariants.{PutCount, ClaimGrow, GrowInfo, GrowLoad, GrowStore, SpreadIndex, SpreadLoad, SpreadStore}
+use Rattle.art_stages.specs.declared.stage.Stage.TheVariants.{Lock, Exchange, Wait, Leave, Between, Info, Find, FindKeys, FindMore}
+use Rattle.art_stages.specs.declared.stage.Stage.TheVariants.{FindCount, Slot, Check}
+use Rattle.art_stages.specs.declared.stage.Stage.TheVariants.{CheckLast, LetGo, Take, Write, ClaimPair, StorePair, PutLoad, PutStore}
+use Rattle.art_stages.specs.declared.stage.Stage.TheVariants.{PutLeaf, PutKeys, PutMore}
+use Rattle.art_stages.specs.declared.stage.Stage.TheVariants.{PutCount, ClaimGrow, GrowInfo, GrowLoad, GrowStore, SpreadIndex, SpreadLoad}
+use Rattle.art_stages.specs.declared.stage.Stage.TheVariants.{SpreadStore}
 use Rattle.art_stages.specs.declared.stage.Stage.TheVariants.{GrowLeaf, GrowKeys, GrowCount, Hang, Obsolete, Unlock, Over}
 use Rattle.art_steps.specs.declared.access.Access.TheVariants.{Load, Store, Exchange as Swap, Add}
 use Rattle.art_steps.specs.declared.access.Point.TheVariants as point
 use Rattle.art_steps.specs.Steps.{Turn, Asks, Answers, numbers}
-use Rattle.art_steps.specs.Rows.{Setting, is_insert, is_full, locks, releases_early, leaves_out_check, takes_unchecked, lock_point, key_of, path_differs_at}
+use Rattle.art_steps.specs.Rows.{Setting, is_insert, is_full, locks, releases_early, leaves_out_check, takes_unchecked, lock_point, key_of}
+use Rattle.art_steps.specs.Rows.{path_differs_at}
 use Rattle.art_steps.specs.Updates.{overwriting, new_leaf, lesser, greater, new_entry, next_kind, keys_differ_at}
-use Rattle.art_stages.specs.Stages.{row_at, held, root_place, target_base, keys_among, count_in, byte_in, keys_before, keys_after, place_in, leaf_place}
+use Rattle.art_stages.specs.Stages.{row_at, held, root_place, target_base, keys_among, count_in, byte_in, keys_before, keys_after, place_in}
+use Rattle.art_stages.specs.Stages.{leaf_place}
 use Rattle.art_stages.specs.Stages.{old_child, new_child, new_child_at, reply_for}
 
 -- What comes next.
@@ -76,7 +83,8 @@ abbrev pub put_keys_turn : Kind → Setting → Hold → Keys → Turn
 put_keys_turn Four c h keys = store_of (keys_at h.row.base) (keys4_word (keys_after c h keys))
 put_keys_turn Sixteen c h keys = store_of (keys_at h.row.base) (keys16_word (keys_after c h keys))
 put_keys_turn FortyEight c h keys =
-    store_of (index_at h.row.base (byte_in c h.row)) (entries_word (set (keys_before h keys) (byte_in c h.row % 8) (count_in FortyEight keys + 1)))
+    store_of (index_at h.row.base (byte_in c h.row))
+        (entries_word (set (keys_before h keys) (byte_in c h.row % 8) (count_in FortyEight keys + 1)))
 put_keys_turn Full c h keys = unlock_of h.row
 
 abbrev pub grow_keys_turn : Kind → Setting → Growing → ℕ → Turn
@@ -84,7 +92,8 @@ grow_keys_turn Four c g j =
     if j == 0 then store_of (keys_at g.base) (keys16_word (keys_after c g.hold g.keys))
     else store_of (more_keys_at g.base) (more_keys16_word (keys_after c g.hold g.keys))
 grow_keys_turn kind c g j =
-    store_of (index_at g.base (8 * j)) (entries_word (map (new_entry (keys_before g.hold g.keys ++ byte_in c g.hold.row ∷ [])) (numbers (8 * j) 8)))
+    store_of (index_at g.base (8 * j)) (entries_word (map (new_entry (keys_before g.hold g.keys ++ byte_in c g.hold.row ∷ []))
+        (numbers (8 * j) 8)))
 
 abbrev pub grow_leaf_turn : Kind → Setting → Growing → Turn
 grow_leaf_turn Four c g = store_of (child_at Sixteen g.base (place_in c g.hold g.keys)) (child_word (new_leaf c.call))
@@ -123,7 +132,8 @@ turn_at c (PutKeys h keys) = put_keys_turn h.row.kind c h keys
 turn_at c (PutMore h keys) = store_of (more_keys_at h.row.base) (more_keys16_word (keys_after c h keys))
 turn_at c (PutCount h keys) = store_of (count_at h.row.kind h.row.base) (count_in h.row.kind keys + 1)
 turn_at c (ClaimGrow h slot keys) = Asks (Add (claims_of (next_kind h.row.kind))) None
-turn_at c (GrowInfo g) = store_of (info_at g.base) (info_word (next_kind g.hold.row.kind) (row_at g.hold.row).level (row_at g.hold.row).path)
+turn_at c (GrowInfo g) = store_of (info_at g.base) (info_word (next_kind g.hold.row.kind) (row_at g.hold.row).level
+    (row_at g.hold.row).path)
 turn_at c (GrowLoad g i left) = load_of (child_at g.hold.row.kind g.hold.row.base i)
 turn_at c (GrowStore g i left word) = store_of (new_child_at g.hold.row.kind c g i) word
 turn_at c (SpreadIndex g j left) = load_of (index_at g.hold.row.base (8 * j))
@@ -215,7 +225,8 @@ seek_coupled e c n (Lacks keys) = Unlock (hold_alone n) (Some no_value)
 seek_coupled e c n (Has slot Empty) = Unlock (hold_alone n) (Some no_value)
 seek_coupled e c n (Has slot (Leaf key value)) =
     if key == key_of c.call then overwrite_at n slot value (overwriting c.call value) else Unlock (hold_alone n) (Some no_value)
-seek_coupled e c n (Has slot (ChildRow base kind)) = if e then Leave (down_from n slot base kind) else Lock (Below (down_from n slot base kind)) true
+seek_coupled e c n (Has slot (ChildRow base kind)) =
+    if e then Leave (down_from n slot base kind) else Lock (Below (down_from n slot base kind)) true
 
 -- an insert that locks, once the row above is unlocked
 abbrev pub insert_coupled : Setting → Held → Finding → Stage
@@ -243,12 +254,14 @@ place_coupled c p (Lacks keys) =
 -- the same without locks
 abbrev pub overwrite_unlocked : Setting → Held → ℕ → ℕ → Option ℕ → Stage
 overwrite_unlocked c n slot value None = Over (Value (Some value))
-overwrite_unlocked c n slot value (Some word) = take_at c (record { row = n; held = None; below = None; work = work.Write slot word (Some value) })
+overwrite_unlocked c n slot value (Some word) =
+    take_at c (record { row = n; held = None; below = None; work = work.Write slot word (Some value) })
 
 abbrev pub seek_unlocked : Setting → Held → Finding → Stage
 seek_unlocked c n (Lacks keys) = Over no_value
 seek_unlocked c n (Has slot Empty) = Over no_value
-seek_unlocked c n (Has slot (Leaf key value)) = if key == key_of c.call then overwrite_unlocked c n slot value (overwriting c.call value) else Over no_value
+seek_unlocked c n (Has slot (Leaf key value)) =
+    if key == key_of c.call then overwrite_unlocked c n slot value (overwriting c.call value) else Over no_value
 seek_unlocked c n (Has slot (ChildRow base kind)) = Wait (Below (down_from n slot base kind))
 
 abbrev pub take_alone : Setting → Held → Work → Stage
@@ -261,7 +274,8 @@ grow_unlocked c n (Some above) slot keys = take_at c (record { row = above; held
 
 abbrev pub insert_unlocked : Setting → Position → Finding → Stage
 insert_unlocked c p (Lacks keys) =
-    if is_full (row_at p.row) (count_in p.row.kind keys) then grow_unlocked c p.row p.above p.slot keys else take_alone c p.row (work.Put keys)
+    if is_full (row_at p.row) (count_in p.row.kind keys) then grow_unlocked c p.row p.above p.slot keys else take_alone c
+        p.row (work.Put keys)
 insert_unlocked c p (Has slot Empty) = take_alone c p.row (leaf_work c slot None)
 insert_unlocked c p (Has slot (Leaf key value)) =
     if key == key_of c.call then take_alone c p.row (leaf_work c slot (Some value))

@@ -1,5 +1,6 @@
 -- What is left of a scan at each of its stages, and its automaton.
-use Rattle.std.specs.Prelude.{ℕ, zero, suc, ◌+◌, ◌-◌, ◌*◌, ◌/◌, ◌%◌, List, [], ◌∷◌, ◌++◌, map, filter, slice_index, Bool, true, false, ◌&&◌, ◌==◌}
+use Rattle.std.specs.Prelude.{ℕ, zero, suc, ◌+◌, ◌-◌, ◌*◌, ◌/◌, ◌%◌, List, [], ◌∷◌, ◌++◌, map, filter, slice_index, Bool, true, false, ◌&&◌}
+use Rattle.std.specs.Prelude.{◌==◌}
 use Rattle.std.specs.Prelude.{if◌then◌else◌, Option, Some, None}
 use Rattle.events.specs.declared.event.Reply.{Reply}
 use Rattle.events.specs.declared.event.Reply.TheVariants as reply
@@ -16,11 +17,14 @@ use Rattle.art_stages.specs.declared.stage.Entry.{Entry}
 use Rattle.art_stages.specs.declared.stage.Entry.TheVariants.{Root, Below}
 use Rattle.art_stages.specs.declared.stage.Frame.{Frame}
 use Rattle.art_stages.specs.declared.stage.ScanStep.{ScanStep}
-use Rattle.art_stages.specs.declared.stage.ScanStep.TheVariants.{Lock, Exchange, Wait, Info, Keys, FirstKeys, SecondKeys, Index, Child as LoadChild, Release}
+use Rattle.art_stages.specs.declared.stage.ScanStep.TheVariants.{Lock, Exchange, Wait, Info, Keys, FirstKeys, SecondKeys, Index}
+use Rattle.art_stages.specs.declared.stage.ScanStep.TheVariants.{Child as LoadChild, Release}
 use Rattle.art_stages.specs.declared.stage.ScanStep.TheVariants.{Over}
 use Rattle.art_steps.specs.Steps.{Rest, Part, Turn, Asks, Answers, ◌>>=◌, ◌>>◌, give, load, exchange, each, over, numbers}
-use Rattle.art_steps.specs.Rows.{Setting, Row, locks, leaves_out_check, lock_point, lock, lock_again, wait, unlock, unlock_all, check, check_of, load_child}
-use Rattle.art_steps.specs.Scan.{Walked, can_lie, bytes_of, with_leaf, has_row, with_row, walk_child, walk_slot, walk_place, walk_entry, walk_index, walk_from}
+use Rattle.art_steps.specs.Rows.{Setting, Row, locks, leaves_out_check, lock_point, lock, lock_again, wait, unlock, unlock_all, check}
+use Rattle.art_steps.specs.Rows.{check_of, load_child}
+use Rattle.art_steps.specs.Scan.{Walked, can_lie, bytes_of, with_leaf, has_row, with_row, walk_child, walk_slot, walk_place, walk_entry}
+use Rattle.art_steps.specs.Scan.{walk_index, walk_from}
 use Rattle.art_steps.specs.Act.{act}
 use Rattle.art_stages.specs.Stages.{row_at, held, ends, keys_among}
 use Rattle.art_stages.specs.Automaton.{load_of, unlock_of, check_turn, keys_one}
@@ -61,7 +65,8 @@ abbrev pub in_word : ℕ → ℕ → Bool
 in_word j x = x / 8 == j
 
 abbrev pub words_rest : Setting → ℕ → ℕ → Held → ℕ → ℕ → Walked → Part Walked
-words_rest c lo hi n j m w = over (numbers j m) (λ j. walk_index c lo hi (walk_on c lo hi) (row_at n) j (filter (in_word j) (bytes_of lo hi (row_at n)))) w
+words_rest c lo hi n j m w = over (numbers j m) (λ j. walk_index c lo hi (walk_on c lo hi) (row_at n) j
+    (filter (in_word j) (bytes_of lo hi (row_at n)))) w
 
 -- of a row,
 abbrev pub frame_rest : Kind → Setting → ℕ → ℕ → Frame → Walked → Part Walked
@@ -69,9 +74,11 @@ frame_rest FortyEight c lo hi f w = do
   v ← over (filter (in_word f.index) (filter (lies lo hi f) (numbers f.byte f.left)))
       (λ y. walk_entry c lo hi (walk_on c lo hi) (row_at f.row) (slice_index (entries_of f.keys.first) (y % 8))) w
   words_rest c lo hi f.row (f.index + 1) f.words v
-frame_rest Full c lo hi f w = over (filter (lies lo hi f) (numbers f.byte f.left)) (λ x. walk_slot c lo hi (walk_on c lo hi) (child_at Full f.row.base x)) w
+frame_rest Full c lo hi f w = over (filter (lies lo hi f) (numbers f.byte f.left)) (λ x. walk_slot c lo hi (walk_on c lo hi)
+    (child_at Full f.row.base x)) w
 frame_rest kind c lo hi f w =
-    over (filter (lies lo hi f) (numbers f.byte f.left)) (λ x. walk_place c lo hi (walk_on c lo hi) (row_at f.row) (place_of x (keys_among kind f.keys))) w
+    over (filter (lies lo hi f) (numbers f.byte f.left))
+        (λ x. walk_place c lo hi (walk_on c lo hi) (row_at f.row) (place_of x (keys_among kind f.keys))) w
 
 -- of the way,
 abbrev pub way_rest : Setting → ℕ → ℕ → List Frame → Walked → Part Walked
@@ -218,7 +225,8 @@ slot_at (Some slot) child other = child slot
 abbrev pub bytes_at : (ℕ → Bool) → (ℕ → Option ℕ) → (ℕ → ℕ → ℕ → ScanAt) → ℕ → ℕ → ScanAt → ScanAt
 bytes_at test slot_of child x zero other = other
 bytes_at test slot_of child x (suc n) other =
-    if test x then slot_at (slot_of x) (child (x + 1) n) (bytes_at test slot_of child (x + 1) n other) else bytes_at test slot_of child (x + 1) n other
+    if test x then slot_at (slot_of x) (child (x + 1) n) (bytes_at test slot_of child (x + 1) n other) else bytes_at test slot_of
+        child (x + 1) n other
 
 -- the next index word that holds one of the bytes
 abbrev pub index_at_list : Held → Walk → ℕ → ℕ → List ℕ → ScanAt → ScanAt
@@ -227,7 +235,8 @@ index_at_list n w j m (x ∷ xs) other = at (Index n j m) w
 
 abbrev pub words_at : ℕ → ℕ → Held → Walk → ℕ → ℕ → ScanAt → ScanAt
 words_at lo hi n w j zero other = other
-words_at lo hi n w j (suc m) other = index_at_list n w j m (filter (in_word j) (bytes_of lo hi (row_at n))) (words_at lo hi n w (j + 1) m other)
+words_at lo hi n w j (suc m) other = index_at_list n w j m (filter (in_word j) (bytes_of lo hi (row_at n)))
+    (words_at lo hi n w (j + 1) m other)
 
 -- the slot of a byte
 abbrev pub entry_slot : Frame → ℕ → Option ℕ
@@ -240,7 +249,8 @@ place_slot kind base None = None
 place_slot kind base (Some i) = Some (child_at kind base i)
 
 abbrev pub child_from : Walk → Frame → ℕ → ℕ → ℕ → ScanAt
-child_from w f x n slot = at (LoadChild (record { row = f.row; keys = f.keys; byte = x; left = n; index = f.index; words = f.words }) slot) w
+child_from w f x n slot = at (LoadChild (record { row = f.row; keys = f.keys; byte = x; left = n; index = f.index; words =
+    f.words }) slot) w
 
 abbrev pub word_test : ℕ → ℕ → Frame → ℕ → Bool
 word_test lo hi f x = lies lo hi f x && in_word f.index x
@@ -251,7 +261,8 @@ frame_at FortyEight lo hi w f other =
     bytes_at (word_test lo hi f) (entry_slot f) (child_from w f) f.byte f.left (words_at lo hi f.row w (f.index + 1) f.words other)
 frame_at Full lo hi w f other = bytes_at (lies lo hi f) (λ x. Some (child_at Full f.row.base x)) (child_from w f) f.byte f.left other
 frame_at kind lo hi w f other =
-    bytes_at (lies lo hi f) (λ x. place_slot f.row.kind f.row.base (place_of x (keys_among kind f.keys))) (child_from w f) f.byte f.left other
+    bytes_at (lies lo hi f) (λ x. place_slot f.row.kind f.row.base (place_of x (keys_among kind f.keys))) (child_from w f)
+        f.byte f.left other
 
 abbrev pub way_at : Setting → ℕ → ℕ → Walk → List Frame → ScanAt
 way_at c lo hi w [] = close_at c w
@@ -288,7 +299,8 @@ enter_at c entry w = if locks c.variant then at (Lock entry true) w else at (Wai
 
 abbrev pub child_after : Setting → ℕ → ℕ → Walk → Child → ScanAt
 child_after c lo hi w Empty = resume_at c lo hi w
-child_after c lo hi w (Leaf key value) = resume_at c lo hi (record { rows = w.rows; pairs = (with_leaf lo hi key value (walked w)).pairs; way = w.way })
+child_after c lo hi w (Leaf key value) = resume_at c lo hi
+    (record { rows = w.rows; pairs = (with_leaf lo hi key value (walked w)).pairs; way = w.way })
 child_after c lo hi w (ChildRow base kind) = enter_at c (Below base kind) w
 
 abbrev pub keys_after_word : Kind → Setting → ℕ → ℕ → Held → Walk → ℕ → ScanAt
@@ -307,7 +319,8 @@ release_after c n w word =
 abbrev pub step_after : Setting → ℕ → ℕ → ScanStep → Walk → ℕ → ScanAt
 step_after c lo hi (Lock entry first) w word = if is_locked word then at (Lock entry false) w else at (Exchange entry word) w
 step_after c lo hi (Exchange entry v) w word = if word == v then entry_at c lo hi entry w v else at (Lock entry false) w
-step_after c lo hi (Wait entry) w word = if is_locked word then at (Wait entry) w else if is_obsolete word then scan_start c else entry_at c lo hi entry w word
+step_after c lo hi (Wait entry) w word = if is_locked word then at (Wait entry) w else if is_obsolete word then scan_start c else entry_at
+    c lo hi entry w word
 step_after c lo hi (Info base kind kept) w word = visit_at c lo hi (held base kind word kept) w
 step_after c lo hi (Keys n) w word = keys_after_word n.kind c lo hi n w word
 step_after c lo hi (FirstKeys n count) w word = at (SecondKeys n count word) w

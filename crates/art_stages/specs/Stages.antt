@@ -1,5 +1,6 @@
 -- What is left of a call at each stage.
-use Rattle.std.specs.Prelude.{ℕ, suc, ◌+◌, ◌-◌, ◌*◌, ◌%◌, List, [], ◌∷◌, ◌++◌, length, set, take, slice_index, Bool, true, false, ◌==◌, nat_lt, if◌then◌else◌}
+use Rattle.std.specs.Prelude.{ℕ, suc, ◌+◌, ◌-◌, ◌*◌, ◌%◌, List, [], ◌∷◌, ◌++◌, length, set, take, slice_index, Bool, true, false, ◌==◌}
+use Rattle.std.specs.Prelude.{nat_lt, if◌then◌else◌}
 use Rattle.std.specs.Prelude.{Option, Some, None}
 use Rattle.events.specs.declared.event.Call.{Call}
 use Rattle.events.specs.declared.event.Reply.{Reply}
@@ -8,7 +9,8 @@ use Rattle.art_rows.specs.declared.table.Shape.{Shape}
 use Rattle.art_rows.specs.declared.table.Kind.{Kind}
 use Rattle.art_rows.specs.declared.table.Kind.TheVariants.{Four, Sixteen, FortyEight, Full}
 use Rattle.art_rows.specs.Table.{root_base, info_at, keys_at, more_keys_at, index_at, count_at, child_at}
-use Rattle.art_rows.specs.Words.{locked_word, key_bytes, keys4_of, keys16_of, entries_of, count_of, place_of, new_place, with_key, info_word, keys4_word}
+use Rattle.art_rows.specs.Words.{locked_word, key_bytes, keys4_of, keys16_of, entries_of, count_of, place_of, new_place, with_key}
+use Rattle.art_rows.specs.Words.{info_word, keys4_word}
 use Rattle.art_rows.specs.Words.{keys16_word, more_keys16_word, entries_word, row_word}
 use Rattle.art_steps.specs.declared.variant.Variant.{Variant}
 use Rattle.art_stages.specs.declared.stage.Held.{Held}
@@ -31,10 +33,13 @@ use Rattle.art_stages.specs.declared.stage.Outcome.{Outcome}
 use Rattle.art_stages.specs.declared.stage.Outcome.TheVariants.{Value, Refused}
 use Rattle.art_stages.specs.declared.stage.Stage.{Stage}
 use Rattle.art_stages.specs.declared.stage.Stage.TheVariants as stage
-use Rattle.art_steps.specs.Steps.{Answers, Rest, Part, ◌>>=◌, ◌>>◌, give, start_again, load, store, exchange, first_at, each, numbers, numbers_down}
-use Rattle.art_steps.specs.Rows.{Setting, Row, Place, Found, Has, Lacks, row_of, key_of, byte_at, path_differs_at, is_insert, locks, releases_early, lock_point}
+use Rattle.art_steps.specs.Steps.{Answers, Rest, Part, ◌>>=◌, ◌>>◌, give, start_again, load, store, exchange, first_at, each, numbers}
+use Rattle.art_steps.specs.Steps.{numbers_down}
+use Rattle.art_steps.specs.Rows.{Setting, Row, Place, Found, Has, Lacks, row_of, key_of, byte_at, path_differs_at, is_insert, locks}
+use Rattle.art_steps.specs.Rows.{releases_early, lock_point}
 use Rattle.art_steps.specs.Rows.{lock, lock_again, unlock, unlock_obsolete, unlock_all, wait, check, check_of, take_row, find, find_child}
-use Rattle.art_steps.specs.Updates.{Under, new_leaf, lesser, greater, store_child, copy_child, pair_in, put, grow, next_kind, store_index, spread_index}
+use Rattle.art_steps.specs.Updates.{Under, new_leaf, lesser, greater, store_child, copy_child, pair_in, put, grow, next_kind, store_index}
+use Rattle.art_steps.specs.Updates.{spread_index}
 use Rattle.art_steps.specs.Updates.{spread_entry}
 use Rattle.art_steps.specs.Coupled as coupled
 use Rattle.art_steps.specs.Optimistic as optimistic
@@ -254,7 +259,8 @@ put_keys Sixteen c h keys = do
   store (keys_at h.row.base) (keys16_word (keys_after c h keys))
   put_more c h keys
 put_keys FortyEight c h keys = do
-  store (index_at h.row.base (byte_in c h.row)) (entries_word (set (keys_before h keys) (byte_in c h.row % 8) (count_in FortyEight keys + 1)))
+  store (index_at h.row.base (byte_in c h.row))
+      (entries_word (set (keys_before h keys) (byte_in c h.row % 8) (count_in FortyEight keys + 1)))
   put_count c h keys
 put_keys Full c h keys = finish (rows_held h)
 
@@ -418,7 +424,8 @@ part_of l i e c (stage.GrowStore g place left word) = do
   grow_copies c g (place + 1) left
 part_of l i e c (stage.SpreadIndex g j left) = grow_spreads c g j (suc left)
 part_of l i e c (stage.SpreadLoad s entry left) = do
-  copy_child c (child_at FortyEight s.growing.hold.row.base (slice_index (entries_of s.word) entry - 1)) (child_at Full s.growing.base (8 * s.place + entry))
+  copy_child c (child_at FortyEight s.growing.hold.row.base (slice_index (entries_of s.word) entry - 1))
+      (child_at Full s.growing.base (8 * s.place + entry))
   spread_rest c s (entry + 1) left
 part_of l i e c (stage.SpreadStore s entry left word) = do
   store (child_at Full s.growing.base (8 * s.place + entry)) word

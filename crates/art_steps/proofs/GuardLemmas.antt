@@ -14,19 +14,27 @@ use Rattle.art_rows.specs.declared.table.Child.TheVariants.{Empty, Row as ChildR
 use Rattle.art_rows.specs.Words.{is_locked, is_obsolete, locked_word, place_of, entries_of, child_of}
 use Rattle.art_steps.specs.declared.variant.Variant.{Variant}
 use Rattle.art_steps.specs.Act.{procedure, act}
-use Rattle.art_steps.specs.Steps.{Answers, from_start, Rest, Part, ◌>>=◌, ◌>>◌, give, start_again, answer, load, store, exchange, numbers, numbers_down}
-use Rattle.art_steps.specs.Rows.{Setting, Row, Place, is_insert, locks, key_of, leaves_out_check, takes_unchecked, releases_early, lock_point, lock_again, lock}
-use Rattle.art_steps.specs.Rows.{unlock, unlock_obsolete, unlock_all, wait, check, check_of, take_row, Found, Has, Lacks, load_child, find_child, find_among}
+use Rattle.art_steps.specs.Steps.{Answers, from_start, Rest, Part, ◌>>=◌, ◌>>◌, give, start_again, answer, load, store, exchange, numbers}
+use Rattle.art_steps.specs.Steps.{numbers_down}
+use Rattle.art_steps.specs.Rows.{Setting, Row, Place, is_insert, locks, key_of, leaves_out_check, takes_unchecked, releases_early}
+use Rattle.art_steps.specs.Rows.{lock_point, lock_again, lock}
+use Rattle.art_steps.specs.Rows.{unlock, unlock_obsolete, unlock_all, wait, check, check_of, take_row, Found, Has, Lacks, load_child}
+use Rattle.art_steps.specs.Rows.{find_child, find_among}
 use Rattle.art_steps.specs.Rows.{find_indexed, find_in, find, is_full, claim, row_of, path_differs_at}
-use Rattle.art_steps.specs.Updates.{overwriting, Under, pair, pair_in, copy_child, make_room, put_in, put, store_index, spread_entry, spread_index, fill, grow}
+use Rattle.art_steps.specs.Updates.{overwriting, Under, pair, pair_in, copy_child, make_room, put_in, put, store_index, spread_entry}
+use Rattle.art_steps.specs.Updates.{spread_index, fill, grow}
 use Rattle.art_steps.specs.Updates.{insert_in, insert_beside, keys_differ_at}
 use Rattle.art_steps.specs.Coupled as coupled
 use Rattle.art_steps.specs.Optimistic as optimistic
-use Rattle.art_steps.specs.Scan.{Walked, enter, walk_child, walk_slot, walk_place, walk_keys, walk_entry, walk_index, walk_in, walk_bytes, At, walk_from}
+use Rattle.art_steps.specs.Scan.{Walked, enter, walk_child, walk_slot, walk_place, walk_keys, walk_entry, walk_index, walk_in, walk_bytes}
+use Rattle.art_steps.specs.Scan.{At, walk_from}
 use Rattle.art_steps.specs.Scan.{bytes_of, scan}
-use Rattle.art_steps.proofs.RecursionLemmas.{Keeps, Delays, Delays-keeps, Delays-more, recursive-body, recursive-keeps, more_guarded, recursive-delays}
-use Rattle.art_steps.proofs.RecursionLemmas.{give-keeps, again-keeps, bind-keeps, bind-delays, then-keeps, if-keeps, if-delays, load-delays, load_at-delays}
-use Rattle.art_steps.proofs.RecursionLemmas.{exchange-delays, add-delays, store-delays, store_at-delays, first_at-delays, each-keeps, over-keeps, repeat-delays}
+use Rattle.art_steps.proofs.RecursionLemmas.{Keeps, Delays, Delays-keeps, Delays-more, recursive-body, recursive-keeps, more_guarded}
+use Rattle.art_steps.proofs.RecursionLemmas.{recursive-delays}
+use Rattle.art_steps.proofs.RecursionLemmas.{give-keeps, again-keeps, bind-keeps, bind-delays, then-keeps, if-keeps, if-delays, load-delays}
+use Rattle.art_steps.proofs.RecursionLemmas.{load_at-delays}
+use Rattle.art_steps.proofs.RecursionLemmas.{exchange-delays, add-delays, store-delays, store_at-delays, first_at-delays, each-keeps}
+use Rattle.art_steps.proofs.RecursionLemmas.{over-keeps, repeat-delays}
 use Rattle.art_steps.proofs.RecursionLemmas.{repeat-body}
 
 pub answer-keeps : {A : Type 0} (n : ℕ) (r : Reply) → Keeps {A = A} n (answer r) (answer r)
@@ -124,7 +132,8 @@ pub find_child-keeps : (n : ℕ) (c : Setting) (slot : ℕ) → Keeps n (find_ch
 unfolding find_child
 find_child-keeps n c slot = Delays-keeps (bind-delays (load_at-delays _ n slot) λ w. give-keeps n _)
 
-pub find_among-keeps : (n : ℕ) (c : Setting) (r : Row) (keys : List ℕ) (o : Option ℕ) → Keeps n (find_among c r keys o) (find_among c r keys o)
+pub find_among-keeps : (n : ℕ) (c : Setting) (r : Row) (keys : List ℕ) (o : Option ℕ)
+    → Keeps n (find_among c r keys o) (find_among c r keys o)
 unfolding find_among
 find_among-keeps n c r keys None = give-keeps n _
 find_among-keeps n c r keys (Some i) = find_child-keeps n c _
@@ -138,7 +147,8 @@ find_indexed-keeps n c r es e = if-keeps (e == 0)
 pub find_in-delays : (n : ℕ) (k : Kind) (c : Setting) (r : Row) (x : ℕ) → Delays n (find_in k c r x) (find_in k c r x)
 unfolding find_in
 find_in-delays n Four c r x = bind-delays (load-delays n _) λ w. find_among-keeps n c r _ _
-find_in-delays n Sixteen c r x = bind-delays (load-delays n _) λ a. bind-keeps (load-keeps n _) λ b. bind-keeps (load-keeps n _) λ d. find_among-keeps n c r _ _
+find_in-delays n Sixteen c r x = bind-delays (load-delays n _) λ a. bind-keeps (load-keeps n _) λ b. bind-keeps (load-keeps n _) λ d.
+    find_among-keeps n c r _ _
 find_in-delays n FortyEight c r x = bind-delays (load-delays n _) λ w. find_indexed-keeps n c r _ _
 find_in-delays n Full c r x = bind-delays (load-delays n _) λ w. give-keeps n _
 
@@ -158,7 +168,8 @@ unfolding pair
 pair-keeps n c held d a b = bind-keeps (claim-keeps n c held Four) λ base. then-keeps (store-keeps n _ _) (then-keeps (store-keeps n _ _)
     (then-keeps (store-keeps n _ _) (then-keeps (store-keeps n _ _) (give-keeps n _))))
 
-pub pair_in-keeps : (n : ℕ) (c : Setting) (held : List Row) (slot d : ℕ) (a : Under) → Keeps n (pair_in c held slot d a) (pair_in c held slot d a)
+pub pair_in-keeps : (n : ℕ) (c : Setting) (held : List Row) (slot d : ℕ) (a : Under)
+    → Keeps n (pair_in c held slot d a) (pair_in c held slot d a)
 unfolding pair_in
 pair_in-keeps n c held slot d a = bind-keeps (pair-keeps n c held d a _) λ w. store-keeps n _ _
 
@@ -207,7 +218,8 @@ fill-keeps n Four c r base x keys count =
 fill-keeps n Sixteen c r base x keys count =
     then-keeps (each-keeps n _ (λ i. copy_child-keeps n c _ _) (numbers 0 count))
     (then-keeps (store-keeps n _ _)
-    (then-keeps (each-keeps n (store_index base (keys ++ x ∷ [])) (store_index-keeps n base (keys ++ x ∷ [])) (numbers 0 32)) (store-keeps n _ _)))
+    (then-keeps (each-keeps n (store_index base (keys ++ x ∷ [])) (store_index-keeps n base (keys ++ x ∷ [])) (numbers 0 32))
+        (store-keeps n _ _)))
 fill-keeps n FortyEight c r base x keys count =
     then-keeps (each-keeps n (spread_index c r base) (spread_index-keeps n c r base) (numbers 0 32)) (store-keeps n _ _)
 fill-keeps n Full c r base x keys count = give-keeps n tt
@@ -219,7 +231,8 @@ grow-keeps n c above slot r keys count = bind-keeps (claim-keeps n c _ _) λ bas
     (then-keeps (fill-keeps n r.kind c r base _ keys count)
     (then-keeps (store-keeps n _ _) (then-keeps (unlock_obsolete-keeps n r) (unlock_all-keeps n above))))
 
-pub insert_in-keeps : (n : ℕ) (c : Setting) (held : List Row) (slot : ℕ) (child : Child) → Keeps n (insert_in c held slot child) (insert_in c held slot child)
+pub insert_in-keeps : (n : ℕ) (c : Setting) (held : List Row) (slot : ℕ) (child : Child)
+    → Keeps n (insert_in c held slot child) (insert_in c held slot child)
 unfolding insert_in
 insert_in-keeps n c held slot Empty = then-keeps (store-keeps n _ _) (give-keeps n _)
 insert_in-keeps n c held slot (Leaf key value) = if-keeps (key == key_of c.call) (then-keeps (store-keeps n _ _) (give-keeps n _))
@@ -240,7 +253,8 @@ overwrite-keeps n slot (Some word) = store-keeps n _ _
 lock-keeps : (n : ℕ) (s : Shape) (base : ℕ) → Keeps n (lock s base) (lock s base)
 lock-keeps n s base = Delays-keeps (lock-delays n s base)
 
-step_down-keeps : (n : ℕ) (c : Setting) (r : Row) (base : ℕ) (kind : Kind) → Keeps n (coupled.step_down c r base kind) (coupled.step_down c r base kind)
+step_down-keeps : (n : ℕ) (c : Setting) (r : Row) (base : ℕ) (kind : Kind)
+    → Keeps n (coupled.step_down c r base kind) (coupled.step_down c r base kind)
 unfolding coupled.step_down
 step_down-keeps n c r base kind = if-keeps (releases_early c.variant)
     (then-keeps (unlock-keeps n r) (bind-keeps (lock-keeps n c.shape base) λ v. bind-keeps (load-keeps n _) λ info. give-keeps n _))
@@ -296,11 +310,14 @@ insert_at-keeps : (n : ℕ) (c : Setting) (go go' : Place → Part Reply) → ((
 unfolding coupled.insert_at
 insert_at-keeps n c go go' k p (Lacks keys count) = if-keeps (is_full p.row count)
     (then-keeps (grow-keeps n c p.above p.slot p.row keys count) (give-keeps n _))
-    (then-keeps (unlock_all-keeps n p.above) (then-keeps (put-keeps n c p.row keys count) (then-keeps (unlock-keeps n p.row) (give-keeps n _))))
+    (then-keeps (unlock_all-keeps n p.above) (then-keeps (put-keeps n c p.row keys count) (then-keeps (unlock-keeps n p.row)
+        (give-keeps n _))))
 insert_at-keeps n c go go' k p (Has slot Empty) =
-    then-keeps (unlock_all-keeps n p.above) (bind-keeps (insert_in-keeps n c _ slot Empty) λ r. then-keeps (unlock-keeps n p.row) (give-keeps n _))
+    then-keeps (unlock_all-keeps n p.above) (bind-keeps (insert_in-keeps n c _ slot Empty) λ r. then-keeps
+        (unlock-keeps n p.row) (give-keeps n _))
 insert_at-keeps n c go go' k p (Has slot (Leaf key value)) =
-    then-keeps (unlock_all-keeps n p.above) (bind-keeps (insert_in-keeps n c _ slot (Leaf key value)) λ r. then-keeps (unlock-keeps n p.row) (give-keeps n _))
+    then-keeps (unlock_all-keeps n p.above) (bind-keeps (insert_in-keeps n c _ slot (Leaf key value)) λ r. then-keeps
+        (unlock-keeps n p.row) (give-keeps n _))
 insert_at-keeps n c go go' k p (Has slot (ChildRow base kind)) =
     then-keeps (unlock_all-keeps n p.above) (bind-keeps (lock-keeps n c.shape base) λ v. bind-keeps (load-keeps n _) λ info.
     insert_below-keeps n c go go' k p.row slot (row_of base kind info v) (path_differs_at c (row_of base kind info v)))
@@ -335,9 +352,11 @@ wait-keeps n base = Delays-keeps (wait-delays n base)
 overwrite_optimistic-keeps : (n : ℕ) (c : Setting) (r : Row) (slot : ℕ) (word : Option ℕ)
     → Keeps n (optimistic.overwrite c r slot word) (optimistic.overwrite c r slot word)
 overwrite_optimistic-keeps n c r slot None = give-keeps n tt
-overwrite_optimistic-keeps n c r slot (Some word) = bind-keeps (take_row-keeps n c [] r) λ held. then-keeps (store-keeps n _ _) (unlock-keeps n held)
+overwrite_optimistic-keeps n c r slot (Some word) =
+    bind-keeps (take_row-keeps n c [] r) λ held. then-keeps (store-keeps n _ _) (unlock-keeps n held)
 
-seek_below_optimistic-keeps : (n : ℕ) (c : Setting) (go go' : Row → Part Reply) → ((r : Row) → Keeps n (go r) (go' r)) → (m : Row) (o : Option ℕ)
+seek_below_optimistic-keeps : (n : ℕ) (c : Setting) (go go' : Row → Part Reply) → ((r : Row) → Keeps n (go r) (go' r))
+    → (m : Row) (o : Option ℕ)
     → Keeps n (optimistic.seek_below c go m o) (optimistic.seek_below c go' m o)
 seek_below_optimistic-keeps n c go go' k m None = k m
 seek_below_optimistic-keeps n c go go' k m (Some d) = then-keeps (check_of-keeps n c m) (give-keeps n _)
@@ -348,7 +367,8 @@ unfolding optimistic.step_down
 step_down_optimistic-keeps n c r base kind =
     bind-keeps (wait-keeps n base) λ v. then-keeps (check_of-keeps n c r) (bind-keeps (load-keeps n _) λ info. give-keeps n _)
 
-seek_at_optimistic-keeps : (n : ℕ) (c : Setting) (go go' : Row → Part Reply) → ((r : Row) → Keeps n (go r) (go' r)) → (r : Row) (found : Found)
+seek_at_optimistic-keeps : (n : ℕ) (c : Setting) (go go' : Row → Part Reply) → ((r : Row) → Keeps n (go r) (go' r))
+    → (r : Row) (found : Found)
     → Keeps n (optimistic.seek_at c go r found) (optimistic.seek_at c go' r found)
 unfolding optimistic.seek_at
 seek_at_optimistic-keeps n c go go' k r (Lacks keys count) = give-keeps n _
@@ -375,38 +395,45 @@ pub seek_from_optimistic-body : (c : Setting) (r : Row) (again : Rest) (after : 
     → optimistic.seek_from c r again after got
     ≡ (find c r >>= λ found. check_of c r >> optimistic.seek_at c (optimistic.seek_from c) r found) again after got
 unfolding optimistic.seek_from seek_turn_optimistic
-seek_from_optimistic-body c = recursive-body (seek_turn_optimistic c) (more_guarded (seek_turn_optimistic c) (seek_turn_optimistic-delays c))
+seek_from_optimistic-body c = recursive-body (seek_turn_optimistic c) (more_guarded (seek_turn_optimistic c)
+    (seek_turn_optimistic-delays c))
 
 seek_optimistic-delays : (n : ℕ) (c : Setting) → Delays n (optimistic.seek c) (optimistic.seek c)
 unfolding optimistic.seek optimistic.seek_from seek_turn_optimistic
-seek_optimistic-delays n c = bind-delays (wait-delays n _) λ v. Delays-keeps (recursive-delays (seek_turn_optimistic c) (seek_turn_optimistic-delays c) n _)
+seek_optimistic-delays n c = bind-delays (wait-delays n _) λ v. Delays-keeps (recursive-delays (seek_turn_optimistic c)
+    (seek_turn_optimistic-delays c) n _)
 
 insert_below_optimistic-keeps : (n : ℕ) (c : Setting) (go go' : Place → Part Reply) → ((p : Place) → Keeps n (go p) (go' p))
     → (r : Row) (slot : ℕ) (m : Row) (o : Option ℕ)
     → Keeps n (optimistic.insert_below c go r slot m o) (optimistic.insert_below c go' r slot m o)
 insert_below_optimistic-keeps n c go go' k r slot m None = k _
 insert_below_optimistic-keeps n c go go' k r slot m (Some d) = if-keeps (nat_le d r.level) (again-keeps n)
-    (bind-keeps (take_row-keeps n c [] r) λ held. bind-keeps (insert_beside-keeps n c _ slot m d) λ reply. then-keeps (unlock-keeps n held) (give-keeps n _))
+    (bind-keeps (take_row-keeps n c [] r) λ held. bind-keeps (insert_beside-keeps n c _ slot m d) λ reply. then-keeps
+        (unlock-keeps n held) (give-keeps n _))
 
 insert_leaf-keeps : (n : ℕ) (c : Setting) (r : Row) (slot : ℕ) (child : Child)
     → Keeps n (optimistic.insert_leaf c r slot child) (optimistic.insert_leaf c r slot child)
 unfolding optimistic.insert_leaf
 insert_leaf-keeps n c r slot child =
-    bind-keeps (take_row-keeps n c [] r) λ held. bind-keeps (insert_in-keeps n c _ slot child) λ reply. then-keeps (unlock-keeps n held) (give-keeps n _)
+    bind-keeps (take_row-keeps n c [] r) λ held. bind-keeps (insert_in-keeps n c _ slot child) λ reply. then-keeps
+        (unlock-keeps n held) (give-keeps n _)
 
-insert_at_optimistic-keeps : (n : ℕ) (c : Setting) (go go' : Place → Part Reply) → ((p : Place) → Keeps n (go p) (go' p)) → (p : Place) (found : Found)
+insert_at_optimistic-keeps : (n : ℕ) (c : Setting) (go go' : Place → Part Reply) → ((p : Place) → Keeps n (go p) (go' p))
+    → (p : Place) (found : Found)
     → Keeps n (optimistic.insert_at c go p found) (optimistic.insert_at c go' p found)
 unfolding optimistic.insert_at
 insert_at_optimistic-keeps n c go go' k p (Lacks keys count) = if-keeps (is_full p.row count)
     (bind-keeps (over-keeps n _ _ (λ q held. bind-keeps (take_row-keeps n c held q) λ h. give-keeps n _) p.above []) λ above.
     bind-keeps (take_row-keeps n c above p.row) λ held. then-keeps (grow-keeps n c above p.slot held keys count) (give-keeps n _))
-    (bind-keeps (take_row-keeps n c [] p.row) λ held. then-keeps (put-keeps n c held keys count) (then-keeps (unlock-keeps n held) (give-keeps n _)))
+    (bind-keeps (take_row-keeps n c [] p.row) λ held. then-keeps (put-keeps n c held keys count)
+        (then-keeps (unlock-keeps n held) (give-keeps n _)))
 insert_at_optimistic-keeps n c go go' k p (Has slot Empty) = insert_leaf-keeps n c p.row slot Empty
 insert_at_optimistic-keeps n c go go' k p (Has slot (Leaf key value)) = if-keeps (key == key_of c.call)
     (insert_leaf-keeps n c p.row slot _)
     (if-keeps (nat_le (keys_differ_at key (key_of c.call)) p.row.level) (again-keeps n) (insert_leaf-keeps n c p.row slot _))
 insert_at_optimistic-keeps n c go go' k p (Has slot (ChildRow base kind)) =
-    bind-keeps (step_down_optimistic-keeps n c p.row base kind) λ m. insert_below_optimistic-keeps n c go go' k p.row slot m (path_differs_at c m)
+    bind-keeps (step_down_optimistic-keeps n c p.row base kind) λ m. insert_below_optimistic-keeps n c go go' k p.row slot m
+        (path_differs_at c m)
 
 insert_turn_optimistic : Setting → (Place → Part Reply) → Place → Part Reply
 insert_turn_optimistic c go p = do
@@ -425,7 +452,8 @@ pub insert_from_optimistic-body : (c : Setting) (p : Place) (again : Rest) (afte
     → optimistic.insert_from c p again after got
     ≡ (find c p.row >>= λ found. check_of c p.row >> optimistic.insert_at c (optimistic.insert_from c) p found) again after got
 unfolding optimistic.insert_from insert_turn_optimistic
-insert_from_optimistic-body c = recursive-body (insert_turn_optimistic c) (more_guarded (insert_turn_optimistic c) (insert_turn_optimistic-delays c))
+insert_from_optimistic-body c = recursive-body (insert_turn_optimistic c) (more_guarded (insert_turn_optimistic c)
+    (insert_turn_optimistic-delays c))
 
 insert_optimistic-delays : (n : ℕ) (c : Setting) → Delays n (optimistic.insert c) (optimistic.insert c)
 unfolding optimistic.insert optimistic.insert_from insert_turn_optimistic
@@ -437,7 +465,8 @@ insert_optimistic-delays n c =
 enter-delays : (n : ℕ) (c : Setting) (base : ℕ) → Delays n (enter c base) (enter c base)
 enter-delays n c base = if-delays (locks c.variant) (lock-delays n c.shape base) (wait-delays n base)
 
-module _ (n : ℕ) (c : Setting) (lo hi : ℕ) (walk walk' : Row → Walked → Part Walked) (k : (r : Row) (w : Walked) → Keeps n (walk r w) (walk' r w)) where
+module _ (n : ℕ) (c : Setting) (lo hi : ℕ) (walk walk' : Row → Walked → Part Walked)
+    (k : (r : Row) (w : Walked) → Keeps n (walk r w) (walk' r w)) where
   walk_child-keeps : (child : Child) (w : Walked) → Keeps n (walk_child c lo hi walk child w) (walk_child c lo hi walk' child w)
   unfolding walk_child
   walk_child-keeps Empty w = give-keeps n w
@@ -453,7 +482,8 @@ module _ (n : ℕ) (c : Setting) (lo hi : ℕ) (walk walk' : Row → Walked → 
   walk_place-keeps r None w = give-keeps n w
   walk_place-keeps r (Some i) w = Delays-keeps (walk_slot-delays _ w)
 
-  walk_keys-keeps : (r : Row) (keys xs : List ℕ) (w : Walked) → Keeps n (walk_keys c lo hi walk r keys xs w) (walk_keys c lo hi walk' r keys xs w)
+  walk_keys-keeps : (r : Row) (keys xs : List ℕ) (w : Walked)
+      → Keeps n (walk_keys c lo hi walk r keys xs w) (walk_keys c lo hi walk' r keys xs w)
   unfolding walk_keys
   walk_keys-keeps r keys xs w = over-keeps n _ _ (λ x. walk_place-keeps r (place_of x keys)) xs w
 
@@ -461,19 +491,23 @@ module _ (n : ℕ) (c : Setting) (lo hi : ℕ) (walk walk' : Row → Walked → 
   unfolding walk_entry
   walk_entry-keeps r e w = if-keeps (e == 0) (give-keeps n w) (Delays-keeps (walk_slot-delays _ w))
 
-  walk_index-keeps : (r : Row) (j : ℕ) (xs : List ℕ) (w : Walked) → Keeps (suc n) (walk_index c lo hi walk r j xs w) (walk_index c lo hi walk' r j xs w)
+  walk_index-keeps : (r : Row) (j : ℕ) (xs : List ℕ) (w : Walked)
+      → Keeps (suc n) (walk_index c lo hi walk r j xs w) (walk_index c lo hi walk' r j xs w)
   unfolding walk_index
   walk_index-keeps r j [] w = give-keeps (suc n) w
   walk_index-keeps r j (x ∷ xs) w = Delays-more (bind-delays (load-delays n _) λ es.
       over-keeps n _ _ (λ y. walk_entry-keeps r (slice_index (entries_of es) (y % 8))) (x ∷ xs) w)
 
-  walk_in-keeps : (kind : Kind) (r : Row) (xs : List ℕ) (w : Walked) → Keeps (suc n) (walk_in c lo hi walk kind r xs w) (walk_in c lo hi walk' kind r xs w)
+  walk_in-keeps : (kind : Kind) (r : Row) (xs : List ℕ) (w : Walked)
+      → Keeps (suc n) (walk_in c lo hi walk kind r xs w) (walk_in c lo hi walk' kind r xs w)
   unfolding walk_in
   walk_in-keeps Four r xs w = Delays-more (bind-delays (load-delays n _) λ keys. walk_keys-keeps r _ xs w)
   walk_in-keeps Sixteen r xs w =
-      Delays-more (bind-delays (load-delays n _) λ count. bind-keeps (load-keeps n _) λ a. bind-keeps (load-keeps n _) λ b. walk_keys-keeps r _ xs w)
+      Delays-more (bind-delays (load-delays n _) λ count. bind-keeps (load-keeps n _) λ a. bind-keeps (load-keeps n _) λ b.
+          walk_keys-keeps r _ xs w)
   walk_in-keeps FortyEight r xs w =
-      over-keeps (suc n) (λ j. walk_index c lo hi walk r j (filter (λ x. x / 8 == j) xs)) (λ j. walk_index c lo hi walk' r j (filter (λ x. x / 8 == j) xs))
+      over-keeps (suc n) (λ j. walk_index c lo hi walk r j (filter (λ x. x / 8 == j) xs))
+          (λ j. walk_index c lo hi walk' r j (filter (λ x. x / 8 == j) xs))
       (λ j. walk_index-keeps r j (filter (λ x. x / 8 == j) xs)) (numbers 0 32) w
   walk_in-keeps Full r xs w = over-keeps (suc n) _ _ (λ x s. Delays-more (walk_slot-delays (child_at Full r.base x) s)) xs w
 
@@ -493,7 +527,8 @@ walk_turn-keeps c lo hi n f g k a = walk_bytes-keeps n c lo hi _ _ (λ r w. k _)
 -- The law of a walk from a row on.
 pub walk_from-body : (c : Setting) (lo hi : ℕ) (at : At) (again : Rest) (after : Walked → Rest) (got : List ℕ)
     → walk_from c lo hi at again after got
-    ≡ walk_bytes c lo hi (λ m w. walk_from c lo hi (record { row = m; walked = w })) at.row (bytes_of lo hi at.row) at.walked again after got
+    ≡ walk_bytes c lo hi (λ m w. walk_from c lo hi (record { row = m; walked = w })) at.row (bytes_of lo hi at.row)
+        at.walked again after got
 unfolding walk_from walk_turn
 walk_from-body c lo hi = recursive-body (walk_turn c lo hi) (walk_turn-keeps c lo hi)
 
@@ -504,7 +539,8 @@ walk_from-keeps n c lo hi at = recursive-keeps (walk_turn c lo hi) (walk_turn-ke
 scan-delays : (n : ℕ) (c : Setting) (lo hi : ℕ) → Delays n (scan c lo hi) (scan c lo hi)
 unfolding scan
 scan-delays n c lo hi = bind-delays (enter-delays n c _) λ v. bind-keeps (walk_from-keeps n c lo hi _) λ w.
-    then-keeps (if-keeps (locks c.variant) (unlock_all-keeps n w.rows) (each-keeps n (check_of c) (check_of-keeps n c) w.rows)) (give-keeps n w.pairs)
+    then-keeps (if-keeps (locks c.variant) (unlock_all-keeps n w.rows) (each-keeps n (check_of c) (check_of-keeps n c) w.rows))
+        (give-keeps n w.pairs)
 
 -- Calls
 
@@ -527,7 +563,8 @@ start_turn-delays m d n self self' k = record {
       (d n).rest (self again after) (self' again' after') after after' (k.rest again again' after after' sa sb) sb;
 }
 
-from_start-body : (m : Part Reply) → ((n : ℕ) → Delays n m m) → (got : List ℕ) → from_start m got ≡ m (from_start m) (λ r got. Answers r) got
+from_start-body : (m : Part Reply) → ((n : ℕ) → Delays n m m) → (got : List ℕ)
+    → from_start m got ≡ m (from_start m) (λ r got. Answers r) got
 unfolding start_turn
 from_start-body m d got = repeat-body (start_turn m) (start_turn-delays m d) (λ got. Answers reply.None) (λ r got. Answers r) got
 

@@ -27,7 +27,8 @@ pub record Delays {A : Type 0} (n : ℕ) (m m' : Part A) : Type 0 where
       → Same (suc n) (m again after) (m' again' after')
 
 pub Delays-keeps : {A : Type 0} {n : ℕ} {m m' : Part A} → Delays n m m' → Keeps n m m'
-Delays-keeps {n = n} d = record { rest = λ again again' after after' s t. Same-less n (suc n) (omega arith) (d.rest again again' after after' s t) }
+Delays-keeps {n = n} d = record { rest = λ again again' after after' s t. Same-less n (suc n) (omega arith)
+    (d.rest again again' after after' s t) }
 
 pub Delays-more : {A : Type 0} {n : ℕ} {m m' : Part A} → Delays n m m' → Keeps (suc n) m m'
 Delays-more {n = n} d =
@@ -46,7 +47,8 @@ module _ {S A : Type 0} (body : (S → Part A) → S → Part A)
   calls-agree (suc n) (suc a) (suc b) la lb s = record {
     rest = λ again again' after after' sa sb. record {
       at = λ got h.
-          ((guarded n (calls_of a body) (calls_of b body) (calls-agree n a b (omega arith) (omega arith)) s).rest again again' after after' sa sb).at got h;
+          ((guarded n (calls_of a body) (calls_of b body) (calls-agree n a b (omega arith) (omega arith)) s).rest again again' after
+              after' sa sb).at got h;
     };
   }
 
@@ -60,7 +62,8 @@ module _ {S A : Type 0} (body : (S → Part A) → S → Part A)
   }
 
   -- The law of a recursive part: it is its own body.
-  pub recursive-body : (s : S) (again : Rest) (after : A → Rest) (got : List ℕ) → recursive body s again after got ≡ body (recursive body) s again after got
+  pub recursive-body : (s : S) (again : Rest) (after : A → Rest) (got : List ℕ)
+      → recursive body s again after got ≡ body (recursive body) s again after got
   recursive-body s again after got =
       ((guarded (length got) (calls_of (length got) body) (recursive body) (enough (length got)) s).rest again again after after
       (Same-refl (suc (length got)) again) (λ a. Same-refl (suc (length got)) (after a))).at got (omega arith)
@@ -69,7 +72,8 @@ module _ {S A : Type 0} (body : (S → Part A) → S → Part A)
   recursive-keeps n s = record {
     rest = λ again again' after after' sa sb. record {
       at = λ got h.
-          ((calls-agree (suc (length got)) (suc (length got)) (suc (length got)) (omega arith) (omega arith) s).rest again again' after after'
+          ((calls-agree (suc (length got)) (suc (length got)) (suc (length got)) (omega arith) (omega arith) s).rest again
+              again' after after'
           (Same-less (suc (length got)) n h sa) (λ x. Same-less (suc (length got)) n h (sb x))).at got (omega arith);
     };
   }
@@ -99,13 +103,15 @@ give-keeps n a = record { rest = λ again again' after after' sa sb. sb a }
 pub again-keeps : {A : Type 0} (n : ℕ) → Keeps {A = A} n start_again start_again
 again-keeps n = record { rest = λ again again' after after' sa sb. sa }
 
-pub bind-keeps : {A B : Type 0} {n : ℕ} {m m' : Part A} {f f' : A → Part B} → Keeps n m m' → ((a : A) → Keeps n (f a) (f' a)) → Keeps n (m >>= f) (m' >>= f')
+pub bind-keeps : {A B : Type 0} {n : ℕ} {m m' : Part A} {f f' : A → Part B} → Keeps n m m' → ((a : A) → Keeps n (f a) (f' a))
+    → Keeps n (m >>= f) (m' >>= f')
 bind-keeps {f = f} {f' = f'} k l = record {
   rest = λ again again' after after' sa sb.
       k.rest again again' (λ a. f a again after) (λ a. f' a again' after') sa (λ a. (l a).rest again again' after after' sa sb);
 }
 
-pub bind-delays : {A B : Type 0} {n : ℕ} {m m' : Part A} {f f' : A → Part B} → Delays n m m' → ((a : A) → Keeps n (f a) (f' a)) → Delays n (m >>= f) (m' >>= f')
+pub bind-delays : {A B : Type 0} {n : ℕ} {m m' : Part A} {f f' : A → Part B} → Delays n m m' → ((a : A) → Keeps n (f a) (f' a))
+    → Delays n (m >>= f) (m' >>= f')
 bind-delays {f = f} {f' = f'} k l = record {
   rest = λ again again' after after' sa sb.
       k.rest again again' (λ a. f a again after) (λ a. f' a again' after') sa (λ a. (l a).rest again again' after after' sa sb);
@@ -117,15 +123,18 @@ then-keeps {p = p} {p' = p'} k l = record {
       k.rest again again' (λ a. p again after) (λ a. p' again' after') sa (λ a. l.rest again again' after after' sa sb);
 }
 
-pub if-keeps : {A : Type 0} {n : ℕ} {m m' p p' : Part A} (b : Bool) → Keeps n m m' → Keeps n p p' → Keeps n (if b then m else p) (if b then m' else p')
+pub if-keeps : {A : Type 0} {n : ℕ} {m m' p p' : Part A} (b : Bool) → Keeps n m m' → Keeps n p p'
+    → Keeps n (if b then m else p) (if b then m' else p')
 if-keeps true k l = k
 if-keeps false k l = l
 
-pub if-delays : {A : Type 0} {n : ℕ} {m m' p p' : Part A} (b : Bool) → Delays n m m' → Delays n p p' → Delays n (if b then m else p) (if b then m' else p')
+pub if-delays : {A : Type 0} {n : ℕ} {m m' p p' : Part A} (b : Bool) → Delays n m m' → Delays n p p'
+    → Delays n (if b then m else p) (if b then m' else p')
 if-delays true k l = k
 if-delays false k l = l
 
-access-same : (a : Access) (p : Option Point) (n : ℕ) (after after' : ℕ → Rest) → ((w : ℕ) → Same n (after w) (after' w)) → (got : List ℕ) → length got < suc n
+access-same : (a : Access) (p : Option Point) (n : ℕ) (after after' : ℕ → Rest) → ((w : ℕ) → Same n (after w) (after' w)) → (got : List ℕ)
+    → length got < suc n
     → access a p after got ≡ access a p after' got
 access-same a p n after after' s [] h = refl
 access-same a p n after after' s (w ∷ got) h = (s w).at got (omega arith)
@@ -143,7 +152,8 @@ pub add-delays : (n word : ℕ) → Delays n (add word) (add word)
 add-delays n word = record { rest = λ again again' after after' sa sb. record { at = access-same _ _ n after after' sb } }
 
 pub store-delays : (n word value : ℕ) → Delays n (store word value) (store word value)
-store-delays n word value = record { rest = λ again again' after after' sa sb. record { at = access-same _ _ n (λ _. after tt) (λ _. after' tt) (λ _. sb tt) } }
+store-delays n word value = record { rest = λ again again' after after' sa sb. record { at = access-same _ _ n (λ _. after tt)
+    (λ _. after' tt) (λ _. sb tt) } }
 
 pub store_at-delays : (p : Point) (n word value : ℕ) → Delays n (store_at p word value) (store_at p word value)
 store_at-delays p n word value =
@@ -156,9 +166,11 @@ first_at-same p n d again again' after after' sa sb [] h = ap (marked p) ((d.res
 first_at-same p n d again again' after after' sa sb (w ∷ got) h = (d.rest again again' after after' sa sb).at (w ∷ got) h
 
 pub first_at-delays : {A : Type 0} (p : Point) (n : ℕ) {m m' : Part A} → Delays n m m' → Delays n (first_at p m) (first_at p m')
-first_at-delays p n d = record { rest = λ again again' after after' sa sb. record { at = first_at-same p n d again again' after after' sa sb } }
+first_at-delays p n d = record { rest = λ again again' after after' sa sb. record { at = first_at-same p n d again again'
+    after after' sa sb } }
 
-pub each-keeps : {A : Type 0} (n : ℕ) (f : A → Part (Unit {0})) → ((x : A) → Keeps n (f x) (f x)) → (xs : List A) → Keeps n (each xs f) (each xs f)
+pub each-keeps : {A : Type 0} (n : ℕ) (f : A → Part (Unit {0})) → ((x : A) → Keeps n (f x) (f x)) → (xs : List A)
+    → Keeps n (each xs f) (each xs f)
 each-keeps n f k [] = give-keeps n tt
 each-keeps n f k (x ∷ xs) = then-keeps (k x) (each-keeps n f k xs)
 
@@ -169,7 +181,8 @@ over-keeps n f f' k (x ∷ xs) s = bind-keeps (k x s) (over-keeps n f f' k xs)
 
 module _ {A : Type 0} (body : Part A → Part A)
     (guarded : (n : ℕ) (m m' : Part A) → Keeps n m m' → Delays n (body m) (body m')) where
-  in_turn : (n : ℕ) (f g : Unit {0} → Part A) → ((s : Unit {0}) → Keeps n (f s) (g s)) → (s : Unit {0}) → Delays n (body (f tt)) (body (g tt))
+  in_turn : (n : ℕ) (f g : Unit {0} → Part A) → ((s : Unit {0}) → Keeps n (f s) (g s)) → (s : Unit {0})
+      → Delays n (body (f tt)) (body (g tt))
   in_turn n f g k s = guarded n (f tt) (g tt) (k tt)
 
   pub repeat-delays : (n : ℕ) → Delays n (repeat body) (repeat body)

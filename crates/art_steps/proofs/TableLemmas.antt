@@ -1,5 +1,6 @@
 -- Every access is in the table, whatever words were got.
-use Rattle.std.proofs.Common.{◌≡◌, ℕ, zero, suc, ◌+◌, ◌-◌, ◌/◌, ◌%◌, ◌<◌, ◌≤◌, List, [], ◌∷◌, length, refl, ap, subst, arith, Bool, true, false}
+use Rattle.std.proofs.Common.{◌≡◌, ℕ, zero, suc, ◌+◌, ◌-◌, ◌/◌, ◌%◌, ◌<◌, ◌≤◌, List, [], ◌∷◌, length, refl, ap, subst, arith, Bool, true}
+use Rattle.std.proofs.Common.{false}
 use Rattle.std.specs.Prelude.{min, ◌==◌, Option, Some, None, if◌then◌else◌}
 use Rattle.events.specs.declared.event.Reply.{Reply}
 use Rattle.events.specs.Histories.{pair_count}
@@ -13,7 +14,8 @@ use Rattle.art_rows.specs.Table.{row_words, rows_of, table_words, base_of, is_ba
 use Rattle.art_rows.specs.Words.{child_of, row_child}
 use Rattle.art_steps.specs.declared.access.Access.{Access}
 use Rattle.art_steps.specs.declared.access.Point.{Point}
-use Rattle.art_steps.specs.Steps.{Turn, Asks, Answers, Rest, Part, ◌>>=◌, ◌>>◌, give, start_again, answer, access, load, load_at, store, store_at, exchange}
+use Rattle.art_steps.specs.Steps.{Turn, Asks, Answers, Rest, Part, ◌>>=◌, ◌>>◌, give, start_again, answer, access, load, load_at, store}
+use Rattle.art_steps.specs.Steps.{store_at, exchange}
 use Rattle.art_steps.specs.Steps.{add, marked, first_at, calls_of, recursive, repeat, each, over, numbers, numbers_down}
 use Rattle.art_steps.specs.Fits.{word_of}
 use Rattle.art_steps.proofs.TurnLemmas.{asks-answers, answers-asks, asks-same, answers-same}
@@ -57,13 +59,16 @@ again-within s P = record { rest = λ again after sa sb. sa }
 
 pub answer-within : {A : Type 0} (s : Shape) (P : A → Type 0) (r : Reply) → IsSmall r → Within s P (answer r)
 answer-within s P r small =
-    record { rest = λ again after sa sb. record { at = λ got a p e. absurd (answers-asks e); says = λ got q e. subst IsSmall (answers-same e) small } }
+    record { rest = λ again after sa sb. record { at = λ got a p e. absurd (answers-asks e); says = λ got q e. subst IsSmall
+        (answers-same e) small } }
 
 pub bind-within : {A B : Type 0} {s : Shape} {P : A → Type 0} {Q : B → Type 0} {m : Part A} {f : A → Part B} → Within s P m
     → ((x : A) → P x → Within s Q (f x)) → Within s Q (m >>= f)
-bind-within {f = f} k l = record { rest = λ again after sa sb. k.rest again (λ a. f a again after) sa (λ a h. (l a h).rest again after sa sb) }
+bind-within {f = f} k l = record { rest = λ again after sa sb. k.rest again (λ a. f a again after) sa
+    (λ a h. (l a h).rest again after sa sb) }
 
-pub then-within : {A B : Type 0} {s : Shape} {P : A → Type 0} {Q : B → Type 0} {m : Part A} {p : Part B} → Within s P m → Within s Q p → Within s Q (m >> p)
+pub then-within : {A B : Type 0} {s : Shape} {P : A → Type 0} {Q : B → Type 0} {m : Part A} {p : Part B} → Within s P m → Within s Q p
+    → Within s Q (m >> p)
 then-within {p = p} k l = record { rest = λ again after sa sb. k.rest again (λ a. p again after) sa (λ a h. l.rest again after sa sb) }
 
 pub if-within : {A : Type 0} {s : Shape} {P : A → Type 0} {m p : Part A} (b : Bool) → (b ≡ true → Within s P m) → (b ≡ false → Within s P p)
@@ -91,7 +96,8 @@ store_at-within s p word value h = record { rest = λ again after sa sb. access-
 
 pub first_at-within : {A : Type 0} {s : Shape} {P : A → Type 0} {m : Part A} (p : Point) → Within s P m → Within s P (first_at p m)
 first_at-within {A = A} {s = s} {m = m} p k =
-    record { rest = λ again after sa sb. record { at = go again after (k.rest again after sa sb); says = said again after (k.rest again after sa sb) } }
+    record { rest = λ again after sa sb. record { at = go again after (k.rest again after sa sb); says = said again after
+        (k.rest again after sa sb) } }
   where
     unmark : (t : Turn) (a : Access) (q : Option Point) → marked p t ≡ Asks a q → (r : Option Point) × (t ≡ Asks a r)
     unmark (Asks b r) a q e = (r, ap (λ x. Asks x r) (asks-same e))
@@ -101,17 +107,20 @@ first_at-within {A = A} {s = s} {m = m} p k =
     unmark_reply (Asks b q) r e = absurd (asks-answers e)
     unmark_reply (Answers q) r e = e
 
-    said : (again : Rest) (after : A → Rest) → Stays s (m again after) → (got : List ℕ) (r : Reply) → first_at p m again after got ≡ Answers r → IsSmall r
+    said : (again : Rest) (after : A → Rest) → Stays s (m again after) → (got : List ℕ) (r : Reply)
+        → first_at p m again after got ≡ Answers r → IsSmall r
     said again after st [] r e = st.says [] r (unmark_reply (m again after []) r e)
     said again after st (w ∷ got) r e = st.says (w ∷ got) r e
 
-    go : (again : Rest) (after : A → Rest) → Stays s (m again after) → (got : List ℕ) (a : Access) (q : Option Point) → first_at p m again after got ≡ Asks a q
+    go : (again : Rest) (after : A → Rest) → Stays s (m again after) → (got : List ℕ) (a : Access) (q : Option Point)
+        → first_at p m again after got ≡ Asks a q
         → Inside s (word_of a)
     go again after st [] a q e = let u = unmark (m again after []) a q e in st.at [] a u.0 u.1
     go again after st (w ∷ got) a q e = st.at (w ∷ got) a q e
 
 pub recursive-within : {S A : Type 0} (s : Shape) (P : A → Type 0) (I : S → Type 0) (body : (S → Part A) → S → Part A)
-    → ((f : S → Part A) → ((x : S) → I x → Within s P (f x)) → (x : S) → I x → Within s P (body f x)) → (x : S) → I x → Within s P (recursive body x)
+    → ((f : S → Part A) → ((x : S) → I x → Within s P (f x)) → (x : S) → I x → Within s P (body f x)) → (x : S) → I x
+    → Within s P (recursive body x)
 recursive-within {S} {A} s P I body h x i =
     record {
       rest = λ again after sa sb. record {
@@ -144,12 +153,14 @@ abbrev pub Each : {A : Type 0} → (A → Type 0) → List A → Type 0
 Each P [] = Unit {0}
 Each P (x ∷ xs) = P x × Each P xs
 
-pub each-within : {A : Type 0} (s : Shape) (P : A → Type 0) (f : A → Part (Unit {0})) → ((x : A) → P x → Within s Any (f x)) → (xs : List A) → Each P xs
+pub each-within : {A : Type 0} (s : Shape) (P : A → Type 0) (f : A → Part (Unit {0})) → ((x : A) → P x → Within s Any (f x))
+    → (xs : List A) → Each P xs
     → Within s Any (each xs f)
 each-within s P f k [] h = give-within s Any tt tt
 each-within s P f k (x ∷ xs) h = then-within (k x h.0) (each-within s P f k xs h.1)
 
-pub over-within : {A S : Type 0} (s : Shape) (P : A → Type 0) (I : S → Type 0) (f : A → S → Part S) → ((x : A) (v : S) → P x → I v → Within s I (f x v))
+pub over-within : {A S : Type 0} (s : Shape) (P : A → Type 0) (I : S → Type 0) (f : A → S → Part S)
+    → ((x : A) (v : S) → P x → I v → Within s I (f x v))
     → (xs : List A) → Each P xs → (v : S) → I v → Within s I (over xs f v)
 over-within s P I f k [] h v i = give-within s I v i
 over-within s P I f k (x ∷ xs) h v i = bind-within (k x v h.0 i) (λ w j. over-within s P I f k xs h.1 w j)
@@ -168,7 +179,8 @@ numbers-each first (suc n) = (omega arith, each-more (first + 1) n (first + suc 
 pub numbers_down-each : (first n : ℕ) → Each (λ i. i < first + n) (numbers_down first n)
 numbers_down-each first zero = tt
 numbers_down-each first (suc n) =
-    (omega arith, each-weaker (λ i. i < first + n) (λ i. i < first + suc n) (λ i l. omega (arith, l)) (numbers_down first n) (numbers_down-each first n))
+    (omega arith, each-weaker (λ i. i < first + n) (λ i. i < first + suc n) (λ i l. omega (arith, l)) (numbers_down first n)
+        (numbers_down-each first n))
   where
     each-weaker : (P Q : ℕ → Type 0) → ((i : ℕ) → P i → Q i) → (xs : List ℕ) → Each P xs → Each Q xs
     each-weaker P Q w [] e = tt
@@ -206,13 +218,15 @@ kind_at-fits s base kind e = four (is_base_of s Four base) refl e
     forty_eight false t h = full (is_base_of s Full base) refl h
 
     sixteen : (b : Bool) → is_base_of s Sixteen base ≡ b
-        → (if b then Some Sixteen else if is_base_of s FortyEight base then Some FortyEight else if is_base_of s Full base then Some Full else None) ≡
+        → (if b then Some Sixteen else if is_base_of s FortyEight base then Some FortyEight else if is_base_of s Full
+            base then Some Full else None) ≡
         Some kind → IsIn s base kind
     sixteen true t h = subst (λ k. IsIn s base k) (some_same h) (is_base-fits s Sixteen base t)
     sixteen false t h = forty_eight (is_base_of s FortyEight base) refl h
 
     four : (b : Bool) → is_base_of s Four base ≡ b
-        → (if b then Some Four else if is_base_of s Sixteen base then Some Sixteen else if is_base_of s FortyEight base then Some FortyEight else if
+        → (if b then Some Four else if is_base_of s Sixteen base then Some Sixteen else if is_base_of s FortyEight base then Some
+            FortyEight else if
         is_base_of s Full base then Some Full else None) ≡ Some kind
         → IsIn s base kind
     four true t h = subst (λ k. IsIn s base k) (some_same h) (is_base-fits s Four base t)
@@ -235,7 +249,8 @@ child_of-good s w = one (w % 4 == 1)
     two false = tt
 
     one : (b : Bool)
-        → IsGood s (if b then row_child (w / 4) (kind_at s (w / 4)) else (if w % 4 == 2 then Leaf (w / 4294967296) (w % 4294967296 / 4) else Empty))
+        → IsGood s (if b then row_child (w / 4)
+            (kind_at s (w / 4)) else (if w % 4 == 2 then Leaf (w / 4294967296) (w % 4294967296 / 4) else Empty))
     one true = row_child-good s (w / 4) (kind_at s (w / 4)) refl
     one false = two (w % 4 == 2)
 

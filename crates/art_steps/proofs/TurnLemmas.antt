@@ -48,7 +48,8 @@ store-add e = cc
 pub exchange-word : {word v w other x y : ℕ} {m l : Option Point} → Asks (Exchange word v w) m ≡ Asks (Exchange other x y) l → word ≡ other
 exchange-word e = cc
 
-pub exchanges-same : {word v w other x y : ℕ} {m l : Option Point} → Asks (Exchange word v w) m ≡ Asks (Exchange other x y) l → (word ≡ other) × (v ≡ x)
+pub exchanges-same : {word v w other x y : ℕ} {m l : Option Point} → Asks (Exchange word v w) m ≡ Asks (Exchange other x y) l
+    → (word ≡ other) × (v ≡ x)
 exchanges-same e = (cc, cc)
 
 pub exchange-store : {word v w other u : ℕ} {m l : Option Point} → Asks (Exchange word v w) m ≡ Asks (Store other u) l → ⊥

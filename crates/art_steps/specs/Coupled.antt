@@ -6,7 +6,8 @@ use Rattle.art_rows.specs.declared.table.Kind.{Kind}
 use Rattle.art_rows.specs.Table.{root_base, info_at}
 use Rattle.art_rows.specs.declared.table.Child.TheVariants.{Empty, Row as ChildRow, Leaf}
 use Rattle.art_steps.specs.Steps.{Part, ◌>>=◌, ◌>>◌, give, load, store, recursive}
-use Rattle.art_steps.specs.Rows.{Setting, Row, Place, key_of, releases_early, root_row, row_of, path_differs_at, lock, unlock, unlock_all, find, Found, Has}
+use Rattle.art_steps.specs.Rows.{Setting, Row, Place, key_of, releases_early, root_row, row_of, path_differs_at, lock, unlock, unlock_all}
+use Rattle.art_steps.specs.Rows.{find, Found, Has}
 use Rattle.art_steps.specs.Rows.{Lacks, is_full}
 use Rattle.art_steps.specs.Updates.{overwriting, put, grow, insert_in, insert_beside}
 

@@ -27,7 +27,8 @@ word_of (Add word) = word
 
 -- Every access is in the table and not on the clock, whatever was got.
 abbrev pub StaysInTable : Shape → Rest → Type 0
-StaysInTable shape rest = (got : List ℕ) (a : Access) (p : Option Point) → rest got ≡ Asks a p → (clock < word_of a) × (word_of a < table_words shape)
+StaysInTable shape rest = (got : List ℕ) (a : Access) (p : Option Point) → rest got ≡ Asks a p → (clock < word_of a)
+    × (word_of a < table_words shape)
 
 -- No reply lists more pairs than a history may have, whatever was got.
 abbrev pub AnswersFewPairs : Rest → Type 0
@@ -48,4 +49,5 @@ pub record RefusedAtCapacity (shape : Shape) (variant : Variant) (call : Call) (
   pub full : rows_of shape kind ≤ slice_index got i
 
 abbrev pub RefusesOnlyAtCapacity : Shape → Variant → Call → Type 0
-RefusesOnlyAtCapacity shape variant call = (got : List ℕ) → act shape variant call got ≡ Answers reply.Refused → RefusedAtCapacity shape variant call got
+RefusesOnlyAtCapacity shape variant call = (got : List ℕ) → act shape variant call got ≡ Answers reply.Refused
+    → RefusedAtCapacity shape variant call got

@@ -7,7 +7,8 @@ use Rattle.art_rows.specs.Table.{root_base, info_at}
 use Rattle.art_rows.specs.declared.table.Child.{Child}
 use Rattle.art_rows.specs.declared.table.Child.TheVariants.{Empty, Row as ChildRow, Leaf}
 use Rattle.art_steps.specs.Steps.{Part, ◌>>=◌, ◌>>◌, give, start_again, load, store, over, recursive}
-use Rattle.art_steps.specs.Rows.{Setting, Row, Place, key_of, root_row, row_of, path_differs_at, wait, check_of, take_row, unlock, find, Found, Has, Lacks}
+use Rattle.art_steps.specs.Rows.{Setting, Row, Place, key_of, root_row, row_of, path_differs_at, wait, check_of, take_row, unlock, find}
+use Rattle.art_steps.specs.Rows.{Found, Has, Lacks}
 use Rattle.art_steps.specs.Rows.{is_full}
 use Rattle.art_steps.specs.Updates.{overwriting, keys_differ_at, put, grow, insert_in, insert_beside}
 

@@ -1,5 +1,6 @@
 -- Finding, locking and claiming rows.
-use Rattle.std.specs.Prelude.{ℕ, ◌-◌, ◌%◌, Bool, true, false, ◌==◌, nat_lt, if◌then◌else◌, List, [], length, slice_index, Option, Some, None}
+use Rattle.std.specs.Prelude.{ℕ, ◌-◌, ◌%◌, Bool, true, false, ◌==◌, nat_lt, if◌then◌else◌, List, [], length, slice_index, Option, Some}
+use Rattle.std.specs.Prelude.{None}
 use Rattle.events.specs.declared.event.Call.{Call}
 use Rattle.events.specs.declared.event.Call.TheVariants.{Get, Insert, Remove, Scan, Replace}
 use Rattle.events.specs.declared.event.Reply.TheVariants as reply
@@ -8,13 +9,15 @@ use Rattle.art_rows.specs.declared.table.Kind.{Kind}
 use Rattle.art_rows.specs.declared.table.Kind.TheVariants.{Four, Sixteen, FortyEight, Full}
 use Rattle.art_rows.specs.Table.{capacity, rows_of, claims_of, base_of, root_base, keys_at, more_keys_at, index_at, count_at, child_at}
 use Rattle.art_rows.specs.declared.table.Child.{Child}
-use Rattle.art_rows.specs.Words.{is_obsolete, is_locked, locked_word, released_word, obsolete_word, key_bytes, first_difference, info_of, keys4_of, keys16_of}
+use Rattle.art_rows.specs.Words.{is_obsolete, is_locked, locked_word, released_word, obsolete_word, key_bytes, first_difference, info_of}
+use Rattle.art_rows.specs.Words.{keys4_of, keys16_of}
 use Rattle.art_rows.specs.Words.{count_of, place_of, entries_of, child_of}
 use Rattle.art_steps.specs.declared.variant.Variant.{Variant}
 use Rattle.art_steps.specs.declared.variant.Variant.TheVariants.{Coupled, ReadUnchecked, ScanUnvalidated, LockUnchecked, EarlyRelease}
 use Rattle.art_steps.specs.declared.access.Point.{Point}
 use Rattle.art_steps.specs.declared.access.Point.TheVariants as point
-use Rattle.art_steps.specs.Steps.{Part, ◌>>=◌, ◌>>◌, give, start_again, answer, load, load_at, store_at, exchange, add, first_at, repeat, each}
+use Rattle.art_steps.specs.Steps.{Part, ◌>>=◌, ◌>>◌, give, start_again, answer, load, load_at, store_at, exchange, add, first_at, repeat}
+use Rattle.art_steps.specs.Steps.{each}
 
 -- what stays the same through a call; a scan has no key
 pub record Setting : Type 0 where

@@ -1,5 +1,6 @@
 -- What an insert writes: a leaf, a byte more in a row, a row of two children, a row of the next kind.
-use Rattle.std.specs.Prelude.{ℕ, ◌+◌, ◌-◌, ◌*◌, ◌%◌, ◌==◌, nat_lt, if◌then◌else◌, List, [], ◌∷◌, ◌++◌, map, take, set, slice_index, Option, Some, None}
+use Rattle.std.specs.Prelude.{ℕ, ◌+◌, ◌-◌, ◌*◌, ◌%◌, ◌==◌, nat_lt, if◌then◌else◌, List, [], ◌∷◌, ◌++◌, map, take, set, slice_index, Option}
+use Rattle.std.specs.Prelude.{Some, None}
 use Rattle.std.specs.Prelude.{unwrap_or}
 use Rattle.events.specs.declared.event.Call.{Call}
 use Rattle.events.specs.declared.event.Call.TheVariants.{Insert, Remove, Replace}
@@ -10,7 +11,8 @@ use Rattle.art_rows.specs.declared.table.Kind.TheVariants.{Four, Sixteen, FortyE
 use Rattle.art_rows.specs.Table.{info_at, keys_at, more_keys_at, index_at, count_at, child_at}
 use Rattle.art_rows.specs.declared.table.Child.{Child}
 use Rattle.art_rows.specs.declared.table.Child.TheVariants.{Empty, Row as ChildRow, Leaf}
-use Rattle.art_rows.specs.Words.{key_bytes, first_difference, info_word, keys4_word, keys16_word, more_keys16_word, place_of, new_place, with_key, entries_of}
+use Rattle.art_rows.specs.Words.{key_bytes, first_difference, info_word, keys4_word, keys16_word, more_keys16_word, place_of, new_place}
+use Rattle.art_rows.specs.Words.{with_key, entries_of}
 use Rattle.art_rows.specs.Words.{entries_word, row_word, child_word}
 use Rattle.art_steps.specs.Steps.{Part, ◌>>=◌, ◌>>◌, give, load, store, each, numbers, numbers_down}
 use Rattle.art_steps.specs.Rows.{Setting, Row, key_of, byte_at, claim, load_child, unlock_obsolete, unlock_all}
@@ -113,7 +115,8 @@ spread_index c n base j = do
 -- the new row's words behind its info, from the old row
 unfoldable pub fill : Kind → Setting → Row → ℕ → ℕ → List ℕ → ℕ → Part (Unit {0})
 fill Four c n base x keys count = do
-  each (numbers 0 count) (λ i. copy_child c (child_at Four n.base i) (child_at Sixteen base (if nat_lt i (new_place x keys) then i else i + 1)))
+  each (numbers 0 count) (λ i. copy_child c (child_at Four n.base i)
+      (child_at Sixteen base (if nat_lt i (new_place x keys) then i else i + 1)))
   store_child (child_at Sixteen base (new_place x keys)) (new_leaf c.call)
   store (keys_at base) (keys16_word (with_key x keys))
   store (more_keys_at base) (more_keys16_word (with_key x keys))

@@ -11,8 +11,10 @@ use Rattle.plan_engines.specs.Outcomes.{IsGenerateOutcome}
 use Rattle.bench.specs.Outcomes.{IsAskedOutcome, IsWordsOutcome}
 
 -- of a subcommand that reads a text
-pub read-words : (A : List ℕ → Answer → List ℕ → Type 0) (R : List ℕ → List ℕ → Type 0) (words : List Text) (source : Change) (outcome : Outcome)
-    → (IsReadOutcome A R source outcome → IsAskedOutcome words source outcome) → IsReadOutcome A R source outcome → IsWordsOutcome words source outcome
+pub read-words : (A : List ℕ → Answer → List ℕ → Type 0) (R : List ℕ → List ℕ → Type 0) (words : List Text) (source : Change)
+    (outcome : Outcome)
+    → (IsReadOutcome A R source outcome → IsAskedOutcome words source outcome) → IsReadOutcome A R source outcome
+    → IsWordsOutcome words source outcome
 read-words A R words source (Answered answer bytes) ask comes = ask comes
 read-words A R words source (Refused bytes) ask comes = ask comes
 read-words A R words source Memory ask (inl unread) = unread

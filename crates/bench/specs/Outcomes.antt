@@ -55,7 +55,8 @@ pub record IsAskedOutcome (words : List Text) (source : Change) (outcome : Outco
   pub asked : IsLineOf words line
   pub comes : IsLineOutcome line source outcome
 
--- the outcome of a run with these words: what they ask for, or the fault that they have; want of memory may come in reading them, or in doing what they ask
+-- the outcome of a run with these words: what they ask for, or the fault that they have; want of memory may come in reading them, or in
+-- doing what they ask
 abbrev pub IsWordsOutcome : List Text → Change → Outcome → Type 0
 IsWordsOutcome words source (Words text) = IsFaultAt words (line_faults.Line text) × IsSound source
 IsWordsOutcome words source Memory = IsSound source

@@ -1,5 +1,6 @@
 -- The earliest answer of the calls that are left, and which of them may come next, call by call.
-use Rattle.std.proofs.Common.{◌≡◌, ℕ, ◌+◌, ◌<◌, ◌≤◌, true, false, List, Option, Some, None, length, refl, sym, ap, ◌∙◌, subst, ⊎_elim, inl, inr, arith}
+use Rattle.std.proofs.Common.{◌≡◌, ℕ, ◌+◌, ◌<◌, ◌≤◌, true, false, List, Option, Some, None, length, refl, sym, ap, ◌∙◌, subst, ⊎_elim, inl}
+use Rattle.std.proofs.Common.{inr, arith}
 use Rattle.std.specs.Prelude.{◌⊎◌, slice_get, AllPairs, Contains}
 use Rattle.std.proofs.lemmas.Bool.{false≢true, lt-ltb, ltb-true, cases_order, cases_lt, both_ways}
 use Rattle.std.proofs.lemmas.Option.{same_Some, slice_get_within}
@@ -16,7 +17,8 @@ use Rattle.call_search.specs.Earliest.{earlier_of}
 abbrev pub IsEarliestBelow : List Operation → List ℕ → ℕ → Option ℕ → Type 0
 IsEarliestBelow calls path i None = (place : ℕ) (r : RemainsBefore calls path place) → r.n < i → ⊥
 IsEarliestBelow calls path i (Some answered) =
-    (place : ℕ) → (answered < place → (r : RemainsBefore calls path place) × (r.n < i)) × ((r : RemainsBefore calls path place) → r.n < i → answered < place)
+    (place : ℕ) → (answered < place → (r : RemainsBefore calls path place) × (r.n < i))
+        × ((r : RemainsBefore calls path place) → r.n < i → answered < place)
 
 -- a number below the next one is below this one, or is this one
 pub below_or_at : (n i : ℕ) → n < i + 1 → (n < i) ⊎ (n ≡ i)
@@ -28,7 +30,8 @@ module _ (calls : List Operation) (path : List ℕ) where
   earliest-taken i all place r lt = r.new (all r.n lt)
 
   -- a call that is taken, or is pending, changes nothing
-  passed : (i : ℕ) (earliest : Option ℕ) → ((place : ℕ) (r : RemainsBefore calls path place) → r.n ≡ i → ⊥) → IsEarliestBelow calls path i earliest
+  passed : (i : ℕ) (earliest : Option ℕ) → ((place : ℕ) (r : RemainsBefore calls path place) → r.n ≡ i → ⊥)
+      → IsEarliestBelow calls path i earliest
       → IsEarliestBelow calls path (i + 1) earliest
   passed i None none h = λ place r lt. ⊎_elim (λ below. h place r below) (λ is. none place r is) (below_or_at r.n i lt)
   passed i (Some answered) none h = λ place. (
@@ -36,7 +39,8 @@ module _ (calls : List Operation) (path : List ℕ) where
     λ r lt. ⊎_elim (λ below. (h place).1 r below) (λ is. absurd (none place r is)) (below_or_at r.n i lt),
   )
 
-  pub earliest-skip : (i : ℕ) (earliest : Option ℕ) → Contains path i → IsEarliestBelow calls path i earliest → IsEarliestBelow calls path (i + 1) earliest
+  pub earliest-skip : (i : ℕ) (earliest : Option ℕ) → Contains path i → IsEarliestBelow calls path i earliest
+      → IsEarliestBelow calls path (i + 1) earliest
   earliest-skip i earliest taken h = passed i earliest (λ place r is. r.new (subst (Contains path) (sym is) taken)) h
 
   -- the call of a number that is left
@@ -60,7 +64,8 @@ module _ (calls : List Operation) (path : List ℕ) where
           omega arith,
         ),
         λ r lt. ⊎_elim (λ below. absurd (h place r below))
-            (λ at. ltb-true response.res place (ap (λ o. is_before o place) (sym is) ∙ remaining i a place r here at)) (below_or_at r.n i lt),
+            (λ at. ltb-true response.res place (ap (λ o. is_before o place) (sym is) ∙ remaining i a place r here at))
+                (below_or_at r.n i lt),
       )
       of (Some answered) (Some response) is h = λ place. (
         λ before. ⊎_elim
@@ -78,25 +83,29 @@ module _ (calls : List Operation) (path : List ℕ) where
             (cases_lt answered place),
         λ r lt. ⊎_elim
             (λ below. let old = (h place).1 r below in omega arith)
-            (λ at. let this = ltb-true response.res place (ap (λ o. is_before o place) (sym is) ∙ remaining i a place r here at) in omega arith)
+            (λ at. let this = ltb-true response.res place (ap (λ o. is_before o place) (sym is) ∙ remaining i a place r here
+                at) in omega arith)
             (below_or_at r.n i lt),
       )
 
   -- all calls are looked at
-  pub earliest-all : (i : ℕ) (earliest : Option ℕ) → length calls ≤ i → IsEarliestBelow calls path i earliest → IsEarliestAnswer calls path earliest
+  pub earliest-all : (i : ℕ) (earliest : Option ℕ) → length calls ≤ i → IsEarliestBelow calls path i earliest
+      → IsEarliestAnswer calls path earliest
   earliest-all i None le h = λ place r. h place r (omega (arith, slice_get_within calls r.n r.call r.here))
   earliest-all i (Some answered) le h = λ place.
       (λ before. ((h place).0 before).0, λ r. (h place).1 r (omega (arith, slice_get_within calls r.n r.call r.here)))
 
   -- the others begin later
-  pub earliest-before : (i answered : ℕ) (a : Operation) → NonePrecedesItself calls → AllPairs (λ a b. a.inv < b.inv) calls → slice_get calls i ≡ Some a
+  pub earliest-before : (i answered : ℕ) (a : Operation) → NonePrecedesItself calls → AllPairs (λ a b. a.inv < b.inv) calls
+      → slice_get calls i ≡ Some a
       → answered < a.inv → IsEarliestBelow calls path i (Some answered) → IsEarliestAnswer calls path (Some answered)
   earliest-before i answered a apart rising here late h place = (
     λ before. ((h place).0 before).0,
     λ r. ⊎_elim (λ below. (h place).1 r below) (λ le. later r le) (cases_lt r.n i),
   )
     where
-      answered_after : (b : Operation) (response : Option Response) → is_before response b.inv ≡ false → is_before response place ≡ true → b.inv < place
+      answered_after : (b : Operation) (response : Option Response) → is_before response b.inv ≡ false
+          → is_before response place ≡ true → b.inv < place
       answered_after b None none before = absurd (false≢true before)
       answered_after b (Some response) none before =
           let lt = ltb-true response.res place before in
@@ -110,12 +119,14 @@ module _ (calls : List Operation) (path : List ℕ) where
           (λ is. let same = same_Some r.call a (sym r.here ∙ ap (slice_get calls) is ∙ here) in
           let a_begins = subst (λ (b : Operation). b.inv < place) same begins in omega arith)
           (λ differ. ⊎_elim (λ lower. absurd (omega arith))
-          (λ higher. let up = AllPairs-at (λ (x : Operation) (y : Operation). x.inv < y.inv) calls i r.n a r.call rising higher here r.here in
+          (λ higher. let up = AllPairs-at (λ (x : Operation) (y : Operation). x.inv < y.inv) calls i r.n a r.call rising
+              higher here r.here in
           omega arith) differ)
           (cases_order r.n i)
 
   -- a call that begins after the earliest answer may not come next
-  pub not_next : (start : Contents) (i n answered : ℕ) (a : Operation) → AllPairs (λ a b. a.inv < b.inv) calls → slice_get calls i ≡ Some a → answered < a.inv
+  pub not_next : (start : Contents) (i n answered : ℕ) (a : Operation) → AllPairs (λ a b. a.inv < b.inv) calls → slice_get calls i ≡ Some a
+      → answered < a.inv
       → IsEarliestAnswer calls path (Some answered) → i ≤ n → IsNext start calls path n → ⊥
   not_next start i n answered a rising here late earliest le next =
       let remains = (earliest next.call.inv).0 later in
@@ -123,8 +134,10 @@ module _ (calls : List Operation) (path : List ℕ) where
     where
       later : answered < next.call.inv
       later = ⊎_elim
-          (λ is. subst (λ (b : Operation). answered < b.inv) (same_Some a next.call (sym here ∙ ap (slice_get calls) (sym is) ∙ next.here)) late)
+          (λ is. subst (λ (b : Operation). answered < b.inv)
+              (same_Some a next.call (sym here ∙ ap (slice_get calls) (sym is) ∙ next.here)) late)
           (λ differ. ⊎_elim (λ lower. absurd (omega arith))
-          (λ higher. let up = AllPairs-at (λ (x : Operation) (y : Operation). x.inv < y.inv) calls i n a next.call rising higher here next.here in
+          (λ higher. let up = AllPairs-at (λ (x : Operation) (y : Operation). x.inv < y.inv) calls i n a next.call rising
+              higher here next.here in
           omega arith) differ)
           (cases_order n i)

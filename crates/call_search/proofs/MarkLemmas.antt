@@ -1,5 +1,6 @@
 -- Which calls are taken, and a place below which all are.
-use Rattle.std.proofs.Common.{◌≡◌, ℕ, ◌<◌, ◌≤◌, Bool, true, false, List, [], ◌∷◌, ◌++◌, length, get_or, set, replicate, refl, sym, ap, ◌∙◌, ⊎_elim, arith}
+use Rattle.std.proofs.Common.{◌≡◌, ℕ, ◌<◌, ◌≤◌, Bool, true, false, List, [], ◌∷◌, ◌++◌, length, get_or, set, replicate, refl, sym, ap, ◌∙◌}
+use Rattle.std.proofs.Common.{⊎_elim, arith}
 use Rattle.std.specs.Prelude.{◌≢◌, ◌⊎◌, ◌||◌, Contains}
 use Rattle.std.proofs.lemmas.Bool.{cases_order, eq-eqb, ne_eqb, false_from_ne_true}
 use Rattle.std.proofs.lemmas.List.{length-set, get_or-set_same, get_or-set_other, get_or-replicate, length-replicate}
@@ -27,7 +28,8 @@ or_true false = refl
 
 -- a number that is not the last one is among others where it is among those before
 not_last : (path : List ℕ) (n k : ℕ) → k ≢ n → has_number (path ++ n ∷ []) k ≡ has_number path k
-not_last path n k other = has_number-push path n k ∙ ap (λ b. has_number path k || b) (ne_eqb n k (λ is. other (sym is))) ∙ or_false (has_number path k)
+not_last path n k other = has_number-push path n k ∙ ap (λ b. has_number path k || b) (ne_eqb n k (λ is. other (sym is)))
+    ∙ or_false (has_number path k)
 
 -- one call more is taken
 pub marked-push : (size : ℕ) (path : List ℕ) (taken : List Bool) (low n after : ℕ) → AreMarked size path taken low → n < size

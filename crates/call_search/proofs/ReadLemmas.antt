@@ -6,7 +6,8 @@ use Rattle.std.proofs.lemmas.List.Elements.{All-contains, All-append, Contains-a
 use Rattle.events.specs.declared.operation.Operation.{Operation}
 use Rattle.events.specs.Precedence.{precedes}
 use Rattle.map_object.specs.MapObject.{Contents, IsRising}
-use Rattle.orders.specs.Orders.{IsLegalCall, IsLegal, after_call, after_calls, calls_at, IsCompletedAt, IsLegalOrder, IsOrder, KeepsPrecedence}
+use Rattle.orders.specs.Orders.{IsLegalCall, IsLegal, after_call, after_calls, calls_at, IsCompletedAt, IsLegalOrder, IsOrder}
+use Rattle.orders.specs.Orders.{KeepsPrecedence}
 use Rattle.list_laws.proofs.Lists.{All-front, All-back, All-from_contains, Contains-split, Contains-around, AllPairs-back, AllPairs-across}
 use Rattle.list_laws.proofs.FilterLemmas.{Contains-from_filter_map}
 use Rattle.orders.proofs.OrderLemmas.{IsLegal-append, IsLegal-front, IsLegal-back, calls_at-append}
@@ -24,7 +25,8 @@ module _ {X : Type 0} (path front : List X) (x : X) (back : List X) where
   rejoin_whole : (path ++ front) ++ x ∷ back ≡ path ++ (front ++ x ∷ back)
   rejoin_whole = append_assoc path front (x ∷ back)
 
-  AllPairs-forward : (R : X → X → Type 0) → AllPairs R (path ++ (front ++ x ∷ back)) → All (R x) front → AllPairs R (path ++ x ∷ (front ++ back))
+  AllPairs-forward : (R : X → X → Type 0) → AllPairs R (path ++ (front ++ x ∷ back)) → All (R x) front
+      → AllPairs R (path ++ x ∷ (front ++ back))
   AllPairs-forward R h first =
       let whole = subst (AllPairs R) (sym rejoin_whole) h in
       AllPairs-around R path x (front ++ back) (subst (AllPairs R) rejoin (AllPairs-beside R (path ++ front) x back whole))
@@ -47,8 +49,10 @@ module _ {X : Type 0} (path front : List X) (x : X) (back : List X) where
       (Contains-append_cases path (front ++ x ∷ back) y h)
 
 -- a legal list stays legal where a call goes first that leaves what it finds there and after those before it
-legal_forward : (m : Contents) (front back : List Operation) (a : Operation) → IsLegalCall m a.call a.response → after_call m a.call a.response ≡ m
-    → after_call (after_calls m front) a.call a.response ≡ after_calls m front → IsLegal m (front ++ a ∷ back) → IsLegal m (a ∷ (front ++ back))
+legal_forward : (m : Contents) (front back : List Operation) (a : Operation) → IsLegalCall m a.call a.response
+    → after_call m a.call a.response ≡ m
+    → after_call (after_calls m front) a.call a.response ≡ after_calls m front → IsLegal m (front ++ a ∷ back)
+    → IsLegal m (a ∷ (front ++ back))
 legal_forward m front back a legal leaves leaves_there h =
     let rest = IsLegal-back m front (a ∷ back) h in (
       legal,
@@ -56,7 +60,8 @@ legal_forward m front back a legal leaves leaves_there h =
           (IsLegal-append m front back (IsLegal-front m front (a ∷ back) h) (subst (λ n. IsLegal n back) leaves_there rest.1)),
     )
 
-module _ (start : Contents) (calls : List Operation) (path : List ℕ) (n : ℕ) (rising : IsRising start) (read : IsReadNext start calls path n) where
+module _ (start : Contents) (calls : List Operation) (path : List ℕ) (n : ℕ) (rising : IsRising start)
+    (read : IsReadNext start calls path n) where
   abbrev a : Operation
   a = read.call
 
@@ -87,7 +92,8 @@ module _ (start : Contents) (calls : List Operation) (path : List ℕ) (n : ℕ)
 
     -- none of the calls that stood before it precedes it
     free : All (λ b. precedes b a ≡ false) (calls_at calls front)
-    free = All-from_contains (λ b. precedes b a ≡ false) (calls_at calls front) (λ b is. false_from_ne_true (precedes b a) (not_before b is))
+    free = All-from_contains (λ b. precedes b a ≡ false) (calls_at calls front)
+        (λ b is. false_from_ne_true (precedes b a) (not_before b is))
       where
         not_before : (b : Operation) → Contains (calls_at calls front) b → precedes b a ≡ true → ⊥
         not_before b is before =
@@ -105,8 +111,10 @@ module _ (start : Contents) (calls : List Operation) (path : List ℕ) (n : ℕ)
         ≡ after_calls (pairs_after start calls path) (calls_at calls front)
     leaves_there =
         let rest = IsLegal-back (pairs_after start calls path) (calls_at calls front) (a ∷ calls_at calls back) legal_rest in
-        leaves_too (pairs_after start calls path) (after_calls (pairs_after start calls path) (calls_at calls front)) a.call a.response read.completed
-        (rising_after (calls_at calls front) (pairs_after start calls path) (rising_after (calls_at calls path) start rising)) read.legal read.leaves rest.0
+        leaves_too (pairs_after start calls path) (after_calls (pairs_after start calls path) (calls_at calls front)) a.call
+            a.response read.completed
+        (rising_after (calls_at calls front) (pairs_after start calls path) (rising_after (calls_at calls path) start rising)) read.legal
+            read.leaves rest.0
 
     others : All (λ k. k ≢ n) front
     others = AllPairs-before (λ k l. k ≢ l) front n back (AllPairs-back (λ k l. k ≢ l) path (front ++ n ∷ back) legal_order.distinct)
@@ -122,7 +130,8 @@ module _ (start : Contents) (calls : List Operation) (path : List ℕ) (n : ℕ)
         legal = subst (IsLegal start) (sym forward_parts)
             (IsLegal-append start (calls_at calls path) (a ∷ (calls_at calls front ++ calls_at calls back))
             (IsLegal-front start (calls_at calls path) (calls_at calls front ++ a ∷ calls_at calls back) legal_whole)
-            (legal_forward (pairs_after start calls path) (calls_at calls front) (calls_at calls back) a read.legal read.leaves leaves_there legal_rest));
+            (legal_forward (pairs_after start calls path) (calls_at calls front) (calls_at calls back) a read.legal read.leaves
+                leaves_there legal_rest));
       };
       complete = λ k done. Contains-forward path front n back k (order.complete k done);
     }

@@ -1,13 +1,15 @@
 -- A reply tells whether the call changed the map.
 use Rattle.events.specs.declared.event.Reply.TheVariants as replies
-use Rattle.std.proofs.Common.{◌≡◌, ℕ, Bool, true, false, not, ◌==◌, ◌||◌, Option, Some, None, ◌++◌, refl, sym, ap, ◌∙◌, subst, inl, inr, eq-eqb, eqb-true}
+use Rattle.std.proofs.Common.{◌≡◌, ℕ, Bool, true, false, not, ◌==◌, ◌||◌, Option, Some, None, ◌++◌, refl, sym, ap, ◌∙◌, subst, inl, inr}
+use Rattle.std.proofs.Common.{eq-eqb, eqb-true}
 use Rattle.std.specs.Prelude.{if◌then◌else◌, is_some}
 use Rattle.std.proofs.lemmas.Bool.{false≢true}
 use Rattle.events.specs.declared.event.Call.{Call}
 use Rattle.events.specs.declared.event.Call.TheVariants.{Get, Insert, Remove, Scan, Replace}
 use Rattle.events.specs.declared.event.Reply.{Reply}
 use Rattle.events.specs.declared.operation.Response.{Response}
-use Rattle.map_object.specs.MapObject.{Contents, IsRising, value_at, below, above, put, is_just, value_reply, reply_to, after, after_reply, IsLegalReply}
+use Rattle.map_object.specs.MapObject.{Contents, IsRising, value_at, below, above, put, is_just, value_reply, reply_to, after, after_reply}
+use Rattle.map_object.specs.MapObject.{IsLegalReply}
 use Rattle.map_object.proofs.MapLemmas.{AreBelow-below, AreAbove-above, value_at_found, value_at_gap}
 use Rattle.orders.specs.Orders.{after_call, IsLegalCall}
 use Rattle.orders.proofs.LegalLemmas.{reply_to_answers}
@@ -52,7 +54,8 @@ replace_again m key expected value (Some found) rising is says = by_test (found 
         rw e (put_again m key value rising (is ∙ ap Some (eqb-true found expected e ∙ expected_is)))
 
 -- where the reply says so, a call changes nothing
-unchanged_by : (m : Contents) (call : Call) (reply : Reply) → IsRising m → says_unchanged call reply ≡ true → reply ≡ reply_to m call → after m call ≡ m
+unchanged_by : (m : Contents) (call : Call) (reply : Reply) → IsRising m → says_unchanged call reply ≡ true → reply ≡ reply_to m call
+    → after m call ≡ m
 unchanged_by m (Get key) reply rising says is = refl
 unchanged_by m (Scan low high) reply rising says is = refl
 unchanged_by m (Insert key value) (replies.Some found) rising says is =
@@ -65,7 +68,8 @@ unchanged_by m (Remove key) (replies.Some found) rising says is = absurd (false�
 unchanged_by m (Remove key) (replies.Pairs pairs) rising says is = absurd (false≢true says)
 unchanged_by m (Remove key) replies.Refused rising says is = absurd (reply_to_answers m (Remove key) (sym is))
 unchanged_by m (Replace key expected value) reply rising says is =
-    replace_again m key expected value (value_at m key) rising refl (subst (λ r. says_unchanged (Replace key expected value) r ≡ true) is says)
+    replace_again m key expected value (value_at m key) rising refl
+        (subst (λ r. says_unchanged (Replace key expected value) r ≡ true) is says)
 
 pub unchanged : (m : Contents) (call : Call) (reply : Reply) → IsRising m → says_unchanged call reply ≡ true → IsLegalReply m call reply
     → after_reply m call reply ≡ m
@@ -84,9 +88,11 @@ value_put m key value is =
     ap (λ n. value_at n key) (sym is) ∙ value_at_found key value (below key m) (above key m) (AreBelow-below m key) (AreAbove-above m key)
 
 value_removed : (m : Contents) (key : ℕ) → below key m ++ above key m ≡ m → value_at m key ≡ None
-value_removed m key is = ap (λ n. value_at n key) (sym is) ∙ value_at_gap key (below key m) (above key m) (AreBelow-below m key) (AreAbove-above m key)
+value_removed m key is = ap (λ n. value_at n key) (sym is)
+    ∙ value_at_gap key (below key m) (above key m) (AreBelow-below m key) (AreAbove-above m key)
 
-replaced_says : (m : Contents) (key expected value : ℕ) (o : Option ℕ) → value_at m key ≡ o → (if is_just o expected then put key value m else m) ≡ m
+replaced_says : (m : Contents) (key expected value : ℕ) (o : Option ℕ) → value_at m key ≡ o
+    → (if is_just o expected then put key value m else m) ≡ m
     → says_unchanged (Replace key expected value) (value_reply o) ≡ true
 replaced_says m key expected value None is same = refl
 replaced_says m key expected value (Some found) is same = by_test (found == expected) refl
@@ -114,11 +120,13 @@ said_by m (Scan low high) reply is same = scan reply
     scan (replies.Pairs pairs) = refl
     scan replies.Refused = refl
 said_by m (Insert key value) reply is same =
-    subst (λ r. says_unchanged (Insert key value) r ≡ true) (sym (is ∙ ap value_reply (value_put m key value same))) (eq-eqb value value refl)
+    subst (λ r. says_unchanged (Insert key value) r ≡ true) (sym (is ∙ ap value_reply (value_put m key value same)))
+        (eq-eqb value value refl)
 said_by m (Remove key) reply is same =
     subst (λ r. says_unchanged (Remove key) r ≡ true) (sym (is ∙ ap value_reply (value_removed m key same))) refl
 said_by m (Replace key expected value) reply is same =
-    subst (λ r. says_unchanged (Replace key expected value) r ≡ true) (sym is) (replaced_says m key expected value (value_at m key) refl same)
+    subst (λ r. says_unchanged (Replace key expected value) r ≡ true) (sym is)
+        (replaced_says m key expected value (value_at m key) refl same)
 
 refused_says : (call : Call) → says_unchanged call replies.Refused ≡ true
 refused_says (Get key) = refl
@@ -127,7 +135,8 @@ refused_says (Insert key value) = refl
 refused_says (Remove key) = refl
 refused_says (Replace key expected value) = refl
 
-said : (m : Contents) (call : Call) (reply : Reply) → IsLegalReply m call reply → after_reply m call reply ≡ m → says_unchanged call reply ≡ true
+said : (m : Contents) (call : Call) (reply : Reply) → IsLegalReply m call reply → after_reply m call reply ≡ m
+    → says_unchanged call reply ≡ true
 said m call replies.Refused legal same = refused_says call
 said m call replies.None (inl is) same = cc
 said m call replies.None (inr is) same = said_by m call replies.None is same
@@ -137,7 +146,9 @@ said m call (replies.Pairs pairs) (inl is) same = cc
 said m call (replies.Pairs pairs) (inr is) same = said_by m call (replies.Pairs pairs) is same
 
 -- a completed call that leaves some pairs as they are leaves all rising pairs so at which its reply is legal
-pub leaves_too : (m n : Contents) (call : Call) (response : Option Response) → is_some response ≡ true → IsRising n → IsLegalCall m call response
+pub leaves_too : (m n : Contents) (call : Call) (response : Option Response) → is_some response ≡ true → IsRising n
+    → IsLegalCall m call response
     → after_call m call response ≡ m → IsLegalCall n call response → after_call n call response ≡ n
 leaves_too m n call None completed rising legal same there = absurd (false≢true completed)
-leaves_too m n call (Some response) completed rising legal same there = unchanged n call response.reply rising (said m call response.reply legal same) there
+leaves_too m n call (Some response) completed rising legal same there =
+    unchanged n call response.reply rising (said m call response.reply legal same) there

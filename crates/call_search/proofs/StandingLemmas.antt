@@ -1,9 +1,11 @@
 -- How a search stands after each of its steps.
-use Rattle.std.proofs.Common.{Vec, Global, ◌≡◌, ℕ, ◌+◌, ◌<◌, ◌≤◌, Bool, true, false, List, Some, [], ◌∷◌, ◌++◌, length, take, replicate, set, get_or}
+use Rattle.std.proofs.Common.{Vec, Global, ◌≡◌, ℕ, ◌+◌, ◌<◌, ◌≤◌, Bool, true, false, List, Some, [], ◌∷◌, ◌++◌, length, take, replicate}
+use Rattle.std.proofs.Common.{set, get_or}
 use Rattle.std.proofs.Common.{reverse, refl, sym, ap, ◌∙◌, subst, inl, inr, ⊎_elim, arith}
 use Rattle.std.specs.Prelude.{◌⊎◌, slice_get, Contains}
 use Rattle.std.proofs.lemmas.Bool.{cases_lt}
-use Rattle.std.proofs.lemmas.List.{append-nil, append_assoc, map-append, take-append-le, take_all, length-append, length-map, reverse-append}
+use Rattle.std.proofs.lemmas.List.{append-nil, append_assoc, map-append, take-append-le, take_all, length-append, length-map}
+use Rattle.std.proofs.lemmas.List.{reverse-append}
 use Rattle.std.proofs.lemmas.List.Elements.{Contains-append_left, Contains-append_right, Contains-push, Contains-push_cases}
 use Rattle.std.proofs.lemmas.Option.{none-some, same_Some, slice_get_within}
 use Rattle.events.specs.declared.operation.Operation.{Operation}
@@ -21,7 +23,8 @@ use Rattle.list_laws.proofs.Lists.{slice_get-append_left, slice_get-middle}
 use Rattle.search.specs.Undo.{undone}
 use Rattle.search.proofs.FutureLemmas.{same_completion}
 use Rattle.call_search.specs.Reads.{pairs_after, IsReadNext}
-use Rattle.call_search.specs.Standing.{places, IsDead, IsDeadAt, AreNext, Closes, Remembers, IsSettled, AreMarked, StandsWith, AreChoices, IsNextOf}
+use Rattle.call_search.specs.Standing.{places, IsDead, IsDeadAt, AreNext, Closes, Remembers, IsSettled, AreMarked, StandsWith, AreChoices}
+use Rattle.call_search.specs.Standing.{IsNextOf}
 use Rattle.call_search.specs.Standing.{HasMoved, IsLooked, IsStep, to_try}
 use Rattle.call_search.specs.declared.standing.Standing.{Standing}
 use Rattle.call_search.specs.declared.standing.Progress.{Progress}
@@ -80,7 +83,8 @@ module _ (start : Contents) (calls : List Operation) where
   read_closes path n rising read dead more = dead n (Contains-first n []) ((reads_first start calls path n rising read).0 more)
 
   -- the same calls in another order
-  pub choices_again : (path rest again : List ℕ) → ((n : ℕ) → Contains rest n → Contains again n) → ((n : ℕ) → Contains again n → Contains rest n)
+  pub choices_again : (path rest again : List ℕ) → ((n : ℕ) → Contains rest n → Contains again n)
+      → ((n : ℕ) → Contains again n → Contains rest n)
       → AreChoices start calls path rest → AreChoices start calls path again
   choices_again path rest again to from choices = record {
     next = λ n h. choices.next n (from n h);
@@ -100,7 +104,8 @@ module _ (start : Contents) (calls : List Operation) where
         holds = refl;
         stands_at = (configuration_of [] start, refl, leads);
         remembers = λ i level is. absurd (none-some level is);
-        reached = λ c h. ⊎_elim (λ is. subst (IsReachable start calls) is ([], IsFront-nil start calls, leads)) (λ h. absurd (Contains-nil c h))
+        reached = λ c h. ⊎_elim (λ is. subst (IsReachable start calls) is ([], IsFront-nil start calls, leads))
+            (λ h. absurd (Contains-nil c h))
             (Contains-cases (configuration_of [] start) [] c h);
         settled = λ c h. ⊎_elim (λ is. subst (IsSettled start calls []) is (inr (0, omega arith, leads))) (λ h. absurd (Contains-nil c h))
             (Contains-cases (configuration_of [] start) [] c h);
@@ -127,14 +132,16 @@ module _ (start : Contents) (calls : List Operation) where
     -- ---- one call further
 
     module _ (rest : List ℕ) (of : IsNextOf start calls path n rest) (level : Level) (place_is : level.place ≡ n) (at_is : level.at ≡ at)
-        (rest_is : level.rest.items ≡ rest) (after_pairs : Contents) (after_is : after_pairs ≡ after_call pairs next.call.call next.call.response)
+        (rest_is : level.rest.items ≡ rest) (after_pairs : Contents)
+            (after_is : after_pairs ≡ after_call pairs next.call.call next.call.response)
         (undo_is : undone after_pairs level.undo ≡ pairs) (low_after : ℕ) (low_within : low_after ≤ length (set taken n true))
         (low_below : (k : ℕ) → k < low_after → (k < low) ⊎ (get_or (set taken n true) k false ≡ true)) where
       path_is : places (levels ++ level ∷ []) ≡ path ++ n ∷ []
       path_is = places-push levels level ∙ ap (λ k. path ++ k ∷ []) place_is
 
       pairs_is : after_pairs ≡ pairs_after start calls (path ++ n ∷ [])
-      pairs_is = after_is ∙ ap (λ m. after_call m next.call.call next.call.response) s.holds ∙ sym (after_calls-push start calls path n next.call next.here)
+      pairs_is = after_is ∙ ap (λ m. after_call m next.call.call next.call.response) s.holds
+          ∙ sym (after_calls-push start calls path n next.call next.here)
 
       within_path : (i : ℕ) → i ≤ length path → take i (path ++ n ∷ []) ≡ take i path
       within_path i le = take-append-le i path (n ∷ []) le
@@ -147,7 +154,8 @@ module _ (start : Contents) (calls : List Operation) where
           let le : i ≤ length path = omega (arith, slice_get_within levels i l old, length-map levels (λ (k : Level). k.place)) in
           subst (λ p. Remembers start calls (visited ++ d ∷ []) p l) (sym (within_path i le))
           (record {
-            at = (before.at.0, slice_get-append_left visited (d ∷ []) l.at (slice_get_within visited l.at before.at.0 before.at.1) ∙ before.at.1, before.at.2);
+            at = (before.at.0, slice_get-append_left visited (d ∷ []) l.at (slice_get_within visited l.at before.at.0 before.at.1)
+                ∙ before.at.1, before.at.2);
             undo = before.undo;
             next = before.next;
             closes = before.closes;
@@ -164,7 +172,8 @@ module _ (start : Contents) (calls : List Operation) where
                   ∙ slice_get-append_left visited (d ∷ []) at (slice_get_within visited at s.stands_at.0 s.stands_at.1) ∙ s.stands_at.1,
               s.stands_at.2,
             );
-            undo = ap (λ k. undone (pairs_after start calls (path ++ k ∷ [])) level.undo) place_is ∙ ap (λ m. undone m level.undo) (sym pairs_is)
+            undo = ap (λ k. undone (pairs_after start calls (path ++ k ∷ [])) level.undo) place_is
+                ∙ ap (λ m. undone m level.undo) (sym pairs_is)
                 ∙ undo_is ∙ s.holds;
             next = subst (AreNext start calls path) (sym rest_is) of.next;
             closes = λ dead. subst (Closes start calls path) (sym rest_is)
@@ -189,24 +198,28 @@ module _ (start : Contents) (calls : List Operation) where
           ))
           (Contains-push_cases visited d c h)
 
-      pub stands-push : StandsWith start calls (levels ++ level ∷ []) (length visited) after_pairs (visited ++ d ∷ []) (set taken n true) low_after
+      pub stands-push : StandsWith start calls (levels ++ level ∷ []) (length visited) after_pairs (visited ++ d ∷ [])
+          (set taken n true) low_after
       stands-push =
           let front = IsFront-next start calls path n s.is_front next in
           record {
             is_front = subst (IsFront start calls) (sym path_is) front;
             holds = pairs_is ∙ ap (pairs_after start calls) (sym path_is);
             stands_at = (d, slice_get-middle visited d [], subst (λ p. LeadsTo start calls p d) (sym path_is) leads);
-            remembers = λ i l is. subst (λ p. Remembers start calls (visited ++ d ∷ []) (take i p) l) (sym path_is) (remembers_pushed i l is);
+            remembers = λ i l is. subst (λ p. Remembers start calls (visited ++ d ∷ []) (take i p) l) (sym path_is)
+                (remembers_pushed i l is);
             reached = λ c h. ⊎_elim (λ old. s.reached c old) (λ is. subst (IsReachable start calls) is (path ++ n ∷ [], front, leads))
                 (Contains-push_cases visited d c h);
             settled = λ c h. subst (λ p. IsSettled start calls p c) (sym path_is) (settled_pushed c h);
             marked = subst (λ p. AreMarked (length calls) p (set taken n true) low_after) (sym path_is)
-                (marked-push (length calls) path taken low n low_after s.marked (slice_get_within calls n next.call next.here) low_within low_below);
+                (marked-push (length calls) path taken low n low_after s.marked (slice_get_within calls n next.call next.here)
+                    low_within low_below);
           }
 
   -- ---- back by one call
 
-  module _ (apart : NonePrecedesItself calls) (levels : List Level) (level : Level) (at : ℕ) (pairs : Contents) (visited : List Configuration)
+  module _ (apart : NonePrecedesItself calls) (levels : List Level) (level : Level) (at : ℕ) (pairs : Contents)
+      (visited : List Configuration)
       (taken : List Bool) (low : ℕ) (s : StandsWith start calls (levels ++ level ∷ []) at pairs visited taken low)
       (dead : IsDead start calls (places (levels ++ level ∷ []))) where
     abbrev front : List ℕ
@@ -252,7 +265,8 @@ module _ (start : Contents) (calls : List Operation) where
         (s.settled c h)
       where
         last_or_earlier : (i : ℕ) → (length (front ++ level.place ∷ []) ≤ i) ⊎ (i ≤ length front)
-        last_or_earlier i = ⊎_elim (λ lt. inr (omega arith)) (λ le. inl (omega (arith, length-append front (level.place ∷ [])))) (cases_lt i (length front + 1))
+        last_or_earlier i = ⊎_elim (λ lt. inr (omega arith)) (λ le. inl (omega (arith, length-append front (level.place ∷ []))))
+            (cases_lt i (length front + 1))
 
     pub stands-pop : (restored : Contents) (low_after : ℕ) → restored ≡ undone pairs level.undo → low_after ≤ low → low_after ≤ level.place
         → StandsWith start calls levels level.at restored visited (set taken level.place false) low_after
@@ -274,7 +288,8 @@ module _ (start : Contents) (calls : List Operation) where
     choices-pop = record { next = remembered.next; closes = remembered.closes dead_whole }
 
 -- a search whose parts are these stands so
-pub stands-same : (start : Contents) (calls : List Operation) (levels l : List Level) (at a : ℕ) (pairs m : Contents) (visited v : List Configuration)
+pub stands-same : (start : Contents) (calls : List Operation) (levels l : List Level) (at a : ℕ) (pairs m : Contents)
+    (visited v : List Configuration)
     (taken t : List Bool) (low k : ℕ) → l ≡ levels → a ≡ at → m ≡ pairs → v ≡ visited → t ≡ taken → k ≡ low
     → StandsWith start calls levels at pairs visited taken low
     → StandsWith start calls l a m v t k
@@ -287,7 +302,8 @@ stands-same start calls levels l at a pairs m visited v taken t low k l_is a_is 
     (subst (λ x. StandsWith start calls levels at pairs visited taken x) (sym k_is) s)))))
 
 -- a call that may come next and leaves all pairs as they are is a read that may go first
-pub read_next : (start : Contents) (calls : List Operation) (path : List ℕ) (n : ℕ) (a : Operation) → IsRising start → slice_get calls n ≡ Some a
+pub read_next : (start : Contents) (calls : List Operation) (path : List ℕ) (n : ℕ) (a : Operation) → IsRising start
+    → slice_get calls n ≡ Some a
     → is_completed a ≡ true
     → ((m : Contents) → IsRising m → IsLegalCall m a.call a.response → after_call m a.call a.response ≡ m) → IsNext start calls path n
     → IsReadNext start calls path n
@@ -305,7 +321,8 @@ read_next start calls path n a rising here completed leaves next =
     }
 
 -- one read alone is to be tried
-pub read_choices : (start : Contents) (calls : List Operation) (path rest : List ℕ) (n : ℕ) → IsRising start → rest ≡ n ∷ [] → IsNext start calls path n
+pub read_choices : (start : Contents) (calls : List Operation) (path rest : List ℕ) (n : ℕ) → IsRising start → rest ≡ n ∷ []
+    → IsNext start calls path n
     → IsReadNext start calls path n → AreChoices start calls path rest
 read_choices start calls path rest n rising is next read = subst (AreChoices start calls path) (sym is) (record {
   next = λ k h. ⊎_elim (λ same. subst (IsNext start calls path) same next) (λ none. absurd (Contains-nil k none)) (Contains-cases n [] k h);
@@ -331,7 +348,8 @@ Contains-from_reverse (x ∷ xs) n h = ⊎_elim
 -- ---- what a step came to
 
 -- a step from where the same is visited and no more is to be tried
-pub step_from : (start : Contents) (calls : List Operation) (old middle new : Standing) (progress : Progress) → length middle.memo ≡ length old.memo
+pub step_from : (start : Contents) (calls : List Operation) (old middle new : Standing) (progress : Progress)
+    → length middle.memo ≡ length old.memo
     → to_try middle.levels.items middle.rest.items ≤ to_try old.levels.items old.rest.items → IsStep start calls middle new progress
     → IsStep start calls old new progress
 step_from start calls old middle new Made visited le h = record {
@@ -347,7 +365,8 @@ step_from start calls old middle new NoOrder visited le h = h
 -- a call that leads to a new configuration, after which the search looked on
 pub step_on : (start : Contents) (calls : List Operation) (old middle new : Standing) (rest : List ℕ) (progress : Progress)
     → length middle.memo ≡ length old.memo + 1
-    → to_try middle.levels.items [] ≡ to_try old.levels.items rest + 1 → length old.rest.items ≡ length rest + 1 → IsLooked start calls middle new progress
+    → to_try middle.levels.items [] ≡ to_try old.levels.items rest + 1 → length old.rest.items ≡ length rest + 1
+    → IsLooked start calls middle new progress
     → IsStep start calls old new progress
 step_on start calls old middle new rest Made visited pushed popped h = record {
   stands = h.0;
@@ -374,13 +393,15 @@ pub step_back : (start : Contents) (calls : List Operation) (old middle new : St
     old.taken.items old.low
     → old.rest.items ≡ middle.rest.items ++ n ∷ [] → middle.levels ≡ old.levels → middle.memo ≡ old.memo
     → IsNextOf start calls (places old.levels.items) n middle.rest.items
-    → StandsWith start calls new.levels.items new.at new.map new.memo new.taken.items new.low → new.memo ≡ middle.memo → new.levels ≡ middle.levels
+    → StandsWith start calls new.levels.items new.at new.map new.memo new.taken.items new.low → new.memo ≡ middle.memo
+    → new.levels ≡ middle.levels
     → new.rest ≡ middle.rest → IsDead start calls (places middle.levels.items ++ n ∷ []) → HasMoved start calls old new
 step_back start calls old middle new n s rest_is levels_is memo_is of stands memo levels rest dead =
     let path_is : places middle.levels.items ≡ places old.levels.items = ap (λ (v : Vec Level Global). places v.items) levels_is in
     let new_path : places new.levels.items ≡ places old.levels.items = ap (λ (v : Vec Level Global). places v.items) (levels ∙ levels_is) in
     let dead_there = subst (λ p. IsDead start calls (p ++ n ∷ [])) path_is dead in
-    let choices : AreChoices start calls (places old.levels.items) middle.rest.items = record { next = of.next; closes = of.closes dead_there } in
+    let choices : AreChoices start calls (places old.levels.items) middle.rest.items =
+        record { next = of.next; closes = of.closes dead_there } in
     record {
       stands = (
         stands,

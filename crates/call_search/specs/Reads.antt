@@ -14,7 +14,8 @@ HasOrderAfter start calls path = (tail : List ℕ) × IsOrder start calls (path 
 abbrev pub pairs_after : Contents → List Operation → List ℕ → Contents
 pairs_after start calls path = after_calls start (calls_at calls path)
 
--- a completed call that is left, that none which is left precedes, that does its reply where these calls lead, and leaves the pairs as they are there
+-- a completed call that is left, that none which is left precedes, that does its reply where these calls lead, and leaves the pairs as they
+-- are there
 pub record IsReadNext (start : Contents) (calls : List Operation) (path : List ℕ) (n : ℕ) : Type 0 where
   pub call : Operation
   pub here : slice_get calls n ≡ Some call

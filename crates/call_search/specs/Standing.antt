@@ -1,5 +1,6 @@
 -- Where a search stands: what its stack, its map, its memo and its lists say of the calls taken.
-use Rattle.std.specs.Prelude.{◌≡◌, ◌⊎◌, ℕ, ◌+◌, ◌-◌, ◌*◌, ◌<◌, ◌≤◌, true, false, Bool, List, [], ◌∷◌, ◌++◌, length, map, take, Option, Some, slice_get}
+use Rattle.std.specs.Prelude.{◌≡◌, ◌⊎◌, ℕ, ◌+◌, ◌-◌, ◌*◌, ◌<◌, ◌≤◌, true, false, Bool, List, [], ◌∷◌, ◌++◌, length, map, take, Option, Some}
+use Rattle.std.specs.Prelude.{slice_get}
 use Rattle.std.specs.Prelude.{slice_index_or, slice_set, Contains}
 use Rattle.events.specs.declared.event.Call.{Call}
 use Rattle.events.specs.declared.operation.Operation.{Operation}
@@ -41,7 +42,8 @@ abbrev pub Closes : Contents → List Operation → List ℕ → List ℕ → Ty
 Closes start calls path rest = ((n : ℕ) → Contains rest n → IsDead start calls (path ++ n ∷ [])) → IsDead start calls path
 
 -- a level of the stack: where the search stood before its call, what undoes the call, and what is to be tried in its stead
-pub record Remembers (start : Contents) (calls : List Operation) (visited : List Configuration) (path : List ℕ) (level : Level) : Type 0 where
+pub record Remembers (start : Contents) (calls : List Operation) (visited : List Configuration) (path : List ℕ)
+    (level : Level) : Type 0 where
   pub at : IsConfigurationAt start calls visited path level.at
   pub undo : undone (pairs_after start calls (path ++ level.place ∷ [])) level.undo ≡ pairs_after start calls path
   pub next : AreNext start calls path level.rest.items
@@ -95,7 +97,8 @@ pub record HasMoved (start : Contents) (calls : List Operation) (old new : Stand
   pub stands : Stands start calls new
   pub progress :
       ((length new.memo ≡ length old.memo) × (to_try new.levels.items new.rest.items < to_try old.levels.items old.rest.items)) ⊎
-      ((length new.memo ≡ length old.memo + 1) × (to_try new.levels.items new.rest.items ≤ to_try old.levels.items old.rest.items + length calls))
+      ((length new.memo ≡ length old.memo + 1)
+          × (to_try new.levels.items new.rest.items ≤ to_try old.levels.items old.rest.items + length calls))
 
 -- a call of those to be tried, and the others: where it is a dead end, they make an end
 pub record IsNextOf (start : Contents) (calls : List Operation) (path : List ℕ) (n : ℕ) (rest : List ℕ) : Type 0 where

@@ -1,5 +1,6 @@
 -- Ranges as they grow over the calls that share a key with them.
-use Rattle.std.proofs.Common.{◌≡◌, ℕ, ◌+◌, ◌<◌, ◌≤◌, Bool, true, false, ◌||◌, List, length, Some, refl, sym, ap, ◌∙◌, subst, inl, inr, ⊎_elim, arith}
+use Rattle.std.proofs.Common.{◌≡◌, ℕ, ◌+◌, ◌<◌, ◌≤◌, Bool, true, false, ◌||◌, List, length, Some, refl, sym, ap, ◌∙◌, subst, inl, inr}
+use Rattle.std.proofs.Common.{⊎_elim, arith}
 use Rattle.std.specs.Prelude.{◌⊎◌, slice_get, nat_lt, nat_le}
 use Rattle.std.proofs.lemmas.Bool.{both_ways, false≢true, and_parts, and_from, or_cases, ltb-true, leb-true, lt-ltb, le-leb}
 use Rattle.std.proofs.lemmas.Option.{same_Some, slice_get_within}
@@ -86,7 +87,8 @@ covers_both a b c h k =
 -- a range that has grown over the calls with a number below this
 pub record IsWidenedBelow (calls : List Operation) (range wider : KeyRange) (i : ℕ) : Type 0 where
   pub covers : Covers wider range
-  pub ties : (n : ℕ) (a : Operation) → n < i → slice_get calls n ≡ Some a → belongs a ≡ true → is_apart range a.call ≡ false → is_within wider a.call ≡ true
+  pub ties : (n : ℕ) (a : Operation) → n < i → slice_get calls n ≡ Some a → belongs a ≡ true → is_apart range a.call ≡ false
+      → is_within wider a.call ≡ true
   pub least : (other : KeyRange) → Covers other range → IsClosed other calls → Covers other wider
 
 -- a call that does not belong, or is apart, changes nothing
@@ -98,18 +100,21 @@ widened-skip calls range wider i a here skip h = record {
       (λ below. h.ties n b below at belongs_b tied)
       (λ is. let same = same_Some a b (sym here ∙ (ap (slice_get calls) (sym is) ∙ at)) in
       absurd (both_ways (is_apart range b.call) tied
-      (apart_in wider range b.call h.covers (subst (λ (b : Operation). belongs b ≡ true → is_apart wider b.call ≡ true) same skip belongs_b))))
+      (apart_in wider range b.call h.covers (subst (λ (b : Operation). belongs b ≡ true → is_apart wider b.call ≡ true) same
+          skip belongs_b))))
       (below_or_at n i lt);
   least = h.least;
 }
 
 -- a call that belongs and shares a key widens the range
 pub widened-take : (calls : List Operation) (range wider : KeyRange) (i : ℕ) (a : Operation) → slice_get calls i ≡ Some a → belongs a ≡ true
-    → is_apart wider a.call ≡ false → IsWidenedBelow calls range wider i → IsWidenedBelow calls range (widest wider (range_of a.call)) (i + 1)
+    → is_apart wider a.call ≡ false → IsWidenedBelow calls range wider i
+    → IsWidenedBelow calls range (widest wider (range_of a.call)) (i + 1)
 widened-take calls range wider i a here belongs_a tied h = record {
   covers = covers_through (widest wider (range_of a.call)) wider range (covers-widest_left wider (range_of a.call)) h.covers;
   ties = λ n b lt at belongs_b near. ⊎_elim
-      (λ below. within_in wider (widest wider (range_of a.call)) b.call (covers-widest_left wider (range_of a.call)) (h.ties n b below at belongs_b near))
+      (λ below. within_in wider (widest wider (range_of a.call)) b.call (covers-widest_left wider (range_of a.call))
+          (h.ties n b below at belongs_b near))
       (λ is. let same = same_Some a b (sym here ∙ (ap (slice_get calls) (sym is) ∙ at)) in
       subst (λ (b : Operation). is_within (widest wider (range_of a.call)) b.call ≡ true) same
       (within_from (widest wider (range_of a.call)) a.call (omega arith) (omega arith)))

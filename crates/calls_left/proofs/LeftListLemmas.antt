@@ -1,5 +1,6 @@
 -- Lists of the calls left: those that are marked, an answer at one of them, and groups.
-use Rattle.std.proofs.Common.{◌≡◌, ℕ, zero, suc, ◌<◌, ◌≤◌, Bool, true, false, not, cond, List, [], ◌∷◌, length, map, filter, get_or, Some, refl, sym, ap, ◌∙◌}
+use Rattle.std.proofs.Common.{◌≡◌, ℕ, zero, suc, ◌<◌, ◌≤◌, Bool, true, false, not, cond, List, [], ◌∷◌, length, map, filter, get_or, Some}
+use Rattle.std.proofs.Common.{refl, sym, ap, ◌∙◌}
 use Rattle.std.proofs.Common.{subst, inl, inr, ⊎_elim, arith}
 use Rattle.std.proofs.Common.{eq-eqb}
 use Rattle.std.specs.Prelude.{◌⊎◌, slice_get, slice_set, All, Contains, nat_lt, nat_le}
@@ -14,7 +15,8 @@ use Rattle.events.specs.declared.operation.Operation.{Operation}
 use Rattle.events.specs.Keys.{low_key, high_key}
 use Rattle.events.specs.Precedence.{belongs, precedes}
 use Rattle.list_laws.specs.Lists.{has_number}
-use Rattle.list_laws.proofs.Lists.{AllPairs-head, AllPairs-tail, Contains-first, Contains-later, Contains-nil, Contains-cases, Contains-at, place_of-Contains}
+use Rattle.list_laws.proofs.Lists.{AllPairs-head, AllPairs-tail, Contains-first, Contains-later, Contains-nil, Contains-cases, Contains-at}
+use Rattle.list_laws.proofs.Lists.{place_of-Contains}
 use Rattle.list_laws.proofs.Lists.{All-from_contains}
 use Rattle.list_laws.proofs.FilterLemmas.{Contains-map, Contains-from_map, Contains-from_filter, filter-filter}
 use Rattle.list_laws.proofs.NumberLemmas.{has_number-Contains}
@@ -71,12 +73,14 @@ first_mark : (mark : Bool) (marks : List Bool) (x : Operation) (xs : List Operat
 first_mark true marks x xs rise = rw (eq-eqb x.inv x.inv refl) refl
 first_mark false marks x xs rise =
     false_from_ne_true (has_number (places_of (marked marks xs)) x.inv) (λ early.
-    let (b, b_is, same) = Contains-from_map (λ b. b.inv) (marked marks xs) x.inv (has_number-Contains (places_of (marked marks xs)) x.inv early) in
+    let (b, b_is, same) = Contains-from_map (λ b. b.inv) (marked marks xs) x.inv
+        (has_number-Contains (places_of (marked marks xs)) x.inv early) in
     let later = later_invoked x xs rise b (Contains-from_marked marks xs b b_is) in
     absurd (omega arith))
 
 -- and the mark of the first is none of the others'
-rest_mark : (mark : Bool) (marks : List Bool) (x : Operation) (xs : List Operation) → InvocationsRise (x ∷ xs) → (b : Operation) → Contains xs b
+rest_mark : (mark : Bool) (marks : List Bool) (x : Operation) (xs : List Operation) → InvocationsRise (x ∷ xs)
+    → (b : Operation) → Contains xs b
     → is_early_by (mark ∷ marks) (x ∷ xs) b ≡ is_early_by marks xs b
 rest_mark true marks x xs rise b is =
     let later = later_invoked x xs rise b is in
@@ -119,17 +123,20 @@ answered_here res reply a = rw (eq-eqb a.inv a.inv refl) refl
 
 -- an answer is put at one of the calls left
 put_at_one : (left : List LeftCall) (place res : ℕ) (call : LeftCall) (reply : Reply) → InvocationsRise (calls_of left)
-    → slice_get left place ≡ Some call → slice_set left place (with_answer call res reply) ≡ map (answered_left call.operation.inv res reply) left
+    → slice_get left place ≡ Some call → slice_set left place (with_answer call res reply) ≡ map
+        (answered_left call.operation.inv res reply) left
 put_at_one [] place res call reply rise here = absurd (none-some call here)
 put_at_one (x ∷ xs) zero res call reply rise here =
     let same = same_Some x call here in
     let inv = x.operation.inv in
     let rest = map_same (answered_left inv res reply) (λ c. c) xs
     (λ c is. let later = later_invoked x.operation (calls_of xs) rise c.operation (Contains-map (λ (c : LeftCall). c.operation) xs c is) in
-    ap (λ a. record { operation = a; number = c.number; process = c.process }) (unanswered inv res reply c.operation (λ e. absurd (omega arith))))
+    ap (λ a. record { operation = a; number = c.number; process = c.process })
+        (unanswered inv res reply c.operation (λ e. absurd (omega arith))))
     ∙ map_id xs in
     let first = ap (λ a. record { operation = a; number = x.number; process = x.process }) (answered_here res reply x.operation) in
-    subst (λ (call : LeftCall). slice_set (x ∷ xs) zero (with_answer call res reply) ≡ map (answered_left call.operation.inv res reply) (x ∷ xs)) same
+    subst (λ (call : LeftCall). slice_set (x ∷ xs) zero (with_answer call res reply) ≡ map
+        (answered_left call.operation.inv res reply) (x ∷ xs)) same
     (sym (ap (λ y. y ∷ map (answered_left inv res reply) xs) first ∙ ap (λ ys. with_answer x res reply ∷ ys) rest))
 put_at_one (x ∷ xs) (suc place) res call reply rise here =
     let later = later_invoked x.operation (calls_of xs) rise call.operation
@@ -165,7 +172,8 @@ apart_calls a b h = ⊎_elim
     (λ above. inr (ltb-true (high_key b.call) (low_key a.call) above))
     (or_cases (nat_lt (high_key a.call) (low_key b.call)) (nat_lt (high_key b.call) (low_key a.call)) h)
 
-pub settled_are_a_cut : (calls : List Operation) (marks : List Bool) → InvocationsRise calls → length marks ≡ length calls → MayGo calls marks
+pub settled_are_a_cut : (calls : List Operation) (marks : List Bool) → InvocationsRise calls → length marks ≡ length calls
+    → MayGo calls marks
     → IsRangeCut calls (is_early_by marks calls)
 settled_are_a_cut calls marks rise size go = record {
   completed = λ a is early. let (n, here) = place_of-Contains calls a is in
@@ -173,12 +181,15 @@ settled_are_a_cut calls marks rise size go = record {
   across = λ a b a_is b_is early late.
       let (n, a_here) = place_of-Contains calls a a_is in
       let (j, b_here) = place_of-Contains calls b b_is in
-      let goes = go.let_go n a a_here (early_at calls marks n a rise size a_here ∙ early) j b b_here (early_at calls marks j b rise size b_here ∙ late) in
-      ⊎_elim (λ before. inl before) (λ apart. inr (apart_calls a b apart)) (or_cases (precedes a b) (is_apart (range_of b.call) a.call) goes);
+      let goes = go.let_go n a a_here (early_at calls marks n a rise size a_here ∙ early) j b b_here
+          (early_at calls marks j b rise size b_here ∙ late) in
+      ⊎_elim (λ before. inl before) (λ apart. inr (apart_calls a b apart))
+          (or_cases (precedes a b) (is_apart (range_of b.call) a.call) goes);
 }
 
 -- keys of a range and keys that are apart from it
-pub parts_of : (range : KeyRange) (a b : Operation) → is_within range a.call ≡ true → is_apart range b.call ≡ true → HaveKeysApart a.call b.call
+pub parts_of : (range : KeyRange) (a b : Operation) → is_within range a.call ≡ true → is_apart range b.call ≡ true
+    → HaveKeysApart a.call b.call
 parts_of range a b within apart =
     let parts = and_parts (nat_le range.low (low_key a.call)) (nat_le (high_key a.call) range.high) within in
     let low = leb-true range.low (low_key a.call) parts.0 in
@@ -193,7 +204,8 @@ groups_are_parts range calls closed = record {
   apart = λ a b a_is b_is here there.
       let (b_in, b_belongs) = Contains-from_filter belongs calls b b_is in
       ⊎_elim (λ within. absurd (both_ways (is_within range b.call) there within)) (λ apart. parts_of range a b here apart)
-      (All-contains (λ a. belongs a ≡ true → (is_within range a.call ≡ true) ⊎ (is_apart range a.call ≡ true)) calls b closed b_in b_belongs);
+      (All-contains (λ a. belongs a ≡ true → (is_within range a.call ≡ true) ⊎ (is_apart range a.call ≡ true)) calls b
+          closed b_in b_belongs);
   group = marked-map (is_in_group range) calls ∙ sym (filter-filter (λ a. is_within range a.call) belongs calls);
 }
 
@@ -201,7 +213,8 @@ pub groups_name_keys_within : (range : KeyRange) (calls : List Operation) → Al
     → All (λ a. NamesKeysWithin range.low range.high a.call) (marked (map (is_in_group range) calls) calls)
 groups_name_keys_within range calls shaped =
     All-from_contains (λ a. NamesKeysWithin range.low range.high a.call) (marked (map (is_in_group range) calls) calls) (λ a is.
-    let (a_in, here) = Contains-from_filter (is_in_group range) calls a (subst (λ xs. Contains xs a) (marked-map (is_in_group range) calls) is) in
+    let (a_in, here) = Contains-from_filter (is_in_group range) calls a (subst (λ xs. Contains xs a)
+        (marked-map (is_in_group range) calls) is) in
     let within = (and_parts (belongs a) (is_within range a.call) here).1 in
     let parts = and_parts (nat_le range.low (low_key a.call)) (nat_le (high_key a.call) range.high) within in
     record {

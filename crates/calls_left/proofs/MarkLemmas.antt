@@ -1,5 +1,6 @@
 -- Marks on calls, as calls are taken out that some call which stays holds.
-use Rattle.std.proofs.Common.{◌≡◌, ℕ, zero, suc, ◌+◌, ◌<◌, ◌≤◌, Bool, true, false, cond, List, [], ◌∷◌, ◌++◌, append_assoc, add-one, length, get_or, set, drop}
+use Rattle.std.proofs.Common.{◌≡◌, ℕ, zero, suc, ◌+◌, ◌<◌, ◌≤◌, Bool, true, false, cond, List, [], ◌∷◌, ◌++◌, append_assoc, add-one, length}
+use Rattle.std.proofs.Common.{get_or, set, drop}
 use Rattle.std.proofs.Common.{Some, refl, sym, ap, ◌∙◌, subst, inl, inr, ⊎_elim, arith}
 use Rattle.std.specs.Prelude.{◌⊎◌, ◌≢◌, slice_get}
 use Rattle.std.proofs.Math.ListN.{length-set}
@@ -16,10 +17,13 @@ use Rattle.calls_left.specs.Left.{calls_of, marked, is_marked}
 use Rattle.calls_left.specs.Settling.{lets_go, IsLetGo, IsHeld, AreAmong, MayGo, AreCandidates, count_marks, IsFewerOrFree, HasTakenOut}
 
 -- the call at a place, without number and process
-pub call_at : (left : List LeftCall) (n : ℕ) (call : LeftCall) → slice_get left n ≡ Some call → slice_get (calls_of left) n ≡ Some call.operation
-call_at left n call here = slice_get-map (λ (call : LeftCall). call.operation) left n ∙ ap (option_map (λ (call : LeftCall). call.operation)) here
+pub call_at : (left : List LeftCall) (n : ℕ) (call : LeftCall) → slice_get left n ≡ Some call
+    → slice_get (calls_of left) n ≡ Some call.operation
+call_at left n call here = slice_get-map (λ (call : LeftCall). call.operation) left n
+    ∙ ap (option_map (λ (call : LeftCall). call.operation)) here
 
-pub call_here : (left : List LeftCall) (n : ℕ) (d : LeftCall) → n < length left → slice_get (calls_of left) n ≡ Some (get_or left n d).operation
+pub call_here : (left : List LeftCall) (n : ℕ) (d : LeftCall) → n < length left
+    → slice_get (calls_of left) n ≡ Some (get_or left n d).operation
 call_here left n d lt = call_at left n (get_or left n d) (slice_get-get_or left n d lt)
 
 -- there are as many calls
@@ -33,15 +37,18 @@ drop_at (y ∷ ys) zero x h = ap (λ z. z ∷ ys) (same_Some y x h)
 drop_at (y ∷ ys) (suc i) x h = drop_at ys i x h
 
 -- the items that are marked, with those from a place on that are
-pub marked-more : {X : Type 0} (marks : List Bool) (xs kept : List X) (whole : List X) (i : ℕ) (x : X) → slice_get xs i ≡ Some x → i < length marks
+pub marked-more : {X : Type 0} (marks : List Bool) (xs kept : List X) (whole : List X) (i : ℕ) (x : X) → slice_get xs i ≡ Some x
+    → i < length marks
     → is_marked marks i ≡ true → kept ++ marked (drop i marks) (drop i xs) ≡ whole
     → (kept ++ x ∷ []) ++ marked (drop (i + 1) marks) (drop (i + 1) xs) ≡ whole
 marked-more marks xs kept whole i x here lt is h =
     let rest = drop_at xs i x here in
     let mark = drop_at marks i true (slice_get-get_or marks i false lt ∙ ap Some is) in
-    rw (add-one, append_assoc) (sym (ap (λ zs. kept ++ zs) (ap (λ ms. marked ms (drop i xs)) mark ∙ ap (marked (true ∷ drop (suc i) marks)) rest)) ∙ h)
+    rw (add-one, append_assoc)
+        (sym (ap (λ zs. kept ++ zs) (ap (λ ms. marked ms (drop i xs)) mark ∙ ap (marked (true ∷ drop (suc i) marks)) rest)) ∙ h)
 
-pub marked-less : {X : Type 0} (marks : List Bool) (xs kept : List X) (whole : List X) (i : ℕ) (x : X) → slice_get xs i ≡ Some x → i < length marks
+pub marked-less : {X : Type 0} (marks : List Bool) (xs kept : List X) (whole : List X) (i : ℕ) (x : X) → slice_get xs i ≡ Some x
+    → i < length marks
     → is_marked marks i ≡ false → kept ++ marked (drop i marks) (drop i xs) ≡ whole
     → kept ++ marked (drop (i + 1) marks) (drop (i + 1) xs) ≡ whole
 marked-less marks xs kept whole i x here lt is h =
@@ -64,7 +71,8 @@ count-unset marks n h =
     omega arith
 
 -- where a place is not marked any more, the others are as they were
-pub unset_other : (marks : List Bool) (i n : ℕ) → is_marked (set marks i false) n ≡ true → i < length marks → (is_marked marks n ≡ true) × (n ≡ i → ⊥)
+pub unset_other : (marks : List Bool) (i n : ℕ) → is_marked (set marks i false) n ≡ true → i < length marks
+    → (is_marked marks n ≡ true) × (n ≡ i → ⊥)
 unset_other marks i n h lt = ⊎_elim
     (λ is. absurd (false≢true (sym (get_or-set_same marks i false false lt) ∙ (ap (λ m. get_or (set marks i false) m false) (sym is) ∙ h))))
     (λ apart. let other : n ≢ i = ⊎_elim (λ lower same. absurd (omega arith)) (λ higher same. absurd (omega arith)) apart in
@@ -135,7 +143,8 @@ sweep-take calls old new taken i j a here is_marked_here held h = record {
       ⊎_elim
       (λ is.
       let here_too = subst (λ n. is_marked others n ≡ true) is marked in
-      let out = false_from_ne_true (is_marked others held.place) (λ yes. both_ways (is_marked new held.place) held.not_marked (before held.place yes)) in
+      let out = false_from_ne_true (is_marked others held.place)
+          (λ yes. both_ways (is_marked new held.place) held.not_marked (before held.place yes)) in
       absurd (both_ways (lets_go held.stays a) held.holds (go.let_go i a here here_too held.place held.stays held.here out)))
       (λ apart. let other : n ≢ i = ⊎_elim (λ lower same. absurd (omega arith)) (λ higher same. absurd (omega arith)) apart in
       get_or-set_other new i n false false other ∙ before n marked)
@@ -148,7 +157,8 @@ sweep-take calls old new taken i j a here is_marked_here held h = record {
     at_most false same = omega (arith, ap count_marks same.0)
 
 -- all calls were looked at
-pub sweep-all : (calls : List Operation) (old new : List Bool) (taken : Bool) → IsSweeping calls old new taken 0 → HasTakenOut calls old new taken
+pub sweep-all : (calls : List Operation) (old new : List Bool) (taken : Bool) → IsSweeping calls old new taken 0
+    → HasTakenOut calls old new taken
 sweep-all calls old new taken h = record { size = h.size; among = h.among; keeps = h.keeps; fewer = fewer taken h.fewer }
   where
     fewer : (taken : Bool) → IsFewerOrFreeFrom calls old new 0 taken → IsFewerOrFree calls old new taken

@@ -1,5 +1,6 @@
 -- Where a list of numbers ceases to be a legal order, and that it shows one fault there.
-use Rattle.std.proofs.Common.{◌≡◌, ℕ, ◌+◌, ◌<◌, false, List, Some, [], ◌∷◌, ◌++◌, length, take, drop, refl, sym, ap, ◌∙◌, subst, arith, inl, inr}
+use Rattle.std.proofs.Common.{◌≡◌, ℕ, ◌+◌, ◌<◌, false, List, Some, [], ◌∷◌, ◌++◌, length, take, drop, refl, sym, ap, ◌∙◌, subst, arith, inl}
+use Rattle.std.proofs.Common.{inr}
 use Rattle.std.specs.Prelude.{◌≢◌, slice_get, Contains}
 use Rattle.std.proofs.lemmas.Bool.{false≢true, cases_order}
 use Rattle.std.proofs.lemmas.List.{take-take, take-append-drop}
@@ -9,7 +10,8 @@ use Rattle.events.specs.declared.operation.Operation.{Operation}
 use Rattle.events.specs.Precedence.{precedes}
 use Rattle.map_object.specs.MapObject.{Contents}
 use Rattle.orders.specs.Orders.{IsLegalOrder, IsOrder, IsLegalCall, IsLegal, KeepsPrecedence, after_calls, calls_at}
-use Rattle.certificate.specs.OrderFaults.{PrecedesSome, IsNextAt, IsUnknownAt, IsRepeatedAt, IsNewAt, BreaksPrecedenceAt, IsIllegalAt, IsLeastMissing}
+use Rattle.certificate.specs.OrderFaults.{PrecedesSome, IsNextAt, IsUnknownAt, IsRepeatedAt, IsNewAt, BreaksPrecedenceAt, IsIllegalAt}
+use Rattle.certificate.specs.OrderFaults.{IsLeastMissing}
 use Rattle.list_laws.proofs.Lists.{All-front, All-back, AllPairs-front, AllPairs-across}
 use Rattle.orders.proofs.OrderLemmas.{IsLegal-front, IsLegal-back, calls_at-append, calls_at-push}
 use Rattle.certificate.specs.declared.fault.OrderFault.{OrderFault}
@@ -18,7 +20,8 @@ use Rattle.certificate.specs.Faults.{IsFirstFault, IsRefusedFor}
 use Rattle.certificate.proofs.PrefixLemmas.{take-next}
 
 -- the front of a legal order is a legal order
-pub IsLegalOrder-front : (start : Contents) (calls : List Operation) (xs ys : List ℕ) → IsLegalOrder start calls (xs ++ ys) → IsLegalOrder start calls xs
+pub IsLegalOrder-front : (start : Contents) (calls : List Operation) (xs ys : List ℕ) → IsLegalOrder start calls (xs ++ ys)
+    → IsLegalOrder start calls xs
 IsLegalOrder-front start calls xs ys h =
     let parts = calls_at-append calls xs ys in
     let precedence : KeepsPrecedence (calls_at calls xs ++ calls_at calls ys) = rw parts at h.precedence in
@@ -36,25 +39,30 @@ pub IsLegalOrder-take : (start : Contents) (calls : List Operation) (numbers : L
 IsLegalOrder-take start calls numbers i h = IsLegalOrder-front start calls (take i numbers) (drop i numbers) (rw take-append-drop h)
 
 -- the last number of a legal order has a call
-known_last : (start : Contents) (calls : List Operation) (numbers : List ℕ) (n : ℕ) → IsLegalOrder start calls (numbers ++ n ∷ []) → n < length calls
+known_last : (start : Contents) (calls : List Operation) (numbers : List ℕ) (n : ℕ) → IsLegalOrder start calls (numbers ++ n ∷ [])
+    → n < length calls
 known_last start calls numbers n h = All-head (λ m. m < length calls) n [] (All-back (λ m. m < length calls) numbers (n ∷ []) h.known)
 
 -- the last number of a legal order does not stand before
-new_last : (start : Contents) (calls : List Operation) (numbers : List ℕ) (n : ℕ) → IsLegalOrder start calls (numbers ++ n ∷ []) → Contains numbers n → ⊥
+new_last : (start : Contents) (calls : List Operation) (numbers : List ℕ) (n : ℕ) → IsLegalOrder start calls (numbers ++ n ∷ [])
+    → Contains numbers n → ⊥
 new_last start calls numbers n h (k, within, is) =
     AllPairs-across (λ m i. m ≢ i) numbers (n ∷ []) h.distinct k n within 0 n (omega arith) is
 
 -- the last call of a legal order precedes none of the others
-free_last : (start : Contents) (calls : List Operation) (numbers : List ℕ) (n : ℕ) (a : Operation) → IsLegalOrder start calls (numbers ++ n ∷ [])
+free_last : (start : Contents) (calls : List Operation) (numbers : List ℕ) (n : ℕ) (a : Operation)
+    → IsLegalOrder start calls (numbers ++ n ∷ [])
     → slice_get calls n ≡ Some a → PrecedesSome calls numbers a → ⊥
 free_last start calls numbers n a h here (k, b, within, is, precedes_b) =
     let precedence : KeepsPrecedence (calls_at calls numbers ++ a ∷ []) = rw (calls_at-push calls numbers n a here) at h.precedence in
     false≢true
-    (sym (AllPairs-across (λ b c. precedes c b ≡ false) (calls_at calls numbers) (a ∷ []) precedence k b within 0 a (omega arith)) ∙ ap (precedes a) is
+    (sym (AllPairs-across (λ b c. precedes c b ≡ false) (calls_at calls numbers) (a ∷ []) precedence k b within 0 a (omega arith))
+        ∙ ap (precedes a) is
     ∙ precedes_b)
 
 -- the last call of a legal order is legal after the others
-legal_last : (start : Contents) (calls : List Operation) (numbers : List ℕ) (n : ℕ) (a : Operation) → IsLegalOrder start calls (numbers ++ n ∷ [])
+legal_last : (start : Contents) (calls : List Operation) (numbers : List ℕ) (n : ℕ) (a : Operation)
+    → IsLegalOrder start calls (numbers ++ n ∷ [])
     → slice_get calls n ≡ Some a → IsLegalCall (after_calls start (calls_at calls numbers)) a.call a.response
 legal_last start calls numbers n a h here =
     let legal : IsLegal start (calls_at calls numbers ++ a ∷ []) = rw (calls_at-push calls numbers n a here) at h.legal in
@@ -73,7 +81,8 @@ module _ (start : Contents) (calls : List Operation) (order : List ℕ) where
   -- before a place where the list breaks it does not
   front_unbroken : (p q : ℕ) → BreaksAt start calls order p → BreaksAt start calls order q → p < q → ⊥
   front_unbroken p q at_p at_q before =
-      at_p.broken (subst (IsLegalOrder start calls) (take-take (p + 1) q order (omega arith)) (IsLegalOrder-take start calls (take q order) (p + 1) at_q.sound))
+      at_p.broken (subst (IsLegalOrder start calls) (take-take (p + 1) q order (omega arith))
+          (IsLegalOrder-take start calls (take q order) (p + 1) at_q.sound))
 
   -- so it breaks at one place only
   same_place : (p q : ℕ) → BreaksAt start calls order p → BreaksAt start calls order q → p ≡ q
@@ -84,27 +93,32 @@ module _ (start : Contents) (calls : List Operation) (order : List ℕ) where
   ]
 
   -- a list breaks where the number that comes next makes no legal order
-  BreaksAt-next : (p n : ℕ) → IsNextAt start calls order p n → (IsLegalOrder start calls (take p order ++ n ∷ []) → ⊥) → BreaksAt start calls order p
+  BreaksAt-next : (p n : ℕ) → IsNextAt start calls order p n → (IsLegalOrder start calls (take p order ++ n ∷ []) → ⊥)
+      → BreaksAt start calls order p
   BreaksAt-next p n next broken =
       record { sound = next.sound; broken = λ legal. broken (subst (IsLegalOrder start calls) (take-next order p n next.here) legal) }
 
   -- each fault of a number breaks the list at its place
   BreaksAt-unknown : (p : ℕ) → IsUnknownAt start calls order p → BreaksAt start calls order p
-  BreaksAt-unknown p h = BreaksAt-next p h.number h.next (λ legal. absurd (omega (arith, h.unknown, known_last start calls (take p order) h.number legal)))
+  BreaksAt-unknown p h = BreaksAt-next p h.number h.next
+      (λ legal. absurd (omega (arith, h.unknown, known_last start calls (take p order) h.number legal)))
 
   BreaksAt-repeated : (p : ℕ) → IsRepeatedAt start calls order p → BreaksAt start calls order p
   BreaksAt-repeated p h = BreaksAt-next p h.number h.next (λ legal. new_last start calls (take p order) h.number legal h.repeated)
 
   BreaksAt-precedence : (p : ℕ) → BreaksPrecedenceAt start calls order p → BreaksAt start calls order p
   BreaksAt-precedence p h =
-      BreaksAt-next p h.next.number h.next.next (λ legal. free_last start calls (take p order) h.next.number h.a legal h.next.call h.precedes_earlier)
+      BreaksAt-next p h.next.number h.next.next
+          (λ legal. free_last start calls (take p order) h.next.number h.a legal h.next.call h.precedes_earlier)
 
   BreaksAt-illegal : (p : ℕ) → IsIllegalAt start calls order p → BreaksAt start calls order p
   BreaksAt-illegal p h =
-      BreaksAt-next p h.next.number h.next.next (λ legal. h.illegal (legal_last start calls (take p order) h.next.number h.a legal h.next.call))
+      BreaksAt-next p h.next.number h.next.next
+          (λ legal. h.illegal (legal_last start calls (take p order) h.next.number h.a legal h.next.call))
 
   -- two facts that break the list, and exclude each other at one place, exclude each other
-  apart : (P Q : ℕ → Type 0) → ((p : ℕ) → P p → BreaksAt start calls order p) → ((p : ℕ) → Q p → BreaksAt start calls order p) → ((p : ℕ) → P p → Q p → ⊥)
+  apart : (P Q : ℕ → Type 0) → ((p : ℕ) → P p → BreaksAt start calls order p) → ((p : ℕ) → Q p → BreaksAt start calls order p)
+      → ((p : ℕ) → P p → Q p → ⊥)
       → (p q : ℕ) → P p → Q q → ⊥
   apart P Q breaks_P breaks_Q clash p q h k = clash q (subst P (same_place p q (breaks_P p h) (breaks_Q q k)) h) k
 
@@ -146,24 +160,32 @@ module _ (start : Contents) (calls : List Operation) (order : List ℕ) where
   one_first_fault Memory other h k = absurd h
   one_first_fault (Unknown p) (Unknown q) h k = ap Unknown (same_place p q (BreaksAt-unknown p h) (BreaksAt-unknown q k))
   one_first_fault (Unknown p) (Repeated q) h k = absurd (apart _ _ BreaksAt-unknown BreaksAt-repeated unknown_repeated p q h k)
-  one_first_fault (Unknown p) (Precedence q) h k = absurd (apart _ _ BreaksAt-unknown BreaksAt-precedence (λ i u f. unknown_new i f.a u f.next) p q h k)
-  one_first_fault (Unknown p) (Reply q) h k = absurd (apart _ _ BreaksAt-unknown BreaksAt-illegal (λ i u f. unknown_new i f.a u f.next) p q h k)
+  one_first_fault (Unknown p) (Precedence q) h k =
+      absurd (apart _ _ BreaksAt-unknown BreaksAt-precedence (λ i u f. unknown_new i f.a u f.next) p q h k)
+  one_first_fault (Unknown p) (Reply q) h k = absurd (apart _ _ BreaksAt-unknown BreaksAt-illegal (λ i u f. unknown_new i f.a
+      u f.next) p q h k)
   one_first_fault (Unknown p) (Missing n) h k = absurd (whole_unbroken k.sound p (BreaksAt-unknown p h))
   one_first_fault (Unknown p) Memory h k = absurd k
   one_first_fault (Repeated p) (Unknown q) h k = absurd (apart _ _ BreaksAt-unknown BreaksAt-repeated unknown_repeated q p k h)
   one_first_fault (Repeated p) (Repeated q) h k = ap Repeated (same_place p q (BreaksAt-repeated p h) (BreaksAt-repeated q k))
-  one_first_fault (Repeated p) (Precedence q) h k = absurd (apart _ _ BreaksAt-repeated BreaksAt-precedence (λ i r f. repeated_new i f.a r f.next) p q h k)
-  one_first_fault (Repeated p) (Reply q) h k = absurd (apart _ _ BreaksAt-repeated BreaksAt-illegal (λ i r f. repeated_new i f.a r f.next) p q h k)
+  one_first_fault (Repeated p) (Precedence q) h k =
+      absurd (apart _ _ BreaksAt-repeated BreaksAt-precedence (λ i r f. repeated_new i f.a r f.next) p q h k)
+  one_first_fault (Repeated p) (Reply q) h k =
+      absurd (apart _ _ BreaksAt-repeated BreaksAt-illegal (λ i r f. repeated_new i f.a r f.next) p q h k)
   one_first_fault (Repeated p) (Missing n) h k = absurd (whole_unbroken k.sound p (BreaksAt-repeated p h))
   one_first_fault (Repeated p) Memory h k = absurd k
-  one_first_fault (Precedence p) (Unknown q) h k = absurd (apart _ _ BreaksAt-unknown BreaksAt-precedence (λ i u f. unknown_new i f.a u f.next) q p k h)
-  one_first_fault (Precedence p) (Repeated q) h k = absurd (apart _ _ BreaksAt-repeated BreaksAt-precedence (λ i r f. repeated_new i f.a r f.next) q p k h)
+  one_first_fault (Precedence p) (Unknown q) h k =
+      absurd (apart _ _ BreaksAt-unknown BreaksAt-precedence (λ i u f. unknown_new i f.a u f.next) q p k h)
+  one_first_fault (Precedence p) (Repeated q) h k =
+      absurd (apart _ _ BreaksAt-repeated BreaksAt-precedence (λ i r f. repeated_new i f.a r f.next) q p k h)
   one_first_fault (Precedence p) (Precedence q) h k = ap Precedence (same_place p q (BreaksAt-precedence p h) (BreaksAt-precedence q k))
   one_first_fault (Precedence p) (Reply q) h k = absurd (apart _ _ BreaksAt-precedence BreaksAt-illegal precedence_illegal p q h k)
   one_first_fault (Precedence p) (Missing n) h k = absurd (whole_unbroken k.sound p (BreaksAt-precedence p h))
   one_first_fault (Precedence p) Memory h k = absurd k
-  one_first_fault (Reply p) (Unknown q) h k = absurd (apart _ _ BreaksAt-unknown BreaksAt-illegal (λ i u f. unknown_new i f.a u f.next) q p k h)
-  one_first_fault (Reply p) (Repeated q) h k = absurd (apart _ _ BreaksAt-repeated BreaksAt-illegal (λ i r f. repeated_new i f.a r f.next) q p k h)
+  one_first_fault (Reply p) (Unknown q) h k = absurd (apart _ _ BreaksAt-unknown BreaksAt-illegal (λ i u f. unknown_new i f.a
+      u f.next) q p k h)
+  one_first_fault (Reply p) (Repeated q) h k =
+      absurd (apart _ _ BreaksAt-repeated BreaksAt-illegal (λ i r f. repeated_new i f.a r f.next) q p k h)
   one_first_fault (Reply p) (Precedence q) h k = absurd (apart _ _ BreaksAt-precedence BreaksAt-illegal precedence_illegal q p k h)
   one_first_fault (Reply p) (Reply q) h k = ap Reply (same_place p q (BreaksAt-illegal p h) (BreaksAt-illegal q k))
   one_first_fault (Reply p) (Missing n) h k = absurd (whole_unbroken k.sound p (BreaksAt-illegal p h))

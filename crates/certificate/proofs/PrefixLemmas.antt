@@ -1,5 +1,6 @@
 -- What is kept of the numbers so far tells what is wrong with the next one.
-use Rattle.std.proofs.Common.{◌≡◌, ℕ, ◌+◌, ◌<◌, ◌≢◌, Bool, true, false, List, Some, [], ◌∷◌, ◌++◌, length, get_or, set, take, sym, ap, ◌∙◌, arith}
+use Rattle.std.proofs.Common.{◌≡◌, ℕ, ◌+◌, ◌<◌, ◌≢◌, Bool, true, false, List, Some, [], ◌∷◌, ◌++◌, length, get_or, set, take, sym, ap, ◌∙◌}
+use Rattle.std.proofs.Common.{arith}
 use Rattle.std.proofs.Common.{get_or-set_other, get_or-set_same, inl, inr}
 use Rattle.std.specs.Prelude.{max, map, ◌==◌, is_some, slice_get, Contains}
 use Rattle.std.proofs.lemmas.Bool.{false≢true, or_right}
@@ -21,17 +22,21 @@ use Rattle.certificate.specs.Prefix.{IsPrefixOf}
 
 -- the first elements of a list, one element further
 pub take-next : {X : Type 0} (xs : List X) (i : ℕ) (x : X) → slice_get xs i ≡ Some x → take (i + 1) xs ≡ take i xs ++ x ∷ []
-take-next xs i x here = take_more xs i x (slice_get_within xs i x here) ∙ ap (λ y. take i xs ++ y ∷ []) (get_or_from_slice_get xs i x x here)
+take-next xs i x here = take_more xs i x (slice_get_within xs i x here)
+    ∙ ap (λ y. take i xs ++ y ∷ []) (get_or_from_slice_get xs i x x here)
 
 -- a number that is marked as taken stands among the numbers
-pub Contains-taken : (start : Contents) (calls : List Operation) (numbers : List ℕ) (prefix : Prefix) (n : ℕ) → IsPrefixOf start calls numbers prefix
+pub Contains-taken : (start : Contents) (calls : List Operation) (numbers : List ℕ) (prefix : Prefix) (n : ℕ)
+    → IsPrefixOf start calls numbers prefix
     → n < length calls → get_or prefix.taken.items n false ≡ true → Contains numbers n
 Contains-taken start calls numbers prefix n h known taken = has_number-Contains numbers n (sym (h.taken n known) ∙ taken)
 
 -- a number that is not marked does not
-pub not_Contains-taken : (start : Contents) (calls : List Operation) (numbers : List ℕ) (prefix : Prefix) (n : ℕ) → IsPrefixOf start calls numbers prefix
+pub not_Contains-taken : (start : Contents) (calls : List Operation) (numbers : List ℕ) (prefix : Prefix) (n : ℕ)
+    → IsPrefixOf start calls numbers prefix
     → n < length calls → get_or prefix.taken.items n false ≡ false → Contains numbers n → ⊥
-not_Contains-taken start calls numbers prefix n h known free in_it = false≢true (sym free ∙ (h.taken n known ∙ has_number-from_Contains numbers n in_it))
+not_Contains-taken start calls numbers prefix n h known free in_it =
+    false≢true (sym free ∙ (h.taken n known ∙ has_number-from_Contains numbers n in_it))
 
 -- a call whose response stands before the latest invocation precedes one of the calls
 pub PrecedesSome-latest : (start : Contents) (calls : List Operation) (numbers : List ℕ) (prefix : Prefix) (a : Operation)
@@ -56,18 +61,21 @@ IsNewAt-taken start calls order prefix place n a h here is free = record {
 }
 
 -- a call with a response is completed
-pub IsCompletedAt-response : (calls : List Operation) (n : ℕ) (a : Operation) → slice_get calls n ≡ Some a → is_some a.response ≡ true → IsCompletedAt calls n
+pub IsCompletedAt-response : (calls : List Operation) (n : ℕ) (a : Operation) → slice_get calls n ≡ Some a → is_some a.response ≡ true
+    → IsCompletedAt calls n
 IsCompletedAt-response calls n a here completed = rw here completed
 
 -- and one without is not
-pub response-IsCompletedAt : (calls : List Operation) (n : ℕ) (a : Operation) → slice_get calls n ≡ Some a → IsCompletedAt calls n → is_some a.response ≡ true
+pub response-IsCompletedAt : (calls : List Operation) (n : ℕ) (a : Operation) → slice_get calls n ≡ Some a → IsCompletedAt calls n
+    → is_some a.response ≡ true
 response-IsCompletedAt calls n a here completed = rw here at completed
 
 -- which numbers are marked, when one more is
 taken-push : (numbers : List ℕ) (taken : List Bool) (m n : ℕ) → m < length taken → get_or taken n false ≡ has_number numbers n
     → get_or (set taken m true) n false ≡ has_number (numbers ++ m ∷ []) n
 taken-push numbers taken m n within was = elim (eqb_tells m n) [
-  | inl h ↦ rw (has_number-push numbers m n, or_right (has_number numbers n) (m == n) h.0) (rw (sym h.1) (get_or-set_same taken m true false within))
+  | inl h ↦ rw (has_number-push numbers m n, or_right (has_number numbers n) (m == n) h.0)
+      (rw (sym h.1) (get_or-set_same taken m true false within))
   | inr h ↦ let other : n ≢ m = λ same. h.1 (sym same) in
       rw (has_number-push numbers m n, h.0, or-false) (get_or-set_other taken m n true false other ∙ was)
 ]
@@ -76,7 +84,8 @@ taken-push numbers taken m n within was = elim (eqb_tells m n) [
 pub IsPrefixOf-push : (start : Contents) (calls : List Operation) (numbers : List ℕ) (prefix after : Prefix) (n : ℕ) (a : Operation)
     → IsPrefixOf start calls numbers prefix → slice_get calls n ≡ Some a → (Contains numbers n → ⊥) → (PrecedesSome calls numbers a → ⊥)
     → IsLegalCall prefix.map a.call a.response
-    → after.map ≡ after_call prefix.map a.call a.response → after.taken.items ≡ set prefix.taken.items n true → after.latest ≡ max prefix.latest a.inv
+    → after.map ≡ after_call prefix.map a.call a.response → after.taken.items ≡ set prefix.taken.items n true
+    → after.latest ≡ max prefix.latest a.inv
     → IsPrefixOf start calls (numbers ++ n ∷ []) after
 IsPrefixOf-push start calls numbers prefix after n a h here new free legal pairs taken latest =
     let pushed = calls_at-push calls numbers n a here in
@@ -84,8 +93,10 @@ IsPrefixOf-push start calls numbers prefix after n a h here new free legal pairs
       sound = IsLegalOrder-push start calls numbers n a h.sound here new free (rw (← h.pairs) legal);
       pairs = rw (pairs, h.pairs, pushed) (sym (after_calls-append start (calls_at calls numbers) (a ∷ [])));
       size = rw taken (length-set prefix.taken.items n true ∙ h.size);
-      taken = λ m known. rw taken (taken-push numbers prefix.taken.items n m (omega (arith, h.size, slice_get_within calls n a here)) (h.taken m known));
+      taken = λ m known. rw taken (taken-push numbers prefix.taken.items n m (omega (arith, h.size, slice_get_within calls n a here))
+          (h.taken m known));
       latest =
           rw (latest, h.latest, pushed)
-          (sym (ap greatest (map-append (λ b. b.inv) (calls_at calls numbers) (a ∷ [])) ∙ greatest-push (map (λ b. b.inv) (calls_at calls numbers)) a.inv));
+          (sym (ap greatest (map-append (λ b. b.inv) (calls_at calls numbers) (a ∷ []))
+              ∙ greatest-push (map (λ b. b.inv) (calls_at calls numbers)) a.inv));
     }

@@ -1,5 +1,6 @@
 -- A legal order that goes on with one more call.
-use Rattle.std.proofs.Common.{◌≡◌, ℕ, ◌<◌, ◌≤◌, true, false, List, Some, None, [], ◌∷◌, ◌++◌, length, get_or, Option, ◌∙◌, inl, inr, ⊎_elim, arith}
+use Rattle.std.proofs.Common.{◌≡◌, ℕ, ◌<◌, ◌≤◌, true, false, List, Some, None, [], ◌∷◌, ◌++◌, length, get_or, Option, ◌∙◌, inl, inr, ⊎_elim}
+use Rattle.std.proofs.Common.{arith}
 use Rattle.std.specs.Prelude.{◌≢◌, ◌⊎◌, max, map, slice_get, Any, Contains}
 use Rattle.std.proofs.lemmas.Bool.{lt-ltb, ltb-true, false≢true, false_from_ne_true}
 use Rattle.std.proofs.lemmas.List.{get_or_default}
@@ -18,7 +19,8 @@ use Rattle.orders.proofs.OrderLemmas.{IsLegal-append, calls_at-push}
 use Rattle.list_laws.proofs.NumberLemmas.{greatest_bound}
 
 -- a legal order goes on with a new call that precedes none of its calls and is legal after them
-pub IsLegalOrder-push : (start : Contents) (calls : List Operation) (order : List ℕ) (n : ℕ) (a : Operation) → IsLegalOrder start calls order
+pub IsLegalOrder-push : (start : Contents) (calls : List Operation) (order : List ℕ) (n : ℕ) (a : Operation)
+    → IsLegalOrder start calls order
     → slice_get calls n ≡ Some a → (Contains order n → ⊥) → (PrecedesSome calls order a → ⊥)
     → IsLegalCall (after_calls start (calls_at calls order)) a.call a.response → IsLegalOrder start calls (order ++ n ∷ [])
 IsLegalOrder-push start calls order n a sound here new free legal =
@@ -26,7 +28,8 @@ IsLegalOrder-push start calls order n a sound here new free legal =
     let pushed = calls_at-push calls order n a here in
     record {
       known = All-push (λ m. m < length calls) order n sound.known (slice_get_within calls n a here);
-      distinct = all_pairs_push (λ m k. m ≢ k) order n sound.distinct (λ k d within is. new (k, within, get_or_default order k n d within ∙ is));
+      distinct = all_pairs_push (λ m k. m ≢ k) order n sound.distinct
+          (λ k d within is. new (k, within, get_or_default order k n d within ∙ is));
       precedence =
           rw pushed
           (all_pairs_push (λ b c. precedes c b ≡ false) taken a sound.precedence
@@ -45,9 +48,11 @@ is_before-first None h = false≢true h
 is_before-first (Some r) h = absurd (omega (arith, ltb-true r.res 0 h))
 
 -- what stands before the greater of two places stands before one of them
-is_before-greater : (response : Option Response) (m n : ℕ) → is_before response (max m n) ≡ true → (is_before response m ≡ true) ⊎ (is_before response n ≡ true)
+is_before-greater : (response : Option Response) (m n : ℕ) → is_before response (max m n) ≡ true → (is_before response m ≡ true)
+    ⊎ (is_before response n ≡ true)
 is_before-greater None m n h = inl h
-is_before-greater (Some r) m n h = ⊎_elim (λ lt. inl (lt-ltb r.res m lt)) (λ lt. inr (lt-ltb r.res n lt)) (after_greater r.res m n (ltb-true r.res (max m n) h))
+is_before-greater (Some r) m n h = ⊎_elim (λ lt. inl (lt-ltb r.res m lt)) (λ lt. inr (lt-ltb r.res n lt))
+    (after_greater r.res m n (ltb-true r.res (max m n) h))
   where
     after_greater : (i m n : ℕ) → i < max m n → (i < m) ⊎ (i < n)
     after_greater i m n h = grind arith

@@ -1,5 +1,6 @@
 -- What is asked for by a table fits a subcommand of it.
-use Rattle.std.proofs.Common.{◌≡◌, ◌∙◌, ℕ, suc, Bool, true, false, cond, refl, sym, ap, subst, arith, slice_index, List, [], ◌∷◌, Option, Some}
+use Rattle.std.proofs.Common.{◌≡◌, ◌∙◌, ℕ, suc, Bool, true, false, cond, refl, sym, ap, subst, arith, slice_index, List, [], ◌∷◌, Option}
+use Rattle.std.proofs.Common.{Some}
 use Rattle.std.specs.Str.{bytes_eq}
 use Rattle.std.proofs.lemmas.Option.{same_Some}
 use Rattle.clap.specs.Words.{Row, Text}
@@ -17,7 +18,8 @@ within_next i [] n ns within = tt
 within_next i (f ∷ fs) n ns within = (omega arith, within.1, within.2, within_next (suc i) fs n ns within.3)
 
 -- the numbers of options are all that there are, and within their limits
-numbers_fit : (fs : List Flag) (value : Text → Option Text) (ns : List ℕ) → AreNumbersOf fs value ns → (ns ≡ numbers_from 0 fs ns) × AreWithinFrom 0 fs ns
+numbers_fit : (fs : List Flag) (value : Text → Option Text) (ns : List ℕ) → AreNumbersOf fs value ns → (ns ≡ numbers_from 0 fs ns)
+    × AreWithinFrom 0 fs ns
 numbers_fit [] value [] are = (refl, tt)
 numbers_fit [] value (n ∷ ns) are = absurd are
 numbers_fit (f ∷ fs) value [] are = absurd are
@@ -28,7 +30,8 @@ numbers_fit (f ∷ fs) value (n ∷ ns) are =
     )
 
 -- there are no calls where none are taken
-calls_fit : (takes_calls : Bool) (texts : List Text) (calls : List ℕ) → AreCallsOf takes_calls texts calls → takes_calls ≡ false → calls ≡ []
+calls_fit : (takes_calls : Bool) (texts : List Text) (calls : List ℕ) → AreCallsOf takes_calls texts calls
+    → takes_calls ≡ false → calls ≡ []
 calls_fit true texts calls are none = cc
 calls_fit false texts calls are none = are
 
@@ -44,7 +47,8 @@ fits_first (v ∷ vs) u asked named fits = (
     here true is found = subst (λ (w : Usage). Fits w asked) (sym (same_Some v u found)) fits
     here false is found = cc
 
-    there : (b : Bool) → b ≡ false → cond b (Some v) (usage_named asked.name vs) ≡ Some u → (usage_named asked.name vs ≡ Some u → IsAskable vs asked)
+    there : (b : Bool) → b ≡ false → cond b (Some v) (usage_named asked.name vs) ≡ Some u
+        → (usage_named asked.name vs ≡ Some u → IsAskable vs asked)
         → IsAskable vs asked
     there false is found later = later found
     there true is found later = cc

@@ -1,5 +1,6 @@
 -- `check`, `judge`, `locate`, `draw` and `drive` are uses of the program's table, and ask for their lines.
-use Rattle.std.proofs.Common.{◌≡◌, ◌∙◌, ◌++◌, append-nil, map, get_or, ℕ, refl, sym, ap, ap₂, inl, inr, arith, List, [], ◌∷◌, Option, Some, None, codes, false, true≢false}
+use Rattle.std.proofs.Common.{◌≡◌, ◌∙◌, ◌++◌, append-nil, map, get_or, ℕ, refl, sym, ap, ap₂, inl, inr, arith, List, [], ◌∷◌, Option, Some}
+use Rattle.std.proofs.Common.{None, codes, false, true≢false}
 use Rattle.std.specs.Option.{option_map_or}
 use Rattle.std.specs.Prelude.{IfSome}
 use Rattle.std.specs.Str.{bytes_eq}
@@ -7,12 +8,14 @@ use Rattle.std.proofs.lemmas.List.Quantifiers.{position-Some}
 use Rattle.std.proofs.lemmas.Option.{same_Some}
 use Rattle.std.proofs.lemmas.Slice.Eq.{bytes_eq-Decides}
 use Rattle.clap.specs.Words.{Text}
-use Rattle.command_line.specs.Limits.{budget_default, budget_limit, rows16_default, rows16_limit, rows256_default, rows256_limit, rows4_default, rows4_limit}
+use Rattle.command_line.specs.Limits.{budget_default, budget_limit, rows16_default, rows16_limit, rows256_default, rows256_limit}
+use Rattle.command_line.specs.Limits.{rows4_default, rows4_limit}
 use Rattle.command_line.specs.Limits.{rows48_default, rows48_limit, steps_limit, workers_default, workers_limit}
 use Rattle.command_line.specs.Lines.{ChecksNumbers, Drives, NamesTree, IsCheck, IsDraw, IsDrive, IsJudge, IsLocate, IsSearch, asked_by}
 use Rattle.command_line.specs.Lines.{option_words as words_of}
 use Rattle.command_line.specs.Numbers.{IsNumberWithin, number_of}
-use Rattle.command_line.specs.Program.{bench_table, check_usage, draw_usage, drive_usage, judge_usage, locate_usage, number_flag, search_usage, tree_flag}
+use Rattle.command_line.specs.Program.{bench_table, check_usage, draw_usage, drive_usage, judge_usage, locate_usage, number_flag}
+use Rattle.command_line.specs.Program.{search_usage, tree_flag}
 use Rattle.command_line.specs.Requests.{IsReadFrom}
 use Rattle.command_line.specs.Tables.{Flag, Usage, usage_named}
 use Rattle.command_line.specs.Trees.{name_of, place_of, trees}
@@ -20,7 +23,8 @@ use Rattle.command_line.specs.Words.{AreOptionsOf, Given, Gives, IsUse, option_w
 use Rattle.command_line.specs.declared.line.Line.{Line}
 use Rattle.command_line.specs.declared.line.Line.TheVariants.{Check, Draw, Drive, Judge, Locate}
 use Rattle.command_line.specs.declared.line.Tree.{Tree}
-use Rattle.command_line.specs.declared.line.Tree.TheVariants.{Locked, Coupled, Optimistic, ReadUnchecked, ScanUnvalidated, LockUnchecked, EarlyRelease}
+use Rattle.command_line.specs.declared.line.Tree.TheVariants.{Locked, Coupled, Optimistic, ReadUnchecked, ScanUnvalidated, LockUnchecked}
+use Rattle.command_line.specs.declared.line.Tree.TheVariants.{EarlyRelease}
 
 -- a name is no other name
 other_name : (a b : Text) → a ≡ b → bytes_eq a b ≡ false → ⊥
@@ -87,7 +91,8 @@ names_tree (Some text) tree read =
     sym (named_at tree) ∙ (bytes_eq-Decides _ text).0 at
 
 -- the number that is read is that of the value, or the default
-read_number : (name : Text) (least greatest default : ℕ) (value : Option Text) (n : ℕ) → IsReadFrom (number_flag name least greatest default) value n
+read_number : (name : Text) (least greatest default : ℕ) (value : Option Text) (n : ℕ)
+    → IsReadFrom (number_flag name least greatest default) value n
     → n ≡ option_map_or number_of value default
 read_number name least greatest default None n read = same_Some n default (sym read)
 read_number name least greatest default (Some text) n read = read.2
@@ -140,14 +145,16 @@ workers_words (Some b) None = refl
 workers_words (Some b) (Some w) = refl
 
 -- and their values, which are within the limits
-budget_options : (budget workers : Option Text) → IfSome budget (IsNumberWithin budget_limit) → IfSome workers (IsNumberWithin workers_limit)
+budget_options : (budget workers : Option Text) → IfSome budget (IsNumberWithin budget_limit)
+    → IfSome workers (IsNumberWithin workers_limit)
     → AreOptionsOf judge_usage.flags (budget_first budget workers)
 budget_options None None b w = tt
 budget_options None (Some x) b w = (w, refl, tt)
 budget_options (Some x) None b w = (b, refl, tt)
 budget_options (Some x) (Some y) b w = (b, refl, (w, refl, tt))
 
-workers_options : (budget workers : Option Text) → IfSome budget (IsNumberWithin budget_limit) → IfSome workers (IsNumberWithin workers_limit)
+workers_options : (budget workers : Option Text) → IfSome budget (IsNumberWithin budget_limit)
+    → IfSome workers (IsNumberWithin workers_limit)
     → AreOptionsOf judge_usage.flags (workers_first budget workers)
 workers_options None None b w = tt
 workers_options None (Some x) b w = (w, refl, tt)
@@ -176,7 +183,8 @@ workers_value None (Some w) = (refl, refl)
 workers_value (Some b) None = (refl, refl)
 workers_value (Some b) (Some w) = (refl, refl)
 
-search_gets : (subcommand : Text) → usage_named subcommand bench_table ≡ Some (search_usage subcommand) → (words : List Text) (budget workers : Option Text)
+search_gets : (subcommand : Text) → usage_named subcommand bench_table ≡ Some (search_usage subcommand)
+    → (words : List Text) (budget workers : Option Text)
     → IsSearch subcommand words budget workers → Gets (search_usage subcommand) words budget workers
 search_gets subcommand is_named words budget workers is = elim is.in_an_order [
   | inl options_are ↦ record {

@@ -17,13 +17,16 @@ part_of f None = refl
 part_of f (Some x) = refl
 
 -- what may be there, by its two parts
-by_parts : (o : Option (Text × List Row)) (name : Text) (rows : List Row) → Some name ≡ option_map (λ p. p.0) o → Some rows ≡ option_map (λ p. p.1) o
+by_parts : (o : Option (Text × List Row)) (name : Text) (rows : List Row) → Some name ≡ option_map (λ p. p.0) o
+    → Some rows ≡ option_map (λ p. p.1) o
     → o ≡ Some (name, rows)
 by_parts None name rows first second = cc
-by_parts (Some p) name rows first second = ap₂ (λ (n : Text) (r : List Row). Some (n, r)) (sym (same_Some _ _ first)) (sym (same_Some _ _ second))
+by_parts (Some p) name rows first second = ap₂ (λ (n : Text) (r : List Row). Some (n, r)) (sym (same_Some _ _ first))
+    (sym (same_Some _ _ second))
 
 -- the subcommand has the name and the rows that a getter gives
-pub is_met : (m : ArgMatches) (name : Text) (rows : List Row) → Some name ≡ subcommand_name_of m → Some rows ≡ option_map (λ p. p.1) (subcommand_rows_of m)
+pub is_met : (m : ArgMatches) (name : Text) (rows : List Row) → Some name ≡ subcommand_name_of m
+    → Some rows ≡ option_map (λ p. p.1) (subcommand_rows_of m)
     → subcommand_rows_of m ≡ Some (name, rows)
 is_met m name rows first second = by_parts (subcommand_rows_of m) name rows (first ∙ part_of _ _) second
 
@@ -52,14 +55,16 @@ module _ (table : List Usage) (met : Option (Text × List Row)) (meets : Meets t
     -- then its options have numbers
     pub numbers_met : are_named u.flags (λ n. first_of n rows) ≡ true → (ns : List ℕ) × AreNumbersOf u.flags (λ n. first_of n rows) ns
     numbers_met =
-        subst (λ (v : Usage). are_named v.flags (λ n. first_of n rows) ≡ true → (ns : List ℕ) × AreNumbersOf v.flags (λ n. first_of n rows) ns) usage_is
+        subst (λ (v : Usage). are_named v.flags (λ n. first_of n rows) ≡ true → (ns : List ℕ)
+            × AreNumbersOf v.flags (λ n. first_of n rows) ns) usage_is
         (subst (λ (rs : List Row). are_named meets.usage.flags (λ n. first_of n rs) ≡ true
         → (ns : List ℕ) × AreNumbersOf meets.usage.flags (λ n. first_of n rs) ns) rows_are meets.numbers)
 
 -- ---- the numbers of options
 
 -- the same values have the same numbers
-pub same_numbers : (fs : List Flag) (v w : Text → Option Text) (ns : List ℕ) → ((n : Text) → v n ≡ w n) → AreNumbersOf fs v ns → AreNumbersOf fs w ns
+pub same_numbers : (fs : List Flag) (v w : Text → Option Text) (ns : List ℕ) → ((n : Text) → v n ≡ w n) → AreNumbersOf fs v ns
+    → AreNumbersOf fs w ns
 same_numbers [] v w [] same are = tt
 same_numbers [] v w (n ∷ ns) same are = absurd are
 same_numbers (f ∷ fs) v w [] same are = absurd are

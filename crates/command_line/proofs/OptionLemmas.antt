@@ -1,5 +1,6 @@
 -- The walk over the options of a subcommand and their values.
-use Rattle.std.proofs.Common.{◌≡◌, ◌∙◌, ◌++◌, true, false, refl, sym, ap, subst, arith, append_assoc, append-nil, map, List, [], ◌∷◌, Option, Some, None, codes}
+use Rattle.std.proofs.Common.{◌≡◌, ◌∙◌, ◌++◌, true, false, refl, sym, ap, subst, arith, append_assoc, append-nil, map, List, [], ◌∷◌}
+use Rattle.std.proofs.Common.{Option, Some, None, codes}
 use Rattle.std.specs.List.{fold}
 use Rattle.std.specs.Str.{bytes_eq}
 use Rattle.std.proofs.lemmas.Bool.{leb-true}
@@ -8,7 +9,8 @@ use Rattle.clap.specs.Faults.{settle_fault, turn_fault, walk_fault}
 use Rattle.clap.specs.Simple.{Shape}
 use Rattle.clap.specs.ValueTests.{accepts}
 use Rattle.clap.specs.Values.{reading_of}
-use Rattle.clap.specs.Walk.{Held, Row, Text, Walk, arg_by_id, arg_by_long, at_row, has_row, is_pending, more_values, nothing_held, option, settled, walk_from}
+use Rattle.clap.specs.Walk.{Held, Row, Text, Walk, arg_by_id, arg_by_long, at_row, has_row, is_pending, more_values, nothing_held, option}
+use Rattle.clap.specs.Walk.{settled, walk_from}
 use Rattle.clap.specs.Walk.{walked, with_values, without}
 use Rattle.clap.specs.declared.builder.value_parser.Reading.TheVariants.{AsWritten}
 use Rattle.clap.specs.declared.builder.value_parser.ValueParser.TheVariants.{Unsigned}
@@ -20,13 +22,15 @@ use Rattle.command_line.specs.Limits.{u64_limit}
 use Rattle.command_line.specs.Tables.{Choice, Flag, Usage, among, are_flags, flag_named, is_choice, within}
 use Rattle.command_line.specs.Words.{AreOptionsOf, Given, IsValue, IsValueOf, has_option, option_words}
 use Rattle.command_line.proofs.PlainLemmas.{IsPlain, value_is_plain}
-use Rattle.command_line.proofs.TableLemmas.{IsFlagWord, IsFound, both, built_calls, built_flag, built_usage, by_id, by_long, flag_word, found_flag, not_either}
+use Rattle.command_line.proofs.TableLemmas.{IsFlagWord, IsFound, both, built_calls, built_flag, built_usage, by_id, by_long, flag_word}
+use Rattle.command_line.proofs.TableLemmas.{found_flag, not_either}
 use Rattle.command_line.proofs.TableLemmas.{same_swapped}
 
 -- ---- rows
 
 -- a row of an id that no other row has comes last
-at_new : (id : Text) (change : Row → List Row) (missing rows : List Row) → has_row id rows ≡ false → at_row id change missing rows ≡ rows ++ missing
+at_new : (id : Text) (change : Row → List Row) (missing rows : List Row) → has_row id rows ≡ false
+    → at_row id change missing rows ≡ rows ++ missing
 at_new id change missing [] new = refl
 at_new id change missing (r ∷ rs) new =
     let parts = not_either (bytes_eq r.id id) _ new in
@@ -47,7 +51,8 @@ pub without_none : (id : Text) (rows : List Row) → has_row id rows ≡ false �
 without_none id rows new = at_new id (λ _. []) [] rows new ∙ append-nil rows
 
 -- two lists of rows
-pub has_row_more : (id : Text) (rows : List Row) (r : Row) → has_row id rows ≡ false → bytes_eq r.id id ≡ false → has_row id (rows ++ r ∷ []) ≡ false
+pub has_row_more : (id : Text) (rows : List Row) (r : Row) → has_row id rows ≡ false → bytes_eq r.id id ≡ false
+    → has_row id (rows ++ r ∷ []) ≡ false
 has_row_more id [] r none other = rw other refl
 has_row_more id (x ∷ xs) r none other =
     let parts = not_either (bytes_eq x.id id) _ none in
@@ -57,7 +62,8 @@ has_row_more id (x ∷ xs) r none other =
 -- ---- one option
 
 -- a value that an option takes passes its parser
-value_passes : (choice : Choice) (text : Text) → is_choice choice ≡ true → IsValue choice text → accepts false (parser_for choice) text ≡ true
+value_passes : (choice : Choice) (text : Text) → is_choice choice ≡ true → IsValue choice text
+    → accepts false (parser_for choice) text ≡ true
 value_passes (within least greatest) text sound value =
     let fits = leb-true greatest u64_limit sound in
     Accepts-accepts false (Unsigned least greatest) text (value.0, omega arith, value.1, value.2)
@@ -213,7 +219,8 @@ module _ (u : Usage) (all : are_flags u.flags ≡ true) where
   AreNew rows (g ∷ gs) = (has_row g.0 rows ≡ false) × AreNew rows gs
 
   -- nor after that of another
-  new_after : (rows : List Row) (g : Given) (gs : List Given) → has_option g.0 gs ≡ false → AreNew rows gs → AreNew (rows ++ row_given g ∷ []) gs
+  new_after : (rows : List Row) (g : Given) (gs : List Given) → has_option g.0 gs ≡ false → AreNew rows gs
+      → AreNew (rows ++ row_given g ∷ []) gs
   new_after rows g [] once new = tt
   new_after rows g (x ∷ xs) once new =
       let parts = not_either (bytes_eq x.0 g.0) _ once in

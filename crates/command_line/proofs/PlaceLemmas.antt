@@ -1,5 +1,6 @@
 -- The place of a text among words.
-use Rattle.std.proofs.Common.{◌≡◌, ◌∙◌, subst, ◌<◌, ◌≤◌, ◌-◌, ◌+◌, ℕ, Bool, true, false, cond, not, ◌||◌, option_map, refl, sym, ap, ap₂, arith, length, List, [], ◌∷◌, Option, Some, map, nat_lt, lt-ltb, suc}
+use Rattle.std.proofs.Common.{◌≡◌, ◌∙◌, subst, ◌<◌, ◌≤◌, ◌-◌, ◌+◌, ℕ, Bool, true, false, cond, not, ◌||◌, option_map, refl, sym, ap, ap₂}
+use Rattle.std.proofs.Common.{arith, length, List, [], ◌∷◌, Option, Some, map, nat_lt, lt-ltb, suc}
 use Rattle.std.specs.List.{list_any, position, position_or_len}
 use Rattle.std.specs.Borrow.{Bor}
 use Rattle.std.specs.Str.{bytes_eq}
@@ -20,7 +21,8 @@ map_length f [] = refl
 map_length f (x ∷ xs) = ap suc (map_length f xs)
 
 -- the place behind references
-pub place_behind : (text : Text) (words : List (Bor Text)) → position (λ w. bytes_eq w.now text) words ≡ position (λ w. bytes_eq w text) (texts words)
+pub place_behind : (text : Text) (words : List (Bor Text))
+    → position (λ w. bytes_eq w.now text) words ≡ position (λ w. bytes_eq w text) (texts words)
 place_behind text words =
     let place = place_or_len (λ (w : Text). bytes_eq w text) (λ (w : Bor Text). w.now) words in
     let many = map_length (λ (w : Bor Text). w.now) words in
@@ -64,7 +66,8 @@ module _ (values : Values) (words : Bor (List (Bor Text))) (is : values ≡ Amon
   at_stands at = subst (λ (v : Values). StandsFor (choice_of v) text n) (sym is) (sym (place_behind text words.now) ∙ at)
 
 -- and a value is one of them where one is the same text
-pub named_is : (values : Values) (words : Bor (List (Bor Text))) → values ≡ Among words → (value : Option (Bor Text)) (text : Bor Text) → value ≡ Some text
+pub named_is : (values : Values) (words : Bor (List (Bor Text))) → values ≡ Among words → (value : Option (Bor Text)) (text : Bor Text)
+    → value ≡ Some text
     → list_any (λ w. bytes_eq w.now text.now) words.now ≡ is_named (choice_of values) (option_map (λ t. t.now) value)
 named_is values words is value text given =
     list_any-map (λ (w : Text). bytes_eq w text.now) (λ (w : Bor Text). w.now) words.now

@@ -58,7 +58,8 @@ word_is_no_flag text (w ∷ ws) any all =
     let parts = two (is_no_flag w) (list_all is_no_flag ws) all in
     go (bytes_eq w text) refl any parts.0 (λ later. word_is_no_flag text ws later parts.1)
   where
-    go : (b : Bool) → bytes_eq w text ≡ b → (b || is_among text ws) ≡ true → is_no_flag w ≡ true → (is_among text ws ≡ true → is_no_flag text ≡ true)
+    go : (b : Bool) → bytes_eq w text ≡ b → (b || is_among text ws) ≡ true → is_no_flag w ≡ true
+        → (is_among text ws ≡ true → is_no_flag text ≡ true)
         → is_no_flag text ≡ true
     go true here is first later = ap is_no_flag (sym ((bytes_eq-Decides w text).0 here)) ∙ first
     go false here is first later = later is
@@ -66,4 +67,5 @@ word_is_no_flag text (w ∷ ws) any all =
 -- and a value of an option
 pub value_is_plain : (choice : Choice) (text : Text) → is_choice choice ≡ true → IsValue choice text → IsPlain text
 value_is_plain (within least greatest) text sound value = spelled_is_plain text value.0
-value_is_plain (among words) text sound value = no_flag_is_plain text (word_is_no_flag text words value (two _ (list_all is_no_flag words) sound).1)
+value_is_plain (among words) text sound value =
+    no_flag_is_plain text (word_is_no_flag text words value (two _ (list_all is_no_flag words) sound).1)

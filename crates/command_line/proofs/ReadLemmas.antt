@@ -25,33 +25,39 @@ table_free name [] all = cc
 table_free name (u ∷ us) all = free_table name u us
 
 -- words of which no step of reading fails meet a subcommand
-pub table_meets : (name : Text) (table : List Usage) (words : List Text) → is_table table ≡ true → fault_of (table_app name table) words ≡ []
+pub table_meets : (name : Text) (table : List Usage) (words : List Text) → is_table table ≡ true
+    → fault_of (table_app name table) words ≡ []
     → Meets table (subcommand_of (table_app name table) words)
 table_meets name [] words all none = cc
 table_meets name (u ∷ us) words all none = meets_some name u us words all none
 
 -- the use of a subcommand is accepted
-pub table_accepts : (name : Text) (table : List Usage) (words : List Text) (u : Usage) (given : List Given) (calls : List Text) → is_table table ≡ true
+pub table_accepts : (name : Text) (table : List Usage) (words : List Text) (u : Usage) (given : List Given) (calls : List Text)
+    → is_table table ≡ true
     → IsUse table words u given calls → length words ≤ usize_max → fault_of (table_app name table) words ≡ []
 table_accepts name [] words u given calls all is fits = cc
 table_accepts name (v ∷ vs) words u given calls all is fits = use_accepted name v vs all words u given calls is fits
 
 -- its values are words where they have to be
-pub table_names : (name : Text) (table : List Usage) (words : List Text) (u : Usage) (given : List Given) (calls : List Text) → is_table table ≡ true
+pub table_names : (name : Text) (table : List Usage) (words : List Text) (u : Usage) (given : List Given) (calls : List Text)
+    → is_table table ≡ true
     → IsUse table words u given calls → length words ≤ usize_max → has_named table (subcommand_of (table_app name table) words) ≡ true
 table_names name [] words u given calls all is fits = cc
 table_names name (v ∷ vs) words u given calls all is fits = use_named name v vs all words u given calls is fits
 
 -- and it gives its numbers
-pub table_gives : (name : Text) (table : List Usage) (words : List Text) (u : Usage) (given : List Given) (calls : List Text) (asked : Asked)
+pub table_gives : (name : Text) (table : List Usage) (words : List Text) (u : Usage) (given : List Given)
+    (calls : List Text) (asked : Asked)
     → is_table table ≡ true
-    → IsUse table words u given calls → length words ≤ usize_max → Asks table (subcommand_of (table_app name table) words) asked → Gives u given calls asked
+    → IsUse table words u given calls → length words ≤ usize_max → Asks table (subcommand_of (table_app name table) words) asked
+    → Gives u given calls asked
 table_gives name [] words u given calls asked all is fits asks = cc
 table_gives name (v ∷ vs) words u given calls asked all is fits asks = use_gives name v vs all words u given calls is fits asked asks
 
 -- ---- a command that is that of the table
 
-module _ (a : App) (name : Text) (table : List Usage) (words : List Text) (same : a ≡ table_app name table) (all : is_table table ≡ true) where
+module _ (a : App) (name : Text) (table : List Usage) (words : List Text) (same : a ≡ table_app name table)
+    (all : is_table table ≡ true) where
   -- no step fails, where the command's own faults are none
   pub accepted_as : (is_simple_and_free a ≡ true → fault_of a words ≡ []) → fault_of (table_app name table) words ≡ []
   accepted_as none = subst (λ (b : App). fault_of b words ≡ []) same (none (ap is_simple_and_free same ∙ table_free name table all))

@@ -1,5 +1,6 @@
 -- Words of which no step of reading fails meet a subcommand.
-use Rattle.std.proofs.Common.{◌≡◌, ◌∙◌, ◌++◌, ◌&&◌, ◌≤◌, Bool, ℕ, zero, suc, true, false, cond, not, refl, sym, ap, subst, arith, map, List, [], ◌∷◌, Option}
+use Rattle.std.proofs.Common.{◌≡◌, ◌∙◌, ◌++◌, ◌&&◌, ◌≤◌, Bool, ℕ, zero, suc, true, false, cond, not, refl, sym, ap, subst, arith, map, List}
+use Rattle.std.proofs.Common.{[], ◌∷◌, Option}
 use Rattle.std.proofs.Common.{Some, None, is_some, codes}
 use Rattle.std.specs.List.{All, find, list_any}
 use Rattle.std.specs.Option.{option_and_then, option_map, option_map_or, unwrap_or}
@@ -22,11 +23,13 @@ use Rattle.clap.proofs.ValueTestLemmas.{accepts-Accepts}
 use Rattle.command_line.specs.Commands.{parser_for, table_app}
 use Rattle.command_line.specs.Numbers.{IsNumber, number_of}
 use Rattle.command_line.specs.Requests.{AreCallsOf, AreNumbersOf, IsNumberOf, Meets, StandsFor, are_named, is_named, values_of}
-use Rattle.command_line.specs.Tables.{Choice, Flag, Usage, among, are_flags, are_usages, greatest_of, has_limits, is_choice, least_of, usage_named, within}
+use Rattle.command_line.specs.Tables.{Choice, Flag, Usage, among, are_flags, are_usages, greatest_of, has_limits, is_choice, least_of}
+use Rattle.command_line.specs.Tables.{usage_named, within}
 use Rattle.command_line.proofs.PlaceLemmas.{place_among}
 use Rattle.command_line.proofs.RowLemmas.{AllOwn, HasValues, IsOwn, RowPasses, RowsPass, level_passes, neither}
 use Rattle.command_line.proofs.StopLemmas.{enters}
-use Rattle.command_line.proofs.TableLemmas.{both, built_calls, built_flag, built_is, built_rules, built_table, built_tail, built_usage, flag_parts, found_usage}
+use Rattle.command_line.proofs.TableLemmas.{both, built_calls, built_flag, built_is, built_rules, built_table, built_tail, built_usage}
+use Rattle.command_line.proofs.TableLemmas.{flag_parts, found_usage}
 use Rattle.command_line.proofs.TableLemmas.{named_so, not_either, rules_own, usage_found}
 
 -- ---- numbers
@@ -52,12 +55,14 @@ are_numbers (t ∷ ts) none zero d lt = is_number t (neither (value_kinds false 
 are_numbers (t ∷ ts) none (suc k) d lt = are_numbers ts (neither (value_kinds false number_parser t) _ none).1 k d (omega arith)
 
 -- the values of an argument pass its parser, where all rows pass
-values_pass : (c : List Rule) (a : Rule) (rows : List Row) → arg_by_id c a.id ≡ Some a → RowsPass c rows → values_fault a (values_of a.id rows) ≡ []
+values_pass : (c : List Rule) (a : Rule) (rows : List Row) → arg_by_id c a.id ≡ Some a → RowsPass c rows
+    → values_fault a (values_of a.id rows) ≡ []
 values_pass c a [] own all = refl
 values_pass c a (r ∷ rs) own all = go (bytes_eq r.id a.id) refl (values_pass c a rs own all.1)
   where
     go : (b : Bool) → bytes_eq r.id a.id ≡ b → values_fault a (values_of a.id rs) ≡ []
-        → values_fault a (unwrap_or (option_map (λ (x : Row). x.values) (cond b (Some r) (find (λ (x : Row). bytes_eq x.id a.id) rs))) []) ≡ []
+        → values_fault a
+            (unwrap_or (option_map (λ (x : Row). x.values) (cond b (Some r) (find (λ (x : Row). bytes_eq x.id a.id) rs))) []) ≡ []
     go true here later = (all.0 a (subst (λ (w : Text). arg_by_id c w ≡ Some a) (sym ((bytes_eq-Decides r.id a.id).0 here)) own)).pass
     go false here later = later
 
@@ -84,7 +89,8 @@ record HasNumber (choice : Choice) (text : Text) : Type 0 where
   greatest : number ≤ greatest_of choice
 
 -- a value that passes the parser has one, if it is one of the words where it has to be
-value_within : (choice : Choice) (text : Text) → is_named choice (Some text) ≡ true → value_kinds false (parser_for choice) text ≡ [] → HasNumber choice text
+value_within : (choice : Choice) (text : Text) → is_named choice (Some text) ≡ true → value_kinds false (parser_for choice) text ≡ []
+    → HasNumber choice text
 value_within (within least greatest) text named none = go (accepts false (Unsigned least greatest) text) refl none
   where
     go : (b : Bool) → accepts false (Unsigned least greatest) text ≡ b → cond b [] (refused_kind (Unsigned least greatest) ∷ []) ≡ []
@@ -98,11 +104,13 @@ value_within (among words) text named none =
     record { number = has.place; stands = has.is; least = omega arith; greatest = has.inside }
 
 -- a row that is found passes
-found_row : (c : List Rule) (rows : List Row) (p : Row → Bool) (r : Row) → RowsPass c rows → find p rows ≡ Some r → RowPasses c r × (p r ≡ true)
+found_row : (c : List Rule) (rows : List Row) (p : Row → Bool) (r : Row) → RowsPass c rows → find p rows ≡ Some r
+    → RowPasses c r × (p r ≡ true)
 found_row c [] p r all found = cc
 found_row c (x ∷ xs) p r all found = go (p x) refl found (found_row c xs p r all.1)
   where
-    go : (b : Bool) → p x ≡ b → cond b (Some x) (find p xs) ≡ Some r → (find p xs ≡ Some r → RowPasses c r × (p r ≡ true)) → RowPasses c r × (p r ≡ true)
+    go : (b : Bool) → p x ≡ b → cond b (Some x) (find p xs) ≡ Some r → (find p xs ≡ Some r → RowPasses c r × (p r ≡ true))
+        → RowPasses c r × (p r ≡ true)
     go true here is later = subst (λ (y : Row). RowPasses c y × (p y ≡ true)) (same_Some x r is) (all.0, here)
     go false here is later = later is
 
@@ -120,7 +128,8 @@ first_number f (v ∷ vs) has named =
 
 -- where all rows pass, an option that is not missing has a number, if its value is one of its words
 flag_read : (c : List Rule) (f : Flag) (rows : List Row) → IsOwn c (built_flag f) → RowsPass c rows → has_limits f ≡ true
-    → is_missing rows (built_flag f) ≡ false → is_named f.values (first_of f.name rows) ≡ true → (n : ℕ) × IsNumberOf f (first_of f.name rows) n
+    → is_missing rows (built_flag f) ≡ false → is_named f.values (first_of f.name rows) ≡ true → (n : ℕ)
+    × IsNumberOf f (first_of f.name rows) n
 flag_read c f rows own all limits there named = go (find (λ (r : Row). bytes_eq r.id f.name) rows) refl there named
   where
     default : (d : Option ℕ) → f.default ≡ d → (not (is_some d) && true) ≡ false → (n : ℕ) × IsNumberOf f None n
@@ -141,7 +150,8 @@ flag_read c f rows own all limits there named = go (find (λ (r : Row). bytes_eq
         first_number f r.values (found.0 (built_flag f) own_r) named
 
 -- and so has each option
-flags_read : (c tail : List Rule) (fs : List Flag) (rows : List Row) → AllOwn c (map built_flag fs ++ tail) → RowsPass c rows → are_flags fs ≡ true
+flags_read : (c tail : List Rule) (fs : List Flag) (rows : List Row) → AllOwn c (map built_flag fs ++ tail) → RowsPass c rows
+    → are_flags fs ≡ true
     → list_any (is_missing rows) (map built_flag fs ++ tail) ≡ false → are_named fs (λ name. first_of name rows) ≡ true
     → (ns : List ℕ) × AreNumbersOf fs (λ name. first_of name rows) ns
 flags_read c tail [] rows own all flags there named = ([], tt)
@@ -161,7 +171,8 @@ own_rest c [] ys own = own
 own_rest c (x ∷ xs) ys own = own_rest c xs ys own.1
 
 -- where all rows pass, there are numbers of calls
-calls_read : (flags : List Flag) (takes_calls : Bool) (rows : List Row) → are_flags flags ≡ true → RowsPass (built_rules flags takes_calls) rows
+calls_read : (flags : List Flag) (takes_calls : Bool) (rows : List Row) → are_flags flags ≡ true
+    → RowsPass (built_rules flags takes_calls) rows
     → (ns : List ℕ) × AreCallsOf takes_calls (values_of (codes "CALL") rows) ns
 calls_read flags false rows all passes = ([], refl)
 calls_read flags true rows all passes =
@@ -206,18 +217,21 @@ usage_met table met name u words all named met_is none =
       named = named;
       subcommand = met_is ∙ ap (λ (n : Text). Some (n, rows)) (named_so table name u named);
       numbers = λ words_are.
-          flags_read (built_usage u).rules (built_tail u.takes_calls) u.flags rows own passes flags_are (none_missing u words none) words_are;
+          flags_read (built_usage u).rules (built_tail u.takes_calls) u.flags rows own passes flags_are
+              (none_missing u words none) words_are;
       calls = calls_read u.flags u.takes_calls rows flags_are passes;
     }
 
 -- so does a command of which no step fails
 built_meets : (program : Text) (table : List Usage) (words : List Text) → are_usages table ≡ true
     → built_fault (built_table program table) nothing_held words ≡ []
-    → Meets table (entered (built_table program table) (stop_after (built_table program table).top.rules (names_of (built_table program table)) words))
+    → Meets table (entered (built_table program table) (stop_after (built_table program table).top.rules
+        (names_of (built_table program table)) words))
 built_meets program table words all none =
     let e = enters (built_table program table) words refl none in
     let is = usage_found program table e.name e.shape e.found e.not_help in
-    let met = entered (built_table program table) (stop_after (built_table program table).top.rules (names_of (built_table program table)) words) in
+    let met = entered (built_table program table)
+        (stop_after (built_table program table).top.rules (names_of (built_table program table)) words) in
     usage_met table met e.name is.0 e.rest all is.1
     (e.entered_is ∙ ap (λ (s : Shape). Some (rows_at s e.rest)) is.2)
     (subst (λ (s : Shape). level_fault s [] nothing_held e.rest false [] ≡ []) is.2 e.passes)
@@ -227,5 +241,6 @@ pub meets_some : (program : Text) (u : Usage) (us : List Usage) (words : List Te
     → fault_of (table_app program (u ∷ us)) words ≡ [] → Meets (u ∷ us) (subcommand_of (table_app program (u ∷ us)) words)
 meets_some program u us words all none =
     let rest : List Text = argument_words (table_app program (u ∷ us)) words in
-    let reads : App → Type 0 = λ a. built_fault a nothing_held rest ≡ [] → Meets (u ∷ us) (entered a (stop_after a.top.rules (names_of a) rest)) in
+    let reads : App → Type 0 = λ a. built_fault a nothing_held rest ≡ []
+        → Meets (u ∷ us) (entered a (stop_after a.top.rules (names_of a) rest)) in
     subst reads (sym (built_is program u us)) (built_meets program (u ∷ us) rest all) none

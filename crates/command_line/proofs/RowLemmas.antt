@@ -2,7 +2,8 @@
 -- each row pass the parser of its argument, and there are some where each use of it wants some. Each
 -- lemma says so of one step: it leaves rows that pass where the rows before it do and the step has no
 -- fault.
-use Rattle.std.proofs.Common.{◌≡◌, ◌∙◌, arith, ◌+◌, ◌++◌, ◌&&◌, ◌||◌, ℕ, Bool, zero, suc, true, false, cond, refl, sym, ap, subst, List, [], ◌∷◌, length, min}
+use Rattle.std.proofs.Common.{◌≡◌, ◌∙◌, arith, ◌+◌, ◌++◌, ◌&&◌, ◌||◌, ℕ, Bool, zero, suc, true, false, cond, refl, sym, ap, subst, List, []}
+use Rattle.std.proofs.Common.{◌∷◌, length, min}
 use Rattle.std.proofs.Common.{drop, nat_lt, Option, Some, None, is_some}
 use Rattle.std.specs.List.{find, fold}
 use Rattle.std.specs.Option.{option_map_or}
@@ -12,19 +13,28 @@ use Rattle.std.proofs.lemmas.Bool.{ne_eqb}
 use Rattle.std.proofs.lemmas.Option.{same_Some}
 use Rattle.std.proofs.lemmas.Slice.Eq.{bytes_eq-Decides}
 use Rattle.clap.specs.Facts.{parser_of_value, unwrap_or_range}
-use Rattle.clap.specs.Faults.{action_fault, bundle_fault, bundle_step_fault, count_fault, default_fault, defaults_fault, flag_word_fault, flags_fault}
-use Rattle.clap.specs.Faults.{given_default_fault, level_fault, long_fault, option_fault, other_fault, positional_fault, react_fault, repeat_fault, set_fault}
-use Rattle.clap.specs.Faults.{settle_fault, short_fault, step_fault, stray_fault, turn_fault, use_fault, values_fault, walk_fault, word_fault}
+use Rattle.clap.specs.Faults.{action_fault, bundle_fault, bundle_step_fault, count_fault, default_fault, defaults_fault, flag_word_fault}
+use Rattle.clap.specs.Faults.{flags_fault}
+use Rattle.clap.specs.Faults.{given_default_fault, level_fault, long_fault, option_fault, other_fault, positional_fault, react_fault}
+use Rattle.clap.specs.Faults.{repeat_fault, set_fault}
+use Rattle.clap.specs.Faults.{settle_fault, short_fault, step_fault, stray_fault, turn_fault, use_fault, values_fault, walk_fault}
+use Rattle.clap.specs.Faults.{word_fault}
 use Rattle.clap.specs.Kinds.{Kinds, or_else, range_kinds, request_kinds, value_kinds, values_kinds}
 use Rattle.clap.specs.Lexer.{long_of, short_of}
 use Rattle.clap.specs.Matches.{count_text}
 use Rattle.clap.specs.Simple.{Shape}
-use Rattle.clap.specs.Walk.{Held, Names, Outcome, Row, Rule, Step, Text, Waiting, Walk, action_of, after_flag, after_step, arg_by_id, arg_by_index, arg_by_long}
-use Rattle.clap.specs.Walk.{arg_by_short, at_row, attached_value, bundle, bundle_met, bundle_step, count_of, counted, default_rows, done, flag_met, has_row}
-use Rattle.clap.specs.Walk.{idle, is_empty, is_pending, long_met, long_or_other, more_values, most_values, new_count, next, nothing_held, option, option_met}
-use Rattle.clap.specs.Walk.{option_word, plain, plain_word, positional, positional_held, pushed, reacted, reading_by, refused, rows_after, settled}
-use Rattle.clap.specs.Walk.{settled_rows, short_met, short_or_plain, subcommand, subcommand_met, subcommand_or_other, takes_several, takes_values}
-use Rattle.clap.specs.Walk.{to_positional, trailing, used, used_as, used_by_id, value, values_or_missing, waits, walk, walk_from, walked, walked_from}
+use Rattle.clap.specs.Walk.{Held, Names, Outcome, Row, Rule, Step, Text, Waiting, Walk, action_of, after_flag, after_step, arg_by_id}
+use Rattle.clap.specs.Walk.{arg_by_index, arg_by_long}
+use Rattle.clap.specs.Walk.{arg_by_short, at_row, attached_value, bundle, bundle_met, bundle_step, count_of, counted, default_rows, done}
+use Rattle.clap.specs.Walk.{flag_met, has_row}
+use Rattle.clap.specs.Walk.{idle, is_empty, is_pending, long_met, long_or_other, more_values, most_values, new_count, next, nothing_held}
+use Rattle.clap.specs.Walk.{option, option_met}
+use Rattle.clap.specs.Walk.{option_word, plain, plain_word, positional, positional_held, pushed, reacted, reading_by, refused, rows_after}
+use Rattle.clap.specs.Walk.{settled}
+use Rattle.clap.specs.Walk.{settled_rows, short_met, short_or_plain, subcommand, subcommand_met, subcommand_or_other, takes_several}
+use Rattle.clap.specs.Walk.{takes_values}
+use Rattle.clap.specs.Walk.{to_positional, trailing, used, used_as, used_by_id, value, values_or_missing, waits, walk, walk_from, walked}
+use Rattle.clap.specs.Walk.{walked_from}
 use Rattle.clap.specs.Walk.{with_count, with_default, with_values, without, word_met}
 use Rattle.clap.specs.declared.builder.action.ArgAction.{ArgAction}
 use Rattle.clap.specs.declared.builder.action.ArgAction.TheVariants as action
@@ -186,12 +196,15 @@ module _ (c : List Rule) where
     counted_passes : (values : List Text) (rows : List Row) → count_fault a values rows ≡ [] → RowsPass c rows
         → RowsPass c (counted a.id (reading_by a) values rows)
     counted_passes [] rows none all =
-        count_added (reading_by a) CommandLine (min (count_of a.id rows + 1) 255) (without a.id rows) (rw none refl) (without_passes a.id rows all)
+        count_added (reading_by a) CommandLine (min (count_of a.id rows + 1) 255) (without a.id rows) (rw none refl)
+            (without_passes a.id rows all)
     counted_passes (v ∷ vs) rows none all =
-        values_added (reading_by a) CommandLine (v ∷ vs) (without a.id rows) (record { pass = none; some = λ wants. tt }) (without_passes a.id rows all)
+        values_added (reading_by a) CommandLine (v ∷ vs) (without a.id rows) (record { pass = none; some = λ wants. tt })
+            (without_passes a.id rows all)
 
     -- a use that takes the place of an earlier one
-    set_passes : (again : Bool) (values : List Text) (rows : List Row) → set_fault again a values rows ≡ [] → (wants_value a ≡ true → AreSome values)
+    set_passes : (again : Bool) (values : List Text) (rows : List Row) → set_fault again a values rows ≡ []
+        → (wants_value a ≡ true → AreSome values)
         → RowsPass c rows → RowsPass c (with_values a.id (reading_by a) CommandLine values (without a.id rows))
     set_passes again values rows none some all =
         let given : HasValues a values = record { pass = (neither (repeat_fault again a.id rows) _ none).1; some = some } in
@@ -268,7 +281,8 @@ module _ (c : List Rule) where
           go false None passed = reacted_passes a [] h mine passed all
 
       -- a flag of a bundle, where what follows it leaves rows that pass
-      short_passes : (x : ℕ) (o : Option Rule) (rest : Text) (h : Held) (met : Held → Held × Outcome) (after : Held → Kinds) → arg_by_short c x ≡ o
+      short_passes : (x : ℕ) (o : Option Rule) (rest : Text) (h : Held) (met : Held → Held × Outcome) (after : Held → Kinds)
+          → arg_by_short c x ≡ o
           → ((k : Held) → after k ≡ [] → RowsPass c k.rows → RowsPass c (met k).0.rows)
           → short_fault c again o rest h after ≡ [] → RowsPass c h.rows → RowsPass c (short_met c o rest h met).0.rows
       short_passes x None rest h met after found later none all = all
@@ -278,7 +292,8 @@ module _ (c : List Rule) where
           mine = own_found c c _ a own found
 
           go : (b : Bool)
-              → cond b (option_fault c again a (attached_value rest) h) (or_else (react_fault c again a [] h) (after (reacted c a [] h))) ≡ []
+              → cond b (option_fault c again a (attached_value rest) h)
+                  (or_else (react_fault c again a [] h) (after (reacted c a [] h))) ≡ []
               → RowsPass c (cond b (option_met c a (attached_value rest) h) (met (reacted c a [] h))).0.rows
           go true passed = option_passes a (attached_value rest) h mine passed all
           go false passed =
@@ -288,8 +303,10 @@ module _ (c : List Rule) where
       -- one character of a bundle, in the same way
       bundle_step_passes : (o : Option ℕ) (flags : Text) (skip : ℕ) (so_far : Outcome) (h : Held)
           (met : Text → ℕ → Outcome → Held → Held × Outcome) (after : Text → ℕ → Held → Kinds)
-          → ((rest : Text) (n : ℕ) (so_far : Outcome) (k : Held) → after rest n k ≡ [] → RowsPass c k.rows → RowsPass c (met rest n so_far k).0.rows)
-          → bundle_step_fault c again o flags skip h after ≡ [] → RowsPass c h.rows → RowsPass c (bundle_step c o flags skip so_far h met).0.rows
+          → ((rest : Text) (n : ℕ) (so_far : Outcome) (k : Held) → after rest n k ≡ [] → RowsPass c k.rows
+          → RowsPass c (met rest n so_far k).0.rows)
+          → bundle_step_fault c again o flags skip h after ≡ [] → RowsPass c h.rows
+          → RowsPass c (bundle_step c o flags skip so_far h met).0.rows
       bundle_step_passes None flags skip so_far h met after later none all = all
       bundle_step_passes (Some x) flags zero so_far h met after later none all =
           let rest : Text = drop (length (encode_utf8 x)) flags in
@@ -317,7 +334,8 @@ module _ (c : List Rule) where
       go (Some a) = all
 
   -- and what a flag comes to changes none either
-  outcome_passes : (waiting : Waiting) (word : Text) (h : Held) (o : Outcome) → RowsPass c h.rows → RowsPass c (after_flag c waiting word h o).0.rows
+  outcome_passes : (waiting : Waiting) (word : Text) (h : Held) (o : Outcome) → RowsPass c h.rows
+      → RowsPass c (after_flag c waiting word h o).0.rows
   outcome_passes waiting word h done all = all
   outcome_passes waiting word h (waits id) all = all
   outcome_passes waiting word h plain all = plain_passes waiting word h all

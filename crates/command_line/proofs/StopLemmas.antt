@@ -3,14 +3,18 @@ use Rattle.std.proofs.Common.{◌≡◌, ◌&&◌, Bool, true, false, cond, not,
 use Rattle.std.specs.List.{find, fold}
 use Rattle.std.specs.Option.{option_map, option_map_or}
 use Rattle.std.specs.Str.{bytes_eq}
-use Rattle.clap.specs.Faults.{built_fault, check_fault, defaults_fault, entered_fault, level_fault, other_fault, settle_fault, step_fault, turn_fault}
+use Rattle.clap.specs.Faults.{built_fault, check_fault, defaults_fault, entered_fault, level_fault, other_fault, settle_fault, step_fault}
+use Rattle.clap.specs.Faults.{turn_fault}
 use Rattle.clap.specs.Faults.{walk_fault, word_fault}
 use Rattle.clap.specs.Kinds.{check_kinds, or_else}
 use Rattle.clap.specs.Lexer.{long_of, short_of}
 use Rattle.clap.specs.Simple.{App, Shape, entered, label_of, names_of, rows_at}
-use Rattle.clap.specs.Walk.{Held, Names, Outcome, Row, Rule, Step, Text, Waiting, Walk, after_flag, after_step, answers_to, arg_by_index, arg_by_long, bundle}
-use Rattle.clap.specs.Walk.{done, finished, idle, long_met, long_or_other, next, nothing_held, option, plain, plain_word, positional, refused, settled}
-use Rattle.clap.specs.Walk.{short_or_plain, subcommand, subcommand_met, subcommand_or_other, to_positional, trailing, value, waits, walk, walk_from, walked}
+use Rattle.clap.specs.Walk.{Held, Names, Outcome, Row, Rule, Step, Text, Waiting, Walk, after_flag, after_step, answers_to, arg_by_index}
+use Rattle.clap.specs.Walk.{arg_by_long, bundle}
+use Rattle.clap.specs.Walk.{done, finished, idle, long_met, long_or_other, next, nothing_held, option, plain, plain_word, positional}
+use Rattle.clap.specs.Walk.{refused, settled}
+use Rattle.clap.specs.Walk.{short_or_plain, subcommand, subcommand_met, subcommand_or_other, to_positional, trailing, value, waits, walk}
+use Rattle.clap.specs.Walk.{walk_from, walked}
 use Rattle.clap.specs.Walk.{walked_from, word_met}
 use Rattle.clap.specs.declared.error.kind.ErrorKind.TheVariants as kind
 use Rattle.command_line.proofs.RowLemmas.{neither}
@@ -60,7 +64,8 @@ module _ (s : Shape) where
       → StepPasses s (word_met s.rules names w.is_trailing w.waiting w.position word w.held).1
   word_step names w word none = go w.is_trailing none
     where
-      dashes : (b : Bool) → StepPasses s (cond b (w.held, trailing w.position) (long_or_other s.rules w.waiting word (long_of word) w.held)).1
+      dashes : (b : Bool) → StepPasses s (cond b (w.held, trailing w.position) (long_or_other s.rules w.waiting word
+          (long_of word) w.held)).1
       dashes true = tt
       dashes false = long_step w.waiting word (long_of word) w.held
 
@@ -74,7 +79,8 @@ module _ (s : Shape) where
       named None none = dashes (bytes_eq word (45 ∷ 45 ∷ []))
 
       go : (b : Bool) → cond b [] (other_fault s (subcommand_met names w.waiting word) word w.held) ≡ []
-          → StepPasses s (cond b (w.held, value) (subcommand_or_other s.rules (subcommand_met names w.waiting word) w.waiting w.position word w.held)).1
+          → StepPasses s (cond b (w.held, value) (subcommand_or_other s.rules (subcommand_met names w.waiting word) w.waiting
+              w.position word w.held)).1
       go true none = tt
       go false none = named (subcommand_met names w.waiting word) none
 

@@ -5,7 +5,8 @@ use Rattle.std.specs.List.{find, fold}
 use Rattle.clap.specs.Faults.{built_fault, check_fault, defaults_fault, entered_fault, level_fault, settle_fault, turn_fault, walk_fault}
 use Rattle.clap.specs.Kinds.{Kinds, or_else}
 use Rattle.clap.specs.Simple.{App, Shape, entered, label_of, names_of}
-use Rattle.clap.specs.Walk.{Held, Text, Walk, answers_to, finished, idle, nothing_held, rows_after, settled, subcommand_met, walk, walk_from, walked}
+use Rattle.clap.specs.Walk.{Held, Text, Walk, answers_to, finished, idle, nothing_held, rows_after, settled, subcommand_met, walk}
+use Rattle.clap.specs.Walk.{walk_from, walked}
 use Rattle.clap.proofs.FaultLemmas.{past, stopped_fault}
 use Rattle.clap.proofs.WalkLemmas.{walk_stopped}
 use Rattle.command_line.proofs.StopLemmas.{is_help}

@@ -1,5 +1,6 @@
 -- The command of a table as `clap` builds it.
-use Rattle.std.proofs.Common.{◌≡◌, ◌==◌, ◌∙◌, ◌++◌, ◌&&◌, ◌||◌, ◌+◌, ℕ, Bool, true, false, not, cond, refl, sym, ap, ap₂, subst, arith, List, [], ◌∷◌, map, suc}
+use Rattle.std.proofs.Common.{◌≡◌, ◌==◌, ◌∙◌, ◌++◌, ◌&&◌, ◌||◌, ◌+◌, ℕ, Bool, true, false, not, cond, refl, sym, ap, ap₂, subst, arith}
+use Rattle.std.proofs.Common.{List, [], ◌∷◌, map, suc}
 use Rattle.std.proofs.Common.{Some, None, is_some, codes, true≢false}
 use Rattle.std.specs.Prelude.{count_by}
 use Rattle.std.specs.List.{before_first, find, list_all, list_any, position_or_len}
@@ -8,7 +9,8 @@ use Rattle.std.specs.Str.{bytes_eq}
 use Rattle.std.proofs.lemmas.Option.{same_Some}
 use Rattle.std.proofs.lemmas.Slice.Eq.{bytes_eq-Decides}
 use Rattle.clap.specs.Faults.{has_free_rules, is_simple_and_free}
-use Rattle.clap.specs.Simple.{App, Shape, built, built_leaf, filled, filled_from, help_rule, help_shape, inherited, is_in_order, is_ready_leaf, is_simple}
+use Rattle.clap.specs.Simple.{App, Shape, built, built_leaf, filled, filled_from, help_rule, help_shape, inherited, is_in_order}
+use Rattle.clap.specs.Simple.{is_ready_leaf, is_simple}
 use Rattle.clap.specs.Simple.{is_simple_leaf, label_of, new_shape, with_index}
 use Rattle.clap.specs.Lexer.{has_byte, long_of}
 use Rattle.clap.specs.Walk.{Rule, Text, answers_to, arg_by_id, arg_by_index, arg_by_long, is_early_multiple, is_empty, subcommand_met, idle}
@@ -68,10 +70,12 @@ built_top name = record (new_shape name) {
 
 usage_is : (u : Usage) → built_leaf (inherited (new_shape []) (leaf u.name (rules_for u)).top) ≡ built_usage u
 usage_is u =
-    ap (λ (rules : List Rule). record (new_shape u.name) { rules = rules; disable_help_subcommand = true; is_built = true }) (rules_are u.flags u.takes_calls)
+    ap (λ (rules : List Rule). record (new_shape u.name) { rules = rules; disable_help_subcommand = true; is_built = true })
+        (rules_are u.flags u.takes_calls)
 
 subs_are : (table : List Usage)
-    → map built_leaf (map (inherited (new_shape [])) (map (λ u. (leaf u.name (rules_for u)).top) table) ++ help_shape ∷ []) ≡ built_subs table
+    → map built_leaf (map (inherited (new_shape [])) (map (λ u. (leaf u.name (rules_for u)).top)
+        table) ++ help_shape ∷ []) ≡ built_subs table
 subs_are [] = refl
 subs_are (u ∷ us) = ap₂ (λ (s : Shape) (ss : List Shape). s ∷ ss) (usage_is u) (subs_are us)
 
@@ -83,7 +87,8 @@ built_is name u us = ap (λ (subs : List Shape). record { top = built_top name; 
 -- ---- the command is one of which `clap` says the matches and the faults
 
 -- the rules of a subcommand are simple, free and in order
-rules_simple : (flags : List Flag) (takes_calls : Bool) → list_all (λ (a : Rule). a.is_simple) (map option_rule flags ++ calls_rules takes_calls) ≡ true
+rules_simple : (flags : List Flag) (takes_calls : Bool)
+    → list_all (λ (a : Rule). a.is_simple) (map option_rule flags ++ calls_rules takes_calls) ≡ true
 rules_simple [] true = refl
 rules_simple [] false = refl
 rules_simple (f ∷ fs) takes_calls = rules_simple fs takes_calls
@@ -103,13 +108,15 @@ unfoldable positionals : Bool → ℕ
 positionals true = 1
 positionals false = 0
 
-positionals_are : (flags : List Flag) (takes_calls : Bool) → count_by (λ (a : Rule). is_some a.index) (built_rules flags takes_calls) ≡ positionals takes_calls
+positionals_are : (flags : List Flag) (takes_calls : Bool)
+    → count_by (λ (a : Rule). is_some a.index) (built_rules flags takes_calls) ≡ positionals takes_calls
 unfolding positionals
 positionals_are [] true = refl
 positionals_are [] false = refl
 positionals_are (f ∷ fs) takes_calls = omega (arith, positionals_are fs takes_calls)
 
-none_early : (flags : List Flag) (takes_calls : Bool) → list_any (is_early_multiple (positionals takes_calls)) (built_rules flags takes_calls) ≡ false
+none_early : (flags : List Flag) (takes_calls : Bool)
+    → list_any (is_early_multiple (positionals takes_calls)) (built_rules flags takes_calls) ≡ false
 unfolding positionals
 none_early [] true = refl
 none_early [] false = refl
@@ -217,7 +224,8 @@ met_usage (v ∷ vs) name u found = go (bytes_eq v.name name) refl found (met_us
   where
     go : (b : Bool) → bytes_eq v.name name ≡ b → cond b (Some v) (usage_named name vs) ≡ Some u
         → (usage_named name vs ≡ Some u → subcommand_met (map label_of (built_subs vs)) idle name ≡ Some name)
-        → option_map (λ (l : Text × List Text). l.0) (cond (b || false) (Some (v.name, [])) (find (answers_to name) (map label_of (built_subs vs)))) ≡ Some name
+        → option_map (λ (l : Text × List Text). l.0)
+            (cond (b || false) (Some (v.name, [])) (find (answers_to name) (map label_of (built_subs vs)))) ≡ Some name
     go true here is later = ap Some ((bytes_eq-Decides v.name name).0 here)
     go false here is later = later is
 
@@ -238,7 +246,8 @@ abbrev pub built_table : Text → List Usage → App
 built_table name table = record { top = built_top name; subs = built_subs table }
 
 -- so the name names the subcommand
-pub names_usage : (program : Text) (table : List Usage) (name : Text) (u : Usage) → are_usages table ≡ true → usage_named name table ≡ Some u
+pub names_usage : (program : Text) (table : List Usage) (name : Text) (u : Usage) → are_usages table ≡ true
+    → usage_named name table ≡ Some u
     → NamesSubcommand (built_table program table) name (built_usage u)
 names_usage program table name u all found =
     let not_help = (found_usage table name u all found).1 in
@@ -265,7 +274,8 @@ usage_found program [] name s found not_help = go (bytes_eq (codes "help") name)
 usage_found program (v ∷ vs) name s found not_help = go (bytes_eq v.name name) found (λ later. usage_found program vs name s later not_help)
   where
     go : (b : Bool) → cond (b || false) (Some (built_usage v)) (find (λ t. answers_to name (label_of t)) (built_subs vs)) ≡ Some s
-        → (find (λ t. answers_to name (label_of t)) (built_subs vs) ≡ Some s → (u : Usage) × (usage_named name vs ≡ Some u) × (s ≡ built_usage u))
+        → (find (λ t. answers_to name (label_of t)) (built_subs vs) ≡ Some s → (u : Usage) × (usage_named name vs ≡ Some u)
+        × (s ≡ built_usage u))
         → (u : Usage) × (cond b (Some v) (usage_named name vs) ≡ Some u) × (s ≡ built_usage u)
     go true is later = (v, refl, sym (same_Some (built_usage v) s is))
     go false is later = later is
@@ -322,7 +332,8 @@ other_rules f (g ∷ gs) takes_calls not_help not_calls other =
     ap₂ (λ (x y : Bool). x || y) parts.0 (other_rules f gs takes_calls not_help not_calls parts.1)
 
 -- each argument of a row is the first of its id
-pub rules_own : (flags : List Flag) (takes_calls : Bool) → are_flags flags ≡ true → AllOwn (built_rules flags takes_calls) (built_rules flags takes_calls)
+pub rules_own : (flags : List Flag) (takes_calls : Bool) → are_flags flags ≡ true
+    → AllOwn (built_rules flags takes_calls) (built_rules flags takes_calls)
 rules_own [] true all = (refl, (refl, tt))
 rules_own [] false all = (refl, tt)
 rules_own (f ∷ fs) takes_calls all =
@@ -330,7 +341,8 @@ rules_own (f ∷ fs) takes_calls all =
     let rest = built_rules fs takes_calls in
     let mine : bytes_eq f.name f.name ≡ true = (bytes_eq-Decides f.name f.name).1 refl in (
       rw mine refl,
-      own_after (built_flag f) rest rest (other_rules f fs takes_calls parts.0.not_help parts.0.not_calls parts.0.other) (rules_own fs takes_calls parts.1),
+      own_after (built_flag f) rest rest (other_rules f fs takes_calls parts.0.not_help parts.0.not_calls parts.0.other)
+          (rules_own fs takes_calls parts.1),
     )
 
 -- ---- one option of a subcommand
@@ -341,7 +353,8 @@ pub record IsFound (flags : List Flag) (name : Text) (f : Flag) : Type 0 where
   pub others : List Flag
   pub is_flag : IsFlag f others
 
-pub found_flag : (flags : List Flag) (name : Text) (f : Flag) → are_flags flags ≡ true → flag_named name flags ≡ Some f → IsFound flags name f
+pub found_flag : (flags : List Flag) (name : Text) (f : Flag) → are_flags flags ≡ true → flag_named name flags ≡ Some f
+    → IsFound flags name f
 found_flag [] name f all found = cc
 found_flag (g ∷ gs) name f all found =
     let parts = flag_parts g gs all in

@@ -1,5 +1,6 @@
 -- A subcommand, options of it and calls are accepted, and ask for their numbers.
-use Rattle.std.proofs.Common.{◌≡◌, ◌∙◌, ◌++◌, ◌&&◌, ◌||◌, ◌≤◌, Bool, ℕ, suc, true, false, nat_lt, cond, not, refl, sym, ap, subst, arith, append_assoc}
+use Rattle.std.proofs.Common.{◌≡◌, ◌∙◌, ◌++◌, ◌&&◌, ◌||◌, ◌≤◌, Bool, ℕ, suc, true, false, nat_lt, cond, not, refl, sym, ap, subst, arith}
+use Rattle.std.proofs.Common.{append_assoc}
 use Rattle.std.proofs.Common.{append-nil, length-append, le-ltb, map, length, List, [], ◌∷◌, Option, Some, None, is_some, codes}
 use Rattle.std.specs.List.{All, find, fold, list_any}
 use Rattle.std.specs.Option.{option_and_then, option_map, option_map_or}
@@ -8,12 +9,14 @@ use Rattle.std.specs.Str.{bytes_eq}
 use Rattle.std.proofs.lemmas.Option.{same_Some}
 use Rattle.std.proofs.lemmas.Slice.Eq.{bytes_eq-Decides}
 use Rattle.clap.specs.Facts.{explicit_source}
-use Rattle.clap.specs.Faults.{built_fault, check_fault, default_fault, defaults_fault, fault_of, given_default_fault, level_fault, turn_fault, walk_fault}
+use Rattle.clap.specs.Faults.{built_fault, check_fault, default_fault, defaults_fault, fault_of, given_default_fault, level_fault}
+use Rattle.clap.specs.Faults.{turn_fault, walk_fault}
 use Rattle.clap.specs.Kinds.{Kinds, values_kinds}
 use Rattle.clap.specs.Lexer.{usize_max}
 use Rattle.clap.specs.Simple.{App, argument_words, built, entered, names_of, subcommand_of}
 use Rattle.clap.specs.Takes.{is_given}
-use Rattle.clap.specs.Walk.{Held, Row, Rule, Text, Walk, arg_by_id, arg_by_index, finished, first_of, has_row, is_empty, is_pending, nothing_held, positional}
+use Rattle.clap.specs.Walk.{Held, Row, Rule, Text, Walk, arg_by_id, arg_by_index, finished, first_of, has_row, is_empty, is_pending}
+use Rattle.clap.specs.Walk.{nothing_held, positional}
 use Rattle.clap.specs.Walk.{rows_after, settled, walk, walk_from, walked, with_default}
 use Rattle.clap.proofs.FaultLemmas.{past}
 use Rattle.clap.proofs.ValueTestLemmas.{Accepts-accepts}
@@ -21,12 +24,14 @@ use Rattle.command_line.specs.Commands.{table_app}
 use Rattle.command_line.specs.Numbers.{IsNumber, number_of}
 use Rattle.command_line.specs.Requests.{AreCallsOf, AreNumbersOf, Asked, Asks, IsNumberOf, are_named, has_named, is_named, values_of}
 use Rattle.command_line.specs.Tables.{Choice, Flag, Usage, among, are_flags, are_usages, flag_named, usage_named, within}
-use Rattle.command_line.specs.Words.{AreOptionsOf, Given, Gives, IsUse, IsValue, IsValueOf, has_option, has_required, option_words, value_given}
+use Rattle.command_line.specs.Words.{AreOptionsOf, Given, Gives, IsUse, IsValue, IsValueOf, has_option, has_required, option_words}
+use Rattle.command_line.specs.Words.{value_given}
 use Rattle.command_line.proofs.OptionLemmas.{Goes, Settles, new_row, options_go, row_given, row_with, taken_all}
 use Rattle.command_line.proofs.PlainLemmas.{IsPlain, spelled_is_plain}
 use Rattle.command_line.proofs.RequestLemmas.{is_missing, number_parser}
 use Rattle.command_line.proofs.SubcommandLemmas.{TakesSubcommand, level_by, level_rest, name_enters, name_faultless}
-use Rattle.command_line.proofs.TableLemmas.{both, built_calls, built_flag, built_is, built_rules, built_table, built_usage, by_index, calls_by_id, flag_parts}
+use Rattle.command_line.proofs.TableLemmas.{both, built_calls, built_flag, built_is, built_rules, built_table, built_usage, by_index}
+use Rattle.command_line.proofs.TableLemmas.{calls_by_id, flag_parts}
 use Rattle.command_line.proofs.TableLemmas.{found_flag, found_usage, names_usage, not_either, same_swapped}
 
 -- ---- no argument has a default of its own
@@ -80,7 +85,8 @@ abbrev use_rows : List Given → List Text → List Row
 use_rows given calls = map row_given given ++ calls_rows calls
 
 -- an option that is given has a row that the words made
-given_there : (name : Text) (given : List Given) (more : List Row) → has_option name given ≡ true → is_given name (map row_given given ++ more) ≡ true
+given_there : (name : Text) (given : List Given) (more : List Row) → has_option name given ≡ true
+    → is_given name (map row_given given ++ more) ≡ true
 given_there name [] more has = cc
 given_there name (g ∷ gs) more has = go (bytes_eq g.0 name) has (given_there name gs more)
   where
@@ -97,10 +103,12 @@ none_missing [] true given more required = refl
 none_missing [] false given more required = refl
 none_missing (f ∷ fs) takes_calls given more required =
     let parts = both (is_some f.default || has_option f.name given) _ required in
-    let here : is_missing (map row_given given ++ more) (built_flag f) ≡ false = go (is_some f.default) parts.0 (given_there f.name given more) in
+    let here : is_missing (map row_given given ++ more) (built_flag f) ≡ false =
+        go (is_some f.default) parts.0 (given_there f.name given more) in
     rw here (none_missing fs takes_calls given more parts.1)
   where
-    go : (b : Bool) → (b || has_option f.name given) ≡ true → (has_option f.name given ≡ true → is_given f.name (map row_given given ++ more) ≡ true)
+    go : (b : Bool) → (b || has_option f.name given) ≡ true
+        → (has_option f.name given ≡ true → is_given f.name (map row_given given ++ more) ≡ true)
         → (not b && not (is_given f.name (map row_given given ++ more))) ≡ false
     go true has there = refl
     go false has there = let is = there has in rw is refl
@@ -113,7 +121,8 @@ value_is [] (t ∷ ts) name other = rw other refl
 value_is (g ∷ gs) calls name other = go (bytes_eq g.0 name) (value_is gs calls name other)
   where
     go : (b : Bool) → first_of name (use_rows gs calls) ≡ value_given gs name
-        → option_and_then (λ (r : Row). slice_get r.values 0) (cond b (Some (row_given g)) (find (λ (r : Row). bytes_eq r.id name) (use_rows gs calls)))
+        → option_and_then (λ (r : Row). slice_get r.values 0)
+            (cond b (Some (row_given g)) (find (λ (r : Row). bytes_eq r.id name) (use_rows gs calls)))
         ≡ option_map (λ (x : Given). x.1) (cond b (Some g) (find (λ (x : Given). bytes_eq x.0 name) gs))
     go true later = refl
     go false later = later
@@ -174,7 +183,8 @@ given_named flags f (g ∷ gs) own options = go (bytes_eq g.0 f.name) refl (give
         value_named f.values g.1 (subst (λ (o : Option Flag). IsValueOf o g.1) own value)
     go false here later = later
 
-all_named : (flags fs : List Flag) (given : List Given) (calls : List Text) → FlagsOwn flags fs → are_flags fs ≡ true → AreOptionsOf flags given
+all_named : (flags fs : List Flag) (given : List Given) (calls : List Text) → FlagsOwn flags fs → are_flags fs ≡ true
+    → AreOptionsOf flags given
     → are_named fs (λ name. first_of name (use_rows given calls)) ≡ true
 all_named flags [] given calls own all options = refl
 all_named flags (f ∷ fs) given calls own all options =
@@ -262,7 +272,8 @@ module _ (u : Usage) (all : are_flags u.flags ≡ true) where
     }
 
     -- the walk takes the first text
-    first_call : (text : Text) → IsPlain text → is_pending built_calls h.pending ≡ false → walked rules [] (walk_from h) text ≡ after_calls (text ∷ [])
+    first_call : (text : Text) → IsPlain text → is_pending built_calls h.pending ≡ false
+        → walked rules [] (walk_from h) text ≡ after_calls (text ∷ [])
     unfolding walked after_calls
     first_call text plain other =
         let dashes = plain.not_dashes in
@@ -272,7 +283,8 @@ module _ (u : Usage) (all : are_flags u.flags ≡ true) where
         rw (dashes, long, short, index, other) refl
 
     -- and the next one
-    next_call : (calls : List Text) (text : Text) → IsPlain text → walked rules [] (after_calls calls) text ≡ after_calls (calls ++ text ∷ [])
+    next_call : (calls : List Text) (text : Text) → IsPlain text
+        → walked rules [] (after_calls calls) text ≡ after_calls (calls ++ text ∷ [])
     unfolding walked after_calls
     next_call calls text plain =
         let dashes = plain.not_dashes in
@@ -310,7 +322,8 @@ module _ (u : Usage) (all : are_flags u.flags ≡ true) where
       other_numbers k d lt = numbers (suc k) d (omega arith)
 
     -- the walk over further texts
-    more_calls : (calls more : List Text) → All IsNumber more → fold (walked rules []) (after_calls calls) more ≡ after_calls (calls ++ more)
+    more_calls : (calls more : List Text) → All IsNumber more
+        → fold (walked rules []) (after_calls calls) more ≡ after_calls (calls ++ more)
     more_calls calls [] numbers = ap after_calls (sym (append-nil calls))
     more_calls calls (t ∷ ts) numbers =
         ap (λ w. fold (walked rules []) w ts) (next_call calls t (first_plain t ts numbers))
@@ -347,7 +360,8 @@ module _ (u : Usage) (all : are_flags u.flags ≡ true) where
         rw accepted (no_value_fault ts (other_numbers t ts numbers))
 
     -- so they settle
-    calls_settle : (t : Text) (ts : List Text) → All IsNumber (t ∷ ts) → length (t ∷ ts) ≤ usize_max → Settles u all (after_calls (t ∷ ts)).held
+    calls_settle : (t : Text) (ts : List Text) → All IsNumber (t ∷ ts) → length (t ∷ ts) ≤ usize_max
+        → Settles u all (after_calls (t ∷ ts)).held
     unfolding Settles after_calls
     calls_settle t ts numbers fits =
         let not_few : nat_lt (length (t ∷ ts)) 0 ≡ false = le-ltb _ _ (omega arith) in

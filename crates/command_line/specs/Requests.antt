@@ -1,5 +1,6 @@
 -- What the matches of a command ask for, by its table.
-use Rattle.std.specs.Prelude.{◌≡◌, ◌<◌, ◌≤◌, ◌^◌, suc, length, slice_index, ⊤, ℕ, Bool, true, false, List, [], ◌∷◌, Option, Some, None, map, codes, unwrap_or}
+use Rattle.std.specs.Prelude.{◌≡◌, ◌<◌, ◌≤◌, ◌^◌, suc, length, slice_index, ⊤, ℕ, Bool, true, false, List, [], ◌∷◌, Option, Some, None, map}
+use Rattle.std.specs.Prelude.{codes, unwrap_or}
 use Rattle.std.specs.Prelude.{position}
 use Rattle.std.specs.List.{All, list_all}
 use Rattle.std.specs.Option.{option_map_or}

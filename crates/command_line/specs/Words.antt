@@ -1,5 +1,6 @@
 -- The words that name a subcommand of a table, with options and calls.
-use Rattle.std.specs.Prelude.{◌≡◌, ⊤, ◌||◌, Bool, true, false, is_some, List, [], ◌∷◌, ◌++◌, Option, Some, None, map, codes, find, option_map}
+use Rattle.std.specs.Prelude.{◌≡◌, ⊤, ◌||◌, Bool, true, false, is_some, List, [], ◌∷◌, ◌++◌, Option, Some, None, map, codes, find}
+use Rattle.std.specs.Prelude.{option_map}
 use Rattle.std.specs.List.{All, list_all, list_any}
 use Rattle.std.specs.Str.{bytes_eq}
 use Rattle.clap.specs.Words.{Text}

@@ -28,7 +28,8 @@ pub configuration_unique : (start : Contents) (calls : List Operation) (front : 
     → LeadsTo start calls front d → c ≡ d
 configuration_unique start calls front c d by_c by_d =
     same_configuration c d
-    (rising_unique c.taken d.taken by_c.rising by_d.rising (λ n. (λ h. (by_d.taken n).1 ((by_c.taken n).0 h), λ h. (by_c.taken n).1 ((by_d.taken n).0 h))))
+    (rising_unique c.taken d.taken by_c.rising by_d.rising
+        (λ n. (λ h. (by_d.taken n).1 ((by_c.taken n).0 h), λ h. (by_c.taken n).1 ((by_d.taken n).0 h))))
     (by_c.pairs ∙ sym by_d.pairs)
 
 -- no calls lead to the configuration of the start
@@ -36,7 +37,8 @@ pub LeadsTo-nil : (start : Contents) (calls : List Operation) → LeadsTo start 
 LeadsTo-nil start calls = record { rising = λ k within. absurd (omega arith); taken = λ n. (λ h. h, λ h. h); pairs = refl }
 
 -- a configuration after one more call
-pub LeadsTo-push : (start : Contents) (calls : List Operation) (front : List ℕ) (n : ℕ) (a : Operation) (c d : Configuration) → LeadsTo start calls front c
+pub LeadsTo-push : (start : Contents) (calls : List Operation) (front : List ℕ) (n : ℕ) (a : Operation) (c d : Configuration)
+    → LeadsTo start calls front c
     → slice_get calls n ≡ Some a → IsStrictlyIncreasing d.taken → ((m : ℕ) → Contains d.taken m ↔ (Contains c.taken m ⊎ (m ≡ n)))
     → d.pairs ≡ after_call c.pairs a.call a.response → LeadsTo start calls (front ++ n ∷ []) d
 LeadsTo-push start calls front n a c d by here rising taken pairs = record {
@@ -60,7 +62,8 @@ LeadsTo-exists start calls front known =
         rising = IsStrictlyIncreasing-filter (has_number front) numbers (IsStrictlyIncreasing-range (length calls));
         taken = λ n. (
           λ h. has_number-Contains front n (Contains-from_filter (has_number front) numbers n h).1,
-          λ h. Contains-filter (has_number front) numbers n (Contains-range (length calls) n (All-contains (λ n. n < length calls) front n known h))
+          λ h. Contains-filter (has_number front) numbers n
+              (Contains-range (length calls) n (All-contains (λ n. n < length calls) front n known h))
               (has_number-from_Contains front n h),
         );
         pairs = refl;

@@ -1,5 +1,6 @@
 -- Laws of fronts, and how fronts and orders are tied.
-use Rattle.std.proofs.Common.{◌≡◌, ℕ, ◌<◌, ◌≤◌, true, false, List, Some, None, [], ◌∷◌, ◌++◌, length, Option, refl, sym, ap, ◌∙◌, subst, ⊎_elim, arith}
+use Rattle.std.proofs.Common.{◌≡◌, ℕ, ◌<◌, ◌≤◌, true, false, List, Some, None, [], ◌∷◌, ◌++◌, length, Option, refl, sym, ap, ◌∙◌, subst}
+use Rattle.std.proofs.Common.{⊎_elim, arith}
 use Rattle.std.specs.Prelude.{◌≢◌, is_some, slice_get, IsTrue, IsSomeAnd, All, Contains}
 use Rattle.std.specs.List.{cons_option}
 use Rattle.std.proofs.lemmas.Bool.{false_from_ne_true, both_ways, cases_order}
@@ -13,8 +14,10 @@ use Rattle.events.specs.Precedence.{is_completed, is_before, precedes, NonePrece
 use Rattle.map_object.specs.MapObject.{Contents}
 use Rattle.orders.specs.Orders.{IsLegalCall, after_calls, IsLegal, calls_at, IsCompletedAt, IsLegalOrder, IsOrder}
 use Rattle.configurations.specs.Fronts.{PrecedesAt, IsFront}
-use Rattle.list_laws.proofs.Lists.{length-distinct_below, AllPairs-nil, AllPairs-front, AllPairs-across, All-front, All-back, place_of-Contains}
-use Rattle.list_laws.proofs.Lists.{slice_get-append_left, Contains-take, slice_get-middle, place-push, place_before-Contains, AllPairs-at, AllPairs-from_at}
+use Rattle.list_laws.proofs.Lists.{length-distinct_below, AllPairs-nil, AllPairs-front, AllPairs-across, All-front, All-back}
+use Rattle.list_laws.proofs.Lists.{place_of-Contains}
+use Rattle.list_laws.proofs.Lists.{slice_get-append_left, Contains-take, slice_get-middle, place-push, place_before-Contains, AllPairs-at}
+use Rattle.list_laws.proofs.Lists.{AllPairs-from_at}
 use Rattle.list_laws.proofs.Lists.{All-at}
 use Rattle.orders.proofs.OrderLemmas.{IsLegal-append, IsLegal-front, IsLegal-back, calls_at-append, calls_at-push}
 use Rattle.list_laws.proofs.NumberLemmas.{slice_get-below}
@@ -50,17 +53,20 @@ IsFront-from_order start calls order none h = record {
     itself i j m n here before there same =
         let one = same_Some n m (sym here ∙ ap (slice_get order) same ∙ there) in
         let same_call = same_Some before.0 before.1 (sym before.2 ∙ ap (slice_get calls) (sym one) ∙ before.3) in
-        both_ways _ (All-at (λ a. precedes a a ≡ false) calls n before.1 none before.3) (subst (λ a. precedes a before.1 ≡ true) same_call before.4)
+        both_ways _ (All-at (λ a. precedes a a ≡ false) calls n before.1 none before.3)
+            (subst (λ a. precedes a before.1 ≡ true) same_call before.4)
 
     too_late : (i j m n : ℕ) → slice_get order i ≡ Some n → PrecedesAt calls m n → slice_get order j ≡ Some m → i < j → ⊥
     too_late i j m n here before there later =
         let first = slice_get-calls_at calls order i n h.legal_order.known here ∙ before.3 in
         let second = slice_get-calls_at calls order j m h.legal_order.known there ∙ before.2 in
         both_ways _
-        (AllPairs-at (λ a b. precedes b a ≡ false) (calls_at calls order) i j before.1 before.0 h.legal_order.precedence later first second) before.4
+        (AllPairs-at (λ a b. precedes b a ≡ false) (calls_at calls order) i j before.1 before.0 h.legal_order.precedence later
+            first second) before.4
 
 -- a front is a legal order of its calls
-pub IsLegalOrder-from_front : (start : Contents) (calls : List Operation) (front : List ℕ) → IsFront start calls front → IsLegalOrder start calls front
+pub IsLegalOrder-from_front : (start : Contents) (calls : List Operation) (front : List ℕ) → IsFront start calls front
+    → IsLegalOrder start calls front
 IsLegalOrder-from_front start calls front h = record {
   known = h.known;
   distinct = h.distinct;
@@ -70,7 +76,8 @@ IsLegalOrder-from_front start calls front h = record {
   legal = h.legal;
 }
   where
-    too_late : (i j : ℕ) (a b : Operation) → i < j → slice_get (calls_at calls front) i ≡ Some a → slice_get (calls_at calls front) j ≡ Some b
+    too_late : (i j : ℕ) (a b : Operation) → i < j → slice_get (calls_at calls front) i ≡ Some a
+        → slice_get (calls_at calls front) j ≡ Some b
         → precedes b a ≡ true → ⊥
     too_late i j a b before first second e =
         let (n, n_here, n_call) = number_at calls front i a h.known first in
@@ -87,14 +94,17 @@ IsOrder-from_front start calls front h complete = record {
 }
 
 -- the beginning of a front is a front
-pub IsFront-front : (start : Contents) (calls : List Operation) (front rest : List ℕ) → IsFront start calls (front ++ rest) → IsFront start calls front
+pub IsFront-front : (start : Contents) (calls : List Operation) (front rest : List ℕ) → IsFront start calls (front ++ rest)
+    → IsFront start calls front
 IsFront-front start calls front rest h = record {
   known = All-front (λ n. n < length calls) front rest h.known;
   distinct = AllPairs-front (λ m n. m ≢ n) front rest h.distinct;
   closed = λ i m n here before.
       let within = slice_get_within front i n here in
-      subst (λ taken. Contains taken m) (take-append-le i front rest (omega arith)) (h.closed i m n (slice_get-append_left front rest i within ∙ here) before);
-  legal = IsLegal-front start (calls_at calls front) (calls_at calls rest) (subst (IsLegal start) (calls_at-append calls front rest) h.legal);
+      subst (λ taken. Contains taken m) (take-append-le i front rest (omega arith))
+          (h.closed i m n (slice_get-append_left front rest i within ∙ here) before);
+  legal = IsLegal-front start (calls_at calls front) (calls_at calls rest)
+      (subst (IsLegal start) (calls_at-append calls front rest) h.legal);
 }
 
 -- what a call needs to be the next of a front
@@ -114,7 +124,8 @@ IsFront-push start calls front n a h here new preceded legal = record {
   distinct = all_pairs_push (λ m k. m ≢ k) front n h.distinct (λ k d within is. new (k, within, get_or_default front k n d within ∙ is));
   closed = λ i m k place before. ⊎_elim
       (λ old. subst (λ taken. Contains taken m) (sym (take-append-le i front (n ∷ []) (within i k old))) (h.closed i m k old before))
-      (λ pushed. subst (λ taken. Contains taken m) (sym (take_at front (n ∷ []) i pushed.0)) (preceded m (subst (λ k. PrecedesAt calls m k) pushed.1 before)))
+      (λ pushed. subst (λ taken. Contains taken m) (sym (take_at front (n ∷ []) i pushed.0))
+          (preceded m (subst (λ k. PrecedesAt calls m k) pushed.1 before)))
       (place-push front n i k place);
   legal = rw (calls_at-push calls front n a here) (IsLegal-append start (calls_at calls front) (a ∷ []) h.legal (legal, tt));
 }
@@ -123,17 +134,20 @@ IsFront-push start calls front n a h here new preceded legal = record {
     within i k old = omega (arith, slice_get_within front i k old)
 
 -- the call after the beginning of a front is a next one of that beginning
-pub IsNext-from_front : (start : Contents) (calls : List Operation) (front : List ℕ) (n : ℕ) (rest : List ℕ) → IsFront start calls (front ++ n ∷ rest)
+pub IsNext-from_front : (start : Contents) (calls : List Operation) (front : List ℕ) (n : ℕ) (rest : List ℕ)
+    → IsFront start calls (front ++ n ∷ rest)
     → IsNext start calls front n
 IsNext-from_front start calls front n rest h =
     let known = All-head (λ n. n < length calls) n rest (All-back (λ n. n < length calls) front (n ∷ rest) h.known) in
     let (a, here) = slice_get-below calls n known in
-    let back = IsLegal-back start (calls_at calls front) (calls_at calls (n ∷ rest)) (subst (IsLegal start) (calls_at-append calls front (n ∷ rest)) h.legal) in
+    let back = IsLegal-back start (calls_at calls front) (calls_at calls (n ∷ rest))
+        (subst (IsLegal start) (calls_at-append calls front (n ∷ rest)) h.legal) in
     let first = subst (λ o. IsLegal (after_calls start (calls_at calls front)) (cons_option o (calls_at calls rest))) here back in
     record {
       call = a;
       here = here;
-      new = λ within. All-contains (λ m. All (λ k. m ≢ k) (n ∷ rest)) front n (AllPairs-across (λ m k. m ≢ k) front (n ∷ rest) h.distinct) within 0 n
+      new = λ within. All-contains (λ m. All (λ k. m ≢ k) (n ∷ rest)) front n
+          (AllPairs-across (λ m k. m ≢ k) front (n ∷ rest) h.distinct) within 0 n
           (omega arith) refl;
       preceded =
           λ m before. subst (λ taken. Contains taken m) (take_at front (n ∷ rest) (length front) refl)
@@ -142,7 +156,8 @@ IsNext-from_front start calls front n rest h =
     }
 
 -- a front goes on with each next call
-pub IsFront-next : (start : Contents) (calls : List Operation) (front : List ℕ) (n : ℕ) → IsFront start calls front → IsNext start calls front n
+pub IsFront-next : (start : Contents) (calls : List Operation) (front : List ℕ) (n : ℕ) → IsFront start calls front
+    → IsNext start calls front n
     → IsFront start calls (front ++ n ∷ [])
 IsFront-next start calls front n h next = IsFront-push start calls front n next.call h next.here next.new next.preceded next.legal
 

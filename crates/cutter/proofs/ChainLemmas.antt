@@ -1,5 +1,6 @@
 -- Ranges by rising low key hang together where each begins within the reach of those before it.
-use Rattle.std.proofs.Common.{◌≡◌, ℕ, ◌+◌, ◌<◌, ◌≤◌, List, [], ◌∷◌, ◌++◌, length, get_or, map, max, take, drop, Some, sym, ap, ◌∙◌, subst, ⊎_elim, arith}
+use Rattle.std.proofs.Common.{◌≡◌, ℕ, ◌+◌, ◌<◌, ◌≤◌, List, [], ◌∷◌, ◌++◌, length, get_or, map, max, take, drop, Some, sym, ap, ◌∙◌, subst}
+use Rattle.std.proofs.Common.{⊎_elim, arith}
 use Rattle.std.specs.Prelude.{slice_get, All, Any, AllPairs, Contains}
 use Rattle.std.proofs.lemmas.Bool.{cases_lt}
 use Rattle.std.proofs.lemmas.List.{take_more, length-take, length-drop, get_or-drop}
@@ -59,10 +60,12 @@ pub record IsWalked (ranges : List KeyRange) (place reach : ℕ) : Type 0 where
   pub reach_is : reach ≡ reach_of (take place ranges)
 
 -- the range at a place begins at or above those before it
-lower_before : (ranges : List KeyRange) (i : ℕ) (x : KeyRange) → RiseByLow ranges → slice_get ranges i ≡ Some x → All (λ r. r.low ≤ x.low) (take i ranges)
+lower_before : (ranges : List KeyRange) (i : ℕ) (x : KeyRange) → RiseByLow ranges → slice_get ranges i ≡ Some x
+    → All (λ r. r.low ≤ x.low) (take i ranges)
 lower_before ranges i x sorted here =
     All-from_contains (λ r. r.low ≤ x.low) (take i ranges)
-    (λ r is. let (j, before, at) = place_before-Contains ranges i r is in AllPairs-at (λ r s. r.low ≤ s.low) ranges j i r x sorted before at here)
+    (λ r is. let (j, before, at) = place_before-Contains ranges i r is in AllPairs-at (λ r s. r.low ≤ s.low) ranges j i r x
+        sorted before at here)
 
 -- the walk goes on to a range that begins within its reach; the first one may begin anywhere
 pub IsWalked-more : (ranges : List KeyRange) (place reach : ℕ) (d : KeyRange) → RiseByLow ranges → place < length ranges
@@ -80,16 +83,20 @@ IsWalked-more ranges i reach d sorted within meets h =
     }
 
 -- what is in the part from a place on stands there or later
-place_from-Contains : (ranges : List KeyRange) (i : ℕ) (s : KeyRange) → Contains (drop i ranges) s → (j : ℕ) × (i ≤ j) × (slice_get ranges j ≡ Some s)
+place_from-Contains : (ranges : List KeyRange) (i : ℕ) (s : KeyRange) → Contains (drop i ranges) s → (j : ℕ) × (i ≤ j)
+    × (slice_get ranges j ≡ Some s)
 place_from-Contains ranges i s (k, within, is) =
-    (i + k, omega arith, slice_get-get_or ranges (i + k) s (omega (arith, length-drop i ranges)) ∙ ap Some (sym (get_or-drop i ranges k s) ∙ is))
+    (i + k, omega arith, slice_get-get_or ranges (i + k) s (omega (arith, length-drop i ranges))
+        ∙ ap Some (sym (get_or-drop i ranges k s) ∙ is))
 
 -- the range at a place begins at or below those from there on
-lower_after : (ranges : List KeyRange) (i : ℕ) (x s : KeyRange) → RiseByLow ranges → slice_get ranges i ≡ Some x → Contains (drop i ranges) s → x.low ≤ s.low
+lower_after : (ranges : List KeyRange) (i : ℕ) (x s : KeyRange) → RiseByLow ranges → slice_get ranges i ≡ Some x
+    → Contains (drop i ranges) s → x.low ≤ s.low
 lower_after ranges i x s sorted here is =
     let (j, after, at) = place_from-Contains ranges i s is in
     ⊎_elim (λ later. AllPairs-at (λ r s. r.low ≤ s.low) ranges i j x s sorted later here at)
-    (λ same. let j_is : i ≡ j = omega arith in let one = ap (λ z. z.low) (same_Some x s (sym here ∙ (ap (slice_get ranges) j_is ∙ at))) in omega arith)
+    (λ same. let j_is : i ≡ j = omega arith in let one =
+        ap (λ z. z.low) (same_Some x s (sym here ∙ (ap (slice_get ranges) j_is ∙ at))) in omega arith)
     (cases_lt i j)
 
 -- the walk stops at a range that begins beyond its reach: those before it end below all others

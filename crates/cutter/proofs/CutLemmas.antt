@@ -1,7 +1,9 @@
 -- Which calls are together: those whose ranges hang together are, and those whose ranges lie apart are not.
-use Rattle.std.proofs.Common.{◌≡◌, ℕ, ◌+◌, ◌<◌, ◌≤◌, true, false, ◌&&◌, ltb, leb, List, ◌++◌, get_or, Some, refl, sym, ap, ◌∙◌, inl, inr, ⊎_elim, arith}
+use Rattle.std.proofs.Common.{◌≡◌, ℕ, ◌+◌, ◌<◌, ◌≤◌, true, false, ◌&&◌, ltb, leb, List, ◌++◌, get_or, Some, refl, sym, ap, ◌∙◌, inl, inr}
+use Rattle.std.proofs.Common.{⊎_elim, arith}
 use Rattle.std.specs.Prelude.{◌⊎◌, slice_get, All, Contains}
-use Rattle.std.proofs.lemmas.Bool.{false≢true, both_ways, cases_Bool, or_left, or_cases, and_left, and_right, and_from, le-ltb, lt-leb, lt-ltb, le-leb}
+use Rattle.std.proofs.lemmas.Bool.{false≢true, both_ways, cases_Bool, or_left, or_cases, and_left, and_right, and_from, le-ltb, lt-leb}
+use Rattle.std.proofs.lemmas.Bool.{lt-ltb, le-leb}
 use Rattle.std.proofs.lemmas.List.Elements.{All-contains, Contains-append_left, Contains-append_right, Contains-append_cases}
 use Rattle.std.proofs.lemmas.Option.{same_Some, slice_get-get_or}
 use Rattle.events.specs.declared.event.Call.{Call}
@@ -48,45 +50,54 @@ AreTogether-at : (calls : List Operation) (m n : ℕ) (a b : Operation) → slic
 AreTogether-at calls m n a b m_here n_here h = rw (m_here, n_here) h
 
 -- and back
-AreTogether-from : (calls : List Operation) (m n : ℕ) (a b : Operation) → slice_get calls m ≡ Some a → slice_get calls n ≡ Some b → AreTogether calls m n
+AreTogether-from : (calls : List Operation) (m n : ℕ) (a b : Operation) → slice_get calls m ≡ Some a → slice_get calls n ≡ Some b
+    → AreTogether calls m n
     → (c : ℕ) → IsCut calls c → Separates c a.call b.call → ⊥
 AreTogether-from calls m n a b m_here n_here h = rw (m_here, n_here) at h
 
 -- no cut goes between ranges that hang together
-not_cut-chained : (calls : List Operation) (chained : List KeyRange) (r s : KeyRange) (c : ℕ) → All (IsRangeOf calls) chained → AreChained chained
+not_cut-chained : (calls : List Operation) (chained : List KeyRange) (r s : KeyRange) (c : ℕ) → All (IsRangeOf calls) chained
+    → AreChained chained
     → Contains chained r → Contains chained s → r.low < c → c ≤ s.high → IsCut calls c → ⊥
 not_cut-chained calls chained r s c each hang r_is s_is low high cut =
-    let (k, x, within, is, over) = hang c (Any-from_contains (λ z. z.low < c) chained r r_is low) (Any-from_contains (λ z. c ≤ z.high) chained s s_is high) in
+    let (k, x, within, is, over) = hang c (Any-from_contains (λ z. z.low < c) chained r r_is low) (Any-from_contains (λ z. c ≤ z.high)
+        chained s s_is high) in
     let range = All-contains (IsRangeOf calls) chained x each (k, within, is) in
-    let clear = All-contains (λ a. spans c a ≡ false) calls range.operation cut.clear (Contains-at calls x.number range.operation range.here) in
+    let clear = All-contains (λ a. spans c a ≡ false) calls range.operation cut.clear
+        (Contains-at calls x.number range.operation range.here) in
     both_ways (spans c range.operation) clear
     (spans-from_keys c range.operation range.belonging (let e = range.low in omega arith) (let e = range.high in omega arith))
 
 -- calls whose ranges hang together are together
-pub AreTogether-chained : (calls : List Operation) (chained : List KeyRange) (r s : KeyRange) → All (IsRangeOf calls) chained → AreChained chained
+pub AreTogether-chained : (calls : List Operation) (chained : List KeyRange) (r s : KeyRange) → All (IsRangeOf calls) chained
+    → AreChained chained
     → Contains chained r → Contains chained s → AreTogether calls r.number s.number
 AreTogether-chained calls chained r s each hang r_is s_is =
     let p = All-contains (IsRangeOf calls) chained r each r_is in
     let q = All-contains (IsRangeOf calls) chained s each s_is in
     AreTogether-at calls r.number s.number p.operation q.operation p.here q.here (λ c cut separates. ⊎_elim
-    (λ first. not_cut-chained calls chained r s c each hang r_is s_is (let e = p.low in omega (arith, first)) (let e = q.high in omega (arith, first)) cut)
+    (λ first. not_cut-chained calls chained r s c each hang r_is s_is (let e = p.low in omega (arith, first))
+        (let e = q.high in omega (arith, first)) cut)
     (λ second. not_cut-chained calls chained s r c each hang s_is r_is (let e = q.low in omega (arith, second))
     (let e = p.high in omega (arith, second)) cut) separates)
 
 -- a call that belongs has its range among those of all calls
-pub range_from_belonging : (calls : List Operation) (ranges : List KeyRange) (n : ℕ) → AreRanges calls ranges → BelongsAt calls n → (r : KeyRange)
+pub range_from_belonging : (calls : List Operation) (ranges : List KeyRange) (n : ℕ) → AreRanges calls ranges
+    → BelongsAt calls n → (r : KeyRange)
     × Contains ranges r × (r.number ≡ n)
 range_from_belonging calls ranges n h belonging = Contains-from_map (λ (r : KeyRange). r.number) ranges n (h.all n belonging)
 
 -- a number above all keys of some ranges and not above those of the others is a cut
-IsCut-between : (calls : List Operation) (front back : List KeyRange) (c : ℕ) → AreRanges calls (front ++ back) → 1 ≤ c → All (λ r. r.high < c) front
+IsCut-between : (calls : List Operation) (front back : List KeyRange) (c : ℕ) → AreRanges calls (front ++ back) → 1 ≤ c
+    → All (λ r. r.high < c) front
     → All (λ r. c ≤ r.low) back → IsCut calls c
 IsCut-between calls front back c h positive below above =
     record { positive = positive; clear = λ k d within. clear k (get_or calls k d) (slice_get-get_or calls k d within) }
   where
     side : (r : KeyRange) → Contains (front ++ back) r → (c ≤ r.low) ⊎ (r.high < c)
     side r is =
-        ⊎_elim (λ in_front. inr (All-contains (λ r. r.high < c) front r below in_front)) (λ in_back. inl (All-contains (λ r. c ≤ r.low) back r above in_back))
+        ⊎_elim (λ in_front. inr (All-contains (λ r. r.high < c) front r below in_front))
+            (λ in_back. inl (All-contains (λ r. c ≤ r.low) back r above in_back))
         (Contains-append_cases front back r is)
 
     keys : (r : KeyRange) (a : Operation) → IsRangeOf calls r → slice_get calls r.number ≡ Some a → (c ≤ r.low) ⊎ (r.high < c)
@@ -104,7 +115,8 @@ IsCut-between calls front back c h positive below above =
         keys r a (All-contains (IsRangeOf calls) (front ++ back) r h.each is) (ap (slice_get calls) number ∙ here) (side r is))
 
 -- the number after the greatest key of some ranges is a cut, where the others lie beyond
-IsCut-reach : (calls : List Operation) (front back : List KeyRange) (r : KeyRange) → AreRanges calls (front ++ back) → AreApart front back → Contains front r
+IsCut-reach : (calls : List Operation) (front back : List KeyRange) (r : KeyRange) → AreRanges calls (front ++ back) → AreApart front back
+    → Contains front r
     → IsCut calls (reach_of front + 1)
 IsCut-reach calls front back r h apart r_is =
     let (top, top_is, is) = greatest_is (λ z. z.high) front r r_is in
@@ -112,10 +124,12 @@ IsCut-reach calls front back r h apart r_is =
     (All-from_contains (λ z. z.high < reach_of front + 1) front (λ z z_is. omega (arith, greatest_bound (λ z. z.high) front z z_is)))
     (All-from_contains (λ z. reach_of front + 1 ≤ z.low) back
     (λ z z_is. omega
-    (arith, is, All-contains (λ s. top.high < s.low) back z (All-contains (λ r. All (λ s. r.high < s.low) back) front top apart top_is) z_is)))
+    (arith, is, All-contains (λ s. top.high < s.low) back z
+        (All-contains (λ r. All (λ s. r.high < s.low) back) front top apart top_is) z_is)))
 
 -- calls whose ranges lie apart are not together
-pub not_together-apart : (calls : List Operation) (front back : List KeyRange) (r s : KeyRange) → AreRanges calls (front ++ back) → AreApart front back
+pub not_together-apart : (calls : List Operation) (front back : List KeyRange) (r s : KeyRange) → AreRanges calls (front ++ back)
+    → AreApart front back
     → Contains front r → Contains back s
     → (AreTogether calls r.number s.number → ⊥) × (AreTogether calls s.number r.number → ⊥)
 not_together-apart calls front back r s h apart r_is s_is =
@@ -124,7 +138,8 @@ not_together-apart calls front back r s h apart r_is s_is =
     let c = reach_of front + 1 in
     let cut = IsCut-reach calls front back r h apart r_is in
     let (top, top_is, is) = greatest_is (λ z. z.high) front r r_is in
-    let beyond = All-contains (λ z. top.high < z.low) back s (All-contains (λ z. All (λ s. z.high < s.low) back) front top apart top_is) s_is in
+    let beyond = All-contains (λ z. top.high < z.low) back s (All-contains (λ z. All (λ s. z.high < s.low) back) front top
+        apart top_is) s_is in
     let bound = greatest_bound (λ z. z.high) front r r_is in
     let low : low_key p.operation.call < c = omega (arith, p.low, p.in_order) in
     let high : c ≤ high_key q.operation.call = omega (arith, q.high, q.in_order) in (

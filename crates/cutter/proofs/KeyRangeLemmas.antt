@@ -7,7 +7,8 @@ use Rattle.std.proofs.lemmas.Bool.{ne_eqb, eqb-false}
 use Rattle.std.proofs.lemmas.List.{map-append}
 use Rattle.std.proofs.lemmas.List.Elements.{All-push}
 use Rattle.std.proofs.lemmas.List.Sorted.{All-permutation, Contains-permutation, IsPermutation-map}
-use Rattle.std.proofs.lemmas.Map.Keys.{IsDistinct-from_apart, apart_from_distinct, IsDistinct-IsPermutation, IsStrictlyIncreasing-from_distinct}
+use Rattle.std.proofs.lemmas.Map.Keys.{IsDistinct-from_apart, apart_from_distinct, IsDistinct-IsPermutation}
+use Rattle.std.proofs.lemmas.Map.Keys.{IsStrictlyIncreasing-from_distinct}
 use Rattle.events.specs.declared.operation.Operation.{Operation}
 use Rattle.events.specs.Keys.{low_key, high_key}
 use Rattle.events.specs.Precedence.{belongs}
@@ -35,7 +36,8 @@ AreRangesBelow-take calls place ranges a h here belonging in_order =
     record {
       each = All-push (IsRangeOf calls) ranges range h.each
           (record { operation = a; here = here; belonging = belonging; low = refl; high = refl; in_order = in_order });
-      numbers = rw (map-append (λ (r : KeyRange). r.number) ranges (range ∷ [])) (BelongBelow-take calls place (numbers_of ranges) a h.numbers here belonging);
+      numbers = rw (map-append (λ (r : KeyRange). r.number) ranges (range ∷ []))
+          (BelongBelow-take calls place (numbers_of ranges) a h.numbers here belonging);
     }
 
 -- no more, where it does not
@@ -45,11 +47,13 @@ AreRangesBelow-skip calls place ranges a h here apart =
     record { each = h.each; numbers = BelongBelow-skip calls place (numbers_of ranges) a h.numbers here apart }
 
 -- after the last call these are the ranges of all that belong
-pub AreRanges-from_below : (calls : List Operation) (ranges : List KeyRange) → AreRangesBelow calls (length calls) ranges → AreRanges calls ranges
+pub AreRanges-from_below : (calls : List Operation) (ranges : List KeyRange) → AreRangesBelow calls (length calls) ranges
+    → AreRanges calls ranges
 AreRanges-from_below calls ranges h = record {
   each = h.each;
   all = λ n belonging. (BelongBelow-all calls (numbers_of ranges) h.numbers n).1 belonging;
-  distinct = AllPairs-weaker (λ r s. r.number < s.number) (λ r s. r.number ≢ s.number) ranges (λ r s r_is s_is less same. absurd (omega arith))
+  distinct = AllPairs-weaker (λ r s. r.number < s.number) (λ r s. r.number ≢ s.number) ranges
+      (λ r s r_is s_is less same. absurd (omega arith))
       (AllPairs-from_map (λ m n. m < n) (λ (r : KeyRange). r.number) ranges h.numbers.rising);
 }
 
@@ -64,7 +68,8 @@ IsDistinct-from_pairs number xs h =
 pairs_from_IsDistinct : {X : Type 0} (number : X → ℕ) (xs : List X) → IsDistinct (λ x y. eqb (number x) (number y)) xs
     → AllPairs (λ x y. number x ≢ number y) xs
 pairs_from_IsDistinct number xs h i j d before within =
-    eqb-false (number (get_or xs i d)) (number (get_or xs j d)) (apart_from_distinct (λ x y. eqb (number x) (number y)) xs i j d h before within)
+    eqb-false (number (get_or xs i d)) (number (get_or xs j d))
+        (apart_from_distinct (λ x y. eqb (number x) (number y)) xs i j d h before within)
 
 -- the test of two numbers answers alike in either order
 eqb_comm : (m n : ℕ) → eqb m n ≡ eqb n m
@@ -74,13 +79,16 @@ eqb_comm m n = grind arith
 pub distinct-IsPermutation : {X : Type 0} (number : X → ℕ) (xs ys : List X) → IsPermutation xs ys → AllPairs (λ x y. number x ≢ number y) xs
     → AllPairs (λ x y. number x ≢ number y) ys
 distinct-IsPermutation number xs ys moved h = pairs_from_IsDistinct number ys
-    (IsDistinct-IsPermutation (λ x y. eqb (number x) (number y)) (λ x y. eqb_comm (number x) (number y)) xs ys moved (IsDistinct-from_pairs number xs h))
+    (IsDistinct-IsPermutation (λ x y. eqb (number x) (number y)) (λ x y. eqb_comm (number x) (number y)) xs ys moved
+        (IsDistinct-from_pairs number xs h))
 
 -- the ranges may change places
-pub AreRanges-IsPermutation : (calls : List Operation) (xs ys : List KeyRange) → IsPermutation xs ys → AreRanges calls xs → AreRanges calls ys
+pub AreRanges-IsPermutation : (calls : List Operation) (xs ys : List KeyRange) → IsPermutation xs ys → AreRanges calls xs
+    → AreRanges calls ys
 AreRanges-IsPermutation calls xs ys moved h = record {
   each = All-permutation (IsRangeOf calls) xs ys moved h.each;
-  all = λ n belonging. Contains-permutation (numbers_of xs) (numbers_of ys) n (IsPermutation-map (λ (r : KeyRange). r.number) xs ys moved) (h.all n belonging);
+  all = λ n belonging. Contains-permutation (numbers_of xs) (numbers_of ys) n (IsPermutation-map (λ (r : KeyRange). r.number) xs ys moved)
+      (h.all n belonging);
   distinct = distinct-IsPermutation (λ (r : KeyRange). r.number) xs ys moved h.distinct;
 }
 
@@ -89,7 +97,9 @@ pub RiseByLow-from_sort : (ranges : List KeyRange) → IsNonDecreasingBy (λ r. 
 RiseByLow-from_sort ranges h i j d before within = h i j d (omega arith) within
 
 -- distinct numbers, sorted, rise
-pub IsStrictlyIncreasing-from_sort : (numbers sorted : List ℕ) → AllPairs (λ m n. m ≢ n) numbers → IsPermutation numbers sorted → IsNonDecreasing sorted
+pub IsStrictlyIncreasing-from_sort : (numbers sorted : List ℕ) → AllPairs (λ m n. m ≢ n) numbers → IsPermutation numbers sorted
+    → IsNonDecreasing sorted
     → IsStrictlyIncreasing sorted
 IsStrictlyIncreasing-from_sort numbers sorted distinct moved up =
-    IsStrictlyIncreasing-from_distinct sorted up (IsDistinct-IsPermutation eqb eqb_comm numbers sorted moved (IsDistinct-from_pairs (λ n. n) numbers distinct))
+    IsStrictlyIncreasing-from_distinct sorted up
+        (IsDistinct-IsPermutation eqb eqb_comm numbers sorted moved (IsDistinct-from_pairs (λ n. n) numbers distinct))

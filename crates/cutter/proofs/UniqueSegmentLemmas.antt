@@ -26,11 +26,13 @@ some_number [] h = absurd (h refl)
 some_number (n ∷ numbers) h = (n, Contains-first n numbers)
 
 -- a segment has a call, so its least key is not above its greatest
-keys_in_order-segment : (start : Contents) (calls : List Operation) (segment : SegmentView) → KeysInOrder calls → IsSegment start calls segment
+keys_in_order-segment : (start : Contents) (calls : List Operation) (segment : SegmentView) → KeysInOrder calls
+    → IsSegment start calls segment
     → segment.lo ≤ segment.hi
 keys_in_order-segment start calls segment in_order h =
     let (n, is) = some_number segment.numbers h.not_empty in
-    let (a, here) = slice_get-below calls n (All-contains (λ n. n < length calls) segment.numbers n (known-IsSegment start calls segment h) is) in
+    let (a, here) = slice_get-below calls n (All-contains (λ n. n < length calls) segment.numbers n
+        (known-IsSegment start calls segment h) is) in
     let inside = IsInside-segment start calls segment n a h is here in
     let low = inside.low_inside in
     let high = inside.high_inside in
@@ -43,11 +45,13 @@ same_segment : (start : Contents) (calls : List Operation) (s t : SegmentView) (
     → s ≡ t
 same_segment start calls s t n s_is t_is in_s in_t =
     let numbers = rising_unique s.numbers t.numbers s_is.rising t_is.rising
-    (λ k. (λ is. (t_is.members n k in_t).1 ((s_is.members n k in_s).0 is), λ is. (s_is.members n k in_s).1 ((t_is.members n k in_t).0 is))) in
+    (λ k. (λ is. (t_is.members n k in_t).1 ((s_is.members n k in_s).0 is), λ is. (s_is.members n k in_s).1
+        ((t_is.members n k in_t).0 is))) in
     s_is.view ∙ (ap (segment_of start calls) numbers ∙ sym t_is.view)
 
 -- each segment of one list is in the other
-in_other : (start : Contents) (calls : List Operation) (a b : List SegmentView) (s : SegmentView) → AreSegments start calls a → AreSegments start calls b
+in_other : (start : Contents) (calls : List Operation) (a b : List SegmentView) (s : SegmentView) → AreSegments start calls a
+    → AreSegments start calls b
     → Contains a s → Contains b s
 in_other start calls a b s a_are b_are is =
     let s_is = All-contains (IsSegment start calls) a s a_are.each is in
@@ -61,13 +65,15 @@ later : (s : SegmentView) (b : List SegmentView) (u : SegmentView) → s.lo ≤ 
 later s b u keys beyond is = ⊎_elim (λ same. let low = ap (λ v. v.lo) same in absurd (omega arith)) (λ rest. rest) (Contains-cases s b u is)
 
 -- lists with the same elements, each of which ends below the later ones, are one
-same_ranges : (a b : List SegmentView) → All (λ s. s.lo ≤ s.hi) a → All (λ s. s.lo ≤ s.hi) b → AllPairs (λ s t. s.hi < t.lo) a → AllPairs (λ s t. s.hi < t.lo) b
+same_ranges : (a b : List SegmentView) → All (λ s. s.lo ≤ s.hi) a → All (λ s. s.lo ≤ s.hi) b → AllPairs (λ s t. s.hi < t.lo) a
+    → AllPairs (λ s t. s.hi < t.lo) b
     → ((s : SegmentView) → Contains a s → Contains b s) → ((s : SegmentView) → Contains b s → Contains a s) → a ≡ b
 same_ranges [] [] keys_a keys_b up_a up_b to from = refl
 same_ranges [] (t ∷ b) keys_a keys_b up_a up_b to from = absurd (Contains-nil t (from t (Contains-first t b)))
 same_ranges (s ∷ a) [] keys_a keys_b up_a up_b to from = absurd (Contains-nil s (to s (Contains-first s a)))
 same_ranges (s ∷ a) (t ∷ b) keys_a keys_b up_a up_b to from =
-    ap (λ u. u ∷ a) one ∙ ap (λ us. t ∷ us) (same_ranges a b (All-tail (λ s. s.lo ≤ s.hi) s a keys_a) (All-tail (λ s. s.lo ≤ s.hi) t b keys_b)
+    ap (λ u. u ∷ a) one ∙ ap (λ us. t ∷ us) (same_ranges a b (All-tail (λ s. s.lo ≤ s.hi) s a keys_a)
+        (All-tail (λ s. s.lo ≤ s.hi) t b keys_b)
     (AllPairs-tail (λ s t. s.hi < t.lo) s a up_a) (AllPairs-tail (λ s t. s.hi < t.lo) t b up_b)
     (λ u is. later s b u keys_s (beyond_s u is) (subst (λ first. Contains (first ∷ b) u) (sym one) (to u (Contains-later s a u is))))
     (λ u is. later t a u keys_t (beyond_t u is) (subst (λ first. Contains (first ∷ a) u) one (from u (Contains-later t b u is)))))
@@ -90,14 +96,16 @@ same_ranges (s ∷ a) (t ∷ b) keys_a keys_b up_a up_b to from =
         (Contains-cases s a t (from t (Contains-first t b)))) (Contains-cases t b s (to s (Contains-first s a)))
 
 -- there is one list of segments, where no scan has its ends the wrong way round
-pub AreSegments-unique : (start : Contents) (calls : List Operation) (a b : List SegmentView) → KeysInOrder calls → AreSegments start calls a
+pub AreSegments-unique : (start : Contents) (calls : List Operation) (a b : List SegmentView) → KeysInOrder calls
+    → AreSegments start calls a
     → AreSegments start calls b → a ≡ b
 AreSegments-unique start calls a b in_order a_are b_are =
     same_ranges a b (keys a a_are) (keys b b_are) a_are.by_key b_are.by_key (λ s is. in_other start calls a b s a_are b_are is)
     (λ s is. in_other start calls b a s b_are a_are is)
   where
     keys : (segments : List SegmentView) → AreSegments start calls segments → All (λ s. s.lo ≤ s.hi) segments
-    keys segments are = All-weaker (IsSegment start calls) (λ s. s.lo ≤ s.hi) (λ s is. keys_in_order-segment start calls s in_order is) segments are.each
+    keys segments are = All-weaker (IsSegment start calls) (λ s. s.lo ≤ s.hi) (λ s is. keys_in_order-segment start calls s in_order
+        is) segments are.each
 
 -- a history has one list of segments
 pub AreSegments-unique_of_history : (history : HistoryView) (a b : List SegmentView) → IsHistory history

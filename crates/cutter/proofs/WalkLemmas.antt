@@ -1,10 +1,12 @@
 -- The walk over the ranges of a history's calls: each chain of ranges is the next segment.
-use Rattle.std.proofs.Common.{◌≡◌, ℕ, ◌<◌, ◌≤◌, List, [], ◌∷◌, ◌++◌, length, get_or, map, take, drop, refl, sym, ap, ◌∙◌, subst, inl, inr, ⊎_elim, append_assoc}
+use Rattle.std.proofs.Common.{◌≡◌, ℕ, ◌<◌, ◌≤◌, List, [], ◌∷◌, ◌++◌, length, get_or, map, take, drop, refl, sym, ap, ◌∙◌, subst, inl, inr}
+use Rattle.std.proofs.Common.{⊎_elim, append_assoc}
 use Rattle.std.proofs.Common.{arith}
 use Rattle.std.specs.Prelude.{◌≢◌, ◌⊎◌, slice_get, All, Any, AllPairs, Contains, IsPermutation}
 use Rattle.std.specs.List.Sorted.{IsStrictlyIncreasing}
 use Rattle.std.proofs.lemmas.List.{take-append-drop, length-take-le, length-map}
-use Rattle.std.proofs.lemmas.List.Elements.{All-head, All-tail, All-append, All-push, All-map, All-take, All-weaker, All-contains, Contains-get_or}
+use Rattle.std.proofs.lemmas.List.Elements.{All-head, All-tail, All-append, All-push, All-map, All-take, All-weaker, All-contains}
+use Rattle.std.proofs.lemmas.List.Elements.{Contains-get_or}
 use Rattle.std.proofs.lemmas.List.Elements.{Contains-append_left, Contains-append_right, Contains-append_cases}
 use Rattle.std.proofs.lemmas.List.Quantifiers.{Any-push, all_pairs_push}
 use Rattle.std.proofs.lemmas.List.Sorted.{IsPermutation-sym, All-permutation, Contains-permutation, length_permutation}
@@ -42,7 +44,8 @@ AreApart-append xs ys zs first second = All-append (λ r. All (λ s. r.high < s.
 -- ranges that end below some end below the last of these
 AreApart-back : (xs ys zs : List KeyRange) → AreApart xs (ys ++ zs) → AreApart xs zs
 AreApart-back xs ys zs h =
-    All-weaker (λ r. All (λ s. r.high < s.low) (ys ++ zs)) (λ r. All (λ s. r.high < s.low) zs) (λ r below. All-back (λ s. r.high < s.low) ys zs below) xs h
+    All-weaker (λ r. All (λ s. r.high < s.low) (ys ++ zs)) (λ r. All (λ s. r.high < s.low) zs)
+        (λ r below. All-back (λ s. r.high < s.low) ys zs below) xs h
 
 -- the call of a range belongs
 BelongsAt-range : (calls : List Operation) (r : KeyRange) → IsRangeOf calls r → BelongsAt calls r.number
@@ -54,15 +57,18 @@ record AreNumbersOf (ranges : List KeyRange) (numbers : List ℕ) : Type 0 where
   same : IsPermutation (numbers_of ranges) numbers
 
 -- each of the numbers is that of a range
-range_numbered : (ranges : List KeyRange) (numbers : List ℕ) (n : ℕ) → AreNumbersOf ranges numbers → Contains numbers n → (r : KeyRange) × Contains ranges r
+range_numbered : (ranges : List KeyRange) (numbers : List ℕ) (n : ℕ) → AreNumbersOf ranges numbers → Contains numbers n → (r : KeyRange)
+    × Contains ranges r
     × (r.number ≡ n)
 range_numbered ranges numbers n h is =
     Contains-from_map (λ (r : KeyRange). r.number) ranges n
     (Contains-permutation numbers (numbers_of ranges) n (IsPermutation-sym (numbers_of ranges) numbers h.same) is)
 
 -- the number of each range is among them
-number_in : (ranges : List KeyRange) (numbers : List ℕ) (r : KeyRange) → AreNumbersOf ranges numbers → Contains ranges r → Contains numbers r.number
-number_in ranges numbers r h is = Contains-permutation (numbers_of ranges) numbers r.number h.same (Contains-map (λ (r : KeyRange). r.number) ranges r is)
+number_in : (ranges : List KeyRange) (numbers : List ℕ) (r : KeyRange) → AreNumbersOf ranges numbers → Contains ranges r
+    → Contains numbers r.number
+number_in ranges numbers r h is = Contains-permutation (numbers_of ranges) numbers r.number h.same
+    (Contains-map (λ (r : KeyRange). r.number) ranges r is)
 
 -- ranges that hang together, apart from those before them and those after them, are the ranges of a segment
 IsSegment-chained : (start : Contents) (calls : List Operation) (before chained after : List KeyRange) (numbers : List ℕ) (first : KeyRange)
@@ -88,12 +94,14 @@ IsSegment-chained start calls before chained after numbers first h apart_before 
         let (r, r_is, m_is) = range_numbered chained numbers m its m_in in
         let (s, s_is, n_is) = range_numbered chained numbers n its n_in in (
           subst (BelongsAt calls) n_is (BelongsAt-range calls s (All-contains (IsRangeOf calls) chained s each s_is)),
-          subst (AreTogether calls m) n_is (subst (λ k. AreTogether calls k s.number) m_is (AreTogether-chained calls chained r s each hang r_is s_is)),
+          subst (AreTogether calls m) n_is (subst (λ k. AreTogether calls k s.number) m_is (AreTogether-chained calls chained r s
+              each hang r_is s_is)),
         )
 
     elsewhere : (r s : KeyRange) → Contains chained r → AreTogether calls r.number s.number → Contains before s ⊎ Contains after s → ⊥
     elsewhere r s r_is together s_is = ⊎_elim
-        (λ s_before. (not_together-apart calls before (chained ++ after) s r h apart_before s_before (Contains-append_left chained after r r_is)).1 together)
+        (λ s_before. (not_together-apart calls before (chained ++ after) s r h apart_before s_before (Contains-append_left chained after r
+            r_is)).1 together)
         (λ s_after. (not_together-apart calls (before ++ chained) after r s (subst (AreRanges calls) (sym in_order) h)
         (AreApart-append before chained after (AreApart-back before chained after apart_before) apart_after)
         (Contains-append_right before chained r r_is) s_after).0 together) s_is
@@ -106,7 +114,8 @@ IsSegment-chained start calls before chained after numbers first h apart_before 
         subst (AreTogether calls r.number) (sym n_is) (subst (λ k. AreTogether calls k n) (sym m_is) together) in
         subst (Contains numbers) n_is (⊎_elim
         (λ s_before. absurd (elsewhere r s r_is meet (inl s_before)))
-        (λ s_later. ⊎_elim (λ s_chained. number_in chained numbers s its s_chained) (λ s_after. absurd (elsewhere r s r_is meet (inr s_after)))
+        (λ s_later. ⊎_elim (λ s_chained. number_in chained numbers s its s_chained)
+            (λ s_after. absurd (elsewhere r s r_is meet (inr s_after)))
         (Contains-append_cases chained after s s_later))
         (Contains-append_cases before (chained ++ after) s s_is))
 
@@ -122,10 +131,12 @@ pub record AreSegmentsBefore (start : Contents) (calls : List Operation) (rest :
   pub below : All (λ s. All (λ r. s.hi < r.low) rest) segments
 
 -- the keys of a segment are those of its ranges
-module _ (start : Contents) (calls : List Operation) (ranges : List KeyRange) (numbers : List ℕ) (first : KeyRange) (each : All (IsRangeOf calls) ranges)
+module _ (start : Contents) (calls : List Operation) (ranges : List KeyRange) (numbers : List ℕ) (first : KeyRange)
+    (each : All (IsRangeOf calls) ranges)
     (its : AreNumbersOf ranges numbers) (first_is : Contains ranges first) where
   -- the range of a call that has one of the numbers
-  range_at : (a : Operation) → Contains (calls_at calls numbers) a → (r : KeyRange) × Contains ranges r × (r.low ≡ low_key a.call) × (r.high ≡ high_key a.call)
+  range_at : (a : Operation) → Contains (calls_at calls numbers) a → (r : KeyRange) × Contains ranges r × (r.low ≡ low_key a.call)
+      × (r.high ≡ high_key a.call)
   range_at a is =
       let (n, n_in, here) = Contains-from_filter_map (slice_get calls) numbers a is in
       let (r, r_is, n_is) = range_numbered ranges numbers n its n_in in
@@ -137,7 +148,8 @@ module _ (start : Contents) (calls : List Operation) (ranges : List KeyRange) (n
   first_call : (a : Operation) × Contains (calls_at calls numbers) a
   first_call =
       let range = All-contains (IsRangeOf calls) ranges first each first_is in
-      (range.operation, Contains-filter_map (slice_get calls) numbers first.number range.operation (number_in ranges numbers first its first_is) range.here)
+      (range.operation, Contains-filter_map (slice_get calls) numbers first.number range.operation
+          (number_in ranges numbers first its first_is) range.here)
 
   -- what ends below all the ranges ends below the segment
   below_segment : (b : ℕ) → All (λ r. b < r.low) ranges → b < (segment_of start calls numbers).lo
@@ -153,7 +165,8 @@ module _ (start : Contents) (calls : List Operation) (ranges : List KeyRange) (n
       omega (arith, hi_is, high, All-contains (λ r. r.high < c) ranges r h r_is)
 
 -- a chain of ranges is the next segment
-AreSegmentsBefore-chained : (start : Contents) (calls : List Operation) (chained after : List KeyRange) (segments : List SegmentView) (numbers : List ℕ)
+AreSegmentsBefore-chained : (start : Contents) (calls : List Operation) (chained after : List KeyRange) (segments : List SegmentView)
+    (numbers : List ℕ)
     (first : KeyRange)
     → AreSegmentsBefore start calls (chained ++ after) segments
     → AreChained chained → AreApart chained after → Contains chained first → AreNumbersOf chained numbers
@@ -166,7 +179,8 @@ AreSegmentsBefore-chained start calls chained after segments numbers first h han
   each = All-push (IsSegment start calls) segments segment h.each
       (IsSegment-chained start calls h.before chained after numbers first h.ranges h.apart hang apart first_is its);
   all = All-append (λ r. Any (λ s. Contains s.numbers r.number) (segments ++ segment ∷ [])) h.before chained
-      (All-weaker (λ r. Any (λ s. Contains s.numbers r.number) segments) (λ r. Any (λ s. Contains s.numbers r.number) (segments ++ segment ∷ []))
+      (All-weaker (λ r. Any (λ s. Contains s.numbers r.number) segments)
+          (λ r. Any (λ s. Contains s.numbers r.number) (segments ++ segment ∷ []))
       (λ r found. Any-from_contains (λ s. Contains s.numbers r.number) (segments ++ segment ∷ []) found.1
       (Contains-append_left segments (segment ∷ []) found.1 (found.0, found.2, found.3)) found.4) h.before h.all)
       (All-from_contains (λ r. Any (λ s. Contains s.numbers r.number) (segments ++ segment ∷ [])) chained
@@ -189,15 +203,18 @@ AreSegmentsBefore-chained start calls chained after segments numbers first h han
     each = All-front (IsRangeOf calls) chained after (All-back (IsRangeOf calls) h.before (chained ++ after) h.ranges.each)
 
 -- the first of the rest that hang together are the next segment
-pub AreSegmentsBefore-more : (start : Contents) (calls : List Operation) (rest : List KeyRange) (len : ℕ) (segments : List SegmentView) (numbers : List ℕ)
+pub AreSegmentsBefore-more : (start : Contents) (calls : List Operation) (rest : List KeyRange) (len : ℕ) (segments : List SegmentView)
+    (numbers : List ℕ)
     → AreSegmentsBefore start calls rest segments → 0 < len → len ≤ length rest
-    → AreChained (take len rest) → AreApart (take len rest) (drop len rest) → IsStrictlyIncreasing numbers → IsPermutation (numbers_of (take len rest)) numbers
+    → AreChained (take len rest) → AreApart (take len rest) (drop len rest) → IsStrictlyIncreasing numbers
+    → IsPermutation (numbers_of (take len rest)) numbers
     → AreSegmentsBefore start calls (drop len rest) (segments ++ segment_of start calls numbers ∷ [])
 AreSegmentsBefore-more start calls [] len segments numbers h some within hang apart rising same = absurd (omega arith)
 AreSegmentsBefore-more start calls (r ∷ rest) len segments numbers h some within hang apart rising same =
     AreSegmentsBefore-chained start calls (take len (r ∷ rest)) (drop len (r ∷ rest)) segments numbers (get_or (take len (r ∷ rest)) 0 r)
     (subst (λ ranges. AreSegmentsBefore start calls ranges segments) (sym (take-append-drop len (r ∷ rest))) h) hang apart
-    (Contains-get_or (take len (r ∷ rest)) 0 r (omega (arith, length-take-le len (r ∷ rest) within))) (record { rising = rising; same = same })
+    (Contains-get_or (take len (r ∷ rest)) 0 r (omega (arith, length-take-le len (r ∷ rest) within)))
+        (record { rising = rising; same = same })
 
 -- the first of the rest have different numbers
 pub distinct_first : (start : Contents) (calls : List Operation) (rest : List KeyRange) (len : ℕ) (segments : List SegmentView)
@@ -205,19 +222,23 @@ pub distinct_first : (start : Contents) (calls : List Operation) (rest : List Ke
     → AllPairs (λ r s. r.number ≢ s.number) (take len rest)
 distinct_first start calls rest len segments h =
     let R = λ (r s : KeyRange). r.number ≢ s.number in
-    AllPairs-front R (take len rest) (drop len rest) (subst (AllPairs R) (sym (take-append-drop len rest)) (AllPairs-back R h.before rest h.ranges.distinct))
+    AllPairs-front R (take len rest) (drop len rest)
+        (subst (AllPairs R) (sym (take-append-drop len rest)) (AllPairs-back R h.before rest h.ranges.distinct))
 
 -- their numbers are those of calls
-pub known_first : (start : Contents) (calls : List Operation) (rest : List KeyRange) (len : ℕ) (segments : List SegmentView) (numbers : List ℕ)
+pub known_first : (start : Contents) (calls : List Operation) (rest : List KeyRange) (len : ℕ) (segments : List SegmentView)
+    (numbers : List ℕ)
     → AreSegmentsBefore start calls rest segments → IsPermutation (numbers_of (take len rest)) numbers
     → All (λ n. n < length calls) numbers
 known_first start calls rest len segments numbers h same = All-permutation (λ n. n < length calls) (numbers_of (take len rest)) numbers same
     (All-map (λ n. n < length calls) (λ (r : KeyRange). r.number) (take len rest) (All-take (λ r. r.number < length calls) len rest
-    (All-weaker (IsRangeOf calls) (λ r. r.number < length calls) (λ r range. slice_get_within calls r.number range.operation range.here) rest
+    (All-weaker (IsRangeOf calls) (λ r. r.number < length calls)
+        (λ r range. slice_get_within calls r.number range.operation range.here) rest
     (All-back (IsRangeOf calls) h.before rest h.ranges.each))))
 
 -- and there are some
-pub some_first : (rest : List KeyRange) (len : ℕ) (numbers : List ℕ) → 0 < len → len ≤ length rest → IsPermutation (numbers_of (take len rest)) numbers
+pub some_first : (rest : List KeyRange) (len : ℕ) (numbers : List ℕ) → 0 < len → len ≤ length rest
+    → IsPermutation (numbers_of (take len rest)) numbers
     → numbers ≢ []
 some_first rest len numbers some within same none = omega (
   arith,
@@ -228,7 +249,8 @@ some_first rest len numbers some within same none = omega (
 )
 
 -- with nothing left these are the segments
-pub AreSegments-from_before : (start : Contents) (calls : List Operation) (segments : List SegmentView) → AreSegmentsBefore start calls [] segments
+pub AreSegments-from_before : (start : Contents) (calls : List Operation) (segments : List SegmentView)
+    → AreSegmentsBefore start calls [] segments
     → AreSegments start calls segments
 AreSegments-from_before start calls segments h = record {
   each = h.each;

@@ -1,5 +1,6 @@
 -- From the answers of each process to those of all calls.
-use Rattle.std.proofs.Common.{◌≡◌, ℕ, suc, ◌<◌, ◌≤◌, Bool, true, false, cond, ◌==◌, List, [], ◌∷◌, ◌++◌, append_assoc, Some, refl, ap, ◌∙◌, arith, subst, eq-eqb}
+use Rattle.std.proofs.Common.{◌≡◌, ℕ, suc, ◌<◌, ◌≤◌, Bool, true, false, cond, ◌==◌, List, [], ◌∷◌, ◌++◌, append_assoc, Some, refl, ap, ◌∙◌}
+use Rattle.std.proofs.Common.{arith, subst, eq-eqb}
 use Rattle.std.proofs.lemmas.Bool.{ne_eqb}
 use Rattle.std.specs.Prelude.{IfSome, All}
 use Rattle.std.proofs.lemmas.List.Elements.{All-nil, All-cons, All-weaker}
@@ -27,20 +28,24 @@ first_reply-append (Answer p reply ∷ es) fs idle = refl
 pub events_of-none : (n p : ℕ) (es : List Event) → All (λ e. process_of e < n) es → n ≤ p → events_of p es ≡ []
 events_of-none n p es known above =
     filter_none (λ e. process_of e == p) es
-    (All-weaker (λ e. process_of e < n) (λ e. (process_of e == p) ≡ false) (λ e below. ne_eqb (process_of e) p (λ same. omega arith)) es known)
+    (All-weaker (λ e. process_of e < n) (λ e. (process_of e == p) ≡ false)
+        (λ e below. ne_eqb (process_of e) p (λ same. omega arith)) es known)
 
 -- the reply of the response that is looked for is the first one among the process's events
-response-reply : (P : Reply → Type 0) (p i : ℕ) (es : List Event) → IfSome (first_reply (events_of p es)) P → IfSome (response_from p i es) (λ r. P r.reply)
+response-reply : (P : Reply → Type 0) (p i : ℕ) (es : List Event) → IfSome (first_reply (events_of p es)) P
+    → IfSome (response_from p i es) (λ r. P r.reply)
 response-reply P p i [] h = tt
 response-reply P p i (Invoke q call ∷ es) h = response-reply P p (suc i) es (later (q == p) h)
   where
-    later : (b : Bool) → IfSome (first_reply (cond b (Invoke q call ∷ events_of p es) (events_of p es))) P → IfSome (first_reply (events_of p es)) P
+    later : (b : Bool) → IfSome (first_reply (cond b (Invoke q call ∷ events_of p es) (events_of p es))) P
+        → IfSome (first_reply (events_of p es)) P
     later true k = k
     later false k = k
 response-reply P p i (Answer q reply ∷ es) h = here (q == p) (response-reply P p (suc i) es) h
   where
     here : (b : Bool) → (IfSome (first_reply (events_of p es)) P → IfSome (response_from p (suc i) es) (λ r. P r.reply))
-        → IfSome (first_reply (cond b (Answer q reply ∷ events_of p es) (events_of p es))) P → IfSome (cond b (Some (record { res = i; reply = reply })) (response_from p (suc i) es)) (λ r. P r.reply)
+        → IfSome (first_reply (cond b (Answer q reply ∷ events_of p es) (events_of p es))) P
+        → IfSome (cond b (Some (record { res = i; reply = reply })) (response_from p (suc i) es)) (λ r. P r.reply)
     here true rest k = k
     here false rest k = rest k
 
@@ -53,11 +58,14 @@ module _ (may_answer : Call → Reply → Type 0) where
   AnswersFit-append w (Answer p reply ∷ es) fs idle h k = AnswersFit-append false es fs idle h k
 
   -- a call and its answer are recorded
-  pub AnswersFit-more : {old mid new : Pass} {call : Call} {p q : ℕ} {reply : Reply} → HasRecorded old (Invoke p call) mid → HasRecorded mid (Answer q reply) new
-      → AreOwn old → is_waiting old ≡ false → AnswersFit may_answer (events_by old) → may_answer call reply → AnswersFit may_answer (events_by new)
+  pub AnswersFit-more : {old mid new : Pass} {call : Call} {p q : ℕ} {reply : Reply} → HasRecorded old (Invoke p call) mid
+      → HasRecorded mid (Answer q reply) new
+      → AreOwn old → is_waiting old ≡ false → AnswersFit may_answer (events_by old) → may_answer call reply
+      → AnswersFit may_answer (events_by new)
   AnswersFit-more {old} {mid} {new} {call} {p} {q} {reply} begun ended own idle fit may =
       let more : events_by new ≡ events_by old ++ Invoke p call ∷ Answer q reply ∷ [] =
-      one-more ended ∙ (ap (λ l. l ++ Answer q reply ∷ []) (one-more begun) ∙ append_assoc (events_by old) (Invoke p call ∷ []) (Answer q reply ∷ [])) in
+      one-more ended ∙ (ap (λ l. l ++ Answer q reply ∷ []) (one-more begun) ∙ append_assoc (events_by old) (Invoke p call ∷ [])
+          (Answer q reply ∷ [])) in
       let still : ends_waiting false (events_by old) ≡ false = subst (λ es. ends_waiting false es ≡ false) (own-events old own) idle in
       rw more (AnswersFit-append false (events_by old) (Invoke p call ∷ Answer q reply ∷ []) still fit (may, tt))
 

@@ -1,5 +1,6 @@
 -- The passes of all processes after their scripts, and the history that they make.
-use Rattle.std.proofs.Common.{◌≡◌, ℕ, ◌<◌, Bool, true, false, ◌&&◌, nat_lt, List, [], ◌∷◌, length, map, Some, Ok, Err, inl, inr, refl, sym, ap, ◌∙◌, arith, subst}
+use Rattle.std.proofs.Common.{◌≡◌, ℕ, ◌<◌, Bool, true, false, ◌&&◌, nat_lt, List, [], ◌∷◌, length, map, Some, Ok, Err, inl, inr, refl, sym}
+use Rattle.std.proofs.Common.{ap, ◌∙◌, arith, subst}
 use Rattle.std.specs.Prelude.{All, Contains, Result, IfOk, flat_map, slice_get, slice_index_or}
 use Rattle.std.specs.List.{list_all, range_with_len}
 use Rattle.std.proofs.lemmas.Bool.{lt-ltb, ltb-true, cases_lt}
@@ -35,13 +36,15 @@ both-of (Ok a) P Q S h p q = h a p q
 both-of (Err e) P Q S h p q = tt
 
 -- a function of the item at a place
-pub at-mapped : {X Y : Type 0} (f : X → Y) (xs : List X) (i : ℕ) (x : X) → i < length xs → x ≡ slice_index_or xs i x → slice_get (map f xs) i ≡ Some (f x)
+pub at-mapped : {X Y : Type 0} (f : X → Y) (xs : List X) (i : ℕ) (x : X) → i < length xs → x ≡ slice_index_or xs i x
+    → slice_get (map f xs) i ≡ Some (f x)
 at-mapped f xs i x within is =
     let inside : i < length (map f xs) = omega (arith, within, length-map xs f) in
     slice_get-get_or (map f xs) i (f x) inside ∙ ap Some (get_or-map f xs i x (f x) within ∙ ap f (sym is))
 
 -- the number of the process of the pass at a place
-pub process-at : (passes : List Pass) (n i : ℕ) (x : Pass) → map process_number passes ≡ range_with_len 0 n → i < length passes → x ≡ slice_index_or passes i x
+pub process-at : (passes : List Pass) (n i : ℕ) (x : Pass) → map process_number passes ≡ range_with_len 0 n → i < length passes
+    → x ≡ slice_index_or passes i x
     → process_number x ≡ i
 process-at passes n i x numbers within is =
     let many : length passes ≡ n = omega (arith, ap length numbers, length-map passes process_number, length-range_with_len 0 n) in
@@ -51,8 +54,10 @@ process-at passes n i x numbers within is =
     omega (arith, ap process_number is, here, same, there)
 
 -- a process did its own of the scripts
-pub after-script : (may_answer : Call → Reply → Type 0) (r : Recorder) (scripts : List (List Call)) (script : List Call) (n : ℕ) (done : Result Pass Memory)
-    → slice_get scripts n ≡ Some script → IfOk done (IsPassOf r) → IfOk done (λ p. process_number p ≡ n) → IfOk done (HasRecordedScript may_answer script)
+pub after-script : (may_answer : Call → Reply → Type 0) (r : Recorder) (scripts : List (List Call)) (script : List Call) (n : ℕ)
+    (done : Result Pass Memory)
+    → slice_get scripts n ≡ Some script → IfOk done (IsPassOf r) → IfOk done (λ p. process_number p ≡ n)
+    → IfOk done (HasRecordedScript may_answer script)
     → IfOk done (IsPassAfter may_answer r scripts n)
 after-script may_answer r scripts script n (Ok p) at own process recorded = record {
   own = own;
@@ -64,11 +69,13 @@ after-script may_answer r scripts script n (Err e) at own process recorded = tt
 abbrev Ok-pass : Pass → Result Pass Memory
 Ok-pass pass = Ok pass
 
-pub length-values : (done : List (Result Pass Memory)) (passes : List Pass) → done ≡ map (λ pass. Ok pass) passes → length done ≡ length passes
+pub length-values : (done : List (Result Pass Memory)) (passes : List Pass) → done ≡ map (λ pass. Ok pass) passes
+    → length done ≡ length passes
 length-values done passes all = ap length all ∙ length-map passes Ok-pass
 
 -- what all processes gave back, where none wanted memory
-pub each-pass : (may_answer : Call → Reply → Type 0) (r : Recorder) (scripts : List (List Call)) (done : List (Result Pass Memory)) (passes : List Pass)
+pub each-pass : (may_answer : Call → Reply → Type 0) (r : Recorder) (scripts : List (List Call)) (done : List (Result Pass Memory))
+    (passes : List Pass)
     → EachIsAfter may_answer r scripts done → done ≡ map (λ pass. Ok pass) passes
     → (process : ℕ) (d : Pass) → process < length passes → IsPassAfter may_answer r scripts process (slice_index_or passes process d)
 each-pass may_answer r scripts done passes each all process d within =
@@ -115,10 +122,12 @@ module _ (n : ℕ) where
       let here = All-head (λ p. AreOwn p × (process_number p < n)) p passes h in
       let rest = logs-known passes (All-tail (λ p. AreOwn p × (process_number p < n)) p passes h) in
       ap (list_all (λ e. is_known e.1)) (flat_map-cons (λ log. log) (log_of p) (map log_of passes))
-      ∙ (list_all-append (λ e. is_known e.1) (log_of p) (flat_map (λ log. log) (map log_of passes)) ∙ rw (log-known p here.0 here.1, rest) refl)
+      ∙ (list_all-append (λ e. is_known e.1) (log_of p) (flat_map (λ log. log) (map log_of passes))
+      ∙ rw (log-known p here.0 here.1, rest) refl)
 
   -- in the history of passes of processes below n, each event is of such a process
-  pub history-known : (passes : List Pass) → All (λ p. AreOwn p × (process_number p < n)) passes → All (λ e. process_of e < n) (history_of passes)
+  pub history-known : (passes : List Pass) → All (λ p. AreOwn p × (process_number p < n)) passes
+      → All (λ e. process_of e < n) (history_of passes)
   history-known passes h =
       let all = flat_map (λ log. log) (map log_of passes) in
       All-weaker (λ e. is_known e ≡ true) (λ e. process_of e < n) (λ e known. ltb-true (process_of e) n known) (history_of passes)
@@ -152,7 +161,8 @@ module _ (may_answer : Call → Reply → Type 0) (r : Recorder) (scripts : List
           )
 
   -- the pass of a process, with what it recorded
-  pub pass-of : (p : ℕ) (script : List Call) → slice_get scripts p ≡ Some script → (x : Pass) × Contains passes x × (process_number x ≡ p) × HasRecordedScript may_answer script x
+  pub pass-of : (p : ℕ) (script : List Call) → slice_get scripts p ≡ Some script → (x : Pass) × Contains passes x × (process_number x ≡ p)
+      × HasRecordedScript may_answer script x
   pass-of p script at =
       let below : p < length passes = omega (arith, many, slice_get_within scripts p script at) in
       let there = slice_get-below passes p below in
@@ -171,7 +181,8 @@ module _ (may_answer : Call → Reply → Type 0) (r : Recorder) (scripts : List
 
   -- so it is what is recorded of the scripts
   pub drive-of : HasOwnEvents passes → IsDriveOf may_answer scripts (with_no_start (history_of passes))
-  drive-of own = record { start = refl; processes = history-known (length scripts) passes are-known; finished = finished; answered = AreAnswered-own may_answer (history_of passes) answers }
+  drive-of own = record { start = refl; processes = history-known (length scripts) passes are-known; finished = finished; answered =
+      AreAnswered-own may_answer (history_of passes) answers }
     where
       its-events : (p : ℕ) (script : List Call) → slice_get scripts p ≡ Some script
           → (x : Pass) × (events_of p (history_of passes) ≡ events_by x) × (process_number x ≡ p) × HasRecordedScript may_answer script x
@@ -179,7 +190,8 @@ module _ (may_answer : Call → Reply → Type 0) (r : Recorder) (scripts : List
           let pass = pass-of p script at in
           let x = pass.0 in (
             x,
-            subst (λ q. events_of q (history_of passes) ≡ events_by x) pass.2 (All-contains (λ p. events_of (process_number p) (history_of passes) ≡ events_by p) passes x own pass.1),
+            subst (λ q. events_of q (history_of passes) ≡ events_by x) pass.2
+                (All-contains (λ p. events_of (process_number p) (history_of passes) ≡ events_by p) passes x own pass.1),
             pass.2,
             pass.3,
           )
@@ -189,7 +201,8 @@ module _ (may_answer : Call → Reply → Type 0) (r : Recorder) (scripts : List
           let pass = its-events p script at in
           let x = pass.0 in
           let recorded = pass.3 in
-          let kept : events_of p (events_by x) ≡ events_by x = subst (λ q. events_of q (events_by x) ≡ events_by x) pass.2 (own-events x recorded.own) in
+          let kept : events_of p (events_by x) ≡ events_by x =
+              subst (λ q. events_of q (events_by x) ≡ events_by x) pass.2 (own-events x recorded.own) in
           let same : events_of p (history_of passes) ≡ events_of p (events_by x) = pass.1 ∙ sym kept in
           let done : HasFinished (events_by x) p script = subst (λ q. HasFinished (events_by x) q script) pass.2 recorded.finished in
           record { calls = ap invoked same ∙ done.calls; completed = ap (ends_waiting false) same ∙ done.completed }

@@ -1,5 +1,6 @@
 -- What a pass shows after each call of a script.
-use Rattle.std.proofs.Common.{◌≡◌, ℕ, Bool, true, false, cond, ◌&&◌, ◌==◌, List, [], ◌∷◌, ◌++◌, length, nat_le, refl, sym, ap, ◌∙◌, arith, eq-eqb}
+use Rattle.std.proofs.Common.{◌≡◌, ℕ, Bool, true, false, cond, ◌&&◌, ◌==◌, List, [], ◌∷◌, ◌++◌, length, nat_le, refl, sym, ap, ◌∙◌, arith}
+use Rattle.std.proofs.Common.{eq-eqb}
 use Rattle.std.proofs.lemmas.List.{map-append, append-nil}
 use Rattle.std.proofs.lemmas.List.Elements.{All-push, All-weaker}
 use Rattle.list_laws.proofs.Lists.{filter_all}
@@ -55,7 +56,8 @@ module _ {old new : Pass} {e : Event} (h : HasRecorded old e new) where
 
 -- A call and its answer.
 
-pub call-more : {old mid new : Pass} {call : Call} {p q : ℕ} {reply : Reply} → HasRecorded old (Invoke p call) mid → HasRecorded mid (Answer q reply) new
+pub call-more : {old mid new : Pass} {call : Call} {p q : ℕ} {reply : Reply} → HasRecorded old (Invoke p call) mid
+    → HasRecorded mid (Answer q reply) new
     → invoked (events_by new) ≡ invoked (events_by old) ++ call ∷ []
 call-more {old} {mid} {new} {call} {p} {q} {reply} begun ended =
     ap invoked (one-more ended)

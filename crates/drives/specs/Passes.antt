@@ -1,5 +1,6 @@
 -- What a pass shows of the script of its process.
-use Rattle.std.specs.Prelude.{◌≡◌, ⊤, ℕ, ◌<◌, List, [], ◌∷◌, length, Option, Some, None, IfSome, Result, IfOk, slice_get, slice_index_or, All}
+use Rattle.std.specs.Prelude.{◌≡◌, ⊤, ℕ, ◌<◌, List, [], ◌∷◌, length, Option, Some, None, IfSome, Result, IfOk, slice_get, slice_index_or}
+use Rattle.std.specs.Prelude.{All}
 use Rattle.events.specs.declared.event.Call.{Call}
 use Rattle.events.specs.declared.event.Reply.{Reply}
 use Rattle.events.specs.declared.event.Event.{Event}
@@ -41,7 +42,8 @@ pub record IsReady (r : Recorder) (processes : ℕ) (p : Pass) : Type 0 where
   pub fresh : log_of p ≡ []
 
 -- the pass of a process, which did its own of the scripts
-pub record IsPassAfter (may_answer : Call → Reply → Type 0) (r : Recorder) (scripts : List (List Call)) (process : ℕ) (p : Pass) : Type 0 where
+pub record IsPassAfter (may_answer : Call → Reply → Type 0) (r : Recorder) (scripts : List (List Call)) (process : ℕ)
+    (p : Pass) : Type 0 where
   pub own : IsPassOf r p
   pub process_is : process_number p ≡ process
   pub recorded : (script : List Call) → slice_get scripts process ≡ Some script → HasRecordedScript may_answer script p
@@ -49,4 +51,5 @@ pub record IsPassAfter (may_answer : Call → Reply → Type 0) (r : Recorder) (
 -- what all processes gave back, by process: a pass with which each did its script, where it did not want memory
 abbrev pub EachIsAfter : (Call → Reply → Type 0) → Recorder → List (List Call) → List (Result Pass Memory) → Type 0
 EachIsAfter may_answer r scripts done =
-    (process : ℕ) (d : Result Pass Memory) → process < length done → IfOk (slice_index_or done process d) (IsPassAfter may_answer r scripts process)
+    (process : ℕ) (d : Result Pass Memory) → process < length done
+        → IfOk (slice_index_or done process d) (IsPassAfter may_answer r scripts process)

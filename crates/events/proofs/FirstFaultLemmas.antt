@@ -24,8 +24,10 @@ SplitsAlike before ahead next after = ((before ≡ ahead) × (next ≡ after)) �
 splits_on : {X : Type 0} (x : X) (before ahead : List X) (next after : X) → SplitsAlike before ahead next after
     → SplitsAlike (x ∷ before) (x ∷ ahead) next after
 splits_on {X = X} x before ahead next after (inl h) = inl (ap (λ (xs : List X). x ∷ xs) h.0, h.1)
-splits_on {X = X} x before ahead next after (inr (inl h)) = inr (inl (record { more = h.more; parts = ap (λ (xs : List X). x ∷ xs) h.parts }))
-splits_on {X = X} x before ahead next after (inr (inr h)) = inr (inr (record { more = h.more; parts = ap (λ (xs : List X). x ∷ xs) h.parts }))
+splits_on {X = X} x before ahead next after (inr (inl h)) =
+    inr (inl (record { more = h.more; parts = ap (λ (xs : List X). x ∷ xs) h.parts }))
+splits_on {X = X} x before ahead next after (inr (inr h)) =
+    inr (inr (record { more = h.more; parts = ap (λ (xs : List X). x ∷ xs) h.parts }))
 
 two_splits : {X : Type 0} (before ahead : List X) (next after : X) (rest more : List X) → before ++ next ∷ rest ≡ ahead ++ after ∷ more
     → SplitsAlike before ahead next after
@@ -40,7 +42,8 @@ two_splits {X = X} (b ∷ before) (a ∷ ahead) next after rest more h =
 -- where no item of a sound list shows a fault after those before it
 module _ {X : Type 0} (IsSound : List X → Type 0) (fault_of_next : List X → X → Option HistoryFault)
     (none_next : (before rest : List X) (x : X) → IsSound (before ++ x ∷ rest) → fault_of_next before x ≡ None) where
-  none_within : (items before : List X) (x : X) (fault : HistoryFault) → IsSound items → GoesOnWith items before x → fault_of_next before x ≡ Some fault → ⊥
+  none_within : (items before : List X) (x : X) (fault : HistoryFault) → IsSound items → GoesOnWith items before x
+      → fault_of_next before x ≡ Some fault → ⊥
   none_within items before x fault h on shows =
       let none = none_next before on.more x (rw (← on.parts) h) in
       absurd (cc (shows, none))
@@ -55,7 +58,8 @@ module _ {X : Type 0} (IsSound : List X → Type 0) (fault_of_next : List X → 
       (λ on. absurd (none_within second.before first.before first.next fault second.sound on first.shows)) apart)
       (two_splits first.before second.before first.next second.next first.rest second.rest (sym first.parts ∙ second.parts))
 
-  pub IsFirstFaultOf-not_sound : (items : List X) (fault : HistoryFault) → IsFirstFaultOf IsSound fault_of_next items fault → IsSound items → ⊥
+  pub IsFirstFaultOf-not_sound : (items : List X) (fault : HistoryFault) → IsFirstFaultOf IsSound fault_of_next items fault
+      → IsSound items → ⊥
   IsFirstFaultOf-not_sound items fault first h =
       let none = none_next first.before first.rest first.next (rw (← first.parts) h) in
       absurd (cc (first.shows, none))
@@ -63,11 +67,13 @@ module _ {X : Type 0} (IsSound : List X → Type 0) (fault_of_next : List X → 
 pub IsFirstPairFault-not_start : (pairs : List (ℕ × ℕ)) (fault : HistoryFault) → IsFirstPairFault pairs fault → IsStart pairs → ⊥
 IsFirstPairFault-not_start = IsFirstFaultOf-not_sound IsStart pair_fault_after IsStart-next
 
-pub IsFirstEventFault-not_events : (events : List Event) (fault : HistoryFault) → IsFirstEventFault events fault → AreHistoryEvents events → ⊥
+pub IsFirstEventFault-not_events : (events : List Event) (fault : HistoryFault) → IsFirstEventFault events fault
+    → AreHistoryEvents events → ⊥
 IsFirstEventFault-not_events = IsFirstFaultOf-not_sound AreHistoryEvents fault_after AreHistoryEvents-next
 
 pub one_first_fault : HasOneFirstFault
-one_first_fault history fault other (inl first) (inl second) = one_first_fault_of IsStart pair_fault_after IsStart-next history.start fault other first second
+one_first_fault history fault other (inl first) (inl second) =
+    one_first_fault_of IsStart pair_fault_after IsStart-next history.start fault other first second
 one_first_fault history fault other (inl first) (inr second) = absurd (IsFirstPairFault-not_start history.start fault first second.0)
 one_first_fault history fault other (inr first) (inl second) = absurd (IsFirstPairFault-not_start history.start other second first.0)
 one_first_fault history fault other (inr first) (inr second) =

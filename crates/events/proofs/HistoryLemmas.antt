@@ -1,6 +1,7 @@
 -- A history grows by one event at a time.
 use Rattle.events.specs.declared.fault.HistoryFault.TheVariants as faults
-use Rattle.std.proofs.Common.{◌≡◌, ℕ, ◌+◌, ◌<◌, ◌≤◌, Bool, true, false, not, ◌&&◌, ◌||◌, ◌==◌, cond, List, [], ◌∷◌, ◌++◌, length, Some, None, IsTrue, refl, sym}
+use Rattle.std.proofs.Common.{◌≡◌, ℕ, ◌+◌, ◌<◌, ◌≤◌, Bool, true, false, not, ◌&&◌, ◌||◌, ◌==◌, cond, List, [], ◌∷◌, ◌++◌, length, Some}
+use Rattle.std.proofs.Common.{None, IsTrue, refl, sym}
 use Rattle.std.proofs.Common.{◌∙◌, arith, subst, eqb-true, eq-eqb, leb-false}
 use Rattle.std.specs.List.{list_all}
 use Rattle.std.proofs.lemmas.List.{append-nil}
@@ -17,14 +18,16 @@ use Rattle.events.specs.Histories.{is_shaped, is_small, call_count, AreHistoryEv
 use Rattle.events.specs.HistoryFaults.{ends_waiting, has_open_call, is_out_of_turn, is_call_too_many, event_fault, fault_after}
 
 -- a process's events, with one event more
-events_of-push : (p : ℕ) (before : List Event) (e : Event) → events_of p (before ++ e ∷ []) ≡ events_of p before ++ cond (process_of e == p) (e ∷ []) []
+events_of-push : (p : ℕ) (before : List Event) (e : Event)
+    → events_of p (before ++ e ∷ []) ≡ events_of p before ++ cond (process_of e == p) (e ∷ []) []
 events_of-push p before e = filter-append (λ e. process_of e == p) before (e ∷ [])
 
 ends_waiting-push : (w : Bool) (xs : List Event) (e : Event) → ends_waiting w (xs ++ e ∷ []) ≡ is_invocation e
 ends_waiting-push w [] e = refl
 ends_waiting-push w (x ∷ xs) e = ends_waiting-push (is_invocation x) xs e
 
-open_after : (b : Bool) (xs : List Event) (e : Event) → ends_waiting false (xs ++ cond b (e ∷ []) []) ≡ cond b (is_invocation e) (ends_waiting false xs)
+open_after : (b : Bool) (xs : List Event) (e : Event)
+    → ends_waiting false (xs ++ cond b (e ∷ []) []) ≡ cond b (is_invocation e) (ends_waiting false xs)
 open_after true xs e = ends_waiting-push false xs e
 open_after false xs e = rw (append-nil xs) refl
 
@@ -33,7 +36,8 @@ pub has_open_call-push : (p : ℕ) (before : List Event) (e : Event)
     → has_open_call p (before ++ e ∷ []) ≡ cond (process_of e == p) (is_invocation e) (has_open_call p before)
 has_open_call-push p before e = rw (events_of-push p before e) (open_after (process_of e == p) (events_of p before) e)
 
-takes_turns-push : (w : Bool) (xs : List Event) (e : Event) → takes_turns w (xs ++ e ∷ []) ≡ (takes_turns w xs && not (is_out_of_turn (ends_waiting w xs) e))
+takes_turns-push : (w : Bool) (xs : List Event) (e : Event)
+    → takes_turns w (xs ++ e ∷ []) ≡ (takes_turns w xs && not (is_out_of_turn (ends_waiting w xs) e))
 takes_turns-push true [] (Invoke p call) = refl
 takes_turns-push false [] (Invoke p call) = refl
 takes_turns-push true [] (Answer p reply) = refl
@@ -43,17 +47,20 @@ takes_turns-push false (Invoke p call ∷ xs) e = takes_turns-push true xs e
 takes_turns-push true (Answer p reply ∷ xs) e = takes_turns-push false xs e
 takes_turns-push false (Answer p reply ∷ xs) e = refl
 
-turns_after : (w b : Bool) (xs : List Event) (e : Event) → IsTrue (takes_turns w xs) → (b ≡ true → is_out_of_turn (ends_waiting w xs) e ≡ false)
+turns_after : (w b : Bool) (xs : List Event) (e : Event) → IsTrue (takes_turns w xs)
+    → (b ≡ true → is_out_of_turn (ends_waiting w xs) e ≡ false)
     → IsTrue (takes_turns w (xs ++ cond b (e ∷ []) []))
 turns_after w true xs e h turn = rw (takes_turns-push w xs e, turn refl, h) refl
 turns_after w false xs e h turn = rw (append-nil xs) h
 
 -- well formed with one event more, where it does not come out of turn
-pub IsWellFormed-push : (before : List Event) (e : Event) → IsWellFormed before → is_out_of_turn (has_open_call (process_of e) before) e ≡ false
+pub IsWellFormed-push : (before : List Event) (e : Event) → IsWellFormed before
+    → is_out_of_turn (has_open_call (process_of e) before) e ≡ false
     → IsWellFormed (before ++ e ∷ [])
 IsWellFormed-push before e h turn p =
     let now =
-    λ (same : (process_of e == p) ≡ true). subst (λ (q : ℕ). is_out_of_turn (has_open_call q before) e ≡ false) (eqb-true (process_of e) p same) turn in
+    λ (same : (process_of e == p) ≡ true). subst (λ (q : ℕ). is_out_of_turn (has_open_call q before) e ≡ false)
+        (eqb-true (process_of e) p same) turn in
     rw (events_of-push p before e) (turns_after false (process_of e == p) (events_of p before) e (h p) now)
 
 pub call_count-push : (before : List Event) (e : Event) → call_count (before ++ e ∷ []) ≡ call_count before + cond (is_invocation e) 1 0
@@ -66,7 +73,8 @@ record IsSound (calls : ℕ) (has_open : Bool) (e : Event) : Type 0 where
   calls_left : is_call_too_many calls e ≡ false
   in_turn : is_out_of_turn has_open e ≡ false
 
-four_tests : (s m c t : Bool) (x y z : HistoryFault) → cond (not s) (Some x) (cond (not m || c) (Some y) (cond t (Some z) None)) ≡ None → (s ≡ true)
+four_tests : (s m c t : Bool) (x y z : HistoryFault)
+    → cond (not s) (Some x) (cond (not m || c) (Some y) (cond t (Some z) None)) ≡ None → (s ≡ true)
     × (m ≡ true) × (c ≡ false) × (t ≡ false)
 four_tests false m c t x y z h = cc
 four_tests true false c t x y z h = cc
@@ -88,7 +96,8 @@ room calls (Invoke p call) h within = let below = leb-false call_limit calls h i
 room calls (Answer p reply) h within = omega arith
 
 -- a history with one event more, where nothing is wrong with it
-pub AreHistoryEvents-push : (before : List Event) (e : Event) → AreHistoryEvents before → fault_after before e ≡ None → AreHistoryEvents (before ++ e ∷ [])
+pub AreHistoryEvents-push : (before : List Event) (e : Event) → AreHistoryEvents before → fault_after before e ≡ None
+    → AreHistoryEvents (before ++ e ∷ [])
 AreHistoryEvents-push before e h none =
     let sound = IsSound-from_none (length before) (call_count before) (has_open_call (process_of e) before) e none in
     record {
@@ -108,10 +117,12 @@ and_left : (a b : Bool) → (a && b) ≡ true → a ≡ true
 and_left true b h = refl
 and_left false b h = cc
 
-passes_at : (test : Event → Bool) (before : List Event) (e : Event) (rest : List Event) → list_all test (before ++ e ∷ rest) ≡ true → test e ≡ true
+passes_at : (test : Event → Bool) (before : List Event) (e : Event) (rest : List Event)
+    → list_all test (before ++ e ∷ rest) ≡ true → test e ≡ true
 passes_at test before e rest h = and_left (test e) _ (and_right (list_all test before) _ (sym (list_all-append test before (e ∷ rest)) ∙ h))
 
-in_turn_at : (w : Bool) (xs : List Event) (e : Event) (ys : List Event) → takes_turns w (xs ++ e ∷ ys) ≡ true → is_out_of_turn (ends_waiting w xs) e ≡ false
+in_turn_at : (w : Bool) (xs : List Event) (e : Event) (ys : List Event) → takes_turns w (xs ++ e ∷ ys) ≡ true
+    → is_out_of_turn (ends_waiting w xs) e ≡ false
 in_turn_at true [] (Invoke p call) ys h = cc
 in_turn_at false [] (Invoke p call) ys h = refl
 in_turn_at true [] (Answer p reply) ys h = refl
@@ -132,7 +143,8 @@ calls_before before e rest h =
     let q = sum_by-append (λ x. cond (is_invocation x) 1 0) (e ∷ []) rest in
     omega (arith, p, q)
 
-own_events : (before : List Event) (e : Event) (rest : List Event) → takes_turns false (events_of (process_of e) (before ++ e ∷ rest)) ≡ true
+own_events : (before : List Event) (e : Event) (rest : List Event)
+    → takes_turns false (events_of (process_of e) (before ++ e ∷ rest)) ≡ true
     → takes_turns false (events_of (process_of e) before ++ e ∷ events_of (process_of e) rest) ≡ true
 own_events before e rest h =
     let own : (process_of e == process_of e) ≡ true = eq-eqb (process_of e) (process_of e) refl in
@@ -140,9 +152,11 @@ own_events before e rest h =
 
 -- nothing is wrong with an event of a history, after those before it
 pub AreHistoryEvents-next : (before rest : List Event) (e : Event) → AreHistoryEvents (before ++ e ∷ rest) → fault_after before e ≡ None
-AreHistoryEvents-next before rest e h = none-from_IsSound (length before) (call_count before) (has_open_call (process_of e) before) e (record {
+AreHistoryEvents-next before rest e h = none-from_IsSound (length before) (call_count before) (has_open_call (process_of e)
+    before) e (record {
   shaped = passes_at is_shaped before e rest h.shaped;
   small = passes_at is_small before e rest h.small;
   calls_left = some_left (call_count before) (call_count rest) e (calls_before before e rest h.calls);
-  in_turn = in_turn_at false (events_of (process_of e) before) e (events_of (process_of e) rest) (own_events before e rest (h.well_formed (process_of e)));
+  in_turn = in_turn_at false (events_of (process_of e) before) e (events_of (process_of e) rest)
+      (own_events before e rest (h.well_formed (process_of e)));
 })

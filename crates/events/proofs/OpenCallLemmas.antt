@@ -1,5 +1,6 @@
 -- What is kept of the events so far, when one more is taken.
-use Rattle.std.proofs.Common.{◌≡◌, ℕ, ◌+◌, ◌<◌, ◌≢◌, Bool, false, cond, nat_lt, List, [], ◌∷◌, ◌++◌, length, get_or, set, refl, sym, ◌∙◌, arith}
+use Rattle.std.proofs.Common.{◌≡◌, ℕ, ◌+◌, ◌<◌, ◌≢◌, Bool, false, cond, nat_lt, List, [], ◌∷◌, ◌++◌, length, get_or, set, refl, sym, ◌∙◌}
+use Rattle.std.proofs.Common.{arith}
 use Rattle.std.proofs.Common.{get_or-set_other, get_or-set_same, inl, inr}
 use Rattle.std.proofs.lemmas.Bool.{cases_lt, le-ltb}
 use Rattle.std.proofs.lemmas.Bool.Decides.{eqb_tells}
@@ -13,7 +14,8 @@ use Rattle.events.specs.HistoryFaults.{has_open_call, event_fault, fault_after}
 use Rattle.events.specs.OpenCalls.{AreOpenAfter}
 use Rattle.events.proofs.HistoryLemmas.{has_open_call-push, call_count-push}
 
-flags_at : (flags : List Bool) (before : List Event) (e : Event) (p : ℕ) → process_of e < length flags → get_or flags p false ≡ has_open_call p before
+flags_at : (flags : List Bool) (before : List Event) (e : Event) (p : ℕ) → process_of e < length flags
+    → get_or flags p false ≡ has_open_call p before
     → get_or (set flags (process_of e) (is_invocation e)) p false ≡ has_open_call p (before ++ e ∷ [])
 flags_at flags before e p within was = elim (eqb_tells (process_of e) p) [
   | inl h ↦ rw (has_open_call-push p before e, h.0) (rw (sym h.1) (get_or-set_same flags (process_of e) (is_invocation e) false within))
@@ -22,7 +24,8 @@ flags_at flags before e p within was = elim (eqb_tells (process_of e) p) [
 ]
 
 -- the turns after one event more
-pub AreOpenAfter-push : (before : List Event) (e : Event) (turns after : OpenCalls) → AreOpenAfter before turns → length turns.has_open ≡ process_limit
+pub AreOpenAfter-push : (before : List Event) (e : Event) (turns after : OpenCalls) → AreOpenAfter before turns
+    → length turns.has_open ≡ process_limit
     → process_of e < process_limit
     → after.has_open ≡ set turns.has_open (process_of e) (is_invocation e) → after.calls ≡ turns.calls + cond (is_invocation e) 1 0
     → AreOpenAfter (before ++ e ∷ []) after

@@ -21,7 +21,8 @@ response_from-at_least p i (Answer q reply ∷ events) =
     first_or (q == p) (record { res = i; reply = reply }) (response_from p (suc i) events) (omega arith)
     (IfSome_then (response_from p (suc i) events) (response_from-at_least p (suc i) events) (λ r later. omega arith))
   where
-    first_or : (b : Bool) (x : Response) (rest : Option Response) → i ≤ x.res → IfSome rest (λ r. i ≤ r.res) → IfSome (cond b (Some x) rest) (λ r. i ≤ r.res)
+    first_or : (b : Bool) (x : Response) (rest : Option Response) → i ≤ x.res → IfSome rest (λ r. i ≤ r.res)
+        → IfSome (cond b (Some x) rest) (λ r. i ≤ r.res)
     first_or true x rest h k = h
     first_or false x rest h k = k
 
@@ -32,14 +33,16 @@ inv-at_least i (Answer p reply ∷ events) =
     All-weaker (λ a. suc i ≤ a.inv) (λ a. i ≤ a.inv) (λ a later. omega arith) (operations_from (suc i) events) (inv-at_least (suc i) events)
 inv-at_least i (Invoke p call ∷ events) =
     All-cons (λ a. i ≤ a.inv) (operation_of p call i events) (operations_from (suc i) events) (omega arith)
-    (All-weaker (λ a. suc i ≤ a.inv) (λ a. i ≤ a.inv) (λ a later. omega arith) (operations_from (suc i) events) (inv-at_least (suc i) events))
+    (All-weaker (λ a. suc i ≤ a.inv) (λ a. i ≤ a.inv) (λ a later. omega arith) (operations_from (suc i) events)
+        (inv-at_least (suc i) events))
 
 inv_rises_from : (i : ℕ) (events : List Event) → AllPairs (λ a b. a.inv < b.inv) (operations_from i events)
 inv_rises_from i [] = AllPairs-nil (λ a b. a.inv < b.inv)
 inv_rises_from i (Answer p reply ∷ events) = inv_rises_from (suc i) events
 inv_rises_from i (Invoke p call ∷ events) =
     AllPairs-cons (λ a b. a.inv < b.inv) (operation_of p call i events) (operations_from (suc i) events)
-    (All-weaker (λ a. suc i ≤ a.inv) (λ a. i < a.inv) (λ a later. omega arith) (operations_from (suc i) events) (inv-at_least (suc i) events))
+    (All-weaker (λ a. suc i ≤ a.inv) (λ a. i < a.inv) (λ a later. omega arith) (operations_from (suc i) events)
+        (inv-at_least (suc i) events))
     (inv_rises_from (suc i) events)
 
 response_later_from : (i : ℕ) (events : List Event) → All (λ a. IfSome a.response (λ r. a.inv < r.res)) (operations_from i events)
@@ -61,7 +64,8 @@ response_later events = response_later_from 0 events
 -- no call of a history precedes itself
 pub NonePrecedesItself-operations : (events : List Event) → NonePrecedesItself (operations events)
 NonePrecedesItself-operations events =
-    All-weaker (λ a. IfSome a.response (λ r. a.inv < r.res)) (λ a. precedes a a ≡ false) (λ a later. not_before a.response a.inv later) (operations events)
+    All-weaker (λ a. IfSome a.response (λ r. a.inv < r.res)) (λ a. precedes a a ≡ false) (λ a later. not_before a.response a.inv later)
+        (operations events)
     (response_later events)
   where
     not_before : (response : Option Response) (inv : ℕ) → IfSome response (λ r. inv < r.res) → is_before response inv ≡ false

@@ -1,6 +1,7 @@
 -- The first fault of pairs and events that are no history: that of the pairs comes before that of the events.
 use Rattle.events.specs.declared.fault.HistoryFault.TheVariants as faults
-use Rattle.std.specs.Prelude.{◌≡◌, ℕ, ◌⊎◌, Bool, false, not, ◌||◌, nat_lt, nat_le, if◌then◌else◌, List, [], ◌∷◌, ◌++◌, length, Option, Some, None, ⊤}
+use Rattle.std.specs.Prelude.{◌≡◌, ℕ, ◌⊎◌, Bool, false, not, ◌||◌, nat_lt, nat_le, if◌then◌else◌, List, [], ◌∷◌, ◌++◌, length, Option, Some}
+use Rattle.std.specs.Prelude.{None, ⊤}
 use Rattle.std.specs.List.{list_all}
 use Rattle.events.specs.declared.event.Event.{Event}
 use Rattle.events.specs.declared.event.Event.TheVariants.{Invoke, Answer}
@@ -54,7 +55,8 @@ pair_fault_after before pair =
     else None
 
 -- the list begins with items that are sound, and the item after those shows the fault
-pub record IsFirstFaultOf {X : Type 0} (IsSound : List X → Type 0) (fault_of_next : List X → X → Option HistoryFault) (items : List X) (fault : HistoryFault)
+pub record IsFirstFaultOf {X : Type 0} (IsSound : List X → Type 0) (fault_of_next : List X → X → Option HistoryFault) (items : List X)
+    (fault : HistoryFault)
     : Type 0 where
   pub before : List X
   pub next : X

@@ -7,7 +7,8 @@ use Rattle.events.specs.HistoryFaults.{IsFirstFault}
 
 -- pairs and events have one first fault at most
 abbrev pub HasOneFirstFault : Type 0
-HasOneFirstFault = (history : HistoryView) (fault other : HistoryFault) → IsFirstFault history fault → IsFirstFault history other → fault ≡ other
+HasOneFirstFault = (history : HistoryView) (fault other : HistoryFault) → IsFirstFault history fault
+    → IsFirstFault history other → fault ≡ other
 
 -- pairs and events with a first fault are no history
 abbrev pub FaultyIsNoHistory : Type 0

@@ -1,5 +1,6 @@
 -- A follower takes an answer, or tells where the events go wrong.
-use Rattle.std.proofs.Common.{◌≡◌, ℕ, ◌+◌, ◌≤◌, Bool, true, false, cond, ◌==◌, List, [], ◌∷◌, ◌++◌, length, map, take, Some, None, refl, sym, ap, ◌∙◌}
+use Rattle.std.proofs.Common.{◌≡◌, ℕ, ◌+◌, ◌≤◌, Bool, true, false, cond, ◌==◌, List, [], ◌∷◌, ◌++◌, length, map, take, Some, None, refl}
+use Rattle.std.proofs.Common.{sym, ap, ◌∙◌}
 use Rattle.std.proofs.Common.{subst, arith, IsTrue, eq-eqb, eqb-true, append_assoc}
 use Rattle.std.specs.Prelude.{◌↔◌, slice_get, IsSomeAnd, All, Any, Contains}
 use Rattle.std.proofs.lemmas.Bool.{both_ways, false≢true, not_from_true}

@@ -1,9 +1,11 @@
 -- Calls that may not go are held by open calls, directly or through others.
-use Rattle.std.proofs.Common.{◌≡◌, ℕ, zero, suc, ◌<◌, ◌≤◌, Bool, true, false, not, ◌&&◌, ◌||◌, List, [], ◌∷◌, length, filter, Option, Some, None, refl, sym, ap}
+use Rattle.std.proofs.Common.{◌≡◌, ℕ, zero, suc, ◌<◌, ◌≤◌, Bool, true, false, not, ◌&&◌, ◌||◌, List, [], ◌∷◌, length, filter, Option, Some}
+use Rattle.std.proofs.Common.{None, refl, sym, ap}
 use Rattle.std.proofs.Common.{subst, inl, inr, ⊎_elim, arith, cond}
 use Rattle.std.specs.Prelude.{◌⊎◌, ◌↔◌, is_some, nat_lt, All, Contains}
 use Rattle.std.specs.List.{list_any}
-use Rattle.std.proofs.lemmas.Bool.{both_ways, false≢true, false_from_ne_true, true_from_ne_false, and_parts, and_from, or_cases, or_left, or_right}
+use Rattle.std.proofs.lemmas.Bool.{both_ways, false≢true, false_from_ne_true, true_from_ne_false, and_parts, and_from, or_cases, or_left}
+use Rattle.std.proofs.lemmas.Bool.{or_right}
 use Rattle.std.proofs.lemmas.Bool.{not_from_true, not_from_false, lt-ltb}
 use Rattle.std.proofs.lemmas.List.Elements.{All-contains}
 use Rattle.std.proofs.lemmas.List.Folds.{Any-from_list_any, list_any-from_Any}
@@ -35,10 +37,12 @@ lets_go_from a b h = ⊎_elim
     h
 
 lets_go_cases : (a b : Operation) → lets_go b a ≡ true → (precedes a b ≡ true) ⊎ HaveKeysApart a.call b.call
-lets_go_cases a b h = ⊎_elim (λ before. inl before) (λ apart. inr (apart_calls a b apart)) (or_cases (precedes a b) (is_apart (range_of b.call) a.call) h)
+lets_go_cases a b h = ⊎_elim (λ before. inl before) (λ apart. inr (apart_calls a b apart))
+    (or_cases (precedes a b) (is_apart (range_of b.call) a.call) h)
 
 -- what an open call holds does not go
-pub held_stays : (left : List LeftCall) (p : Operation → Bool) → IsRangeCut (calls_of left) p → {c : LeftCall} → IsHeldByOpen left c → Contains left c
+pub held_stays : (left : List LeftCall) (p : Operation → Bool) → IsRangeCut (calls_of left) p → {c : LeftCall}
+    → IsHeldByOpen left c → Contains left c
     → p c.operation ≡ false
 held_stays left p cut (itself c pending) c_is = false_from_ne_true (p c.operation) (λ early.
     let done = cut.completed c.operation (Contains-map (λ (c : LeftCall). c.operation) left c c_is) early in
@@ -163,7 +167,8 @@ held_by_open left = (
       let (n, is) = enough calls in
       let none = held (λ a. not (held_in calls n a)) (cut_of_free calls n is) in
       All-from_contains (IsHeldByOpen left) left (λ c c_is. held_from left n c (true_from_ne_false (held_in calls n c.operation)
-      (λ free. both_ways (not (held_in calls n c.operation)) (All-contains (λ c. not (held_in calls n c.operation) ≡ false) left c none c_is)
+      (λ free. both_ways (not (held_in calls n c.operation))
+          (All-contains (λ c. not (held_in calls n c.operation) ≡ false) left c none c_is)
       (not_from_false (held_in calls n c.operation) free)))),
   λ all p cut. All-from_contains (λ c. p c.operation ≡ false) left
       (λ c c_is. held_stays left p cut (All-contains (IsHeldByOpen left) left c all c_is) c_is),

@@ -2,7 +2,8 @@
 use Rattle.std.proofs.Common.{◌≡◌, ℕ, Bool, true, false, not, ◌&&◌, ◌||◌, List, [], ◌∷◌, ◌++◌, length, map, refl, sym, ◌∙◌, subst}
 use Rattle.std.proofs.Common.{inl, inr, ⊎_elim, arith}
 use Rattle.std.specs.Prelude.{◌⊎◌, All, Contains, nat_le}
-use Rattle.std.proofs.lemmas.Bool.{both_ways, false≢true, false_from_ne_true, and_parts, and_from, and_cases, or_cases, or_parts, or_left, or_right}
+use Rattle.std.proofs.lemmas.Bool.{both_ways, false≢true, false_from_ne_true, and_parts, and_from, and_cases, or_cases, or_parts, or_left}
+use Rattle.std.proofs.lemmas.Bool.{or_right}
 use Rattle.std.proofs.lemmas.Bool.{not_from_true, not_from_false, le-leb}
 use Rattle.std.proofs.lemmas.List.{length-map, map-append}
 use Rattle.std.proofs.lemmas.List.Elements.{All-head, All-push, All-contains, Contains-push, Contains-append_left}
@@ -101,7 +102,8 @@ apart_swap : (a b : Call) → HaveKeysApart a b → HaveKeysApart b a
 apart_swap a b h = ⊎_elim (λ below. inr below) (λ above. inl above) h
 
 module _ (range : KeyRange) (calls then : List Operation) (o : Operation) (k : ℕ) (reply : Reply) (marks : List Bool)
-    (rise : InvocationsRise calls) (rise_then : InvocationsRise then) (is_then : then ≡ map (answered_at o.inv k reply) calls) (o_is : Contains calls o)
+    (rise : InvocationsRise calls) (rise_then : InvocationsRise then) (is_then : then ≡ map (answered_at o.inv k reply) calls)
+        (o_is : Contains calls o)
     (inside : is_within range o.call ≡ true) (closed : IsClosed range then) (settled : IsSettled then (map (is_in_group range) then) marks)
     (cut_settled : IsRangeCut then (is_early_by marks then)) (p : Operation → Bool)
     (cut : IsRangeCut (late_of (is_early_by marks then) then) p) where
@@ -288,9 +290,11 @@ settlement_holds fill are_a_cut are_late f place call reply range marks next h h
     let none =
     held (λ a. p (answered_at call.operation.inv f.events reply a)
     && not (is_early_by marks then (answered_at call.operation.inv f.events reply a)))
-    (cut_then range calls then call.operation f.events reply marks h.invocations_rise rise_then put.calls o_is inside j.closed settled cut_settled p cut_kept) in
+    (cut_then range calls then call.operation f.events reply marks h.invocations_rise rise_then put.calls o_is inside j.closed settled
+        cut_settled p cut_kept) in
     All-from_contains (λ c. p c.operation ≡ false) (marked (map not marks) then_left) (λ c c_is.
-    none_kept range calls then call.operation f.events reply marks h.invocations_rise rise_then put.calls o_is inside j.closed settled cut_settled p cut_kept
+    none_kept range calls then call.operation f.events reply marks h.invocations_rise rise_then put.calls o_is inside j.closed settled
+        cut_settled p cut_kept
     (λ a a_is. let (d, d_is, same) = Contains-from_map op f.left a a_is in
     subst
     (λ (a : Operation). (p (answered_at call.operation.inv f.events reply a)

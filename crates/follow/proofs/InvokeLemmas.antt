@@ -1,5 +1,6 @@
 -- A follower takes an invocation.
-use Rattle.std.proofs.Common.{◌≡◌, ℕ, ◌≤◌, Bool, true, false, cond, ◌==◌, List, [], ◌∷◌, ◌++◌, length, Some, None, refl, sym, ap, ◌∙◌, subst, ⊎_elim}
+use Rattle.std.proofs.Common.{◌≡◌, ℕ, ◌≤◌, Bool, true, false, cond, ◌==◌, List, [], ◌∷◌, ◌++◌, length, Some, None, refl, sym, ap, ◌∙◌}
+use Rattle.std.proofs.Common.{subst, ⊎_elim}
 use Rattle.std.proofs.Common.{arith, IsTrue, eq-eqb, eqb-true}
 use Rattle.std.specs.Prelude.{◌↔◌, slice_get, All, Any}
 use Rattle.std.proofs.lemmas.Bool.{false_from_ne_true}

@@ -1,5 +1,6 @@
 -- An answer is judged by its group alone.
-use Rattle.std.proofs.Common.{◌≡◌, ℕ, ◌<◌, ◌≤◌, Bool, true, false, not, ◌&&◌, cond, ◌==◌, List, [], ◌∷◌, ◌++◌, length, map, filter, Some, refl}
+use Rattle.std.proofs.Common.{◌≡◌, ℕ, ◌<◌, ◌≤◌, Bool, true, false, not, ◌&&◌, cond, ◌==◌, List, [], ◌∷◌, ◌++◌, length, map, filter, Some}
+use Rattle.std.proofs.Common.{refl}
 use Rattle.std.proofs.Common.{sym, ap, ◌∙◌, subst, inl, inr, ⊎_elim, IsTrue, eq-eqb}
 use Rattle.std.specs.Prelude.{◌⊎◌, ◌↔◌, All, Contains, nat_le}
 use Rattle.std.proofs.lemmas.Bool.{and_from, and_right, le-leb, both_ways, eqb-true, not_from_true}

@@ -20,7 +20,8 @@ use Rattle.calls_left.specs.declared.left.LeftCall.{LeftCall}
 use Rattle.calls_left.specs.Left.{calls_of, marked, answered_left}
 use Rattle.calls_left.specs.Laws.{AnswersFillOnePlace}
 use Rattle.calls_left.proofs.LeftListLemmas.{map-marked, Contains-from_marked}
-use Rattle.follow.specs.FollowerView.{FollowerView, IsFollowerView, new_follower, begun_left, after_invocation, after_answer, after_settlement}
+use Rattle.follow.specs.FollowerView.{FollowerView, IsFollowerView, new_follower, begun_left, after_invocation, after_answer}
+use Rattle.follow.specs.FollowerView.{after_settlement}
 use Rattle.follow.proofs.JudgeLemmas.{answered_inv, answered_shaped}
 
 pub view_begins : (start : Contents) → IsRising start → IsFollowerView (new_follower start)

@@ -17,17 +17,21 @@ pub IsTextOf-whole : (text : List ℕ) (history : HistoryView) → IsTextOf (tak
 IsTextOf-whole text history h = subst (λ (t : List ℕ). IsTextOf t history) (same_text text_limit text h.spelled.json.fits) h
 
 -- a judgement of the text read is one of the whole
-IsJudged-whole : (text : List ℕ) (budget : ℕ) (verdict : Verdict) (report : List ℕ) → IsJudged budget (take (text_limit + 1) text) verdict report
+IsJudged-whole : (text : List ℕ) (budget : ℕ) (verdict : Verdict) (report : List ℕ)
+    → IsJudged budget (take (text_limit + 1) text) verdict report
     → IsJudged budget text verdict report
-IsJudged-whole text budget verdict report h = subst (λ (t : List ℕ). IsJudged budget t verdict report) (same_text text_limit text h.spelled.json.fits) h
+IsJudged-whole text budget verdict report h = subst (λ (t : List ℕ). IsJudged budget t verdict report) (same_text text_limit text
+    h.spelled.json.fits) h
 
-whole : (text : List ℕ) (fault : HistoryFault) → length (take (text_limit + 1) text) ≤ text_limit → IsTextFault (take (text_limit + 1) text) fault
+whole : (text : List ℕ) (fault : HistoryFault) → length (take (text_limit + 1) text) ≤ text_limit
+    → IsTextFault (take (text_limit + 1) text) fault
     → IsTextFault text fault
 whole text fault fits h = subst (λ (t : List ℕ). IsTextFault t fault) (same_text text_limit text fits) h
 
 -- a fault of the text read is one of the whole
 IsTextFault-whole : (text : List ℕ) (fault : HistoryFault) → IsTextFault (take (text_limit + 1) text) fault → IsTextFault text fault
-IsTextFault-whole text faults.TooLong h = let size = length-take (text_limit + 1) text in let long : text_limit < length (take (text_limit + 1) text) =
+IsTextFault-whole text faults.TooLong h = let size =
+    length-take (text_limit + 1) text in let long : text_limit < length (take (text_limit + 1) text) =
     h in omega (arith, size)
 IsTextFault-whole text faults.NotJson h = whole text faults.NotJson h.0 h
 IsTextFault-whole text faults.Version h = whole text faults.Version h.1.fits h
@@ -43,7 +47,8 @@ IsHistoryRefusal-whole text bytes h =
     (h.0, record { refused = IsTextFault-whole text h.0 h.1.refused; not_memory = h.1.not_memory }, h.2)
 
 -- an answer of `check` to the text read is one to the whole
-pub IsCheckAnswer-whole : (order text : List ℕ) (answer : Answer) (bytes : List ℕ) → IsCheckAnswer order (take (text_limit + 1) text) answer bytes
+pub IsCheckAnswer-whole : (order text : List ℕ) (answer : Answer) (bytes : List ℕ)
+    → IsCheckAnswer order (take (text_limit + 1) text) answer bytes
     → IsCheckAnswer order text answer bytes
 IsCheckAnswer-whole order text Yes bytes h = ((h.0.0, IsTextOf-whole text h.0.0 h.0.1, h.0.2), h.1)
 IsCheckAnswer-whole order text No bytes h = (
@@ -59,7 +64,8 @@ IsCheckAnswer-whole order text No bytes h = (
 IsCheckAnswer-whole order text Undecided bytes h = h
 
 -- an answer of `judge` to the text read is one to the whole
-pub IsJudgeAnswer-whole : (budget : ℕ) (text : List ℕ) (answer : Answer) (bytes : List ℕ) → IsJudgeAnswer budget (take (text_limit + 1) text) answer bytes
+pub IsJudgeAnswer-whole : (budget : ℕ) (text : List ℕ) (answer : Answer) (bytes : List ℕ)
+    → IsJudgeAnswer budget (take (text_limit + 1) text) answer bytes
     → IsJudgeAnswer budget text answer bytes
 IsJudgeAnswer-whole budget text answer bytes h = record {
   verdict = h.verdict;

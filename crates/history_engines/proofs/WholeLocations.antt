@@ -6,7 +6,8 @@ use Rattle.outcomes.proofs.WholeText.{same_text}
 use Rattle.history_engines.specs.Answers.{IsTextOf}
 use Rattle.history_engines.specs.LocateAnswers.{IsLocateAnswer}
 
-pub IsLocateAnswer-whole : (budget : ℕ) (text : List ℕ) (answer : Answer) (bytes : List ℕ) → IsLocateAnswer budget (take (text_limit + 1) text) answer bytes
+pub IsLocateAnswer-whole : (budget : ℕ) (text : List ℕ) (answer : Answer) (bytes : List ℕ)
+    → IsLocateAnswer budget (take (text_limit + 1) text) answer bytes
     → IsLocateAnswer budget text answer bytes
 IsLocateAnswer-whole budget text answer bytes h = record {
   history = h.history;

@@ -1,6 +1,7 @@
 -- What a JSON value is, from what was found in it.
 use Rattle.events.specs.declared.event.Reply.TheVariants as replies
-use Rattle.std.proofs.Common.{◌≡◌, ℕ, zero, suc, ◌<◌, ◌≤◌, List, [], ◌∷◌, length, Option, Some, None, option_and_then, String, Global, string_bytes, slice_get}
+use Rattle.std.proofs.Common.{◌≡◌, ℕ, zero, suc, ◌<◌, ◌≤◌, List, [], ◌∷◌, length, Option, Some, None, option_and_then, String, Global}
+use Rattle.std.proofs.Common.{string_bytes, slice_get}
 use Rattle.std.proofs.Common.{bytes_eq, true, false, true≢false, ◌-◌, map, codes, get_or, is_some, IfNone, refl, sym, ap, ◌∙◌, arith}
 use Rattle.std.proofs.lemmas.List.{length-map}
 use Rattle.std.proofs.lemmas.Slice.Eq.{bytes_eq-Decides}
@@ -128,7 +129,8 @@ string_found (array ds) s h = cc
 string_found (object ms) s h = cc
 
 -- a list of three values, each read at its place
-three_items : (vs : List Value) (x y z : Value) → length vs ≡ 3 → x ≡ get_or vs 0 x → y ≡ get_or vs 1 y → z ≡ get_or vs 2 z → vs ≡ x ∷ y ∷ z ∷ []
+three_items : (vs : List Value) (x y z : Value) → length vs ≡ 3 → x ≡ get_or vs 0 x → y ≡ get_or vs 1 y → z ≡ get_or vs 2 z
+    → vs ≡ x ∷ y ∷ z ∷ []
 three_items [] x y z len first second third = cc
 three_items (a ∷ []) x y z len first second third = cc
 three_items (a ∷ b ∷ []) x y z len first second third = cc
@@ -136,14 +138,17 @@ three_items (a ∷ b ∷ e ∷ []) x y z len first second third = cc
 three_items (a ∷ b ∷ e ∷ f ∷ vs) x y z len first second third = absurd (omega arith)
 
 -- the list of three values in which a name and two numbers were found
-pub name_and_two_numbers : (vs : List Value) (x y z : Value) (s : List ℕ) (m n : ℕ) → length vs ≡ 3 → x ≡ get_or vs 0 x → y ≡ get_or vs 1 y → z ≡ get_or vs 2 z
+pub name_and_two_numbers : (vs : List Value) (x y z : Value) (s : List ℕ) (m n : ℕ) → length vs ≡ 3 → x ≡ get_or vs 0 x → y ≡ get_or vs 1 y
+    → z ≡ get_or vs 2 z
     → Some s ≡ as_str (view x) → Some m ≡ option_and_then as_u64 (as_number (view y)) → Some n ≡ option_and_then as_u64 (as_number (view z))
     → list_data (map view vs) ≡ list_data (string s ∷ number_data m ∷ number_data n ∷ [])
 name_and_two_numbers vs x y z s m n len first second third name one two =
-    rw (three_items vs x y z len first second third, string_found (view x) s name, number_found (view y) m one, number_found (view z) n two) refl
+    rw (three_items vs x y z len first second third, string_found (view x) s name, number_found (view y) m one, number_found
+        (view z) n two) refl
 
 -- a list of four values, each read at its place
-pub four_items : (vs : List Value) (x y z u : Value) → length vs ≡ 4 → x ≡ get_or vs 0 x → y ≡ get_or vs 1 y → z ≡ get_or vs 2 z → u ≡ get_or vs 3 u
+pub four_items : (vs : List Value) (x y z u : Value) → length vs ≡ 4 → x ≡ get_or vs 0 x → y ≡ get_or vs 1 y → z ≡ get_or vs 2 z
+    → u ≡ get_or vs 3 u
     → vs ≡ x ∷ y ∷ z ∷ u ∷ []
 four_items [] x y z u len first second third fourth = cc
 four_items (a ∷ []) x y z u len first second third fourth = cc
@@ -153,7 +158,8 @@ four_items (a ∷ b ∷ e ∷ f ∷ []) x y z u len first second third fourth = 
 four_items (a ∷ b ∷ e ∷ f ∷ g ∷ vs) x y z u len first second third fourth = absurd (omega arith)
 
 -- the list of four values in which a name and three numbers were found
-pub name_and_three_numbers : (vs : List Value) (x y z u : Value) (s : List ℕ) (k m n : ℕ) → length vs ≡ 4 → x ≡ get_or vs 0 x → y ≡ get_or vs 1 y
+pub name_and_three_numbers : (vs : List Value) (x y z u : Value) (s : List ℕ) (k m n : ℕ) → length vs ≡ 4 → x ≡ get_or vs 0 x
+    → y ≡ get_or vs 1 y
     → z ≡ get_or vs 2 z → u ≡ get_or vs 3 u
     → Some s ≡ as_str (view x) → Some k ≡ option_and_then as_u64 (as_number (view y)) → Some m ≡ option_and_then as_u64 (as_number (view z))
     → Some n ≡ option_and_then as_u64 (as_number (view u))

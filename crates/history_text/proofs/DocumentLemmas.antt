@@ -28,7 +28,8 @@ start_data_injective (Some a) None h = cc
 start_data_injective (Some a) (Some b) h = ap Some (pairs_injective a b (same_Some (map pair_data a) (map pair_data b) h))
 
 -- the values of a start are those of its pairs
-pub start_values : (start : Option (List (ℕ × ℕ))) (items : List Data) → Some items ≡ start_data start → items ≡ map pair_data (start_pairs start)
+pub start_values : (start : Option (List (ℕ × ℕ))) (items : List Data) → Some items ≡ start_data start
+    → items ≡ map pair_data (start_pairs start)
 start_values None items h = cc
 start_values (Some pairs) items h = same_Some items (map pair_data pairs) h
 

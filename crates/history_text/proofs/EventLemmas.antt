@@ -16,7 +16,8 @@ past_processes : (p : ℕ) → process_limit ≤ p → nat_lt p process_limit �
 past_processes p h = grind (arith, nat_tests)
 
 -- an invocation by such a process is too many, wherever it stands
-pub too_many-invocation : (has_start : Bool) (place p : ℕ) (call : Call) (c d : Data) → c ≡ call_data call → d ≡ number_data p → IsTrue (has_range call)
+pub too_many-invocation : (has_start : Bool) (place p : ℕ) (call : Call) (c d : Data) → c ≡ call_data call → d ≡ number_data p
+    → IsTrue (has_range call)
     → process_limit ≤ p → IsTrue (may_stand has_start (Invoke p call))
     → IsValueFault has_start place (invocation_data c d) faults.TooMany
 too_many-invocation has_start place p call c d spelled number range h standing =
@@ -27,7 +28,8 @@ or_true true = refl
 or_true false = refl
 
 -- and so is a response
-pub too_many-response : (has_start : Bool) (place p : ℕ) (reply : Reply) (c d : Data) → c ≡ reply_data reply → d ≡ number_data p → process_limit ≤ p
+pub too_many-response : (has_start : Bool) (place p : ℕ) (reply : Reply) (c d : Data) → c ≡ reply_data reply → d ≡ number_data p
+    → process_limit ≤ p
     → IsValueFault has_start place (response_data c d) faults.TooMany
 too_many-response has_start place p reply c d spelled number h =
     (Answer p reply, rw (spelled, number) refl, refl, rw (past_processes p h) refl, or_true has_start)

@@ -1,5 +1,6 @@
 -- Which history a text spells, by its value.
-use Rattle.std.proofs.Common.{◌≡◌, ℕ, Bool, true, false, cond, List, [], ◌∷◌, map, Option, Some, None, is_some, Result, Ok, Err, IfOk, refl, ap, ◌∙◌}
+use Rattle.std.proofs.Common.{◌≡◌, ℕ, Bool, true, false, cond, List, [], ◌∷◌, map, Option, Some, None, is_some, Result, Ok, Err, IfOk, refl}
+use Rattle.std.proofs.Common.{ap, ◌∙◌}
 use Rattle.std.specs.Prelude.{IsTrue}
 use Rattle.std.specs.List.{list_all}
 use Rattle.std.proofs.lemmas.Bool.{and_parts}
@@ -8,7 +9,8 @@ use Rattle.events.specs.declared.event.Event.{Event}
 use Rattle.events.specs.declared.fault.HistoryFault.{HistoryFault}
 use Rattle.events.specs.HistoryView.{HistoryView}
 use Rattle.events.specs.PlainHistories.{is_plain_event, has_no_pairs, is_plain}
-use Rattle.history_text.specs.Texts.{pair_data, event_data, document, start_data, start_pairs, may_stand, history_data, IsJson, SpellsAs, Spells}
+use Rattle.history_text.specs.Texts.{pair_data, event_data, document, start_data, start_pairs, may_stand, history_data, IsJson, SpellsAs}
+use Rattle.history_text.specs.Texts.{Spells}
 
 -- any event may stand in a text with a start
 pub all_stand : (events : List Event) → list_all (may_stand true) events ≡ true
@@ -24,7 +26,8 @@ pub Spells-written : (text : List ℕ) (history : HistoryView) → IsJson text (
 Spells-written text history json = record { value = history_data history; json = json; spelled = either (is_plain history) refl }
   where
     either : (b : Bool) → is_plain history ≡ b
-        → SpellsAs (cond b (document None (map event_data history.events)) (document (Some (map pair_data history.start)) (map event_data history.events)))
+        → SpellsAs (cond b (document None (map event_data history.events))
+            (document (Some (map pair_data history.start)) (map event_data history.events)))
         history
     either true plain =
         let parts = and_parts (has_no_pairs history.start) (list_all is_plain_event history.events) plain in

@@ -41,19 +41,22 @@ no_pair_fault_inside : (pairs before : List (ℕ × ℕ)) (d : Data) (fault : Hi
     → IsPairFaultAfter before d fault → ⊥
 no_pair_fault_inside pairs before d fault h start shows =
     let none = IsStart-next before h.more h.item (subst IsStart h.parts start) in
-    let tests = two_tests (nat_le start_limit (length before)) (is_above before h.item.0) faults.TooMany (faults.Start (length before)) none in
+    let tests = two_tests (nat_le start_limit (length before)) (is_above before h.item.0) faults.TooMany
+        (faults.Start (length before)) none in
     let room = leb-false start_limit (length before) tests.0 in
     ⊎_elim (λ a. absurd (omega (arith, a.1, room))) (λ a. true≢false (sym tests.1 ∙ a.2 h.item h.spelled)) shows
 
 -- a value has one fault only after the same pairs
-same_pair_fault : (before : List (ℕ × ℕ)) (d : Data) (f g : HistoryFault) → IsPairFaultAfter before d f → IsPairFaultAfter before d g → f ≡ g
+same_pair_fault : (before : List (ℕ × ℕ)) (d : Data) (f g : HistoryFault) → IsPairFaultAfter before d f
+    → IsPairFaultAfter before d g → f ≡ g
 same_pair_fault before d f g (inl a) (inl b) = a.0 ∙ sym b.0
 same_pair_fault before d f g (inl a) (inr b) = absurd (omega (arith, a.1, b.1))
 same_pair_fault before d f g (inr a) (inl b) = absurd (omega (arith, a.1, b.1))
 same_pair_fault before d f g (inr a) (inr b) = a.0 ∙ sym b.0
 
 -- two faulty values of a start at two splits are one
-pairs_alike : (f g : HistoryFault) (before ahead : List (ℕ × ℕ)) (next after : Data) → IsPairFaultAfter before next f → IsPairFaultAfter ahead after g
+pairs_alike : (f g : HistoryFault) (before ahead : List (ℕ × ℕ)) (next after : Data) → IsPairFaultAfter before next f
+    → IsPairFaultAfter ahead after g
     → IsStart before → IsStart ahead → SplitsAlike pair_data before ahead next after → f ≡ g
 pairs_alike f g before ahead next after a b first second (inl h) =
     same_pair_fault ahead after f g
@@ -83,7 +86,8 @@ module _ (has_start : Bool) where
       fault_of_unshaped before e (is_shaped e) fault refl (λ shaped. none e spelled shaped standing) h
 
   -- a value has one fault only after the same events
-  same_fault : (before : List Event) (d : Data) (f g : HistoryFault) → IsFaultAfter has_start before d f → IsFaultAfter has_start before d g → f ≡ g
+  same_fault : (before : List Event) (d : Data) (f g : HistoryFault) → IsFaultAfter has_start before d f
+      → IsFaultAfter has_start before d g → f ≡ g
   same_fault before d f g (inl a) (inl b) = a.0 ∙ sym b.0
   same_fault before d f g (inl a) (inr b) = a.0 ∙ sym (fault_of_no_event before d b.0 g a.1 b.1 b.2 b.3)
   same_fault before d f g (inr a) (inl b) = fault_of_no_event before d a.0 f b.1 a.1 a.2 a.3 ∙ sym b.0
@@ -92,18 +96,21 @@ module _ (has_start : Bool) where
       same_Some f g (sym a.3 ∙ (ap (fault_after before) same ∙ b.3))
 
   -- each event may stand where all may
-  stands_at : (before more : List Event) (e : Event) → list_all (may_stand has_start) (before ++ e ∷ more) ≡ true → may_stand has_start e ≡ true
+  stands_at : (before more : List Event) (e : Event) → list_all (may_stand has_start) (before ++ e ∷ more) ≡ true
+      → may_stand has_start e ≡ true
   stands_at before more e h =
       let back = (and_parts (list_all (may_stand has_start) before) (list_all (may_stand has_start) (e ∷ more))
       (sym (list_all-append (may_stand has_start) before (e ∷ more)) ∙ h)).1 in
       (and_parts (may_stand has_start e) (list_all (may_stand has_start) more) back).0
 
   -- no value inside the events of a history is faulty
-  no_fault_inside : (events before : List Event) (d : Data) (fault : HistoryFault) → GoesOnWith event_data events before d → AreEventsOfText has_start events
+  no_fault_inside : (events before : List Event) (d : Data) (fault : HistoryFault) → GoesOnWith event_data events before d
+      → AreEventsOfText has_start events
       → IsFaultAfter has_start before d fault → ⊥
   no_fault_inside events before d fault h are shows =
       let history = subst AreHistoryEvents h.parts are.history in
-      let standing = stands_at before h.more h.item (subst (λ (es : List Event). list_all (may_stand has_start) es ≡ true) h.parts are.standing) in
+      let standing = stands_at before h.more h.item (subst (λ (es : List Event). list_all (may_stand has_start) es ≡ true)
+          h.parts are.standing) in
       let none = AreHistoryEvents-next before h.more h.item history in
       ⊎_elim (λ a. a.1 h.item h.spelled (shaped_by (is_shaped h.item) (faults.Shape (length before)) _ none) standing)
       (λ a.
@@ -116,7 +123,8 @@ module _ (has_start : Bool) where
       → AreEventsOfText has_start before → AreEventsOfText has_start ahead → SplitsAlike event_data before ahead next after → f ≡ g
   events_alike f g before ahead next after a b first second (inl h) =
       same_fault ahead after f g
-      (subst (λ (d : Data). IsFaultAfter has_start ahead d f) h.1 (subst (λ (events : List Event). IsFaultAfter has_start events next f) h.0 a)) b
+      (subst (λ (d : Data). IsFaultAfter has_start ahead d f) h.1
+          (subst (λ (events : List Event). IsFaultAfter has_start events next f) h.0 a)) b
   events_alike f g before ahead next after a b first second (inr (inl h)) = absurd (no_fault_inside before ahead after g h first b)
   events_alike f g before ahead next after a b first second (inr (inr h)) = absurd (no_fault_inside ahead before next f h second a)
 
@@ -129,13 +137,15 @@ not_start : (d : Data) (fault : HistoryFault) (start : Option (List (ℕ × ℕ)
 not_start d fault start items h is sound =
     let docs = document_injective (Some (map pair_data h.before ++ h.next ∷ h.rest)) (start_data start) h.events items (sym h.parts ∙ is) in
     let values = start_values start (map pair_data h.before ++ h.next ∷ h.rest) docs.0 in
-    no_pair_fault_inside (start_pairs start) h.before h.next fault (item_at pair_data pair_data_injective h.before (start_pairs start) h.next h.rest values)
+    no_pair_fault_inside (start_pairs start) h.before h.next fault
+        (item_at pair_data pair_data_injective h.before (start_pairs start) h.next h.rest values)
     sound
     h.shows
 
 one_pair_fault : (d : Data) (f g : HistoryFault) → ShowsPairFault d f → ShowsPairFault d g → f ≡ g
 one_pair_fault d f g a b =
-    let docs = document_injective (Some (map pair_data a.before ++ a.next ∷ a.rest)) (Some (map pair_data b.before ++ b.next ∷ b.rest)) a.events b.events
+    let docs = document_injective (Some (map pair_data a.before ++ a.next ∷ a.rest))
+        (Some (map pair_data b.before ++ b.next ∷ b.rest)) a.events b.events
     (sym a.parts ∙ b.parts) in
     pairs_alike f g a.before b.before a.next b.next a.shows b.shows a.start b.start
     (two_splits pair_data pair_data_injective a.before b.before a.next b.next a.rest b.rest (same_Some _ _ docs.0))
@@ -146,7 +156,8 @@ one_event_fault d f g a b =
     (map event_data b.before ++ b.next ∷ b.rest)
     (sym a.parts ∙ b.parts) in
     let same = ap (λ (s : Option (List (ℕ × ℕ))). is_some s) (start_data_injective a.start b.start docs.0) in
-    events_alike (is_some b.start) f g a.before b.before a.next b.next (subst (λ (has : Bool). IsFaultAfter has a.before a.next f) same a.shows) b.shows
+    events_alike (is_some b.start) f g a.before b.before a.next b.next
+        (subst (λ (has : Bool). IsFaultAfter has a.before a.next f) same a.shows) b.shows
     (subst (λ (has : Bool). AreEventsOfText has a.before) same a.events) b.events
     (two_splits event_data event_data_injective a.before b.before a.next b.next a.rest b.rest docs.1)
 
@@ -186,7 +197,8 @@ IsFaulty-from_fault text faults.NotJson h other = not_json h.0 h.1
 IsFaulty-from_fault text faults.Version h other = faulty faults.Version h.0 h.1 (version h.2)
 IsFaulty-from_fault text (faults.Shape at) h other = faulty (faults.Shape at) h.0 h.1 (shown_fault h.0 (faults.Shape at) h.2)
 IsFaulty-from_fault text faults.TooMany h other = faulty faults.TooMany h.0 h.1 (shown_fault h.0 faults.TooMany h.2)
-IsFaulty-from_fault text (faults.NotWellFormed at) h other = faulty (faults.NotWellFormed at) h.0 h.1 (shown_fault h.0 (faults.NotWellFormed at) h.2)
+IsFaulty-from_fault text (faults.NotWellFormed at) h other =
+    faulty (faults.NotWellFormed at) h.0 h.1 (shown_fault h.0 (faults.NotWellFormed at) h.2)
 IsFaulty-from_fault text faults.Memory h other = absurd (other refl)
 IsFaulty-from_fault text (faults.Start at) h other = faulty (faults.Start at) h.0 h.1 (shown_fault h.0 (faults.Start at) h.2)
 
@@ -208,17 +220,20 @@ pub one_fault : HasOneFault
 one_fault text f g a b other_f other_g = one_faulty text (IsFaulty-from_fault text f a other_f) (IsFaulty-from_fault text g b other_g)
 
 -- a value that spells a history has no fault
-faulty_spells_none : (text : List ℕ) (d : Data) (history : HistoryView) {fault : HistoryFault} → IsJson text d → IsFaultyDocument d fault → Spells text history
+faulty_spells_none : (text : List ℕ) (d : Data) (history : HistoryView) {fault : HistoryFault} → IsJson text d → IsFaultyDocument d fault
+    → Spells text history
     → IsHistory history → ⊥
 faulty_spells_none text d history json (version none) spelled sound =
     let s = spelled.spelled in
     none (start_data s.start) (map event_data history.events) (same_value text d spelled.value json spelled.json ∙ s.value)
 faulty_spells_none text d history json (pair f a) spelled sound =
     let s = spelled.spelled in
-    not_start d f s.start (map event_data history.events) a (same_value text d spelled.value json spelled.json ∙ s.value) (subst IsStart s.starts sound.start)
+    not_start d f s.start (map event_data history.events) a (same_value text d spelled.value json spelled.json ∙ s.value)
+        (subst IsStart s.starts sound.start)
 faulty_spells_none text d history json (event f a) spelled sound =
     let s = spelled.spelled in
-    let docs = document_injective (start_data a.start) (start_data s.start) (map event_data a.before ++ a.next ∷ a.rest) (map event_data history.events)
+    let docs = document_injective (start_data a.start) (start_data s.start) (map event_data a.before ++ a.next ∷ a.rest)
+        (map event_data history.events)
     (sym a.parts ∙ (same_value text d spelled.value json spelled.json ∙ s.value)) in
     let same = ap (λ (o : Option (List (ℕ × ℕ))). is_some o) (start_data_injective a.start s.start docs.0) in
     no_fault_inside (is_some s.start) history.events a.before a.next f
@@ -235,14 +250,16 @@ pub no_history : FaultySpellsNoHistory
 no_history text f history h other spelled sound = not_spelled text history (IsFaulty-from_fault text f h other) spelled sound
 
 -- where a text spells a history, only want of memory refuses it
-pub memory_alone : (text : List ℕ) (history : HistoryView) (fault : HistoryFault) → Spells text history → IsHistory history → IsTextFault text fault
+pub memory_alone : (text : List ℕ) (history : HistoryView) (fault : HistoryFault) → Spells text history → IsHistory history
+    → IsTextFault text fault
     → fault ≡ faults.Memory
 memory_alone text history faults.TooLong spelled sound h = absurd (no_history text faults.TooLong history h (λ e. cc) spelled sound)
 memory_alone text history faults.NotJson spelled sound h = absurd (no_history text faults.NotJson history h (λ e. cc) spelled sound)
 memory_alone text history faults.Version spelled sound h = absurd (no_history text faults.Version history h (λ e. cc) spelled sound)
 memory_alone text history (faults.Shape at) spelled sound h = absurd (no_history text (faults.Shape at) history h (λ e. cc) spelled sound)
 memory_alone text history faults.TooMany spelled sound h = absurd (no_history text faults.TooMany history h (λ e. cc) spelled sound)
-memory_alone text history (faults.NotWellFormed at) spelled sound h = absurd (no_history text (faults.NotWellFormed at) history h (λ e. cc) spelled sound)
+memory_alone text history (faults.NotWellFormed at) spelled sound h =
+    absurd (no_history text (faults.NotWellFormed at) history h (λ e. cc) spelled sound)
 memory_alone text history faults.Memory spelled sound h = refl
 memory_alone text history (faults.Start at) spelled sound h = absurd (no_history text (faults.Start at) history h (λ e. cc) spelled sound)
 
@@ -260,7 +277,8 @@ fault_of_document text d faults.Memory json h = tt
 fault_of_document text d (faults.Start at) json h = (d, json, h)
 
 -- a fault among the values of the events is one of the document, where nothing is wrong with the start
-pub fault_of_events : (d : Data) (start : Option (List (ℕ × ℕ))) (items : List Data) (fault : HistoryFault) → d ≡ document (start_data start) items
+pub fault_of_events : (d : Data) (start : Option (List (ℕ × ℕ))) (items : List Data) (fault : HistoryFault)
+    → d ≡ document (start_data start) items
     → IsStart (start_pairs start) → IsFaultAmong (is_some start) items fault → IsDocumentFault d fault
 fault_of_events d start items fault is sound h = by_fault fault h
   where
@@ -287,6 +305,7 @@ fault_of_events d start items fault is sound h = by_fault fault h
     by_fault (faults.Start at) k = absurd k
 
 pub refused_with : (d : Data) (start : Option (List (ℕ × ℕ))) (items : List Data) (r : Result HistoryView HistoryFault)
-    → d ≡ document (start_data start) items → IsStart (start_pairs start) → IfErr r (IsFaultAmong (is_some start) items) → IfErr r (IsDocumentFault d)
+    → d ≡ document (start_data start) items → IsStart (start_pairs start) → IfErr r (IsFaultAmong (is_some start) items)
+    → IfErr r (IsDocumentFault d)
 refused_with d start items (Ok h) is sound refused = tt
 refused_with d start items (Err fault) is sound refused = fault_of_events d start items fault is sound refused

@@ -66,7 +66,8 @@ reply_data_injective (replies.Some value) replies.Refused h = cc
 reply_data_injective (replies.Pairs pairs) replies.None h = cc
 reply_data_injective (replies.Pairs pairs) (replies.Some value2) h = cc
 reply_data_injective (replies.Pairs pairs) (replies.Pairs pairs2) h =
-    ap replies.Pairs (map_injective pair_data pair_data_injective pairs pairs2 (list_data_injective (map pair_data pairs) (map pair_data pairs2) h))
+    ap replies.Pairs (map_injective pair_data pair_data_injective pairs pairs2 (list_data_injective (map pair_data pairs)
+        (map pair_data pairs2) h))
 reply_data_injective (replies.Pairs pairs) replies.Refused h = cc
 reply_data_injective replies.Refused replies.None h = cc
 reply_data_injective replies.Refused (replies.Some value2) h = cc
@@ -86,8 +87,10 @@ pub event_data_injective : (a b : Event) → event_data a ≡ event_data b → a
 event_data_injective (Invoke p call) (Invoke q call2) h =
     let same : call ≡ call2 = call_data_injective call call2 (cc) in
     cc
-event_data_injective (Invoke p call) (Answer q reply2) h = absurd (kinds_differ (call_data call) (number_data p) (reply_data reply2) (number_data q) h)
-event_data_injective (Answer p reply) (Invoke q call2) h = absurd (kinds_differ (call_data call2) (number_data q) (reply_data reply) (number_data p) (sym h))
+event_data_injective (Invoke p call) (Answer q reply2) h =
+    absurd (kinds_differ (call_data call) (number_data p) (reply_data reply2) (number_data q) h)
+event_data_injective (Answer p reply) (Invoke q call2) h =
+    absurd (kinds_differ (call_data call2) (number_data q) (reply_data reply) (number_data p) (sym h))
 event_data_injective (Answer p reply) (Answer q reply2) h =
     let same : reply ≡ reply2 = reply_data_injective reply reply2 (cc) in
     cc

@@ -1,6 +1,7 @@
 -- The first faulty value of a list: it spells no pair or event, or one that may not follow those before it.
 use Rattle.events.specs.declared.fault.HistoryFault.TheVariants as faults
-use Rattle.std.proofs.Common.{◌≡◌, ℕ, ◌+◌, ◌<◌, Bool, true, false, not, ◌||◌, nat_le, cond, List, ◌∷◌, ◌++◌, length, map, take, drop, get_or, Some, None}
+use Rattle.std.proofs.Common.{◌≡◌, ℕ, ◌+◌, ◌<◌, Bool, true, false, not, ◌||◌, nat_le, cond, List, ◌∷◌, ◌++◌, length, map, take, drop}
+use Rattle.std.proofs.Common.{get_or, Some, None}
 use Rattle.std.proofs.Common.{subst, refl, sym, ap, ◌∙◌, arith, inl, inr, leb-false}
 use Rattle.std.specs.Prelude.{IsTrue}
 use Rattle.std.proofs.lemmas.Bool.{leb-true}
@@ -15,11 +16,13 @@ use Rattle.events.specs.Limits.{start_limit}
 use Rattle.events.specs.Starts.{IsStart}
 use Rattle.events.specs.Events.{process_of}
 use Rattle.events.specs.Histories.{is_shaped, is_small, call_count}
-use Rattle.events.specs.HistoryFaults.{is_out_of_turn, is_call_too_many, has_open_call, fault_after, IsRefusedAfter, is_above, pair_fault_after}
+use Rattle.events.specs.HistoryFaults.{is_out_of_turn, is_call_too_many, has_open_call, fault_after, IsRefusedAfter, is_above}
+use Rattle.events.specs.HistoryFaults.{pair_fault_after}
 use Rattle.events.specs.HistoryFaults.{IsPairRefusedAfter}
 use Rattle.history_text.specs.Texts.{pair_data, event_data, may_stand}
 use Rattle.history_text.specs.TextFaults.{IsPairFaultAfter, AreEventsOfText}
-use Rattle.history_text.specs.ValueFaults.{IsValueFault, IsPairValueFault, ShowsPairFaultAmong, IsPairFaultAmong, ShowsFaultAmong, IsFaultAmong}
+use Rattle.history_text.specs.ValueFaults.{IsValueFault, IsPairValueFault, ShowsPairFaultAmong, IsPairFaultAmong, ShowsFaultAmong}
+use Rattle.history_text.specs.ValueFaults.{IsFaultAmong}
 use Rattle.list_laws.proofs.Places.{parts_at}
 use Rattle.history_text.proofs.TextLemmas.{pair_data_injective}
 
@@ -30,7 +33,8 @@ module _ {A : Type 0} (f : A → Data) where
       omega (arith, length-map (take i vs) view, length-map before f, ap length spelled, length-take-le i vs (omega arith))
 
   -- the values are those of the items, the value at the place, and the rest
-  pub values_at : (vs : List Value) (before : List A) (i : ℕ) (v : Value) → i < length vs → v ≡ get_or vs i v → map view (take i vs) ≡ map f before
+  pub values_at : (vs : List Value) (before : List A) (i : ℕ) (v : Value) → i < length vs → v ≡ get_or vs i v
+      → map view (take i vs) ≡ map f before
       → map view vs ≡ map f before ++ view v ∷ map view (drop (i + 1) vs)
   values_at vs before i v within here spelled =
       ap (map view) (parts_at vs i v within here)
@@ -39,7 +43,8 @@ module _ {A : Type 0} (f : A → Data) where
 -- ---- pairs
 
 -- a value that is refused by itself is faulty wherever it stands
-pub pair_fault_alone : (before : List (ℕ × ℕ)) (d : Data) (fault : HistoryFault) → IsPairValueFault (length before) d fault → (rest items : List Data)
+pub pair_fault_alone : (before : List (ℕ × ℕ)) (d : Data) (fault : HistoryFault) → IsPairValueFault (length before) d fault
+    → (rest items : List Data)
     → items ≡ map pair_data before ++ d ∷ rest → IsStart before → IsPairFaultAmong items fault
 pair_fault_alone before d faults.TooLong h rest items parts start = absurd h
 pair_fault_alone before d faults.NotJson h rest items parts start = absurd h
@@ -59,12 +64,14 @@ pair_fault_alone before d (faults.Start at) h rest items parts start = record {
 }
 
 -- a value whose pair may not follow those before it is faulty there
-pair_fault_shown : (before : List (ℕ × ℕ)) (pair : ℕ × ℕ) (d : Data) (fault : HistoryFault) → pair_fault_after before pair ≡ Some fault → d ≡ pair_data pair
+pair_fault_shown : (before : List (ℕ × ℕ)) (pair : ℕ × ℕ) (d : Data) (fault : HistoryFault) → pair_fault_after before pair ≡ Some fault
+    → d ≡ pair_data pair
     → IsPairFaultAfter before d fault
 pair_fault_shown before pair d fault h is = by_tests (nat_le start_limit (length before)) refl (is_above before pair.0) refl h
   where
     by_tests : (b : Bool) → nat_le start_limit (length before) ≡ b → (c : Bool) → is_above before pair.0 ≡ c
-        → cond b (Some faults.TooMany) (cond (not c) (Some (faults.Start (length before))) None) ≡ Some fault → IsPairFaultAfter before d fault
+        → cond b (Some faults.TooMany) (cond (not c) (Some (faults.Start (length before))) None) ≡ Some fault
+        → IsPairFaultAfter before d fault
     by_tests true full c above shown = inl (sym (same_Some faults.TooMany fault shown), leb-true start_limit (length before) full)
     by_tests false room false not_above shown = inr (
       sym (same_Some (faults.Start (length before)) fault shown),
@@ -75,11 +82,13 @@ pair_fault_shown before pair d fault h is = by_tests (nat_le start_limit (length
 
 -- a value whose pair was refused after those before it is faulty there, unless memory ran out
 pub pair_fault_on_taking : (before : List (ℕ × ℕ)) (pair : ℕ × ℕ) (d : Data) (fault : HistoryFault) (rest items : List Data)
-    → IsPairRefusedAfter before pair fault → d ≡ pair_data pair → items ≡ map pair_data before ++ d ∷ rest → IsStart before → IsPairFaultAmong items fault
+    → IsPairRefusedAfter before pair fault → d ≡ pair_data pair → items ≡ map pair_data before ++ d ∷ rest → IsStart before
+    → IsPairFaultAmong items fault
 pair_fault_on_taking before pair d fault rest items h is parts start = by_fault fault h
   where
     shown : (g : HistoryFault) → pair_fault_after before pair ≡ Some g → ShowsPairFaultAmong items g
-    shown g k = record { before = before; next = d; rest = rest; parts = parts; start = start; shows = pair_fault_shown before pair d g k is }
+    shown g k = record { before = before; next = d; rest = rest; parts = parts; start = start; shows = pair_fault_shown
+        before pair d g k is }
 
     by_fault : (g : HistoryFault) → IsPairRefusedAfter before pair g → IsPairFaultAmong items g
     by_fault faults.TooLong k = shown faults.TooLong k
@@ -94,7 +103,8 @@ pair_fault_on_taking before pair d fault rest items h is parts start = by_fault 
 -- ---- events
 
 -- a value that is refused by itself is faulty wherever it stands
-pub fault_alone : (has_start : Bool) (before : List Event) (d : Data) (fault : HistoryFault) → IsValueFault has_start (length before) d fault
+pub fault_alone : (has_start : Bool) (before : List Event) (d : Data) (fault : HistoryFault)
+    → IsValueFault has_start (length before) d fault
     → (rest items : List Data) → items ≡ map event_data before ++ d ∷ rest → AreEventsOfText has_start before
     → IsFaultAmong has_start items fault
 fault_alone has_start before d faults.TooLong h rest items parts events = h
@@ -117,7 +127,8 @@ IsFaultBy place shaped fault = ⊥
 
 -- the first test that fails tells the fault
 three_faults : (s m c t : Bool) (place : ℕ) (fault : HistoryFault)
-    → cond (not s) (Some (faults.Shape place)) (cond (not m || c) (Some faults.TooMany) (cond t (Some (faults.NotWellFormed place)) None)) ≡ Some fault
+    → cond (not s) (Some (faults.Shape place))
+        (cond (not m || c) (Some faults.TooMany) (cond t (Some (faults.NotWellFormed place)) None)) ≡ Some fault
     → IsFaultBy place s fault
 three_faults false m c t place fault h = subst (IsFaultBy place false) (same_Some (faults.Shape place) fault h) (refl, refl)
 three_faults true false c t place fault h = subst (IsFaultBy place true) (same_Some faults.TooMany fault h) refl
@@ -129,7 +140,8 @@ three_faults true true false false place fault h = cc
 IsFaultBy-fault_after : (before : List Event) (e : Event) (fault : HistoryFault) → fault_after before e ≡ Some fault
     → IsFaultBy (length before) (is_shaped e) fault
 IsFaultBy-fault_after before e fault h =
-    three_faults (is_shaped e) (is_small e) (is_call_too_many (call_count before) e) (is_out_of_turn (has_open_call (process_of e) before) e)
+    three_faults (is_shaped e) (is_small e) (is_call_too_many (call_count before) e)
+        (is_out_of_turn (has_open_call (process_of e) before) e)
     (length before) fault h
 
 -- a value whose event was refused after those before it is faulty there, unless memory ran out

@@ -55,7 +55,8 @@ has_float-history history = either (is_plain history)
     pairs = items_have_float-map pair_data (λ pair. refl) history.start
 
     either : (b : Bool)
-        → has_float (cond b (document None (map event_data history.events)) (document (Some (map pair_data history.start)) (map event_data history.events)))
+        → has_float (cond b (document None (map event_data history.events))
+            (document (Some (map pair_data history.start)) (map event_data history.events)))
         ≡ false
     either true = rw events refl
     either false = rw (events, pairs) refl
@@ -85,6 +86,8 @@ pub depth-history : (history : HistoryView) → depth (history_data history) ≤
 depth-history history = either (is_plain history)
   where
     either : (b : Bool)
-        → depth (cond b (document None (map event_data history.events)) (document (Some (map pair_data history.start)) (map event_data history.events))) ≤ 5
+        → depth (cond b (document None (map event_data history.events))
+            (document (Some (map pair_data history.start)) (map event_data history.events))) ≤ 5
     either true = omega (arith, items_depth-map event_data 3 depth-event history.events)
-    either false = omega (arith, items_depth-map event_data 3 depth-event history.events, items_depth-map pair_data 1 (λ pair. omega arith) history.start)
+    either false = omega (arith, items_depth-map event_data 3 depth-event history.events, items_depth-map pair_data 1
+        (λ pair. omega arith) history.start)

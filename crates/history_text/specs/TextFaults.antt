@@ -18,7 +18,8 @@ use Rattle.history_text.specs.Texts.{pair_data, event_data, document, start_data
 abbrev pub IsPairFaultAfter : List (ℕ × ℕ) → Data → HistoryFault → Type 0
 IsPairFaultAfter before d fault =
     ((fault ≡ faults.TooMany) × (start_limit ≤ length before))
-    ⊎ ((fault ≡ faults.Start (length before)) × (length before < start_limit) × ((pair : ℕ × ℕ) → d ≡ pair_data pair → is_above before pair.0 ≡ false))
+    ⊎ ((fault ≡ faults.Start (length before)) × (length before < start_limit)
+    × ((pair : ℕ × ℕ) → d ≡ pair_data pair → is_above before pair.0 ≡ false))
 
 -- the start begins with pairs that a history may start with, and what stands after them shows the fault, whatever the events are
 pub record ShowsPairFault (d : Data) (fault : HistoryFault) : Type 0 where

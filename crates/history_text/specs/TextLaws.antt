@@ -18,4 +18,5 @@ HasOneFault = (text : List ℕ) (f g : HistoryFault) → IsTextFault text f → 
 -- a text with a fault spells no history
 abbrev pub FaultySpellsNoHistory : Type 0
 FaultySpellsNoHistory =
-    (text : List ℕ) (f : HistoryFault) (history : HistoryView) → IsTextFault text f → f ≢ faults.Memory → Spells text history → IsHistory history → ⊥
+    (text : List ℕ) (f : HistoryFault) (history : HistoryView) → IsTextFault text f → f ≢ faults.Memory → Spells text history
+        → IsHistory history → ⊥

@@ -1,5 +1,6 @@
 -- What the answers on the segments so far have shown, where none is without order.
-use Rattle.std.proofs.Common.{◌≡◌, ℕ, Global, List, [], ◌∷◌, ◌++◌, Option, Some, None, true, false, ap, sym, subst, inl, inr, refl, ⊎_elim, arith, ◌∙◌}
+use Rattle.std.proofs.Common.{◌≡◌, ℕ, Global, List, [], ◌∷◌, ◌++◌, Option, Some, None, true, false, ap, sym, subst, inl, inr, refl, ⊎_elim}
+use Rattle.std.proofs.Common.{arith, ◌∙◌}
 use Rattle.std.specs.Prelude.{◌⊎◌, All}
 use Rattle.std.specs.Option.{is_some}
 use Rattle.std.specs.List.{AllZip}
@@ -36,14 +37,16 @@ AllZip-more R (a ∷ xs) [] x y h r = absurd h
 AllZip-more R (a ∷ xs) (b ∷ ys) x y h r = (h.0, AllZip-more R xs ys x y h.1 r)
 
 -- a weaker relation holds too
-pub AllZip-weaker : {A B : Type 0} (R Q : A → B → Type 0) → ((x : A) (y : B) → R x y → Q x y) → (xs : List A) (ys : List B) → AllZip R xs ys → AllZip Q xs ys
+pub AllZip-weaker : {A B : Type 0} (R Q : A → B → Type 0) → ((x : A) (y : B) → R x y → Q x y) → (xs : List A) (ys : List B)
+    → AllZip R xs ys → AllZip Q xs ys
 AllZip-weaker R Q weaker [] [] h = tt
 AllZip-weaker R Q weaker [] (y ∷ ys) h = absurd h
 AllZip-weaker R Q weaker (x ∷ xs) [] h = absurd h
 AllZip-weaker R Q weaker (x ∷ xs) (y ∷ ys) h = (weaker x y h.0, AllZip-weaker R Q weaker xs ys h.1)
 
 -- what holds wherever the relation holds, holds of each first one
-All-firsts : {A B : Type 0} (R : A → B → Type 0) (P : A → Type 0) → ((x : A) (y : B) → R x y → P x) → (xs : List A) (ys : List B) → AllZip R xs ys → All P xs
+All-firsts : {A B : Type 0} (R : A → B → Type 0) (P : A → Type 0) → ((x : A) (y : B) → R x y → P x) → (xs : List A) (ys : List B)
+    → AllZip R xs ys → All P xs
 All-firsts R P weaker [] ys h = All-nil P
 All-firsts R P weaker (x ∷ xs) [] h = absurd h
 All-firsts R P weaker (x ∷ xs) (y ∷ ys) h = All-cons P x xs (weaker x y h.0) (All-firsts R P weaker xs ys h.1)
@@ -100,7 +103,8 @@ pub IsOrderedOrSpent-all : (budget : ℕ) (segments : List SegmentView) (orders 
 IsOrderedOrSpent-all budget segments orders None h =
     All-firsts (IsOrderedBy budget) (IsOrderedOrSpent budget) (λ s o found. inl (o, found)) segments orders h
 IsOrderedOrSpent-all budget segments orders (Some spent) h = subst (All (IsOrderedOrSpent budget)) (sym h.is)
-    (All-append (IsOrderedOrSpent budget) h.below (spent ∷ h.above) (All-weaker (IsOrdered budget) (IsOrderedOrSpent budget) (λ s is. inl is) h.below h.lowest)
+    (All-append (IsOrderedOrSpent budget) h.below (spent ∷ h.above)
+        (All-weaker (IsOrdered budget) (IsOrderedOrSpent budget) (λ s is. inl is) h.below h.lowest)
     (All-cons (IsOrderedOrSpent budget) spent h.above (inr h.spent) h.unrefuted))
 
 -- ---- a walk over the segments with their answers

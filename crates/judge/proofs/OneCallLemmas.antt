@@ -15,7 +15,8 @@ use Rattle.segments.proofs.SegmentLemmas.{known-IsSegment, calls-IsSegment}
 use Rattle.judge.specs.Shows.{ShowsUndecided}
 
 -- a segment has no more calls than the history
-length-segment_le : (start : Contents) (calls : List Operation) (segment : SegmentView) → IsSegment start calls segment → length segment.calls ≤ length calls
+length-segment_le : (start : Contents) (calls : List Operation) (segment : SegmentView) → IsSegment start calls segment
+    → length segment.calls ≤ length calls
 length-segment_le start calls segment h =
     let known = known-IsSegment start calls segment h in
     let distinct =

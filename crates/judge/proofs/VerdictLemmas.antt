@@ -20,7 +20,8 @@ use Rattle.merge_orders.specs.Merge.{IsMergedOrder}
 use Rattle.judge.specs.declared.verdict.Verdict.{Verdict}
 use Rattle.judge.specs.declared.verdict.Verdict.TheVariants.{Yes, No, Undecided}
 use Rattle.judge.specs.Shows.{HasOrder, IsBeyond, IsUnrefuted, ShowsYes, ShowsNo, ShowsUndecided}
-use Rattle.judge.specs.Exact.{IsOrderedBy, IsOrdered, IsRefuted, IsSpent, IsOrderedOrSpent, IsExactYes, IsExactNo, IsExactUndecided, IsExactVerdict}
+use Rattle.judge.specs.Exact.{IsOrderedBy, IsOrdered, IsRefuted, IsSpent, IsOrderedOrSpent, IsExactYes, IsExactNo, IsExactUndecided}
+use Rattle.judge.specs.Exact.{IsExactVerdict}
 use Rattle.judge.specs.Exact.{AreSameVerdict}
 use Rattle.judge.specs.Laws.{OneExactVerdict, OneReport}
 use Rattle.judge.specs.Reports.{verdict_data}
@@ -29,12 +30,14 @@ use Rattle.history_text.specs.TextLaws.{SpellsOneHistory}
 use Rattle.serde_json.specs.Written.{compact_text}
 
 -- what holds of all holds of the one in the middle
-All-here : (P : SegmentView → Type 0) (below : List SegmentView) (s : SegmentView) (above : List SegmentView) → All P (below ++ s ∷ above) → P s
+All-here : (P : SegmentView → Type 0) (below : List SegmentView) (s : SegmentView) (above : List SegmentView)
+    → All P (below ++ s ∷ above) → P s
 All-here P below s above h = All-contains P (below ++ s ∷ above) s h (Contains-append_right below (s ∷ above) s (Contains-first s above))
 
 -- the first of which P holds is one, where what stands below has Q, and P and Q exclude each other
 first_unique : (P Q : SegmentView → Type 0) → ((s : SegmentView) → P s → Q s → ⊥) → (below : List SegmentView) (s : SegmentView)
-    (above others : List SegmentView) (t : SegmentView) (beyond : List SegmentView) → below ++ s ∷ above ≡ others ++ t ∷ beyond → P s → P t → All Q below
+    (above others : List SegmentView) (t : SegmentView) (beyond : List SegmentView) → below ++ s ∷ above ≡ others ++ t ∷ beyond → P s
+        → P t → All Q below
     → All Q others → s ≡ t
 first_unique P Q apart [] s above [] t beyond e p q b o = cc
 first_unique P Q apart [] s above (x ∷ others) t beyond e p q b o =
@@ -63,7 +66,8 @@ module _ (budget : ℕ) where
 
   -- ---- what an exact verdict shows
 
-  pub shows_yes : (start : Contents) (calls : List Operation) (order : List ℕ) → IsExactYes start budget calls order → IsOrder start calls order
+  pub shows_yes : (start : Contents) (calls : List Operation) (order : List ℕ) → IsExactYes start budget calls order
+      → IsOrder start calls order
       → ShowsYes start calls order
   shows_yes start calls order h is_order = record {
     segments = h.segments;
@@ -74,7 +78,8 @@ module _ (budget : ℕ) where
     merged = h.merged;
   }
 
-  pub shows_no : (start : Contents) (calls : List Operation) (segment : SegmentView) → IsExactNo start budget calls segment → (IsLinearizable start calls → ⊥)
+  pub shows_no : (start : Contents) (calls : List Operation) (segment : SegmentView) → IsExactNo start budget calls segment
+      → (IsLinearizable start calls → ⊥)
       → ShowsNo start budget calls segment
   shows_no start calls segment h no_order = record {
     below = h.below;
@@ -132,7 +137,8 @@ module _ (budget : ℕ) where
   -- ---- one verdict
 
   pub one_verdict : (history : HistoryView) (a b : Verdict) → HasOneListOfSegments → HasOneMergedOrder → IsHistory history
-      → IsExactVerdict history.start budget (operations history.events) a → IsExactVerdict history.start budget (operations history.events) b
+      → IsExactVerdict history.start budget (operations history.events) a
+      → IsExactVerdict history.start budget (operations history.events) b
       → AreSameVerdict a b
   one_verdict history (Yes a) (Yes b) one_list one_merged is h k =
       let segments = one_list history h.segments k.segments is h.are_segments k.are_segments in
@@ -155,7 +161,8 @@ module _ (budget : ℕ) where
       refuted_is_not_else a h.refuted (inl (All-here (IsOrdered budget) h.below a h.above ordered))
   one_verdict history (No a) (No b) one_list one_merged is h k =
       let segments = one_list history (h.below ++ a ∷ h.above) (k.below ++ b ∷ k.above) is h.are_segments k.are_segments in
-      first_unique (IsRefuted budget) (IsOrderedOrSpent budget) refuted_is_not_else h.below a h.above k.below b k.above segments h.refuted k.refuted
+      first_unique (IsRefuted budget) (IsOrderedOrSpent budget) refuted_is_not_else h.below a h.above k.below b k.above segments
+          h.refuted k.refuted
       h.lowest k.lowest
   one_verdict history (No a) (Undecided b) one_list one_merged is h k =
       let segments = one_list history (k.below ++ b ∷ k.above) (h.below ++ a ∷ h.above) is k.are_segments h.are_segments in

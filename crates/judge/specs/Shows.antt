@@ -1,4 +1,5 @@
--- What a verdict shows of the calls of a history, where these pairs stand in the map before the first call. Orders are the linearizations of Herlihy and Wing
+-- What a verdict shows of the calls of a history, where these pairs stand in the map before the first call. Orders are the linearizations
+-- of Herlihy and Wing
 -- 1990, section 2.
 use Rattle.std.specs.Prelude.{◌⊎◌, ℕ, List, ◌∷◌, ◌++◌, All}
 use Rattle.std.specs.List.{AllZip}
@@ -23,7 +24,8 @@ IsBeyond budget segment = ReachesMoreThan segment.start segment.calls budget
 abbrev pub IsUnrefuted : ℕ → SegmentView → Type 0
 IsUnrefuted budget segment = HasOrder segment ⊎ IsBeyond budget segment
 
--- yes: an order of the whole history, with all completed and some pending calls, that keeps each response-before-invocation pair and in which a sorted list
+-- yes: an order of the whole history, with all completed and some pending calls, that keeps each response-before-invocation pair and in
+-- which a sorted list
 -- used alone gives every recorded reply; it merges orders of the segments
 pub record ShowsYes (start : Contents) (calls : List Operation) (order : List ℕ) : Type 0 where
   pub segments : List SegmentView
@@ -42,7 +44,8 @@ pub record ShowsNo (start : Contents) (budget : ℕ) (calls : List Operation) (s
   pub are_segments : AreSegments start calls (below ++ segment ∷ above)
   pub lowest : All (IsUnrefuted budget) below
 
--- undecided: the named segment has more reachable configurations than the budget; those below it have orders, and no segment above it makes it a no
+-- undecided: the named segment has more reachable configurations than the budget; those below it have orders, and no segment above it makes
+-- it a no
 pub record ShowsUndecided (start : Contents) (budget : ℕ) (calls : List Operation) (segment : SegmentView) : Type 0 where
   pub below : List SegmentView
   pub above : List SegmentView

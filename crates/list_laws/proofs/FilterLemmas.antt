@@ -1,5 +1,6 @@
 -- Laws of filters and of mapped lists that std has not.
-use Rattle.std.proofs.Common.{◌≡◌, ℕ, Bool, true, false, ◌&&◌, cond, List, [], ◌∷◌, get_or, filter, map, Option, Some, None, refl, sym, ap, ◌∙◌, subst, ⊎_elim}
+use Rattle.std.proofs.Common.{◌≡◌, ℕ, Bool, true, false, ◌&&◌, cond, List, [], ◌∷◌, get_or, filter, map, Option, Some, None, refl, sym, ap}
+use Rattle.std.proofs.Common.{◌∙◌, subst, ⊎_elim}
 use Rattle.std.proofs.Common.{arith}
 use Rattle.std.specs.Prelude.{◌<◌, slice_get, AllPairs, Contains, filter_map}
 use Rattle.std.specs.List.{cons_option}
@@ -7,11 +8,13 @@ use Rattle.std.proofs.lemmas.Bool.{false≢true}
 use Rattle.std.proofs.lemmas.List.Elements.{All-map, All-contains, Contains-get_or, filter_agree}
 use Rattle.std.proofs.lemmas.List.Kept.{AllPairs-cons}
 use Rattle.std.proofs.lemmas.Option.{none-some, same_Some, slice_get_within, get_or_from_slice_get}
-use Rattle.list_laws.proofs.Lists.{AllPairs-nil, AllPairs-head, AllPairs-tail, Contains-first, Contains-later, Contains-nil, Contains-cases, All-from_contains}
+use Rattle.list_laws.proofs.Lists.{AllPairs-nil, AllPairs-head, AllPairs-tail, Contains-first, Contains-later, Contains-nil, Contains-cases}
+use Rattle.list_laws.proofs.Lists.{All-from_contains}
 use Rattle.list_laws.proofs.Lists.{filter_none}
 
 -- a filter of a list whose first element is there or not
-filter_cond : {X : Type 0} (p : X → Bool) (x : X) (xs : List X) (b : Bool) → filter p (cond b (x ∷ xs) xs) ≡ cond (b && p x) (x ∷ filter p xs) (filter p xs)
+filter_cond : {X : Type 0} (p : X → Bool) (x : X) (xs : List X) (b : Bool)
+    → filter p (cond b (x ∷ xs) xs) ≡ cond (b && p x) (x ∷ filter p xs) (filter p xs)
 filter_cond p x xs true = refl
 filter_cond p x xs false = refl
 
@@ -29,7 +32,8 @@ and_comm false false = refl
 
 -- two filters keep the same in either order
 pub filter_comm : {X : Type 0} (p q : X → Bool) (xs : List X) → filter p (filter q xs) ≡ filter q (filter p xs)
-filter_comm p q xs = filter-filter p q xs ∙ (filter_agree (λ x. q x && p x) (λ x. p x && q x) (λ x. and_comm (q x) (p x)) xs ∙ sym (filter-filter q p xs))
+filter_comm p q xs = filter-filter p q xs ∙ (filter_agree (λ x. q x && p x) (λ x. p x && q x) (λ x. and_comm (q x) (p x)) xs ∙ sym
+    (filter-filter q p xs))
 
 -- a test that a second one implies adds nothing to it
 and_implied : (a b : Bool) → (a ≡ true → b ≡ true) → (b && a) ≡ a
@@ -38,7 +42,8 @@ and_implied false true h = refl
 and_implied false false h = refl
 
 -- a filter that keeps all that a second one keeps changes nothing below it
-pub filter_implied : {X : Type 0} (p q : X → Bool) (xs : List X) → ((x : X) → p x ≡ true → q x ≡ true) → filter p (filter q xs) ≡ filter p xs
+pub filter_implied : {X : Type 0} (p q : X → Bool) (xs : List X) → ((x : X) → p x ≡ true → q x ≡ true)
+    → filter p (filter q xs) ≡ filter p xs
 filter_implied p q xs h = filter-filter p q xs ∙ filter_agree (λ x. q x && p x) p (λ x. and_implied (p x) (q x) (h x)) xs
 
 -- two tests of which one excludes the other fail together
@@ -50,7 +55,8 @@ and_excluded false false h = refl
 -- nothing passes two tests that exclude each other
 pub filter_excluded : {X : Type 0} (p q : X → Bool) (xs : List X) → ((x : X) → p x ≡ true → q x ≡ false) → filter p (filter q xs) ≡ []
 filter_excluded p q xs h =
-    filter-filter p q xs ∙ filter_none (λ x. q x && p x) xs (λ k d within. and_excluded (p (get_or xs k d)) (q (get_or xs k d)) (h (get_or xs k d)))
+    filter-filter p q xs ∙ filter_none (λ x. q x && p x) xs (λ k d within. and_excluded (p (get_or xs k d)) (q (get_or xs k d))
+        (h (get_or xs k d)))
 
 -- an element that passes is kept
 pub filter_yes : {X : Type 0} (p : X → Bool) (x : X) (xs : List X) → p x ≡ true → filter p (x ∷ xs) ≡ x ∷ filter p xs
@@ -72,7 +78,8 @@ pub Contains-from_filter : {X : Type 0} (p : X → Bool) (xs : List X) (x : X) �
 Contains-from_filter p [] x h = absurd (Contains-nil x h)
 Contains-from_filter p (y ∷ xs) x h = kept (p y) refl h (Contains-from_filter p xs x)
   where
-    kept : (b : Bool) → p y ≡ b → Contains (cond b (y ∷ filter p xs) (filter p xs)) x → (Contains (filter p xs) x → Contains xs x × (p x ≡ true))
+    kept : (b : Bool) → p y ≡ b → Contains (cond b (y ∷ filter p xs) (filter p xs)) x
+        → (Contains (filter p xs) x → Contains xs x × (p x ≡ true))
         → Contains (y ∷ xs) x × (p x ≡ true)
     kept false e k rest = let found = rest k in (Contains-later y xs x found.0, found.1)
     kept true e k rest = ⊎_elim
@@ -84,11 +91,13 @@ abbrev pub AreRelatedIfKept : {X : Type 0} → (X → X → Type 0) → (X → B
 AreRelatedIfKept R p x y = p x ≡ true → p y ≡ true → R x y
 
 -- pairs that a filter keeps are pairs of the list
-pub AllPairs-from_filter : {X : Type 0} (R : X → X → Type 0) (p : X → Bool) (xs : List X) → AllPairs R (filter p xs) → AllPairs (AreRelatedIfKept R p) xs
+pub AllPairs-from_filter : {X : Type 0} (R : X → X → Type 0) (p : X → Bool) (xs : List X) → AllPairs R (filter p xs)
+    → AllPairs (AreRelatedIfKept R p) xs
 AllPairs-from_filter R p [] h = AllPairs-nil (AreRelatedIfKept R p)
 AllPairs-from_filter R p (x ∷ xs) h = kept (p x) refl h (AllPairs-from_filter R p xs)
   where
-    kept : (b : Bool) → p x ≡ b → AllPairs R (cond b (x ∷ filter p xs) (filter p xs)) → (AllPairs R (filter p xs) → AllPairs (AreRelatedIfKept R p) xs)
+    kept : (b : Bool) → p x ≡ b → AllPairs R (cond b (x ∷ filter p xs) (filter p xs))
+        → (AllPairs R (filter p xs) → AllPairs (AreRelatedIfKept R p) xs)
         → AllPairs (AreRelatedIfKept R p) (x ∷ xs)
     kept false e k rest = AllPairs-cons (AreRelatedIfKept R p) x xs (λ i d within yes also. absurd (false≢true (sym e ∙ yes))) (rest k)
     kept true e k rest =
@@ -98,7 +107,8 @@ AllPairs-from_filter R p (x ∷ xs) h = kept (p x) refl h (AllPairs-from_filter 
         (rest (AllPairs-tail R x (filter p xs) k))
 
 -- what a map gives for an element is among what it gives for the list
-pub Contains-filter_map : {X Y : Type 0} (f : X → Option Y) (xs : List X) (x : X) (y : Y) → Contains xs x → f x ≡ Some y → Contains (filter_map f xs) y
+pub Contains-filter_map : {X Y : Type 0} (f : X → Option Y) (xs : List X) (x : X) (y : Y) → Contains xs x → f x ≡ Some y
+    → Contains (filter_map f xs) y
 Contains-filter_map f [] x y h is = absurd (Contains-nil x h)
 Contains-filter_map {Y = Y} f (z ∷ xs) x y h is = ⊎_elim
     (λ same. let here : f z ≡ Some y = ap f same ∙ is in rw here (Contains-first y (filter_map f xs)))
@@ -109,15 +119,18 @@ Contains-filter_map {Y = Y} f (z ∷ xs) x y h is = ⊎_elim
     in_rest (Some w) k = Contains-later w (filter_map f xs) y k
 
 -- what a map gives for a list, it gives for one of its elements
-pub Contains-from_filter_map : {X Y : Type 0} (f : X → Option Y) (xs : List X) (y : Y) → Contains (filter_map f xs) y → (x : X) × Contains xs x × (f x ≡ Some y)
+pub Contains-from_filter_map : {X Y : Type 0} (f : X → Option Y) (xs : List X) (y : Y) → Contains (filter_map f xs) y → (x : X)
+    × Contains xs x × (f x ≡ Some y)
 Contains-from_filter_map f [] y h = absurd (Contains-nil y h)
 Contains-from_filter_map {X = X} {Y = Y} f (z ∷ xs) y h = from (f z) refl h (Contains-from_filter_map f xs y)
   where
-    from : (o : Option Y) → f z ≡ o → Contains (cons_option o (filter_map f xs)) y → (Contains (filter_map f xs) y → (x : X) × Contains xs x × (f x ≡ Some y))
+    from : (o : Option Y) → f z ≡ o → Contains (cons_option o (filter_map f xs)) y
+        → (Contains (filter_map f xs) y → (x : X) × Contains xs x × (f x ≡ Some y))
         → (x : X) × Contains (z ∷ xs) x × (f x ≡ Some y)
     from None e k rest = let found = rest k in (found.0, Contains-later z xs found.0 found.1, found.2)
     from (Some w) e k rest = ⊎_elim (λ same. (z, Contains-first z xs, e ∙ ap Some same))
-        (λ later. let found = rest later in (found.0, Contains-later z xs found.0 found.1, found.2)) (Contains-cases w (filter_map f xs) y k)
+        (λ later. let found = rest later in (found.0, Contains-later z xs found.0 found.1, found.2))
+            (Contains-cases w (filter_map f xs) y k)
 
 -- what a map gives for two elements is related
 abbrev pub AreRelatedAs : {X Y : Type 0} → (Y → Y → Type 0) → (X → Option Y) → X → X → Type 0
@@ -129,9 +142,11 @@ pub AllPairs-from_filter_map : {X Y : Type 0} (R : Y → Y → Type 0) (f : X �
 AllPairs-from_filter_map R f [] h = AllPairs-nil (AreRelatedAs R f)
 AllPairs-from_filter_map {X} {Y} R f (x ∷ xs) h = from (f x) refl h (AllPairs-from_filter_map R f xs)
   where
-    from : (o : Option Y) → f x ≡ o → AllPairs R (cons_option o (filter_map f xs)) → (AllPairs R (filter_map f xs) → AllPairs (AreRelatedAs R f) xs)
+    from : (o : Option Y) → f x ≡ o → AllPairs R (cons_option o (filter_map f xs))
+        → (AllPairs R (filter_map f xs) → AllPairs (AreRelatedAs R f) xs)
         → AllPairs (AreRelatedAs R f) (x ∷ xs)
-    from None e k rest = AllPairs-cons (AreRelatedAs R f) x xs (λ i d within a b first second. absurd (none-some a (sym e ∙ first))) (rest k)
+    from None e k rest = AllPairs-cons (AreRelatedAs R f) x xs (λ i d within a b first second. absurd
+        (none-some a (sym e ∙ first))) (rest k)
     from (Some y) e k rest =
         AllPairs-cons (AreRelatedAs R f) x xs
         (All-from_contains (AreRelatedAs R f x) xs
@@ -140,7 +155,8 @@ AllPairs-from_filter_map {X} {Y} R f (x ∷ xs) h = from (f x) refl h (AllPairs-
         (rest (AllPairs-tail R y (filter_map f xs) k))
 
 -- a relation on all pairs of a list is one on the pairs that a map gives
-pub AllPairs-filter_map : {X Y : Type 0} (R : Y → Y → Type 0) (f : X → Option Y) (xs : List X) → AllPairs (AreRelatedAs R f) xs → AllPairs R (filter_map f xs)
+pub AllPairs-filter_map : {X Y : Type 0} (R : Y → Y → Type 0) (f : X → Option Y) (xs : List X) → AllPairs (AreRelatedAs R f) xs
+    → AllPairs R (filter_map f xs)
 AllPairs-filter_map R f [] h = AllPairs-nil R
 AllPairs-filter_map {X} {Y} R f (x ∷ xs) h = onto (f x) refl (AllPairs-filter_map R f xs (AllPairs-tail (AreRelatedAs R f) x xs h))
   where
@@ -153,13 +169,15 @@ AllPairs-filter_map {X} {Y} R f (x ∷ xs) h = onto (f x) refl (AllPairs-filter_
         All-contains (AreRelatedAs R f x) xs found.0 (AllPairs-head (AreRelatedAs R f) x xs h) found.1 y b e found.2)) rest
 
 -- what holds of each two elements of a list that are related is a relation of its pairs
-pub AllPairs-weaker : {X : Type 0} (R S : X → X → Type 0) (xs : List X) → ((x y : X) → Contains xs x → Contains xs y → R x y → S x y) → AllPairs R xs
+pub AllPairs-weaker : {X : Type 0} (R S : X → X → Type 0) (xs : List X)
+    → ((x y : X) → Contains xs x → Contains xs y → R x y → S x y) → AllPairs R xs
     → AllPairs S xs
 AllPairs-weaker R S xs weaker h i j d before within =
     weaker (get_or xs i d) (get_or xs j d) (Contains-get_or xs i d (omega arith)) (Contains-get_or xs j d within) (h i j d before within)
 
 -- the pairs of a mapped list
-pub AllPairs-map : {X Y : Type 0} (R : Y → Y → Type 0) (f : X → Y) (xs : List X) → AllPairs (λ x z. R (f x) (f z)) xs → AllPairs R (map f xs)
+pub AllPairs-map : {X Y : Type 0} (R : Y → Y → Type 0) (f : X → Y) (xs : List X) → AllPairs (λ x z. R (f x) (f z)) xs
+    → AllPairs R (map f xs)
 AllPairs-map R f [] h = AllPairs-nil R
 AllPairs-map R f (x ∷ xs) h =
     AllPairs-cons R (f x) (map f xs) (All-map (R (f x)) f xs (AllPairs-head (λ x z. R (f x) (f z)) x xs h))
@@ -176,14 +194,17 @@ Contains-map f (y ∷ xs) x h = ⊎_elim
 pub Contains-from_map : {X Y : Type 0} (f : X → Y) (xs : List X) (y : Y) → Contains (map f xs) y → (x : X) × Contains xs x × (f x ≡ y)
 Contains-from_map f [] y h = absurd (Contains-nil y h)
 Contains-from_map f (x ∷ xs) y h = ⊎_elim (λ same. (x, Contains-first x xs, same))
-    (λ later. let found = Contains-from_map f xs y later in (found.0, Contains-later x xs found.0 found.1, found.2)) (Contains-cases (f x) (map f xs) y h)
+    (λ later. let found = Contains-from_map f xs y later in (found.0, Contains-later x xs found.0 found.1, found.2))
+        (Contains-cases (f x) (map f xs) y h)
 
 -- the pairs of a list, from those of a mapped one
-pub AllPairs-from_map : {X Y : Type 0} (R : Y → Y → Type 0) (f : X → Y) (xs : List X) → AllPairs R (map f xs) → AllPairs (λ x z. R (f x) (f z)) xs
+pub AllPairs-from_map : {X Y : Type 0} (R : Y → Y → Type 0) (f : X → Y) (xs : List X) → AllPairs R (map f xs)
+    → AllPairs (λ x z. R (f x) (f z)) xs
 AllPairs-from_map R f [] h = AllPairs-nil (λ x z. R (f x) (f z))
 AllPairs-from_map R f (x ∷ xs) h =
     AllPairs-cons (λ x z. R (f x) (f z)) x xs
-    (All-from_contains (λ z. R (f x) (f z)) xs (λ z is. All-contains (R (f x)) (map f xs) (f z) (AllPairs-head R (f x) (map f xs) h) (Contains-map f xs z is)))
+    (All-from_contains (λ z. R (f x) (f z)) xs
+        (λ z is. All-contains (R (f x)) (map f xs) (f z) (AllPairs-head R (f x) (map f xs) h) (Contains-map f xs z is)))
     (AllPairs-from_map R f xs (AllPairs-tail R (f x) (map f xs) h))
 
 -- what stands at an earlier place is related to what stands at a later one
@@ -191,7 +212,8 @@ pub AllPairs-at : {X : Type 0} (R : X → X → Type 0) (xs : List X) (i j : ℕ
     → slice_get xs j ≡ Some y → R x y
 AllPairs-at R xs i j x y h before first second =
     let within = slice_get_within xs j y second in
-    subst (λ z. R x z) (get_or_from_slice_get xs j y x second) (subst (λ z. R z (get_or xs j x)) (get_or_from_slice_get xs i x x first) (h i j x before within))
+    subst (λ z. R x z) (get_or_from_slice_get xs j y x second)
+        (subst (λ z. R z (get_or xs j x)) (get_or_from_slice_get xs i x x first) (h i j x before within))
 
 -- two lists that are kept alike behind one element are kept alike
 pub filter_rest : {X : Type 0} (b : Bool) (x : X) (xs ys : List X) → cond b (x ∷ xs) xs ≡ cond b (x ∷ ys) ys → xs ≡ ys

@@ -1,10 +1,12 @@
 -- Laws of lists that std has not.
-use Rattle.std.proofs.Common.{◌≡◌, ℕ, zero, suc, ◌<◌, ◌≤◌, Bool, true, false, List, [], ◌∷◌, ◌++◌, length, get_or, take, refl, sym, ap, ◌∙◌, subst, inl, inr}
+use Rattle.std.proofs.Common.{◌≡◌, ℕ, zero, suc, ◌<◌, ◌≤◌, Bool, true, false, List, [], ◌∷◌, ◌++◌, length, get_or, take, refl, sym, ap, ◌∙◌}
+use Rattle.std.proofs.Common.{subst, inl, inr}
 use Rattle.std.proofs.Common.{⊎_elim, arith}
 use Rattle.std.specs.Prelude.{◌≢◌, ◌⊎◌, Some, slice_get, All, Any, AllPairs, Contains, filter}
 use Rattle.std.specs.List.{range_with_len}
 use Rattle.std.proofs.Math.Nat.{zero-add}
-use Rattle.std.proofs.lemmas.List.Elements.{All-weaker, All-nil, All-head, All-tail, All-append, All-cons, Contains-get_or, All-contains, Contains-append_left}
+use Rattle.std.proofs.lemmas.List.Elements.{All-weaker, All-nil, All-head, All-tail, All-append, All-cons, Contains-get_or, All-contains}
+use Rattle.std.proofs.lemmas.List.Elements.{Contains-append_left}
 use Rattle.std.proofs.lemmas.List.Elements.{Contains-append_right, Contains-append_cases}
 use Rattle.std.proofs.lemmas.List.Kept.{AllPairs-cons}
 use Rattle.std.proofs.lemmas.Bool.{cond_both}
@@ -25,7 +27,8 @@ pub AllPairs-tail : {X : Type 0} (R : X → X → Type 0) (x : X) (xs : List X) 
 AllPairs-tail R x xs h i j d before within = h (suc i) (suc j) d (omega arith) (omega arith)
 
 -- two lists of related pairs join where each element of the first is related to each of the second
-pub AllPairs-append : {X : Type 0} (R : X → X → Type 0) (xs ys : List X) → AllPairs R xs → AllPairs R ys → All (λ x. All (R x) ys) xs → AllPairs R (xs ++ ys)
+pub AllPairs-append : {X : Type 0} (R : X → X → Type 0) (xs ys : List X) → AllPairs R xs → AllPairs R ys → All (λ x. All (R x) ys) xs
+    → AllPairs R (xs ++ ys)
 AllPairs-append R [] ys h k across = k
 AllPairs-append R (x ∷ xs) ys h k across =
     AllPairs-cons R x (xs ++ ys)
@@ -57,7 +60,8 @@ AllPairs-back R (x ∷ xs) ys h = AllPairs-back R xs ys (AllPairs-tail R x (xs +
 pub AllPairs-across : {X : Type 0} (R : X → X → Type 0) (xs ys : List X) → AllPairs R (xs ++ ys) → All (λ x. All (R x) ys) xs
 AllPairs-across R [] ys h = All-nil (λ x. All (R x) ys)
 AllPairs-across R (x ∷ xs) ys h =
-    All-cons (λ z. All (R z) ys) x xs (All-back (R x) xs ys (AllPairs-head R x (xs ++ ys) h)) (AllPairs-across R xs ys (AllPairs-tail R x (xs ++ ys) h))
+    All-cons (λ z. All (R z) ys) x xs (All-back (R x) xs ys (AllPairs-head R x (xs ++ ys) h))
+        (AllPairs-across R xs ys (AllPairs-tail R x (xs ++ ys) h))
 
 -- the first element of a list is in it
 pub Contains-first : {X : Type 0} (x : X) (xs : List X) → Contains (x ∷ xs) x
@@ -124,7 +128,8 @@ pub Contains-take : {X : Type 0} (xs : List X) (i j : ℕ) (x : X) → j < i →
 Contains-take xs i j x before h = Contains-at (take i xs) j x (slice_get-take i xs j before ∙ h)
 
 -- what is in the part before a place stands at an earlier one
-pub place_before-Contains : {X : Type 0} (xs : List X) (i : ℕ) (x : X) → Contains (take i xs) x → (j : ℕ) × (j < i) × (slice_get xs j ≡ Some x)
+pub place_before-Contains : {X : Type 0} (xs : List X) (i : ℕ) (x : X) → Contains (take i xs) x → (j : ℕ) × (j < i)
+    × (slice_get xs j ≡ Some x)
 place_before-Contains xs i x h =
     let at = place_of-Contains (take i xs) x h in
     let before : at.0 < i = omega (arith, slice_get_within (take i xs) at.0 x at.1, length-take i xs) in
@@ -135,7 +140,8 @@ pub AllPairs-at : {X : Type 0} (R : X → X → Type 0) (xs : List X) (i j : ℕ
     → slice_get xs j ≡ Some y → R x y
 AllPairs-at R xs i j x y h before first second =
     let within = slice_get_within xs j y second in
-    subst (λ z. R x z) (get_or_from_slice_get xs j y x second) (subst (λ z. R z (get_or xs j x)) (get_or_from_slice_get xs i x x first) (h i j x before within))
+    subst (λ z. R x z) (get_or_from_slice_get xs j y x second)
+        (subst (λ z. R z (get_or xs j x)) (get_or_from_slice_get xs i x x first) (h i j x before within))
 
 -- a relation of what stands at each two places is one of all pairs
 pub AllPairs-from_at : {X : Type 0} (R : X → X → Type 0) (xs : List X)
@@ -168,7 +174,8 @@ Contains-split (y ∷ xs) x h =
     (λ later. let (front, back, is) = Contains-split xs x later in (y ∷ front, back, ap (λ zs. y ∷ zs) is)) (Contains-cases y xs x h)
 
 -- what is in a list is the element between its front and its back, or in one of these
-pub Contains-around : {X : Type 0} (front : List X) (x : X) (back : List X) (z : X) → Contains (front ++ x ∷ back) z → (x ≡ z) ⊎ Contains (front ++ back) z
+pub Contains-around : {X : Type 0} (front : List X) (x : X) (back : List X) (z : X) → Contains (front ++ x ∷ back) z → (x ≡ z)
+    ⊎ Contains (front ++ back) z
 Contains-around front x back z h = ⊎_elim
     (λ in_front. inr (Contains-append_left front back z in_front))
     (λ in_rest. ⊎_elim (λ is. inl is) (λ in_back. inr (Contains-append_right front back z in_back)) (Contains-cases x back z in_rest))
@@ -182,7 +189,8 @@ length-distinct {X} (x ∷ xs) ys distinct within =
     let others : All (Contains (front ++ back)) xs = All-from_contains (Contains (front ++ back)) xs (λ z h. ⊎_elim
     (λ same. absurd (All-contains (λ b. x ≢ b) xs z (AllPairs-head (λ a b. a ≢ b) x xs distinct) h same))
     (λ around. around)
-    (Contains-around front x back z (subst (λ zs. Contains zs z) is (All-contains (Contains ys) xs z (All-tail (Contains ys) x xs within) h)))) in
+    (Contains-around front x back z (subst (λ zs. Contains zs z) is (All-contains (Contains ys) xs z (All-tail (Contains ys) x
+        xs within) h)))) in
     let fewer = length-distinct xs (front ++ back) (AllPairs-tail (λ a b. a ≢ b) x xs distinct) others in
     omega (arith, fewer, ap length is, length-append front (x ∷ back), length-append front back)
 
@@ -190,9 +198,11 @@ length-distinct {X} (x ∷ xs) ys distinct within =
 pub Contains-filter : {X : Type 0} (p : X → Bool) (xs : List X) (x : X) → Contains xs x → p x ≡ true → Contains (filter p xs) x
 Contains-filter p [] x h passes = h
 Contains-filter p (y ∷ xs) x h passes = ⊎_elim
-    (λ is. let e : p y ≡ true = ap p is ∙ passes in rw e (subst (λ z. Contains (z ∷ filter p xs) x) (sym is) (Contains-first x (filter p xs))))
+    (λ is. let e : p y ≡ true = ap p is ∙ passes in rw e (subst (λ z. Contains (z ∷ filter p xs) x) (sym is)
+        (Contains-first x (filter p xs))))
     (λ later. cond_both (p y) (y ∷ filter p xs) (filter p xs) (λ zs. Contains zs x)
-    (λ e. Contains-later y (filter p xs) x (Contains-filter p xs x later passes)) (λ e. Contains-filter p xs x later passes)) (Contains-cases y xs x h)
+    (λ e. Contains-later y (filter p xs) x (Contains-filter p xs x later passes)) (λ e. Contains-filter p xs x later passes))
+        (Contains-cases y xs x h)
 
 -- what a filter keeps was in the list, and passes
 pub Contains-from_filter : {X : Type 0} (p : X → Bool) (xs : List X) (x : X) → Contains (filter p xs) x → Contains xs x × (p x ≡ true)
@@ -215,5 +225,6 @@ length-distinct_below xs n distinct below =
     omega (
       arith,
       length-range_with_len 0 n,
-      length-distinct xs (range_with_len 0 n) distinct (All-weaker (λ x. x < n) (Contains (range_with_len 0 n)) (Contains-range n) xs below),
+      length-distinct xs (range_with_len 0 n) distinct
+          (All-weaker (λ x. x < n) (Contains (range_with_len 0 n)) (Contains-range n) xs below),
     )

@@ -1,5 +1,6 @@
 -- Laws of numbers in lists: the least, the greatest, whether one is there.
-use Rattle.std.proofs.Common.{◌≡◌, ℕ, zero, suc, ◌+◌, ◌<◌, ◌≤◌, Bool, true, false, List, Some, None, [], ◌∷◌, ◌++◌, length, get_or, take, Option, refl, ap, ◌∙◌}
+use Rattle.std.proofs.Common.{◌≡◌, ℕ, zero, suc, ◌+◌, ◌<◌, ◌≤◌, Bool, true, false, List, Some, None, [], ◌∷◌, ◌++◌, length, get_or, take}
+use Rattle.std.proofs.Common.{Option, refl, ap, ◌∙◌}
 use Rattle.std.proofs.Common.{subst, ⊎_elim, arith, map, ◌==◌}
 use Rattle.std.specs.Prelude.{min, max, ◌==◌, ◌||◌, map, slice_get, IsSomeAnd, Contains}
 use Rattle.std.proofs.lemmas.Bool.{eq-eqb, eqb-true, or_cases, or_left, or_right, false≢true, cases_lt}
@@ -78,9 +79,11 @@ has_number-push numbers m n = list_any-append (λ k. k == n) numbers (m ∷ []) 
 -- the least key of a list is at most each of them
 pub least_bound : {X : Type 0} (key : X → ℕ) (xs : List X) (x : X) → Contains xs x → least (map key xs) ≤ key x
 least_bound key [] x h = absurd (Contains-nil x h)
-least_bound key (y ∷ []) x h = ⊎_elim (λ is. let e = ap key is in omega arith) (λ later. absurd (Contains-nil x later)) (Contains-cases y [] x h)
+least_bound key (y ∷ []) x h = ⊎_elim (λ is. let e = ap key is in omega arith) (λ later. absurd (Contains-nil x later))
+    (Contains-cases y [] x h)
 least_bound key (y ∷ z ∷ xs) x h =
-    ⊎_elim (λ is. let e = ap key is in omega arith) (λ later. omega (arith, least_bound key (z ∷ xs) x later)) (Contains-cases y (z ∷ xs) x h)
+    ⊎_elim (λ is. let e = ap key is in omega arith) (λ later. omega (arith, least_bound key (z ∷ xs) x later))
+        (Contains-cases y (z ∷ xs) x h)
 
 -- what is said of an element at a place is said of an element that is there
 pub some_at : {X : Type 0} (o : Option X) (P : X → Type 0) → IsSomeAnd o P → (x : X) × (o ≡ Some x) × P x
@@ -88,9 +91,11 @@ some_at None P h = absurd h
 some_at (Some x) P h = (x, refl, h)
 
 -- the greatest key of a list is the key of one of its elements
-pub greatest_is : {X : Type 0} (key : X → ℕ) (xs : List X) (x : X) → Contains xs x → (y : X) × Contains xs y × (greatest (map key xs) ≡ key y)
+pub greatest_is : {X : Type 0} (key : X → ℕ) (xs : List X) (x : X) → Contains xs x → (y : X) × Contains xs y
+    × (greatest (map key xs) ≡ key y)
 greatest_is key [] x h = absurd (Contains-nil x h)
 greatest_is key (z ∷ []) x h = (z, Contains-first z [], omega arith)
 greatest_is key (z ∷ w ∷ xs) x h =
     let (y, is, same) = greatest_is key (w ∷ xs) w (Contains-first w xs) in
-    ⊎_elim (λ less. (y, Contains-later z (w ∷ xs) y is, omega arith)) (λ more. (z, Contains-first z (w ∷ xs), omega arith)) (cases_lt (key z) (key y))
+    ⊎_elim (λ less. (y, Contains-later z (w ∷ xs) y is, omega arith)) (λ more. (z, Contains-first z (w ∷ xs), omega arith))
+        (cases_lt (key z) (key y))

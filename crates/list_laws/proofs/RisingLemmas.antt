@@ -9,17 +9,21 @@ use Rattle.std.proofs.lemmas.List.Kept.{AllPairs-from_increasing}
 use Rattle.list_laws.proofs.Lists.{AllPairs-head, AllPairs-tail, Contains-first, Contains-later, Contains-nil, Contains-cases}
 
 -- the first of two lists that rise and have the same members is the same
-same_first : (x : ℕ) (xs : List ℕ) (y : ℕ) (ys : List ℕ) → All (λ n. x < n) xs → All (λ n. y < n) ys → Contains (y ∷ ys) x → Contains (x ∷ xs) y → x ≡ y
+same_first : (x : ℕ) (xs : List ℕ) (y : ℕ) (ys : List ℕ) → All (λ n. x < n) xs → All (λ n. y < n) ys → Contains (y ∷ ys) x
+    → Contains (x ∷ xs) y → x ≡ y
 same_first x xs y ys low_x low_y in_ys in_xs =
-    ⊎_elim (λ is. sym is) (λ later. ⊎_elim (λ is. is) (λ back. clash later back) (Contains-cases x xs y in_xs)) (Contains-cases y ys x in_ys)
+    ⊎_elim (λ is. sym is) (λ later. ⊎_elim (λ is. is) (λ back. clash later back) (Contains-cases x xs y in_xs))
+        (Contains-cases y ys x in_ys)
   where
     clash : Contains ys x → Contains xs y → x ≡ y
     clash later back = absurd (omega (arith, All-contains (λ n. y < n) ys x low_y later, All-contains (λ n. x < n) xs y low_x back))
 
 -- the members of a rising list after its first are those of another with the same first
-members_after : (x : ℕ) (xs ys : List ℕ) → All (λ n. x < n) xs → ((n : ℕ) → Contains (x ∷ xs) n → Contains (x ∷ ys) n) → (n : ℕ) → Contains xs n → Contains ys n
+members_after : (x : ℕ) (xs ys : List ℕ) → All (λ n. x < n) xs → ((n : ℕ) → Contains (x ∷ xs) n → Contains (x ∷ ys) n) → (n : ℕ)
+    → Contains xs n → Contains ys n
 members_after x xs ys low same n h =
-    ⊎_elim (λ is. absurd (omega (arith, is, All-contains (λ n. x < n) xs n low h))) (λ later. later) (Contains-cases x ys n (same n (Contains-later x xs n h)))
+    ⊎_elim (λ is. absurd (omega (arith, is, All-contains (λ n. x < n) xs n low h))) (λ later. later)
+        (Contains-cases x ys n (same n (Contains-later x xs n h)))
 
 -- of two lists whose numbers rise, each member of the one a member of the other, both are the same
 unique_by_pairs : (xs ys : List ℕ) → AllPairs (λ m n. m < n) xs → AllPairs (λ m n. m < n) ys → ((n : ℕ) → Contains xs n → Contains ys n)
@@ -38,7 +42,8 @@ unique_by_pairs (x ∷ xs) (y ∷ ys) up_x up_y to from =
     ap (λ k. k ∷ xs) one ∙ ap (λ zs. y ∷ zs) rest
 
 -- a rising list is determined by its members
-pub rising_unique : (xs ys : List ℕ) → IsStrictlyIncreasing xs → IsStrictlyIncreasing ys → ((n : ℕ) → Contains xs n ↔ Contains ys n) → xs ≡ ys
+pub rising_unique : (xs ys : List ℕ) → IsStrictlyIncreasing xs → IsStrictlyIncreasing ys
+    → ((n : ℕ) → Contains xs n ↔ Contains ys n) → xs ≡ ys
 rising_unique xs ys up_x up_y same =
     unique_by_pairs xs ys (AllPairs-from_increasing xs up_x) (AllPairs-from_increasing ys up_y) (λ n h. (same n).0 h) (λ n h. (same n).1 h)
 

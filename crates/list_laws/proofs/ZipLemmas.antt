@@ -5,7 +5,8 @@ use Rattle.std.specs.List.{AllZip}
 use Rattle.std.proofs.lemmas.Option.{none-some, same_Some}
 
 -- each element of the first of two lists has the one of the second at its place
-pub zip_left : {A B : Type 0} (R : A → B → Type 0) (xs : List A) (ys : List B) (i : ℕ) (x : A) → AllZip R xs ys → slice_get xs i ≡ Some x → (y : B)
+pub zip_left : {A B : Type 0} (R : A → B → Type 0) (xs : List A) (ys : List B) (i : ℕ) (x : A) → AllZip R xs ys
+    → slice_get xs i ≡ Some x → (y : B)
     × (slice_get ys i ≡ Some y) × R x y
 zip_left R [] ys i x h is = absurd (none-some x is)
 zip_left R (z ∷ xs) [] i x h is = absurd h
@@ -13,7 +14,8 @@ zip_left R (z ∷ xs) (y ∷ ys) zero x h is = (y, refl, subst (λ w. R w y) (sa
 zip_left R (z ∷ xs) (y ∷ ys) (suc i) x h is = zip_left R xs ys i x h.1 is
 
 -- and the other way round
-pub zip_right : {A B : Type 0} (R : A → B → Type 0) (xs : List A) (ys : List B) (i : ℕ) (y : B) → AllZip R xs ys → slice_get ys i ≡ Some y → (x : A)
+pub zip_right : {A B : Type 0} (R : A → B → Type 0) (xs : List A) (ys : List B) (i : ℕ) (y : B) → AllZip R xs ys
+    → slice_get ys i ≡ Some y → (x : A)
     × (slice_get xs i ≡ Some x) × R x y
 zip_right R xs [] i y h is = absurd (none-some y is)
 zip_right R [] (z ∷ ys) i y h is = absurd h

@@ -29,7 +29,8 @@ same_from history (Undecided a) (Yes b) same = absurd same
 same_from history (Undecided a) (No b) same = absurd same
 
 -- and of so many events
-pub same_after : (gap : Gap) (found : Bracket) (count : ℕ) (a b : Verdict) → AreSameVerdict a b → known_after gap found count a ≡ known_after gap found count b
+pub same_after : (gap : Gap) (found : Bracket) (count : ℕ) (a b : Verdict) → AreSameVerdict a b
+    → known_after gap found count a ≡ known_after gap found count b
 same_after AboveCut found count (Yes a) (Yes b) same = refl
 same_after AboveCut found count (No a) (No b) same = refl
 same_after AboveCut found count (Undecided a) (Undecided b) same = refl
@@ -44,7 +45,8 @@ same_after gap found count (Undecided a) (Yes b) same = absurd same
 same_after gap found count (Undecided a) (No b) same = absurd same
 
 module _ (budget : ℕ) (history : HistoryView) (prefixes : PrefixesAreHistories) (one : OneExactVerdict) (is : IsHistory history) where
-  pub same_verdict : (count : ℕ) (a b : Verdict) → IsVerdictOnFirst budget history count a → IsVerdictOnFirst budget history count b → AreSameVerdict a b
+  pub same_verdict : (count : ℕ) (a b : Verdict) → IsVerdictOnFirst budget history count a → IsVerdictOnFirst budget history count b
+      → AreSameVerdict a b
   same_verdict count a b h k = one budget (prefix_of history count) a b (prefixes history count is) h.exact k.exact
 
   pub one_end : (gap : Gap) (found : Bracket) (met others : List Verdict) (a b : Bracket) → IsHalved budget history gap found met a
@@ -57,7 +59,8 @@ module _ (budget : ℕ) (history : HistoryView) (prefixes : PrefixesAreHistories
       one_end gap (known_after gap found (middle_of gap found) w) met others a b
       (subst (λ (x : Bracket). IsHalved budget history gap x met a) same h.2) k.2
 
-  pub one_halved : (gap : Gap) (found : Bracket) (a b : Bracket) → HalvesTo budget history gap found a → HalvesTo budget history gap found b → a ≡ b
+  pub one_halved : (gap : Gap) (found : Bracket) (a b : Bracket) → HalvesTo budget history gap found a
+      → HalvesTo budget history gap found b → a ≡ b
   one_halved gap found a b h k = one_end gap found h.0 k.0 a b h.2 k.2
 
   pub one_last : (a b : Bracket) → IsLastKnown budget history a → IsLastKnown budget history b → a ≡ b
@@ -69,7 +72,8 @@ module _ (budget : ℕ) (history : HistoryView) (prefixes : PrefixesAreHistories
       one_halved BelowCut k.between a b below k.below
 
 -- of one bracket one location is said
-one_said : (history : HistoryView) (last : Bracket) (a b : Location) → AnswersHaveOneCall → IsHistory history → IsSaid history last a → IsSaid history last b → a ≡ b
+one_said : (history : HistoryView) (last : Bracket) (a b : Location) → AnswersHaveOneCall → IsHistory history → IsSaid history last a
+    → IsSaid history last b → a ≡ b
 one_said history last locations.Yes locations.Yes one is h k = refl
 one_said history last locations.Yes (locations.No number place) one is h k = absurd (k.0 h)
 one_said history last locations.Yes (locations.Undecided first beyond) one is h k = absurd (k.0 h)
@@ -80,7 +84,8 @@ one_said history last (locations.No number place) (locations.No other elsewhere)
 one_said history last (locations.No number place) (locations.Undecided first beyond) one is h k = absurd (omega (arith, h.1, k.1))
 one_said history last (locations.Undecided first beyond) locations.Yes one is h k = absurd (h.0 k)
 one_said history last (locations.Undecided first beyond) (locations.No number place) one is h k = absurd (omega (arith, h.1, k.1))
-one_said history last (locations.Undecided first beyond) (locations.Undecided other further) one is h k = ap₂ locations.Undecided (h.2 ∙ sym k.2) (h.3 ∙ sym k.3)
+one_said history last (locations.Undecided first beyond) (locations.Undecided other further) one is h k =
+    ap₂ locations.Undecided (h.2 ∙ sym k.2) (h.3 ∙ sym k.3)
 
 pub one_location : PrefixesAreHistories → OneExactVerdict → AnswersHaveOneCall → OneLocation
 one_location prefixes verdicts calls budget history a b is h k =

@@ -16,12 +16,15 @@ use Rattle.locating.specs.declared.bracket.Gap.TheVariants.{AboveCut, BelowCut}
 use Rattle.locating.specs.declared.location.Location.{Location}
 use Rattle.locating.specs.declared.location.Location.TheVariants.{Yes, No, Undecided}
 use Rattle.locating.specs.Locations.{IsUndecidedAt, HasNoneOrIsPast, IsLocated}
-use Rattle.locating.specs.Halvings.{known_from, low_of, high_of, middle_of, known_after, IsVerdictOnFirst, IsHalved, IsLastKnown, IsSaid, IsExactLocation}
+use Rattle.locating.specs.Halvings.{known_from, low_of, high_of, middle_of, known_after, IsVerdictOnFirst, IsHalved, IsLastKnown, IsSaid}
+use Rattle.locating.specs.Halvings.{IsExactLocation}
 
--- what the cut says: in the first halving it is the most with a yes, or undecided; in the second no number is left above it, or it is the fewest with a no, or
+-- what the cut says: in the first halving it is the most with a yes, or undecided; in the second no number is left above it, or it is the
+-- fewest with a no, or
 -- undecided
 abbrev pub IsCut : ℕ → HistoryView → Gap → Bracket → Type 0
-IsCut budget history AboveCut found = (found.cut ≡ found.yes) ⊎ ((found.yes < found.cut) × IsUndecidedAt budget (prefix_of history found.cut))
+IsCut budget history AboveCut found = (found.cut ≡ found.yes)
+    ⊎ ((found.yes < found.cut) × IsUndecidedAt budget (prefix_of history found.cut))
 IsCut budget history BelowCut found =
     (found.no ≡ found.yes + 1) ⊎ ((found.cut ≡ found.no) ⊎ ((found.yes < found.cut) × IsUndecidedAt budget (prefix_of history found.cut)))
 
@@ -58,7 +61,8 @@ no_events history = (
 
 some_events : (history : HistoryView) (count : ℕ) → (IsLinearizableHistory (prefix_of history count) → ⊥) → 0 < count
 some_events history count none =
-    let differs : count ≢ 0 = λ same. none (subst (λ (n : ℕ). IsLinearizableHistory (prefix_of history n)) (sym same) (no_events history)) in
+    let differs : count ≢ 0 = λ same. none (subst (λ (n : ℕ). IsLinearizableHistory (prefix_of history n)) (sym same)
+        (no_events history)) in
     omega arith
 
 -- after the verdict on the whole history
@@ -96,8 +100,10 @@ module _ (budget : ℕ) (history : HistoryView) where
   middle_within gap found left = (omega arith, omega arith)
 
   -- after one more verdict
-  after_above : (found : Bracket) (count : ℕ) (verdict : Verdict) → IsKnown budget history AboveCut found → found.cut < count → count < found.no
-      → count ≤ length history.events → IsVerdictOnFirst budget history count verdict → IsKnown budget history AboveCut (known_after AboveCut found count verdict)
+  after_above : (found : Bracket) (count : ℕ) (verdict : Verdict) → IsKnown budget history AboveCut found → found.cut < count
+      → count < found.no
+      → count ≤ length history.events → IsVerdictOnFirst budget history count verdict
+      → IsKnown budget history AboveCut (known_after AboveCut found count verdict)
   after_above found count (verdicts.Yes order) known above below within is = record {
     yes = (order.items, is.shown.is_order);
     no = known.no;
@@ -123,8 +129,10 @@ module _ (budget : ℕ) (history : HistoryView) where
     cut = inr (omega (arith, known.low), (segment, is.shown, is.exact));
   }
 
-  after_below : (found : Bracket) (count : ℕ) (verdict : Verdict) → IsKnown budget history BelowCut found → found.yes < count → count < found.cut
-      → count ≤ length history.events → IsVerdictOnFirst budget history count verdict → IsKnown budget history BelowCut (known_after BelowCut found count verdict)
+  after_below : (found : Bracket) (count : ℕ) (verdict : Verdict) → IsKnown budget history BelowCut found → found.yes < count
+      → count < found.cut
+      → count ≤ length history.events → IsVerdictOnFirst budget history count verdict
+      → IsKnown budget history BelowCut (known_after BelowCut found count verdict)
   after_below found count (verdicts.Yes order) known above below within is = record {
     yes = (order.items, is.shown.is_order);
     no = known.no;
@@ -155,8 +163,10 @@ module _ (budget : ℕ) (history : HistoryView) where
   no_within : (count : ℕ) → HasNoneOrIsPast history count → count ≤ length history.events + 1
   no_within count h = ⊎_elim (λ past. omega arith) (λ none. omega (arith, none.0)) h
 
-  after_one : (gap : Gap) (found : Bracket) (verdict : Verdict) → IsKnown budget history gap found → low_of gap found + 1 < high_of gap found
-      → IsVerdictOnFirst budget history (middle_of gap found) verdict → IsKnown budget history gap (known_after gap found (middle_of gap found) verdict)
+  after_one : (gap : Gap) (found : Bracket) (verdict : Verdict) → IsKnown budget history gap found
+      → low_of gap found + 1 < high_of gap found
+      → IsVerdictOnFirst budget history (middle_of gap found) verdict
+      → IsKnown budget history gap (known_after gap found (middle_of gap found) verdict)
   after_one AboveCut found verdict known left is =
       let (above, below) = middle_within AboveCut found left in
       after_above found (middle_of AboveCut found) verdict known above below (omega (arith, no_within found.no known.no)) is
@@ -165,7 +175,8 @@ module _ (budget : ℕ) (history : HistoryView) where
       after_below found (middle_of BelowCut found) verdict known above below (omega (arith, no_within found.no known.no, known.high)) is
 
   -- at the end of a halving
-  after_all : (gap : Gap) (found : Bracket) (met : List Verdict) (last : Bracket) → IsKnown budget history gap found → IsHalved budget history gap found met last
+  after_all : (gap : Gap) (found : Bracket) (met : List Verdict) (last : Bracket) → IsKnown budget history gap found
+      → IsHalved budget history gap found met last
       → IsKnown budget history gap last × (high_of gap last ≤ low_of gap last + 1)
   after_all gap found [] last known h =
       (subst (IsKnown budget history gap) (sym h.1) known, subst (λ (x : Bracket). high_of gap x ≤ low_of gap x + 1) (sym h.1) h.0)
@@ -173,7 +184,8 @@ module _ (budget : ℕ) (history : HistoryView) where
       after_all gap (known_after gap found (middle_of gap found) verdict) met last (after_one gap found verdict known h.0 h.1) h.2
 
   -- the second halving begins where the first has ended
-  known_between : (found : Bracket) → IsKnown budget history AboveCut found → found.no ≤ found.cut + 1 → IsKnown budget history BelowCut found
+  known_between : (found : Bracket) → IsKnown budget history AboveCut found → found.no ≤ found.cut + 1
+      → IsKnown budget history BelowCut found
   known_between found known ended = record {
     yes = known.yes;
     no = known.no;
@@ -187,7 +199,8 @@ module _ (budget : ℕ) (history : HistoryView) where
   pub known_at_last : (last : Bracket) → IsLastKnown budget history last → IsKnown budget history BelowCut last × (last.cut ≤ last.yes + 1)
   known_at_last last is =
       let (between, ended) =
-      after_all AboveCut (known_from history is.whole) is.above.0 is.between (known_at_first budget history is.whole is.judged) is.above.2 in
+      after_all AboveCut (known_from history is.whole) is.above.0 is.between
+          (known_at_first budget history is.whole is.judged) is.above.2 in
       after_all BelowCut is.between is.below.0 last (known_between is.between between ended) is.below.2
 
   -- where no number is left between a yes and a no, fewer events than there are have an order, and one more has none
@@ -203,10 +216,12 @@ module _ (budget : ℕ) (history : HistoryView) where
   next_undecided last known ended apart =
       ⊎_elim (λ none_left. absurd (omega arith))
       (λ others. ⊎_elim (λ same. absurd (omega arith))
-      (λ undecided. subst (λ (n : ℕ). IsUndecidedAt budget (prefix_of history n)) (omega (arith, undecided.0)) undecided.1) others) known.cut
+      (λ undecided. subst (λ (n : ℕ). IsUndecidedAt budget (prefix_of history n)) (omega (arith, undecided.0))
+          undecided.1) others) known.cut
 
   -- what is said of it is so
-  said : (last : Bracket) (location : Location) → IsKnown budget history BelowCut last → last.cut ≤ last.yes + 1 → IsSaid history last location
+  said : (last : Bracket) (location : Location) → IsKnown budget history BelowCut last → last.cut ≤ last.yes + 1
+      → IsSaid history last location
       → IsLocated budget history location
   said last Yes known ended is =
       subst IsLinearizableHistory (sym (all_events history)) (subst (λ (n : ℕ). IsLinearizableHistory (prefix_of history n)) is known.yes)

@@ -1,5 +1,6 @@
 -- A halving by turns: what is met so far, and that the turns that are left suffice.
-use Rattle.std.proofs.Common.{◌≡◌, ℕ, suc, ap, sym, ◌∙◌, ◌+◌, ◌*◌, ◌-◌, ◌^◌, ◌<◌, ◌≤◌, List, [], ◌∷◌, ◌++◌, length, refl, subst, append_assoc, length-append, Bool, false, IsTrue, ◌↔◌, arith}
+use Rattle.std.proofs.Common.{◌≡◌, ℕ, suc, ap, sym, ◌∙◌, ◌+◌, ◌*◌, ◌-◌, ◌^◌, ◌<◌, ◌≤◌, List, [], ◌∷◌, ◌++◌, length, refl, subst}
+use Rattle.std.proofs.Common.{append_assoc, length-append, Bool, false, IsTrue, ◌↔◌, arith}
 use Rattle.std.proofs.lemmas.Bool.{false≢true}
 use Rattle.std.proofs.Math.Nat.{pow-succ', one-le-pow}
 use Rattle.events.specs.HistoryView.{HistoryView}
@@ -40,15 +41,21 @@ pub middle_few : (history : HistoryView) (gap : Gap) (found : Bracket) → IsInO
     → middle_of gap found ≤ length history.events
 middle_few history gap found h left = omega (arith, (gap_within history gap found h).1)
 
-in_order_after : (history : HistoryView) (gap : Gap) (found : Bracket) (count : ℕ) (verdict : Verdict) → IsInOrder history found → low_of gap found < count
+in_order_after : (history : HistoryView) (gap : Gap) (found : Bracket) (count : ℕ) (verdict : Verdict) → IsInOrder history found
+    → low_of gap found < count
     → count < high_of gap found → IsInOrder history (known_after gap found count verdict)
-in_order_after history AboveCut found count (Yes order) h above below = record { cut = omega arith; no = omega arith; within = h.within; few = h.few }
-in_order_after history AboveCut found count (No segment) h above below = record { cut = h.cut; no = omega arith; within = omega (arith, h.within); few = omega (arith, h.few) }
-in_order_after history AboveCut found count (Undecided segment) h above below = record { cut = omega (arith, h.cut); no = omega arith; within = h.within; few = h.few }
-in_order_after history BelowCut found count (Yes order) h above below = record { cut = omega arith; no = h.no; within = h.within; few = h.few }
+in_order_after history AboveCut found count (Yes order) h above below =
+    record { cut = omega arith; no = omega arith; within = h.within; few = h.few }
+in_order_after history AboveCut found count (No segment) h above below =
+    record { cut = h.cut; no = omega arith; within = omega (arith, h.within); few = omega (arith, h.few) }
+in_order_after history AboveCut found count (Undecided segment) h above below =
+    record { cut = omega (arith, h.cut); no = omega arith; within = h.within; few = h.few }
+in_order_after history BelowCut found count (Yes order) h above below =
+    record { cut = omega arith; no = h.no; within = h.within; few = h.few }
 in_order_after history BelowCut found count (No segment) h above below =
     record { cut = omega arith; no = omega arith; within = omega (arith, h.no, h.within); few = omega (arith, h.no, h.few) }
-in_order_after history BelowCut found count (Undecided segment) h above below = record { cut = omega arith; no = omega (arith, h.no); within = h.within; few = h.few }
+in_order_after history BelowCut found count (Undecided segment) h above below =
+    record { cut = omega arith; no = omega (arith, h.no); within = h.within; few = h.few }
 
 -- where it is not so that a number is left
 pub none_left : (left : Bool) (low high : ℕ) → (IsTrue left ↔ (low + 1 < high)) → left ≡ false → high ≤ low + 1
@@ -57,7 +64,8 @@ none_left left low high is none =
     omega arith
 
 -- one of the two numbers becomes the middle
-ends_after : (gap : Gap) (found : Bracket) (count : ℕ) (verdict : Verdict) (left : ℕ) → count ≤ low_of gap found + left → high_of gap found ≤ count + left
+ends_after : (gap : Gap) (found : Bracket) (count : ℕ) (verdict : Verdict) (left : ℕ) → count ≤ low_of gap found + left
+    → high_of gap found ≤ count + left
     → high_of gap (known_after gap found count verdict) ≤ low_of gap (known_after gap found count verdict) + left
 ends_after AboveCut found count (Yes order) left low high = high
 ends_after AboveCut found count (No segment) left low high = low
@@ -87,7 +95,8 @@ pub record IsHalfway (budget : ℕ) (history : HistoryView) (gap : Gap) (known :
   pub met : List Verdict
   pub turns : length met ≤ counter
   pub within : counter ≤ 14
-  pub goes_on : (rest : List Verdict) (last : Bracket) → IsHalved budget history gap found rest last → IsHalved budget history gap known (met ++ rest) last
+  pub goes_on : (rest : List Verdict) (last : Bracket) → IsHalved budget history gap found rest last
+      → IsHalved budget history gap known (met ++ rest) last
   pub few : high_of gap found ≤ low_of gap found + 2 ^ (14 - counter)
 
 module _ (budget : ℕ) (history : HistoryView) (gap : Gap) (known : Bracket) where
@@ -116,12 +125,14 @@ module _ (budget : ℕ) (history : HistoryView) (gap : Gap) (known : Bracket) wh
   }
 
   pub after_turn : (counter : ℕ) (found next : Bracket) → counter < 14 → low_of gap found + 1 < high_of gap found
-      → IsHalfway budget history gap known counter found → IsTurn budget history gap found next → IsHalfway budget history gap known (counter + 1) next
+      → IsHalfway budget history gap known counter found → IsTurn budget history gap found next
+      → IsHalfway budget history gap known (counter + 1) next
   after_turn counter found next within left h turn =
       subst (IsHalfway budget history gap known (counter + 1)) (sym turn.2) (after_verdict counter found turn.0 within left h turn.1)
 
   -- where no number is left
-  pub without_turn : (counter : ℕ) (found : Bracket) → counter < 14 → high_of gap found ≤ low_of gap found + 1 → IsHalfway budget history gap known counter found
+  pub without_turn : (counter : ℕ) (found : Bracket) → counter < 14 → high_of gap found ≤ low_of gap found + 1
+      → IsHalfway budget history gap known counter found
       → IsHalfway budget history gap known (counter + 1) found
   without_turn counter found within none_left h = record {
     in_order = h.in_order;

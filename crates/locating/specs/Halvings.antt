@@ -1,6 +1,9 @@
--- How the event at which a history goes wrong is looked for: by the verdict on the whole history, then by two halvings of the numbers of first events. The
--- first goes down where the verdict is a no, and else up; the second, below where that has ended, goes up where it is a yes, and else down. The location is
--- read off from the most events with a yes and the fewest with a no that were met: a function of the exact verdicts, and so of history and budget.
+-- How the event at which a history goes wrong is looked for: by the verdict on the whole history, then by two halvings of the numbers of
+-- first events. The
+-- first goes down where the verdict is a no, and else up; the second, below where that has ended, goes up where it is a yes, and else down.
+-- The location is
+-- read off from the most events with a yes and the fewest with a no that were met: a function of the exact verdicts, and so of history and
+-- budget.
 use Rattle.std.specs.Prelude.{◌≡◌, ◌≢◌, ℕ, ◌+◌, ◌-◌, ◌/◌, ◌<◌, ◌≤◌, List, [], ◌∷◌, length}
 use Rattle.events.specs.HistoryView.{HistoryView}
 use Rattle.events.specs.Operations.{operations}
@@ -22,7 +25,8 @@ pub record IsVerdictOnFirst (budget : ℕ) (history : HistoryView) (count : ℕ)
 
 -- what is known after the verdict on the whole history; where that is undecided, no more than that no event has an order
 abbrev pub known_from : HistoryView → Verdict → Bracket
-known_from history (verdicts.Yes order) = record { yes = length history.events; cut = length history.events; no = length history.events + 1 }
+known_from history (verdicts.Yes order) = record { yes = length history.events; cut = length history.events; no = length
+    history.events + 1 }
 known_from history (verdicts.No segment) = record { yes = 0; cut = 0; no = length history.events }
 known_from history (verdicts.Undecided segment) = record { yes = 0; cut = 0; no = length history.events + 1 }
 
@@ -63,7 +67,8 @@ halving_limit = 14
 abbrev pub HalvesTo : ℕ → HistoryView → Gap → Bracket → Bracket → Type 0
 HalvesTo budget history gap found last = (met : List Verdict) × (length met ≤ halving_limit) × IsHalved budget history gap found met last
 
--- what is known after all verdicts: that on the whole history, those of the halving that goes down at a no, and those of the one that goes up at a yes
+-- what is known after all verdicts: that on the whole history, those of the halving that goes down at a no, and those of the one that goes
+-- up at a yes
 pub record IsLastKnown (budget : ℕ) (history : HistoryView) (last : Bracket) : Type 0 where
   pub whole : Verdict
   pub between : Bracket
@@ -71,7 +76,8 @@ pub record IsLastKnown (budget : ℕ) (history : HistoryView) (last : Bracket) :
   pub above : HalvesTo budget history AboveCut (known_from history whole) between
   pub below : HalvesTo budget history BelowCut between last
 
--- what is said of what is known: that all events have an order; the event between a yes and a no, with the call that it answers; or how far the two are apart
+-- what is said of what is known: that all events have an order; the event between a yes and a no, with the call that it answers; or how far
+-- the two are apart
 abbrev pub IsSaid : HistoryView → Bracket → Location → Type 0
 IsSaid history last Yes = last.yes ≡ length history.events
 IsSaid history last (No number place) =

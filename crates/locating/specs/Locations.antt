@@ -22,7 +22,8 @@ abbrev pub HasNoneOrIsPast : HistoryView → ℕ → Type 0
 HasNoneOrIsPast history count =
     (count ≡ length history.events + 1) ⊎ ((count ≤ length history.events) × (IsLinearizableHistory (prefix_of history count) → ⊥))
 
--- the first events have an order; more of them have none, or are one more than there are; of one more than the first, which are fewer than the others, the
+-- the first events have an order; more of them have none, or are one more than there are; of one more than the first, which are fewer than
+-- the others, the
 -- search took more than the budget
 pub record IsUndecidedBetween (budget : ℕ) (history : HistoryView) (first last : ℕ) : Type 0 where
   pub before : IsLinearizableHistory (prefix_of history first)

@@ -1,5 +1,6 @@
 -- Events that are put by rising stamp: what a filter keeps of them, and what is counted of them.
-use Rattle.std.proofs.Common.{◌≡◌, ℕ, ◌+◌, ◌≤◌, Bool, true, false, cond, ◌&&◌, List, [], ◌∷◌, map, filter, IsTrue, refl, sym, ap, ◌∙◌, arith}
+use Rattle.std.proofs.Common.{◌≡◌, ℕ, ◌+◌, ◌≤◌, Bool, true, false, cond, ◌&&◌, List, [], ◌∷◌, map, filter, IsTrue, refl, sym, ap, ◌∙◌}
+use Rattle.std.proofs.Common.{arith}
 use Rattle.std.specs.Prelude.{nat_le, if◌then◌else◌, sum_by}
 use Rattle.std.specs.List.{list_all}
 use Rattle.std.proofs.lemmas.Bool.{leb-true, leb-false, le-leb}
@@ -35,7 +36,8 @@ module _ (f : Stamped → Bool) where
   passed-over false true e g fs above = refl
   passed-over false false e g fs above = refl
 
-  filter-placed : (low : ℕ) (e : Stamped) (es : List Stamped) → rises low es → filter f (placed e es) ≡ cond (f e) (placed e (filter f es)) (filter f es)
+  filter-placed : (low : ℕ) (e : Stamped) (es : List Stamped) → rises low es
+      → filter f (placed e es) ≡ cond (f e) (placed e (filter f es)) (filter f es)
   filter-placed low e [] h = refl
   filter-placed low e (g ∷ gs) h = go (nat_le e.0 g.0) refl (filter-placed g.0 e gs h.1)
     where
@@ -52,7 +54,8 @@ module _ (f : Stamped → Bool) where
   filter-by_stamp (e ∷ es) =
       filter-placed 0 e (by_stamp es) (by_stamp_rises es)
       ∙ (ap (λ fs. cond (f e) (placed e fs) fs) (filter-by_stamp es)
-      ∙ elim (f e) as (λ b. cond b (placed e (by_stamp (filter f es))) (by_stamp (filter f es)) ≡ by_stamp (cond b (e ∷ filter f es) (filter f es))) [
+      ∙ elim (f e) as (λ b. cond b (placed e (by_stamp (filter f es))) (by_stamp (filter f es)) ≡ by_stamp
+          (cond b (e ∷ filter f es) (filter f es))) [
         | true ↦ refl
         | false ↦ refl
       ])
@@ -75,7 +78,8 @@ module _ (f : Stamped → Bool) where
   -- what passes for all events passes for all of them by rising stamp
   pub all-by_stamp : (es : List Stamped) → list_all f es ≡ true → list_all f (by_stamp es) ≡ true
   all-by_stamp [] h = refl
-  all-by_stamp (e ∷ es) h = all-placed e (by_stamp es) (and-left (f e) (list_all f es) h) (all-by_stamp es (and-right (f e) (list_all f es) h))
+  all-by_stamp (e ∷ es) h = all-placed e (by_stamp es) (and-left (f e) (list_all f es) h)
+      (all-by_stamp es (and-right (f e) (list_all f es) h))
 
 module _ (f : Stamped → ℕ) where
   sum-placed : (e : Stamped) (es : List Stamped) → sum_by f (placed e es) ≡ f e + sum_by f es

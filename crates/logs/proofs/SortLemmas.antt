@@ -1,5 +1,6 @@
 -- A stable sort by stamps gives the events by rising stamp.
-use Rattle.std.proofs.Common.{◌≡◌, ℕ, suc, ◌<◌, ◌≤◌, ◌==◌, Bool, true, false, cond, not, ◌&&◌, List, [], ◌∷◌, length, get_or, filter, refl, sym, ap, subst, ◌∙◌}
+use Rattle.std.proofs.Common.{◌≡◌, ℕ, suc, ◌<◌, ◌≤◌, ◌==◌, Bool, true, false, cond, not, ◌&&◌, List, [], ◌∷◌, length, get_or, filter, refl}
+use Rattle.std.proofs.Common.{sym, ap, subst, ◌∙◌}
 use Rattle.std.proofs.Common.{⊎_elim, arith}
 use Rattle.std.specs.Prelude.{nat_le, if◌then◌else◌}
 use Rattle.std.specs.List.Sorted.{IsNonDecreasingBy, IsSortedByKey, IsStableByKey}
@@ -20,7 +21,8 @@ has_stamp k e = e.0 == k
 
 -- Sorted and stable.
 
-rises_from : (low : ℕ) (es : List Stamped) → ((d : Stamped) → 0 < length es → low ≤ (get_or es 0 d).0) → IsNonDecreasingBy (λ e. e.0) es → rises low es
+rises_from : (low : ℕ) (es : List Stamped) → ((d : Stamped) → 0 < length es → low ≤ (get_or es 0 d).0)
+    → IsNonDecreasingBy (λ e. e.0) es → rises low es
 rises_from low [] first up = tt
 rises_from low (e ∷ es) first up = (
   first e (omega arith),
@@ -44,8 +46,10 @@ tie_is_same m n = ⊎_elim equal (λ other. ⊎_elim less more other) (cases_ord
     more : n < m → (not (is_lt (nat_cmp m n)) && not (is_lt (nat_cmp n m))) ≡ (n == m)
     more h = rw (le-ltb m n (omega arith), (differ n m h).1, (differ n m h).0, lt-ltb n m h) refl
 
-stamps_agree : (x : Stamped) (es : List Stamped) → filter (λ e. not (is_lt (nat_cmp x.0 e.0)) && not (is_lt (nat_cmp e.0 x.0))) es ≡ filter (has_stamp x.0) es
-stamps_agree x es = filter_agree (λ e. not (is_lt (nat_cmp x.0 e.0)) && not (is_lt (nat_cmp e.0 x.0))) (has_stamp x.0) (λ e. tie_is_same x.0 e.0) es
+stamps_agree : (x : Stamped) (es : List Stamped)
+    → filter (λ e. not (is_lt (nat_cmp x.0 e.0)) && not (is_lt (nat_cmp e.0 x.0))) es ≡ filter (has_stamp x.0) es
+stamps_agree x es = filter_agree (λ e. not (is_lt (nat_cmp x.0 e.0)) && not (is_lt (nat_cmp e.0 x.0))) (has_stamp x.0)
+    (λ e. tie_is_same x.0 e.0) es
 
 -- Placing an event keeps both.
 
@@ -53,7 +57,8 @@ placed_rises : (low : ℕ) (e : Stamped) (es : List Stamped) → low ≤ e.0 →
 placed_rises low e [] h up = (h, tt)
 placed_rises low e (f ∷ fs) h up = go (nat_le e.0 f.0) refl (placed_rises f.0 e fs)
   where
-    go : (b : Bool) → nat_le e.0 f.0 ≡ b → (f.0 ≤ e.0 → rises f.0 fs → rises f.0 (placed e fs)) → rises low (if b then e ∷ f ∷ fs else f ∷ placed e fs)
+    go : (b : Bool) → nat_le e.0 f.0 ≡ b → (f.0 ≤ e.0 → rises f.0 fs → rises f.0 (placed e fs))
+        → rises low (if b then e ∷ f ∷ fs else f ∷ placed e fs)
     go true is later = (h, (leb-true e.0 f.0 is, up.1))
     go false is later = let less : f.0 < e.0 = leb-false e.0 f.0 is in (up.0, later (omega arith) up.1)
 
@@ -108,14 +113,16 @@ first_same e f es fs h = cc
 same_cons : (e f : Stamped) (es fs : List Stamped) → e ≡ f → es ≡ fs → e ∷ es ≡ f ∷ fs
 same_cons e f es fs h k = cc
 
-unique : (low : ℕ) (es fs : List Stamped) → rises low es → rises low fs → ((x : Stamped) → filter (has_stamp x.0) es ≡ filter (has_stamp x.0) fs) → es ≡ fs
+unique : (low : ℕ) (es fs : List Stamped) → rises low es → rises low fs
+    → ((x : Stamped) → filter (has_stamp x.0) es ≡ filter (has_stamp x.0) fs) → es ≡ fs
 unique low [] [] up_e up_f same = refl
 unique low [] (f ∷ fs) up_e up_f same = absurd (not_empty f (filter (has_stamp f.0) fs) [] refl (same f ∙ first_kept f fs))
 unique low (e ∷ es) [] up_e up_f same = absurd (not_empty e (filter (has_stamp e.0) es) [] refl (sym (same e) ∙ first_kept e es))
 unique low (e ∷ es) (f ∷ fs) up_e up_f same = joined (unique e.0 es fs up_e.1)
   where
     less : e.0 < f.0 → ⊥
-    less h = not_empty e (filter (has_stamp e.0) es) _ (none_below e.0 f.0 (f ∷ fs) h (omega arith, up_f.1)) (sym (same e) ∙ first_kept e es)
+    less h = not_empty e (filter (has_stamp e.0) es) _ (none_below e.0 f.0 (f ∷ fs) h (omega arith, up_f.1))
+        (sym (same e) ∙ first_kept e es)
 
     more : f.0 < e.0 → ⊥
     more h = not_empty f (filter (has_stamp f.0) fs) _ (none_below f.0 e.0 (e ∷ es) h (omega arith, up_e.1)) (same f ∙ first_kept f fs)

@@ -12,7 +12,8 @@ use Rattle.art_rows.specs.declared.table.Shape.{Shape}
 use Rattle.art_rows.specs.Table.{IsWithinLimits}
 use Rattle.art_steps.specs.declared.variant.Variant.{Variant}
 use Rattle.art_core.specs.declared.process.Process.{Process}
-use Rattle.art_core.specs.Core.{Plan, State, begun, opened_on, next_in, next_move, invocation, move_from, step, step_of, moved_by, moved, after_move}
+use Rattle.art_core.specs.Core.{Plan, State, begun, opened_on, next_in, next_move, invocation, move_from, step, step_of, moved_by, moved}
+use Rattle.art_core.specs.Core.{after_move}
 use Rattle.art_core.specs.Core.{word_of_move}
 use Rattle.art_core.specs.Runs.{run_on}
 use Rattle.art_core.proofs.RunLemmas.{run-on-append}
@@ -60,7 +61,8 @@ IsFor-prop shape Idle = Prim.hlevel props
 IsFor-prop shape (Going o) = Prim.hlevel props
 IsFor-prop shape (Answered r) = Prim.hlevel props
 
-pub is-for : (shape : Shape) (runners : List Runner) (p : ℕ) (r : Runner) → ∥ AreFor shape runners ∥₁ → slice_get runners p ≡ Some r → IsFor shape r.doing
+pub is-for : (shape : Shape) (runners : List Runner) (p : ℕ) (r : Runner) → ∥ AreFor shape runners ∥₁ → slice_get runners p ≡ Some r
+    → IsFor shape r.doing
 is-for shape runners p r are e = ∥∥₁_elim are (IsFor-prop shape r.doing) (λ (f : AreFor shape runners). f p r e)
 
 pub are-for : (shape : Shape) (runners : List Runner) (p : ℕ) (r : Runner) → ∥ AreFor shape runners ∥₁ → IsFor shape r.doing
@@ -68,7 +70,8 @@ pub are-for : (shape : Shape) (runners : List Runner) (p : ℕ) (r : Runner) →
 are-for shape runners p r are h = ∥∥₁_map are (λ (f : AreFor shape runners). item-set (λ i a. IsFor shape a.doing) runners p r h f)
 
 -- the state after the step, and that it is shown
-pub record Stepped (plan : Plan) (its_shape : Shape) (its_variant : Variant) (s : State) (p : ℕ) (new : List ℕ) (runners : List Runner) : Type 0 where
+pub record Stepped (plan : Plan) (its_shape : Shape) (its_variant : Variant) (s : State) (p : ℕ) (new : List ℕ)
+    (runners : List Runner) : Type 0 where
   pub next : State
   pub is : step plan s p ≡ Some next
   pub shows : ShowsState plan its_shape its_variant new runners next
@@ -76,7 +79,8 @@ pub record Stepped (plan : Plan) (its_shape : Shape) (its_variant : Variant) (s 
 pub some-and : {A : Type 0} (P : A → Type 0) (o : Option A) (x : A) → o ≡ Some x → P x → IsSomeAnd o P
 some-and P o x e h = subst (λ o. IsSomeAnd o P) (sym e) h
 
-module _ (shape : Shape) (variant : Variant) (old : List ℕ) (runners : List Runner) (p : ℕ) (r : Runner) (here : slice_get runners p ≡ Some r) where
+module _ (shape : Shape) (variant : Variant) (old : List ℕ) (runners : List Runner) (p : ℕ) (r : Runner)
+    (here : slice_get runners p ≡ Some r) where
   -- the process that fits the runner
   pub process-at : (plan : Plan) (s : State) → ShowsState plan shape variant old runners s
       → (q : Process) × (slice_get s.processes p ≡ Some q) × FitsProcess plan p r q
@@ -105,7 +109,8 @@ module _ (shape : Shape) (variant : Variant) (old : List ℕ) (runners : List Ru
 
   -- after a refused step nothing is otherwise
   pub refits : (plan : Plan) (s : State) (new : List ℕ) (r2 : Runner) → ShowsState plan shape variant old runners s
-      → ((q : Process) → FitsProcess plan p r q → (new ≡ old) × FitsProcess plan p r2 q) → ShowsState plan shape variant new (slice_set runners p r2) s
+      → ((q : Process) → FitsProcess plan p r q → (new ≡ old) × FitsProcess plan p r2 q)
+      → ShowsState plan shape variant new (slice_set runners p r2) s
   refits plan s new r2 shows kept =
       let x = process-at plan s shows in
       record {
@@ -138,7 +143,8 @@ module _ (shape : Shape) (variant : Variant) (old : List ℕ) (runners : List Ru
       })
 
   pub under-way-kept : (start : Contents) (left : ℕ) (new : List ℕ) (r2 : Runner)
-      → ((plan : Plan) (q : Process) → plan.shape ≡ shape → plan.variant ≡ variant → FitsProcess plan p r q → (new ≡ old) × FitsProcess plan p r2 q)
+      → ((plan : Plan) (q : Process) → plan.shape ≡ shape → plan.variant ≡ variant → FitsProcess plan p r q → (new ≡ old)
+      × FitsProcess plan p r2 q)
       → ∥ IsUnderWay shape variant start left old runners ∥₁ → ∥ IsUnderWay shape variant start left new (slice_set runners p r2) ∥₁
   under-way-kept start left new r2 kept = λ is. ∥∥₁_map is (λ (u : IsUnderWay shape variant start left old runners).
       record {
@@ -174,7 +180,8 @@ module _ (shape : Shape) (variant : Variant) (old : List ℕ) (runners : List Ru
       let x = process-at plan s shows in
       some-and (λ q. IsSome (next_move plan p q)) (slice_get s.processes p) x.0 x.1 (moves x.0 x.2 r.doing refl x.2.doing)
     where
-      begins : (plan : Plan) (q : Process) → FitsProcess plan p r q → (o : Option Call) → slice_get r.script.items r.begun ≡ o → r.doing ≡ Idle
+      begins : (plan : Plan) (q : Process) → FitsProcess plan p r q → (o : Option Call)
+          → slice_get r.script.items r.begun ≡ o → r.doing ≡ Idle
           → q.call ≡ None → IsSome (move_from plan p q None)
       begins plan q f None e idle none = absurd (h (record { idle = idle; over = e }))
       begins plan q f (Some call) e idle none =
@@ -183,7 +190,8 @@ module _ (shape : Shape) (variant : Variant) (old : List ℕ) (runners : List Ru
       goes : (plan : Plan) (q : Process) (c : Call) → q.call ≡ Some c → IsSome (move_from plan p q q.call)
       goes plan q c e = ap (λ o. is_some (move_from plan p q o)) e
 
-      moves : (q : Process) → FitsProcess plan p r q → (doing : Doing) → r.doing ≡ doing → FitsDoing plan.shape plan.variant doing q.call q.got
+      moves : (q : Process) → FitsProcess plan p r q → (doing : Doing) → r.doing ≡ doing
+          → FitsDoing plan.shape plan.variant doing q.call q.got
           → IsSome (move_from plan p q q.call)
       moves q f Idle e d = subst (λ o. IsSome (move_from plan p q o)) (sym d) (begins plan q f (slice_get r.script.items r.begun) refl e d)
       moves q f (Going o) e d = goes plan q d.0 d.1

@@ -1,5 +1,6 @@
 -- What a machine begins with.
-use Rattle.std.proofs.Common.{◌≡◌, ℕ, zero, suc, ◌+◌, ◌<◌, ◌^◌, List, [], ◌∷◌, ◌++◌, length, map, sum, arith, refl, ap, sym, subst, ◌∙◌, append_assoc}
+use Rattle.std.proofs.Common.{◌≡◌, ℕ, zero, suc, ◌+◌, ◌<◌, ◌^◌, List, [], ◌∷◌, ◌++◌, length, map, sum, arith, refl, ap, sym, subst, ◌∙◌}
+use Rattle.std.proofs.Common.{append_assoc}
 use Rattle.std.specs.Prelude.{Option, Some, None, slice_get, replicate}
 use Rattle.std.specs.List.{AllZip}
 use Rattle.std.proofs.lemmas.List.Sums.{sum-map}
@@ -29,7 +30,8 @@ zip-push [] (z ∷ ys) x y h k = absurd h
 zip-push (w ∷ xs) [] x y h k = absurd h
 zip-push (w ∷ xs) (z ∷ ys) x y h k = (h.0, zip-push xs ys x y h.1 k)
 
-pub half-more : (all rest more : List (List Call)) (script : List Call) (runners : List Runner) (r : Runner) → AreHalfOpened all rest runners
+pub half-more : (all rest more : List (List Call)) (script : List Call) (runners : List Runner) (r : Runner)
+    → AreHalfOpened all rest runners
     → rest ≡ script ∷ more → IsFresh script r
     → AreHalfOpened all more (runners ++ r ∷ [])
 half-more all rest more script runners r h e k = record {
@@ -68,7 +70,8 @@ fits-idle shape variant scripts runners fresh i r q at is =
       script = z.1 ∙ ap Some (sym z.2.script);
     })
 
-pub tasks-idle : (shape : Shape) (scripts : List (List Call)) (runners : List Runner) → AllZip IsFresh scripts runners → AreFor shape runners
+pub tasks-idle : (shape : Shape) (scripts : List (List Call)) (runners : List Runner) → AllZip IsFresh scripts runners
+    → AreFor shape runners
 tasks-idle shape scripts runners fresh i r at =
     let z = zip_right IsFresh scripts runners i r fresh at in
     subst (λ d. IsFor shape d) (sym z.2.doing) tt

@@ -1,5 +1,6 @@
 -- A run makes the turns that its items name.
-use Rattle.std.proofs.Common.{◌≡◌, ℕ, ◌+◌, ◌≤◌, Bool, true, false, not, nat_eq, IsTrue, List, [], ◌∷◌, ◌++◌, length, take, refl, sym, ap, subst, ◌∙◌, arith}
+use Rattle.std.proofs.Common.{◌≡◌, ℕ, ◌+◌, ◌≤◌, Bool, true, false, not, nat_eq, IsTrue, List, [], ◌∷◌, ◌++◌, length, take, refl, sym, ap}
+use Rattle.std.proofs.Common.{subst, ◌∙◌, arith}
 use Rattle.std.proofs.Common.{eqb-true, eq-eqb, Option, Some, None}
 use Rattle.std.specs.Prelude.{◌↔◌, slice_get, IsSomeAnd}
 use Rattle.std.proofs.lemmas.Option.{slice_get_past}
@@ -47,7 +48,8 @@ module _ (m : Machine) (p : ℕ) (plan : Plan) (s : State) (shows : Shows plan m
 
 -- Whether an item names one turn more.
 
-module _ (plan : Plan) (item : Item) (p : ℕ) (first now : State) (made before found : ℕ) (finds : found ≡ finished_count (slice_get now.processes p))
+module _ (plan : Plan) (item : Item) (p : ℕ) (first now : State) (made before found : ℕ)
+    (finds : found ≡ finished_count (slice_get now.processes p))
     (was : before ≡ finished_count (slice_get first.processes (process_of_item item))) where
   abbrev goes_as : Bool → Item → Type 0
   goes_as b i = before ≡ finished_count (slice_get first.processes (process_of_item i)) → IsTrue b ↔ WantsTurn plan i first made now
@@ -101,7 +103,8 @@ turns-whole plan item s left made m h over costs = record {
   costs = costs;
 }
 
-pub turns-stopped : (plan : Plan) (item : Item) (s : State) (left made p : ℕ) (fault : MachineFault) (m next : Machine) (h : HasMadeTurns plan item s made m)
+pub turns-stopped : (plan : Plan) (item : Item) (s : State) (left made p : ℕ) (fault : MachineFault) (m next : Machine)
+    (h : HasMadeTurns plan item s made m)
     → WantsTurn plan item s made h.state → p ≡ process_of_item item → turns_left m + made ≡ left → turns_left next ≡ turns_left m
     → Shows plan next h.state → IsRefusedIn plan h.state (turns_left m) p fault → HasStoppedIn plan item s left fault next
 turns-stopped plan item s left made p fault m next h wants own costs same shows refused = record {
@@ -117,7 +120,8 @@ turns-stopped plan item s left made p fault m next h wants own costs same shows 
 
 -- Items, one after another.
 
-pub all-more : (plan : Plan) (items : List Item) (item : Item) (s : State) (left : ℕ) (m next : Machine) (h : HasMadeAll plan items s left m)
+pub all-more : (plan : Plan) (items : List Item) (item : Item) (s : State) (left : ℕ) (m next : Machine)
+    (h : HasMadeAll plan items s left m)
     → HasMadeItem plan item h.state (turns_left m) next → HasMadeAll plan (items ++ item ∷ []) s left next
 all-more plan items item s left m next h k = record {
   state = k.state;
@@ -127,8 +131,10 @@ all-more plan items item s left m next h k = record {
   costs = let before = h.costs in let here = k.costs in omega arith;
 }
 
-pub all-stopped : (plan : Plan) (items : List Item) (place : ℕ) (item : Item) (s : State) (left : ℕ) (fault : MachineFault) (m next : Machine)
-    (h : HasMadeAll plan (take place items) s left m) → slice_get items place ≡ Some item → HasStoppedIn plan item h.state (turns_left m) fault next
+pub all-stopped : (plan : Plan) (items : List Item) (place : ℕ) (item : Item) (s : State) (left : ℕ) (fault : MachineFault)
+    (m next : Machine)
+    (h : HasMadeAll plan (take place items) s left m) → slice_get items place ≡ Some item
+        → HasStoppedIn plan item h.state (turns_left m) fault next
     → HasStoppedAt plan items s left place fault next
 all-stopped plan items place item s left fault m next h is stops = record {
   item = item;

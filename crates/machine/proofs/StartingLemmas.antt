@@ -1,5 +1,6 @@
 -- A machine that inserts pairs until nothing is left to do.
-use Rattle.std.proofs.Common.{[], ◌∷◌, ◌≡◌, ℕ, ◌+◌, ◌*◌, ◌<◌, ◌≤◌, List, length, take, refl, sym, ap, subst, ◌∙◌, arith, inl, inr, Some, None}
+use Rattle.std.proofs.Common.{[], ◌∷◌, ◌≡◌, ℕ, ◌+◌, ◌*◌, ◌<◌, ◌≤◌, List, length, take, refl, sym, ap, subst, ◌∙◌, arith, inl, inr, Some}
+use Rattle.std.proofs.Common.{None}
 use Rattle.std.proofs.Common.{get_or, IsTrue}
 use Rattle.std.specs.Prelude.{slice_get, replicate, filter_map, Contains, All}
 use Rattle.std.proofs.lemmas.List.{length-replicate, length-map, get_or-map, take_more}
@@ -36,9 +37,11 @@ use Rattle.machine.specs.Starting.{HasInserted, IsNotOpened}
 module _ (log : List Stamped) (i : ℕ) (e : Stamped) (within : i < length log) (is : e ≡ get_or log i e) where
   pub refusal-found : answered e.1 ≡ Some replies.Refused → Contains (filter_map (λ e. answered e.1) log) replies.Refused
   refusal-found a =
-      Contains-filter_map (λ e. answered e.1) log e replies.Refused (subst (λ x. Contains log x) (sym is) (Contains-get_or log i e within)) a
+      Contains-filter_map (λ e. answered e.1) log e replies.Refused
+          (subst (λ x. Contains log x) (sym is) (Contains-get_or log i e within)) a
 
-  pub no-refusal-yet : (Contains (filter_map (λ e. answered e.1) (take i log)) replies.Refused → ⊥) → (answered e.1 ≡ Some replies.Refused → ⊥)
+  pub no-refusal-yet : (Contains (filter_map (λ e. answered e.1) (take i log)) replies.Refused → ⊥)
+      → (answered e.1 ≡ Some replies.Refused → ⊥)
       → Contains (filter_map (λ e. answered e.1) (take (i + 1) log)) replies.Refused → ⊥
   no-refusal-yet none other h =
       let x = Contains-from_filter_map (λ e. answered e.1) (take (i + 1) log) replies.Refused h in
@@ -100,7 +103,8 @@ module _ (shape : Shape) (variant : Variant) (start : Contents) where
     pub not-opened : StartsEnd → IsPlan plan → 1002 * length start < START_TURNS → (fault : MachineFault) → (fault ≡ faults.NothingToDo → ⊥)
         → HasStoppedIn plan all_turns (opened plan) left fault next → IsNotOpened shape variant start fault
     not-opened ends within enough faults.NoProcess other h =
-        let one = (run-lengths plan (replicate h.made 0) (opened plan) h.state h.turns.gives).1 in let none = h.refused in absurd (omega (arith, one, none))
+        let one = (run-lengths plan (replicate h.made 0) (opened plan) h.state h.turns.gives).1 in let none =
+            h.refused in absurd (omega (arith, one, none))
     not-opened ends within enough faults.NothingToDo other h = absurd (other refl)
     not-opened ends within enough faults.TurnLimit other h =
         let costs = h.costs in

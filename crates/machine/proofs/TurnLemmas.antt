@@ -25,8 +25,10 @@ use Rattle.art.proofs.DoingLemmas.{next-asks, fits-after}
 use Rattle.machine.specs.Fitting.{Advances, FitsProcess, Moves}
 
 -- the task took what the access got: it goes on, or its call is answered
-pub taken : (shape : Shape) (variant : Variant) (call : Call) (got old new : List ℕ) (rest : Rest) (a : Access) (w : ℕ) → Fits shape variant call got rest
-    → access_of (rest []) ≡ Some a → w ≡ got_by a old → (task : Task) (o : Option Reply) → new ≡ words_after a old → reply_of (rest (w ∷ [])) ≡ o
+pub taken : (shape : Shape) (variant : Variant) (call : Call) (got old new : List ℕ) (rest : Rest) (a : Access) (w : ℕ)
+    → Fits shape variant call got rest
+    → access_of (rest []) ≡ Some a → w ≡ got_by a old → (task : Task) (o : Option Reply) → new ≡ words_after a old
+    → reply_of (rest (w ∷ [])) ≡ o
     → (o ≡ None → (more : List ℕ) → rest_of task more ≡ rest (w ∷ more)) → Advances shape variant call got old new (after_access task o)
 taken shape variant call got old new rest a w fits asks gave task o wrote reply goes =
     let asked = next-asks shape variant call got rest fits a asks in
@@ -81,7 +83,8 @@ responds plan p q r reply old new r2 fits answered_is wrote logged script begun_
       words = wrote;
       fits = record {
         doing = subst (λ doing. FitsDoing plan.shape plan.variant doing None []) (sym idle) refl;
-        begun = ap (λ l. length l) (begun-append q.log (slice_index old 0, Answer p reply) ∙ append-nil (begun q)) ∙ (fits.begun ∙ sym begun_is);
+        begun = ap (λ l. length l) (begun-append q.log (slice_index old 0, Answer p reply) ∙ append-nil (begun q))
+            ∙ (fits.begun ∙ sym begun_is);
         finished = ap (λ l. length l) (finished-append q.log (slice_index old 0, Answer p reply))
             ∙ (length-append (finished q) (reply ∷ []) ∙ (ap (λ n. n + 1) fits.finished ∙ sym finished_is));
         log = ap (λ l. l ++ (slice_index old 0, Answer p reply) ∷ []) fits.log ∙ sym logged;
@@ -89,7 +92,8 @@ responds plan p q r reply old new r2 fits answered_is wrote logged script begun_
       };
     }
 
-pub invokes : (plan : Plan) (p : ℕ) (q : Process) (r : Runner) (call : Call) (task : Task) (old new : List ℕ) (r2 : Runner) → FitsProcess plan p r q
+pub invokes : (plan : Plan) (p : ℕ) (q : Process) (r : Runner) (call : Call) (task : Task) (old new : List ℕ) (r2 : Runner)
+    → FitsProcess plan p r q
     → r.doing ≡ Idle
     → slice_get r.script.items r.begun ≡ Some call → ((rest : List ℕ) → rest_of task rest ≡ act plan.shape plan.variant call rest)
     → new ≡ slice_set old 0 ((slice_index old 0 + 1) % 2 ^ 64) → r2.log.items ≡ r.log.items ++ (slice_index old 0, Invoke p call) ∷ []
@@ -99,7 +103,8 @@ invokes plan p q r call task old new r2 fits idle next rest wrote logged script 
     record {
       move = Invokes call;
       is_next =
-          ap (move_from plan p q) none ∙ ap invocation (ap (λ o. next_in o (length (begun q))) fits.script ∙ (ap (slice_get r.script.items) fits.begun ∙ next));
+          ap (move_from plan p q) none ∙ ap invocation (ap (λ o. next_in o (length (begun q))) fits.script ∙ (ap (slice_get r.script.items)
+              fits.begun ∙ next));
       words = wrote;
       fits = record {
         doing = subst (λ doing. FitsDoing plan.shape plan.variant doing (Some call) []) (sym going) (call, refl, rest);

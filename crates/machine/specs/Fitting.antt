@@ -42,7 +42,8 @@ pub record Advances (shape : Shape) (variant : Variant) (call : Call) (got old n
   pub fits : FitsDoing shape variant doing (Some call) (got ++ got_by access old ∷ [])
 
 -- Words and runners show this state of the plan: the same words, and each runner fits its process.
-pub record ShowsState (plan : Plan) (its_shape : Shape) (its_variant : Variant) (its_words : List ℕ) (runners : List Runner) (s : State) : Type 0 where
+pub record ShowsState (plan : Plan) (its_shape : Shape) (its_variant : Variant) (its_words : List ℕ) (runners : List Runner)
+    (s : State) : Type 0 where
   pub shape : plan.shape ≡ its_shape
   pub variant : plan.variant ≡ its_variant
   pub words : s.words ≡ its_words

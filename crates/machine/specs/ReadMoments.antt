@@ -9,7 +9,8 @@ use Rattle.machine.specs.Machines.{Shows, start_of}
 
 -- Where the tree is the optimistic one, this is so of whatever schedule gives what the machine shows.
 abbrev pub InRuns : (Plan → List ℕ → List ℕ → Type 0) → Machine → Type 0
-InRuns Holds m = (plan : Plan) (first schedule : List ℕ) (s : State) → IsRun plan (start_of m) first schedule s → Shows plan m s → m.variant ≡ Optimistic
+InRuns Holds m = (plan : Plan) (first schedule : List ℕ) (s : State) → IsRun plan (start_of m) first schedule s → Shows plan m s
+    → m.variant ≡ Optimistic
     → Holds plan first schedule
 
 -- Each scan that was answered in it has one moment at which all that it read stands still.

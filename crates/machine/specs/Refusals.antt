@@ -2,13 +2,15 @@
 use Rattle.std.specs.Prelude.{◌≡◌, ℕ, ◌<◌, ◌≤◌, length, slice_get, None, IsSome, IsSomeAnd}
 use Rattle.art_core.specs.Core.{Plan, State, next_move}
 use Rattle.plans.specs.declared.fault.MachineFault.{MachineFault}
-use Rattle.plans.specs.declared.fault.MachineFault.TheVariants.{NoProcess, NothingToDo, TurnLimit, Memory, TooLong, NotJson, Shape, StartRefused}
+use Rattle.plans.specs.declared.fault.MachineFault.TheVariants.{NoProcess, NothingToDo, TurnLimit, Memory, TooLong, NotJson, Shape}
+use Rattle.plans.specs.declared.fault.MachineFault.TheVariants.{StartRefused}
 
 -- process p has something to do: an open call, or one of its script to begin
 abbrev pub HasMove : Plan → State → ℕ → Type 0
 HasMove plan s p = IsSomeAnd (slice_get s.processes p) (λ q. IsSome (next_move plan p q))
 
--- In this state, with so many turns left, a turn of p is refused for this cause: a process is wanted first, then something to do, then a turn.
+-- In this state, with so many turns left, a turn of p is refused for this cause: a process is wanted first, then something to do, then a
+-- turn.
 abbrev pub IsRefusedIn : Plan → State → ℕ → ℕ → MachineFault → Type 0
 IsRefusedIn plan s left p NoProcess = length s.processes ≤ p
 IsRefusedIn plan s left p NothingToDo = IsSomeAnd (slice_get s.processes p) (λ q. next_move plan p q ≡ None)

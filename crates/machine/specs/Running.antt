@@ -36,7 +36,8 @@ pub record HasMadeItem (plan : Plan) (item : Item) (first : State) (left : ℕ) 
   pub shows : Shows plan m state
   pub costs : turns_left m + made ≡ left
 
--- From the first state, with so many turns left, turns of the item were made, the next one that it names is refused for this cause, and the machine shows the
+-- From the first state, with so many turns left, turns of the item were made, the next one that it names is refused for this cause, and the
+-- machine shows the
 -- state before it.
 pub record HasStoppedIn (plan : Plan) (item : Item) (first : State) (left : ℕ) (fault : MachineFault) (m : Machine) : Type 0 where
   pub state : State
@@ -48,7 +49,8 @@ pub record HasStoppedIn (plan : Plan) (item : Item) (first : State) (left : ℕ)
   pub costs : turns_left m + made ≡ left
 
 -- The items before this place were made whole, and the one there was stopped.
-pub record HasStoppedAt (plan : Plan) (items : List Item) (first : State) (left : ℕ) (place : ℕ) (fault : MachineFault) (m : Machine) : Type 0 where
+pub record HasStoppedAt (plan : Plan) (items : List Item) (first : State) (left : ℕ) (place : ℕ) (fault : MachineFault)
+    (m : Machine) : Type 0 where
   pub item : Item
   pub is_item : slice_get items place ≡ Some item
   pub between : State

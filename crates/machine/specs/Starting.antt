@@ -13,8 +13,10 @@ use Rattle.plans.specs.declared.fault.MachineFault.TheVariants as faults
 use Rattle.machine.specs.Machines.{Shows, start_of, turns_left}
 use Rattle.machine.specs.Running.{plan_of}
 
--- The machine shows the state of the plan before its first step, on words with which these pairs start, with so many turns left, and it has the pairs.
-pub record IsOpenedWith (shape : Shape) (variant : Variant) (start : Contents) (scripts : List (List Call)) (limit : ℕ) (m : Machine) : Type 0 where
+-- The machine shows the state of the plan before its first step, on words with which these pairs start, with so many turns left, and it has
+-- the pairs.
+pub record IsOpenedWith (shape : Shape) (variant : Variant) (start : Contents) (scripts : List (List Call)) (limit : ℕ)
+    (m : Machine) : Type 0 where
   pub words : List ℕ
   pub starts : StartsOn shape variant start words
   pub shows : Shows (plan_of shape variant scripts) m (opened_on (plan_of shape variant scripts) words)

@@ -11,7 +11,8 @@ use Rattle.machine.specs.declared.runner.Runner.{Runner}
 use Rattle.machine.specs.Fitting.{ShowsState}
 
 -- Steps that were made and turns that are left are few together. It started with these pairs.
-pub record IsUnderWay (shape : Shape) (variant : Variant) (start : Contents) (left : ℕ) (words : List ℕ) (runners : List Runner) : Type 0 where
+pub record IsUnderWay (shape : Shape) (variant : Variant) (start : Contents) (left : ℕ) (words : List ℕ)
+    (runners : List Runner) : Type 0 where
   pub plan : Plan
   pub first : List ℕ
   pub schedule : List ℕ

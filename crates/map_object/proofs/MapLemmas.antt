@@ -41,7 +41,8 @@ below_none key (pair ∷ m) h =
 pub value_at_above : (key : ℕ) (back : Contents) → AreAbove key back → value_at back key ≡ None
 value_at_above key [] h = refl
 value_at_above key (pair ∷ back) h =
-    grind (arith, nat_tests, All-head (λ (p : ℕ × ℕ). key < p.0) pair back h, value_at_above key back (All-tail (λ (p : ℕ × ℕ). key < p.0) pair back h))
+    grind (arith, nat_tests, All-head (λ (p : ℕ × ℕ). key < p.0) pair back h, value_at_above key back
+        (All-tail (λ (p : ℕ × ℕ). key < p.0) pair back h))
 
 value_at-append : (key : ℕ) (front back : Contents) → AreBelow key front → value_at (front ++ back) key ≡ value_at back key
 value_at-append key [] back h = refl
@@ -78,7 +79,8 @@ module _ (key value : ℕ) (front back : Contents) (lower : AreBelow key front) 
 -- ---- the keys stay in order
 
 -- pairs by rising key, then others with greater keys
-IsRising-append : (front back : Contents) → IsRising front → IsRising back → All (λ a. All (λ b. a.0 < b.0) back) front → IsRising (front ++ back)
+IsRising-append : (front back : Contents) → IsRising front → IsRising back → All (λ a. All (λ b. a.0 < b.0) back) front
+    → IsRising (front ++ back)
 IsRising-append [] back h k between = k
 IsRising-append (pair ∷ front) back h k between =
     AllPairs-cons (λ (a : ℕ × ℕ) (b : ℕ × ℕ). a.0 < b.0) pair (front ++ back)

@@ -13,7 +13,8 @@ use Rattle.std.proofs.lemmas.List.Sorted.{IsNonDecreasingBy-from_default}
 use Rattle.std.proofs.lemmas.Bool.Decides.{nat_tests}
 use Rattle.map_object.specs.MapObject.{Contents, IsRising, value_at, below, above, after}
 use Rattle.events.specs.declared.event.Call.TheVariants.{Replace}
-use Rattle.map_object.proofs.MapLemmas.{IsRising-insert, AreBelow, AreAbove, below_gap, above_gap, value_at_gap, below_found, above_found, value_at_found}
+use Rattle.map_object.proofs.MapLemmas.{IsRising-insert, AreBelow, AreAbove, below_gap, above_gap, value_at_gap, below_found, above_found}
+use Rattle.map_object.proofs.MapLemmas.{value_at_found}
 use Rattle.map_object.specs.Places.{IsAt, IsGapFor}
 
 -- the pairs before a place, and those from it on, by their places in the whole list
@@ -37,7 +38,8 @@ IsGapFor-from_places m key i in_range lower higher =
     }
 
 -- a pair of the key between the lower keys and the higher ones
-module _ (m : Contents) (key i : ℕ) (in_range : i < length m) (has_key : (d : ℕ × ℕ) → (get_or m i d).0 ≡ key) (lower : AreBelow key (take i m))
+module _ (m : Contents) (key i : ℕ) (in_range : i < length m) (has_key : (d : ℕ × ℕ) → (get_or m i d).0 ≡ key)
+    (lower : AreBelow key (take i m))
     (higher : AreAbove key (drop (suc i) m)) where
   parts_at : (d : ℕ × ℕ) → take i m ++ (key, (get_or m i d).1) ∷ drop (suc i) m ≡ m
   parts_at d = rw (← has_key d, ← drop-cons m i d in_range) (take-append-drop i m)
@@ -47,7 +49,8 @@ module _ (m : Contents) (key i : ℕ) (in_range : i < length m) (has_key : (d : 
     in_range = in_range;
     value = λ d. subst (λ (l : Contents). value_at l key ≡ Some (get_or m i d).1) (parts_at d)
         (value_at_found key (get_or m i d).1 (take i m) (drop (suc i) m) lower higher);
-    below = subst (λ (l : Contents). below key l ≡ take i m) (parts_at (0, 0)) (below_found key (get_or m i (0, 0)).1 (take i m) (drop (suc i) m) lower higher);
+    below = subst (λ (l : Contents). below key l ≡ take i m) (parts_at (0, 0))
+        (below_found key (get_or m i (0, 0)).1 (take i m) (drop (suc i) m) lower higher);
     above = subst (λ (l : Contents). above key l ≡ drop (suc i) m) (parts_at (0, 0))
         (above_found key (get_or m i (0, 0)).1 (take i m) (drop (suc i) m) lower higher);
   }

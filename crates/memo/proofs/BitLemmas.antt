@@ -1,6 +1,7 @@
 -- Bits of words: one more is set, the lowest are dropped, zeros at the end are dropped.
 use Rattle.std.proofs.Common.{◌≡◌, ℕ, ◌+◌, ◌-◌, ◌*◌, ◌/◌, ◌%◌, ◌^◌, ◌<◌, ◌≤◌, List, ◌∷◌, [], ◌++◌, length, map}
-use Rattle.std.proofs.Common.{take, drop, replicate, set, get_or, max, sym, ap, ap₂, ◌∙◌, ⊎_elim, w64, length-set, get_or-set_same, get_or-set_other, arith}
+use Rattle.std.proofs.Common.{take, drop, replicate, set, get_or, max, sym, ap, ap₂, ◌∙◌, ⊎_elim, w64, length-set, get_or-set_same}
+use Rattle.std.proofs.Common.{get_or-set_other, arith}
 use Rattle.std.specs.Prelude.{◌≢◌, bit_or}
 use Rattle.std.specs.Int.{bit_at, trailing_ones}
 use Rattle.std.specs.List.{range_with_len}
@@ -99,7 +100,8 @@ bit_at-up_low word k i small low =
 -- bits moved up
 bit_at-up_high : (word k i : ℕ) → i < 64 → k ≤ i → bit_at (word * 2 ^ k % 2 ^ 64) i ≡ bit_at word (i - k)
 bit_at-up_high word k i small high =
-    bit_at-mod (word * 2 ^ k) i small ∙ ap (λ (m : ℕ). bit_at m i) (omega arith) ∙ bit_at_cat_high word k 0 i (omega (arith, pow_pos k)) high
+    bit_at-mod (word * 2 ^ k) i small ∙ ap (λ (m : ℕ). bit_at m i) (omega arith)
+        ∙ bit_at_cat_high word k 0 i (omega (arith, pow_pos k)) high
 
 -- 0 is no more than any number
 zero_max : (n : ℕ) → max 0 n ≡ n
@@ -119,7 +121,8 @@ module _ (words : List ℕ) (count : ℕ) (few : count < 64) (each : AreWords wo
       bit_at_or (get_or words k 0 / 2 ^ count / 2 ^ 1) (get_or words (k + 1) 0 * 2 ^ (63 - count) % 2 ^ 64) i
       ∙ ⊎_elim
       (λ low.
-      ap₂ max (bit_at-down (get_or words k 0) count i) (bit_at-up_low (get_or words (k + 1) 0) (63 - count) i small (omega (arith, low, few)))
+      ap₂ max (bit_at-down (get_or words k 0) count i)
+          (bit_at-up_low (get_or words (k + 1) 0) (63 - count) i small (omega (arith, low, few)))
       ∙ max_zero (bit_at (get_or words k 0) (i + (count + 1)))
       ∙ sym (bit_of-at words k (i + (count + 1)) low)
       ∙ ap (bit_of words) (omega arith))
@@ -136,7 +139,8 @@ module _ (words : List ℕ) (count : ℕ) (few : count < 64) (each : AreWords wo
   bit_of-moved n =
       ⊎_elim
       (λ within.
-      ap (λ (w : ℕ). bit_at w (n % 64)) (get_or-map-range_with_len (shifted_word words count) 0 (length words) (n / 64) (n / 64) 0 within (omega arith))
+      ap (λ (w : ℕ). bit_at w (n % 64)) (get_or-map-range_with_len (shifted_word words count) 0 (length words) (n / 64) (n / 64) 0
+          within (omega arith))
       ∙ bit_at-moved (n / 64) (n % 64) (omega arith)
       ∙ ap (bit_of words) (omega arith))
       (λ past.
@@ -148,7 +152,8 @@ module _ (words : List ℕ) (count : ℕ) (few : count < 64) (each : AreWords wo
 read_zeros : (words : List ℕ) (count k : ℕ) → get_or (words ++ replicate count 0) k 0 ≡ get_or words k 0
 read_zeros words count k =
     ⊎_elim (λ within. get_or-append words (replicate count 0) 0 k within)
-    (λ past. get_or-append_right words (replicate count 0) k 0 past ∙ zero (k - length words) ∙ sym (get_or_past words k 0 past)) (cases_lt k (length words))
+    (λ past. get_or-append_right words (replicate count 0) k 0 past ∙ zero (k - length words) ∙ sym (get_or_past words k 0 past))
+        (cases_lt k (length words))
   where
     zeros : List ℕ
     zeros = replicate count 0
@@ -162,7 +167,8 @@ pub bit_of-push_zero : (words : List ℕ) (n : ℕ) → bit_of (words ++ 0 ∷ [
 bit_of-push_zero words n = ap (λ (w : ℕ). bit_at w (n % 64)) (read_zeros words 1 (n / 64))
 
 -- words that were made longer by zeros
-module _ (grown words front : List ℕ) (size len : ℕ) (is : grown ≡ take size (front ++ words) ++ replicate (size - len) 0) (none : front ≡ [])
+module _ (grown words front : List ℕ) (size len : ℕ) (is : grown ≡ take size (front ++ words) ++ replicate (size - len) 0)
+    (none : front ≡ [])
     (length_is : len ≡ length words) (longer : length words ≤ size) where
   grown_is : grown ≡ words ++ replicate (size - length words) 0
   grown_is = is ∙ ap₂ (λ (xs : List ℕ) (m : ℕ). take size (xs ++ words) ++ replicate (size - m) 0) none length_is

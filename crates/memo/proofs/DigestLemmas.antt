@@ -22,7 +22,8 @@ pub change_is : (change old_front old_back new_front new_back old_rest new_rest 
 change_is change old_front old_back new_front new_back old_rest new_rest same old new = omega (arith, same, old, new)
 
 -- the digest after one more call and other pairs
-pub digest_after : (taken pairs one after change digest : ℕ) → digest ≡ (taken + pairs) % 2 ^ 64 → (change + pairs) % 2 ^ 64 ≡ after % 2 ^ 64
+pub digest_after : (taken pairs one after change digest : ℕ) → digest ≡ (taken + pairs) % 2 ^ 64
+    → (change + pairs) % 2 ^ 64 ≡ after % 2 ^ 64
     → ((digest + one) % 2 ^ 64 + change) % 2 ^ 64 ≡ (taken + one + after) % 2 ^ 64
 digest_after taken pairs one after change digest is changed = omega (arith, is, changed)
 
@@ -40,8 +41,10 @@ module _ (f : ℕ → ℕ) (place : ℕ) where
       let rest = sum_apart xs (λ h. new (Contains-later x xs place h)) in
       ⊎_elim (λ is. absurd (new (subst (λ (y : ℕ). Contains (y ∷ xs) place) (sym is) (Contains-first place xs))))
       (λ (apart : (x < place) ⊎ (place < x)). ⊎_elim
-      (λ (low : x < place). rw (lower low, not_above low, sum_by-cons f x (filter (λ n. nat_lt n place) xs), sum_by-cons f x xs) (omega (arith, rest)))
-      (λ (high : place < x). rw (not_below high, upper high, sum_by-cons f x (filter (λ n. nat_lt place n) xs), sum_by-cons f x xs) (omega (arith, rest)))
+      (λ (low : x < place). rw (lower low, not_above low, sum_by-cons f x (filter (λ n. nat_lt n place) xs), sum_by-cons f x xs)
+          (omega (arith, rest)))
+      (λ (high : place < x). rw (not_below high, upper high, sum_by-cons f x (filter (λ n. nat_lt place n) xs), sum_by-cons f x xs)
+          (omega (arith, rest)))
       apart)
       (cases_order x place)
     where

@@ -17,7 +17,8 @@ module _ (least : ℕ) (words : List ℕ) (place more : ℕ) (longer : List ℕ)
       (with_place-rises (places_of least words) place (places_of-rises least words))
       (λ n. (
         λ h. (same n).1
-            (⊎_elim (λ old. inl ((Contains-places_of least words n).0 old)) (λ is. inr is) ((Contains-with_place (places_of least words) place n).0 h)),
+            (⊎_elim (λ old. inl ((Contains-places_of least words n).0 old)) (λ is. inr is)
+                ((Contains-with_place (places_of least words) place n).0 h)),
         λ h. (Contains-with_place (places_of least words) place n).1
             (⊎_elim (λ old. inl ((Contains-places_of least words n).1 old)) (λ is. inr is) ((same n).0 h)),
       )))
@@ -57,7 +58,8 @@ module _ (least : ℕ) (words : List ℕ) (place : ℕ) (longer : List ℕ) (abo
       old (inr high) = ⊎_elim (λ is. here is) (λ other. inr (high.0, bit_too n high.0 other ∙ high.1)) (cases_eq n place)
 
 -- the least missing number is put in: the run of ones above it ends at the next one that is missing
-module _ (least : ℕ) (words : List ℕ) (run : ℕ) (fewer : List ℕ) (ones : (n : ℕ) → n < run → bit_of words n ≡ 1) (zero : bit_of words run ≡ 0)
+module _ (least : ℕ) (words : List ℕ) (run : ℕ) (fewer : List ℕ) (ones : (n : ℕ) → n < run → bit_of words n ≡ 1)
+    (zero : bit_of words run ≡ 0)
     (bits : (n : ℕ) → bit_of fewer n ≡ bit_of words (n + (run + 1))) where
   abbrev next : ℕ
   next = least + run + 1
@@ -70,7 +72,8 @@ module _ (least : ℕ) (words : List ℕ) (run : ℕ) (fewer : List ℕ) (ones :
     where
       from : IsAmong next fewer n → IsAmong least words n ⊎ (n ≡ least)
       from (inl low) = ⊎_elim (λ is. inr is)
-          (λ apart. ⊎_elim (λ lt. inl (inl lt)) (λ gt. inl (inr (gt, ones (n - (least + 1)) (omega (arith, low, gt))))) apart) (cases_order n least)
+          (λ apart. ⊎_elim (λ lt. inl (inl lt)) (λ gt. inl (inr (gt, ones (n - (least + 1)) (omega (arith, low, gt))))) apart)
+              (cases_order n least)
       from (inr high) = inl (inr (omega (arith, high.0), sym (higher n high.0) ∙ high.1))
 
       here : n ≡ least → IsAmong next fewer n

@@ -34,12 +34,14 @@ module _ (taken : List ℕ) (place : ℕ) where
   with_place-from : (n : ℕ) → Contains (with_place taken place) n → Contains taken n ⊎ (n ≡ place)
   with_place-from n h = ⊎_elim
       (λ low. inl (Contains-from_filter (λ m. nat_lt m place) taken n low).0)
-      (λ rest. ⊎_elim (λ is. inr (sym is)) (λ high. inl (Contains-from_filter (λ m. nat_lt place m) taken n high).0) (Contains-cases place above n rest))
+      (λ rest. ⊎_elim (λ is. inr (sym is)) (λ high. inl (Contains-from_filter (λ m. nat_lt place m) taken n high).0)
+          (Contains-cases place above n rest))
       (Contains-append_cases below (place ∷ above) n h)
 
   -- the one is in the list with it
   with_place-new : (n : ℕ) → n ≡ place → Contains (with_place taken place) n
-  with_place-new n is = subst (Contains (with_place taken place)) (sym is) (Contains-append_right below (place ∷ above) place (Contains-first place above))
+  with_place-new n is = subst (Contains (with_place taken place)) (sym is) (Contains-append_right below (place ∷ above) place
+      (Contains-first place above))
 
   -- what was in the list still is
   with_place-old : (n : ℕ) → Contains taken n → Contains (with_place taken place) n
@@ -69,7 +71,9 @@ module _ (taken : List ℕ) (place : ℕ) where
       pairs = AllPairs-from_increasing taken rising
 
       low : All (λ n. n < place) below
-      low = All-weaker (λ n. nat_lt n place ≡ true) (λ n. n < place) (below_from_passes place) below (filter_passes (λ n. nat_lt n place) taken)
+      low = All-weaker (λ n. nat_lt n place ≡ true) (λ n. n < place) (below_from_passes place) below
+          (filter_passes (λ n. nat_lt n place) taken)
 
       high : All (λ n. place < n) above
-      high = All-weaker (λ n. nat_lt place n ≡ true) (λ n. place < n) (λ n. below_from_passes n place) above (filter_passes (λ n. nat_lt place n) taken)
+      high = All-weaker (λ n. nat_lt place n ≡ true) (λ n. place < n) (λ n. below_from_passes n place) above
+          (filter_passes (λ n. nat_lt place n) taken)

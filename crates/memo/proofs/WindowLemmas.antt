@@ -1,5 +1,6 @@
 -- Which numbers are in a set that is kept as its least missing number and bits, and that such a set has one form.
-use Rattle.std.proofs.Common.{◌≡◌, ℕ, ◌+◌, ◌-◌, ◌*◌, ◌/◌, ◌%◌, ◌^◌, ◌<◌, ◌≤◌, List, [], length, get_or, sym, ap, ◌∙◌, subst, inl, inr, ⊎_elim, arith}
+use Rattle.std.proofs.Common.{◌≡◌, ℕ, ◌+◌, ◌-◌, ◌*◌, ◌/◌, ◌%◌, ◌^◌, ◌<◌, ◌≤◌, List, [], length, get_or, sym, ap, ◌∙◌, subst, inl, inr}
+use Rattle.std.proofs.Common.{⊎_elim, arith}
 use Rattle.std.specs.Prelude.{◌⊎◌, ◌↔◌, ◌==◌, ◌&&◌, nat_lt, All, Contains}
 use Rattle.std.specs.Bool.{Decides}
 use Rattle.std.specs.Int.{bit_at}
@@ -23,7 +24,8 @@ IsAmong least words n = (n < least) ⊎ ((least < n) × (bit_of words (n - (leas
 Decides-among : (least : ℕ) (words : List ℕ) (n : ℕ) → Decides (is_among least words n) (IsAmong least words n)
 Decides-among least words n =
     Decides-or (nat_lt n least) (nat_lt least n && (bit_of words (n - (least + 1)) == 1)) (Decides-ltb n least)
-    (Decides-and (nat_lt least n) (bit_of words (n - (least + 1)) == 1) (Decides-ltb least n) (Decides-eqb (bit_of words (n - (least + 1))) 1))
+    (Decides-and (nat_lt least n) (bit_of words (n - (least + 1)) == 1) (Decides-ltb least n)
+        (Decides-eqb (bit_of words (n - (least + 1))) 1))
 
 -- past the last word each bit is 0
 pub bit_of-past : (words : List ℕ) (n : ℕ) → 64 * length words ≤ n → bit_of words n ≡ 0
@@ -71,7 +73,8 @@ places_of-rises least words =
     IsStrictlyIncreasing-filter (is_among least words) (range_with_len 0 size) (IsStrictlyIncreasing-range size)
 
 -- a rising list of exactly these numbers is the set's
-pub places_of-is : (least : ℕ) (words numbers : List ℕ) → IsStrictlyIncreasing numbers → ((n : ℕ) → Contains numbers n ↔ IsAmong least words n)
+pub places_of-is : (least : ℕ) (words numbers : List ℕ) → IsStrictlyIncreasing numbers
+    → ((n : ℕ) → Contains numbers n ↔ IsAmong least words n)
     → numbers ≡ places_of least words
 places_of-is least words numbers rising same =
     rising_unique numbers (places_of least words) rising (places_of-rises least words)
@@ -88,7 +91,8 @@ no_longer a b words trimmed same longer =
     let k = length b - 1 in
     let nonzero : 0 < get_or b k 0 = trimmed k (omega (arith, longer)) in
     let zero : get_or b k 0 ≡ 0 = same_from_bits_below 64 (get_or b k 0) 0 (words k) (omega arith)
-    (λ i small. sym (bit_of-at b k i small) ∙ sym (same (64 * k + i)) ∙ bit_of-past a (64 * k + i) (omega (arith, longer)) ∙ sym (bit_at-zero i)) in
+    (λ i small. sym (bit_of-at b k i small) ∙ sym (same (64 * k + i)) ∙ bit_of-past a (64 * k + i) (omega (arith, longer))
+        ∙ sym (bit_at-zero i)) in
     omega (arith, nonzero, zero)
 
 -- words with the same bits are the same, where the last is not 0
@@ -100,13 +104,15 @@ same_words a b words_a words_b trimmed_a trimmed_b same =
   where
     len : length a ≡ length b
     len = ⊎_elim (λ is. is)
-        (⊎_elim (λ lt. absurd (no_longer a b words_b trimmed_b same lt)) (λ gt. absurd (no_longer b a words_a trimmed_a (λ n. sym (same n)) gt)))
+        (⊎_elim (λ lt. absurd (no_longer a b words_b trimmed_b same lt))
+            (λ gt. absurd (no_longer b a words_a trimmed_a (λ n. sym (same n)) gt)))
         (cases_order (length a) (length b))
 
 -- the least number that is not in a set is the same for each form of it
 no_lower : (l m : ℕ) (a b : List ℕ) → places_of l a ≡ places_of m b → l < m → ⊥
 no_lower l m a b same lower =
-    least-not_among l a ((Contains-places_of l a l).0 (subst (λ (v : List ℕ). Contains v l) (sym same) ((Contains-places_of m b l).1 (inl lower))))
+    least-not_among l a ((Contains-places_of l a l).0 (subst (λ (v : List ℕ). Contains v l) (sym same)
+        ((Contains-places_of m b l).1 (inl lower))))
 
 -- a set has one form: the least number that is not in it
 pub same_least : (l m : ℕ) (a b : List ℕ) → places_of l a ≡ places_of m b → l ≡ m
@@ -144,7 +150,8 @@ least_small least words small =
     (cases_lt least 1)
 
 -- after a run of ones each number is of 32 bits too
-pub run_small : (least : ℕ) (words : List ℕ) (run : ℕ) → All (λ n. n < 2 ^ 32) (places_of least words) → ((n : ℕ) → n < run → bit_of words n ≡ 1)
+pub run_small : (least : ℕ) (words : List ℕ) (run : ℕ) → All (λ n. n < 2 ^ 32) (places_of least words)
+    → ((n : ℕ) → n < run → bit_of words n ≡ 1)
     → least + run ≤ 2 ^ 32
 run_small least words run small ones =
     ⊎_elim (λ none. omega (arith, none, least_small least words small))
@@ -163,7 +170,8 @@ none_among n (inr high) = omega (arith, high.1, bit_of-past [] (n - 1) (omega ar
 -- the empty set
 pub places_of-none : places_of 0 [] ≡ []
 places_of-none =
-    sym (places_of-is 0 [] [] (λ k within. absurd (omega (arith, within))) (λ n. (λ h. absurd (Contains-nil n h), λ h. absurd (none_among n h))))
+    sym (places_of-is 0 [] [] (λ k within. absurd (omega (arith, within)))
+        (λ n. (λ h. absurd (Contains-nil n h), λ h. absurd (none_among n h))))
 
 -- has the form of sets
 pub ArePlaces-none : ArePlaces 0 []

@@ -1,5 +1,6 @@
 -- A set of numbers as the least one that is not in it and the bits of the numbers above that one.
-use Rattle.std.specs.Prelude.{bit_or, ◌≡◌, ℕ, ◌+◌, ◌-◌, ◌*◌, ◌/◌, ◌%◌, ◌^◌, ◌<◌, Bool, ◌&&◌, ◌||◌, ◌==◌, nat_lt, List, length, filter, slice_index, All}
+use Rattle.std.specs.Prelude.{bit_or, ◌≡◌, ℕ, ◌+◌, ◌-◌, ◌*◌, ◌/◌, ◌%◌, ◌^◌, ◌<◌, Bool, ◌&&◌, ◌||◌, ◌==◌, nat_lt, List, length, filter}
+use Rattle.std.specs.Prelude.{slice_index, All}
 use Rattle.std.specs.List.{range_with_len}
 use Rattle.std.specs.Int.{bit_at}
 

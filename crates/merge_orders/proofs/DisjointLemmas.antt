@@ -1,5 +1,6 @@
 -- No number is in two of the orders that are merged.
-use Rattle.std.proofs.Common.{◌≡◌, ℕ, ◌+◌, ◌<◌, ◌≤◌, ◌==◌, Bool, true, false, cond, List, [], ◌∷◌, length, get_or, filter, refl, sym, ap, ◌∙◌, ⊎_elim, arith}
+use Rattle.std.proofs.Common.{◌≡◌, ℕ, ◌+◌, ◌<◌, ◌≤◌, ◌==◌, Bool, true, false, cond, List, [], ◌∷◌, length, get_or, filter, refl, sym, ap}
+use Rattle.std.proofs.Common.{◌∙◌, ⊎_elim, arith}
 use Rattle.std.specs.Prelude.{slice_get, All, AllPairs, Contains}
 use Rattle.std.specs.List.{AllZip, concat, sum_by}
 use Rattle.std.proofs.lemmas.Bool.{eq-eqb, ne_eqb, cases_order, false≢true, false_from_ne_true}
@@ -17,7 +18,8 @@ use Rattle.segments.specs.SegmentView.{SegmentView}
 use Rattle.segments.specs.Segments.{IsSegment, AreSegments}
 use Rattle.segments.specs.SegmentOrders.{IsOrderOf}
 use Rattle.merge_orders.specs.Merge.{point_in, point_of, IsMergedOrder}
-use Rattle.list_laws.proofs.Lists.{AllPairs-nil, AllPairs-head, AllPairs-tail, Contains-nil, Contains-cases, Contains-at, place_of-Contains, All-from_contains}
+use Rattle.list_laws.proofs.Lists.{AllPairs-nil, AllPairs-head, AllPairs-tail, Contains-nil, Contains-cases, Contains-at, place_of-Contains}
+use Rattle.list_laws.proofs.Lists.{All-from_contains}
 use Rattle.list_laws.proofs.Lists.{filter_all, filter_none}
 use Rattle.list_laws.proofs.NumberLemmas.{slice_get-below, has_number-Contains, has_number-from_Contains}
 use Rattle.list_laws.proofs.FilterLemmas.{AllPairs-at, AllPairs-weaker}
@@ -47,7 +49,8 @@ count-filter n p (x ∷ xs) pass = by_test (p x) refl (count-filter n p xs pass)
     differs : p x ≡ false → x ≡ n → ⊥
     differs fails same = false≢true (sym fails ∙ (ap p same ∙ pass))
 
-    by_test : (b : Bool) → p x ≡ b → count n (filter p xs) ≡ count n xs → count n (cond b (x ∷ filter p xs) (filter p xs)) ≡ count n (x ∷ xs)
+    by_test : (b : Bool) → p x ≡ b → count n (filter p xs) ≡ count n xs
+        → count n (cond b (x ∷ filter p xs) (filter p xs)) ≡ count n (x ∷ xs)
     by_test true e rest = sum_by-cons (one_at n) x (filter p xs) ∙ (ap (λ k. one_at n x + k) rest ∙ sym (sum_by-cons (one_at n) x xs))
     by_test false e rest =
         let none : one_at n x ≡ 0 = rw (ne_eqb x n (differs e)) refl in
@@ -81,7 +84,8 @@ count-two n (first ∷ orders) =
     (λ order other order_is other_is le. omega (arith, sum, le)) (count-two n orders))
 
 -- orders that can be merged have no number in common
-pub AreDisjoint-from_merged : (calls : List Operation) (orders : List (List ℕ)) (merged : List ℕ) → IsMergedOrder calls orders merged → AreDisjoint orders
+pub AreDisjoint-from_merged : (calls : List Operation) (orders : List (List ℕ)) (merged : List ℕ) → IsMergedOrder calls orders merged
+    → AreDisjoint orders
 AreDisjoint-from_merged calls orders merged h i j d before within n in_first in_second =
     let first = get_or orders i d in
     let second = get_or orders j d in
@@ -93,7 +97,8 @@ AreDisjoint-from_merged calls orders merged h i j d before within n in_first in_
     omega (arith, two, all, same, kept, count-Contains n second in_second)
 
 -- two orders with a number in common are one
-pub same_order : (orders : List (List ℕ)) (order other : List ℕ) (n : ℕ) → AreDisjoint orders → Contains orders order → Contains orders other
+pub same_order : (orders : List (List ℕ)) (order other : List ℕ) (n : ℕ) → AreDisjoint orders → Contains orders order
+    → Contains orders other
     → Contains order n → Contains other n → order ≡ other
 same_order orders order other n disjoint order_is other_is in_order in_other =
     let R = λ (order other : List ℕ). (n : ℕ) → Contains order n → Contains other n → ⊥ in
@@ -113,9 +118,11 @@ AreDisjoint-from_segments start calls segments orders in_order are zip i j d bef
     let s_is = All-contains (IsSegment start calls) segments s are.each (Contains-at segments i s s_at) in
     let t_is = All-contains (IsSegment start calls) segments t are.each (Contains-at segments j t t_at) in
     let in_s =
-    All-contains (Contains s.numbers) (get_or orders i d) n (IsOrderByNumber-from_order start calls s (get_or orders i d) s_is first).within in_first in
+    All-contains (Contains s.numbers) (get_or orders i d) n
+        (IsOrderByNumber-from_order start calls s (get_or orders i d) s_is first).within in_first in
     let in_t =
-    All-contains (Contains t.numbers) (get_or orders j d) n (IsOrderByNumber-from_order start calls t (get_or orders j d) t_is second).within in_second in
+    All-contains (Contains t.numbers) (get_or orders j d) n
+        (IsOrderByNumber-from_order start calls t (get_or orders j d) t_is second).within in_second in
     let (a, here) = slice_get-below calls n (All-contains (λ n. n < length calls) s.numbers n (known-IsSegment start calls s s_is) in_s) in
     let below_high = (IsInside-segment start calls s n a s_is in_s here).high_inside in
     let above_low = (IsInside-segment start calls t n a t_is in_t here).low_inside in
@@ -124,21 +131,24 @@ AreDisjoint-from_segments start calls segments orders in_order are zip i j d bef
     absurd (omega arith)
 
 -- the point of a call is that in the order that has it
-pub point_of-in : (calls : List Operation) (orders : List (List ℕ)) (order : List ℕ) (n : ℕ) → AreDisjoint orders → Contains orders order → Contains order n
+pub point_of-in : (calls : List Operation) (orders : List (List ℕ)) (order : List ℕ) (n : ℕ) → AreDisjoint orders → Contains orders order
+    → Contains order n
     → point_of calls orders n ≡ point_in calls order n
 point_of-in calls orders order n disjoint is number =
     let at = point_of-is calls orders order n is number in
     at.point ∙ ap (λ o. point_in calls o n) (same_order orders at.order order n disjoint at.is is at.number number)
 
 -- an order is what its numbers leave of all orders together
-pub filter-concat : (orders : List (List ℕ)) (order : List ℕ) → AreDisjoint orders → Contains orders order → filter (has_number order) (concat orders) ≡ order
+pub filter-concat : (orders : List (List ℕ)) (order : List ℕ) → AreDisjoint orders → Contains orders order
+    → filter (has_number order) (concat orders) ≡ order
 filter-concat [] order disjoint is = absurd (Contains-nil order is)
 filter-concat (first ∷ orders) order disjoint is =
     filter-append (has_number order) first (concat orders) ∙ ⊎_elim
     (λ same. rw (← same) (rw (here, not_later) (append-nil first)))
     (λ later. rw (
       not_first later,
-      filter-concat orders order (AllPairs-tail (λ order other. (n : ℕ) → Contains order n → Contains other n → ⊥) first orders disjoint) later,
+      filter-concat orders order (AllPairs-tail (λ order other. (n : ℕ) → Contains order n → Contains other n → ⊥) first
+          orders disjoint) later,
     ) refl)
     (Contains-cases first orders order is)
   where
@@ -146,7 +156,8 @@ filter-concat (first ∷ orders) order disjoint is =
     apart = AllPairs-head (λ order other. (n : ℕ) → Contains order n → Contains other n → ⊥) first orders disjoint
 
     here : filter (has_number first) first ≡ first
-    here = filter_all (has_number first) first (All-from_contains (λ n. has_number first n ≡ true) first (λ n number. has_number-from_Contains first n number))
+    here = filter_all (has_number first) first
+        (All-from_contains (λ n. has_number first n ≡ true) first (λ n number. has_number-from_Contains first n number))
 
     not_later : filter (has_number first) (concat orders) ≡ []
     not_later =
@@ -158,5 +169,7 @@ filter-concat (first ∷ orders) order disjoint is =
 
     not_first : Contains orders order → filter (has_number order) first ≡ []
     not_first later =
-        filter_none (has_number order) first (All-from_contains (λ n. has_number order n ≡ false) first (λ n number. false_from_ne_true (has_number order n)
-        (λ has. All-contains (λ other. (n : ℕ) → Contains first n → Contains other n → ⊥) orders order apart later n number (has_number-Contains order n has))))
+        filter_none (has_number order) first (All-from_contains (λ n. has_number order n ≡ false) first (λ n number. false_from_ne_true
+            (has_number order n)
+        (λ has. All-contains (λ other. (n : ℕ) → Contains first n → Contains other n → ⊥) orders order apart later n number
+            (has_number-Contains order n has))))

@@ -1,10 +1,12 @@
 -- Orders of the segments, merged by their points, are an order of all calls.
-use Rattle.std.proofs.Common.{◌≡◌, ℕ, ◌<◌, ◌≤◌, Bool, true, false, List, [], ◌∷◌, length, get_or, filter, Option, Some, None, refl, sym, ap, ◌∙◌, subst, ⊎_elim}
+use Rattle.std.proofs.Common.{◌≡◌, ℕ, ◌<◌, ◌≤◌, Bool, true, false, List, [], ◌∷◌, length, get_or, filter, Option, Some, None, refl, sym, ap}
+use Rattle.std.proofs.Common.{◌∙◌, subst, ⊎_elim}
 use Rattle.std.proofs.Common.{arith}
 use Rattle.std.specs.Prelude.{◌≢◌, slice_get, IsTrue, IsSomeAnd, MatchBool, All, AllPairs, Contains}
 use Rattle.std.specs.List.{AllZip, concat}
 use Rattle.std.proofs.lemmas.Bool.{false≢true, false_from_ne_true, or_left}
-use Rattle.std.proofs.lemmas.List.Elements.{All-contains, Contains-append_left, Contains-append_right, Contains-append_cases, Contains-get_or}
+use Rattle.std.proofs.lemmas.List.Elements.{All-contains, Contains-append_left, Contains-append_right, Contains-append_cases}
+use Rattle.std.proofs.lemmas.List.Elements.{Contains-get_or}
 use Rattle.std.proofs.lemmas.List.Sorted.{IsPermutation-sym, Contains-permutation}
 use Rattle.std.proofs.lemmas.Option.{same_Some, slice_get-get_or}
 use Rattle.events.specs.declared.operation.Operation.{Operation}
@@ -18,7 +20,8 @@ use Rattle.segments.specs.SegmentView.{SegmentView}
 use Rattle.segments.specs.Segments.{IsSegment, AreSegments}
 use Rattle.segments.specs.SegmentOrders.{IsOrderOf}
 use Rattle.merge_orders.specs.Merge.{point_of, IsMergedOrder}
-use Rattle.list_laws.proofs.Lists.{Contains-nil, Contains-cases, Contains-first, Contains-later, Contains-at, place_of-Contains, All-from_contains}
+use Rattle.list_laws.proofs.Lists.{Contains-nil, Contains-cases, Contains-first, Contains-later, Contains-at, place_of-Contains}
+use Rattle.list_laws.proofs.Lists.{All-from_contains}
 use Rattle.list_laws.proofs.NumberLemmas.{has_number-Contains, has_number-from_Contains}
 use Rattle.list_laws.proofs.FilterLemmas.{AreRelatedAs, AllPairs-from_filter, AllPairs-filter_map, AllPairs-weaker}
 use Rattle.segments.proofs.RangeLemmas.{IsInside, IsOutside}
@@ -29,14 +32,16 @@ use Rattle.merge_orders.proofs.PointLemmas.{IsOrderAt, point_of-is, point_of-pre
 use Rattle.list_laws.proofs.ZipLemmas.{zip_left, zip_right}
 
 -- a number that is in one of some lists is in the lists together
-pub Contains-concat : (orders : List (List ℕ)) (order : List ℕ) (n : ℕ) → Contains orders order → Contains order n → Contains (concat orders) n
+pub Contains-concat : (orders : List (List ℕ)) (order : List ℕ) (n : ℕ) → Contains orders order → Contains order n
+    → Contains (concat orders) n
 Contains-concat [] order n is h = absurd (Contains-nil order is)
 Contains-concat (first ∷ orders) order n is h = ⊎_elim
     (λ same. Contains-append_left first (concat orders) n (subst (λ o. Contains o n) (sym same) h))
     (λ later. Contains-append_right first (concat orders) n (Contains-concat orders order n later h)) (Contains-cases first orders order is)
 
 -- a number that is in some lists together is in one of them
-pub Contains-from_concat : (orders : List (List ℕ)) (n : ℕ) → Contains (concat orders) n → (order : List ℕ) × Contains orders order × Contains order n
+pub Contains-from_concat : (orders : List (List ℕ)) (n : ℕ) → Contains (concat orders) n → (order : List ℕ) × Contains orders order
+    × Contains order n
 Contains-from_concat [] n h = absurd (Contains-nil n h)
 Contains-from_concat (first ∷ orders) n h = ⊎_elim (λ here. (first, Contains-first first orders, here))
     (λ later. let (order, is, number) = Contains-from_concat orders n later in (order, Contains-later first orders order is, number))
@@ -53,7 +58,8 @@ record Part (start : Contents) (calls : List Operation) (segments : List Segment
   by_number : IsOrderByNumber start calls segment order
 
 -- each order is that of a segment
-part_of : (start : Contents) (calls : List Operation) (segments : List SegmentView) (orders : List (List ℕ)) (order : List ℕ) → AreSegments start calls segments
+part_of : (start : Contents) (calls : List Operation) (segments : List SegmentView) (orders : List (List ℕ)) (order : List ℕ)
+    → AreSegments start calls segments
     → AllZip IsOrderOf segments orders → Contains orders order → (p : Part start calls segments orders) × (p.order ≡ order)
 part_of start calls segments orders order are zip is =
     let (i, order_at) = place_of-Contains orders order is in
@@ -85,19 +91,23 @@ module _ (start : Contents) (calls : List Operation) (segments : List SegmentVie
   part_with : (n : ℕ) → Contains merged n → (p : Part start calls segments orders) × Contains p.order n
   part_with n is =
       let (order, order_is, number) =
-      Contains-from_concat orders n (Contains-permutation merged (concat orders) n (IsPermutation-sym (concat orders) merged h.same_calls) is) in
+      Contains-from_concat orders n (Contains-permutation merged (concat orders) n (IsPermutation-sym (concat orders) merged
+          h.same_calls) is) in
       let (p, same) = part_of start calls segments orders order are zip order_is in
       (p, subst (λ o. Contains o n) (sym same) number)
 
   -- the calls of a segment stand in the merged order as in the segment's own
   kept : (p : Part start calls segments orders) → filter (has_number p.order) merged ≡ p.order
-  kept p = All-contains (λ order. filter (has_number order) merged ≡ order) orders p.order h.by_place (Contains-at orders p.place p.order p.order_at)
+  kept p = All-contains (λ order. filter (has_number order) merged ≡ order) orders p.order h.by_place
+      (Contains-at orders p.place p.order p.order_at)
 
   -- the numbers of a segment's order go by the segment's keys
-  goes_by_keys : (p : Part start calls segments orders) (n : ℕ) → Contains merged n → GoesByKeys calls (has_number p.order) p.segment.lo p.segment.hi n
+  goes_by_keys : (p : Part start calls segments orders) (n : ℕ) → Contains merged n
+      → GoesByKeys calls (has_number p.order) p.segment.lo p.segment.hi n
   goes_by_keys p n is a here = by_test (has_number p.order n) refl
     where
-      by_test : (b : Bool) → has_number p.order n ≡ b → MatchBool b (IsInside p.segment.lo p.segment.hi a.call) (IsOutside p.segment.lo p.segment.hi a.call)
+      by_test : (b : Bool) → has_number p.order n ≡ b
+          → MatchBool b (IsInside p.segment.lo p.segment.hi a.call) (IsOutside p.segment.lo p.segment.hi a.call)
       by_test true e =
           IsInside-segment start calls p.segment n a p.is_segment
           (All-contains (Contains p.segment.numbers) p.order n p.by_number.within (has_number-Contains p.order n e)) here
@@ -121,7 +131,8 @@ module _ (start : Contents) (calls : List Operation) (segments : List SegmentVie
       let (p, in_p) = part_with m (Contains-get_or merged i d (omega arith)) in
       let has = has_number-from_Contains p.order m in_p in
       let pairs =
-      AllPairs-from_filter (λ m n. m ≢ n) (has_number p.order) merged (subst (AllPairs (λ m n. m ≢ n)) (sym (kept p)) p.by_number.legal_order.distinct) in
+      AllPairs-from_filter (λ m n. m ≢ n) (has_number p.order) merged
+          (subst (AllPairs (λ m n. m ≢ n)) (sym (kept p)) p.by_number.legal_order.distinct) in
       pairs i j d before within has (subst (λ n. has_number p.order n ≡ true) same has) same
 
   -- each segment's order keeps precedence
@@ -132,7 +143,8 @@ module _ (start : Contents) (calls : List Operation) (segments : List SegmentVie
 
   -- each call of the merged order has its point in an order that has it
   point_there : (n : ℕ) → Contains merged n → IsOrderAt calls orders n
-  point_there n is = let (p, in_p) = part_with n is in point_of-is calls orders p.order n (Contains-at orders p.place p.order p.order_at) in_p
+  point_there n is = let (p, in_p) = part_with n is in point_of-is calls orders p.order n (Contains-at orders p.place
+      p.order p.order_at) in_p
 
   -- the merged order keeps precedence, since a call that precedes another has the smaller point
   merged_precedence : All (λ a. precedes a a ≡ false) calls → KeepsPrecedence (calls_at calls merged)
@@ -150,7 +162,8 @@ module _ (start : Contents) (calls : List Operation) (segments : List SegmentVie
 
   -- the merged order is legal, since the calls of each segment are
   merged_legal : IsLegal start (calls_at calls merged)
-  merged_legal = IsLegal-from_parts {I = Part start calls segments orders} calls (λ p. has_number p.order) (λ p. p.segment.lo) (λ p. p.segment.hi) start merged
+  merged_legal = IsLegal-from_parts {I = Part start calls segments orders} calls (λ p. has_number p.order) (λ p. p.segment.lo)
+      (λ p. p.segment.hi) start merged
       (λ p. All-from_contains (GoesByKeys calls (has_number p.order) p.segment.lo p.segment.hi) merged (goes_by_keys p))
       (All-from_contains (λ n. (p : Part start calls segments orders) × (has_number p.order n ≡ true)) merged
       (λ n is. let (p, in_p) = part_with n is in (p, has_number-from_Contains p.order n in_p)))
@@ -168,7 +181,8 @@ module _ (start : Contents) (calls : List Operation) (segments : List SegmentVie
       (Contains-concat orders order n (Contains-at orders i order order_at) (by_number.complete n number completed))
 
 -- orders of the segments, merged by their points, are an order of all calls
-pub IsOrder-from_merged : (start : Contents) (calls : List Operation) (segments : List SegmentView) (orders : List (List ℕ)) (merged : List ℕ)
+pub IsOrder-from_merged : (start : Contents) (calls : List Operation) (segments : List SegmentView)
+    (orders : List (List ℕ)) (merged : List ℕ)
     → All (λ a. precedes a a ≡ false) calls
     → AreSegments start calls segments → AllZip IsOrderOf segments orders → IsMergedOrder calls orders merged
     → IsOrder start calls merged
@@ -183,13 +197,17 @@ IsOrder-from_merged start calls segments orders merged none are zip h = record {
 }
 
 -- the numbers of orders of segments are those of calls
-pub known-orders : (start : Contents) (calls : List Operation) (segments : List SegmentView) (orders : List (List ℕ)) → AreSegments start calls segments
+pub known-orders : (start : Contents) (calls : List Operation) (segments : List SegmentView) (orders : List (List ℕ))
+    → AreSegments start calls segments
     → AllZip IsOrderOf segments orders → All (λ order. All (λ n. n < length calls) order) orders
 known-orders start calls segments orders are zip = All-from_contains (λ order. All (λ n. n < length calls) order) orders
-    (λ order is. let (p, same) = part_of start calls segments orders order are zip is in subst (All (λ n. n < length calls)) same p.by_number.legal_order.known)
+    (λ order is. let (p, same) = part_of start calls segments orders order are zip is in subst (All (λ n. n < length calls)) same
+        p.by_number.legal_order.known)
 
 -- an order of a segment has each number once
-pub distinct-orders : (start : Contents) (calls : List Operation) (segments : List SegmentView) (orders : List (List ℕ)) → AreSegments start calls segments
+pub distinct-orders : (start : Contents) (calls : List Operation) (segments : List SegmentView) (orders : List (List ℕ))
+    → AreSegments start calls segments
     → AllZip IsOrderOf segments orders → All (AllPairs (λ m n. m ≢ n)) orders
 distinct-orders start calls segments orders are zip = All-from_contains (AllPairs (λ m n. m ≢ n)) orders
-    (λ order is. let (p, same) = part_of start calls segments orders order are zip is in subst (AllPairs (λ m n. m ≢ n)) same p.by_number.legal_order.distinct)
+    (λ order is. let (p, same) = part_of start calls segments orders order are zip is in subst (AllPairs (λ m n. m ≢ n)) same
+        p.by_number.legal_order.distinct)

@@ -22,15 +22,18 @@ abbrev pub latest : List Operation → List ℕ → ℕ → ℕ
 latest calls order i = greatest (map (λ a. a.inv) (calls_at calls (take i order)))
 
 -- and among one call more
-pub latest-more : (calls : List Operation) (order : List ℕ) (i d : ℕ) (a : Operation) → i < length order → slice_get calls (get_or order i d) ≡ Some a
+pub latest-more : (calls : List Operation) (order : List ℕ) (i d : ℕ) (a : Operation) → i < length order
+    → slice_get calls (get_or order i d) ≡ Some a
     → latest calls order (i + 1) ≡ max (latest calls order i) a.inv
 latest-more calls order i d a below here =
     let inv = λ (b : Operation). b.inv in
     ap (λ taken. greatest (map inv taken)) (calls_at-more calls order i d a below here)
-    ∙ (ap greatest (map-append inv (calls_at calls (take i order)) (a ∷ [])) ∙ greatest-push (map inv (calls_at calls (take i order))) a.inv)
+    ∙ (ap greatest (map-append inv (calls_at calls (take i order)) (a ∷ []))
+    ∙ greatest-push (map inv (calls_at calls (take i order))) a.inv)
 
 -- one call more of an order, with its point
-pub at_point_in-more : (calls : List Operation) (order : List ℕ) (i d : ℕ) (a : Operation) → AllPairs (λ m n. m ≢ n) order → i < length order
+pub at_point_in-more : (calls : List Operation) (order : List ℕ) (i d : ℕ) (a : Operation) → AllPairs (λ m n. m ≢ n) order
+    → i < length order
     → slice_get calls (get_or order i d) ≡ Some a
     → map (at_point_in calls order) (take (i + 1) order) ≡ map (at_point_in calls order)
     (take i order) ++ record { point = max (latest calls order i) a.inv; number = get_or order i d } ∷ []
@@ -38,10 +41,12 @@ at_point_in-more calls order i d a distinct below here =
     let n = get_or order i d in
     let point = point_in-at calls order i n distinct (slice_get-get_or order i d below) ∙ latest-more calls order i d a below here in
     map_more (at_point_in calls order) order i d below
-    ∙ ap (λ (p : ℕ). let call : CallAtPoint = record { point = p; number = n } in map (at_point_in calls order) (take i order) ++ call ∷ []) point
+    ∙ ap (λ (p : ℕ). let call : CallAtPoint = record { point = p; number = n } in map (at_point_in calls order)
+        (take i order) ++ call ∷ []) point
 
 -- one element more behind a list and what was put behind it
-pub behind-more : {X : Type 0} (old done more now next : List X) (x y : X) → now ≡ old ++ done → more ≡ done ++ x ∷ [] → next ≡ now ++ y ∷ [] → y ≡ x
+pub behind-more : {X : Type 0} (old done more now next : List X) (x y : X) → now ≡ old ++ done → more ≡ done ++ x ∷ []
+    → next ≡ now ++ y ∷ [] → y ≡ x
     → next ≡ old ++ more
 behind-more old done more now next x y so_far step push same = let joined = append_assoc old done (x ∷ []) in cc
 
@@ -51,8 +56,10 @@ map_agree f g [] same = refl
 map_agree f g (x ∷ xs) same = rw (All-head (λ x. f x ≡ g x) x xs same, map_agree f g xs (All-tail (λ x. f x ≡ g x) x xs same)) refl
 
 -- one order more, where no number is in two orders
-pub at_point-more : (calls : List Operation) (orders : List (List ℕ)) (i : ℕ) (order : List ℕ) → AreDisjoint orders → slice_get orders i ≡ Some order
-    → map (at_point calls orders) (concat (take (i + 1) orders)) ≡ map (at_point calls orders) (concat (take i orders)) ++ map (at_point_in calls order) order
+pub at_point-more : (calls : List Operation) (orders : List (List ℕ)) (i : ℕ) (order : List ℕ) → AreDisjoint orders
+    → slice_get orders i ≡ Some order
+    → map (at_point calls orders) (concat (take (i + 1) orders)) ≡ map (at_point calls orders) (concat (take i orders)) ++ map
+        (at_point_in calls order) order
 at_point-more calls orders i order disjoint here =
     let f = at_point calls orders in
     let before = concat (take i orders) in
@@ -63,5 +70,6 @@ at_point-more calls orders i order disjoint here =
     ap concat step ∙ (concat-append (take i orders) (order ∷ []) ∙ ap (λ rest. before ++ rest) (append-nil order)) in
     let same : map f order ≡ map (at_point_in calls order) order =
     map_agree f (at_point_in calls order) order (All-from_contains (λ n. f n ≡ at_point_in calls order n) order
-    (λ n number. ap (λ (p : ℕ). let call : CallAtPoint = record { point = p; number = n } in call) (point_of-in calls orders order n disjoint is number))) in
+    (λ n number. ap (λ (p : ℕ). let call : CallAtPoint = record { point = p; number = n } in call)
+        (point_of-in calls orders order n disjoint is number))) in
     ap (map f) all ∙ (map-append f before order ∙ ap (λ rest. map f before ++ rest) same)

@@ -1,5 +1,6 @@
 -- The points of calls in their orders.
-use Rattle.std.proofs.Common.{◌≡◌, ℕ, zero, suc, ◌+◌, ◌<◌, ◌≤◌, ◌==◌, Bool, true, false, cond, List, [], ◌∷◌, map, take, Option, Some, None, refl, sym, ap, ◌∙◌}
+use Rattle.std.proofs.Common.{◌≡◌, ℕ, zero, suc, ◌+◌, ◌<◌, ◌≤◌, ◌==◌, Bool, true, false, cond, List, [], ◌∷◌, map, take, Option, Some, None}
+use Rattle.std.proofs.Common.{refl, sym, ap, ◌∙◌}
 use Rattle.std.proofs.Common.{subst, inl, inr, ⊎_elim, arith, add-one}
 use Rattle.std.specs.Prelude.{◌⊎◌, ◌≢◌, slice_get, All, AllPairs, Contains}
 use Rattle.std.proofs.lemmas.Bool.{eqb-true, eqb-false, eq-eqb, ne_eqb, ltb-true, ltb-false, false≢true}
@@ -13,19 +14,23 @@ use Rattle.list_laws.specs.Lists.{greatest, has_number}
 use Rattle.events.specs.Precedence.{is_before, precedes}
 use Rattle.orders.specs.Orders.{calls_at, KeepsPrecedence}
 use Rattle.merge_orders.specs.Merge.{up_to, point_in, point_of}
-use Rattle.list_laws.proofs.Lists.{All-from_contains, AllPairs-nil, AllPairs-head, AllPairs-tail, Contains-first, Contains-later, Contains-nil, Contains-cases}
+use Rattle.list_laws.proofs.Lists.{All-from_contains, AllPairs-nil, AllPairs-head, AllPairs-tail, Contains-first, Contains-later}
+use Rattle.list_laws.proofs.Lists.{Contains-nil, Contains-cases}
 use Rattle.list_laws.proofs.Lists.{Contains-at}
 use Rattle.list_laws.proofs.NumberLemmas.{greatest_bound, has_number-Contains, has_number-from_Contains, greatest_is}
-use Rattle.list_laws.proofs.FilterLemmas.{Contains-filter_map, Contains-from_filter_map, AreRelatedAs, AllPairs-from_filter_map, AllPairs-weaker}
+use Rattle.list_laws.proofs.FilterLemmas.{Contains-filter_map, Contains-from_filter_map, AreRelatedAs, AllPairs-from_filter_map}
+use Rattle.list_laws.proofs.FilterLemmas.{AllPairs-weaker}
 
 -- what stands up to a number's place is in the list
 pub Contains-from_up_to : (n : ℕ) (order : List ℕ) (k : ℕ) → Contains (up_to n order) k → Contains order k
 Contains-from_up_to n [] k h = h
 Contains-from_up_to n (m ∷ order) k h = from (m == n) h (Contains-from_up_to n order k)
   where
-    from : (b : Bool) → Contains (cond b (m ∷ []) (m ∷ up_to n order)) k → (Contains (up_to n order) k → Contains order k) → Contains (m ∷ order) k
+    from : (b : Bool) → Contains (cond b (m ∷ []) (m ∷ up_to n order)) k → (Contains (up_to n order) k → Contains order k)
+        → Contains (m ∷ order) k
     from true h rest =
-        ⊎_elim (λ same. subst (Contains (m ∷ order)) same (Contains-first m order)) (λ later. absurd (Contains-nil k later)) (Contains-cases m [] k h)
+        ⊎_elim (λ same. subst (Contains (m ∷ order)) same (Contains-first m order)) (λ later. absurd (Contains-nil k later))
+            (Contains-cases m [] k h)
     from false h rest =
         ⊎_elim (λ same. subst (Contains (m ∷ order)) same (Contains-first m order)) (λ later. Contains-later m order k (rest later))
         (Contains-cases m (up_to n order) k h)
@@ -34,7 +39,8 @@ Contains-from_up_to n (m ∷ order) k h = from (m == n) h (Contains-from_up_to n
 pub Contains-up_to : (n : ℕ) (order : List ℕ) → Contains order n → Contains (up_to n order) n
 Contains-up_to n [] h = h
 Contains-up_to n (m ∷ order) h =
-    ⊎_elim (λ same. rw (eq-eqb m n same) (subst (Contains (m ∷ [])) same (Contains-first m []))) (λ later. onto (m == n) refl (Contains-up_to n order later))
+    ⊎_elim (λ same. rw (eq-eqb m n same) (subst (Contains (m ∷ [])) same (Contains-first m [])))
+        (λ later. onto (m == n) refl (Contains-up_to n order later))
     (Contains-cases m order n h)
   where
     onto : (b : Bool) → (m == n) ≡ b → Contains (up_to n order) n → Contains (cond b (m ∷ []) (m ∷ up_to n order)) n
@@ -42,23 +48,29 @@ Contains-up_to n (m ∷ order) h =
     onto false e h = Contains-later m (up_to n order) n h
 
 -- what stands up to a number's place is the number or stands before it
-pub before-up_to : (R : ℕ → ℕ → Type 0) (n : ℕ) (order : List ℕ) (k : ℕ) → AllPairs R order → Contains order n → Contains (up_to n order) k → (k ≡ n) ⊎ R k n
+pub before-up_to : (R : ℕ → ℕ → Type 0) (n : ℕ) (order : List ℕ) (k : ℕ) → AllPairs R order → Contains order n
+    → Contains (up_to n order) k → (k ≡ n) ⊎ R k n
 before-up_to R n [] k h is up = absurd (Contains-nil n is)
 before-up_to R n (m ∷ order) k h is up = from (m == n) refl up (λ later. before-up_to R n order k (AllPairs-tail R m order h) later)
   where
-    from : (b : Bool) → (m == n) ≡ b → Contains (cond b (m ∷ []) (m ∷ up_to n order)) k → (Contains order n → Contains (up_to n order) k → (k ≡ n) ⊎ R k n)
+    from : (b : Bool) → (m == n) ≡ b → Contains (cond b (m ∷ []) (m ∷ up_to n order)) k
+        → (Contains order n → Contains (up_to n order) k → (k ≡ n) ⊎ R k n)
         → (k ≡ n) ⊎ R k n
-    from true e up rest = ⊎_elim (λ same. inl (sym same ∙ eqb-true m n e)) (λ later. absurd (Contains-nil k later)) (Contains-cases m [] k up)
+    from true e up rest = ⊎_elim (λ same. inl (sym same ∙ eqb-true m n e)) (λ later. absurd (Contains-nil k later))
+        (Contains-cases m [] k up)
     from false e up rest =
-        let later = ⊎_elim {C = Contains order n} (λ same. absurd (eqb-false m n e same)) (λ in_rest. in_rest) (Contains-cases m order n is) in
-        ⊎_elim (λ same. inr (subst (λ j. R j n) same (All-contains (R m) order n (AllPairs-head R m order h) later))) (λ k_later. rest later k_later)
+        let later = ⊎_elim {C = Contains order n} (λ same. absurd (eqb-false m n e same)) (λ in_rest. in_rest)
+            (Contains-cases m order n is) in
+        ⊎_elim (λ same. inr (subst (λ j. R j n) same (All-contains (R m) order n (AllPairs-head R m order h) later)))
+            (λ k_later. rest later k_later)
         (Contains-cases m (up_to n order) k up)
 
 -- a call's point is not before its invocation
 pub point_in-invocation : (calls : List Operation) (order : List ℕ) (n : ℕ) (a : Operation) → Contains order n → slice_get calls n ≡ Some a
     → a.inv ≤ point_in calls order n
 point_in-invocation calls order n a is here =
-    greatest_bound (λ b. b.inv) (calls_at calls (up_to n order)) a (Contains-filter_map (slice_get calls) (up_to n order) n a (Contains-up_to n order is) here)
+    greatest_bound (λ b. b.inv) (calls_at calls (up_to n order)) a
+        (Contains-filter_map (slice_get calls) (up_to n order) n a (Contains-up_to n order is) here)
 
 -- the call at whose invocation the point of a call is: itself, or one that stands before it in its order
 pub record IsPointOf (calls : List Operation) (order : List ℕ) (n : ℕ) : Type 0 where
@@ -69,7 +81,8 @@ pub record IsPointOf (calls : List Operation) (order : List ℕ) (n : ℕ) : Typ
   pub point : point_in calls order n ≡ call.inv
 
 -- each call of an order has its point at such an invocation
-pub point_in-is : (calls : List Operation) (order : List ℕ) (n : ℕ) (a : Operation) → Contains order n → slice_get calls n ≡ Some a → IsPointOf calls order n
+pub point_in-is : (calls : List Operation) (order : List ℕ) (n : ℕ) (a : Operation) → Contains order n → slice_get calls n ≡ Some a
+    → IsPointOf calls order n
 point_in-is calls order n a is here =
     let (c, c_is, same) =
     greatest_is (λ b. b.inv) (calls_at calls (up_to n order)) a
@@ -87,7 +100,8 @@ not_before_point calls order n a none keeps is here p =
     (λ same. subst (λ c. precedes a c ≡ false) (same_Some a p.call (sym here ∙ (ap (slice_get calls) (sym same) ∙ p.here)))
     (All-contains (λ a. precedes a a ≡ false) calls a none (Contains-at calls n a here)))
     (λ earlier. earlier p.call a p.here here)
-    (before-up_to (AreRelatedAs R (slice_get calls)) n order p.number (AllPairs-from_filter_map R (slice_get calls) order keeps) is p.up_to_it)
+    (before-up_to (AreRelatedAs R (slice_get calls)) n order p.number
+        (AllPairs-from_filter_map R (slice_get calls) order keeps) is p.up_to_it)
 
 -- the point of a call that precedes another is before the invocation of that
 pub point_in-precedes : (calls : List Operation) (order : List ℕ) (m : ℕ) (a b : Operation) → All (λ a. precedes a a ≡ false) calls
@@ -110,7 +124,8 @@ point_in-rises calls (k ∷ order) distinct =
     AllPairs-cons (λ m n. point_in calls (k ∷ order) m ≤ point_in calls (k ∷ order) n) k order
     (All-from_contains (λ n. point_in calls (k ∷ order) k ≤ point_in calls (k ∷ order) n) order
     (λ n is. rw (first, later n is) (first_least (slice_get calls k) n)))
-    (AllPairs-weaker (λ m n. point_in calls order m ≤ point_in calls order n) (λ m n. point_in calls (k ∷ order) m ≤ point_in calls (k ∷ order) n) order
+    (AllPairs-weaker (λ m n. point_in calls order m ≤ point_in calls order n)
+        (λ m n. point_in calls (k ∷ order) m ≤ point_in calls (k ∷ order) n) order
     (λ m n m_is n_is le. rw (later m m_is, later n n_is) (both (slice_get calls k) m n le))
     (point_in-rises calls order (AllPairs-tail (λ m n. m ≢ n) k order distinct)))
   where
@@ -149,11 +164,13 @@ point_of-is calls (first ∷ orders) order n is number = at (has_number first n)
     at false e rest = ⊎_elim
         (λ same. absurd (false≢true (sym e ∙ has_number-from_Contains first n (subst (λ o. Contains o n) (sym same) number))))
         (λ later. let found = rest later in
-        record { order = found.order; is = Contains-later first orders found.order found.is; number = found.number; point = rw e found.point })
+        record { order = found.order; is = Contains-later first orders found.order found.is; number = found.number; point =
+            rw e found.point })
         (Contains-cases first orders order is)
 
 -- a call that precedes another has the smaller point
-pub point_of-precedes : (calls : List Operation) (orders : List (List ℕ)) (m n : ℕ) (a b : Operation) → All (λ a. precedes a a ≡ false) calls
+pub point_of-precedes : (calls : List Operation) (orders : List (List ℕ)) (m n : ℕ) (a b : Operation)
+    → All (λ a. precedes a a ≡ false) calls
     → All (λ order. KeepsPrecedence (calls_at calls order)) orders → IsOrderAt calls orders m → IsOrderAt calls orders n
     → slice_get calls m ≡ Some a → slice_get calls n ≡ Some b → precedes a b ≡ true → point_of calls orders m < point_of calls orders n
 point_of-precedes calls orders m n a b none keep at_m at_n m_is n_is before =
@@ -166,7 +183,8 @@ point_of-precedes calls orders m n a b none keep at_m at_n m_is n_is before =
     ))
 
 -- what stands up to the number at a place is the front up to that place
-up_to-front : (order : List ℕ) (place n : ℕ) → AllPairs (λ m n. m ≢ n) order → slice_get order place ≡ Some n → up_to n order ≡ take (suc place) order
+up_to-front : (order : List ℕ) (place n : ℕ) → AllPairs (λ m n. m ≢ n) order → slice_get order place ≡ Some n
+    → up_to n order ≡ take (suc place) order
 up_to-front [] place n distinct h = absurd (none-some n h)
 up_to-front (m ∷ order) zero n distinct h = rw (eq-eqb m n (same_Some m n h)) refl
 up_to-front (m ∷ order) (suc place) n distinct h =

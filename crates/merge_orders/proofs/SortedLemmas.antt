@@ -1,5 +1,6 @@
 -- A stable sort of all calls by their points is the merged order.
-use Rattle.std.proofs.Common.{◌≡◌, ℕ, ◌<◌, ◌≤◌, ◌==◌, Bool, true, false, cond, List, [], ◌∷◌, get_or, map, filter, not, ◌&&◌, refl, sym, ap, ◌∙◌, subst, ⊎_elim}
+use Rattle.std.proofs.Common.{◌≡◌, ℕ, ◌<◌, ◌≤◌, ◌==◌, Bool, true, false, cond, List, [], ◌∷◌, get_or, map, filter, not, ◌&&◌, refl, sym, ap}
+use Rattle.std.proofs.Common.{◌∙◌, subst, ⊎_elim}
 use Rattle.std.proofs.Common.{arith}
 use Rattle.std.specs.Prelude.{All, AllPairs, IsPermutation}
 use Rattle.std.specs.List.{concat}
@@ -39,7 +40,8 @@ filter-map p f [] = refl
 filter-map p f (x ∷ xs) = kept (p (f x)) (filter-map p f xs)
   where
     kept : (b : Bool) → filter p (map f xs) ≡ map f (filter (λ x. p (f x)) xs)
-        → cond b (f x ∷ filter p (map f xs)) (filter p (map f xs)) ≡ map f (cond b (x ∷ filter (λ x. p (f x)) xs) (filter (λ x. p (f x)) xs))
+        → cond b (f x ∷ filter p (map f xs)) (filter p (map f xs)) ≡ map f
+            (cond b (x ∷ filter (λ x. p (f x)) xs) (filter (λ x. p (f x)) xs))
     kept true rest = ap (λ ys. f x ∷ ys) rest
     kept false rest = rest
 
@@ -49,7 +51,8 @@ filter_agree p q [] same = refl
 filter_agree p q (x ∷ xs) same = rw (All-head (λ x. p x ≡ q x) x xs same, filter_agree p q xs (All-tail (λ x. p x ≡ q x) x xs same)) refl
 
 -- numbers with their points have the numbers
-numbers-at_point : (calls : List Operation) (orders : List (List ℕ)) (ns : List ℕ) → map (λ c. c.number) (map (at_point calls orders) ns) ≡ ns
+numbers-at_point : (calls : List Operation) (orders : List (List ℕ)) (ns : List ℕ)
+    → map (λ c. c.number) (map (at_point calls orders) ns) ≡ ns
 numbers-at_point calls orders [] = refl
 numbers-at_point calls orders (n ∷ ns) = ap (λ rest. n ∷ rest) (numbers-at_point calls orders ns)
 
@@ -68,13 +71,15 @@ IsMergedOrder-sorted calls orders placed sorted once is same_calls up stable =
 
     permuted : IsPermutation (concat orders) (map (λ c. c.number) sorted)
     permuted =
-        subst (λ ns. IsPermutation ns (map (λ c. c.number) sorted)) (ap (map (λ c. c.number)) is ∙ numbers-at_point calls orders (concat orders))
+        subst (λ ns. IsPermutation ns (map (λ c. c.number) sorted))
+            (ap (map (λ c. c.number)) is ∙ numbers-at_point calls orders (concat orders))
         (IsPermutation-map (λ c. c.number) placed sorted same_calls)
 
     by_point : AllPairs (λ m n. point_of calls orders m ≤ point_of calls orders n) (map (λ c. c.number) sorted)
     by_point = AllPairs-map (λ m n. point_of calls orders m ≤ point_of calls orders n) (λ c. c.number) sorted
         (λ i j d before within. omega
-        (arith, IsNonDecreasingBy-from_sort (λ c. c.point) sorted up i j d (omega arith) within, points i d (omega arith), points j d within))
+        (arith, IsNonDecreasingBy-from_sort (λ c. c.point) sorted up i j d (omega arith) within, points i d (omega arith),
+            points j d within))
 
     -- the calls at a place, among those with their points
     at_place : (place : ℕ) (cs : List CallAtPoint)
@@ -84,7 +89,8 @@ IsMergedOrder-sorted calls orders placed sorted once is same_calls up stable =
         (λ k d within. tie_is_same place (get_or cs k d).point)
 
     kept : (place : ℕ)
-        → filter (λ n. point_of calls orders n == place) (map (λ c. c.number) sorted) ≡ filter (λ n. point_of calls orders n == place) (concat orders)
+        → filter (λ n. point_of calls orders n == place) (map (λ c. c.number) sorted) ≡ filter
+            (λ n. point_of calls orders n == place) (concat orders)
     kept place =
         let here = λ (c : CallAtPoint). c.point == place in
         let number = λ (c : CallAtPoint). c.number in
@@ -92,6 +98,7 @@ IsMergedOrder-sorted calls orders placed sorted once is same_calls up stable =
         sym (at_place place sorted) ∙ (stable (record { point = place; number = 0 }) ∙ at_place place placed) in
         filter-map (λ n. point_of calls orders n == place) number sorted
         ∙ (ap (map number)
-        (filter_agree (λ c. point_of calls orders c.number == place) here sorted (λ k d within. ap (λ p. p == place) (sym (points k d within)))
+        (filter_agree (λ c. point_of calls orders c.number == place) here sorted
+            (λ k d within. ap (λ p. p == place) (sym (points k d within)))
         ∙ (same ∙ (ap (filter here) is ∙ filter-map here (at_point calls orders) (concat orders))))
         ∙ numbers-at_point calls orders (filter (λ n. point_of calls orders n == place) (concat orders)))

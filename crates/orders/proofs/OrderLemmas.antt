@@ -40,9 +40,11 @@ pub calls_at-push : (calls : List Operation) (numbers : List ℕ) (n : ℕ) (a :
 calls_at-push calls numbers n a h = calls_at-append calls numbers (n ∷ []) ∙ ap (λ o. calls_at calls numbers ++ cons_option o []) h
 
 -- the calls of the first numbers, one number further
-pub calls_at-more : (calls : List Operation) (numbers : List ℕ) (i d : ℕ) (a : Operation) → i < length numbers → slice_get calls (get_or numbers i d) ≡ Some a
+pub calls_at-more : (calls : List Operation) (numbers : List ℕ) (i d : ℕ) (a : Operation) → i < length numbers
+    → slice_get calls (get_or numbers i d) ≡ Some a
     → calls_at calls (take (i + 1) numbers) ≡ calls_at calls (take i numbers) ++ a ∷ []
-calls_at-more calls numbers i d a within h = ap (calls_at calls) (take_more numbers i d within) ∙ calls_at-push calls (take i numbers) (get_or numbers i d) a h
+calls_at-more calls numbers i d a within h = ap (calls_at calls) (take_more numbers i d within)
+    ∙ calls_at-push calls (take i numbers) (get_or numbers i d) a h
 
 -- the pairs after one more call
 pub after_calls-push : (start : Contents) (calls : List Operation) (front : List ℕ) (n : ℕ) (a : Operation) → slice_get calls n ≡ Some a

@@ -21,7 +21,8 @@ abbrev pub at_places : List ℕ → List ℕ → List ℕ
 at_places numbers places = map (λ place. slice_index numbers place) places
 
 -- at each place of the calls with known numbers stands the call of the number there
-pub slice_get-at_place : (calls : List Operation) (numbers : List ℕ) (place : ℕ) → All (λ n. n < length calls) numbers → place < length numbers
+pub slice_get-at_place : (calls : List Operation) (numbers : List ℕ) (place : ℕ) → All (λ n. n < length calls) numbers
+    → place < length numbers
     → slice_get (calls_at calls numbers) place ≡ slice_get calls (slice_index numbers place)
 slice_get-at_place calls [] place known within = absurd (omega arith)
 slice_get-at_place calls (n ∷ numbers) zero known within =
@@ -32,7 +33,8 @@ slice_get-at_place calls (n ∷ numbers) (suc place) known within =
     rw here (slice_get-at_place calls numbers place (All-tail (λ n. n < length calls) n numbers known) (omega arith))
 
 -- the calls at some places are those with the numbers there
-pub calls_at-at_places : (calls : List Operation) (numbers places : List ℕ) → All (λ n. n < length calls) numbers → All (λ place. place < length numbers) places
+pub calls_at-at_places : (calls : List Operation) (numbers places : List ℕ) → All (λ n. n < length calls) numbers
+    → All (λ place. place < length numbers) places
     → calls_at (calls_at calls numbers) places ≡ calls_at calls (at_places numbers places)
 calls_at-at_places calls numbers [] known within = refl
 calls_at-at_places calls numbers (place ∷ places) known within =
@@ -66,9 +68,11 @@ places_of numbers (n ∷ order) h =
     )
 
 -- the numbers at places of a list are in it
-pub All-at_places : (numbers places : List ℕ) → All (λ place. place < length numbers) places → All (Contains numbers) (at_places numbers places)
+pub All-at_places : (numbers places : List ℕ) → All (λ place. place < length numbers) places
+    → All (Contains numbers) (at_places numbers places)
 All-at_places numbers places within =
-    All-map (Contains numbers) (λ place. slice_index numbers place) places (λ k d below. Contains-get_or numbers (get_or places k d) 0 (within k d below))
+    All-map (Contains numbers) (λ place. slice_index numbers place) places
+        (λ k d below. Contains-get_or numbers (get_or places k d) 0 (within k d below))
 
 -- a legal order by place is one by number
 pub IsLegalOrder-numbers : (start : Contents) (calls : List Operation) (numbers places : List ℕ) → All (λ n. n < length calls) numbers
@@ -85,7 +89,8 @@ IsLegalOrder-numbers start calls numbers places known rising h =
       distinct =
           AllPairs-map (λ m n. m ≢ n) (λ place. slice_index numbers place) places
           (AllPairs-weaker (λ i j. i ≢ j) (λ i j. slice_index numbers i ≢ slice_index numbers j) places
-          (λ i j i_is j_is differ. at_place-distinct numbers i j rising (All-contains (λ place. place < length numbers) places i within i_is)
+          (λ i j i_is j_is differ. at_place-distinct numbers i j rising
+              (All-contains (λ place. place < length numbers) places i within i_is)
           (All-contains (λ place. place < length numbers) places j within j_is) differ) h.distinct);
       precedence = subst KeepsPrecedence same h.precedence;
       legal = subst (IsLegal start) same h.legal;
@@ -112,11 +117,13 @@ pub IsCompletedAt-number : (calls : List Operation) (numbers : List ℕ) (place 
     → IsCompletedAt (calls_at calls numbers) place
     → (place < length numbers) × IsCompletedAt calls (slice_index numbers place)
 IsCompletedAt-number calls numbers place known h =
-    let within : place < length numbers = omega (arith, IsCompletedAt-below (calls_at calls numbers) place h, length-calls_at calls numbers known) in
+    let within : place < length numbers = omega (arith, IsCompletedAt-below (calls_at calls numbers) place h, length-calls_at
+        calls numbers known) in
     (within, subst (λ o. IsSomeAnd o (λ a. IsTrue (is_completed a))) (slice_get-at_place calls numbers place known within) h)
 
 -- and the other way round
-pub IsCompletedAt-place : (calls : List Operation) (numbers : List ℕ) (place : ℕ) → All (λ n. n < length calls) numbers → place < length numbers
+pub IsCompletedAt-place : (calls : List Operation) (numbers : List ℕ) (place : ℕ) → All (λ n. n < length calls) numbers
+    → place < length numbers
     → IsCompletedAt calls (slice_index numbers place) → IsCompletedAt (calls_at calls numbers) place
 IsCompletedAt-place calls numbers place known within h =
     subst (λ o. IsSomeAnd o (λ a. IsTrue (is_completed a))) (sym (slice_get-at_place calls numbers place known within)) h
@@ -129,5 +136,6 @@ Contains-place numbers places place rising all_within within h =
     let (other, other_is, same) = Contains-from_map (λ place. slice_index numbers place) places (slice_index numbers place) h in
     ⊎_elim (λ equal. subst (Contains places) equal other_is)
     (λ differ. absurd
-    (at_place-distinct numbers other place rising (All-contains (λ place. place < length numbers) places other all_within other_is) within differ same))
+    (at_place-distinct numbers other place rising (All-contains (λ place. place < length numbers) places other all_within other_is)
+        within differ same))
     (cases_eq other place)

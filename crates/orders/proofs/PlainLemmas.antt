@@ -35,7 +35,8 @@ does_plain m (Scan low high) plain = (refl, refl)
 does_plain m (Replace key expected value) plain = cc
 
 -- and back
-plain_does : (m : Contents) (call : Call) (reply : Reply) (next : Contents) → DoesPlain m call reply next → (reply ≡ reply_to m call) × (next ≡ after m call)
+plain_does : (m : Contents) (call : Call) (reply : Reply) (next : Contents) → DoesPlain m call reply next → (reply ≡ reply_to m call)
+    × (next ≡ after m call)
 plain_does m (Get key) reply next d = d
 plain_does m (Insert key value) reply next d = d
 plain_does m (Remove key) reply next d = d
@@ -112,7 +113,8 @@ plain_order calls order plain h = record {
 
 order_from_plain : (calls : List Operation) (order : List ℕ) → IsPlainOrder calls order → IsOrder [] calls order
 order_from_plain calls order h = record {
-  legal_order = record { known = h.known; distinct = h.distinct; precedence = h.precedence; legal = all_legal [] (calls_at calls order) h.done };
+  legal_order = record { known = h.known; distinct = h.distinct; precedence = h.precedence; legal = all_legal []
+      (calls_at calls order) h.done };
   complete = h.complete;
 }
 

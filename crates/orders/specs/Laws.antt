@@ -16,4 +16,5 @@ LegalListsLead = (m m2 : Contents) (calls : List Operation) → Leads m calls m2
 -- the orders of a history with neither starting pairs nor a replace are those that its calls have without either
 abbrev pub PlainHistoriesHavePlainOrders : Type 0
 PlainHistoriesHavePlainOrders =
-    (history : HistoryView) (order : List ℕ) → IsTrue (is_plain history) → IsOrderOfHistory history order ↔ IsPlainOrder (operations history.events) order
+    (history : HistoryView) (order : List ℕ) → IsTrue (is_plain history)
+        → IsOrderOfHistory history order ↔ IsPlainOrder (operations history.events) order

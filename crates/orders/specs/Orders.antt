@@ -1,5 +1,7 @@
--- Legal lists of calls, and the orders of a history from the pairs that it starts with: Herlihy and Wing 1990, section 2, where an order is a linearization.
-use Rattle.std.specs.Prelude.{◌≡◌, ◌≢◌, ℕ, ◌<◌, false, IsTrue, IsSomeAnd, List, [], ◌∷◌, length, Option, Some, None, slice_get, filter_map, All, AllPairs}
+-- Legal lists of calls, and the orders of a history from the pairs that it starts with: Herlihy and Wing 1990, section 2, where an order is
+-- a linearization.
+use Rattle.std.specs.Prelude.{◌≡◌, ◌≢◌, ℕ, ◌<◌, false, IsTrue, IsSomeAnd, List, [], ◌∷◌, length, Option, Some, None, slice_get, filter_map}
+use Rattle.std.specs.Prelude.{All, AllPairs}
 use Rattle.std.specs.Prelude.{Contains, ⊤}
 use Rattle.events.specs.declared.event.Call.{Call}
 use Rattle.events.specs.declared.operation.Operation.{Operation}

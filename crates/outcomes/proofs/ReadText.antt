@@ -26,7 +26,8 @@ IsTextOutcome-told IsAnswer IsRefusal limit answers refuses told read Failed is 
 pub IsReadOutcome-read : (IsAnswer : List ℕ → Answer → List ℕ → Type 0) (IsRefusal : List ℕ → List ℕ → Type 0) (limit : ℕ)
     → ((text : List ℕ) (answer : Answer) (bytes : List ℕ) → IsAnswer (take (limit + 1) text) answer bytes → IsAnswer text answer bytes)
     → ((text bytes : List ℕ) → IsRefusal (take (limit + 1) text) bytes → IsRefusal text bytes)
-    → (source : Change) (read : List ℕ) (outcome : Outcome) → IfSome source.old.bytes (λ text. read ≡ take (limit + 1) text) → IsSound source
+    → (source : Change) (read : List ℕ) (outcome : Outcome)
+    → IfSome source.old.bytes (λ text. read ≡ take (limit + 1) text) → IsSound source
     → IsTextOutcome IsAnswer IsRefusal (Some read) outcome → IsReadOutcome IsAnswer IsRefusal source outcome
 IsReadOutcome-read IsAnswer IsRefusal limit answers refuses source read outcome is sound h =
     inr (sound, IsTextOutcome-told IsAnswer IsRefusal limit answers refuses source.old.bytes read outcome is h)

@@ -12,9 +12,11 @@ use Rattle.history_engines.proofs.WholeHistories.{IsTextOf-whole}
 use Rattle.picture_engines.specs.Drawings.{IsDrawAnswer, IsDrawing}
 
 -- a drawing that is answered with a line feed behind it is an outcome of the text
-pub IsTextOutcome-drawn : {E : Type 0} (budget : ℕ) (text : List ℕ) (history : HistoryView) (answer : Answer) (drawing : List ℕ) (full : Result (String Global) E)
+pub IsTextOutcome-drawn : {E : Type 0} (budget : ℕ) (text : List ℕ) (history : HistoryView) (answer : Answer) (drawing : List ℕ)
+    (full : Result (String Global) E)
     (outcome : Outcome) → IsTextOf text history → IsDrawing budget history answer drawing → IfOk full (λ f. string_bytes f ≡ line drawing)
-    → MatchResult full (λ f. outcome ≡ Answered answer f) (λ _. outcome ≡ Memory) → IsTextOutcome (IsDrawAnswer budget) IsHistoryRefusal (Some text) outcome
+    → MatchResult full (λ f. outcome ≡ Answered answer f) (λ _. outcome ≡ Memory)
+    → IsTextOutcome (IsDrawAnswer budget) IsHistoryRefusal (Some text) outcome
 IsTextOutcome-drawn budget text history answer drawing (Ok f) outcome is_text is full answered =
     subst (IsTextOutcome (IsDrawAnswer budget) IsHistoryRefusal (Some text)) (sym answered)
     (record { history = history; drawing = drawing; is_text = is_text; is_drawing = is; bytes_are = full })
@@ -22,7 +24,8 @@ IsTextOutcome-drawn budget text history answer drawing (Err e) outcome is_text i
     subst (IsTextOutcome (IsDrawAnswer budget) IsHistoryRefusal (Some text)) (sym answered) tt
 
 -- an answer to the text that was read is one to the whole
-pub IsDrawAnswer-whole : (budget : ℕ) (text : List ℕ) (answer : Answer) (bytes : List ℕ) → IsDrawAnswer budget (take (text_limit + 1) text) answer bytes
+pub IsDrawAnswer-whole : (budget : ℕ) (text : List ℕ) (answer : Answer) (bytes : List ℕ)
+    → IsDrawAnswer budget (take (text_limit + 1) text) answer bytes
     → IsDrawAnswer budget text answer bytes
 IsDrawAnswer-whole budget text answer bytes h = record {
   history = h.history;

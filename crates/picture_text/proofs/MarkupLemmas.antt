@@ -32,7 +32,8 @@ plain_text (x ∷ xs) h =
     All-cons IsPlain x xs (plain x less greater double single) (plain_text xs others)
 
 -- either of two texts
-one_of : (test : Bool) (xs ys : List ℕ) → (test ≡ true → HasNoMarkup xs) → (test ≡ false → HasNoMarkup ys) → HasNoMarkup (if test then xs else ys)
+one_of : (test : Bool) (xs ys : List ℕ) → (test ≡ true → HasNoMarkup xs) → (test ≡ false → HasNoMarkup ys)
+    → HasNoMarkup (if test then xs else ys)
 one_of true xs ys first second = first refl
 one_of false xs ys first second = second refl
 

@@ -14,5 +14,6 @@ pub pieces-more : {X : Type 0} (piece : X → List ℕ) (xs : List X) (i : ℕ) 
 pieces-more piece xs i d s0 s1 s2 below before step =
     let all : concat (map piece (take (i + 1) xs)) ≡ concat (map piece (take i xs)) ++ piece (get_or xs i d) =
     ap concat (map_more piece xs i d below)
-    ∙ (concat-append (map piece (take i xs)) (piece (get_or xs i d) ∷ []) ∙ ap (λ rest. concat (map piece (take i xs)) ++ rest) (append-nil (piece (get_or xs i d)))) in
+    ∙ (concat-append (map piece (take i xs)) (piece (get_or xs i d) ∷ [])
+    ∙ ap (λ rest. concat (map piece (take i xs)) ++ rest) (append-nil (piece (get_or xs i d)))) in
     appended s0 s1 s2 _ _ before step ∙ ap (λ rest. s0 ++ rest) (sym all)

@@ -65,7 +65,8 @@ abbrev pub with_words : List ℕ → ℕ → ℕ → Bar → List ℕ
 with_words text width columns bar =
     let room = room_of width columns bar in
     let x = x_of width bar.from + 1 in
-    with_label (with_label text x (y_of bar.lane + 14) (string_bytes bar.call) room) x (y_of bar.lane + 49) (reply_label (option_map string_bytes bar.reply)) room
+    with_label (with_label text x (y_of bar.lane + 14) (string_bytes bar.call) room) x (y_of bar.lane + 49)
+        (reply_label (option_map string_bytes bar.reply)) room
 
 -- a bar
 unfoldable pub with_bar : List ℕ → ℕ → ℕ → Bar → List ℕ

@@ -25,7 +25,8 @@ with_marks text width (mark ∷ marks) = with_marks (with_mark text width mark) 
 -- what stands above the lanes
 unfoldable pub top_text : List ℕ → ℕ → Picture → List ℕ
 top_text style all picture =
-    with_start (with_heading (head_text all (height_of (length picture.lanes.items)) ++ style) picture.heading) picture.start.items ((all - 104) / 6)
+    with_start (with_heading (head_text all (height_of (length picture.lanes.items)) ++ style) picture.heading)
+        picture.start.items ((all - 104) / 6)
 
 -- the text of a picture, with these lines on how its parts look, at a width of a column
 abbrev pub svg_text : List ℕ → ℕ → Picture → List ℕ

@@ -28,7 +28,8 @@ pub inv-within : (events : List Event) (n : ℕ) (a : Operation) → slice_get (
 inv-within events n a here = slice_get_within events a.inv _ (call-in events n a here).invoked
 
 -- and answered within them
-pub res-within : (events : List Event) (n : ℕ) (a : Operation) → slice_get (operations events) n ≡ Some a → IfSome a.response (λ r. r.res < length events)
+pub res-within : (events : List Event) (n : ℕ) (a : Operation) → slice_get (operations events) n ≡ Some a
+    → IfSome a.response (λ r. r.res < length events)
 res-within events n a here =
     IfSome_then a.response (call-in events n a here).answered (λ r is. slice_get_within events r.res _ is.event)
 
@@ -41,19 +42,23 @@ invoked-by events n a process here is =
     rw same call.invoked
 
 -- and has a lane
-pub lane-in : (events : List Event) (n : ℕ) (a : Operation) (process : ℕ) → AreHistoryEvents events → slice_get (operations events) n ≡ Some a
+pub lane-in : (events : List Event) (n : ℕ) (a : Operation) (process : ℕ) → AreHistoryEvents events
+    → slice_get (operations events) n ≡ Some a
     → IfSome (slice_get events a.inv) (λ e. process ≡ process_of e) → Contains (lanes events) process
 lane-in events n a process history here is = lane-is events a.inv (Invoke process a.call) history (invoked-by events n a process here is)
 
 -- the bars of the first calls
-pub record AreBarsBelow (events : List Event) (points : List ℕ) (verdict : Verdict) (wrong : Option ℕ) (size : ℕ) (bars : List Bar) : Type 0 where
+pub record AreBarsBelow (events : List Event) (points : List ℕ) (verdict : Verdict) (wrong : Option ℕ) (size : ℕ)
+    (bars : List Bar) : Type 0 where
   pub many : length bars ≡ size
   pub each : (n : ℕ) (a : Operation) (bar : Bar) → slice_get (operations events) n ≡ Some a → slice_get bars n ≡ Some bar
       → IsBarOf events points verdict wrong n a bar
 
 -- one bar more
-pub bar-more : (events : List Event) (points : List ℕ) (verdict : Verdict) (wrong : Option ℕ) (size : ℕ) (bars : List Bar) (a : Operation) (bar : Bar)
-    → AreBarsBelow events points verdict wrong size bars → slice_get (operations events) size ≡ Some a → IsBarOf events points verdict wrong size a bar
+pub bar-more : (events : List Event) (points : List ℕ) (verdict : Verdict) (wrong : Option ℕ) (size : ℕ) (bars : List Bar)
+    (a : Operation) (bar : Bar)
+    → AreBarsBelow events points verdict wrong size bars → slice_get (operations events) size ≡ Some a
+    → IsBarOf events points verdict wrong size a bar
     → AreBarsBelow events points verdict wrong (size + 1) (bars ++ bar ∷ [])
 bar-more events points verdict wrong size bars a bar so_far here is =
     let many = length-append bars (bar ∷ []) in
@@ -68,7 +73,8 @@ bar-more events points verdict wrong size bars a bar so_far here is =
     }
 
 -- bars go from invocations to responses
-pub spans-of : (events : List Event) (points : List ℕ) (verdict : Verdict) (wrong : Option ℕ) (bars : List Bar) → AreBarsOf events points verdict wrong bars
+pub spans-of : (events : List Event) (points : List ℕ) (verdict : Verdict) (wrong : Option ℕ) (bars : List Bar)
+    → AreBarsOf events points verdict wrong bars
     → AreSpansOf (operations events) points bars
 spans-of events points verdict wrong bars are =
     record { one_each = are.one_each; each = λ n a bar here bar_here. (are.each n a bar here bar_here).span }

@@ -1,5 +1,6 @@
 -- The points of the calls of an order, and the columns of a picture.
-use Rattle.std.proofs.Common.{◌≡◌, ℕ, zero, suc, ◌+◌, ◌<◌, ◌≤◌, Bool, true, false, cond, List, [], ◌∷◌, ◌++◌, map, length, get_or, take, sym, ap, ◌∙◌}
+use Rattle.std.proofs.Common.{◌≡◌, ℕ, zero, suc, ◌+◌, ◌<◌, ◌≤◌, Bool, true, false, cond, List, [], ◌∷◌, ◌++◌, map, length, get_or, take}
+use Rattle.std.proofs.Common.{sym, ap, ◌∙◌}
 use Rattle.std.proofs.Common.{arith, nat_lt}
 use Rattle.std.specs.Prelude.{◌≢◌, filter, AllPairs, slice_index, count_by}
 use Rattle.std.proofs.lemmas.Bool.{le-ltb, lt-ltb}
@@ -42,7 +43,8 @@ below-le : (points : List ℕ) (place event : ℕ) → AllPairs (λ p q. p ≤ q
 below-le [] place event up within h = absurd (omega arith)
 below-le (x ∷ xs) zero event up within h =
     let later = AllPairs-head (λ p q. p ≤ q) x xs up in
-    rw (le-ltb x event h) (rw (filter_none (is_below event) xs (λ k d inside. le-ltb (get_or xs k d) event (omega (arith, later k d inside)))) (omega arith))
+    rw (le-ltb x event h) (rw (filter_none (is_below event) xs (λ k d inside. le-ltb (get_or xs k d) event
+        (omega (arith, later k d inside)))) (omega arith))
 below-le (x ∷ xs) (suc place) event up within h =
     below-cons x place event xs (below-le xs place event (AllPairs-tail (λ p q. p ≤ q) x xs up) (omega arith) h)
 
@@ -56,11 +58,13 @@ below-ge (x ∷ xs) (suc place) event up within h =
     rw (lt-ltb x event (omega arith)) (omega arith)
 
 -- points that rise: where the one at a place is not before an event, no more than those before the place are
-pub count-below : (points : List ℕ) (place event : ℕ) → AllPairs (λ p q. p ≤ q) points → place < length points → event ≤ slice_index points place
+pub count-below : (points : List ℕ) (place event : ℕ) → AllPairs (λ p q. p ≤ q) points → place < length points
+    → event ≤ slice_index points place
     → count_by (is_below event) points ≤ place
 count-below points place event up within h = rw (← length-filter (is_below event) points) (below-le points place event up within h)
 
 -- and where it is before the event, so are all before the place
-pub count-above : (points : List ℕ) (place event : ℕ) → AllPairs (λ p q. p ≤ q) points → place < length points → slice_index points place < event
+pub count-above : (points : List ℕ) (place event : ℕ) → AllPairs (λ p q. p ≤ q) points → place < length points
+    → slice_index points place < event
     → place + 1 ≤ count_by (is_below event) points
 count-above points place event up within h = rw (← length-filter (is_below event) points) (below-ge points place event up within h)

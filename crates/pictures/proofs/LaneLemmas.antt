@@ -24,14 +24,16 @@ pub lanes-all : (events : List Event) → lanes events ≡ lanes_from events 0
 unfolding lanes lanes_from
 lanes-all events = refl
 
-range-first : (n process : ℕ) → process < n → range_with_len process (n - process) ≡ process ∷ range_with_len (process + 1) (n - (process + 1))
+range-first : (n process : ℕ) → process < n → range_with_len process (n - process) ≡ process ∷ range_with_len (process + 1)
+    (n - (process + 1))
 range-first n process below =
     let left : n - process ≡ suc (n - (process + 1)) = omega arith in
     ap (range_with_len process) left
 
 -- the lane of a process, where it has one, and those from the next process on
 pub lanes-next : (events : List Event) (process : ℕ) → process < 64
-    → lanes_from events process ≡ cond (has_events events process) (process ∷ lanes_from events (process + 1)) (lanes_from events (process + 1))
+    → lanes_from events process ≡ cond (has_events events process) (process ∷ lanes_from events (process + 1))
+        (lanes_from events (process + 1))
 unfolding lanes_from
 lanes-next events process below = ap (filter (has_events events)) (range-first process_limit process below)
 
@@ -41,7 +43,8 @@ unfolding lanes_from
 lanes-end events process is = rw is refl
 
 -- a process that has a lane, and one that has none
-pub lanes-yes : (events : List Event) (process : ℕ) (old new : List ℕ) → process < 64 → has_events events process ≡ true → new ≡ old ++ process ∷ []
+pub lanes-yes : (events : List Event) (process : ℕ) (old new : List ℕ) → process < 64 → has_events events process ≡ true
+    → new ≡ old ++ process ∷ []
     → lanes events ≡ old ++ lanes_from events process → lanes events ≡ new ++ lanes_from events (process + 1)
 lanes-yes events process old new below has push before =
     let next = lanes-next events process below in
@@ -67,7 +70,8 @@ lane-below limit events place event below here =
     let within = slice_get_within events place event here in
     let same : get_or events place event ≡ event = get_or_from_slice_get events place event event here in
     Contains-filter (has_events events) (range_with_len 0 limit) (process_of event) (Contains-range limit (process_of event) below)
-    (list_any_at (λ e. process_of e == process_of event) events place event within (rw same (eq-eqb (process_of event) (process_of event) refl)))
+    (list_any_at (λ e. process_of e == process_of event) events place event within
+        (rw same (eq-eqb (process_of event) (process_of event) refl)))
 
 -- each process with an event has a lane
 pub lane-is : (events : List Event) (place : ℕ) (event : Event) → AreHistoryEvents events → slice_get events place ≡ Some event

@@ -38,7 +38,8 @@ point-at calls order place n here =
     (slice_get-map (point_in calls order) order place ∙ ap (option_map (point_in calls order)) here)
 
 -- a response that does not stand before an invocation stands behind it
-behind : (events : List Event) (process inv : ℕ) (call : Call) (response : Option Response) → slice_get events inv ≡ Some (Invoke process call)
+behind : (events : List Event) (process inv : ℕ) (call : Call) (response : Option Response)
+    → slice_get events inv ≡ Some (Invoke process call)
     → IfSome response (IsAnswerAt events) → is_before response inv ≡ false → IfSome response (λ r. inv < r.res)
 behind events process inv call None invoked answered after = tt
 behind events process inv call (Some r) invoked answered after =
@@ -101,7 +102,8 @@ mark-inside events order bars place n a bar mark markable spans order_here here 
 pub mark-in-bar : (events : List Event) (order : List ℕ) (bars : List Bar) (place n : ℕ) (a : Operation) (bar : Bar) (mark : Mark)
     → IsMarkable (operations events) order → AreSpansOf (operations events) (order_points (operations events) order) bars
     → slice_get order place ≡ Some n → slice_get (operations events) n ≡ Some a → slice_get bars n ≡ Some bar
-    → mark.lane ≡ bar.lane → mark.column ≡ mark_column (order_points (operations events) order) place → IsSomeAnd (slice_get bars n) (IsInside mark)
+    → mark.lane ≡ bar.lane → mark.column ≡ mark_column (order_points (operations events) order) place
+    → IsSomeAnd (slice_get bars n) (IsInside mark)
 mark-in-bar events order bars place n a bar mark markable spans order_here here bar_here lane column =
     subst (λ (o : Option Bar). IsSomeAnd o (IsInside mark)) (sym bar_here)
     (mark-inside events order bars place n a bar mark markable spans order_here here bar_here lane column)
@@ -113,7 +115,8 @@ pub record AreMarksBelow (calls : List Operation) (order : List ℕ) (bars : Lis
 
 -- one mark more
 pub mark-more : (calls : List Operation) (order : List ℕ) (bars : List Bar) (size : ℕ) (marks : List Mark) (mark : Mark)
-    → AreMarksBelow calls order bars size marks → IsMarkAt calls order bars size mark → AreMarksBelow calls order bars (size + 1) (marks ++ mark ∷ [])
+    → AreMarksBelow calls order bars size marks → IsMarkAt calls order bars size mark
+    → AreMarksBelow calls order bars (size + 1) (marks ++ mark ∷ [])
 mark-more calls order bars size marks mark so_far is =
     let many = length-append marks (mark ∷ []) in
     record {

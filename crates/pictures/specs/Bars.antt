@@ -36,7 +36,8 @@ pub record AreSpansOf (calls : List Operation) (points : List ℕ) (bars : List 
   pub each : (n : ℕ) (a : Operation) (bar : Bar) → slice_get calls n ≡ Some a → slice_get bars n ≡ Some bar → IsSpanOf points a bar
 
 -- the bar of a call: in the lane of the process that invokes it, from its invocation to its response; with both in words
-pub record IsBarOf (events : List Event) (points : List ℕ) (verdict : Verdict) (wrong : Option ℕ) (n : ℕ) (a : Operation) (bar : Bar) : Type 0 where
+pub record IsBarOf (events : List Event) (points : List ℕ) (verdict : Verdict) (wrong : Option ℕ) (n : ℕ) (a : Operation)
+    (bar : Bar) : Type 0 where
   pub number : bar.number ≡ n
   pub inv : bar.inv ≡ a.inv
   pub res : bar.res ≡ option_map (λ r. r.res) a.response

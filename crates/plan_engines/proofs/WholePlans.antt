@@ -16,8 +16,10 @@ SpellsPlan-whole : (text : List ℕ) (scripts : List (List Call)) → SpellsPlan
 SpellsPlan-whole text scripts h = subst (λ (t : List ℕ). SpellsPlan t scripts) (same_text text_limit text h.json.fits) h
 
 -- a fault of the text read, as one of a plan, is one of the whole
-IsPlanTextFault-whole : (text : List ℕ) (fault : PlanFault) → IsPlanTextFault (take (text_limit + 1) text) fault → IsPlanTextFault text fault
-IsPlanTextFault-whole text plans.TooLong h = let size = length-take (text_limit + 1) text in let long : text_limit < length (take (text_limit + 1) text) =
+IsPlanTextFault-whole : (text : List ℕ) (fault : PlanFault) → IsPlanTextFault (take (text_limit + 1) text) fault
+    → IsPlanTextFault text fault
+IsPlanTextFault-whole text plans.TooLong h = let size =
+    length-take (text_limit + 1) text in let long : text_limit < length (take (text_limit + 1) text) =
     h in omega (arith, size)
 IsPlanTextFault-whole text plans.NotJson h = subst (λ (t : List ℕ). IsPlanTextFault t plans.NotJson) (same_text text_limit text h.0) h
 IsPlanTextFault-whole text plans.Shape h = subst (λ (t : List ℕ). IsPlanTextFault t plans.Shape) (same_text text_limit text h.1.fits) h
@@ -31,7 +33,8 @@ IsUndriven-whole text fault (inl h) = inl (IsPlanTextFault-whole text fault h)
 IsUndriven-whole text fault (inr h) = inr (h.0, (h.1.0, SpellsPlan-whole text h.1.0 h.1.1, h.1.2, h.1.3))
 
 module _ (IsHistoryOf : List (List Call) → HistoryView → Type 0) where
-  IsDriven-whole : (text : List ℕ) (history : HistoryView) → IsDriven IsHistoryOf (take (text_limit + 1) text) history → IsDriven IsHistoryOf text history
+  IsDriven-whole : (text : List ℕ) (history : HistoryView) → IsDriven IsHistoryOf (take (text_limit + 1) text) history
+      → IsDriven IsHistoryOf text history
   IsDriven-whole text history h = record {
     scripts = h.scripts;
     plan = record {
@@ -43,7 +46,8 @@ module _ (IsHistoryOf : List (List Call) → HistoryView → Type 0) where
   }
 
   -- an answer of `drive` to the text read is one to the whole
-  pub IsDrivenAnswer-whole : (text : List ℕ) (answer : Answer) (bytes : List ℕ) → IsDrivenAnswer IsHistoryOf (take (text_limit + 1) text) answer bytes
+  pub IsDrivenAnswer-whole : (text : List ℕ) (answer : Answer) (bytes : List ℕ)
+      → IsDrivenAnswer IsHistoryOf (take (text_limit + 1) text) answer bytes
       → IsDrivenAnswer IsHistoryOf text answer bytes
   IsDrivenAnswer-whole text answer bytes h =
       record { history = h.history; driven = IsDriven-whole text h.history h.driven; answer_is = h.answer_is; bytes_are = h.bytes_are }

@@ -18,11 +18,15 @@ SpellsReplay-whole : (text : List ℕ) (r : ReplayView) → SpellsReplay (take (
 SpellsReplay-whole text r h = subst (λ (t : List ℕ). SpellsReplay t r) (same_text text_limit text h.json.fits) h
 
 -- a fault of the text read, as one of a replay, is one of the whole
-IsReplayTextFault-whole : (text : List ℕ) (fault : MachineFault) → IsReplayTextFault (take (text_limit + 1) text) fault → IsReplayTextFault text fault
-IsReplayTextFault-whole text machines.TooLong h = let size = length-take (text_limit + 1) text in let long : text_limit < length (take (text_limit + 1) text) =
+IsReplayTextFault-whole : (text : List ℕ) (fault : MachineFault) → IsReplayTextFault (take (text_limit + 1) text) fault
+    → IsReplayTextFault text fault
+IsReplayTextFault-whole text machines.TooLong h = let size =
+    length-take (text_limit + 1) text in let long : text_limit < length (take (text_limit + 1) text) =
     h in omega (arith, size)
-IsReplayTextFault-whole text machines.NotJson h = subst (λ (t : List ℕ). IsReplayTextFault t machines.NotJson) (same_text text_limit text h.0) h
-IsReplayTextFault-whole text machines.Shape h = subst (λ (t : List ℕ). IsReplayTextFault t machines.Shape) (same_text text_limit text h.1.fits) h
+IsReplayTextFault-whole text machines.NotJson h =
+    subst (λ (t : List ℕ). IsReplayTextFault t machines.NotJson) (same_text text_limit text h.0) h
+IsReplayTextFault-whole text machines.Shape h =
+    subst (λ (t : List ℕ). IsReplayTextFault t machines.Shape) (same_text text_limit text h.1.fits) h
 IsReplayTextFault-whole text machines.Memory h = tt
 IsReplayTextFault-whole text machines.NoProcess h = h
 IsReplayTextFault-whole text machines.NothingToDo h = h

@@ -40,7 +40,8 @@ abbrev pub IsUndriven : List ℕ → PlanFault → Type 0
 IsUndriven text fault = IsPlanTextFault text fault ⊎ ((fault ≡ plans.TooMany) × SpellsUndrivable text)
 
 -- `drive` answers the text so: yes, with the text of a history of the plan
-pub record IsDrivenAnswer (IsHistoryOf : List (List Call) → HistoryView → Type 0) (text : List ℕ) (answer : Answer) (bytes : List ℕ) : Type 0 where
+pub record IsDrivenAnswer (IsHistoryOf : List (List Call) → HistoryView → Type 0) (text : List ℕ) (answer : Answer)
+    (bytes : List ℕ) : Type 0 where
   pub history : HistoryView
   pub driven : IsDriven IsHistoryOf text history
   pub answer_is : answer ≡ Yes

@@ -1,5 +1,6 @@
 -- Values that spell items one by one, each of which passes a test.
-use Rattle.std.proofs.Common.{◌≡◌, ℕ, zero, suc, ◌<◌, Bool, true, List, [], ◌∷◌, length, map, get_or, sym, ap, ◌∙◌, arith, Option, Some, None, Result, Ok, Err, IfOk, IfNone}
+use Rattle.std.proofs.Common.{◌≡◌, ℕ, zero, suc, ◌<◌, Bool, true, List, [], ◌∷◌, length, map, get_or, sym, ap, ◌∙◌, arith, Option, Some}
+use Rattle.std.proofs.Common.{None, Result, Ok, Err, IfOk, IfNone}
 use Rattle.std.specs.List.{list_all}
 use Rattle.std.proofs.lemmas.Bool.{and_parts}
 use Rattle.serde_json.specs.Data.{Data}
@@ -23,11 +24,13 @@ module _ {A : Type 0} (f : A → Data) (test : A → Bool) where
       none_among vs xs i v rest (and_parts (test x) (list_all test xs) all).1 (omega arith) here none
 
 -- what is said of no value holds of another statement that follows
-pub none-follows : {A E : Type 0} {P Q : Type 0} (r : Result (Option A) E) → (P → Q) → IfOk r (λ found. IfNone found P) → IfOk r (λ found. IfNone found Q)
+pub none-follows : {A E : Type 0} {P Q : Type 0} (r : Result (Option A) E) → (P → Q) → IfOk r (λ found. IfNone found P)
+    → IfOk r (λ found. IfNone found Q)
 none-follows (Ok None) f h = f h
 none-follows (Ok (Some x)) f h = tt
 none-follows (Err e) f h = tt
 
 -- the items of an array that spells a list spell its elements
-pub items_of_list : (d : Data) (vs ws : List Value) (ds : List Data) → Some (items_view vs) ≡ as_array d → ws ≡ vs → d ≡ list_data ds → map view ws ≡ ds
+pub items_of_list : (d : Data) (vs ws : List Value) (ds : List Data) → Some (items_view vs) ≡ as_array d → ws ≡ vs → d ≡ list_data ds
+    → map view ws ≡ ds
 items_of_list d vs ws ds found same h = ap (map view) same ∙ list_data_injective (map view vs) ds (sym (list_found d vs found) ∙ h)

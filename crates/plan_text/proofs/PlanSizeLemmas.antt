@@ -1,5 +1,6 @@
 -- The text of a plan is never too long: a call takes at most 44 bytes, and there are at most 4,096 of them, in at most 64 scripts.
-use Rattle.std.proofs.Common.{◌≡◌, ℕ, ◌+◌, ◌*◌, ◌^◌, ◌<◌, ◌≤◌, Bool, true, false, not, ◌&&◌, nat_lt, nat_le, List, [], ◌∷◌, ◌++◌, length, map, arith}
+use Rattle.std.proofs.Common.{◌≡◌, ℕ, ◌+◌, ◌*◌, ◌^◌, ◌<◌, ◌≤◌, Bool, true, false, not, ◌&&◌, nat_lt, nat_le, List, [], ◌∷◌, ◌++◌, length}
+use Rattle.std.proofs.Common.{map, arith}
 use Rattle.std.specs.Prelude.{All, sum, decimal}
 use Rattle.std.proofs.lemmas.Bool.{and_parts, ltb-true, leb-true}
 use Rattle.std.proofs.lemmas.Fmt.{length-decimal-le}
@@ -70,7 +71,8 @@ size-comma true xs = omega arith
 size-comma false xs = omega arith
 
 -- a script, with its closing bracket
-size-calls : (later : Bool) (calls : List Call) → All IsTreeCall calls → length (items_text later (items_of (map call_data calls))) ≤ 45 * length calls + 1
+size-calls : (later : Bool) (calls : List Call) → All IsTreeCall calls
+    → length (items_text later (items_of (map call_data calls))) ≤ 45 * length calls + 1
 size-calls later [] h = omega arith
 size-calls later (call ∷ calls) h =
     let text = compact_text (call_data call) in
@@ -85,7 +87,8 @@ size-calls later (call ∷ calls) h =
 
 -- all scripts, with the closing bracket
 size-scripts : (later : Bool) (scripts : List (List Call)) → AreTreeCalls scripts
-    → length (items_text later (items_of (map script_data scripts))) ≤ 45 * sum (map (λ script. length script) scripts) + 3 * length scripts + 1
+    → length (items_text later (items_of (map script_data scripts))) ≤ 45 * sum (map (λ script. length script) scripts) + 3
+        * length scripts + 1
 size-scripts later [] h = omega arith
 size-scripts later (script ∷ scripts) h =
     let text = compact_text (script_data script) in

@@ -24,7 +24,8 @@ script_data_injective a b h = map_injective call_data call_data_injective a b (l
 
 -- and one list of scripts
 pub scripts_data_injective : (a b : List (List Call)) → scripts_data a ≡ scripts_data b → a ≡ b
-scripts_data_injective a b h = map_injective script_data script_data_injective a b (list_data_injective (map script_data a) (map script_data b) h)
+scripts_data_injective a b h = map_injective script_data script_data_injective a b (list_data_injective (map script_data a)
+    (map script_data b) h)
 
 plan_data_injective : (p q : Bool) (a b : List (List Call)) → plan_data p a ≡ plan_data q b → a ≡ b
 plan_data_injective p q a b h = let same : scripts_data a ≡ scripts_data b = cc in scripts_data_injective a b same
@@ -42,7 +43,8 @@ no_form text d scripts json none spells =
     none scripts (subst (λ (e : Data). SpellsPlanAs e scripts) (same_value text spells.value d spells.json json) spells.spelled)
 
 -- a text that spells a plan within the limits has no fault but want of memory
-pub memory_alone : (text : List ℕ) (scripts : List (List Call)) (fault : PlanFault) → SpellsPlan text scripts → AreFew scripts → IsPlanTextFault text fault
+pub memory_alone : (text : List ℕ) (scripts : List (List Call)) (fault : PlanFault) → SpellsPlan text scripts → AreFew scripts
+    → IsPlanTextFault text fault
     → fault ≡ faults.Memory
 memory_alone text scripts faults.BadMix spells few h = absurd h
 memory_alone text scripts faults.BadRange spells few h = absurd h
@@ -61,7 +63,8 @@ spelled_in text d scripts json spelled = record { value = d; json = json; spelle
 pub never_many : {A : Type 0} (text : List ℕ) (scripts found : List (List Call)) (r : Result A PlanFault) → SpellsPlan text scripts
     → AreFew scripts → SpellsPlan text found → OnErr r (AreFew found → ⊥) → IfErr r (λ fault. fault ≡ faults.Memory)
 never_many text scripts found (Ok plan) spells few other many = tt
-never_many text scripts found (Err fault) spells few other many = absurd (many (subst AreFew (one_plan text scripts found spells other) few))
+never_many text scripts found (Err fault) spells few other many =
+    absurd (many (subst AreFew (one_plan text scripts found spells other) few))
 
 -- a fault of the form is a fault of the text that has the value
 pub fault_of_form : (text : List ℕ) (d : Data) (fault : PlanFault) → IsJson text d → IsPlanFormFault d fault → IsPlanTextFault text fault

@@ -19,4 +19,5 @@ HasOnePlanFault =
 -- a text with a fault spells no plan within the limits
 abbrev pub FaultySpellsNoPlan : Type 0
 FaultySpellsNoPlan =
-    (text : List ℕ) (f : PlanFault) (scripts : List (List Call)) → IsPlanTextFault text f → f ≢ faults.Memory → SpellsPlan text scripts → AreFew scripts → ⊥
+    (text : List ℕ) (f : PlanFault) (scripts : List (List Call)) → IsPlanTextFault text f → f ≢ faults.Memory → SpellsPlan text scripts
+        → AreFew scripts → ⊥

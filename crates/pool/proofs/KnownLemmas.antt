@@ -1,5 +1,6 @@
 -- Answers at their segments' places, as they become known.
-use Rattle.std.proofs.Common.{◌≡◌, ℕ, zero, suc, ◌<◌, List, [], ◌∷◌, ◌++◌, length, map, Option, Some, None, slice_set, replicate, fold, All, ap, refl, arith}
+use Rattle.std.proofs.Common.{◌≡◌, ℕ, zero, suc, ◌<◌, List, [], ◌∷◌, ◌++◌, length, map, Option, Some, None, slice_set, replicate, fold, All}
+use Rattle.std.proofs.Common.{ap, refl, arith}
 use Rattle.std.proofs.Common.{length-append, length-set}
 use Rattle.std.proofs.lemmas.List.{length-map}
 use Rattle.std.proofs.lemmas.List.Elements.{All-head, All-rest, All-tail}
@@ -15,7 +16,8 @@ use Rattle.pool.specs.Answers.{AnswersOneOf}
 use Rattle.pool.specs.Known.{with_answer, IsExactIfKnown}
 
 -- the answers in rest are still to be put, each at one of the places, and then all are
-pub record IsStillToPut (first : List (Option Found)) (all : List SegmentAnswer) (known : List (Option Found)) (rest : List SegmentAnswer) : Type 0 where
+pub record IsStillToPut (first : List (Option Found)) (all : List SegmentAnswer) (known : List (Option Found))
+    (rest : List SegmentAnswer) : Type 0 where
   pub places : All (λ a. a.segment < length known) rest
   pub put : fold with_answer known rest ≡ fold with_answer first all
 

@@ -16,7 +16,8 @@ use Rattle.potzendai.specs.Verdicts.{SpellsLinearizable, SpellsUnlinearizable}
 
 -- an outcome is told
 pub IsCall-outcome : (IsOutcome : Outcome → Type 0) (budget : ℕ) (before after : List ℕ) (size status : ℕ) (outcome : Outcome)
-    → IsBudget budget → IsOutcome outcome → status ≡ status_of outcome → size ≡ length (text_of outcome) → after ≡ written (text_of outcome) before
+    → IsBudget budget → IsOutcome outcome → status ≡ status_of outcome → size ≡ length (text_of outcome)
+    → after ≡ written (text_of outcome) before
     → IsCall IsOutcome budget before after size status
 IsCall-outcome IsOutcome budget before after size status outcome within comes status_is size_is room = record {
   text = text_of outcome;
@@ -38,11 +39,13 @@ none_of_no budget history (verdicts.No segment) is shown = shown.no_order
 none_of_no budget history (verdicts.Undecided segment) is shown = cc
 
 -- the status of yes is that of a history with an order
-pub yes_is_linearizable : (budget : ℕ) (text : List ℕ) (outcome : Outcome) → IsTextOutcome (IsJudgeAnswer budget) IsHistoryRefusal (Some text) outcome
+pub yes_is_linearizable : (budget : ℕ) (text : List ℕ) (outcome : Outcome)
+    → IsTextOutcome (IsJudgeAnswer budget) IsHistoryRefusal (Some text) outcome
     → status_of outcome ≡ 0 → SpellsLinearizable text
 yes_is_linearizable budget text (Answered Yes bytes) comes is =
     let judged = comes.judged in
-    (judged.history, record { spelled = judged.spelled; is_history = judged.is_history }, order_of_yes budget judged.history comes.verdict comes.answer_is judged.shown)
+    (judged.history, record { spelled = judged.spelled; is_history = judged.is_history }, order_of_yes budget judged.history comes.verdict
+        comes.answer_is judged.shown)
 yes_is_linearizable budget text (Answered No bytes) comes is = cc
 yes_is_linearizable budget text (Answered Undecided bytes) comes is = cc
 yes_is_linearizable budget text (Refused bytes) comes is = cc
@@ -51,12 +54,14 @@ yes_is_linearizable budget text (Words bytes) comes is = cc
 yes_is_linearizable budget text Failed comes is = cc
 
 -- the status of no is that of a history without
-pub no_is_unlinearizable : (budget : ℕ) (text : List ℕ) (outcome : Outcome) → IsTextOutcome (IsJudgeAnswer budget) IsHistoryRefusal (Some text) outcome
+pub no_is_unlinearizable : (budget : ℕ) (text : List ℕ) (outcome : Outcome)
+    → IsTextOutcome (IsJudgeAnswer budget) IsHistoryRefusal (Some text) outcome
     → status_of outcome ≡ 1 → SpellsUnlinearizable text
 no_is_unlinearizable budget text (Answered Yes bytes) comes is = cc
 no_is_unlinearizable budget text (Answered No bytes) comes is =
     let judged = comes.judged in
-    (judged.history, record { spelled = judged.spelled; is_history = judged.is_history }, none_of_no budget judged.history comes.verdict comes.answer_is judged.shown)
+    (judged.history, record { spelled = judged.spelled; is_history = judged.is_history }, none_of_no budget judged.history comes.verdict
+        comes.answer_is judged.shown)
 no_is_unlinearizable budget text (Answered Undecided bytes) comes is = cc
 no_is_unlinearizable budget text (Refused bytes) comes is = cc
 no_is_unlinearizable budget text Memory comes is = cc

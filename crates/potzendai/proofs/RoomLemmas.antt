@@ -5,7 +5,8 @@ use Rattle.std.proofs.lemmas.List.{set-append_right, length-take}
 use Rattle.potzendai.specs.Calls.{written}
 
 -- a zero byte is written at the first place behind a front
-set_behind : (front rest : List ℕ) (n : ℕ) → length front ≡ n → n < length rest → slice_set (front ++ drop n rest) n 0 ≡ front ++ 0 ∷ drop (suc n) rest
+set_behind : (front rest : List ℕ) (n : ℕ) → length front ≡ n → n < length rest
+    → slice_set (front ++ drop n rest) n 0 ≡ front ++ 0 ∷ drop (suc n) rest
 set_behind front rest n at within =
     set-append_right front (drop n rest) n n 0 at (omega arith)
     ∙ (let gone : n - n ≡ 0 = omega arith in

@@ -49,7 +49,8 @@ pub record IsToldBudget (budget status : ℕ) (text : List ℕ) : Type 0 where
   pub status_is : status ≡ words_status
   pub text_is : text ≡ budget_line
 
--- a call that can have these outcomes tells one, or that the budget is none: this is the status, this the length of the text, and the room was this
+-- a call that can have these outcomes tells one, or that the budget is none: this is the status, this the length of the text, and the room
+-- was this
 -- before and is that after it
 pub record IsCall (IsOutcome : Outcome → Type 0) (budget : ℕ) (before after : List ℕ) (size status : ℕ) : Type 0 where
   pub text : List ℕ

@@ -1,6 +1,7 @@
 -- An order of the calls of a whole, cut to the calls of its first events.
 use Rattle.events.specs.declared.event.Reply.TheVariants as replies
-use Rattle.std.proofs.Common.{◌≡◌, ℕ, ◌<◌, ◌≤◌, Bool, true, false, cond, List, [], ◌∷◌, length, Option, Some, None, refl, sym, ap, ◌∙◌, subst, ⊎_elim, inr, IsTrue, arith}
+use Rattle.std.proofs.Common.{◌≡◌, ℕ, ◌<◌, ◌≤◌, Bool, true, false, cond, List, [], ◌∷◌, length, Option, Some, None, refl, sym, ap, ◌∙◌}
+use Rattle.std.proofs.Common.{subst, ⊎_elim, inr, IsTrue, arith}
 use Rattle.std.specs.Prelude.{◌≢◌, ◌⊎◌, slice_get, is_some, IsSomeAnd, All, AllPairs, Contains}
 use Rattle.std.proofs.lemmas.Bool.{lt-ltb, false≢true}
 use Rattle.std.proofs.lemmas.Option.{none-some, slice_get_within}
@@ -13,7 +14,8 @@ use Rattle.events.specs.declared.operation.Response.{Response}
 use Rattle.events.specs.Precedence.{is_completed, is_before, precedes}
 use Rattle.map_object.specs.MapObject.{Contents, after, after_reply}
 use Rattle.orders.specs.Orders.{after_call, IsLegalCall, IsLegal, calls_at, KeepsPrecedence, IsCompletedAt, IsOrder}
-use Rattle.list_laws.proofs.Lists.{AllPairs-nil, AllPairs-head, AllPairs-tail, Contains-first, Contains-later, Contains-nil, Contains-cases, All-from_contains}
+use Rattle.list_laws.proofs.Lists.{AllPairs-nil, AllPairs-head, AllPairs-tail, Contains-first, Contains-later, Contains-nil, Contains-cases}
+use Rattle.list_laws.proofs.Lists.{All-from_contains}
 use Rattle.list_laws.proofs.NumberLemmas.{slice_get-below, some_at}
 use Rattle.list_laws.proofs.FilterLemmas.{AreRelatedAs, AllPairs-from_filter_map, AllPairs-filter_map, AllPairs-weaker}
 use Rattle.prefixes.proofs.ExtensionLemmas.{IsExtendedResponse, IsExtended}
@@ -56,7 +58,8 @@ from_first n (Some a) (Some b) rest x h = by_case (is_refused_later a.response b
 Contains-from_kept : (part whole : List Operation) (order : List ℕ) (x : ℕ) → Contains (kept part whole order) x → Contains order x
 Contains-from_kept part whole [] x h = h
 Contains-from_kept part whole (n ∷ order) x h =
-    ⊎_elim (λ is. subst (Contains (n ∷ order)) is (Contains-first n order)) (λ later. Contains-later n order x (Contains-from_kept part whole order x later))
+    ⊎_elim (λ is. subst (Contains (n ∷ order)) is (Contains-first n order))
+        (λ later. Contains-later n order x (Contains-from_kept part whole order x later))
     (from_first n (slice_get part n) (slice_get whole n) (kept part whole order) x h)
 
 -- a number of the part stands before numbers of the part
@@ -82,7 +85,8 @@ kept-known part whole (n ∷ order) =
     (within_part part n (slice_get part n) refl) (kept-known part whole order)
 
 -- what holds of each two numbers of a list holds of those that are kept
-pairs_first : (R : ℕ → ℕ → Type 0) (n : ℕ) (a b : Option Operation) (rest : List ℕ) → All (R n) rest → AllPairs R rest → AllPairs R (keep_first n a b rest)
+pairs_first : (R : ℕ → ℕ → Type 0) (n : ℕ) (a b : Option Operation) (rest : List ℕ) → All (R n) rest → AllPairs R rest
+    → AllPairs R (keep_first n a b rest)
 pairs_first R n None b rest first pairs = AllPairs-nil R
 pairs_first R n (Some a) None rest first pairs = AllPairs-nil R
 pairs_first R n (Some a) (Some b) rest first pairs = by_case (is_refused_later a.response b.response)
@@ -101,7 +105,8 @@ AllPairs-kept R part whole (n ∷ order) h =
 
 -- each call of the part is a call of the whole at the same place, extended
 abbrev pub Extends : ℕ → List Operation → List Operation → Type 0
-Extends place part whole = (n : ℕ) (a : Operation) → slice_get part n ≡ Some a → (b : Operation) × (slice_get whole n ≡ Some b) × IsExtended place a b
+Extends place part whole = (n : ℕ) (a : Operation) → slice_get part n ≡ Some a → (b : Operation) × (slice_get whole n ≡ Some b)
+    × IsExtended place a b
 
 -- the other calls of the whole are invoked later
 abbrev pub InvokesLater : ℕ → List Operation → List Operation → Type 0
@@ -113,7 +118,8 @@ not_preceding : (place : ℕ) (response whole : Option Response) (inv later : �
 not_preceding place None whole inv later extended same h = refl
 not_preceding place (Some response) whole inv later extended same h = rw (same) (rw (extended.0) at h)
 
-kept-precedence : (place : ℕ) (part whole : List Operation) (order : List ℕ) → Extends place part whole → KeepsPrecedence (calls_at whole order)
+kept-precedence : (place : ℕ) (part whole : List Operation) (order : List ℕ) → Extends place part whole
+    → KeepsPrecedence (calls_at whole order)
     → KeepsPrecedence (calls_at part (kept part whole order))
 kept-precedence place part whole order extends h =
     let R = λ (a : Operation) (b : Operation). precedes b a ≡ false in
@@ -140,7 +146,8 @@ others_are_done m call (replies.Pairs pairs) h = refl
 others_are_done m call replies.Refused h = absurd (false≢true (sym h))
 
 -- a call that is left out changes nothing in the whole
-left_out : (m : Contents) (call : Call) (response whole : Option Response) → is_refused_later response whole ≡ true → after_call m call whole ≡ m
+left_out : (m : Contents) (call : Call) (response whole : Option Response) → is_refused_later response whole ≡ true
+    → after_call m call whole ≡ m
 left_out m call None None h = absurd (false≢true h)
 left_out m call None (Some response) h = refused_changes_nothing m call response.reply h
 left_out m call (Some response) whole h = absurd (false≢true h)
@@ -159,10 +166,12 @@ stays_legal place m call None whole extended h = tt
 stays_legal place m call (Some response) whole extended h = subst (IsLegalCall m call) extended.0 h
 
 -- the kept calls are legal in the part
-kept-legal : (place : ℕ) (part whole : List Operation) (m : Contents) (order : List ℕ) → Extends place part whole → IsLegal m (calls_at whole order)
+kept-legal : (place : ℕ) (part whole : List Operation) (m : Contents) (order : List ℕ) → Extends place part whole
+    → IsLegal m (calls_at whole order)
     → IsLegal m (calls_at part (kept part whole order))
 kept-legal place part whole m [] extends legal = tt
-kept-legal place part whole m (n ∷ order) extends legal = by_part (λ m h. kept-legal place part whole m order extends h) (slice_get part n) refl
+kept-legal place part whole m (n ∷ order) extends legal =
+    by_part (λ m h. kept-legal place part whole m order extends h) (slice_get part n) refl
   where
     Goes : Type 0
     Goes = (m : Contents) → IsLegal m (calls_at whole order) → IsLegal m (calls_at part (kept part whole order))
@@ -181,7 +190,8 @@ kept-legal place part whole m (n ∷ order) extends legal = by_part (λ m h. kep
         (stays_legal place m b.call a.response b.response extended.response first) in
         rw here (now, behind)
 
-    by_part : Goes → (o : Option Operation) → slice_get part n ≡ o → IsLegal m (calls_at part (keep_first n o (slice_get whole n) (kept part whole order)))
+    by_part : Goes → (o : Option Operation) → slice_get part n ≡ o
+        → IsLegal m (calls_at part (keep_first n o (slice_get whole n) (kept part whole order)))
     by_part go None here = tt
     by_part go (Some a) here =
         let (b, b_at, extended) = extends n a here in
@@ -208,13 +218,15 @@ clash place response other inv extended later h =
     let before : response.res < inv = omega (arith, extended.1) in
     false≢true (sym (rw (extended.0) at h) ∙ lt-ltb response.res inv before)
 
-kept-complete : (place : ℕ) (part whole : List Operation) (order : List ℕ) (n : ℕ) → Extends place part whole → InvokesLater place part whole
+kept-complete : (place : ℕ) (part whole : List Operation) (order : List ℕ) (n : ℕ) → Extends place part whole
+    → InvokesLater place part whole
     → All (λ n. n < length whole) order → AllPairs (AreRelatedAs (λ a b. precedes b a ≡ false) (slice_get whole)) order
     → IsDoneIn part n → Contains order n → Contains (kept part whole order) n
 kept-complete place part whole [] n extends later known keeps done h = h
 kept-complete place part whole (m ∷ order) n extends later known keeps done h =
     ⊎_elim (λ is. here is) (λ behind. by_part
-    (kept-complete place part whole order n extends later (All-tail (λ n. n < length whole) m order known) (AllPairs-tail R m order keeps) done behind)
+    (kept-complete place part whole order n extends later (All-tail (λ n. n < length whole) m order known)
+        (AllPairs-tail R m order keeps) done behind)
     (slice_get part m) refl behind) (Contains-cases m order n h)
   where
     R : ℕ → ℕ → Type 0
@@ -234,16 +246,19 @@ kept-complete place part whole (m ∷ order) n extends later known keeps done h 
         let (b, b_at, extended) = extends n a at in
         let (c, c_at) = slice_get-below whole m (All-head (λ n. n < length whole) m order known) in
         let related = All-contains (R m) order n (AllPairs-head R m order keeps) behind c b c_at b_at in
-        absurd (clash place response b.response c.inv (subst (λ r. IsExtendedResponse place r b.response) answered extended.response) (later m c gone c_at) related)
+        absurd (clash place response b.response c.inv (subst (λ r. IsExtendedResponse place r b.response) answered extended.response)
+            (later m c gone c_at) related)
     by_part rest (Some a) at behind =
         let (b, b_at, extended) = extends m a at in
         rw b_at (stays_later m n (is_refused_later a.response b.response) (kept part whole order) rest)
 
 -- a completed call
 done_at : (part : List Operation) (n : ℕ) → IsCompletedAt part n → IsDoneIn part n
-done_at part n h = let (a, at, completed) = some_at (slice_get part n) (λ a. IsTrue (is_completed a)) h in found a at a.response refl completed
+done_at part n h = let (a, at, completed) = some_at (slice_get part n) (λ a. IsTrue (is_completed a)) h in found a at
+    a.response refl completed
   where
-    found : (a : Operation) → slice_get part n ≡ Some a → (response : Option Response) → a.response ≡ response → IsTrue (is_some response) → IsDoneIn part n
+    found : (a : Operation) → slice_get part n ≡ Some a → (response : Option Response) → a.response ≡ response
+        → IsTrue (is_some response) → IsDoneIn part n
     found a at None is some = absurd (false≢true some)
     found a at (Some response) is some = (a, response, at, is)
 
@@ -256,7 +271,8 @@ done_in_whole place part whole n extends done =
     subst (λ o. IsSomeAnd o (λ a. IsTrue (is_completed a))) (sym b_at) (ap is_some same)
 
 -- an order of the whole, cut to the part, is one of the part
-pub order_of_part : (place : ℕ) (start : Contents) (part whole : List Operation) (order : List ℕ) → Extends place part whole → InvokesLater place part whole
+pub order_of_part : (place : ℕ) (start : Contents) (part whole : List Operation) (order : List ℕ) → Extends place part whole
+    → InvokesLater place part whole
     → IsOrder start whole order → IsOrder start part (kept part whole order)
 order_of_part place start part whole order extends later h = record {
   legal_order = record {

@@ -1,5 +1,6 @@
 -- Each response is that of one call, and there are at most as many as invocations.
-use Rattle.std.proofs.Common.{◌≡◌, ℕ, zero, suc, ◌+◌, ◌*◌, ◌≤◌, Bool, true, false, not, ◌&&◌, ◌||◌, cond, ◌==◌, List, [], ◌∷◌, length, Some, refl, sym}
+use Rattle.std.proofs.Common.{◌≡◌, ℕ, zero, suc, ◌+◌, ◌*◌, ◌≤◌, Bool, true, false, not, ◌&&◌, ◌||◌, cond, ◌==◌, List, [], ◌∷◌, length, Some}
+use Rattle.std.proofs.Common.{refl, sym}
 use Rattle.std.proofs.Common.{ap, subst, inl, inr, ⊎_elim, arith, eqb-true, eq-eqb, ◌++◌, ◌∙◌}
 use Rattle.std.specs.Prelude.{◌⊎◌, slice_get, IsSomeAnd, Contains}
 use Rattle.std.proofs.Math.Nat.{zero-add}
@@ -18,7 +19,8 @@ use Rattle.list_laws.proofs.Lists.{Contains-first, Contains-later, Contains-spli
 
 -- a call of a list that starts at a place is answered at this place
 abbrev IsAnsweredAt : ℕ → List Event → ℕ → Type 0
-IsAnsweredAt i events place = (n : ℕ) × IsSomeAnd (slice_get (operations_from i events) n) (λ a. IsSomeAnd a.response (λ response. response.res ≡ place))
+IsAnsweredAt i events place = (n : ℕ) × IsSomeAnd (slice_get (operations_from i events) n) (λ a. IsSomeAnd a.response
+    (λ response. response.res ≡ place))
 
 -- or the process waits, and its first response is the one at this place
 abbrev IsAnswered : ℕ → ℕ → Bool → List Event → ℕ → Type 0
@@ -48,13 +50,15 @@ answered p i (suc j) waiting (Invoke q call ∷ events) reply turns here =
     later : IsAnsweredAt (suc i) events (i + suc j) → IsAnswered p i waiting (Invoke q call ∷ events) (i + suc j)
     later (n, is) = inl (suc n, is)
 
-    by_case : ((w : Bool) → takes_turns w (events_of p events) ≡ true → IsAnswered p (suc i) w events (i + suc j)) → (c : Bool) → (q == p) ≡ c
+    by_case : ((w : Bool) → takes_turns w (events_of p events) ≡ true → IsAnswered p (suc i) w events (i + suc j))
+        → (c : Bool) → (q == p) ≡ c
         → takes_turns waiting (cond c (Invoke q call ∷ events_of p events) (events_of p events)) ≡ true
         → IsAnswered p i waiting (Invoke q call ∷ events) (i + suc j)
     by_case go false other k = ⊎_elim later (λ waits. inr waits) (go waiting k)
     by_case go true own k =
         ⊎_elim later
-        (λ waits. inl (zero, subst (λ r. IsSomeAnd (response_from r (suc i) events) (λ response. response.res ≡ i + suc j)) (sym (eqb-true q p own)) waits.1))
+        (λ waits. inl (zero, subst (λ r. IsSomeAnd (response_from r (suc i) events) (λ response. response.res ≡ i + suc j))
+            (sym (eqb-true q p own)) waits.1))
         (go true (and_right (not waiting) _ k))
 answered p i zero waiting (Answer q answer ∷ events) reply turns here =
     let own : (q == p) ≡ true = eq-eqb q p (same_process q p answer reply here) in
@@ -63,13 +67,15 @@ answered p i zero waiting (Answer q answer ∷ events) reply turns here =
 answered p i (suc j) waiting (Answer q answer ∷ events) reply turns here =
     by_case (λ w k. subst (IsAnswered p (suc i) w events) (omega arith) (answered p (suc i) j w events reply k here)) (q == p) refl turns
   where
-    by_case : ((w : Bool) → takes_turns w (events_of p events) ≡ true → IsAnswered p (suc i) w events (i + suc j)) → (c : Bool) → (q == p) ≡ c
+    by_case : ((w : Bool) → takes_turns w (events_of p events) ≡ true → IsAnswered p (suc i) w events (i + suc j))
+        → (c : Bool) → (q == p) ≡ c
         → takes_turns waiting (cond c (Answer q answer ∷ events_of p events) (events_of p events)) ≡ true
         → IsAnswered p i waiting (Answer q answer ∷ events) (i + suc j)
     by_case go false other k = ⊎_elim (λ is. inl is) (λ waits. inr (waits.0, rw other waits.1)) (go waiting k)
     by_case go true own k = ⊎_elim (λ is. inl is) (λ waits. absurd (false≢true waits.0)) (go false (and_right waiting _ k))
 
-pub answer_has_call : (events : List Event) (place p : ℕ) (reply : Reply) → IsWellFormed events → slice_get events place ≡ Some (Answer p reply)
+pub answer_has_call : (events : List Event) (place p : ℕ) (reply : Reply) → IsWellFormed events
+    → slice_get events place ≡ Some (Answer p reply)
     → IsAnsweredAt 0 events place
 answer_has_call events place p reply formed here =
     subst (IsAnsweredAt 0 events) (zero-add place)
@@ -92,16 +98,20 @@ few_from : (waits : ℕ → Bool) (waiting_ones : List ℕ) (events : List Event
     → ((q : ℕ) → waits q ≡ true → Contains waiting_ones q) → length events ≤ 2 * call_count events + length waiting_ones
 few_from waits waiting_ones [] turns covers = omega arith
 few_from waits waiting_ones (Invoke p call ∷ events) turns covers =
-    let rest = few_from (λ q. (p == q) || waits q) (p ∷ waiting_ones) events (λ q. after_invoke (p == q) (waits q) p call (events_of q events) (turns q))
-    (λ q h. ⊎_elim (λ same. subst (Contains (p ∷ waiting_ones)) (eqb-true p q same) (Contains-first p waiting_ones)) (λ waiting. Contains-later p waiting_ones q (covers q waiting))
+    let rest = few_from (λ q. (p == q) || waits q) (p ∷ waiting_ones) events
+        (λ q. after_invoke (p == q) (waits q) p call (events_of q events) (turns q))
+    (λ q h. ⊎_elim (λ same. subst (Contains (p ∷ waiting_ones)) (eqb-true p q same) (Contains-first p waiting_ones))
+        (λ waiting. Contains-later p waiting_ones q (covers q waiting))
     (or_cases (p == q) (waits q) h)) in
     omega (arith, rest, sum_by-cons (λ x. cond (is_invocation x) 1 0) (Invoke p call) events)
 few_from waits waiting_ones (Answer p reply ∷ events) turns covers =
     let own : (p == p) ≡ true = eq-eqb p p refl in
     let waiting : waits p ≡ true = and_left (waits p) _
-    (subst (λ (c : Bool). takes_turns (waits p) (cond c (Answer p reply ∷ events_of p events) (events_of p events)) ≡ true) own (turns p)) in
+    (subst (λ (c : Bool). takes_turns (waits p)
+        (cond c (Answer p reply ∷ events_of p events) (events_of p events)) ≡ true) own (turns p)) in
     let (front, back, parts) = Contains-split waiting_ones p (covers p waiting) in
-    let rest = few_from (λ q. not (p == q) && waits q) (front ++ back) events (λ q. after_answer (p == q) (waits q) p reply (events_of q events) (turns q))
+    let rest = few_from (λ q. not (p == q) && waits q) (front ++ back) events
+        (λ q. after_answer (p == q) (waits q) p reply (events_of q events) (turns q))
     (λ q h. ⊎_elim (λ same. absurd (not_itself p q same (and_left (not (p == q)) (waits q) h))) (λ other. other)
     (Contains-around front p back q (subst (λ (all : List ℕ). Contains all q) parts (covers q (and_right (not (p == q)) (waits q) h))))) in
     omega (
@@ -128,7 +138,8 @@ IsResponseAt p i events place = IsSomeAnd (response_from p i events) (λ respons
 
 -- so is that of the call of this number
 abbrev IsResponseOf : ℕ → List Event → ℕ → ℕ → Type 0
-IsResponseOf i events n place = IsSomeAnd (slice_get (operations_from i events) n) (λ a. IsSomeAnd a.response (λ response. response.res ≡ place))
+IsResponseOf i events n place = IsSomeAnd (slice_get (operations_from i events) n) (λ a. IsSomeAnd a.response
+    (λ response. response.res ≡ place))
 
 -- neither stands before the list
 response_from-later : (p i : ℕ) (events : List Event) (place : ℕ) → IsResponseAt p i events place → i ≤ place
@@ -137,7 +148,8 @@ response_from-later p i (Invoke q call ∷ events) place h = let later = respons
 response_from-later p i (Answer q reply ∷ events) place h = by_case (λ k. response_from-later p (suc i) events place k) (q == p) h
   where
     by_case : (IsResponseAt p (suc i) events place → suc i ≤ place) → (c : Bool)
-        → IsSomeAnd (cond c (Some (record { res = i; reply = reply })) (response_from p (suc i) events)) (λ response. response.res ≡ place) → i ≤ place
+        → IsSomeAnd (cond c (Some (record { res = i; reply = reply })) (response_from p (suc i) events))
+            (λ response. response.res ≡ place) → i ≤ place
     by_case go true k = omega (arith, k)
     by_case go false k = let later = go k in omega arith
 
@@ -148,16 +160,19 @@ response_of-later i (Invoke p call ∷ events) (suc n) place h = let later = res
 response_of-later i (Invoke p call ∷ events) zero place h = let later = response_from-later p (suc i) events place h in omega arith
 
 -- two processes have no response in common
-own_response : (p q i : ℕ) (events : List Event) (place : ℕ) → (q == p) ≡ false → IsResponseAt p i events place → IsResponseAt q i events place → ⊥
+own_response : (p q i : ℕ) (events : List Event) (place : ℕ) → (q == p) ≡ false → IsResponseAt p i events place
+    → IsResponseAt q i events place → ⊥
 own_response p q i [] place other first second = first
 own_response p q i (Invoke r call ∷ events) place other first second = own_response p q (suc i) events place other first second
 own_response p q i (Answer r reply ∷ events) place other first second =
     by_cases (λ k l. own_response p q (suc i) events place other k l) (r == p) (r == q) refl refl first second
   where
     At : Bool → ℕ → Type 0
-    At c s = IsSomeAnd (cond c (Some (record { res = i; reply = reply })) (response_from s (suc i) events)) (λ response. response.res ≡ place)
+    At c s = IsSomeAnd (cond c (Some (record { res = i; reply = reply })) (response_from s (suc i) events))
+        (λ response. response.res ≡ place)
 
-    by_cases : (IsResponseAt p (suc i) events place → IsResponseAt q (suc i) events place → ⊥) → (c d : Bool) → (r == p) ≡ c → (r == q) ≡ d → At c p → At d q → ⊥
+    by_cases : (IsResponseAt p (suc i) events place → IsResponseAt q (suc i) events place → ⊥) → (c d : Bool) → (r == p) ≡ c → (r == q) ≡ d
+        → At c p → At d q → ⊥
     by_cases go true true is also k l = false≢true (sym other ∙ eq-eqb q p (sym (eqb-true r q also) ∙ eqb-true r p is))
     by_cases go true false is also k l = let later = response_from-later q (suc i) events place l in absurd (omega (arith, k))
     by_cases go false true is also k l = let later = response_from-later p (suc i) events place k in absurd (omega (arith, l))
@@ -173,11 +188,13 @@ waited_for p i (Invoke q call ∷ events) n place turns first second =
     Goes : Type 0
     Goes = (m : ℕ) → takes_turns true (events_of p events) ≡ true → IsResponseOf (suc i) events m place → ⊥
 
-    by_number : Goes → (q == p) ≡ false → takes_turns true (events_of p events) ≡ true → (m : ℕ) → IsResponseOf i (Invoke q call ∷ events) m place → ⊥
+    by_number : Goes → (q == p) ≡ false → takes_turns true (events_of p events) ≡ true → (m : ℕ)
+        → IsResponseOf i (Invoke q call ∷ events) m place → ⊥
     by_number go other k zero l = own_response p q (suc i) events place other first l
     by_number go other k (suc m) l = go m k l
 
-    by_case : Goes → (c : Bool) → (q == p) ≡ c → takes_turns true (cond c (Invoke q call ∷ events_of p events) (events_of p events)) ≡ true → (m : ℕ)
+    by_case : Goes → (c : Bool) → (q == p) ≡ c
+        → takes_turns true (cond c (Invoke q call ∷ events_of p events) (events_of p events)) ≡ true → (m : ℕ)
         → IsResponseOf i (Invoke q call ∷ events) m place → ⊥
     by_case go true own k m l = false≢true k
     by_case go false other k m l = by_number go other k m l
@@ -190,11 +207,13 @@ waited_for p i (Answer q reply ∷ events) n place turns first second =
     by_case go true k own = let later = response_of-later (suc i) events n place second in absurd (omega (arith, k))
     by_case go false k own = go k own
 
-one_call_from : (waits : ℕ → Bool) (i : ℕ) (events : List Event) (m n place : ℕ) → ((q : ℕ) → takes_turns (waits q) (events_of q events) ≡ true)
+one_call_from : (waits : ℕ → Bool) (i : ℕ) (events : List Event) (m n place : ℕ)
+    → ((q : ℕ) → takes_turns (waits q) (events_of q events) ≡ true)
     → IsResponseOf i events m place → IsResponseOf i events n place → m ≡ n
 one_call_from waits i [] m n place turns first second = absurd first
 one_call_from waits i (Answer p reply ∷ events) m n place turns first second =
-    one_call_from (λ q. not (p == q) && waits q) (suc i) events m n place (λ q. after_answer (p == q) (waits q) p reply (events_of q events) (turns q)) first second
+    one_call_from (λ q. not (p == q) && waits q) (suc i) events m n place
+        (λ q. after_answer (p == q) (waits q) p reply (events_of q events) (turns q)) first second
 one_call_from waits i (Invoke p call ∷ events) m n place turns first second =
     by_numbers (λ m n own k l. one_call_from (λ q. (p == q) || waits q) (suc i) events m n place own k l) m n first second
   where
@@ -208,12 +227,14 @@ one_call_from waits i (Invoke p call ∷ events) m n place turns first second =
     Goes = (m n : ℕ) → ((q : ℕ) → takes_turns ((p == q) || waits q) (events_of q events) ≡ true) → IsResponseOf (suc i) events m place
         → IsResponseOf (suc i) events n place → m ≡ n
 
-    by_numbers : Goes → (m n : ℕ) → IsResponseOf i (Invoke p call ∷ events) m place → IsResponseOf i (Invoke p call ∷ events) n place → m ≡ n
+    by_numbers : Goes → (m n : ℕ) → IsResponseOf i (Invoke p call ∷ events) m place
+        → IsResponseOf i (Invoke p call ∷ events) n place → m ≡ n
     by_numbers go zero zero k l = refl
     by_numbers go zero (suc n) k l = absurd (waited_for p (suc i) events n place waiting k l)
     by_numbers go (suc m) zero k l = absurd (waited_for p (suc i) events m place waiting l k)
     by_numbers go (suc m) (suc n) k l = ap suc (go m n next k l)
 
 -- a response is that of one call
-pub one_call : (events : List Event) (m n place : ℕ) → IsWellFormed events → IsResponseOf 0 events m place → IsResponseOf 0 events n place → m ≡ n
+pub one_call : (events : List Event) (m n place : ℕ) → IsWellFormed events → IsResponseOf 0 events m place
+    → IsResponseOf 0 events n place → m ≡ n
 one_call events m n place formed first second = one_call_from (λ q. false) 0 events m n place (λ q. formed q) first second

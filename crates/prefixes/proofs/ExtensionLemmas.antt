@@ -1,5 +1,6 @@
 -- The calls of the first events of a list, and the same calls in the whole list.
-use Rattle.std.proofs.Common.{◌≡◌, ℕ, zero, suc, ◌+◌, ◌<◌, ◌≤◌, Bool, true, false, cond, ◌==◌, List, [], ◌∷◌, ◌++◌, length, Option, Some, None, refl, sym, arith}
+use Rattle.std.proofs.Common.{◌≡◌, ℕ, zero, suc, ◌+◌, ◌<◌, ◌≤◌, Bool, true, false, cond, ◌==◌, List, [], ◌∷◌, ◌++◌, length, Option, Some}
+use Rattle.std.proofs.Common.{None, refl, sym, arith}
 use Rattle.std.proofs.Common.{ap, subst}
 use Rattle.std.specs.Prelude.{slice_get, ⊤}
 use Rattle.std.proofs.lemmas.Option.{none-some, same_Some}
@@ -25,7 +26,8 @@ response_from-extended : (p i place : ℕ) (events more : List Event) → i + le
 response_from-extended p i place [] more within = tt
 response_from-extended p i place (Invoke q call ∷ events) more within = response_from-extended p (suc i) place events more (omega arith)
 response_from-extended p i place (Answer q reply ∷ events) more within =
-    first_or (q == p) (record { res = i; reply = reply }) _ _ (omega arith) (response_from-extended p (suc i) place events more (omega arith))
+    first_or (q == p) (record { res = i; reply = reply }) _ _ (omega arith)
+        (response_from-extended p (suc i) place events more (omega arith))
   where
     first_or : (b : Bool) (x : Response) (part whole : Option Response) → x.res < place → IsExtendedResponse place part whole
         → IsExtendedResponse place (cond b (Some x) part) (cond b (Some x) whole)
@@ -33,7 +35,8 @@ response_from-extended p i place (Answer q reply ∷ events) more within =
     first_or false x part whole before rest = rest
 
 -- the calls of the whole that stand where those of its first events stand
-pub extended_at : (i place : ℕ) (events more : List Event) (n : ℕ) (a : Operation) → i + length events ≤ place → slice_get (operations_from i events) n ≡ Some a
+pub extended_at : (i place : ℕ) (events more : List Event) (n : ℕ) (a : Operation) → i + length events ≤ place
+    → slice_get (operations_from i events) n ≡ Some a
     → (b : Operation) × (slice_get (operations_from i (events ++ more)) n ≡ Some b) × IsExtended place a b
 extended_at i place [] more n a within here = absurd (none-some a here)
 extended_at i place (Answer p reply ∷ events) more n a within here = extended_at (suc i) place events more n a (omega arith) here
@@ -49,7 +52,8 @@ extended_at i place (Invoke p call ∷ events) more zero a within here = (
 )
 
 -- the calls of a list that starts at a place are invoked there or later
-inv_from : (i place : ℕ) (events : List Event) (n : ℕ) (b : Operation) → place ≤ i → slice_get (operations_from i events) n ≡ Some b → place ≤ b.inv
+inv_from : (i place : ℕ) (events : List Event) (n : ℕ) (b : Operation) → place ≤ i
+    → slice_get (operations_from i events) n ≡ Some b → place ≤ b.inv
 inv_from i place [] n b later here = absurd (none-some b here)
 inv_from i place (Answer p reply ∷ events) n b later here = inv_from (suc i) place events n b (omega arith) here
 inv_from i place (Invoke p call ∷ events) (suc n) b later here = inv_from (suc i) place events n b (omega arith) here
@@ -57,9 +61,12 @@ inv_from i place (Invoke p call ∷ events) zero b later here =
     let at = ap (λ (a : Operation). a.inv) (same_Some (operation_of p call i events) b here) in omega arith
 
 -- the further calls of the whole are invoked after its first events
-pub invoked_later : (i place : ℕ) (events more : List Event) (n : ℕ) (b : Operation) → place ≤ i + length events → slice_get (operations_from i events) n ≡ None
+pub invoked_later : (i place : ℕ) (events more : List Event) (n : ℕ) (b : Operation) → place ≤ i + length events
+    → slice_get (operations_from i events) n ≡ None
     → slice_get (operations_from i (events ++ more)) n ≡ Some b → place ≤ b.inv
 invoked_later i place [] more n b within none here = inv_from i place more n b (omega arith) here
-invoked_later i place (Answer p reply ∷ events) more n b within none here = invoked_later (suc i) place events more n b (omega arith) none here
-invoked_later i place (Invoke p call ∷ events) more (suc n) b within none here = invoked_later (suc i) place events more n b (omega arith) none here
+invoked_later i place (Answer p reply ∷ events) more n b within none here =
+    invoked_later (suc i) place events more n b (omega arith) none here
+invoked_later i place (Invoke p call ∷ events) more (suc n) b within none here =
+    invoked_later (suc i) place events more n b (omega arith) none here
 invoked_later i place (Invoke p call ∷ events) more zero b within none here = absurd (none-some _ (sym none))

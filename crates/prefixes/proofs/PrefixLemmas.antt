@@ -25,7 +25,8 @@ use Rattle.prefixes.proofs.ExtensionLemmas.{extended_at, invoked_later}
 use Rattle.prefixes.proofs.CutLemmas.{kept, order_of_part}
 
 -- what has an order has one without its last events
-pub front_has_order : (start : Contents) (events more : List Event) → IsLinearizable start (operations (events ++ more)) → IsLinearizable start (operations events)
+pub front_has_order : (start : Contents) (events more : List Event) → IsLinearizable start (operations (events ++ more))
+    → IsLinearizable start (operations events)
 front_has_order start events more (order, h) = (
   kept (operations events) (operations (events ++ more)) order,
   order_of_part (length events) start (operations events) (operations (events ++ more)) order
@@ -66,14 +67,16 @@ prefix_is_history events count h =
     front_of_history (take count events) (drop count events) (subst AreHistoryEvents (sym (take-append-drop count events)) h)
 
 -- an invocation answers nothing
-response_from-invoke : (p i q : ℕ) (call : Call) (events : List Event) → response_from p i (events ++ Invoke q call ∷ []) ≡ response_from p i events
+response_from-invoke : (p i q : ℕ) (call : Call) (events : List Event)
+    → response_from p i (events ++ Invoke q call ∷ []) ≡ response_from p i events
 response_from-invoke p i q call [] = refl
 response_from-invoke p i q call (Invoke r other ∷ events) = response_from-invoke p (suc i) q call events
 response_from-invoke p i q call (Answer r reply ∷ events) = rw (response_from-invoke p (suc i) q call events) refl
 
 -- the calls of a list with one invocation more: one more, which is pending
 operations_from-invoke : (i q : ℕ) (call : Call) (events : List Event) → (inv : ℕ)
-    × (operations_from i (events ++ Invoke q call ∷ []) ≡ operations_from i events ++ record { call = call; inv = inv; response = None } ∷ [])
+    × (operations_from i (events ++ Invoke q call ∷ []) ≡ operations_from i events ++ record
+        { call = call; inv = inv; response = None } ∷ [])
 operations_from-invoke i q call [] = (i, refl)
 operations_from-invoke i q call (Answer r reply ∷ events) = operations_from-invoke (suc i) q call events
 operations_from-invoke i q call (Invoke r other ∷ events) =
@@ -98,7 +101,8 @@ order_with_call start calls call inv order h =
     let same = sym (calls_at-more_calls calls a order h.legal_order.known) in
     record {
       legal_order = record {
-        known = All-weaker (λ n. n < length calls) (λ n. n < length (calls ++ a ∷ [])) (λ n below. omega (arith, below, length-append calls (a ∷ []))) order
+        known = All-weaker (λ n. n < length calls) (λ n. n < length (calls ++ a ∷ []))
+            (λ n below. omega (arith, below, length-append calls (a ∷ []))) order
             h.legal_order.known;
         distinct = h.legal_order.distinct;
         precedence = subst KeepsPrecedence same h.legal_order.precedence;
@@ -108,7 +112,8 @@ order_with_call start calls call inv order h =
     }
   where
     still : (n : ℕ)
-        → (b : Operation) × (slice_get (calls ++ record { call = call; inv = inv; response = None } ∷ []) n ≡ Some b) × IsTrue (is_completed b)
+        → (b : Operation) × (slice_get (calls ++ record { call = call; inv = inv; response = None } ∷ []) n ≡ Some b)
+        × IsTrue (is_completed b)
         → IsCompletedAt calls n
     still n (b, here, completed) =
         let a : Operation = record { call = call; inv = inv; response = None } in
@@ -119,10 +124,12 @@ pub invocation_keeps_order : (start : Contents) (events : List Event) (process :
     → IsLinearizable start (operations (events ++ Invoke process call ∷ []))
 invocation_keeps_order start events process call (order, h) =
     let (inv, is) = operations_from-invoke 0 process call events in
-    (order, subst (λ (calls : List Operation). IsOrder start calls order) (sym is) (order_with_call start (operations events) call inv order h))
+    (order, subst (λ (calls : List Operation). IsOrder start calls order) (sym is)
+        (order_with_call start (operations events) call inv order h))
 
 -- the first events up to an event and with it
-pub take_with : (events : List Event) (place : ℕ) (e : Event) → slice_get events place ≡ Some e → take (place + 1) events ≡ take place events ++ e ∷ []
+pub take_with : (events : List Event) (place : ℕ) (e : Event) → slice_get events place ≡ Some e
+    → take (place + 1) events ≡ take place events ++ e ∷ []
 take_with events place e here =
     take_more events place e (slice_get_within events place e here)
     ∙ ap (λ (x : Event). take place events ++ x ∷ []) (get_or_from_slice_get events place e e here)

@@ -1,4 +1,5 @@
--- The first events of a history, and the one event at which a history goes wrong: linearizability is closed under prefixes, Herlihy and Wing 1990 and Lynch
+-- The first events of a history, and the one event at which a history goes wrong: linearizability is closed under prefixes, Herlihy and
+-- Wing 1990 and Lynch
 -- 1996, section 13.1, so that it is lost at one event.
 use Rattle.std.specs.Prelude.{◌≡◌, ℕ, ◌+◌, List, IsSomeAnd, slice_get, take}
 use Rattle.events.specs.declared.event.Event.{Event}
@@ -12,7 +13,8 @@ prefix_of history count = record { start = history.start; events = take count hi
 
 -- the event at a place is the answer of this call
 abbrev pub IsAnswerOf : List Event → ℕ → ℕ → Type 0
-IsAnswerOf events number place = IsSomeAnd (slice_get (operations events) number) (λ a. IsSomeAnd a.response (λ response. response.res ≡ place))
+IsAnswerOf events number place = IsSomeAnd (slice_get (operations events) number) (λ a. IsSomeAnd a.response
+    (λ response. response.res ≡ place))
 
 -- the events before this one have an order, with it they have none, and it is the answer of this call
 pub record GoesWrongAt (history : HistoryView) (number place : ℕ) : Type 0 where

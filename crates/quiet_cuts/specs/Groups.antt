@@ -13,13 +13,15 @@ use Rattle.quiet_cuts.specs.RangeCuts.{HaveKeysApart, early_of, late_of}
 
 -- a test parts the calls into two groups with keys apart
 abbrev pub PartsKeys : List Operation → (Operation → Bool) → Type 0
-PartsKeys calls is_here = (a b : Operation) → Contains calls a → Contains calls b → is_here a ≡ true → is_here b ≡ false → HaveKeysApart a.call b.call
+PartsKeys calls is_here = (a b : Operation) → Contains calls a → Contains calls b → is_here a ≡ true → is_here b ≡ false
+    → HaveKeysApart a.call b.call
 
 -- calls have an order exactly where each of two groups with keys apart has one
 abbrev pub GroupsJudge : Type 0
 GroupsJudge =
     (m : Contents) (calls : List Operation) (is_here : Operation → Bool) → IsRising m → InvocationsRise calls → NonePrecedesItself calls
-    → PartsKeys calls is_here → IsLinearizable m calls ↔ (IsLinearizable m (early_of is_here calls) × IsLinearizable m (late_of is_here calls))
+    → PartsKeys calls is_here → IsLinearizable m calls ↔ (IsLinearizable m (early_of is_here calls) × IsLinearizable m
+        (late_of is_here calls))
 
 -- the orders of calls within a range are those from the pairs of the range
 abbrev pub RangesSuffice : Type 0
@@ -38,7 +40,8 @@ abbrev pub reply_in : Option Response → Option Reply
 reply_in None = None
 reply_in (Some response) = Some response.reply
 
--- two lists of calls that differ in the places of their events alone: at each number the same call with the same reply, and the same precedence
+-- two lists of calls that differ in the places of their events alone: at each number the same call with the same reply, and the same
+-- precedence
 pub record AreAlike (calls others : List Operation) : Type 0 where
   pub size : length calls ≡ length others
   pub same : (n : ℕ) (a b : Operation) → slice_get calls n ≡ Some a → slice_get others n ≡ Some b → (a.call ≡ b.call)

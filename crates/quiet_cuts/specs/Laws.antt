@@ -28,27 +28,35 @@ TimeCutsLeave =
     (start left : Contents) (early late : List Operation) → IsTimeCut early late → Leaves start (early ++ late) left
     ↔ ((m : Contents) × Leaves start early m × Leaves m late left)
 
--- around a quiet moment of some keys, the calls have an order exactly where the late ones have one from some pairs that the early ones leave
+-- around a quiet moment of some keys, the calls have an order exactly where the late ones have one from some pairs that the early ones
+-- leave
 abbrev pub RangeCutsPart : Type 0
 RangeCutsPart =
-    (start : Contents) (calls : List Operation) (is_early : Operation → Bool) → IsRising start → InvocationsRise calls → NonePrecedesItself calls
+    (start : Contents) (calls : List Operation) (is_early : Operation → Bool) → IsRising start → InvocationsRise calls
+        → NonePrecedesItself calls
     → IsRangeCut calls is_early → IsLinearizable start calls
     ↔ ((m : Contents) × Leaves start (early_of is_early calls) m × IsLinearizable m (late_of is_early calls))
 
--- calls of a cell that are completed, and precede each other call of the cell that names keys among theirs, are dropped: the contents that they leave from
+-- calls of a cell that are completed, and precede each other call of the cell that names keys among theirs, are dropped: the contents that
+-- they leave from
 -- some contents of the cell take the place of these
 abbrev pub QuietCallsSettle : Type 0
 QuietCallsSettle =
-    (start : Contents) (events : List Event) (known : Contents) (front back : List Cell) (c : Cell) (dropped : List ℕ) (is_early : Operation → Bool)
-    (left : List Contents) → StandsFor start events (summary known (front ++ c ∷ back) dropped) → IsRangeCut (calls_now events dropped c) is_early
+    (start : Contents) (events : List Event) (known : Contents) (front back : List Cell) (c : Cell) (dropped : List ℕ)
+        (is_early : Operation → Bool)
+    (left : List Contents) → StandsFor start events (summary known (front ++ c ∷ back) dropped)
+        → IsRangeCut (calls_now events dropped c) is_early
     → AreLeftIn c (early_of is_early (calls_now events dropped c)) left
-    → StandsFor start events (summary known (front ++ with_contents c left ∷ back) (dropped ++ places_of (early_of is_early (calls_now events dropped c))))
+    → StandsFor start events (summary known (front ++ with_contents c left ∷ back)
+        (dropped ++ places_of (early_of is_early (calls_now events dropped c))))
 
 -- a cell gets quiet: the contents that its calls leave from some of its contents take the place of both
 abbrev pub QuietCellsSettle : Type 0
 QuietCellsSettle =
-    (start : Contents) (events : List Event) (known : Contents) (front back : List Cell) (c : Cell) (dropped : List ℕ) (left : List Contents)
-    → StandsFor start events (summary known (front ++ c ∷ back) dropped) → IsQuiet (calls_now events dropped c) → AreLeftIn c (calls_now events dropped c) left
+    (start : Contents) (events : List Event) (known : Contents) (front back : List Cell) (c : Cell) (dropped : List ℕ)
+        (left : List Contents)
+    → StandsFor start events (summary known (front ++ c ∷ back) dropped) → IsQuiet (calls_now events dropped c)
+    → AreLeftIn c (calls_now events dropped c) left
     → StandsFor start events (summary known (front ++ with_contents c left ∷ back) (dropped ++ places_of (calls_now events dropped c)))
 
 -- a summary of no events: the pairs at the start are known, and there are no cells
@@ -77,7 +85,8 @@ CellsOpen =
 -- cells become one, with all combinations of their contents and the known values between
 abbrev pub CellsMerge : Type 0
 CellsMerge =
-    (start : Contents) (events : List Event) (known : Contents) (front cells back : List Cell) (c : Cell) (dropped : List ℕ) → AreCells (front ++ c ∷ back)
+    (start : Contents) (events : List Event) (known : Contents) (front cells back : List Cell) (c : Cell) (dropped : List ℕ)
+        → AreCells (front ++ c ∷ back)
     → IsMergeOf known cells c → StandsFor start events (summary known (front ++ (cells ++ back)) dropped)
     → StandsFor start events (summary known (front ++ c ∷ back) dropped)
 
@@ -85,8 +94,10 @@ CellsMerge =
 abbrev pub CellsSplit : Type 0
 CellsSplit =
     (start : Contents) (events : List Event) (known : Contents) (front cells back : List Cell) (c : Cell) (dropped : List ℕ)
-    → AreCells (front ++ (cells ++ back)) → IsMergeOf known cells c → All (λ a. Any (λ d. NamesKeysWithin d.low d.high a.call) cells) (calls_now events dropped c)
-    → StandsFor start events (summary known (front ++ c ∷ back) dropped) → StandsFor start events (summary known (front ++ (cells ++ back)) dropped)
+    → AreCells (front ++ (cells ++ back)) → IsMergeOf known cells c
+    → All (λ a. Any (λ d. NamesKeysWithin d.low d.high a.call) cells) (calls_now events dropped c)
+    → StandsFor start events (summary known (front ++ c ∷ back) dropped)
+    → StandsFor start events (summary known (front ++ (cells ++ back)) dropped)
 
 -- a cell with no calls and one contents goes: these are known
 abbrev pub CellsClose : Type 0

@@ -123,9 +123,11 @@ module _ (r : Recorder) (passes : List Pass) (own : All (IsPassOf r) passes) whe
   pub all-history : AreAll r passes → AreHistoryEvents (history_of passes)
   all-history all = ⊎_elim
       (λ none. AreHistoryEvents-nothing passes (no-draws none))
-      (λ some. AreHistoryEvents-apart passes (are-apart some all) (let a = all.draws_are in let b = r.quota in let c = r.few in omega arith))
+      (λ some. AreHistoryEvents-apart passes (are-apart some all)
+          (let a = all.draws_are in let b = r.quota in let c = r.few in omega arith))
       (none-or-some (calls_for_each r))
 
   -- in which each process has the events of its pass
   pub all-own : AreAll r passes → HasOwnEvents passes
-  all-own all = ⊎_elim (λ none. own-nothing passes (no-draws none)) (λ some. own-apart passes (are-apart some all)) (none-or-some (calls_for_each r))
+  all-own all = ⊎_elim (λ none. own-nothing passes (no-draws none)) (λ some. own-apart passes (are-apart some all))
+      (none-or-some (calls_for_each r))

@@ -1,5 +1,6 @@
 -- The logs of all passes, put together, are a history.
-use Rattle.std.proofs.Common.{◌≡◌, ◌≢◌, ℕ, ◌+◌, ◌*◌, ◌<◌, ◌≤◌, ◌==◌, Bool, true, false, ◌&&◌, cond, List, [], ◌∷◌, ◌++◌, length, map, filter}
+use Rattle.std.proofs.Common.{◌≡◌, ◌≢◌, ℕ, ◌+◌, ◌*◌, ◌<◌, ◌≤◌, ◌==◌, Bool, true, false, ◌&&◌, cond, List, [], ◌∷◌, ◌++◌, length, map}
+use Rattle.std.proofs.Common.{filter}
 use Rattle.std.proofs.Common.{refl, sym, ap, ◌∙◌, arith, subst, inl, inr, ⊎_elim, eq-eqb, ne_eqb}
 use Rattle.std.specs.Prelude.{◌⊎◌, All, AllPairs, Contains, flat_map, sum_by}
 use Rattle.std.specs.List.{list_all}
@@ -87,7 +88,8 @@ in-order es up = by_stamp-rising 0 es (rises-from 0 es (λ k d within. omega ari
 own-kept : (q : ℕ) (p : Pass) → process_number p ≡ q → filter (is_of q) (log_of p) ≡ log_of p
 own-kept q p same =
     filter_all (is_of q) (log_of p)
-    (All-weaker (λ e. process_of e.1 ≡ process_number p) (λ e. is_of q e ≡ true) (λ e own. eq-eqb (process_of e.1) q (own ∙ same)) (log_of p) p.recorded.own)
+    (All-weaker (λ e. process_of e.1 ≡ process_number p) (λ e. is_of q e ≡ true) (λ e own. eq-eqb (process_of e.1) q (own ∙ same))
+        (log_of p) p.recorded.own)
 
 others-dropped : (q : ℕ) (p : Pass) → process_number p ≢ q → filter (is_of q) (log_of p) ≡ []
 others-dropped q p other =
@@ -112,7 +114,8 @@ one-log : (q : ℕ) (passes : List Pass) → AreApart passes
 one-log q [] apart = inl refl
 one-log q (p ∷ passes) apart = elim (eqb_tells (process_number p) q) [
   | inl h ↦
-      let others = All-weaker (λ b. process_number p ≢ process_number b) (λ b. process_number b ≢ q) (λ b ne same. ne (h.1 ∙ sym same)) passes
+      let others = All-weaker (λ b. process_number p ≢ process_number b) (λ b. process_number b ≢ q)
+          (λ b ne same. ne (h.1 ∙ sym same)) passes
       (AllPairs-head Differ p passes apart) in
       inr (
         p,
@@ -130,7 +133,8 @@ one-log q (p ∷ passes) apart = elim (eqb_tells (process_number p) q) [
 ]
 
 -- of passes that are apart, what is kept of a process that has one is its log
-own-log : (passes : List Pass) → AreApart passes → (p : Pass) → Contains passes p → filter (is_of (process_number p)) (together passes) ≡ log_of p
+own-log : (passes : List Pass) → AreApart passes → (p : Pass) → Contains passes p
+    → filter (is_of (process_number p)) (together passes) ≡ log_of p
 own-log [] apart p there = absurd (Contains-nil p there)
 own-log (x ∷ passes) apart p there =
     let q = process_number p in
@@ -176,8 +180,10 @@ all-together test (p ∷ passes) h =
     ∙ (list_all-append (λ e. test e.1) (log_of p) (together passes)
     ∙ (ap (λ b. b && list_all (λ e. test e.1) (together passes)) (sym (all-events test (log_of p)) ∙ h p) ∙ all-together test passes h))
 
-all-passed : (test : Event → Bool) (passes : List Pass) → ((p : Pass) → list_all test (events_by p) ≡ true) → list_all test (history_of passes) ≡ true
-all-passed test passes h = all-events test (by_stamp (together passes)) ∙ all-by_stamp (λ e. test e.1) (together passes) (all-together test passes h)
+all-passed : (test : Event → Bool) (passes : List Pass) → ((p : Pass) → list_all test (events_by p) ≡ true)
+    → list_all test (history_of passes) ≡ true
+all-passed test passes h = all-events test (by_stamp (together passes))
+    ∙ all-by_stamp (λ e. test e.1) (together passes) (all-together test passes h)
 
 -- each call has two draws
 calls-of-one : (p : Pass) → 2 * call_count (events_by p) ≤ draws_of p
@@ -204,7 +210,8 @@ calls-within passes =
     omega arith
 
 -- passes that are apart and have few draws make a history
-pub AreHistoryEvents-apart : (passes : List Pass) → AreApart passes → sum_by draws_of passes ≤ 2 * call_limit → AreHistoryEvents (history_of passes)
+pub AreHistoryEvents-apart : (passes : List Pass) → AreApart passes → sum_by draws_of passes ≤ 2 * call_limit
+    → AreHistoryEvents (history_of passes)
 AreHistoryEvents-apart passes apart few = record {
   shaped = all-passed is_shaped passes (λ p. p.recorded.history.shaped);
   small = all-passed is_small passes (λ p. p.recorded.history.small);
@@ -224,9 +231,11 @@ nothing-together (p ∷ passes) none =
 pub AreHistoryEvents-nothing : (passes : List Pass) → sum_by draws_of passes ≡ 0 → AreHistoryEvents (history_of passes)
 AreHistoryEvents-nothing passes none = subst AreHistoryEvents (sym (ap events_by_stamp (nothing-together passes none))) no-events
 
-pub own-nothing : (passes : List Pass) → sum_by draws_of passes ≡ 0 → All (λ p. events_of (process_number p) (history_of passes) ≡ events_by p) passes
+pub own-nothing : (passes : List Pass) → sum_by draws_of passes ≡ 0
+    → All (λ p. events_of (process_number p) (history_of passes) ≡ events_by p) passes
 own-nothing passes none = All-from_contains (λ p. events_of (process_number p) (history_of passes) ≡ events_by p) passes (λ p there.
     let least = get_or-le-sum_by draws_of passes there.0 p there.1 in
     let same = ap draws_of there.2 in
     let empty : length (log_of p) ≡ 0 = let a = draws-are p in let b = p.draws in omega arith in
-    ap (λ es. events_of (process_number p) (events_by_stamp es)) (nothing-together passes none) ∙ sym (ap events_in (nil_from_length (log_of p) empty)))
+    ap (λ es. events_of (process_number p) (events_by_stamp es)) (nothing-together passes none)
+        ∙ sym (ap events_in (nil_from_length (log_of p) empty)))

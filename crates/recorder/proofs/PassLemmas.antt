@@ -14,4 +14,5 @@ module _ (p : Pass) where
 
 -- none of the passes is of the process
 pub none-here : (q : ℕ) (passes : List Pass) → All (λ p. process_number p ≢ q) passes → Contains (map process_number passes) q → ⊥
-none-here q passes h there = let one = Contains-from_map process_number passes q there in All-contains (λ p. process_number p ≢ q) passes one.0 h one.1 one.2
+none-here q passes h there = let one = Contains-from_map process_number passes q there in All-contains (λ p. process_number p ≢ q) passes
+    one.0 h one.1 one.2

@@ -1,5 +1,6 @@
 -- A log grows by one event, in which nothing is wrong.
-use Rattle.std.proofs.Common.{◌≡◌, ℕ, ◌+◌, ◌*◌, ◌<◌, ◌≤◌, Bool, true, false, not, cond, List, [], ◌∷◌, ◌++◌, length, None, refl, sym, ap, ◌∙◌}
+use Rattle.std.proofs.Common.{◌≡◌, ℕ, ◌+◌, ◌*◌, ◌<◌, ◌≤◌, Bool, true, false, not, cond, List, [], ◌∷◌, ◌++◌, length, None, refl, sym, ap}
+use Rattle.std.proofs.Common.{◌∙◌}
 use Rattle.std.proofs.Common.{arith, subst}
 use Rattle.std.specs.Prelude.{All}
 use Rattle.std.proofs.lemmas.List.{length-append, map-append}
@@ -30,7 +31,8 @@ all-below e (a ∷ log) h =
     (all-below e log (All-tail (λ x. x < e.0) a.0 (stamps_in log) h))
 
 one-rises : (e : Stamped) → StampsRise (e ∷ [])
-one-rises e = AllPairs-append (λ a b. a.0 < b.0) [] (e ∷ []) (AllPairs-nil (λ a b. a.0 < b.0)) (λ i j d lt within. absurd (omega arith)) (All-nil _)
+one-rises e = AllPairs-append (λ a b. a.0 < b.0) [] (e ∷ []) (AllPairs-nil (λ a b. a.0 < b.0)) (λ i j d lt within. absurd
+    (omega arith)) (All-nil _)
 
 module _ (process calls begun : ℕ) (has_open : Bool) (log : List Stamped) (r : IsRecord process calls begun has_open log) where
   module _ (e : Event) (turn : has_open_call process (events_in log) ≡ not (is_invocation e))
@@ -50,8 +52,10 @@ module _ (process calls begun : ℕ) (has_open : Bool) (log : List Stamped) (r :
           known = r.known;
           own = All-push (λ e. process_of e.1 ≡ process) log (n, e) r.own own;
           history = subst AreHistoryEvents (sym more) (AreHistoryEvents-push (events_in log) e r.history sound);
-          waits = sym (ap (has_open_call process) more ∙ (has_open_call-push process (events_in log) e ∙ rw (eq-eqb (process_of e) process own) refl));
-          begun_is = sym (ap call_count more ∙ (call_count-push (events_in log) e ∙ ap (λ k. k + cond (is_invocation e) 1 0) (sym r.begun_is)));
+          waits = sym (ap (has_open_call process) more
+              ∙ (has_open_call-push process (events_in log) e ∙ rw (eq-eqb (process_of e) process own) refl));
+          begun_is = sym (ap call_count more ∙ (call_count-push (events_in log) e ∙ ap (λ k. k + cond (is_invocation e) 1 0)
+              (sym r.begun_is)));
           few = let b = r.begun_is in omega arith;
           small = r.small;
           paired = omega (arith, length-append log ((n, e) ∷ []), paired-push (is_invocation e) (length log) begun paired);

@@ -67,5 +67,6 @@ pairs_insertable pairs h =
     sym (list_all-map is_tree_call (λ pair. Insert pair.0 pair.1) pairs) ∙ list_all-from_AllPass is_tree_call (inserts pairs) h
 
 -- a value spells one list of pairs only
-pub same_pairs : (d : Data) (found pairs : Contents) → d ≡ list_data (map pair_data found) → d ≡ list_data (map pair_data pairs) → pairs ≡ found
+pub same_pairs : (d : Data) (found pairs : Contents) → d ≡ list_data (map pair_data found)
+    → d ≡ list_data (map pair_data pairs) → pairs ≡ found
 same_pairs d found pairs h k = pairs_injective pairs found (list_data_injective (map pair_data pairs) (map pair_data found) (sym k ∙ h))

@@ -13,7 +13,8 @@ use Rattle.art_rows.specs.declared.table.Shape.{Shape}
 use Rattle.art_steps.specs.declared.access.Point.{Point}
 use Rattle.art_steps.specs.declared.access.Point.TheVariants.{Child, Check, LockRoot, LockRow, Unlock, Answer}
 use Rattle.art_steps.specs.declared.variant.Variant.{Variant}
-use Rattle.art_steps.specs.declared.variant.Variant.TheVariants.{Coupled, Optimistic, ReadUnchecked, ScanUnvalidated, LockUnchecked, EarlyRelease}
+use Rattle.art_steps.specs.declared.variant.Variant.TheVariants.{Coupled, Optimistic, ReadUnchecked, ScanUnvalidated, LockUnchecked}
+use Rattle.art_steps.specs.declared.variant.Variant.TheVariants.{EarlyRelease}
 use Rattle.art_core.specs.declared.item.Item.{Item}
 use Rattle.art_core.specs.declared.item.Item.TheVariants.{Turns, End, Until}
 use Rattle.plans.specs.declared.fault.MachineFault.{MachineFault}
@@ -23,7 +24,8 @@ use Rattle.plan_text.proofs.PlanTextLemmas.{scripts_data_injective}
 use Rattle.replay_text.specs.declared.replay.Replay.{Replay}
 use Rattle.replay_text.specs.Replays.{ReplayView}
 use Rattle.replay_text.specs.ReplayViews.{shown}
-use Rattle.replay_text.specs.ReplayTexts.{variant_name, point_name, item_data, rows_data, Parts, document, SpellsStart, ArePartsOf, SpellsReplayAs, SpellsReplay}
+use Rattle.replay_text.specs.ReplayTexts.{variant_name, point_name, item_data, rows_data, Parts, document, SpellsStart, ArePartsOf}
+use Rattle.replay_text.specs.ReplayTexts.{SpellsReplayAs, SpellsReplay}
 use Rattle.replay_text.specs.ReplayTextFaults.{SpellsNoReplay, IsReplayTextFault}
 use Rattle.replay_text.specs.ReplayTextLaws.{SpellsOneReplay, HasOneReplayFault, FaultySpellsNoReplay}
 use Rattle.replay_text.proofs.PartLemmas.{same_pairs}
@@ -42,13 +44,16 @@ same_parts l w s c (Some e) v l2 w2 s2 c2 (Some e2) v2 h = cc
 
 -- a document has these parts only
 pub document_injective : (p q : Parts) → document p ≡ document q → p ≡ q
-document_injective p q h = same_parts p.limit p.rows p.schedule p.scripts p.start p.variant q.limit q.rows q.schedule q.scripts q.start q.variant h
+document_injective p q h = same_parts p.limit p.rows p.schedule p.scripts p.start p.variant q.limit q.rows q.schedule q.scripts
+    q.start q.variant h
 
 -- a value that is no document of either version spells no replay
 pub no_document : (d : Data)
-    → ((l w s c v : Data) → d ≡ document (parts_of l w s c None v) → ⊥) → ((l w s c e v : Data) → d ≡ document (parts_of l w s c (Some e) v) → ⊥)
+    → ((l w s c v : Data) → d ≡ document (parts_of l w s c None v) → ⊥)
+    → ((l w s c e v : Data) → d ≡ document (parts_of l w s c (Some e) v) → ⊥)
     → SpellsNoReplay d
-no_document d alone with_start r spells = by_start spells.parts.limit spells.parts.rows spells.parts.schedule spells.parts.scripts spells.parts.start
+no_document d alone with_start r spells = by_start spells.parts.limit spells.parts.rows spells.parts.schedule spells.parts.scripts
+    spells.parts.start
     spells.parts.variant spells.value
   where
     by_start : (l w s c : Data) (a : Option Data) (v : Data) → d ≡ document (parts_of l w s c a v) → ⊥
@@ -56,7 +61,8 @@ no_document d alone with_start r spells = by_start spells.parts.limit spells.par
     by_start l w s c (Some e) v h = with_start l w s c e v h
 
 -- what the parts of a value spell, the value spells
-pub spelled_as : {E : Type 0} (d : Data) (p : Parts) (pairs : Contents) (r : Result (Option Replay) E) → d ≡ document p → SpellsStart p.start pairs
+pub spelled_as : {E : Type 0} (d : Data) (p : Parts) (pairs : Contents) (r : Result (Option Replay) E) → d ≡ document p
+    → SpellsStart p.start pairs
     → IfOk r (λ found. IfSome found (λ x. (s : Option Data) → is_some s ≡ is_some p.start → SpellsStart s pairs
     → ArePartsOf (parts_of p.limit p.rows p.schedule p.scripts s p.variant) (shown x)))
     → IfOk r (λ found. IfSome found (λ x. SpellsReplayAs d (shown x)))
@@ -71,7 +77,8 @@ pub none_as : {E : Type 0} (d : Data) (p : Parts) (pairs : Contents) (r : Result
     → ArePartsOf (parts_of p.limit p.rows p.schedule p.scripts s p.variant) x → ⊥))
     → IfOk r (λ found. IfNone found (SpellsNoReplay d))
 none_as d p pairs r h starts none = none-follows r (λ no x spells.
-    let here : ArePartsOf p x = subst (λ (q : Parts). ArePartsOf q x) (document_injective spells.parts p (sym spells.value ∙ h)) spells.spelled in
+    let here : ArePartsOf p x = subst (λ (q : Parts). ArePartsOf q x) (document_injective spells.parts p
+        (sym spells.value ∙ h)) spells.spelled in
     no p.start x refl (starts x here.start) here) none
 
 -- ---- one replay
@@ -80,39 +87,67 @@ none_as d p pairs r h starts none = none-follows r (λ no x spells.
 variant_injective : (a b : Variant) → variant_name a ≡ variant_name b → a ≡ b
 variant_injective Coupled Coupled h = refl
 variant_injective Coupled Optimistic h = let letter : 99 ≡ 111 = ap (λ (name : List ℕ). get_or name 0 0) h in absurd (omega (arith, letter))
-variant_injective Coupled ReadUnchecked h = let letter : 99 ≡ 114 = ap (λ (name : List ℕ). get_or name 0 0) h in absurd (omega (arith, letter))
-variant_injective Coupled ScanUnvalidated h = let letter : 99 ≡ 115 = ap (λ (name : List ℕ). get_or name 0 0) h in absurd (omega (arith, letter))
-variant_injective Coupled LockUnchecked h = let letter : 99 ≡ 108 = ap (λ (name : List ℕ). get_or name 0 0) h in absurd (omega (arith, letter))
-variant_injective Coupled EarlyRelease h = let letter : 99 ≡ 101 = ap (λ (name : List ℕ). get_or name 0 0) h in absurd (omega (arith, letter))
+variant_injective Coupled ReadUnchecked h = let letter : 99 ≡ 114 =
+    ap (λ (name : List ℕ). get_or name 0 0) h in absurd (omega (arith, letter))
+variant_injective Coupled ScanUnvalidated h = let letter : 99 ≡ 115 =
+    ap (λ (name : List ℕ). get_or name 0 0) h in absurd (omega (arith, letter))
+variant_injective Coupled LockUnchecked h = let letter : 99 ≡ 108 =
+    ap (λ (name : List ℕ). get_or name 0 0) h in absurd (omega (arith, letter))
+variant_injective Coupled EarlyRelease h = let letter : 99 ≡ 101 =
+    ap (λ (name : List ℕ). get_or name 0 0) h in absurd (omega (arith, letter))
 variant_injective Optimistic Coupled h = let letter : 111 ≡ 99 = ap (λ (name : List ℕ). get_or name 0 0) h in absurd (omega (arith, letter))
 variant_injective Optimistic Optimistic h = refl
-variant_injective Optimistic ReadUnchecked h = let letter : 111 ≡ 114 = ap (λ (name : List ℕ). get_or name 0 0) h in absurd (omega (arith, letter))
-variant_injective Optimistic ScanUnvalidated h = let letter : 111 ≡ 115 = ap (λ (name : List ℕ). get_or name 0 0) h in absurd (omega (arith, letter))
-variant_injective Optimistic LockUnchecked h = let letter : 111 ≡ 108 = ap (λ (name : List ℕ). get_or name 0 0) h in absurd (omega (arith, letter))
-variant_injective Optimistic EarlyRelease h = let letter : 111 ≡ 101 = ap (λ (name : List ℕ). get_or name 0 0) h in absurd (omega (arith, letter))
-variant_injective ReadUnchecked Coupled h = let letter : 114 ≡ 99 = ap (λ (name : List ℕ). get_or name 0 0) h in absurd (omega (arith, letter))
-variant_injective ReadUnchecked Optimistic h = let letter : 114 ≡ 111 = ap (λ (name : List ℕ). get_or name 0 0) h in absurd (omega (arith, letter))
+variant_injective Optimistic ReadUnchecked h = let letter : 111 ≡ 114 =
+    ap (λ (name : List ℕ). get_or name 0 0) h in absurd (omega (arith, letter))
+variant_injective Optimistic ScanUnvalidated h = let letter : 111 ≡ 115 =
+    ap (λ (name : List ℕ). get_or name 0 0) h in absurd (omega (arith, letter))
+variant_injective Optimistic LockUnchecked h = let letter : 111 ≡ 108 =
+    ap (λ (name : List ℕ). get_or name 0 0) h in absurd (omega (arith, letter))
+variant_injective Optimistic EarlyRelease h = let letter : 111 ≡ 101 =
+    ap (λ (name : List ℕ). get_or name 0 0) h in absurd (omega (arith, letter))
+variant_injective ReadUnchecked Coupled h = let letter : 114 ≡ 99 =
+    ap (λ (name : List ℕ). get_or name 0 0) h in absurd (omega (arith, letter))
+variant_injective ReadUnchecked Optimistic h = let letter : 114 ≡ 111 =
+    ap (λ (name : List ℕ). get_or name 0 0) h in absurd (omega (arith, letter))
 variant_injective ReadUnchecked ReadUnchecked h = refl
-variant_injective ReadUnchecked ScanUnvalidated h = let letter : 114 ≡ 115 = ap (λ (name : List ℕ). get_or name 0 0) h in absurd (omega (arith, letter))
-variant_injective ReadUnchecked LockUnchecked h = let letter : 114 ≡ 108 = ap (λ (name : List ℕ). get_or name 0 0) h in absurd (omega (arith, letter))
-variant_injective ReadUnchecked EarlyRelease h = let letter : 114 ≡ 101 = ap (λ (name : List ℕ). get_or name 0 0) h in absurd (omega (arith, letter))
-variant_injective ScanUnvalidated Coupled h = let letter : 115 ≡ 99 = ap (λ (name : List ℕ). get_or name 0 0) h in absurd (omega (arith, letter))
-variant_injective ScanUnvalidated Optimistic h = let letter : 115 ≡ 111 = ap (λ (name : List ℕ). get_or name 0 0) h in absurd (omega (arith, letter))
-variant_injective ScanUnvalidated ReadUnchecked h = let letter : 115 ≡ 114 = ap (λ (name : List ℕ). get_or name 0 0) h in absurd (omega (arith, letter))
+variant_injective ReadUnchecked ScanUnvalidated h = let letter : 114 ≡ 115 =
+    ap (λ (name : List ℕ). get_or name 0 0) h in absurd (omega (arith, letter))
+variant_injective ReadUnchecked LockUnchecked h = let letter : 114 ≡ 108 =
+    ap (λ (name : List ℕ). get_or name 0 0) h in absurd (omega (arith, letter))
+variant_injective ReadUnchecked EarlyRelease h = let letter : 114 ≡ 101 =
+    ap (λ (name : List ℕ). get_or name 0 0) h in absurd (omega (arith, letter))
+variant_injective ScanUnvalidated Coupled h = let letter : 115 ≡ 99 =
+    ap (λ (name : List ℕ). get_or name 0 0) h in absurd (omega (arith, letter))
+variant_injective ScanUnvalidated Optimistic h = let letter : 115 ≡ 111 =
+    ap (λ (name : List ℕ). get_or name 0 0) h in absurd (omega (arith, letter))
+variant_injective ScanUnvalidated ReadUnchecked h = let letter : 115 ≡ 114 =
+    ap (λ (name : List ℕ). get_or name 0 0) h in absurd (omega (arith, letter))
 variant_injective ScanUnvalidated ScanUnvalidated h = refl
-variant_injective ScanUnvalidated LockUnchecked h = let letter : 115 ≡ 108 = ap (λ (name : List ℕ). get_or name 0 0) h in absurd (omega (arith, letter))
-variant_injective ScanUnvalidated EarlyRelease h = let letter : 115 ≡ 101 = ap (λ (name : List ℕ). get_or name 0 0) h in absurd (omega (arith, letter))
-variant_injective LockUnchecked Coupled h = let letter : 108 ≡ 99 = ap (λ (name : List ℕ). get_or name 0 0) h in absurd (omega (arith, letter))
-variant_injective LockUnchecked Optimistic h = let letter : 108 ≡ 111 = ap (λ (name : List ℕ). get_or name 0 0) h in absurd (omega (arith, letter))
-variant_injective LockUnchecked ReadUnchecked h = let letter : 108 ≡ 114 = ap (λ (name : List ℕ). get_or name 0 0) h in absurd (omega (arith, letter))
-variant_injective LockUnchecked ScanUnvalidated h = let letter : 108 ≡ 115 = ap (λ (name : List ℕ). get_or name 0 0) h in absurd (omega (arith, letter))
+variant_injective ScanUnvalidated LockUnchecked h = let letter : 115 ≡ 108 =
+    ap (λ (name : List ℕ). get_or name 0 0) h in absurd (omega (arith, letter))
+variant_injective ScanUnvalidated EarlyRelease h = let letter : 115 ≡ 101 =
+    ap (λ (name : List ℕ). get_or name 0 0) h in absurd (omega (arith, letter))
+variant_injective LockUnchecked Coupled h = let letter : 108 ≡ 99 =
+    ap (λ (name : List ℕ). get_or name 0 0) h in absurd (omega (arith, letter))
+variant_injective LockUnchecked Optimistic h = let letter : 108 ≡ 111 =
+    ap (λ (name : List ℕ). get_or name 0 0) h in absurd (omega (arith, letter))
+variant_injective LockUnchecked ReadUnchecked h = let letter : 108 ≡ 114 =
+    ap (λ (name : List ℕ). get_or name 0 0) h in absurd (omega (arith, letter))
+variant_injective LockUnchecked ScanUnvalidated h = let letter : 108 ≡ 115 =
+    ap (λ (name : List ℕ). get_or name 0 0) h in absurd (omega (arith, letter))
 variant_injective LockUnchecked LockUnchecked h = refl
-variant_injective LockUnchecked EarlyRelease h = let letter : 108 ≡ 101 = ap (λ (name : List ℕ). get_or name 0 0) h in absurd (omega (arith, letter))
-variant_injective EarlyRelease Coupled h = let letter : 101 ≡ 99 = ap (λ (name : List ℕ). get_or name 0 0) h in absurd (omega (arith, letter))
-variant_injective EarlyRelease Optimistic h = let letter : 101 ≡ 111 = ap (λ (name : List ℕ). get_or name 0 0) h in absurd (omega (arith, letter))
-variant_injective EarlyRelease ReadUnchecked h = let letter : 101 ≡ 114 = ap (λ (name : List ℕ). get_or name 0 0) h in absurd (omega (arith, letter))
-variant_injective EarlyRelease ScanUnvalidated h = let letter : 101 ≡ 115 = ap (λ (name : List ℕ). get_or name 0 0) h in absurd (omega (arith, letter))
-variant_injective EarlyRelease LockUnchecked h = let letter : 101 ≡ 108 = ap (λ (name : List ℕ). get_or name 0 0) h in absurd (omega (arith, letter))
+variant_injective LockUnchecked EarlyRelease h = let letter : 108 ≡ 101 =
+    ap (λ (name : List ℕ). get_or name 0 0) h in absurd (omega (arith, letter))
+variant_injective EarlyRelease Coupled h = let letter : 101 ≡ 99 =
+    ap (λ (name : List ℕ). get_or name 0 0) h in absurd (omega (arith, letter))
+variant_injective EarlyRelease Optimistic h = let letter : 101 ≡ 111 =
+    ap (λ (name : List ℕ). get_or name 0 0) h in absurd (omega (arith, letter))
+variant_injective EarlyRelease ReadUnchecked h = let letter : 101 ≡ 114 =
+    ap (λ (name : List ℕ). get_or name 0 0) h in absurd (omega (arith, letter))
+variant_injective EarlyRelease ScanUnvalidated h = let letter : 101 ≡ 115 =
+    ap (λ (name : List ℕ). get_or name 0 0) h in absurd (omega (arith, letter))
+variant_injective EarlyRelease LockUnchecked h = let letter : 101 ≡ 108 =
+    ap (λ (name : List ℕ). get_or name 0 0) h in absurd (omega (arith, letter))
 variant_injective EarlyRelease EarlyRelease h = refl
 
 -- a name is that of one point only
@@ -203,7 +238,8 @@ view_of limit shape variant start scripts schedule =
     record { limit = limit; shape = shape; variant = variant; start = start; scripts = scripts; schedule = schedule }
 
 same_view : (a b : ReplayView) → a.limit ≡ b.limit → a.shape ≡ b.shape → a.variant ≡ b.variant → a.start ≡ b.start → a.scripts ≡ b.scripts
-    → a.schedule ≡ b.schedule → view_of a.limit a.shape a.variant a.start a.scripts a.schedule ≡ view_of b.limit b.shape b.variant b.start b.scripts b.schedule
+    → a.schedule ≡ b.schedule → view_of a.limit a.shape a.variant a.start a.scripts a.schedule ≡ view_of b.limit b.shape b.variant b.start
+        b.scripts b.schedule
 same_view a b limit shape variant start scripts schedule = rw (limit, shape, variant, start, scripts, schedule) refl
 
 -- parts are those of one replay only
@@ -220,7 +256,8 @@ same_replay p a b h k = same_view a b
 pub one_replay : SpellsOneReplay
 one_replay text a b first second =
     let values = same_value text first.value second.value first.json second.json in
-    let same = document_injective second.spelled.parts first.spelled.parts (sym second.spelled.value ∙ (sym values ∙ first.spelled.value)) in
+    let same = document_injective second.spelled.parts first.spelled.parts
+        (sym second.spelled.value ∙ (sym values ∙ first.spelled.value)) in
     same_replay first.spelled.parts a b first.spelled.spelled (subst (λ (q : Parts). ArePartsOf q b) same second.spelled.spelled)
 
 -- ---- one fault
@@ -231,7 +268,8 @@ no_form text d r json none spells =
     none r (subst (λ (e : Data). SpellsReplayAs e r) (same_value text spells.value d spells.json json) spells.spelled)
 
 -- a text that spells a replay has no fault but want of memory
-pub memory_alone : (text : List ℕ) (r : ReplayView) (fault : MachineFault) → SpellsReplay text r → IsReplayTextFault text fault → fault ≡ faults.Memory
+pub memory_alone : (text : List ℕ) (r : ReplayView) (fault : MachineFault) → SpellsReplay text r → IsReplayTextFault text fault
+    → fault ≡ faults.Memory
 memory_alone text r faults.NoProcess spells h = absurd h
 memory_alone text r faults.NothingToDo spells h = absurd h
 memory_alone text r faults.TurnLimit spells h = absurd h

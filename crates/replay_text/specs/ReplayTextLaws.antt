@@ -13,8 +13,10 @@ SpellsOneReplay = (text : List ℕ) (a b : ReplayView) → SpellsReplay text a �
 -- a text has one fault only, apart from want of memory, which any text may meet
 abbrev pub HasOneReplayFault : Type 0
 HasOneReplayFault =
-    (text : List ℕ) (f g : MachineFault) → IsReplayTextFault text f → IsReplayTextFault text g → f ≢ faults.Memory → g ≢ faults.Memory → f ≡ g
+    (text : List ℕ) (f g : MachineFault) → IsReplayTextFault text f → IsReplayTextFault text g → f ≢ faults.Memory
+        → g ≢ faults.Memory → f ≡ g
 
 -- a text with a fault spells no replay
 abbrev pub FaultySpellsNoReplay : Type 0
-FaultySpellsNoReplay = (text : List ℕ) (f : MachineFault) (r : ReplayView) → IsReplayTextFault text f → f ≢ faults.Memory → SpellsReplay text r → ⊥
+FaultySpellsNoReplay = (text : List ℕ) (f : MachineFault) (r : ReplayView) → IsReplayTextFault text f → f ≢ faults.Memory
+    → SpellsReplay text r → ⊥

@@ -42,7 +42,8 @@ stops-at plan items first left place fault m h = record {
 }
 
 pub unrecorded : (plan : Plan) (items : List Item) (first : State) (left : ℕ) (stop : RunFault) (b : Bool) → is_memory stop.fault ≡ b
-    → StopsAt plan items first left stop.item stop.fault → IsUnrecorded plan items first left (if b then faults.Memory else faults.Schedule stop)
+    → StopsAt plan items first left stop.item stop.fault
+    → IsUnrecorded plan items first left (if b then faults.Memory else faults.Schedule stop)
 unrecorded plan items first left stop true e h = tt
 unrecorded plan items first left stop false e h = (e, h)
 
@@ -54,8 +55,10 @@ unplayed-run r words (faults.Schedule stop) starts h = (h.0, record { words = wo
 unplayed-run r words faults.Memory starts h = tt
 
 -- the same with the schedule, the turns and the pairs of the machine
-pub plays-as : (r : ReplayView) (words : List ℕ) (items : List Item) (left : ℕ) (start : Contents) (history : HistoryView) → items ≡ r.schedule → left ≡ r.limit
-    → start ≡ r.start → StartsOn r.shape r.variant r.start words → Records (plan_in r) items (opened_on (plan_in r) words) left start history → Plays r history
+pub plays-as : (r : ReplayView) (words : List ℕ) (items : List Item) (left : ℕ) (start : Contents) (history : HistoryView)
+    → items ≡ r.schedule → left ≡ r.limit
+    → start ≡ r.start → StartsOn r.shape r.variant r.start words
+    → Records (plan_in r) items (opened_on (plan_in r) words) left start history → Plays r history
 plays-as r words items left start history same_items same_left same_start starts h = record {
   words = words;
   starts = starts;
@@ -64,8 +67,10 @@ plays-as r words items left start history same_items same_left same_start starts
       (subst (λ (is : List Item). Records (plan_in r) is (opened_on (plan_in r) words) left start history) same_items h));
 }
 
-pub unplayed-as : (r : ReplayView) (words : List ℕ) (items : List Item) (left : ℕ) (fault : ReplayFault) → items ≡ r.schedule → left ≡ r.limit
-    → StartsOn r.shape r.variant r.start words → IsUnrecorded (plan_in r) items (opened_on (plan_in r) words) left fault → IsUnplayedFor r fault
+pub unplayed-as : (r : ReplayView) (words : List ℕ) (items : List Item) (left : ℕ) (fault : ReplayFault)
+    → items ≡ r.schedule → left ≡ r.limit
+    → StartsOn r.shape r.variant r.start words → IsUnrecorded (plan_in r) items (opened_on (plan_in r) words) left fault
+    → IsUnplayedFor r fault
 unplayed-as r words items left fault same_items same_left starts h =
     unplayed-run r words fault starts
     (subst (λ (n : ℕ). IsUnrecorded (plan_in r) r.schedule (opened_on (plan_in r) words) n fault) same_left

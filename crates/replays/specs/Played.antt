@@ -23,7 +23,8 @@ is_memory fault = false
 
 -- ---- the run of a schedule
 
--- From the first state, all turns that the items name lead to a state, and they are no more than were left: this is the history of that state, which carries
+-- From the first state, all turns that the items name lead to a state, and they are no more than were left: this is the history of that
+-- state, which carries
 -- the starting pairs.
 pub record Records (plan : Plan) (items : List Item) (first : State) (left : ℕ) (start : Contents) (history : HistoryView) : Type 0 where
   pub state : State
@@ -32,7 +33,8 @@ pub record Records (plan : Plan) (items : List Item) (first : State) (left : ℕ
   pub few : made ≤ left
   pub recorded : history ≡ record { start = start; events = history_of state }
 
--- From the first state, with so many turns left, the items before this place are made whole; of the item there some turns are made, and the next one that
+-- From the first state, with so many turns left, the items before this place are made whole; of the item there some turns are made, and the
+-- next one that
 -- it names is refused for this cause.
 pub record StopsAt (plan : Plan) (items : List Item) (first : State) (left place : ℕ) (fault : MachineFault) : Type 0 where
   pub item : Item

@@ -1,5 +1,6 @@
 -- Processes that fit: the calls left to the first one, and lists of them, made one or cut in two.
-use Rattle.std.proofs.Common.{◌≡◌, ℕ, zero, suc, ◌+◌, Bool, true, false, List, [], ◌∷◌, ◌++◌, length, map, take, drop, refl, sym, ap, subst, ◌∙◌, arith}
+use Rattle.std.proofs.Common.{◌≡◌, ℕ, zero, suc, ◌+◌, Bool, true, false, List, [], ◌∷◌, ◌++◌, length, map, take, drop, refl, sym, ap, subst}
+use Rattle.std.proofs.Common.{◌∙◌, arith}
 use Rattle.std.specs.Prelude.{None, if◌then◌else◌, nat_lt}
 use Rattle.std.specs.List.{range_with_len}
 use Rattle.std.proofs.lemmas.List.{map-append}
@@ -38,16 +39,19 @@ fit-placed setup x r (y ∷ xs) (s ∷ rs) f fit =
     subst (λ b. Fit setup (if nat_lt x.0 y.0 then x ∷ y ∷ xs else y ∷ placed x xs) (if b then r ∷ s ∷ rs else s ∷ placed r rs))
     (ap (λ n. nat_lt n y.0) f.number ∙ ap (nat_lt r.0) fit.0.number) (by-case (nat_lt x.0 y.0) (fit-placed setup x r xs rs f fit.1))
   where
-    by-case : (b : Bool) → Fit setup (placed x xs) (placed r rs) → Fit setup (if b then x ∷ y ∷ xs else y ∷ placed x xs) (if b then r ∷ s ∷ rs else s ∷ placed r rs)
+    by-case : (b : Bool) → Fit setup (placed x xs) (placed r rs)
+        → Fit setup (if b then x ∷ y ∷ xs else y ∷ placed x xs) (if b then r ∷ s ∷ rs else s ∷ placed r rs)
     by-case true rest = (f, (fit.0, fit.1))
     by-case false rest = (fit.0, rest)
 
-pub fit-merge : (setup : Setup) (xs : List Numbered) (rs : List Run) (ys : List Numbered) (ss : List Run) → Fit setup xs rs → Fit setup ys ss
+pub fit-merge : (setup : Setup) (xs : List Numbered) (rs : List Run) (ys : List Numbered) (ss : List Run)
+    → Fit setup xs rs → Fit setup ys ss
     → Fit setup (merge xs ys) (merge rs ss)
 fit-merge setup xs rs [] [] fit more = fit
 fit-merge setup xs rs [] (s ∷ ss) fit more = absurd more
 fit-merge setup xs rs (y ∷ ys) [] fit more = absurd more
-fit-merge setup xs rs (y ∷ ys) (s ∷ ss) fit more = fit-placed setup y s (merge xs ys) (merge rs ss) more.0 (fit-merge setup xs rs ys ss fit more.1)
+fit-merge setup xs rs (y ∷ ys) (s ∷ ss) fit more =
+    fit-placed setup y s (merge xs ys) (merge rs ss) more.0 (fit-merge setup xs rs ys ss fit more.1)
 
 -- a list cut in two
 pub fit-cut : (setup : Setup) (xs : List Numbered) (kept given : List Run) → Fit setup xs (kept ++ given)
@@ -73,7 +77,8 @@ range-push n =
 abbrev pub first_process : ℕ → Numbered
 first_process p = (p, idle)
 
-pub fits-idle : (setup : Setup) (n : ℕ) (r : Runner) → r.left ≡ setup.calls_each → r.doing ≡ Idle → r.log.items ≡ [] → FitsProcess setup (n, idle) (n, r)
+pub fits-idle : (setup : Setup) (n : ℕ) (r : Runner) → r.left ≡ setup.calls_each → r.doing ≡ Idle → r.log.items ≡ []
+    → FitsProcess setup (n, idle) (n, r)
 fits-idle setup n r left is log = record {
   number = refl;
   doing = subst (λ d. FitsDoing setup.shape setup.variant d None []) (sym is) refl;
@@ -81,8 +86,10 @@ fits-idle setup n r left is log = record {
   log = sym log;
 }
 
-pub fit-idle-more : (setup : Setup) (n : ℕ) (rs : List Run) (r : Run) → Fit setup (map first_process (range_with_len 0 n)) rs → FitsProcess setup (n, idle) r
+pub fit-idle-more : (setup : Setup) (n : ℕ) (rs : List Run) (r : Run) → Fit setup (map first_process (range_with_len 0 n)) rs
+    → FitsProcess setup (n, idle) r
     → Fit setup (map first_process (range_with_len 0 (n + 1))) (rs ++ r ∷ [])
 fit-idle-more setup n rs r fit f =
-    subst (λ xs. Fit setup xs (rs ++ r ∷ [])) (sym (map-append first_process (range_with_len 0 n) (n ∷ [])) ∙ ap (map first_process) (range-push n))
+    subst (λ xs. Fit setup xs (rs ++ r ∷ [])) (sym (map-append first_process (range_with_len 0 n) (n ∷ [])) ∙ ap
+        (map first_process) (range-push n))
     (fit-push setup (map first_process (range_with_len 0 n)) rs (n, idle) r fit f)

@@ -33,7 +33,8 @@ gets-have-moments law setup v e is words schedule gives few =
     law (plan_of setup v) [] (opening setup.shape) schedule (state_of words v) (given-run setup v e words schedule gives few) is
 
 -- the history of a full tree is linearizable
-pub is-linearizable : CoupledIsLinearizable → OptimisticIsLinearizable → (setup : Setup) (v : View) → (e : Ended setup v) → (h : HistoryView)
+pub is-linearizable : CoupledIsLinearizable → OptimisticIsLinearizable → (setup : Setup) (v : View) → (e : Ended setup v)
+    → (h : HistoryView)
     → h ≡ with_no_start (history_of (state_of e.words v)) → IsLinearizableIn setup v h
 is-linearizable coupled optimistic setup v e h same full few =
     let run = given-run setup v e e.words e.schedule e.gives (few e.words) in

@@ -28,12 +28,14 @@ use Rattle.running.specs.Steps.{is_open, Ran, HasReplied}
 
 -- What a call does next.
 
-next-move : (v : View) (n : ℕ) (q : Process) (others : List Numbered) (c : Call) (t : Turn) → v.processes ≡ (n, q) ∷ others → q.call ≡ Some c
+next-move : (v : View) (n : ℕ) (q : Process) (others : List Numbered) (c : Call) (t : Turn)
+    → v.processes ≡ (n, q) ∷ others → q.call ≡ Some c
     → act v.setup.shape v.setup.variant c q.got ≡ t → next_of v ≡ Some (move_of t)
 next-move v n q others c t is called does =
     ap (next_in v.setup) is ∙ (ap (open_move v.setup q.got) called ∙ ap (λ z. Some (move_of z)) does)
 
-advanced-is : (v : View) (m : Move) (n : ℕ) (q : Process) (others : List Numbered) → v.processes ≡ (n, q) ∷ others → next_of v ≡ Some m → (found : ℕ)
+advanced-is : (v : View) (m : Move) (n : ℕ) (q : Process) (others : List Numbered) → v.processes ≡ (n, q) ∷ others
+    → next_of v ≡ Some m → (found : ℕ)
     → advanced v found ≡ view v.setup ((n, after_move n m found q) ∷ others)
 advanced-is v m n q others is next found =
     ap (λ o. view v.setup (moved_if o found v.processes)) next ∙ ap (λ xs. view v.setup (moved_first m found xs)) is
@@ -114,20 +116,23 @@ module _ (v : View) (number : ℕ) (r : Runner) (reply : Reply) (first : IsFirst
       log = refl;
     }
 
-    pub response-first : (new : Runner) → new.left ≡ r.left → new.log.items ≡ r.log.items ++ (n, Answer number reply) ∷ [] → new.doing ≡ Idle
+    pub response-first : (new : Runner) → new.left ≡ r.left → new.log.items ≡ r.log.items ++ (n, Answer number reply) ∷ []
+        → new.doing ≡ Idle
         → IsFirst w number new
     response-first new left log idle = first-now v w number r new first (after_move number (Responds reply) n p) answered-view (record {
       number = refl;
       doing = subst (λ d. FitsDoing v.setup.shape v.setup.variant d None []) (sym idle) refl;
       left =
           ap (λ k. k + new.left)
-          (ap (λ l. length l) (filter_map-append (λ (e : Stamped). invoked e.1) p.log ((n, Answer number reply) ∷ []) ∙ append-nil (begun p)))
+          (ap (λ l. length l) (filter_map-append (λ (e : Stamped). invoked e.1) p.log ((n, Answer number reply) ∷ [])
+              ∙ append-nil (begun p)))
           ∙ (ap (λ k. length (begun p) + k) left ∙ first.fits.left);
       log = ap (λ l. l ++ (n, Answer number reply) ∷ []) first.fits.log ∙ sym log;
     })
 
 -- The invocation.
-module _ (v : View) (number : ℕ) (r : Runner) (first : IsFirst v number r) (call : Call) (w : View) (n : ℕ) (made : w ≡ invoking call v n) where
+module _ (v : View) (number : ℕ) (r : Runner) (first : IsFirst v number r) (call : Call) (w : View) (n : ℕ)
+    (made : w ≡ invoking call v n) where
   abbrev o : Process
   o = first.process
 
@@ -163,7 +168,8 @@ pub beside-after : (u v w : View) → IsBeside u v → IsBeside v w → IsBeside
 beside-after u v w a b = record { setup = b.setup ∙ a.setup; others = b.others ∙ a.others }
 
 -- what a step told
-pub told-some : (w : View) (o : Option Reply) (reply : Reply) → o ≡ Some reply → MatchOption o (IsTrue (is_open w)) (λ r. HasReplied r w) → HasReplied reply w
+pub told-some : (w : View) (o : Option Reply) (reply : Reply) → o ≡ Some reply → MatchOption o (IsTrue (is_open w)) (λ r. HasReplied r w)
+    → HasReplied reply w
 told-some w o reply is told = subst (λ z. MatchOption z (IsTrue (is_open w)) (λ r. HasReplied r w)) is told
 
 pub told-none : (w : View) (o : Option Reply) → o ≡ None → MatchOption o (IsTrue (is_open w)) (λ r. HasReplied r w) → IsTrue (is_open w)

@@ -17,7 +17,8 @@ use Rattle.running.specs.Passes.{shows, opened_for, IsPassOf}
 abbrev pub HoldsAll : Setup → View → Type 0
 HoldsAll setup v = length v.processes ≡ setup.processes
 
--- The history of these processes, in a state of the core that some schedule gives for the shape and the variant, with the calls begun as scripts.
+-- The history of these processes, in a state of the core that some schedule gives for the shape and the variant, with the calls begun as
+-- scripts.
 pub record IsHistoryOf (setup : Setup) (v : View) (h : HistoryView) : Type 0 where
   pub words : List ℕ
   pub schedule : List ℕ

@@ -10,17 +10,20 @@ use Rattle.configurations.specs.Counts.{AreDistinct, ReachesMoreThan}
 use Rattle.list_laws.proofs.Lists.{length-distinct}
 
 -- a configuration that counts is reachable
-pub IsReachable-from_counted : (start : Contents) (calls : List Operation) (c : Configuration) → IsCounted start calls c → IsReachable start calls c
+pub IsReachable-from_counted : (start : Contents) (calls : List Operation) (c : Configuration) → IsCounted start calls c
+    → IsReachable start calls c
 IsReachable-from_counted start calls c h = (h.front, h.is_front, h.leads)
 
 -- distinct configurations that count are at most as many as count
-pub counted_within : (start : Contents) (calls : List Operation) (n : ℕ) (some : List Configuration) → HasCount start calls n → AreDistinct some
+pub counted_within : (start : Contents) (calls : List Operation) (n : ℕ) (some : List Configuration) → HasCount start calls n
+    → AreDistinct some
     → All (IsCounted start calls) some → length some ≤ n
 counted_within start calls n some has distinct each =
     omega (
       arith,
       has.count,
-      length-distinct some has.counted distinct (All-weaker (IsCounted start calls) (Contains has.counted) (λ c h. (has.exact c).1 h) some each),
+      length-distinct some has.counted distinct
+          (All-weaker (IsCounted start calls) (Contains has.counted) (λ c h. (has.exact c).1 h) some each),
     )
 
 -- the count is one number
@@ -35,15 +38,18 @@ HasCount-unique start calls m n has_m has_n =
     )
   where
     each : (k : ℕ) (has : HasCount start calls k) → All (IsCounted start calls) has.counted
-    each k has = All-weaker (Contains has.counted) (IsCounted start calls) (λ c h. (has.exact c).0 h) has.counted (All-contains_itself has.counted)
+    each k has = All-weaker (Contains has.counted) (IsCounted start calls) (λ c h. (has.exact c).0 h) has.counted
+        (All-contains_itself has.counted)
 
 -- a count is not both within a number and above it
-pub CountIsAbove-not_within : (start : Contents) (calls : List Operation) (n : ℕ) → CountIsAbove start calls n → CountIsWithin start calls n → ⊥
+pub CountIsAbove-not_within : (start : Contents) (calls : List Operation) (n : ℕ) → CountIsAbove start calls n
+    → CountIsWithin start calls n → ⊥
 CountIsAbove-not_within start calls n above (count, has, within) =
     absurd (omega (arith, above.above, counted_within start calls count above.counted has above.distinct above.each))
 
 -- where the count is above a number, more than so many configurations are reachable
-pub ReachesMoreThan-from_count : (start : Contents) (calls : List Operation) (n : ℕ) → CountIsAbove start calls n → ReachesMoreThan start calls n
+pub ReachesMoreThan-from_count : (start : Contents) (calls : List Operation) (n : ℕ) → CountIsAbove start calls n
+    → ReachesMoreThan start calls n
 ReachesMoreThan-from_count start calls n h = record {
   reached = h.counted;
   distinct = h.distinct;

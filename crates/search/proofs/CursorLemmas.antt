@@ -3,7 +3,8 @@ use Rattle.std.proofs.Common.{◌≡◌, ℕ, ◌+◌, ◌<◌, ◌≤◌, true,
 use Rattle.std.specs.Prelude.{◌≢◌, ◌⊎◌, All, Contains}
 use Rattle.std.proofs.lemmas.Bool.{both_ways, cases_Bool, false_from_ne_true}
 use Rattle.std.proofs.lemmas.List.{get_or_default}
-use Rattle.std.proofs.lemmas.List.Elements.{All-head, All-weaker, All-contains, Contains-push, Contains-push_cases, Contains-append_left, Contains-append_right}
+use Rattle.std.proofs.lemmas.List.Elements.{All-head, All-weaker, All-contains, Contains-push, Contains-push_cases, Contains-append_left}
+use Rattle.std.proofs.lemmas.List.Elements.{Contains-append_right}
 use Rattle.std.proofs.lemmas.List.Elements.{Contains-append_cases}
 use Rattle.std.proofs.lemmas.List.Quantifiers.{all_pairs_push}
 use Rattle.events.specs.declared.operation.Operation.{Operation}
@@ -19,15 +20,18 @@ use Rattle.orders.proofs.OrderLemmas.{after_calls-append, calls_at-append}
 use Rattle.configurations.proofs.FrontLemmas.{IsFront-from_order, IsFront-front, IsFront-nil, IsNext-from_front}
 use Rattle.configurations.proofs.ConfigurationLemmas.{configuration_of, configuration_unique, LeadsTo-nil}
 use Rattle.search.proofs.FutureLemmas.{same_future, same_completion}
-use Rattle.search.proofs.LeastOrderLemmas.{is_at_or_before-refl, is_at_or_before-trans, is_at_or_before-total, is_at_or_before-front, is_at_or_before-higher}
+use Rattle.search.proofs.LeastOrderLemmas.{is_at_or_before-refl, is_at_or_before-trans, is_at_or_before-total, is_at_or_before-front}
+use Rattle.search.proofs.LeastOrderLemmas.{is_at_or_before-higher}
 use Rattle.search.specs.LongestFront.{IsMetInTurn}
 use Rattle.search.specs.Cursor.{ComesBefore, cursor, IsBehind, StandsAtCursor}
 use Rattle.search.proofs.EarliestLemmas.{length-taken}
-use Rattle.search.proofs.BeforeLemmas.{ComesBefore-itself, at_or_before-from_cursor, ComesBefore-from_at_or_before, ComesBefore-moved, ComesBefore-move}
+use Rattle.search.proofs.BeforeLemmas.{ComesBefore-itself, at_or_before-from_cursor, ComesBefore-from_at_or_before, ComesBefore-moved}
+use Rattle.search.proofs.BeforeLemmas.{ComesBefore-move}
 use Rattle.search.proofs.BeforeLemmas.{ComesBefore-pushed, ComesBefore-push, ComesBefore-pop, ComesBefore-popped, ComesBefore-longer}
 
 -- what follows two fronts of one configuration leads to one configuration
-same_leads : (start : Contents) (calls : List Operation) (f g rest : List ℕ) (c d : Configuration) → LeadsTo start calls f c → LeadsTo start calls g c
+same_leads : (start : Contents) (calls : List Operation) (f g rest : List ℕ) (c d : Configuration) → LeadsTo start calls f c
+    → LeadsTo start calls g c
     → LeadsTo start calls (f ++ rest) d → LeadsTo start calls (g ++ rest) d
 same_leads start calls f g rest c d by_f by_g by = record {
   rising = by.rising;
@@ -39,13 +43,16 @@ same_leads start calls f g rest c d by_f by_g by = record {
 }
   where
     to : (f g : List ℕ) → ((m : ℕ) → Contains f m → Contains g m) → (n : ℕ) → Contains (f ++ rest) n → Contains (g ++ rest) n
-    to f g each n h = ⊎_elim (λ old. Contains-append_left g rest n (each n old)) (λ new. Contains-append_right g rest n new) (Contains-append_cases f rest n h)
+    to f g each n h = ⊎_elim (λ old. Contains-append_left g rest n (each n old)) (λ new. Contains-append_right g rest n new)
+        (Contains-append_cases f rest n h)
 
-    after : (f : List ℕ) → after_calls start (calls_at calls (f ++ rest)) ≡ after_calls (after_calls start (calls_at calls f)) (calls_at calls rest)
+    after : (f : List ℕ) → after_calls start (calls_at calls (f ++ rest)) ≡ after_calls (after_calls start (calls_at calls f))
+        (calls_at calls rest)
     after f = ap (after_calls start) (calls_at-append calls f rest) ∙ after_calls-append start (calls_at calls f) (calls_at calls rest)
 
 -- a front takes no call again
-pub taken_again : (start : Contents) (calls : List Operation) (path : List ℕ) (k : ℕ) (rest : List ℕ) → IsFront start calls (cursor path k ++ rest)
+pub taken_again : (start : Contents) (calls : List Operation) (path : List ℕ) (k : ℕ) (rest : List ℕ)
+    → IsFront start calls (cursor path k ++ rest)
     → Contains path k → ⊥
 taken_again start calls path k rest is_front within =
     let next = IsNext-from_front start calls path k [] (IsFront-front start calls (cursor path k) rest is_front) in
@@ -54,7 +61,8 @@ taken_again start calls path k rest is_front within =
 module _ (start : Contents) (calls : List Operation) where
   -- what is behind a cursor is behind each cursor that comes no earlier
   IsBehind-later : (path : List ℕ) (next : ℕ) (path2 : List ℕ) (next2 : ℕ) (c : Configuration)
-      → ((f : List ℕ) → IsFront start calls f → ComesBefore f (cursor path next) → ComesBefore f (cursor path2 next2)) → IsBehind start calls path next c
+      → ((f : List ℕ) → IsFront start calls f → ComesBefore f (cursor path next) → ComesBefore f (cursor path2 next2))
+      → IsBehind start calls path next c
       → IsBehind start calls path2 next2 c
   IsBehind-later path next path2 next2 c later b =
       record { front = b.front; is_front = b.is_front; leads = b.leads; before = later b.front b.is_front b.before }
@@ -72,7 +80,8 @@ module _ (start : Contents) (calls : List Operation) where
   pub StandsAtCursor-open : StandsAtCursor start calls [] 0 (configuration_of [] start ∷ [])
   StandsAtCursor-open = record {
     is_front = IsFront-nil start calls;
-    distinct = all_pairs_push (λ a b. a ≢ b) [] (configuration_of [] start) (AllPairs-nil (λ a b. a ≢ b)) (λ k d within. absurd (omega arith));
+    distinct = all_pairs_push (λ a b. a ≢ b) [] (configuration_of [] start) (AllPairs-nil (λ a b. a ≢ b))
+        (λ k d within. absurd (omega arith));
     exact = λ c. (
       λ h. record {
         front = [];
@@ -94,9 +103,11 @@ module _ (start : Contents) (calls : List Operation) where
     -- ---- what the relation says
 
     -- a configuration behind the cursor was visited
-    pub visited_from_front : (f : List ℕ) (c : Configuration) → IsFront start calls f → LeadsTo start calls f c → ComesBefore f (cursor path next)
+    pub visited_from_front : (f : List ℕ) (c : Configuration) → IsFront start calls f → LeadsTo start calls f c
+        → ComesBefore f (cursor path next)
         → Contains visited c
-    visited_from_front f c is_front leads before = (stands.exact c).1 (record { front = f; is_front = is_front; leads = leads; before = before })
+    visited_from_front f c is_front leads before =
+        (stands.exact c).1 (record { front = f; is_front = is_front; leads = leads; before = before })
 
     -- all that was visited counts
     pub counted_at_cursor : All (IsCounted start calls) visited
@@ -110,12 +121,14 @@ module _ (start : Contents) (calls : List Operation) where
         })
       where
         of_taken : (f : List ℕ) → IsFront start calls f → ((k : ℕ) → k < next → Contains path k)
-            → ComesBefore f (cursor path 0) ⊎ ((k : ℕ) × (rest : List ℕ) × (0 ≤ k) × (k < next) × (f ≡ cursor path k ++ rest)) → is_at_or_before f path ≡ true
+            → ComesBefore f (cursor path 0) ⊎ ((k : ℕ) × (rest : List ℕ) × (0 ≤ k) × (k < next) × (f ≡ cursor path k ++ rest))
+            → is_at_or_before f path ≡ true
         of_taken f is_front taken (inl before) = at_or_before-from_cursor path f before
         of_taken f is_front taken (inr (k, rest, from, below, is)) =
             absurd (taken_again start calls path k rest (subst (IsFront start calls) is is_front) (taken k below))
 
-        at_or_before : (f : List ℕ) → IsFront start calls f → ComesBefore f (cursor path next) → (order : List ℕ) → IsOrder start calls order
+        at_or_before : (f : List ℕ) → IsFront start calls f → ComesBefore f (cursor path next) → (order : List ℕ)
+            → IsOrder start calls order
             → is_at_or_before f order ≡ true
         at_or_before f is_front before order is_order = ⊎_elim
             (λ later. ⊎_elim (λ le. le) (λ ge. absurd (both_ways _ before (is_at_or_before-trans (cursor path next) order f later ge)))
@@ -150,7 +163,8 @@ module _ (start : Contents) (calls : List Operation) where
         → (Contains visited c → ⊥) → (IsOrder start calls path → ⊥) → StandsAtCursor start calls (cursor path next) 0 (visited ++ c ∷ [])
     StandsAtCursor-push c is_front leads new not_order = record {
       is_front = is_front;
-      distinct = all_pairs_push (λ a b. a ≢ b) visited c stands.distinct (λ k d within same. new (k, within, get_or_default visited k _ d within ∙ same));
+      distinct = all_pairs_push (λ a b. a ≢ b) visited c stands.distinct
+          (λ k d within same. new (k, within, get_or_default visited k _ d within ∙ same));
       exact = λ d. (
         λ h. ⊎_elim
             (λ old. IsBehind-later path next (cursor path next) 0 d (λ f _. ComesBefore-pushed path f next 0) ((stands.exact d).0 old))
@@ -164,7 +178,8 @@ module _ (start : Contents) (calls : List Operation) where
         λ b. ⊎_elim
             (λ before. Contains-append_left visited (c ∷ []) d (visited_from_front b.front d b.is_front b.leads before))
             (λ is. subst (Contains (visited ++ c ∷ []))
-            (configuration_unique start calls (cursor path next) c d leads (subst (λ f. LeadsTo start calls f d) is b.leads)) (Contains-push visited c))
+            (configuration_unique start calls (cursor path next) c d leads (subst (λ f. LeadsTo start calls f d) is b.leads))
+                (Contains-push visited c))
             (ComesBefore-push path b.front next b.before),
       );
       first = λ order is_order before. ⊎_elim
@@ -197,7 +212,8 @@ module _ (start : Contents) (calls : List Operation) where
     }
 
     -- calls are passed over that may not come next
-    pub StandsAtCursor-pass : NonePrecedesItself calls → (m : ℕ) → next ≤ m → ((k : ℕ) → next ≤ k → k < m → IsFront start calls (cursor path k) → ⊥)
+    pub StandsAtCursor-pass : NonePrecedesItself calls → (m : ℕ) → next ≤ m
+        → ((k : ℕ) → next ≤ k → k < m → IsFront start calls (cursor path k) → ⊥)
         → (IsOrder start calls path → (k : ℕ) → k < m → Contains path k) → StandsAtCursor start calls path m visited
     StandsAtCursor-pass apart m le none taken = StandsAtCursor-move m le
         (λ k rest c from below is_front leads. absurd (none k from below (IsFront-front start calls (cursor path k) rest is_front)))
@@ -207,7 +223,8 @@ module _ (start : Contents) (calls : List Operation) where
 
     -- a call is passed over that leads to what was visited: whatever follows it has followed an earlier front
     pub StandsAtCursor-seen : NonePrecedesItself calls → (c : Configuration) → IsFront start calls (cursor path next)
-        → LeadsTo start calls (cursor path next) c → Contains visited c → (IsOrder start calls path → ⊥) → StandsAtCursor start calls path (next + 1) visited
+        → LeadsTo start calls (cursor path next) c → Contains visited c → (IsOrder start calls path → ⊥)
+        → StandsAtCursor start calls path (next + 1) visited
     StandsAtCursor-seen apart c is_front leads within not_order = StandsAtCursor-move (next + 1) (omega arith)
         (λ k rest d from below whole by. seen rest d (subst (λ j. IsFront start calls (cursor path j ++ rest)) (at k from below) whole)
         (subst (λ j. LeadsTo start calls (cursor path j ++ rest) d) (at k from below) by))
@@ -225,13 +242,16 @@ module _ (start : Contents) (calls : List Operation) where
         before : (rest : List ℕ) → ComesBefore (b.front ++ rest) (cursor path next)
         before rest =
             ComesBefore-longer b.front (cursor path next) rest
-            (sym (length-taken start calls b.front c b.is_front b.leads) ∙ length-taken start calls (cursor path next) c is_front leads) b.before
+            (sym (length-taken start calls b.front c b.is_front b.leads)
+                ∙ length-taken start calls (cursor path next) c is_front leads) b.before
 
-        seen : (rest : List ℕ) (d : Configuration) → IsFront start calls (cursor path next ++ rest) → LeadsTo start calls (cursor path next ++ rest) d
+        seen : (rest : List ℕ) (d : Configuration) → IsFront start calls (cursor path next ++ rest)
+            → LeadsTo start calls (cursor path next ++ rest) d
             → Contains visited d
         seen rest d whole by =
             let other = same_future start calls (cursor path next) b.front rest c b.is_front leads b.leads whole in
-            visited_from_front (b.front ++ rest) d other (same_leads start calls (cursor path next) b.front rest c d leads b.leads by) (before rest)
+            visited_from_front (b.front ++ rest) d other
+                (same_leads start calls (cursor path next) b.front rest c d leads b.leads by) (before rest)
 
         none : (rest : List ℕ) → IsOrder start calls (cursor path next ++ rest) → ⊥
         none rest whole =
@@ -251,14 +271,16 @@ module _ (start : Contents) (calls : List Operation) where
         higher n x f lt = is_at_or_before-higher n [] x f lt
 
     -- there is no order
-    pub none_at_end : NonePrecedesItself calls → path ≡ [] → length calls ≤ next → (IsOrder start calls path → ⊥) → IsLinearizable start calls → ⊥
+    pub none_at_end : NonePrecedesItself calls → path ≡ [] → length calls ≤ next → (IsOrder start calls path → ⊥)
+        → IsLinearizable start calls → ⊥
     none_at_end apart empty past not_order (order, is_order) =
         not_order
         (subst (IsOrder start calls)
         (stands.first order is_order (all_behind empty past order (IsFront-from_order start calls order apart is_order))).0 is_order)
 
     -- and visited is all that is reachable
-    pub HasCount-at_end : NonePrecedesItself calls → path ≡ [] → length calls ≤ next → (IsOrder start calls path → ⊥) → HasCount start calls (length visited)
+    pub HasCount-at_end : NonePrecedesItself calls → path ≡ [] → length calls ≤ next → (IsOrder start calls path → ⊥)
+        → HasCount start calls (length visited)
     HasCount-at_end apart empty past not_order = record {
       counted = visited;
       distinct = stands.distinct;
@@ -293,13 +315,15 @@ module _ (start : Contents) (calls : List Operation) where
       distinct = stands.distinct;
       exact = λ c. (
         λ h. let each = counted_at_cursor in All-contains (IsCounted start calls) visited c each h,
-        λ k. visited_from_front k.front c k.is_front k.leads (ComesBefore-from_at_or_before path k.front next (k.at_or_before path is_order)),
+        λ k. visited_from_front k.front c k.is_front k.leads
+            (ComesBefore-from_at_or_before path k.front next (k.at_or_before path is_order)),
       );
       count = refl;
     }
 
   -- past all calls after a front the search goes back to it
-  pub StandsAtCursor-pop : (path : List ℕ) (n next : ℕ) (visited : List Configuration) → StandsAtCursor start calls (cursor path n) next visited
+  pub StandsAtCursor-pop : (path : List ℕ) (n next : ℕ) (visited : List Configuration)
+      → StandsAtCursor start calls (cursor path n) next visited
       → length calls ≤ next → (IsOrder start calls (cursor path n) → ⊥) → StandsAtCursor start calls path (n + 1) visited
   StandsAtCursor-pop path n next visited stands past not_order = record {
     is_front = IsFront-front start calls path (n ∷ []) stands.is_front;
@@ -308,7 +332,8 @@ module _ (start : Contents) (calls : List Operation) where
       λ h. IsBehind-later (cursor path n) next path (n + 1) c (λ f _. ComesBefore-popped path f n next) ((stands.exact c).0 h),
       λ b. (stands.exact c).1
           (IsBehind-later path (n + 1) (cursor path n) next c
-          (λ f is_front. ComesBefore-pop path f n next (All-weaker (λ k. k < length calls) (λ k. k < next) (λ k lt. omega arith) f is_front.known)) b),
+          (λ f is_front. ComesBefore-pop path f n next
+              (All-weaker (λ k. k < length calls) (λ k. k < next) (λ k lt. omega arith) f is_front.known)) b),
     );
     first = λ order is_order before. absurd
         (not_order

@@ -1,5 +1,6 @@
 -- Some calls have a least order or none, and a count: their fronts can be listed.
-use Rattle.std.proofs.Common.{◌≡◌, ℕ, zero, suc, ◌<◌, ◌≤◌, true, List, Option, Some, None, [], ◌∷◌, ◌++◌, length, refl, sym, ap, ◌∙◌, subst, inl, inr, ⊎_elim}
+use Rattle.std.proofs.Common.{◌≡◌, ℕ, zero, suc, ◌<◌, ◌≤◌, true, List, Option, Some, None, [], ◌∷◌, ◌++◌, length, refl, sym, ap, ◌∙◌, subst}
+use Rattle.std.proofs.Common.{inl, inr, ⊎_elim}
 use Rattle.std.proofs.Common.{arith}
 use Rattle.std.specs.Prelude.{◌≢◌, ◌⊎◌, slice_get, All, Contains}
 use Rattle.std.proofs.lemmas.Bool.{both_ways, cases_Bool, cases_lt}
@@ -26,7 +27,8 @@ use Rattle.configurations.specs.Counts.{AreDistinct}
 use Rattle.list_laws.proofs.Lists.{Contains-first, Contains-later, Contains-nil, Contains-cases, AllPairs-nil}
 use Rattle.list_laws.proofs.NumberLemmas.{has_number-Contains, has_number-from_Contains}
 use Rattle.orders.proofs.OrderLemmas.{IsCompletedAt-below}
-use Rattle.configurations.proofs.FrontLemmas.{IsFront-nil, IsFront-next, IsFront-from_order, IsNext, IsNext-from_front, length-front_le, IsOrder-from_front}
+use Rattle.configurations.proofs.FrontLemmas.{IsFront-nil, IsFront-next, IsFront-from_order, IsNext, IsNext-from_front, length-front_le}
+use Rattle.configurations.proofs.FrontLemmas.{IsOrder-from_front}
 use Rattle.configurations.proofs.ConfigurationLemmas.{configuration_of, configuration_unique, LeadsTo-exists}
 use Rattle.search.proofs.LeastOrderLemmas.{is_at_or_before-refl, is_at_or_before-total, is_at_or_before-trans}
 use Rattle.memo.specs.Equality.{is_same, Decides-is_same}
@@ -68,12 +70,14 @@ same_reply replies.None (replies.Pairs ps) = inr (λ e. cc)
 same_reply replies.None replies.Refused = inr (λ e. cc)
 same_reply (replies.Some v) replies.None = inr (λ e. cc)
 same_reply (replies.Some v) (replies.Some w) =
-    by_lists (replies.Some v) (replies.Some w) ((v, 0) ∷ []) ((w, 0) ∷ []) (λ is. ap (λ (ps : Contents). replies.Some (first_key ps)) is) (λ is. ap value_of is)
+    by_lists (replies.Some v) (replies.Some w) ((v, 0) ∷ []) ((w, 0) ∷ []) (λ is. ap (λ (ps : Contents). replies.Some (first_key ps)) is)
+        (λ is. ap value_of is)
 same_reply (replies.Some v) (replies.Pairs ps) = inr (λ e. cc)
 same_reply (replies.Some v) replies.Refused = inr (λ e. cc)
 same_reply (replies.Pairs ps) replies.None = inr (λ e. cc)
 same_reply (replies.Pairs ps) (replies.Some v) = inr (λ e. cc)
-same_reply (replies.Pairs ps) (replies.Pairs qs) = by_lists (replies.Pairs ps) (replies.Pairs qs) ps qs (λ is. ap replies.Pairs is) (λ is. ap value_of is)
+same_reply (replies.Pairs ps) (replies.Pairs qs) =
+    by_lists (replies.Pairs ps) (replies.Pairs qs) ps qs (λ is. ap replies.Pairs is) (λ is. ap value_of is)
 same_reply (replies.Pairs ps) replies.Refused = inr (λ e. cc)
 same_reply replies.Refused replies.None = inr (λ e. cc)
 same_reply replies.Refused (replies.Some v) = inr (λ e. cc)
@@ -108,7 +112,8 @@ within_told xs n =
     (cases_Bool (has_number xs n))
 
 module _ (start : Contents) (calls : List Operation) where
-  preceded_told : (front : List ℕ) (n : ℕ) (b : Operation) → slice_get calls n ≡ Some b → (m : ℕ) → IsTold (PrecedesAt calls m n → Contains front m)
+  preceded_told : (front : List ℕ) (n : ℕ) (b : Operation) → slice_get calls n ≡ Some b → (m : ℕ)
+      → IsTold (PrecedesAt calls m n → Contains front m)
   preceded_told front n b there m = of (slice_get calls m) refl (within_told front m)
     where
       of : (o : Option Operation) → slice_get calls m ≡ o → IsTold (Contains front m) → IsTold (PrecedesAt calls m n → Contains front m)
@@ -140,7 +145,8 @@ module _ (start : Contents) (calls : List Operation) where
       of : (o : Option Operation) → slice_get calls n ≡ o → IsTold (IsNext start calls front n)
       of None is = inr (λ next. none-some next.call (sym is ∙ next.here))
       of (Some a) is =
-          parts a is (within_told front n) (all_told (λ m. PrecedesAt calls m n → Contains front m) (preceded_told front n a is) (length calls))
+          parts a is (within_told front n) (all_told (λ m. PrecedesAt calls m n → Contains front m)
+              (preceded_told front n a is) (length calls))
           (legal_told (after_calls start (calls_at calls front)) a.call a.response)
 
   -- ---- all fronts
@@ -155,7 +161,8 @@ module _ (start : Contents) (calls : List Operation) where
   record AreListedBelow (front : List ℕ) (fuel bound : ℕ) : Type 0 where
     fronts : List (List ℕ)
     each : All (IsFront start calls) fronts
-    all : (n : ℕ) (rest : List ℕ) → n < bound → length rest ≤ fuel → IsFront start calls (front ++ n ∷ rest) → Contains fronts (front ++ n ∷ rest)
+    all : (n : ℕ) (rest : List ℕ) → n < bound → length rest ≤ fuel → IsFront start calls (front ++ n ∷ rest)
+        → Contains fronts (front ++ n ∷ rest)
 
   one_call : (front : List ℕ) (fuel n : ℕ) → IsFront start calls front → ((next : List ℕ) → IsFront start calls next → AreListed next fuel)
       → IsTold (IsNext start calls front n) → (fronts : List (List ℕ)) × All (IsFront start calls) fronts
@@ -170,9 +177,11 @@ module _ (start : Contents) (calls : List Operation) where
             (l.all rest le (subst (IsFront start calls) (sym (append_assoc front (n ∷ []) rest)) h)),
       )
 
-  below : (front : List ℕ) (fuel : ℕ) → IsFront start calls front → ((next : List ℕ) → IsFront start calls next → AreListed next fuel) → (bound : ℕ)
+  below : (front : List ℕ) (fuel : ℕ) → IsFront start calls front
+      → ((next : List ℕ) → IsFront start calls next → AreListed next fuel) → (bound : ℕ)
       → AreListedBelow front fuel bound
-  below front fuel is_front longer zero = record { fronts = []; each = All-nil (IsFront start calls); all = λ n rest lt le h. absurd (omega arith) }
+  below front fuel is_front longer zero = record { fronts = []; each = All-nil (IsFront start calls); all = λ n rest lt le h.
+      absurd (omega arith) }
   below front fuel is_front longer (suc bound) =
       let old = below front fuel is_front longer bound in
       let new = one_call front fuel bound is_front longer (next_told front bound) in
@@ -183,7 +192,8 @@ module _ (start : Contents) (calls : List Operation) where
             (λ earlier. Contains-append_left old.fronts new.0 (front ++ n ∷ rest) (old.all n rest earlier le h))
             (λ not. let same : n ≡ bound = omega arith in
             Contains-append_right old.fronts new.0 (front ++ n ∷ rest)
-            (subst (λ k. Contains new.0 (front ++ k ∷ rest)) (sym same) (new.2 rest le (subst (λ k. IsFront start calls (front ++ k ∷ rest)) same h))))
+            (subst (λ k. Contains new.0 (front ++ k ∷ rest)) (sym same)
+                (new.2 rest le (subst (λ k. IsFront start calls (front ++ k ∷ rest)) same h))))
             (cases_lt n bound);
       }
 
@@ -205,12 +215,14 @@ module _ (start : Contents) (calls : List Operation) where
         all = λ rest le h. with_rest more rest le h;
       }
     where
-      with_rest : (more : AreListedBelow front fuel (length calls)) (rest : List ℕ) → length rest ≤ suc fuel → IsFront start calls (front ++ rest)
+      with_rest : (more : AreListedBelow front fuel (length calls)) (rest : List ℕ) → length rest ≤ suc fuel
+          → IsFront start calls (front ++ rest)
           → Contains (front ∷ more.fronts) (front ++ rest)
       with_rest more [] le h = subst (Contains (front ∷ more.fronts)) (sym (append-nil front)) (Contains-first front more.fronts)
       with_rest more (n ∷ rest) le h =
           let next = IsNext-from_front start calls front n rest h in
-          Contains-later front more.fronts (front ++ n ∷ rest) (more.all n rest (slice_get_within calls n next.call next.here) (omega arith) h)
+          Contains-later front more.fronts (front ++ n ∷ rest)
+              (more.all n rest (slice_get_within calls n next.call next.here) (omega arith) h)
 
   -- all fronts, in one list
   all_fronts : (fronts : List (List ℕ)) × All (IsFront start calls) fronts × ((f : List ℕ) → IsFront start calls f → Contains fronts f)
@@ -262,7 +274,8 @@ module _ (start : Contents) (calls : List Operation) where
           record {
             order = f;
             is_order = is_order;
-            least = λ other h is. ⊎_elim (λ same. subst (λ o. is_at_or_before f o ≡ true) same (is_at_or_before-refl f)) (λ later. before other later is)
+            least = λ other h is. ⊎_elim (λ same. subst (λ o. is_at_or_before f o ≡ true) same (is_at_or_before-refl f))
+                (λ later. before other later is)
                 (Contains-cases f xs other h);
           }
 
@@ -271,7 +284,8 @@ module _ (start : Contents) (calls : List Operation) where
           record {
             order = l.order;
             is_order = l.is_order;
-            least = λ other h is. ⊎_elim (λ same. subst (λ o. is_at_or_before l.order o ≡ true) same (before (subst (IsOrder start calls) (sym same) is)))
+            least = λ other h is. ⊎_elim (λ same. subst (λ o. is_at_or_before l.order o ≡ true) same
+                (before (subst (IsOrder start calls) (sym same) is)))
                 (λ later. l.least other later is) (Contains-cases f xs other h);
           }
 
@@ -283,7 +297,8 @@ module _ (start : Contents) (calls : List Operation) where
           (is_at_or_before-total l.order f)
       by_cases (inr none) (inl is_order) = inl (first is_order (λ other h is. absurd (none other h is)))
       by_cases (inr none) (inr not) =
-          inr (λ other h is. ⊎_elim (λ same. not (subst (IsOrder start calls) (sym same) is)) (λ later. none other later is) (Contains-cases f xs other h))
+          inr (λ other h is. ⊎_elim (λ same. not (subst (IsOrder start calls) (sym same) is)) (λ later. none other later is)
+              (Contains-cases f xs other h))
 
   module _ (apart : NonePrecedesItself calls) where
     pub least_order_or_none : ((order : List ℕ) × IsLeastOrder start calls order) ⊎ (IsLinearizable start calls → ⊥)
@@ -291,7 +306,8 @@ module _ (start : Contents) (calls : List Operation) where
         let (fronts, each, all) = all_fronts in
         ⊎_elim
         (λ (l : IsLeastAmong fronts). inl
-        (l.order, record { is_order = l.is_order; least = λ other is. l.least other (all other (IsFront-from_order start calls other apart is)) is }))
+        (l.order, record { is_order = l.is_order; least = λ other is. l.least other
+            (all other (IsFront-from_order start calls other apart is)) is }))
         (λ (none : NoneAmong fronts). inr (λ h. none h.0 (all h.0 (IsFront-from_order start calls h.0 apart h.1)) h.1))
         (least_among fronts each)
 
@@ -319,36 +335,44 @@ module _ (start : Contents) (calls : List Operation) where
 
     counted_of : (xs : List (List ℕ)) → All (IsFront start calls) xs → AreCounted xs
     counted_of [] fronts =
-        record { counted = []; distinct = AllPairs-nil (λ a b. a ≢ b); each = All-nil (IsCounted start calls); all = λ f c h k l. absurd (Contains-nil f h) }
+        record { counted = []; distinct = AllPairs-nil (λ a b. a ≢ b); each = All-nil (IsCounted start calls); all =
+            λ f c h k l. absurd (Contains-nil f h) }
     counted_of (f ∷ xs) fronts =
         let is_front = All-head (IsFront start calls) f xs fronts in
-        by_cases (counted_of xs (All-tail (IsFront start calls) f xs fronts)) is_front (at_or_before_told f) (LeadsTo-exists start calls f is_front.known)
+        by_cases (counted_of xs (All-tail (IsFront start calls) f xs fronts)) is_front (at_or_before_told f)
+            (LeadsTo-exists start calls f is_front.known)
       where
-        by_cases : AreCounted xs → IsFront start calls f → IsTold (IsAtOrBeforeAll f) → (c : Configuration) × LeadsTo start calls f c → AreCounted (f ∷ xs)
+        by_cases : AreCounted xs → IsFront start calls f → IsTold (IsAtOrBeforeAll f) → (c : Configuration) × LeadsTo start calls f c
+            → AreCounted (f ∷ xs)
         by_cases old is_front (inr not) found = record {
           counted = old.counted;
           distinct = old.distinct;
           each = old.each;
-          all = λ g c h before leads. ⊎_elim (λ same. absurd (not (subst IsAtOrBeforeAll (sym same) before))) (λ later. old.all g c later before leads)
+          all = λ g c h before leads. ⊎_elim (λ same. absurd (not (subst IsAtOrBeforeAll (sym same) before)))
+              (λ later. old.all g c later before leads)
               (Contains-cases f xs g h);
         }
         by_cases old is_front (inl before) (d, leads_d) = of (visited_or_not old.counted d)
           where
-            here : (cs : List Configuration) → Contains cs d → (g : List ℕ) (c : Configuration) → f ≡ g → LeadsTo start calls g c → Contains cs c
+            here : (cs : List Configuration) → Contains cs d → (g : List ℕ) (c : Configuration) → f ≡ g
+                → LeadsTo start calls g c → Contains cs c
             here cs within g c same leads =
-                subst (Contains cs) (configuration_unique start calls f d c leads_d (subst (λ k. LeadsTo start calls k c) (sym same) leads)) within
+                subst (Contains cs) (configuration_unique start calls f d c leads_d (subst (λ k. LeadsTo start calls k c)
+                    (sym same) leads)) within
 
             of : IsTold (Contains old.counted d) → AreCounted (f ∷ xs)
             of (inl within) = record {
               counted = old.counted;
               distinct = old.distinct;
               each = old.each;
-              all = λ g c h k leads. ⊎_elim (λ same. here old.counted within g c same leads) (λ later. old.all g c later k leads) (Contains-cases f xs g h);
+              all = λ g c h k leads. ⊎_elim (λ same. here old.counted within g c same leads) (λ later. old.all g c later k leads)
+                  (Contains-cases f xs g h);
             }
             of (inr out) = record {
               counted = old.counted ++ d ∷ [];
               distinct =
-                  all_pairs_push (λ a b. a ≢ b) old.counted d old.distinct (λ k e within same. out (k, within, get_or_default old.counted k _ e within ∙ same));
+                  all_pairs_push (λ a b. a ≢ b) old.counted d old.distinct
+                      (λ k e within same. out (k, within, get_or_default old.counted k _ e within ∙ same));
               each = All-push (IsCounted start calls) old.counted d old.each
                   (record { front = f; is_front = is_front; leads = leads_d; at_or_before = before });
               all = λ g c h k leads. ⊎_elim (λ same. here (old.counted ++ d ∷ []) (Contains-push old.counted d) g c same leads)
@@ -363,7 +387,8 @@ module _ (start : Contents) (calls : List Operation) where
           record {
             counted = l.counted;
             distinct = l.distinct;
-            exact = λ c. (λ h. All-contains (IsCounted start calls) l.counted c l.each h, λ k. l.all k.front c (all k.front k.is_front) k.at_or_before k.leads);
+            exact = λ c. (λ h. All-contains (IsCounted start calls) l.counted c l.each h, λ k. l.all k.front c (all k.front k.is_front)
+                k.at_or_before k.leads);
             count = refl;
           },
         )

@@ -2,7 +2,8 @@
 use Rattle.std.proofs.Common.{◌≡◌, ℕ, List, Some, [], ◌∷◌, ◌++◌, sym, ap, ◌∙◌, subst, ⊎_elim}
 use Rattle.std.specs.Prelude.{slice_get, Contains}
 use Rattle.std.proofs.lemmas.List.{append-nil, append_assoc}
-use Rattle.std.proofs.lemmas.List.Elements.{Contains-append_left, Contains-append_right, Contains-append_cases, Contains-push, Contains-push_cases}
+use Rattle.std.proofs.lemmas.List.Elements.{Contains-append_left, Contains-append_right, Contains-append_cases, Contains-push}
+use Rattle.std.proofs.lemmas.List.Elements.{Contains-push_cases}
 use Rattle.events.specs.declared.operation.Operation.{Operation}
 use Rattle.map_object.specs.MapObject.{Contents}
 use Rattle.orders.specs.Orders.{IsLegalCall, after_call, after_calls, calls_at, IsOrder}
@@ -19,7 +20,8 @@ record AreAlike (start : Contents) (calls : List Operation) (f g : List ℕ) : T
   pairs : after_calls start (calls_at calls f) ≡ after_calls start (calls_at calls g)
 
 -- fronts that lead to one configuration are alike
-AreAlike-from_leads : (start : Contents) (calls : List Operation) (f g : List ℕ) (c : Configuration) → LeadsTo start calls f c → LeadsTo start calls g c
+AreAlike-from_leads : (start : Contents) (calls : List Operation) (f g : List ℕ) (c : Configuration) → LeadsTo start calls f c
+    → LeadsTo start calls g c
     → AreAlike start calls f g
 AreAlike-from_leads start calls f g c by_f by_g = record {
   to = λ n h. (by_g.taken n).0 ((by_f.taken n).1 h);
@@ -28,22 +30,26 @@ AreAlike-from_leads start calls f g c by_f by_g = record {
 }
 
 -- what is in a list with one more number is in another with the same one more
-members_push : (f g : List ℕ) (n : ℕ) → ((m : ℕ) → Contains f m → Contains g m) → (m : ℕ) → Contains (f ++ n ∷ []) m → Contains (g ++ n ∷ []) m
+members_push : (f g : List ℕ) (n : ℕ) → ((m : ℕ) → Contains f m → Contains g m) → (m : ℕ) → Contains (f ++ n ∷ []) m
+    → Contains (g ++ n ∷ []) m
 members_push f g n to m h =
     ⊎_elim (λ old. Contains-append_left g (n ∷ []) m (to m old)) (λ new. subst (λ k. Contains (g ++ n ∷ []) k) new (Contains-push g n))
     (Contains-push_cases f n m h)
 
 -- alike fronts are still alike after one more call
-AreAlike-push : (start : Contents) (calls : List Operation) (f g : List ℕ) (n : ℕ) (a : Operation) → slice_get calls n ≡ Some a → AreAlike start calls f g
+AreAlike-push : (start : Contents) (calls : List Operation) (f g : List ℕ) (n : ℕ) (a : Operation) → slice_get calls n ≡ Some a
+    → AreAlike start calls f g
     → AreAlike start calls (f ++ n ∷ []) (g ++ n ∷ [])
 AreAlike-push start calls f g n a here alike = record {
   to = members_push f g n alike.to;
   from = members_push g f n alike.from;
-  pairs = after_calls-push start calls f n a here ∙ ap (λ m. after_call m a.call a.response) alike.pairs ∙ sym (after_calls-push start calls g n a here);
+  pairs = after_calls-push start calls f n a here ∙ ap (λ m. after_call m a.call a.response) alike.pairs
+      ∙ sym (after_calls-push start calls g n a here);
 }
 
 -- a next call of a front is one of each front that is like it
-IsNext-alike : (start : Contents) (calls : List Operation) (f g : List ℕ) (n : ℕ) → AreAlike start calls f g → IsNext start calls f n → IsNext start calls g n
+IsNext-alike : (start : Contents) (calls : List Operation) (f g : List ℕ) (n : ℕ) → AreAlike start calls f g → IsNext start calls f n
+    → IsNext start calls g n
 IsNext-alike start calls f g n alike next = record {
   call = next.call;
   here = next.here;
@@ -64,15 +70,20 @@ same_future_if_alike start calls f g (n ∷ rest) alike is_front h =
     subst (IsFront start calls) (append_assoc g (n ∷ []) rest) more
 
 -- what may follow a front depends on its configuration alone
-pub same_future : (start : Contents) (calls : List Operation) (f g rest : List ℕ) (c : Configuration) → IsFront start calls g → LeadsTo start calls f c
+pub same_future : (start : Contents) (calls : List Operation) (f g rest : List ℕ) (c : Configuration) → IsFront start calls g
+    → LeadsTo start calls f c
     → LeadsTo start calls g c → IsFront start calls (f ++ rest) → IsFront start calls (g ++ rest)
-same_future start calls f g rest c is_front by_f by_g h = same_future_if_alike start calls f g rest (AreAlike-from_leads start calls f g c by_f by_g) is_front h
+same_future start calls f g rest c is_front by_f by_g h =
+    same_future_if_alike start calls f g rest (AreAlike-from_leads start calls f g c by_f by_g) is_front h
 
 -- what completes one front to an order completes each front that leads to the same configuration
-pub same_completion : (start : Contents) (calls : List Operation) (f g rest : List ℕ) (c : Configuration) → NonePrecedesItself calls → IsFront start calls g
+pub same_completion : (start : Contents) (calls : List Operation) (f g rest : List ℕ) (c : Configuration) → NonePrecedesItself calls
+    → IsFront start calls g
     → LeadsTo start calls f c → LeadsTo start calls g c → IsOrder start calls (f ++ rest) → IsOrder start calls (g ++ rest)
 same_completion start calls f g rest c none is_front by_f by_g h =
-    IsOrder-from_front start calls (g ++ rest) (same_future start calls f g rest c is_front by_f by_g (IsFront-from_order start calls (f ++ rest) none h))
+    IsOrder-from_front start calls (g ++ rest)
+        (same_future start calls f g rest c is_front by_f by_g (IsFront-from_order start calls (f ++ rest) none h))
     (λ n done.
-    ⊎_elim (λ taken. Contains-append_left g rest n ((by_g.taken n).0 ((by_f.taken n).1 taken))) (λ left. Contains-append_right g rest n left)
+    ⊎_elim (λ taken. Contains-append_left g rest n ((by_g.taken n).0 ((by_f.taken n).1 taken)))
+        (λ left. Contains-append_right g rest n left)
     (Contains-append_cases f rest n (h.complete n done)))

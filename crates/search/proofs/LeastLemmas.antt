@@ -29,7 +29,8 @@ least_order_by_fronts start calls order apart = (
   },
 )
 
-pub places_compare_as_numbers : (segment : SegmentView) (xs ys : List ℕ) → IsStrictlyIncreasing segment.numbers → All (λ n. n < length segment.numbers) xs
+pub places_compare_as_numbers : (segment : SegmentView) (xs ys : List ℕ) → IsStrictlyIncreasing segment.numbers
+    → All (λ n. n < length segment.numbers) xs
     → All (λ n. n < length segment.numbers) ys → is_at_or_before (numbers_at segment xs) (numbers_at segment ys) ≡ is_at_or_before xs ys
 places_compare_as_numbers segment [] ys rising below_x below_y = refl
 places_compare_as_numbers segment (x ∷ xs) [] rising below_x below_y = refl

@@ -23,7 +23,8 @@ pub is_at_or_before-cases : (x : ℕ) (xs : List ℕ) (y : ℕ) (ys : List ℕ) 
     → (x < y) ⊎ ((x ≡ y) × (is_at_or_before xs ys ≡ true))
 is_at_or_before-cases x xs y ys h = ⊎_elim
     (λ same. inr (same, sym (is_at_or_before-same y xs ys) ∙ ap (λ k. is_at_or_before (k ∷ xs) (y ∷ ys)) (sym same) ∙ h))
-    (λ apart. ⊎_elim (λ lower. inl lower) (λ higher. absurd (both_ways _ (is_at_or_before-higher x xs y ys higher) h)) apart) (cases_order x y)
+    (λ apart. ⊎_elim (λ lower. inl lower) (λ higher. absurd (both_ways _ (is_at_or_before-higher x xs y ys higher) h))
+        apart) (cases_order x y)
 
 -- a list is at or before itself
 pub is_at_or_before-refl : (xs : List ℕ) → is_at_or_before xs xs ≡ true
@@ -53,11 +54,13 @@ is_at_or_before-trans (x ∷ xs) (y ∷ ys) (z ∷ zs) h k =
     by_cases (is_at_or_before-trans xs ys zs) (is_at_or_before-cases x xs y ys h) (is_at_or_before-cases y ys z zs k)
   where
     by_cases : (is_at_or_before xs ys ≡ true → is_at_or_before ys zs ≡ true → is_at_or_before xs zs ≡ true)
-        → (x < y) ⊎ ((x ≡ y) × (is_at_or_before xs ys ≡ true)) → (y < z) ⊎ ((y ≡ z) × (is_at_or_before ys zs ≡ true)) → is_at_or_before (x ∷ xs) (z ∷ zs) ≡ true
+        → (x < y) ⊎ ((x ≡ y) × (is_at_or_before xs ys ≡ true)) → (y < z) ⊎ ((y ≡ z) × (is_at_or_before ys zs ≡ true))
+        → is_at_or_before (x ∷ xs) (z ∷ zs) ≡ true
     by_cases rest (inl lower) (inl also) = is_at_or_before-lower x xs z zs (omega arith)
     by_cases rest (inl lower) (inr same) = is_at_or_before-lower x xs z zs (omega (arith, same.0))
     by_cases rest (inr same) (inl lower) = is_at_or_before-lower x xs z zs (omega (arith, same.0))
-    by_cases rest (inr same) (inr also) = ap (λ j. is_at_or_before (j ∷ xs) (z ∷ zs)) (same.0 ∙ also.0) ∙ is_at_or_before-same z xs zs ∙ rest same.1 also.1
+    by_cases rest (inr same) (inr also) = ap (λ j. is_at_or_before (j ∷ xs) (z ∷ zs)) (same.0 ∙ also.0) ∙ is_at_or_before-same z xs zs
+        ∙ rest same.1 also.1
 
 -- two lists, each at or before the other, are the same
 pub is_at_or_before-antisym : (xs ys : List ℕ) → is_at_or_before xs ys ≡ true → is_at_or_before ys xs ≡ true → xs ≡ ys
@@ -67,7 +70,8 @@ is_at_or_before-antisym (x ∷ xs) [] h k = absurd (false≢true h)
 is_at_or_before-antisym (x ∷ xs) (y ∷ ys) h k =
     by_cases (is_at_or_before-antisym xs ys) (is_at_or_before-cases x xs y ys h) (is_at_or_before-cases y ys x xs k)
   where
-    by_cases : (is_at_or_before xs ys ≡ true → is_at_or_before ys xs ≡ true → xs ≡ ys) → (x < y) ⊎ ((x ≡ y) × (is_at_or_before xs ys ≡ true))
+    by_cases : (is_at_or_before xs ys ≡ true → is_at_or_before ys xs ≡ true → xs ≡ ys) → (x < y)
+        ⊎ ((x ≡ y) × (is_at_or_before xs ys ≡ true))
         → (y < x) ⊎ ((y ≡ x) × (is_at_or_before ys xs ≡ true)) → x ∷ xs ≡ y ∷ ys
     by_cases rest (inl lower) (inl higher) = absurd (omega arith)
     by_cases rest (inl lower) (inr same) = absurd (omega (arith, same.0))
@@ -106,7 +110,8 @@ pub record IsLowerAtDifference (xs ys : List ℕ) : Type 0 where
   pub lower : x < y
 
 -- a list at or before another begins it, or is lower at their first difference
-pub is_at_or_before-parts : (xs ys : List ℕ) → is_at_or_before xs ys ≡ true → ((rest : List ℕ) × (ys ≡ xs ++ rest)) ⊎ IsLowerAtDifference xs ys
+pub is_at_or_before-parts : (xs ys : List ℕ) → is_at_or_before xs ys ≡ true → ((rest : List ℕ) × (ys ≡ xs ++ rest))
+    ⊎ IsLowerAtDifference xs ys
 is_at_or_before-parts [] ys h = inl (ys, refl)
 is_at_or_before-parts (x ∷ xs) [] h = absurd (false≢true h)
 is_at_or_before-parts (x ∷ xs) (y ∷ ys) h =
@@ -127,10 +132,14 @@ is_at_or_before-parts (x ∷ xs) (y ∷ ys) h =
     })
 
     by_cases : (is_at_or_before xs ys ≡ true → ((rest : List ℕ) × (ys ≡ xs ++ rest)) ⊎ IsLowerAtDifference xs ys)
-        → (x < y) ⊎ ((x ≡ y) × (is_at_or_before xs ys ≡ true)) → ((rest : List ℕ) × (y ∷ ys ≡ (x ∷ xs) ++ rest)) ⊎ IsLowerAtDifference (x ∷ xs) (y ∷ ys)
-    by_cases rest (inl lower) = inr (record { front = []; x = x; x_rest = xs; y = y; y_rest = ys; xs_is = refl; ys_is = refl; lower = lower })
+        → (x < y) ⊎ ((x ≡ y) × (is_at_or_before xs ys ≡ true)) → ((rest : List ℕ) × (y ∷ ys ≡ (x ∷ xs) ++ rest))
+        ⊎ IsLowerAtDifference (x ∷ xs) (y ∷ ys)
+    by_cases rest (inl lower) = inr (record { front = []; x = x; x_rest = xs; y = y; y_rest = ys; xs_is = refl; ys_is =
+        refl; lower = lower })
     by_cases rest (inr same) = behind same.0 (rest same.1)
 
 -- some calls have one least order
-pub IsLeastOrder-unique : (start : Contents) (calls : List Operation) (a b : List ℕ) → IsLeastOrder start calls a → IsLeastOrder start calls b → a ≡ b
-IsLeastOrder-unique start calls a b least_a least_b = is_at_or_before-antisym a b (least_a.least b least_b.is_order) (least_b.least a least_a.is_order)
+pub IsLeastOrder-unique : (start : Contents) (calls : List Operation) (a b : List ℕ) → IsLeastOrder start calls a
+    → IsLeastOrder start calls b → a ≡ b
+IsLeastOrder-unique start calls a b least_a least_b =
+    is_at_or_before-antisym a b (least_a.least b least_b.is_order) (least_b.least a least_a.is_order)

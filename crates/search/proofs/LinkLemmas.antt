@@ -1,13 +1,16 @@
 -- Nodes that are taken out of a list by its links, and put back.
-use Rattle.std.proofs.Common.{◌≡◌, ℕ, zero, suc, ◌+◌, ◌<◌, ◌≤◌, ◌==◌, Bool, true, false, not, ◌||◌, List, [], ◌∷◌, ◌++◌, length, set, refl, sym, ap, ◌∙◌, subst}
+use Rattle.std.proofs.Common.{◌≡◌, ℕ, zero, suc, ◌+◌, ◌<◌, ◌≤◌, ◌==◌, Bool, true, false, not, ◌||◌, List, [], ◌∷◌, ◌++◌, length, set, refl}
+use Rattle.std.proofs.Common.{sym, ap, ◌∙◌, subst}
 use Rattle.std.proofs.Common.{inl, inr, ⊎_elim, arith}
 use Rattle.std.specs.Prelude.{◌≢◌, ◌⊎◌, slice_index, filter, All, AllPairs, Contains}
 use Rattle.std.proofs.lemmas.Bool.{both_ways, cases_Bool, false_from_ne_true, eq-eqb}
 use Rattle.std.proofs.lemmas.List.{get_or-set_same, get_or-set_other, set-get_or, length-set}
-use Rattle.std.proofs.lemmas.List.Elements.{All-head, All-tail, All-contains, All-weaker, Contains-append_cases, Contains-append_left, Contains-append_right}
+use Rattle.std.proofs.lemmas.List.Elements.{All-head, All-tail, All-contains, All-weaker, Contains-append_cases, Contains-append_left}
+use Rattle.std.proofs.lemmas.List.Elements.{Contains-append_right}
 use Rattle.std.proofs.lemmas.List.Elements.{filter-append}
 use Rattle.list_laws.specs.Lists.{has_number}
-use Rattle.list_laws.proofs.Lists.{AllPairs-head, AllPairs-tail, AllPairs-back, AllPairs-across, Contains-first, Contains-later, Contains-nil, Contains-cases}
+use Rattle.list_laws.proofs.Lists.{AllPairs-head, AllPairs-tail, AllPairs-back, AllPairs-across, Contains-first, Contains-later}
+use Rattle.list_laws.proofs.Lists.{Contains-nil, Contains-cases}
 use Rattle.list_laws.proofs.Lists.{Contains-split, Contains-filter, Contains-from_filter, Contains-range, filter_all, All-from_contains}
 use Rattle.list_laws.proofs.FilterLemmas.{filter_implied}
 use Rattle.list_laws.proofs.RisingLemmas.{IsStrictlyIncreasing-range}
@@ -20,7 +23,8 @@ use Rattle.search.specs.Links.{LinksView, AreWithin, unlinked, put_back, linked_
 -- the numbers of a range are below its end
 pub range_below : (size n : ℕ) → Contains (range_with_len 0 size) n → n < size
 range_below size n h =
-    omega (arith, h.1, h.2, length-range_with_len 0 size, get_or-range_with_len 0 size h.0 n (omega (arith, h.1, length-range_with_len 0 size)))
+    omega (arith, h.1, h.2, length-range_with_len 0 size, get_or-range_with_len 0 size h.0 n
+        (omega (arith, h.1, length-range_with_len 0 size)))
 
 -- links with the same parts are the same
 same_links : (l m : LinksView) → l.after ≡ m.after → l.before ≡ m.before → l ≡ m
@@ -40,9 +44,12 @@ set_back : (xs : List ℕ) (i a b : ℕ) → slice_index xs i ≡ b → set (set
 set_back xs i a b is = set_twice xs i a b ∙ ap (set xs i) (sym is) ∙ set-get_or xs i 0
 
 -- links that agree on the nodes of a chain have the chain
-IsChain-same : (l m : LinksView) (from : ℕ) (nodes : List ℕ) (size : ℕ) → ((n : ℕ) → Contains (from ∷ nodes) n → slice_index m.after n ≡ slice_index l.after n)
-    → ((n : ℕ) → Contains (size ∷ nodes) n → slice_index m.before n ≡ slice_index l.before n) → IsChain l from nodes size → IsChain m from nodes size
-IsChain-same l m from [] size after before chain = (after from (Contains-first from []) ∙ chain.0, before size (Contains-first size []) ∙ chain.1)
+IsChain-same : (l m : LinksView) (from : ℕ) (nodes : List ℕ) (size : ℕ)
+    → ((n : ℕ) → Contains (from ∷ nodes) n → slice_index m.after n ≡ slice_index l.after n)
+    → ((n : ℕ) → Contains (size ∷ nodes) n → slice_index m.before n ≡ slice_index l.before n) → IsChain l from nodes size
+    → IsChain m from nodes size
+IsChain-same l m from [] size after before chain =
+    (after from (Contains-first from []) ∙ chain.0, before size (Contains-first size []) ∙ chain.1)
 IsChain-same l m from (y ∷ nodes) size after before chain = (
   after from (Contains-first from (y ∷ nodes)) ∙ chain.0,
   before y (Contains-later size (y ∷ nodes) y (Contains-first y nodes)) ∙ chain.1,
@@ -95,21 +102,24 @@ module _ (l : LinksView) (p size : ℕ) (within : AreWithin l) (p_within : p < s
   last = slice_index l.before p
 
   after_same : (from : ℕ) → from < length l.after → from ≡ last → slice_index (unlinked l p).after from ≡ next
-  after_same from h is = ap (slice_index (unlinked l p).after) is ∙ get_or-set_same l.after last next 0 (subst (λ n. n < length l.after) is h)
+  after_same from h is = ap (slice_index (unlinked l p).after) is
+      ∙ get_or-set_same l.after last next 0 (subst (λ n. n < length l.after) is h)
 
   after_other : (n : ℕ) → n ≢ last → slice_index (unlinked l p).after n ≡ slice_index l.after n
   after_other n apart = get_or-set_other l.after last n next 0 apart
 
   before_same : (n : ℕ) → n < length l.after → n ≡ next → slice_index (unlinked l p).before n ≡ last
   before_same n h is =
-      ap (slice_index (unlinked l p).before) is ∙ get_or-set_same l.before next last 0 (subst (λ k. k < length l.before) is (omega (arith, within.same)))
+      ap (slice_index (unlinked l p).before) is
+          ∙ get_or-set_same l.before next last 0 (subst (λ k. k < length l.before) is (omega (arith, within.same)))
 
   before_other : (n : ℕ) → n ≢ next → slice_index (unlinked l p).before n ≡ slice_index l.before n
   before_other n apart = get_or-set_other l.before next n last 0 apart
 
   -- a chain without one of its nodes
   IsChain-unlink : (from : ℕ) (front back : List ℕ) → from < length l.after → All (λ n. n < size) (front ++ p ∷ back)
-      → AllPairs (λ a b. a ≢ b) (from ∷ front ++ p ∷ back) → IsChain l from (front ++ p ∷ back) size → IsChain (unlinked l p) from (front ++ back) size
+      → AllPairs (λ a b. a ≢ b) (from ∷ front ++ p ∷ back) → IsChain l from (front ++ p ∷ back) size
+      → IsChain (unlinked l p) from (front ++ back) size
   IsChain-unlink from [] [] in_range below distinct chain =
       (after_same from in_range (sym chain.1) ∙ chain.2.0, before_same size size_within (sym chain.2.0) ∙ chain.1)
   IsChain-unlink from [] (b ∷ back) in_range below distinct chain =
@@ -117,12 +127,14 @@ module _ (l : LinksView) (p size : ℕ) (within : AreWithin l) (p_within : p < s
       let b_below = All-head (λ n. n < size) b back (All-tail (λ n. n < size) p (b ∷ back) below) in
       let from_apart = AllPairs-head (λ a b. a ≢ b) from (p ∷ b ∷ back) distinct in
       let b_apart =
-      AllPairs-head (λ a b. a ≢ b) b back (AllPairs-tail (λ a b. a ≢ b) p (b ∷ back) (AllPairs-tail (λ a b. a ≢ b) from (p ∷ b ∷ back) distinct)) in (
+      AllPairs-head (λ a b. a ≢ b) b back (AllPairs-tail (λ a b. a ≢ b) p (b ∷ back) (AllPairs-tail (λ a b. a ≢ b) from
+          (p ∷ b ∷ back) distinct)) in (
         after_same from in_range (sym chain.1) ∙ chain.2.0,
         before_same b (omega arith) b_next ∙ chain.1,
         IsChain-same l (unlinked l p) b back size
             (λ n h. after_other n
-            (λ is. not_within from (p ∷ b ∷ back) from_apart (Contains-later p (b ∷ back) from (subst (Contains (b ∷ back)) (is ∙ chain.1) h))))
+            (λ is. not_within from (p ∷ b ∷ back) from_apart
+                (Contains-later p (b ∷ back) from (subst (Contains (b ∷ back)) (is ∙ chain.1) h))))
             (λ n h. before_other n
             (λ is. ⊎_elim (λ size_is. absurd (omega (arith, size_is, is, chain.2.0)))
             (λ in_back. not_within b back b_apart (subst (Contains back) (is ∙ chain.2.0) in_back)) (Contains-cases size back n h)))
@@ -139,7 +151,8 @@ module _ (l : LinksView) (p size : ℕ) (within : AreWithin l) (p_within : p < s
             (subst (Contains (y ∷ front ++ p ∷ back)) (sym is) (Contains-append_left (y ∷ front) (p ∷ back) last near.last))) ∙ chain.0,
         before_other y (λ is. ⊎_elim (λ size_is. absurd (omega (arith, size_is, is)))
             (λ in_back. not_within y (front ++ p ∷ back) y_apart
-            (subst (Contains (front ++ p ∷ back)) (sym is) (Contains-append_right front (p ∷ back) next (Contains-later p back next in_back))))
+            (subst (Contains (front ++ p ∷ back)) (sym is)
+                (Contains-append_right front (p ∷ back) next (Contains-later p back next in_back))))
             (Contains-cases size back next near.next)) ∙ chain.1,
         IsChain-unlink y front back (omega arith) (All-tail (λ n. n < size) y (front ++ p ∷ back) below) rest chain.2,
       )
@@ -150,7 +163,8 @@ module _ (l : LinksView) (p size : ℕ) (within : AreWithin l) (p_within : p < s
   put_back-unlinked front back below distinct chain =
       let near = around l size front p back size chain in
       let last_apart : p ≢ last = λ is. ⊎_elim (λ size_is. absurd (omega (arith, size_is, is)))
-      (λ in_front. All-contains (λ x. All (λ k. x ≢ k) (p ∷ back)) front last (AllPairs-across (λ a b. a ≢ b) front (p ∷ back) distinct) in_front 0 p
+      (λ in_front. All-contains (λ x. All (λ k. x ≢ k) (p ∷ back)) front last
+          (AllPairs-across (λ a b. a ≢ b) front (p ∷ back) distinct) in_front 0 p
       (omega arith) (sym is)) (Contains-cases size front last near.last) in
       let next_apart : p ≢ next = λ is. ⊎_elim (λ size_is. absurd (omega (arith, size_is, is)))
       (λ in_back. not_within p back (AllPairs-head (λ a b. a ≢ b) p back (AllPairs-back (λ a b. a ≢ b) front (p ∷ back) distinct))
@@ -180,7 +194,8 @@ module _ (l : LinksView) (p size : ℕ) (within : AreWithin l) (p_within : p < s
       → AllPairs (λ a b. a ≢ b) (from ∷ nodes) → IsChain l from nodes size → IsChain (linked_last l size p) from (nodes ++ p ∷ []) size
   IsChain-push from [] in_range apart below others distinct chain = (
     after_at_last from in_range apart (sym chain.1),
-    get_or-set_other (set l.before p end) size p p 0 (λ is. absurd (omega arith)) ∙ get_or-set_same l.before p end 0 (omega (arith, within.same)) ∙ chain.1,
+    get_or-set_other (set l.before p end) size p p 0 (λ is. absurd (omega arith))
+        ∙ get_or-set_same l.before p end 0 (omega (arith, within.same)) ∙ chain.1,
     (
       get_or-set_same (set l.after end p) p size 0 (omega (arith, length-set l.after end p)),
       get_or-set_same (set l.before p end) size p 0 (omega (arith, length-set l.before p end, within.same)),
@@ -192,9 +207,11 @@ module _ (l : LinksView) (p size : ℕ) (within : AreWithin l) (p_within : p < s
       let y_apart = All-head (λ n. n ≢ p) y nodes others in (
         get_or-set_other (set l.after end p) p from size 0 apart
             ∙ get_or-set_other l.after end from p 0
-            (λ is. not_within from (y ∷ nodes) (AllPairs-head (λ a b. a ≢ b) from (y ∷ nodes) distinct) (subst (Contains (y ∷ nodes)) (sym is) at_end))
+            (λ is. not_within from (y ∷ nodes) (AllPairs-head (λ a b. a ≢ b) from (y ∷ nodes) distinct)
+                (subst (Contains (y ∷ nodes)) (sym is) at_end))
             ∙ chain.0,
-        get_or-set_other (set l.before p end) size y p 0 (λ is. absurd (omega arith)) ∙ get_or-set_other l.before p y end 0 y_apart ∙ chain.1,
+        get_or-set_other (set l.before p end) size y p 0 (λ is. absurd (omega arith))
+            ∙ get_or-set_other l.before p y end 0 y_apart ∙ chain.1,
         IsChain-push y nodes (omega arith) y_apart (All-tail (λ n. n < size) y nodes below) (All-tail (λ n. n ≢ p) y nodes others)
             (AllPairs-tail (λ a b. a ≢ b) from (y ∷ nodes) distinct) chain.2,
       )
@@ -227,7 +244,8 @@ without-none order = all_left [] order (λ n h taken. Contains-nil n taken)
 pub without-parts : (order out front back : List ℕ) (p : ℕ) → AllPairs (λ a b. a ≢ b) order → without order out ≡ front ++ p ∷ back
     → without order (p ∷ out) ≡ front ++ back
 without-parts order out front back p distinct is =
-    sym (filter_implied (λ n. not (has_number (p ∷ out) n)) (λ n. not (has_number out n)) order (λ n h. implied (p == n) (has_number out n) h))
+    sym (filter_implied (λ n. not (has_number (p ∷ out) n)) (λ n. not (has_number out n)) order
+        (λ n h. implied (p == n) (has_number out n) h))
     ∙ ap (filter (λ n. not (has_number (p ∷ out) n))) is
     ∙ filter-append (λ n. not (has_number (p ∷ out) n)) front (p ∷ back)
     ∙ ap (λ xs. xs ++ filter (λ n. not (has_number (p ∷ out) n)) (p ∷ back))
@@ -245,15 +263,18 @@ without-parts order out front back p distinct is =
 
     in_front : (n : ℕ) → Contains front n → p ≡ n → ⊥
     in_front n h same =
-        All-contains (λ x. All (λ k. x ≢ k) (p ∷ back)) front n (AllPairs-across (λ a b. a ≢ b) front (p ∷ back) parts) h 0 p (omega arith) (sym same)
+        All-contains (λ x. All (λ k. x ≢ k) (p ∷ back)) front n (AllPairs-across (λ a b. a ≢ b) front (p ∷ back) parts) h 0 p
+            (omega arith) (sym same)
 
     in_back : (n : ℕ) → Contains back n → p ≡ n → ⊥
     in_back n h same =
-        not_within p back (AllPairs-head (λ a b. a ≢ b) p back (AllPairs-back (λ a b. a ≢ b) front (p ∷ back) parts)) (subst (Contains back) (sym same) h)
+        not_within p back (AllPairs-head (λ a b. a ≢ b) p back (AllPairs-back (λ a b. a ≢ b) front (p ∷ back) parts))
+            (subst (Contains back) (sym same) h)
 
     apart : (n : ℕ) → Contains (front ++ p ∷ back) n → (p ≡ n → ⊥) → Contains (p ∷ out) n → ⊥
     apart n within other taken =
-        ⊎_elim other (λ old. (left-from_Contains order out n (subst (λ xs. Contains xs n) (sym is) within)).1 old) (Contains-cases p out n taken)
+        ⊎_elim other (λ old. (left-from_Contains order out n (subst (λ xs. Contains xs n) (sym is) within)).1 old)
+            (Contains-cases p out n taken)
 
 -- the links go through what is left
 pub IsChain-left : (size : ℕ) (order out : List ℕ) (l : LinksView) → AreLeft size order out l → IsChain l size (without order out) size
@@ -262,13 +283,15 @@ IsChain-left size order (p ∷ out) l left = left.0
 
 -- a node that is left is taken out
 pub AreLeft-take : (size : ℕ) (order out : List ℕ) (l : LinksView) (p : ℕ) → AreWithin l → size < length l.after → All (λ n. n < size) order
-    → AllPairs (λ a b. a ≢ b) order → Contains order p → (Contains out p → ⊥) → AreLeft size order out l → AreLeft size order (p ∷ out) (unlinked l p)
+    → AllPairs (λ a b. a ≢ b) order → Contains order p → (Contains out p → ⊥) → AreLeft size order out l
+    → AreLeft size order (p ∷ out) (unlinked l p)
 AreLeft-take size order out l p within size_within below distinct in_order new left =
     let (front, back, is) = Contains-split (without order out) p (left-Contains order out p in_order new) in
     let chain = subst (λ xs. IsChain l size xs size) is (IsChain-left size order out l left) in
     let all_below =
     subst (All (λ n. n < size)) is
-    (All-from_contains (λ n. n < size) (without order out) (λ n h. All-contains (λ n. n < size) order n below (left-from_Contains order out n h).0)) in
+    (All-from_contains (λ n. n < size) (without order out)
+        (λ n h. All-contains (λ n. n < size) order n below (left-from_Contains order out n h).0)) in
     let all_apart = subst (AllPairs (λ a b. a ≢ b)) is (AllPairs-filter (λ a b. a ≢ b) (λ n. not (has_number out n)) order distinct) in
     let p_below = All-contains (λ n. n < size) order p below in_order in
     let all_with_end =
@@ -276,7 +299,8 @@ AreLeft-take size order out l p within size_within below distinct in_order new l
     (All-weaker (λ n. n < size) (λ n. size ≢ n) (λ n lt same. absurd (omega arith)) (front ++ p ∷ back) all_below) all_apart in (
       subst (λ xs. IsChain (unlinked l p) size xs size) (sym (without-parts order out front back p distinct is))
           (IsChain-unlink l p size within p_below size_within size front back size_within all_below all_with_end chain),
-      subst (AreLeft size order out) (sym (put_back-unlinked l p size within p_below size_within front back all_below all_apart chain)) left,
+      subst (AreLeft size order out) (sym (put_back-unlinked l p size within p_below size_within front back all_below
+          all_apart chain)) left,
     )
 
 -- the first of some nodes, or the end
@@ -292,7 +316,8 @@ after-chain l from [] p (b ∷ back) size chain = chain.2.0
 after-chain l from (y ∷ front) p back size chain = after-chain l y front p back size chain.2
 
 -- the link from the end leads to the first
-pub after-end : (l : LinksView) (from : ℕ) (nodes : List ℕ) (size : ℕ) → IsChain l from nodes size → slice_index l.after from ≡ first_or nodes size
+pub after-end : (l : LinksView) (from : ℕ) (nodes : List ℕ) (size : ℕ) → IsChain l from nodes size
+    → slice_index l.after from ≡ first_or nodes size
 after-end l from [] size chain = chain.0
 after-end l from (y ∷ nodes) size chain = chain.0
 
@@ -316,14 +341,16 @@ module _ (size : ℕ) (out : List ℕ) (l : LinksView) (left : AreLeft size (ran
   taken_or_left k lt =
       ⊎_elim (λ e. inl (has_number-Contains out k e))
       (λ e. inr
-      (left-Contains (range_with_len 0 size) out k (Contains-range size k lt) (λ h. both_ways (has_number out k) e (has_number-from_Contains out k h))))
+      (left-Contains (range_with_len 0 size) out k (Contains-range size k lt)
+          (λ h. both_ways (has_number out k) e (has_number-from_Contains out k h))))
       (cases_Bool (has_number out k))
 
   below : (n : ℕ) → Contains remaining n → n < size
   below n h = range_below size n (left-from_Contains (range_with_len 0 size) out n h).0
 
   -- the next one, where what is left from a number on is this
-  of_rest : (from : ℕ) (rest : List ℕ) → from ≤ size → AllPairs (λ a b. a < b) rest → ((n : ℕ) → Contains rest n → Contains remaining n × (from ≤ n))
+  of_rest : (from : ℕ) (rest : List ℕ) → from ≤ size → AllPairs (λ a b. a < b) rest
+      → ((n : ℕ) → Contains rest n → Contains remaining n × (from ≤ n))
       → ((n : ℕ) → from ≤ n → Contains remaining n → Contains rest n) → IsNextLeft size out from (first_or rest size)
   of_rest from [] le up to back = record {
     later = le;
@@ -346,7 +373,8 @@ module _ (size : ℕ) (out : List ℕ) (l : LinksView) (left : AreLeft size (ran
       }
 
   pub IsNextLeft-first : IsNextLeft size out 0 (slice_index l.after size)
-  IsNextLeft-first = subst (IsNextLeft size out 0) (sym (after-end l size remaining size (IsChain-left size (range_with_len 0 size) out l left)))
+  IsNextLeft-first = subst (IsNextLeft size out 0)
+      (sym (after-end l size remaining size (IsChain-left size (range_with_len 0 size) out l left)))
       (of_rest 0 remaining (omega arith) rising (λ n h. (h, omega arith)) (λ n le h. h))
 
   pub IsNextLeft-after : (p : ℕ) → p < size → (Contains out p → ⊥) → IsNextLeft size out (p + 1) (slice_index l.after p)
@@ -362,6 +390,7 @@ module _ (size : ℕ) (out : List ℕ) (l : LinksView) (left : AreLeft size (ran
       (λ n h. let up = All-contains (λ b. p < b) back n higher h in
       (subst (λ xs. Contains xs n) (sym is) (Contains-append_right front (p ∷ back) n (Contains-later p back n h)), omega arith))
       (λ n le h. ⊎_elim
-      (λ in_front. let low = All-contains (λ x. All (λ k. x < k) (p ∷ back)) front n lower in_front 0 p (omega arith) in absurd (omega arith))
+      (λ in_front. let low = All-contains (λ x. All (λ k. x < k) (p ∷ back)) front n lower in_front 0 p
+          (omega arith) in absurd (omega arith))
       (λ rest. ⊎_elim (λ same. absurd (omega (arith, same))) (λ later. later) (Contains-cases p back n rest))
       (Contains-append_cases front (p ∷ back) n (subst (λ xs. Contains xs n) is h))))

@@ -27,7 +27,8 @@ pub record IsLongestSoFar (segment : SegmentView) (standing : Standing) (front :
   pub is_front : IsFront segment.start segment.calls places
   pub reached : (c : Configuration) × Contains standing.memo c × LeadsTo segment.start segment.calls places c
   pub most : All (λ c. length c.taken ≤ length places) standing.memo
-  pub least : (other : List ℕ) → IsFront segment.start segment.calls other → length other ≡ length places → is_at_or_before places other ≡ true
+  pub least : (other : List ℕ) → IsFront segment.start segment.calls other → length other ≡ length places
+      → is_at_or_before places other ≡ true
 
 -- a front has as many numbers as places
 pub as_long_as : (segment : SegmentView) (front path : List ℕ) → front ≡ numbers_at segment path → length front ≡ length path
@@ -56,8 +57,10 @@ module _ (segment : SegmentView) (standing : Standing) (s : Stands segment.start
   longest-open front is one =
       let (c, here, leads) = s.stands_at in
       let visited = Contains-at standing.memo standing.at c here in
-      let opening = visited_from_front segment.start segment.calls path standing.next standing.memo s.cursor [] (configuration_of [] segment.start)
-      (IsFront-nil segment.start segment.calls) (LeadsTo-nil segment.start segment.calls) (ComesBefore-from_at_or_before path [] standing.next refl) in
+      let opening = visited_from_front segment.start segment.calls path standing.next standing.memo s.cursor []
+          (configuration_of [] segment.start)
+      (IsFront-nil segment.start segment.calls) (LeadsTo-nil segment.start segment.calls)
+          (ComesBefore-from_at_or_before path [] standing.next refl) in
       let same = only standing.memo one c (configuration_of [] segment.start) visited opening in
       let none : length path ≡ 0 = sym (as_many c leads) ∙ ap (λ (x : Configuration). length x.taken) same in
       record {
@@ -66,7 +69,8 @@ module _ (segment : SegmentView) (standing : Standing) (s : Stands segment.start
         is_front = s.cursor.is_front;
         reached = (c, visited, leads);
         most = All-from_contains (λ d. length d.taken ≤ length path) standing.memo (λ d h.
-            subst (λ (x : Configuration). length x.taken ≤ length path) (only standing.memo one c d visited h) (omega (arith, as_many c leads)));
+            subst (λ (x : Configuration). length x.taken ≤ length path) (only standing.memo one c d visited h)
+                (omega (arith, as_many c leads)));
         least = λ other is_front long. nothing_first path other none;
       }
     where
@@ -91,18 +95,21 @@ module _ (segment : SegmentView) (old new : Standing) (longest : List ℕ) (stoo
       (λ (c, is, leads, fewer, at_cursor). subst (All (λ d. length d.taken ≤ most)) (sym is)
       (All-from_contains (λ d. length d.taken ≤ most) (old.memo ++ c ∷ []) (λ d h. ⊎_elim
       (λ earlier. All-contains (λ e. length e.taken ≤ most) old.memo d before earlier)
-      (λ last. subst (λ (e : Configuration). length e.taken ≤ most) last (omega (arith, as_many segment new moved.stands c leads, new_within)))
+      (λ last. subst (λ (e : Configuration). length e.taken ≤ most) last
+          (omega (arith, as_many segment new moved.stands c leads, new_within)))
       (Contains-push_cases old.memo c d h))))
       moved.progress
     where
       before : All (λ c. length c.taken ≤ most) old.memo
-      before = All-weaker (λ c. length c.taken ≤ length was.places) (λ c. length c.taken ≤ most) (λ c h. omega (arith, h, old_within)) old.memo was.most
+      before = All-weaker (λ c. length c.taken ≤ length was.places) (λ c. length c.taken ≤ most)
+          (λ c h. omega (arith, h, old_within)) old.memo was.most
 
   -- what was visited stays so
   visited_still : (c : Configuration) → Contains old.memo c → Contains new.memo c
   visited_still c h = ⊎_elim
       (λ tried. subst (λ (memo : List Configuration). Contains memo c) (sym tried.0) h)
-      (λ visited. subst (λ (memo : List Configuration). Contains memo c) (sym visited.1) (Contains-append_left old.memo (visited.0 ∷ []) c h))
+      (λ visited. subst (λ (memo : List Configuration). Contains memo c) (sym visited.1)
+          (Contains-append_left old.memo (visited.0 ∷ []) c h))
       moved.progress
 
   -- the longest front stays where no more calls are taken now
@@ -117,7 +124,8 @@ module _ (segment : SegmentView) (old new : Standing) (longest : List ℕ) (stoo
   }
 
   -- else the calls taken now are the longest, and a front as long that comes before them would have been met
-  pub longest-longer : (front : List ℕ) → front ≡ numbers_at segment (places new.levels.items) → length was.places < length (places new.levels.items)
+  pub longest-longer : (front : List ℕ) → front ≡ numbers_at segment (places new.levels.items)
+      → length was.places < length (places new.levels.items)
       → IsLongestSoFar segment new front
   longest-longer front is more =
       let (c, here, leads) = moved.stands.stands_at in
@@ -135,7 +143,8 @@ module _ (segment : SegmentView) (old new : Standing) (longest : List ℕ) (stoo
           → is_at_or_before (cursor (places old.levels.items) old.next) other ≡ false → ⊥
       none_behind other is_front long before =
           let (d, leads) = LeadsTo-exists segment.start segment.calls other is_front.known in
-          let visited = visited_from_front segment.start segment.calls (places old.levels.items) old.next old.memo stood.cursor other d is_front leads before in
+          let visited = visited_from_front segment.start segment.calls (places old.levels.items) old.next old.memo stood.cursor other d
+              is_front leads before in
           absurd (omega (
             arith,
             All-contains (λ e. length e.taken ≤ length was.places) old.memo d was.most visited,
@@ -156,6 +165,7 @@ module _ (segment : SegmentView) (old new : Standing) (longest : List ℕ) (stoo
             All-contains (λ e. length e.taken ≤ length was.places) old.memo c was.most
                 (subst (λ (memo : List Configuration). Contains memo c) tried.0 (Contains-at new.memo new.at c here)),
           )))
-          (λ visited. absurd (none_behind other is_front long (ap (λ (path : List ℕ). is_at_or_before path other) (sym visited.4) ∙ behind)))
+          (λ visited. absurd (none_behind other is_front long (ap (λ (path : List ℕ). is_at_or_before path other)
+              (sym visited.4) ∙ behind)))
           moved.progress)
           (cases_Bool (is_at_or_before (places new.levels.items) other))

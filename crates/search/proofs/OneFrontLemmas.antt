@@ -21,7 +21,8 @@ use Rattle.search.proofs.MemoLemmas.{visited_or_not}
 
 module _ (start : Contents) (calls : List Operation) (budget : ℕ) where
   -- of two lists of configurations met, what is in one alone came behind all of the other
-  all_before : (met others : List Configuration) → HasMetEnough start calls budget met → HasMetEnough start calls budget others → (c : Configuration)
+  all_before : (met others : List Configuration) → HasMetEnough start calls budget met → HasMetEnough start calls budget others
+      → (c : Configuration)
       → Contains met c → (Contains others c → ⊥) → (d : Configuration) → Contains others d → Contains met d
   all_before met others h k c within out d there =
       let one = All-contains (IsMetInTurn start calls met) met c h.in_turn within in
@@ -32,7 +33,8 @@ module _ (start : Contents) (calls : List Operation) (budget : ℕ) where
       (is_at_or_before-total one.front other.front)
 
   -- two searches met the same
-  same_met : NonePrecedesItself calls → (met others : List Configuration) → HasMetEnough start calls budget met → HasMetEnough start calls budget others
+  same_met : NonePrecedesItself calls → (met others : List Configuration) → HasMetEnough start calls budget met
+      → HasMetEnough start calls budget others
       → (c : Configuration) → Contains met c → Contains others c
   same_met apart met others h k c within = ⊎_elim (λ is. is)
       (λ out.
@@ -43,7 +45,8 @@ module _ (start : Contents) (calls : List Operation) (budget : ℕ) where
       let longer = length-distinct more met distinct (All-from_contains (Contains met) more (λ d there. ⊎_elim
       (λ earlier. all_before met others h k c within out d earlier)
       (λ is. subst (Contains met) is within) (Contains-push_cases others c d there))) in
-      absurd (omega (arith, longer, length-append others (c ∷ []), h.few, k.enough count has, counted_within start calls count met has h.distinct h.each)))
+      absurd (omega (arith, longer, length-append others (c ∷ []), h.few, k.enough count has, counted_within start calls count met has
+          h.distinct h.each)))
       (visited_or_not others c)
 
 -- so the longest fronts are as long
@@ -52,9 +55,11 @@ no_longer : (budget : ℕ) (segment : SegmentView) (a b : List ℕ) → NonePrec
 no_longer budget segment a b apart h k =
     let (c, within, leads) = h.reached in
     let there = same_met segment.start segment.calls budget apart h.met k.met h.enough k.enough c within in
-    omega (arith, length-taken segment.start segment.calls h.places c h.is_front leads, All-contains (λ c. length c.taken ≤ length k.places) k.met c k.most there)
+    omega (arith, length-taken segment.start segment.calls h.places c h.is_front leads, All-contains
+        (λ c. length c.taken ≤ length k.places) k.met c k.most there)
 
-pub one_longest_front : (budget : ℕ) (segment : SegmentView) (a b : List ℕ) → NonePrecedesItself segment.calls → IsLongestFront budget segment a
+pub one_longest_front : (budget : ℕ) (segment : SegmentView) (a b : List ℕ) → NonePrecedesItself segment.calls
+    → IsLongestFront budget segment a
     → IsLongestFront budget segment b → a ≡ b
 one_longest_front budget segment a b apart h k =
     let at_most = no_longer budget segment a b apart h k in

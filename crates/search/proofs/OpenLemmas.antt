@@ -1,11 +1,13 @@
 -- The links of a walk before its first call, and where it stands there.
-use Rattle.std.proofs.Common.{◌≡◌, ℕ, zero, suc, ◌+◌, ◌-◌, ◌<◌, ◌≤◌, true, List, Some, [], ◌∷◌, ◌++◌, length, get_or, set, take, drop, refl, sym, ap, ◌∙◌}
+use Rattle.std.proofs.Common.{◌≡◌, ℕ, zero, suc, ◌+◌, ◌-◌, ◌<◌, ◌≤◌, true, List, Some, [], ◌∷◌, ◌++◌, length, get_or, set, take, drop, refl}
+use Rattle.std.proofs.Common.{sym, ap, ◌∙◌}
 use Rattle.std.proofs.Common.{subst, inl, inr, ⊎_elim, arith}
 use Rattle.std.specs.Prelude.{◌≢◌, ◌⊎◌, slice_get, slice_index, All, AllPairs, Contains}
 use Rattle.std.specs.List.{range_with_len}
 use Rattle.std.proofs.lemmas.Bool.{cases_lt}
 use Rattle.std.proofs.lemmas.List.{length-set, take_more, take-append-drop}
-use Rattle.std.proofs.lemmas.List.Elements.{All-nil, All-cons, All-weaker, All-contains, All-take, Contains-get_or, Contains-append_left, Contains-append_right}
+use Rattle.std.proofs.lemmas.List.Elements.{All-nil, All-cons, All-weaker, All-contains, All-take, Contains-get_or, Contains-append_left}
+use Rattle.std.proofs.lemmas.List.Elements.{Contains-append_right}
 use Rattle.std.proofs.lemmas.List.Elements.{Contains-append_cases}
 use Rattle.std.proofs.lemmas.List.Kept.{AllPairs-cons}
 use Rattle.std.proofs.lemmas.Option.{none-some}
@@ -14,7 +16,8 @@ use Rattle.events.specs.declared.operation.Operation.{Operation}
 use Rattle.events.specs.Precedence.{is_before, NonePrecedesItself}
 use Rattle.map_object.specs.MapObject.{Contents}
 use Rattle.configurations.specs.Configurations.{Configuration}
-use Rattle.list_laws.proofs.Lists.{AllPairs-append, AllPairs-front, AllPairs-back, AllPairs-across, All-front, All-back, Contains-first, Contains-later}
+use Rattle.list_laws.proofs.Lists.{AllPairs-append, AllPairs-front, AllPairs-back, AllPairs-across, All-front, All-back, Contains-first}
+use Rattle.list_laws.proofs.Lists.{Contains-later}
 use Rattle.list_laws.proofs.Lists.{Contains-cases, Contains-nil, All-from_contains}
 use Rattle.configurations.proofs.ConfigurationLemmas.{configuration_of, LeadsTo-nil}
 use Rattle.search.specs.declared.standing.Level.{Level}
@@ -36,13 +39,15 @@ range_push n =
     ap (range_with_len 0) one ∙ range_more 0 n ∙ ap (λ k. range_with_len 0 n ++ k ∷ []) same
 
 -- a chain from the end goes on with one more node
-pub IsChain-more : (l : LinksView) (p size : ℕ) (nodes : List ℕ) → AreWithin l → length l.after ≡ size + 1 → p < size → All (λ n. n < size) nodes
+pub IsChain-more : (l : LinksView) (p size : ℕ) (nodes : List ℕ) → AreWithin l → length l.after ≡ size + 1 → p < size
+    → All (λ n. n < size) nodes
     → All (λ n. n ≢ p) nodes → AllPairs (λ a b. a ≢ b) nodes → IsChain l size nodes size → (length (linked_last l size p).after ≡ size + 1)
     × IsChain (linked_last l size p) size (nodes ++ p ∷ []) size
 IsChain-more l p size nodes within len lt below others distinct chain = (
   length-set (set l.after (slice_index l.before size) p) p size ∙ length-set l.after (slice_index l.before size) p ∙ len,
   IsChain-push l p size within lt (omega arith) size nodes (omega arith) (λ is. absurd (omega arith)) below others
-      (AllPairs-cons (λ a b. a ≢ b) size nodes (All-weaker (λ n. n < size) (λ n. size ≢ n) (λ n lt same. absurd (omega arith)) nodes below) distinct) chain,
+      (AllPairs-cons (λ a b. a ≢ b) size nodes
+          (All-weaker (λ n. n < size) (λ n. size ≢ n) (λ n lt same. absurd (omega arith)) nodes below) distinct) chain,
 )
 
 -- the next node of a list of distinct ones is none of those before it
@@ -54,12 +59,14 @@ not_before xs i d lt distinct = All-from_contains (λ n. n ≢ get_or xs i d) (t
 
 -- the links of an order, one place further
 pub IsChain-next : (calls : List Operation) (order : List ℕ) (l : LinksView) (i d size : ℕ) → IsByAnswer calls size order → AreWithin l
-    → length l.after ≡ size + 1 → i < length order → IsChain l size (take i order) size → (length (linked_last l size (get_or order i d)).after ≡ size + 1)
+    → length l.after ≡ size + 1 → i < length order → IsChain l size (take i order) size
+    → (length (linked_last l size (get_or order i d)).after ≡ size + 1)
     × IsChain (linked_last l size (get_or order i d)) size (take (i + 1) order) size
 IsChain-next calls order l i d size sorted within len lt chain =
     let p_below = All-contains (λ n. n < size) order (get_or order i d) sorted.below (Contains-get_or order i d lt) in
     let distinct =
-    AllPairs-front (λ a b. a ≢ b) (take i order) (drop i order) (subst (AllPairs (λ a b. a ≢ b)) (sym (take-append-drop i order)) sorted.distinct) in
+    AllPairs-front (λ a b. a ≢ b) (take i order) (drop i order)
+        (subst (AllPairs (λ a b. a ≢ b)) (sym (take-append-drop i order)) sorted.distinct) in
     let more =
     IsChain-more l (get_or order i d) size (take i order) within len p_below (All-take (λ n. n < size) i order sorted.below)
     (not_before order i d lt sorted.distinct) distinct chain in
@@ -68,27 +75,35 @@ IsChain-next calls order l i d size sorted within len lt chain =
 -- ---- the order of answers
 
 -- a call put among others that stand by their answers, behind those answered no later and before those answered no earlier
-pub IsByAnswer-insert : (calls : List Operation) (n at : ℕ) (order : List ℕ) → IsByAnswer calls n order → All (λ m. IsNoLater calls m n) (take at order)
+pub IsByAnswer-insert : (calls : List Operation) (n at : ℕ) (order : List ℕ) → IsByAnswer calls n order
+    → All (λ m. IsNoLater calls m n) (take at order)
     → All (IsNoLater calls n) (drop at order) → IsByAnswer calls (n + 1) (take at order ++ n ∷ drop at order)
 IsByAnswer-insert calls n at order sorted before behind = record {
   below = All-from_contains (λ m. m < n + 1) (take at order ++ n ∷ drop at order)
-      (λ m h. ⊎_elim (λ is. omega (arith, is)) (λ old. let lt = All-contains (λ m. m < n) order m sorted.below old in omega arith) (members m h));
-  distinct = AllPairs-append (λ a b. a ≢ b) (take at order) (n ∷ drop at order) (AllPairs-front (λ a b. a ≢ b) (take at order) (drop at order) distinct)
+      (λ m h. ⊎_elim (λ is. omega (arith, is))
+          (λ old. let lt = All-contains (λ m. m < n) order m sorted.below old in omega arith) (members m h));
+  distinct = AllPairs-append (λ a b. a ≢ b) (take at order) (n ∷ drop at order)
+      (AllPairs-front (λ a b. a ≢ b) (take at order) (drop at order) distinct)
       (AllPairs-cons (λ a b. a ≢ b) n (drop at order)
       (All-weaker (λ m. m < n) (λ m. n ≢ m) (λ m lt same. absurd (omega arith)) (drop at order)
-      (All-back (λ m. m < n) (take at order) (drop at order) below)) (AllPairs-back (λ a b. a ≢ b) (take at order) (drop at order) distinct))
+      (All-back (λ m. m < n) (take at order) (drop at order) below))
+          (AllPairs-back (λ a b. a ≢ b) (take at order) (drop at order) distinct))
       (All-from_contains (λ x. All (λ b. x ≢ b) (n ∷ drop at order)) (take at order) (λ x h. All-cons (λ b. x ≢ b) n (drop at order)
-      (let lt = All-contains (λ m. m < n) (take at order) x (All-front (λ m. m < n) (take at order) (drop at order) below) h in λ same. absurd (omega arith))
-      (All-contains (λ x. All (λ b. x ≢ b) (drop at order)) (take at order) x (AllPairs-across (λ a b. a ≢ b) (take at order) (drop at order) distinct) h)));
+      (let lt = All-contains (λ m. m < n) (take at order) x (All-front (λ m. m < n) (take at order) (drop at order) below) h in λ same.
+          absurd (omega arith))
+      (All-contains (λ x. All (λ b. x ≢ b) (drop at order)) (take at order) x
+          (AllPairs-across (λ a b. a ≢ b) (take at order) (drop at order) distinct) h)));
   all = λ m lt. ⊎_elim
       (λ old. put m (sorted.all m old))
       (λ le. let same : n ≡ m = omega arith in
       subst (Contains (take at order ++ n ∷ drop at order)) same
       (Contains-append_right (take at order) (n ∷ drop at order) n (Contains-first n (drop at order))))
       (cases_lt m n);
-  sorted = AllPairs-append (IsNoLater calls) (take at order) (n ∷ drop at order) (AllPairs-front (IsNoLater calls) (take at order) (drop at order) pairs)
+  sorted = AllPairs-append (IsNoLater calls) (take at order) (n ∷ drop at order)
+      (AllPairs-front (IsNoLater calls) (take at order) (drop at order) pairs)
       (AllPairs-cons (IsNoLater calls) n (drop at order) behind (AllPairs-back (IsNoLater calls) (take at order) (drop at order) pairs))
-      (All-from_contains (λ x. All (IsNoLater calls x) (n ∷ drop at order)) (take at order) (λ x h. All-cons (IsNoLater calls x) n (drop at order)
+      (All-from_contains (λ x. All (IsNoLater calls x) (n ∷ drop at order)) (take at order)
+          (λ x h. All-cons (IsNoLater calls x) n (drop at order)
       (All-contains (λ m. IsNoLater calls m n) (take at order) x before h)
       (All-contains (λ x. All (IsNoLater calls x) (drop at order)) (take at order) x
       (AllPairs-across (IsNoLater calls) (take at order) (drop at order) pairs) h)));
@@ -107,8 +122,10 @@ IsByAnswer-insert calls n at order sorted before behind = record {
     below = subst (All (λ m. m < n)) whole sorted.below
 
     members : (m : ℕ) → Contains (take at order ++ n ∷ drop at order) m → (n ≡ m) ⊎ Contains order m
-    members m h = ⊎_elim (λ front. inr (subst (λ xs. Contains xs m) (sym whole) (Contains-append_left (take at order) (drop at order) m front)))
-        (λ rest. ⊎_elim (λ is. inl is) (λ back. inr (subst (λ xs. Contains xs m) (sym whole) (Contains-append_right (take at order) (drop at order) m back)))
+    members m h = ⊎_elim (λ front. inr (subst (λ xs. Contains xs m) (sym whole) (Contains-append_left (take at order)
+        (drop at order) m front)))
+        (λ rest. ⊎_elim (λ is. inl is) (λ back. inr (subst (λ xs. Contains xs m) (sym whole) (Contains-append_right (take at order)
+            (drop at order) m back)))
         (Contains-cases n (drop at order) m rest))
         (Contains-append_cases (take at order) (n ∷ drop at order) m h)
 
@@ -123,7 +140,8 @@ pub IsNoLater-from_read : (calls : List Operation) (m n : ℕ) (a b : Operation)
 IsNoLater-from_read calls m n a b here there h = λ place answered. rw here (h place (rw there at answered))
 
 -- one call more is passed from the back
-pub passed_back : (calls : List Operation) (order : List ℕ) (at n d : ℕ) → 0 < at → at ≤ length order → IsNoLater calls n (get_or order (at - 1) d)
+pub passed_back : (calls : List Operation) (order : List ℕ) (at n d : ℕ) → 0 < at → at ≤ length order
+    → IsNoLater calls n (get_or order (at - 1) d)
     → All (IsNoLater calls n) (drop at order) → All (IsNoLater calls n) (drop (at - 1) order)
 passed_back calls order at n d some le here behind =
     let cut = drop-cons order (at - 1) d (omega arith) in
@@ -141,23 +159,29 @@ stopped_back calls count order (suc at) n d sorted le here =
     let at_is : suc at - 1 ≡ at = omega arith in
     let one : at + 1 ≡ suc at = omega arith in
     let taken = sym (ap (λ k. take k order) one) ∙ take_more order at d (omega arith) in
-    let whole = subst (AllPairs (IsNoLater calls)) (sym (take-append-drop (suc at) order) ∙ ap (λ xs. xs ++ drop (suc at) order) taken) sorted.sorted in
+    let whole = subst (AllPairs (IsNoLater calls))
+        (sym (take-append-drop (suc at) order) ∙ ap (λ xs. xs ++ drop (suc at) order) taken) sorted.sorted in
     let front = AllPairs-front (IsNoLater calls) (take at order ++ get_or order at d ∷ []) (drop (suc at) order) whole in
     let last_is = subst (λ k. IsNoLater calls (get_or order k d) n) at_is last in
-    subst (All (λ m. IsNoLater calls m n)) (sym taken) (All-from_contains (λ m. IsNoLater calls m n) (take at order ++ get_or order at d ∷ []) (λ m h. ⊎_elim
+    subst (All (λ m. IsNoLater calls m n)) (sym taken)
+        (All-from_contains (λ m. IsNoLater calls m n) (take at order ++ get_or order at d ∷ []) (λ m h. ⊎_elim
     (λ earlier place answered. All-contains (λ x. All (IsNoLater calls x) (get_or order at d ∷ [])) (take at order) m
-    (AllPairs-across (IsNoLater calls) (take at order) (get_or order at d ∷ []) front) earlier 0 d (omega arith) place (last_is place answered))
-    (λ same. ⊎_elim (λ is. subst (λ k. IsNoLater calls k n) is last_is) (λ none. absurd (Contains-nil m none)) (Contains-cases (get_or order at d) [] m same))
+    (AllPairs-across (IsNoLater calls) (take at order) (get_or order at d ∷ []) front) earlier 0 d (omega arith) place
+        (last_is place answered))
+    (λ same. ⊎_elim (λ is. subst (λ k. IsNoLater calls k n) is last_is) (λ none. absurd (Contains-nil m none))
+        (Contains-cases (get_or order at d) [] m same))
     (Contains-append_cases (take at order) (get_or order at d ∷ []) m h)))
 
 -- ---- before the first call
 
-pub StandsWith-open : (start : Contents) (calls : List Operation) (levels : List Level) (next : ℕ) (pairs : Contents) (visited : List Configuration)
+pub StandsWith-open : (start : Contents) (calls : List Operation) (levels : List Level) (next : ℕ) (pairs : Contents)
+    (visited : List Configuration)
     (by_number by_answer : LinksView) → NonePrecedesItself calls → levels ≡ [] → pairs ≡ start → visited ≡ configuration_of [] start ∷ []
     → next ≡ slice_index by_number.after (length calls) → length by_number.after ≡ length calls + 1
     → IsChain by_number (length calls) (range_with_len 0 (length calls)) (length calls) → length by_answer.after ≡ length calls + 1
     → IsLinkedByAnswer calls by_answer → StandsWith start calls levels next 0 pairs visited by_number by_answer
-StandsWith-open start calls levels next pairs visited by_number by_answer apart levels_is pairs_is visited_is next_is number_size chain answer_size
+StandsWith-open start calls levels next pairs visited by_number by_answer apart levels_is pairs_is visited_is next_is
+    number_size chain answer_size
     (order, sorted, by) =
     rw (levels_is, pairs_is, visited_is, next_is) (record {
       cursor =
@@ -171,7 +195,8 @@ StandsWith-open start calls levels next pairs visited by_number by_answer apart 
       holds = refl;
       stands_at = (configuration_of [] start, refl, LeadsTo-nil start calls);
       remembers = λ i level is. absurd (none-some level is);
-      links = record { number_size = number_size; answer_size = answer_size; calls_left = chain; order = order; sorted = sorted; answers_left = by };
+      links = record { number_size = number_size; answer_size = answer_size; calls_left = chain; order = order; sorted = sorted;
+          answers_left = by };
     })
   where
     left : IsNextLeft (length calls) [] 0 (slice_index by_number.after (length calls))

@@ -1,5 +1,6 @@
 -- A change of one key is undone by putting the key back.
-use Rattle.std.proofs.Common.{◌≡◌, ℕ, ◌<◌, Bool, true, false, Option, Some, None, [], ◌∷◌, ◌++◌, refl, sym, ap, ◌∙◌, inl, inr, ⊎_elim, arith}
+use Rattle.std.proofs.Common.{◌≡◌, ℕ, ◌<◌, Bool, true, false, Option, Some, None, [], ◌∷◌, ◌++◌, refl, sym, ap, ◌∙◌, inl, inr, ⊎_elim}
+use Rattle.std.proofs.Common.{arith}
 use Rattle.std.specs.Prelude.{◌⊎◌, All, if◌then◌else◌}
 use Rattle.std.proofs.lemmas.Bool.{cases_order}
 use Rattle.std.proofs.lemmas.Bool.Decides.{nat_tests}
@@ -7,7 +8,8 @@ use Rattle.events.specs.declared.event.Call.{Call}
 use Rattle.events.specs.declared.event.Call.TheVariants.{Insert, Remove, Replace}
 use Rattle.map_object.specs.MapObject.{Contents, IsRising, value_at, below, above, after, put, is_just}
 use Rattle.list_laws.proofs.Lists.{AllPairs-head, AllPairs-tail}
-use Rattle.map_object.proofs.MapLemmas.{AreAbove, AreBelow-below, AreAbove-above, below_none, above_all, value_at_above, below_found, above_found, below_gap}
+use Rattle.map_object.proofs.MapLemmas.{AreAbove, AreBelow-below, AreAbove-above, below_none, above_all, value_at_above, below_found}
+use Rattle.map_object.proofs.MapLemmas.{above_found, below_gap}
 use Rattle.map_object.proofs.MapLemmas.{above_gap}
 use Rattle.search.specs.Undo.{restoring}
 
@@ -17,7 +19,8 @@ with_value key None front back = front ++ back
 with_value key (Some value) front back = front ++ (key, value) ∷ back
 
 -- what putting a key back leaves
-after-restoring : (m : Contents) (key : ℕ) (value : Option ℕ) → after m (restoring key value) ≡ with_value key value (below key m) (above key m)
+after-restoring : (m : Contents) (key : ℕ) (value : Option ℕ)
+    → after m (restoring key value) ≡ with_value key value (below key m) (above key m)
 after-restoring m key None = refl
 after-restoring m key (Some value) = refl
 
@@ -29,7 +32,8 @@ with_value-cons pair key (Some value) front back = refl
 -- pairs are those below a key, its own, and those above it
 pub joined : (m : Contents) (key : ℕ) → IsRising m → with_value key (value_at m key) (below key m) (above key m) ≡ m
 joined [] key rising = refl
-joined ((k, value) ∷ m) key rising = by_cases (joined m key (AllPairs-tail (λ (a : ℕ × ℕ) (b : ℕ × ℕ). a.0 < b.0) (k, value) m rising)) (cases_order k key)
+joined ((k, value) ∷ m) key rising = by_cases (joined m key (AllPairs-tail (λ (a : ℕ × ℕ) (b : ℕ × ℕ). a.0 < b.0) (k, value) m rising))
+    (cases_order k key)
   where
     higher : All (λ (b : ℕ × ℕ). k < b.0) m
     higher = AllPairs-head (λ (a : ℕ × ℕ) (b : ℕ × ℕ). a.0 < b.0) (k, value) m rising
@@ -64,10 +68,13 @@ joined ((k, value) ∷ m) key rising = by_cases (joined m key (AllPairs-tail (λ
     higher_above : key < k → above key ((k, value) ∷ m) ≡ (k, value) ∷ m
     higher_above lt = grind (arith, nat_tests, above_all key m (all_above key (inl lt)))
 
-    parts : (o : Option ℕ) (front back : Contents) → value_at ((k, value) ∷ m) key ≡ o → below key ((k, value) ∷ m) ≡ front → above key ((k, value) ∷ m) ≡ back
-        → with_value key (value_at ((k, value) ∷ m) key) (below key ((k, value) ∷ m)) (above key ((k, value) ∷ m)) ≡ with_value key o front back
+    parts : (o : Option ℕ) (front back : Contents) → value_at ((k, value) ∷ m) key ≡ o → below key ((k, value) ∷ m) ≡ front
+        → above key ((k, value) ∷ m) ≡ back
+        → with_value key (value_at ((k, value) ∷ m) key) (below key ((k, value) ∷ m))
+            (above key ((k, value) ∷ m)) ≡ with_value key o front back
     parts o front back e f g =
-        ap (λ x. with_value key x (below key ((k, value) ∷ m)) (above key ((k, value) ∷ m))) e ∙ ap (λ x. with_value key o x (above key ((k, value) ∷ m))) f
+        ap (λ x. with_value key x (below key ((k, value) ∷ m)) (above key ((k, value) ∷ m))) e
+            ∙ ap (λ x. with_value key o x (above key ((k, value) ∷ m))) f
         ∙ ap (λ x. with_value key o front x) g
 
     by_cases : with_value key (value_at m key) (below key m) (above key m) ≡ m → (k ≡ key) ⊎ ((k < key) ⊎ (key < k))
@@ -85,7 +92,8 @@ module _ (m : Contents) (key : ℕ) (rising : IsRising m) where
       let low = AreBelow-below m key in
       let high = AreAbove-above m key in
       after-restoring (after m (Insert key value)) key (value_at m key)
-      ∙ ap (λ x. with_value key (value_at m key) x (above key (after m (Insert key value)))) (below_found key value (below key m) (above key m) low high)
+      ∙ ap (λ x. with_value key (value_at m key) x (above key (after m (Insert key value))))
+          (below_found key value (below key m) (above key m) low high)
       ∙ ap (λ x. with_value key (value_at m key) (below key m) x) (above_found key value (below key m) (above key m) low high)
       ∙ joined m key rising
 
@@ -103,16 +111,21 @@ module _ (m : Contents) (key : ℕ) (rising : IsRising m) where
   pub replace_undone : (expected value : ℕ) → after (after m (Replace key expected value)) (restoring key (value_at m key)) ≡ m
   replace_undone expected value = by_test (is_just (value_at m key) expected) refl
     where
-      by_test : (test : Bool) → is_just (value_at m key) expected ≡ test → after (after m (Replace key expected value)) (restoring key (value_at m key)) ≡ m
+      by_test : (test : Bool) → is_just (value_at m key) expected ≡ test
+          → after (after m (Replace key expected value)) (restoring key (value_at m key)) ≡ m
       by_test true is = ap (λ b. after (if b then put key value m else m) (restoring key (value_at m key))) is ∙ insert_undone value
       by_test false is =
-          ap (λ b. after (if b then put key value m else m) (restoring key (value_at m key))) is ∙ after-restoring m key (value_at m key) ∙ joined m key rising
+          ap (λ b. after (if b then put key value m else m) (restoring key (value_at m key))) is ∙ after-restoring m key (value_at m key)
+              ∙ joined m key rising
 
 -- a change of a key is undone
 pub change_undone : (m : Contents) (call : Call) (key : ℕ) → IsRising m
-    → ((value : ℕ) × (call ≡ Insert key value)) ⊎ ((call ≡ Remove key) ⊎ ((expected : ℕ) × (value : ℕ) × (call ≡ Replace key expected value)))
+    → ((value : ℕ) × (call ≡ Insert key value))
+    ⊎ ((call ≡ Remove key) ⊎ ((expected : ℕ) × (value : ℕ) × (call ≡ Replace key expected value)))
     → after (after m call) (restoring key (value_at m key)) ≡ m
-change_undone m call key rising (inl (value, is)) = ap (λ d. after (after m d) (restoring key (value_at m key))) is ∙ insert_undone m key rising value
-change_undone m call key rising (inr (inl is)) = ap (λ d. after (after m d) (restoring key (value_at m key))) is ∙ remove_undone m key rising
+change_undone m call key rising (inl (value, is)) = ap (λ d. after (after m d) (restoring key (value_at m key))) is
+    ∙ insert_undone m key rising value
+change_undone m call key rising (inr (inl is)) = ap (λ d. after (after m d) (restoring key (value_at m key))) is
+    ∙ remove_undone m key rising
 change_undone m call key rising (inr (inr (expected, value, is))) =
     ap (λ d. after (after m d) (restoring key (value_at m key))) is ∙ replace_undone m key rising expected value

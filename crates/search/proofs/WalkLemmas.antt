@@ -1,5 +1,6 @@
 -- How a walk stands after each of its steps.
-use Rattle.std.proofs.Common.{◌≡◌, ℕ, ◌+◌, ◌-◌, ◌<◌, ◌≤◌, not, true, List, Option, Some, None, [], ◌∷◌, ◌++◌, length, take, reverse, refl, sym, ap, ◌∙◌, subst}
+use Rattle.std.proofs.Common.{◌≡◌, ℕ, ◌+◌, ◌-◌, ◌<◌, ◌≤◌, not, true, List, Option, Some, None, [], ◌∷◌, ◌++◌, length, take, reverse, refl}
+use Rattle.std.proofs.Common.{sym, ap, ◌∙◌, subst}
 use Rattle.std.proofs.Common.{⊎_elim, arith}
 use Rattle.std.specs.Prelude.{◌⊎◌, ◌↔◌, slice_get, slice_index, AllPairs, Contains}
 use Rattle.std.specs.List.{range_with_len}
@@ -18,7 +19,8 @@ use Rattle.map_object.specs.MapObject.{Contents}
 use Rattle.orders.specs.Orders.{IsLegalCall, after_call, IsOrder}
 use Rattle.configurations.specs.Fronts.{IsFront, PrecedesAt}
 use Rattle.configurations.specs.Configurations.{Configuration, LeadsTo}
-use Rattle.list_laws.proofs.Lists.{slice_get-append_left, slice_get-middle, place-push, AllPairs-head, AllPairs-at, Contains-first, Contains-nil}
+use Rattle.list_laws.proofs.Lists.{slice_get-append_left, slice_get-middle, place-push, AllPairs-head, AllPairs-at, Contains-first}
+use Rattle.list_laws.proofs.Lists.{Contains-nil}
 use Rattle.list_laws.proofs.Lists.{Contains-cases, Contains-range, All-from_contains}
 use Rattle.list_laws.proofs.NumberLemmas.{slice_get-below}
 use Rattle.orders.proofs.OrderLemmas.{after_calls-push}
@@ -32,11 +34,13 @@ use Rattle.search.specs.Links.{LinksView, AreWithin, unlinked, put_back, AreLeft
 use Rattle.search.specs.Undo.{undone}
 use Rattle.search.specs.Standing.{first_pairs, IsExhausted, places, pairs_after, IsConfigurationAt, Remembers, IsAnsweredBefore, IsNoLater}
 use Rattle.search.specs.Standing.{AreLinksOf, StandsWith, untried}
-use Rattle.search.proofs.LinkLemmas.{range_below, first_or, after-end, IsChain-left, AreLeft-take, left-Contains, left-from_Contains, IsNextLeft-first}
+use Rattle.search.proofs.LinkLemmas.{range_below, first_or, after-end, IsChain-left, AreLeft-take, left-Contains, left-from_Contains}
+use Rattle.search.proofs.LinkLemmas.{IsNextLeft-first}
 use Rattle.search.proofs.LinkLemmas.{IsNextLeft-after}
 use Rattle.search.proofs.EarliestLemmas.{distinct_from_increasing}
 use Rattle.search.proofs.BeforeLemmas.{ComesBefore-itself}
-use Rattle.search.proofs.CursorLemmas.{taken_again, StandsAtCursor-pass, StandsAtCursor-seen, StandsAtCursor-push, StandsAtCursor-pop, none_at_end}
+use Rattle.search.proofs.CursorLemmas.{taken_again, StandsAtCursor-pass, StandsAtCursor-seen, StandsAtCursor-push, StandsAtCursor-pop}
+use Rattle.search.proofs.CursorLemmas.{none_at_end}
 use Rattle.search.proofs.CursorLemmas.{HasCount-at_end}
 
 -- ---- lists
@@ -66,7 +70,8 @@ reverse-push : (levels : List Level) (level : Level) → reverse (places (levels
 reverse-push levels level = ap reverse (places-push levels level) ∙ reverse-append (places levels) (level.place ∷ [])
 
 -- fewer calls are untried where the next one is later
-pub untried-less : (size : ℕ) (levels : List Level) (next later : ℕ) → next < later → later ≤ size → untried size levels later < untried size levels next
+pub untried-less : (size : ℕ) (levels : List Level) (next later : ℕ) → next < later → later ≤ size
+    → untried size levels later < untried size levels next
 untried-less size [] next later lt le = omega arith
 untried-less size (level ∷ levels) next later lt le = omega (arith, untried-less size levels next later lt le)
 
@@ -83,7 +88,8 @@ answer_place (Some response) = Some response.res
 
 -- ---- what is left
 
-module _ (calls : List Operation) (path : List ℕ) (by_number by_answer : LinksView) (links : AreLinksOf calls (reverse path) by_number by_answer) where
+module _ (calls : List Operation) (path : List ℕ) (by_number by_answer : LinksView)
+    (links : AreLinksOf calls (reverse path) by_number by_answer) where
   abbrev size : ℕ
   size = length calls
 
@@ -100,7 +106,8 @@ module _ (calls : List Operation) (path : List ℕ) (by_number by_answer : Links
       (λ h. r.new (Contains-from_reverse path r.n h))
 
   -- what remains was answered no earlier than the first
-  first_is_earliest : (xs : List ℕ) → answers ≡ xs → (place : ℕ) (r : RemainsBefore calls path place) → (x : ℕ) → first_or xs size ≡ x → x < size
+  first_is_earliest : (xs : List ℕ) → answers ≡ xs → (place : ℕ) (r : RemainsBefore calls path place) → (x : ℕ)
+      → first_or xs size ≡ x → x < size
       → IsAnsweredBefore calls x place
   first_is_earliest [] is place r x first lt = absurd (Contains-nil r.n (subst (λ ys. Contains ys r.n) is (remains_in place r)))
   first_is_earliest (y ∷ ys) is place r x first lt = subst (λ k. IsAnsweredBefore calls k place) first (⊎_elim
@@ -108,7 +115,8 @@ module _ (calls : List Operation) (path : List ℕ) (by_number by_answer : Links
       (λ later. All-contains (IsNoLater calls y) ys r.n
       (AllPairs-head (IsNoLater calls) y ys
       (subst (AllPairs (IsNoLater calls)) is
-      (AllPairs-filter (IsNoLater calls) (λ n. not (has_number (reverse path) n)) links.order links.sorted.sorted))) later place (rw r.here r.before))
+      (AllPairs-filter (IsNoLater calls) (λ n. not (has_number (reverse path) n)) links.order links.sorted.sorted))) later place
+          (rw r.here r.before))
       (Contains-cases y ys r.n (subst (λ zs. Contains zs r.n) is (remains_in place r))))
 
   -- no call is left
@@ -118,7 +126,8 @@ module _ (calls : List Operation) (path : List ℕ) (by_number by_answer : Links
       none : (xs : List ℕ) → answers ≡ xs → (place : ℕ) (r : RemainsBefore calls path place) → ⊥
       none [] same place r = Contains-nil r.n (subst (λ ys. Contains ys r.n) same (remains_in place r))
       none (y ∷ ys) same place r =
-          let in_order = (left-from_Contains links.order (reverse path) y (subst (λ zs. Contains zs y) (sym same) (Contains-first y ys))).0 in
+          let in_order = (left-from_Contains links.order (reverse path) y (subst (λ zs. Contains zs y) (sym same)
+              (Contains-first y ys))).0 in
           let y_below = All-contains (λ n. n < size) links.order y links.sorted.below in_order in
           let y_is : slice_index by_answer.after size ≡ y = first_answer ∙ ap (λ zs. first_or zs size) same in
           absurd (omega arith)
@@ -144,26 +153,32 @@ module _ (calls : List Operation) (path : List ℕ) (by_number by_answer : Links
       rw here at h
 
   -- its answer is the earliest
-  pub earliest-first : (x : ℕ) (a : Operation) → slice_index by_answer.after size ≡ x → x < size → slice_get calls x ≡ Some a → (response : Option Response)
+  pub earliest-first : (x : ℕ) (a : Operation) → slice_index by_answer.after size ≡ x → x < size → slice_get calls x ≡ Some a
+      → (response : Option Response)
       → a.response ≡ response → IsEarliestAnswer calls path (answer_place response)
-  earliest-first x a is lt here None pending = λ place r. false≢true (ap (λ o. is_before o place) (sym pending) ∙ answered_first x a is lt here place r)
+  earliest-first x a is lt here None pending =
+      λ place r. false≢true (ap (λ o. is_before o place) (sym pending) ∙ answered_first x a is lt here place r)
   earliest-first x a is lt here (Some response) done = λ place. (
-    λ later. record { n = x; call = a; here = here; new = first_new x is lt; before = ap (λ o. is_before o place) done ∙ lt-ltb response.res place later },
+    λ later. record { n = x; call = a; here = here; new = first_new x is lt; before = ap (λ o. is_before o place) done ∙ lt-ltb
+        response.res place later },
     λ r. ltb-true response.res place (ap (λ o. is_before o place) (sym done) ∙ answered_first x a is lt here place r),
   )
 
 -- one configuration more changes nothing of the first
-first_pairs-push : {at : ℕ} (visited : List Configuration) (d : Configuration) → at < length visited → first_pairs (visited ++ d ∷ []) ≡ first_pairs visited
+first_pairs-push : {at : ℕ} (visited : List Configuration) (d : Configuration) → at < length visited
+    → first_pairs (visited ++ d ∷ []) ≡ first_pairs visited
 first_pairs-push [] d lt = absurd (omega arith)
 first_pairs-push (c ∷ visited) d lt = refl
 
 -- ---- steps
 
-module _ (start : Contents) (calls : List Operation) (apart : NonePrecedesItself calls) (levels : List Level) (next at : ℕ) (pairs : Contents)
+module _ (start : Contents) (calls : List Operation) (apart : NonePrecedesItself calls) (levels : List Level) (next at : ℕ)
+    (pairs : Contents)
     (visited : List Configuration)
     (by_number by_answer : LinksView) where
   -- the walk goes on to the next call left
-  pub StandsWith-pass : StandsAtCursor start calls (places levels) (next + 1) visited → next < length calls → (Contains (places levels) next → ⊥)
+  pub StandsWith-pass : StandsAtCursor start calls (places levels) (next + 1) visited → next < length calls
+      → (Contains (places levels) next → ⊥)
       → (IsOrder start calls (places levels) → ⊥) → first_pairs visited ≡ start → pairs ≡ pairs_after start calls (places levels)
       → IsConfigurationAt start calls visited (places levels) at
       → ((i : ℕ) (level : Level) → slice_get levels i ≡ Some level → Remembers start calls visited (places (take i levels)) level)
@@ -171,10 +186,12 @@ module _ (start : Contents) (calls : List Operation) (apart : NonePrecedesItself
       → StandsWith start calls levels (slice_index by_number.after next) at pairs visited by_number by_answer
   StandsWith-pass stands lt new not_order begins holds stands_at remembers links =
       let path = places levels in
-      let left = IsNextLeft-after (length calls) (reverse path) by_number links.calls_left next lt (λ h. new (Contains-from_reverse path next h)) in
+      let left = IsNextLeft-after (length calls) (reverse path) by_number links.calls_left next lt
+          (λ h. new (Contains-from_reverse path next h)) in
       record {
         cursor = StandsAtCursor-pass start calls path (next + 1) visited stands apart (slice_index by_number.after next) left.later
-            (λ k from below is_front. taken_again start calls path k [] (subst (IsFront start calls) (sym (append-nil (cursor path k))) is_front)
+            (λ k from below is_front. taken_again start calls path k []
+                (subst (IsFront start calls) (sym (append-nil (cursor path k))) is_front)
             (Contains-from_reverse path k (left.between k from below)))
             (λ is_order. absurd (not_order is_order));
         within = left.within;
@@ -194,7 +211,8 @@ module _ (start : Contents) (calls : List Operation) (apart : NonePrecedesItself
     cursor-illegal a here illegal = StandsAtCursor-pass start calls (places levels) next visited s.cursor apart (next + 1) (omega arith)
         (λ k from below is_front.
         let same : k ≡ next = omega arith in
-        let found = IsNext-from_front start calls (places levels) next [] (subst (λ j. IsFront start calls (cursor (places levels) j)) same is_front) in
+        let found = IsNext-from_front start calls (places levels) next []
+            (subst (λ j. IsFront start calls (cursor (places levels) j)) same is_front) in
         let call_is = same_Some found.call a (sym found.here ∙ here) in
         illegal (subst (λ m. IsLegalCall m a.call a.response) (sym s.holds)
         (subst (λ (b : Operation). IsLegalCall (pairs_after start calls (places levels)) b.call b.response) call_is found.legal)))
@@ -213,7 +231,8 @@ module _ (start : Contents) (calls : List Operation) (apart : NonePrecedesItself
         (λ h. s.left lt (Contains-from_reverse (places levels) next h)) in
         untried-less (length calls) levels next (slice_index by_number.after next) (omega (arith, left.later)) left.within
 
-    module _ (a : Operation) (here : slice_get calls next ≡ Some a) (preceded : (m : ℕ) → PrecedesAt calls m next → Contains (places levels) m)
+    module _ (a : Operation) (here : slice_get calls next ≡ Some a)
+        (preceded : (m : ℕ) → PrecedesAt calls m next → Contains (places levels) m)
         (legal : IsLegalCall pairs a.call a.response) where
       -- a call that may come next is taken
       pub IsFront-taken : IsFront start calls (cursor (places levels) next)
@@ -229,32 +248,41 @@ module _ (start : Contents) (calls : List Operation) (apart : NonePrecedesItself
           let (b, b_at, leads) = s.stands_at in
           let same = same_Some b c (sym b_at ∙ at_is) in
           let by = subst (LeadsTo start calls (places levels)) same leads in
-          LeadsTo-push start calls (places levels) next a c d by here up taken (held ∙ ap (λ m. after_call m a.call a.response) (s.holds ∙ sym by.pairs))
+          LeadsTo-push start calls (places levels) next a c d by here up taken
+              (held ∙ ap (λ m. after_call m a.call a.response) (s.holds ∙ sym by.pairs))
 
       -- it was visited
       pub cursor-seen : (d : Configuration) → LeadsTo start calls (cursor (places levels) next) d → Contains visited d
           → StandsAtCursor start calls (places levels) (next + 1) visited
-      cursor-seen d leads within = StandsAtCursor-seen start calls (places levels) next visited s.cursor apart d IsFront-taken leads within not_order
+      cursor-seen d leads within = StandsAtCursor-seen start calls (places levels) next visited s.cursor apart d IsFront-taken
+          leads within not_order
 
       -- it is new
-      module _ (d : Configuration) (leads : LeadsTo start calls (cursor (places levels) next) d) (new : Contains visited d → ⊥) (undo : Option Call)
+      module _ (d : Configuration) (leads : LeadsTo start calls (cursor (places levels) next) d) (new : Contains visited d → ⊥)
+          (undo : Option Call)
           (level : Level) (place_is : level.place ≡ next) (at_is : level.at ≡ at) (after_pairs : Contents)
-          (after_is : after_pairs ≡ after_call pairs a.call a.response) (undo_is : undone after_pairs level.undo ≡ pairs) (within_number : AreWithin by_number)
+          (after_is : after_pairs ≡ after_call pairs a.call a.response) (undo_is : undone after_pairs level.undo ≡ pairs)
+              (within_number : AreWithin by_number)
           (within_answer : AreWithin by_answer) where
         path_is : places (levels ++ level ∷ []) ≡ cursor (places levels) next
         path_is = places-push levels level ∙ ap (cursor (places levels)) place_is
 
         pairs_is : after_pairs ≡ pairs_after start calls (cursor (places levels) next)
-        pairs_is = after_is ∙ ap (λ m. after_call m a.call a.response) s.holds ∙ sym (after_calls-push start calls (places levels) next a here)
+        pairs_is = after_is ∙ ap (λ m. after_call m a.call a.response) s.holds
+            ∙ sym (after_calls-push start calls (places levels) next a here)
 
         links_pushed : AreLinksOf calls (next ∷ reverse (places levels)) (unlinked by_number next) (unlinked by_answer next)
         links_pushed = record {
-          number_size = length-set by_number.after (slice_index by_number.before next) (slice_index by_number.after next) ∙ s.links.number_size;
-          answer_size = length-set by_answer.after (slice_index by_answer.before next) (slice_index by_answer.after next) ∙ s.links.answer_size;
+          number_size = length-set by_number.after (slice_index by_number.before next) (slice_index by_number.after next)
+              ∙ s.links.number_size;
+          answer_size = length-set by_answer.after (slice_index by_answer.before next) (slice_index by_answer.after next)
+              ∙ s.links.answer_size;
           calls_left =
               AreLeft-take (length calls) (range_with_len 0 (length calls)) (reverse (places levels)) by_number next within_number
-              (omega (arith, s.links.number_size)) (All-from_contains (λ n. n < length calls) (range_with_len 0 (length calls)) (range_below (length calls)))
-              (distinct_from_increasing (range_with_len 0 (length calls)) (IsStrictlyIncreasing-range (length calls))) (Contains-range (length calls) next lt)
+              (omega (arith, s.links.number_size))
+                  (All-from_contains (λ n. n < length calls) (range_with_len 0 (length calls)) (range_below (length calls)))
+              (distinct_from_increasing (range_with_len 0 (length calls)) (IsStrictlyIncreasing-range (length calls)))
+                  (Contains-range (length calls) next lt)
               (λ h. s.left lt (Contains-from_reverse (places levels) next h)) s.links.calls_left;
           order = s.links.order;
           sorted = s.links.sorted;
@@ -273,7 +301,8 @@ module _ (start : Contents) (calls : List Operation) (apart : NonePrecedesItself
             subst (λ ls. Remembers start calls (visited ++ d ∷ []) (places ls) l) (sym (take-append-le i levels (level ∷ []) (omega arith)))
             (record {
               at =
-                  (before.at.0, slice_get-append_left visited (d ∷ []) l.at (slice_get_within visited l.at before.at.0 before.at.1) ∙ before.at.1, before.at.2);
+                  (before.at.0, slice_get-append_left visited (d ∷ []) l.at (slice_get_within visited l.at before.at.0 before.at.1)
+                      ∙ before.at.1, before.at.2);
               undo = before.undo;
             }))
             (λ pushed. subst (λ ls. Remembers start calls (visited ++ d ∷ []) (places ls) l) (sym (take_at levels (level ∷ []) i pushed.0))
@@ -284,7 +313,8 @@ module _ (start : Contents) (calls : List Operation) (apart : NonePrecedesItself
                     ∙ slice_get-append_left visited (d ∷ []) at (slice_get_within visited at s.stands_at.0 s.stands_at.1) ∙ s.stands_at.1,
                 s.stands_at.2,
               );
-              undo = ap (λ k. undone (pairs_after start calls (places levels ++ k ∷ [])) level.undo) place_is ∙ ap (λ m. undone m level.undo) (sym pairs_is)
+              undo = ap (λ k. undone (pairs_after start calls (places levels ++ k ∷ [])) level.undo) place_is
+                  ∙ ap (λ m. undone m level.undo) (sym pairs_is)
                   ∙ undo_is ∙ s.holds;
             })))
             (place-push levels level i l is)
@@ -298,13 +328,16 @@ module _ (start : Contents) (calls : List Operation) (apart : NonePrecedesItself
             let out_is : next ∷ reverse (places levels) ≡ reverse (places (levels ++ level ∷ [])) =
             sym (reverse-push levels level ∙ ap (λ k. k ∷ reverse (places levels)) place_is) in
             let in_path : (k : ℕ) → Contains (next ∷ reverse (places levels)) k → Contains (cursor (places levels) next) k =
-            λ k h. subst (λ ys. Contains ys k) path_is (Contains-from_reverse (places (levels ++ level ∷ [])) k (subst (λ ys. Contains ys k) out_is h)) in
+            λ k h. subst (λ ys. Contains ys k) path_is
+                (Contains-from_reverse (places (levels ++ level ∷ [])) k (subst (λ ys. Contains ys k) out_is h)) in
             record {
-              cursor = subst (λ p. StandsAtCursor start calls p (slice_index (unlinked by_number next).after (length calls)) (visited ++ d ∷ [])) (sym path_is)
+              cursor = subst (λ p. StandsAtCursor start calls p (slice_index (unlinked by_number next).after (length calls))
+                  (visited ++ d ∷ [])) (sym path_is)
                   (StandsAtCursor-pass start calls (cursor (places levels) next) 0 (visited ++ d ∷ []) pushed apart
                   (slice_index (unlinked by_number next).after (length calls)) left.later
                   (λ k from below is_front. taken_again start calls (cursor (places levels) next) k []
-                  (subst (IsFront start calls) (sym (append-nil (cursor (cursor (places levels) next) k))) is_front) (in_path k (left.between k from below)))
+                  (subst (IsFront start calls) (sym (append-nil (cursor (cursor (places levels) next) k))) is_front)
+                      (in_path k (left.between k from below)))
                   (λ is_order k below. in_path k (left.between k (omega arith) below)));
               within = left.within;
               left = λ within taken. left.new within
@@ -317,7 +350,8 @@ module _ (start : Contents) (calls : List Operation) (apart : NonePrecedesItself
               links = subst (λ out. AreLinksOf calls out (unlinked by_number next) (unlinked by_answer next)) out_is links_pushed;
             }
 
-        pub untried-pushed : untried (length calls) (levels ++ level ∷ []) (slice_index (unlinked by_number next).after (length calls)) ≤ untried
+        pub untried-pushed : untried (length calls) (levels ++ level ∷ [])
+            (slice_index (unlinked by_number next).after (length calls)) ≤ untried
             (length calls) levels next + length calls
         untried-pushed =
             omega (
@@ -342,9 +376,11 @@ module _ (start : Contents) (calls : List Operation) (apart : NonePrecedesItself
     where
       later : (k : ℕ) (b a : Operation) → next ≤ k → slice_get calls k ≡ Some b → slice_get calls next ≡ Some a → answered < b.inv
       later k b a from there here = ⊎_elim
-          (λ same. subst (λ (x : Operation). answered < x.inv) (same_Some a b (sym here ∙ ap (slice_get calls) (sym same) ∙ there)) (late a here))
+          (λ same. subst (λ (x : Operation). answered < x.inv)
+              (same_Some a b (sym here ∙ ap (slice_get calls) (sym same) ∙ there)) (late a here))
           (λ differ. ⊎_elim (λ lt. absurd (omega arith))
-          (λ lt. omega (arith, late a here, AllPairs-at (λ (x : Operation) (y : Operation). x.inv < y.inv) calls next k a b rising lt here there)) differ)
+          (λ lt. omega (arith, late a here, AllPairs-at (λ (x : Operation) (y : Operation). x.inv < y.inv) calls next k a b rising lt
+              here there)) differ)
           (cases_order k next)
 
       none : (k : ℕ) → next ≤ k → IsNext start calls path k → (a : Operation) × (slice_get calls next ≡ Some a) → ⊥
@@ -353,14 +389,16 @@ module _ (start : Contents) (calls : List Operation) (apart : NonePrecedesItself
           remains.new (found.preceded remains.n (remains.call, found.call, remains.here, found.here, remains.before))
 
   -- nothing is left to go back to
-  pub IsExhausted-from_past : (visited : List Configuration) → StandsAtCursor start calls [] (length calls) visited → (IsOrder start calls [] → ⊥)
+  pub IsExhausted-from_past : (visited : List Configuration) → StandsAtCursor start calls [] (length calls) visited
+      → (IsOrder start calls [] → ⊥)
       → IsExhausted start calls visited
   IsExhausted-from_past visited stands not_order = record {
     none = none_at_end start calls [] (length calls) visited stands apart refl (omega arith) not_order;
     count = HasCount-at_end start calls [] (length calls) visited stands apart refl (omega arith) not_order;
   }
 
-  module _ (levels : List Level) (level : Level) (next at : ℕ) (pairs : Contents) (visited : List Configuration) (by_number by_answer : LinksView)
+  module _ (levels : List Level) (level : Level) (next at : ℕ) (pairs : Contents) (visited : List Configuration)
+      (by_number by_answer : LinksView)
       (s : StandsWith start calls (levels ++ level ∷ []) next at pairs visited by_number by_answer)
       (past : StandsAtCursor start calls (places (levels ++ level ∷ [])) (length calls) visited)
       (not_order : IsOrder start calls (places (levels ++ level ∷ [])) → ⊥) where
@@ -389,7 +427,8 @@ module _ (start : Contents) (calls : List Operation) (apart : NonePrecedesItself
 
     -- the calls before it are no order
     not_order_before : IsOrder start calls (places levels) → ⊥
-    not_order_before is_order = new ((popped.first (places levels) is_order (ComesBefore-itself (places levels) (level.place + 1))).1 level.place (omega arith))
+    not_order_before is_order = new ((popped.first (places levels) is_order (ComesBefore-itself (places levels) (level.place + 1))).1
+        level.place (omega arith))
 
     remembered : Remembers start calls visited (places levels) level
     remembered =
@@ -397,7 +436,8 @@ module _ (start : Contents) (calls : List Operation) (apart : NonePrecedesItself
         (s.remembers (length levels) level (slice_get-middle levels level []))
 
     left_parts : AreLeft (length calls) (range_with_len 0 (length calls)) (level.place ∷ reverse (places levels)) by_number
-    left_parts = subst (λ out. AreLeft (length calls) (range_with_len 0 (length calls)) out by_number) (reverse-push levels level) s.links.calls_left
+    left_parts = subst (λ out. AreLeft (length calls) (range_with_len 0 (length calls)) out by_number) (reverse-push levels level)
+        s.links.calls_left
 
     answer_parts : AreLeft (length calls) s.links.order (level.place ∷ reverse (places levels)) by_answer
     answer_parts = subst (λ out. AreLeft (length calls) s.links.order out by_answer) (reverse-push levels level) s.links.answers_left
@@ -408,7 +448,8 @@ module _ (start : Contents) (calls : List Operation) (apart : NonePrecedesItself
         (put_back by_number level.place)
         (put_back by_answer level.place)
     StandsWith-back restored restored_is =
-        StandsWith-pass start calls apart levels level.place level.at restored visited (put_back by_number level.place) (put_back by_answer level.place)
+        StandsWith-pass start calls apart levels level.place level.at restored visited (put_back by_number level.place)
+            (put_back by_answer level.place)
         popped below-popped new not_order_before s.begins
         (restored_is ∙ ap (λ m. undone m level.undo) (s.holds ∙ ap (pairs_after start calls) before_is) ∙ remembered.undo)
         remembered.at
@@ -426,7 +467,8 @@ module _ (start : Contents) (calls : List Operation) (apart : NonePrecedesItself
         })
 
     -- fewer calls are to try
-    pub untried-back : untried (length calls) levels (slice_index (put_back by_number level.place).after level.place) < untried (length calls)
+    pub untried-back : untried (length calls) levels
+        (slice_index (put_back by_number level.place).after level.place) < untried (length calls)
         (levels ++ level ∷ []) next
     untried-back =
         let left =

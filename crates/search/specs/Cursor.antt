@@ -25,8 +25,10 @@ pub record IsBehind (start : Contents) (calls : List Operation) (path : List ℕ
 
 -- a search stands at the cursor: the calls taken are a front; visited are, each once, the configurations behind the cursor;
 -- and no order comes before the cursor, but that the calls taken may be one after which no call that is left was passed
-pub record StandsAtCursor (start : Contents) (calls : List Operation) (path : List ℕ) (next : ℕ) (visited : List Configuration) : Type 0 where
+pub record StandsAtCursor (start : Contents) (calls : List Operation) (path : List ℕ) (next : ℕ)
+    (visited : List Configuration) : Type 0 where
   pub is_front : IsFront start calls path
   pub distinct : AreDistinct visited
   pub exact : (configuration : Configuration) → Contains visited configuration ↔ IsBehind start calls path next configuration
-  pub first : (order : List ℕ) → IsOrder start calls order → ComesBefore order (cursor path next) → (order ≡ path) × ((k : ℕ) → k < next → Contains path k)
+  pub first : (order : List ℕ) → IsOrder start calls order → ComesBefore order (cursor path next) → (order ≡ path)
+      × ((k : ℕ) → k < next → Contains path k)

@@ -57,7 +57,8 @@ EachHasCount = (start : Contents) (calls : List Operation) → NonePrecedesItsel
 pub record IsLeastWholeFront (start : Contents) (calls : List Operation) (order : List ℕ) : Type 0 where
   pub is_front : IsFront start calls order
   pub complete : (n : ℕ) → IsCompletedAt calls n → Contains order n
-  pub least : (other : List ℕ) → IsFront start calls other → ((n : ℕ) → IsCompletedAt calls n → Contains other n) → is_at_or_before order other ≡ true
+  pub least : (other : List ℕ) → IsFront start calls other → ((n : ℕ) → IsCompletedAt calls n → Contains other n)
+      → is_at_or_before order other ≡ true
 
 -- the least order is the least front that holds all completed calls
 abbrev pub LeastOrderIsByFronts : Type 0

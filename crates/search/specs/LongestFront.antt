@@ -20,7 +20,8 @@ pub record IsMetInTurn (start : Contents) (calls : List Operation) (met : List C
   pub front : List ℕ
   pub is_front : IsFront start calls front
   pub leads : LeadsTo start calls front configuration
-  pub earlier : (other : List ℕ) (c : Configuration) → IsFront start calls other → IsTrue (is_at_or_before other front) → LeadsTo start calls other c
+  pub earlier : (other : List ℕ) (c : Configuration) → IsFront start calls other → IsTrue (is_at_or_before other front)
+      → LeadsTo start calls other c
       → Contains met c
 
 -- what a search has met at its end: configurations that count, each once and in its turn, and all of them or one more than the budget
@@ -36,7 +37,8 @@ abbrev pub IsMostTaken : SegmentView → ℕ → ℕ → Type 0
 IsMostTaken segment budget most =
     (met : List Configuration) × HasMetEnough segment.start segment.calls budget met × All (λ c. length c.taken ≤ most) met
 
--- the longest front that a search meets: it leads to a configuration that was met, none has more calls taken, and of the fronts as long it is the least
+-- the longest front that a search meets: it leads to a configuration that was met, none has more calls taken, and of the fronts as long it
+-- is the least
 pub record IsLongestFront (budget : ℕ) (segment : SegmentView) (front : List ℕ) : Type 0 where
   pub places : List ℕ
   pub is : front ≡ numbers_at segment places
@@ -45,7 +47,8 @@ pub record IsLongestFront (budget : ℕ) (segment : SegmentView) (front : List �
   pub enough : HasMetEnough segment.start segment.calls budget met
   pub reached : (c : Configuration) × Contains met c × LeadsTo segment.start segment.calls places c
   pub most : All (λ c. length c.taken ≤ length places) met
-  pub least : (other : List ℕ) → IsFront segment.start segment.calls other → length other ≡ length places → IsTrue (is_at_or_before places other)
+  pub least : (other : List ℕ) → IsFront segment.start segment.calls other → length other ≡ length places
+      → IsTrue (is_at_or_before places other)
 
 -- there is one longest front that a search at the budget meets
 abbrev pub OneLongestFront : Type 0

@@ -1,5 +1,6 @@
 -- Where a walk stands: what its stack, its map, its memo and its links say of the calls taken.
-use Rattle.std.specs.Prelude.{◌≡◌, ◌≢◌, ◌⊎◌, ℕ, ◌+◌, ◌-◌, ◌<◌, ◌≤◌, true, IsSomeAnd, List, [], ◌∷◌, ◌++◌, length, map, take, reverse, Option, Some, slice_get}
+use Rattle.std.specs.Prelude.{◌≡◌, ◌≢◌, ◌⊎◌, ℕ, ◌+◌, ◌-◌, ◌<◌, ◌≤◌, true, IsSomeAnd, List, [], ◌∷◌, ◌++◌, length, map, take, reverse}
+use Rattle.std.specs.Prelude.{Option, Some, slice_get}
 use Rattle.std.specs.Prelude.{slice_index, All, AllPairs, Contains}
 use Rattle.std.specs.List.{range_with_len}
 use Rattle.events.specs.declared.event.Call.{Call}
@@ -36,7 +37,8 @@ first_pairs [] = []
 first_pairs (c ∷ visited) = c.pairs
 
 -- a level of the stack: where the walk stood before its call, and what undoes the call
-pub record Remembers (start : Contents) (calls : List Operation) (visited : List Configuration) (path : List ℕ) (level : Level) : Type 0 where
+pub record Remembers (start : Contents) (calls : List Operation) (visited : List Configuration) (path : List ℕ)
+    (level : Level) : Type 0 where
   pub at : IsConfigurationAt start calls visited path level.at
   pub undo : undone (pairs_after start calls (path ++ level.place ∷ [])) level.undo ≡ pairs_after start calls path
 
@@ -90,7 +92,8 @@ pub record MayTry (start : Contents) (calls : List Operation) (path : List ℕ) 
   pub preceded : (m : ℕ) → PrecedesAt calls m next → Contains path m
   pub not_order : IsOrder start calls path → ⊥
 
--- a walk has moved: it took the next call and visited one configuration more, to which the calls taken now lead, or none and has fewer calls to try
+-- a walk has moved: it took the next call and visited one configuration more, to which the calls taken now lead, or none and has fewer
+-- calls to try
 pub record HasMoved (start : Contents) (calls : List Operation) (old new : Standing) : Type 0 where
   pub stands : Stands start calls new
   pub progress :

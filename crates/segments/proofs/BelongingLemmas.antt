@@ -1,5 +1,6 @@
 -- The calls of a history that belong to a segment, found one after another.
-use Rattle.std.proofs.Common.{◌≡◌, ℕ, ◌+◌, ◌<◌, true, false, List, [], ◌∷◌, ◌++◌, length, get_or, Option, Some, None, refl, sym, subst, ⊎_elim, arith}
+use Rattle.std.proofs.Common.{◌≡◌, ℕ, ◌+◌, ◌<◌, true, false, List, [], ◌∷◌, ◌++◌, length, get_or, Option, Some, None, refl, sym, subst}
+use Rattle.std.proofs.Common.{⊎_elim, arith}
 use Rattle.std.specs.Prelude.{◌↔◌, ◌⊎◌, slice_get, IsTrue, IsSomeAnd, AllPairs, Contains}
 use Rattle.std.proofs.lemmas.Bool.{both_ways}
 use Rattle.std.proofs.lemmas.List.Elements.{Contains-append_left, Contains-push, Contains-push_cases, Contains-get_or}
@@ -19,7 +20,8 @@ some_of None P h = absurd h
 some_of (Some x) P h = (x, refl, h)
 
 -- a call that belongs to a segment, by its number
-pub call_of-BelongsAt : (calls : List Operation) (n : ℕ) → BelongsAt calls n → (a : Operation) × (slice_get calls n ≡ Some a) × (belongs a ≡ true)
+pub call_of-BelongsAt : (calls : List Operation) (n : ℕ) → BelongsAt calls n → (a : Operation) × (slice_get calls n ≡ Some a)
+    × (belongs a ≡ true)
 call_of-BelongsAt calls n h = some_of (slice_get calls n) (λ a. IsTrue (belongs a)) h
 
 -- a call that belongs has a number below the count of calls
@@ -33,7 +35,8 @@ belongs_at calls n a here h = rw here h
 pub BelongBelow-take : (calls : List Operation) (place : ℕ) (numbers : List ℕ) (a : Operation) → BelongBelow calls place numbers
     → slice_get calls place ≡ Some a → belongs a ≡ true → BelongBelow calls (place + 1) (numbers ++ place ∷ [])
 BelongBelow-take calls place numbers a h here belongs = record {
-  rising = all_pairs_push (λ m n. m < n) numbers place h.rising (λ k d within. ((h.members (get_or numbers k d)).0 (Contains-get_or numbers k d within)).0);
+  rising = all_pairs_push (λ m n. m < n) numbers place h.rising
+      (λ k d within. ((h.members (get_or numbers k d)).0 (Contains-get_or numbers k d within)).0);
   members = λ n. (
     λ pushed. ⊎_elim (λ earlier. let m = (h.members n).0 earlier in (omega (arith, m.0), m.1))
         (λ is. subst (λ m. (m < place + 1) × BelongsAt calls m) is (omega arith, belongs_at calls place a here belongs))
@@ -61,8 +64,10 @@ BelongBelow-skip calls place numbers a h here not_belongs = record {
     below_more i n h = grind arith
 
     not_here : (n : ℕ) → place ≡ n → BelongsAt calls n → ⊥
-    not_here n is m = both_ways (belongs a) not_belongs (subst (λ o. IsSomeAnd o (λ b. IsTrue (belongs b))) here (subst (λ k. BelongsAt calls k) (sym is) m))
+    not_here n is m = both_ways (belongs a) not_belongs (subst (λ o. IsSomeAnd o (λ b. IsTrue (belongs b))) here
+        (subst (λ k. BelongsAt calls k) (sym is) m))
 
 -- after the last call these are all that belong
-pub BelongBelow-all : (calls : List Operation) (numbers : List ℕ) → BelongBelow calls (length calls) numbers → (n : ℕ) → Contains numbers n ↔ BelongsAt calls n
+pub BelongBelow-all : (calls : List Operation) (numbers : List ℕ) → BelongBelow calls (length calls) numbers → (n : ℕ)
+    → Contains numbers n ↔ BelongsAt calls n
 BelongBelow-all calls numbers h n = (λ m. ((h.members n).0 m).1, λ m. (h.members n).1 (BelongsAt-below calls n m, m))

@@ -13,8 +13,10 @@ use Rattle.segments.specs.Segments.{IsSegment, AreSegments}
 use Rattle.segments.specs.SegmentOrders.{IsOrderOf, HasNoOrder}
 use Rattle.list_laws.proofs.Lists.{All-from_contains}
 use Rattle.list_laws.proofs.NumberLemmas.{has_number-Contains, has_number-from_Contains}
-use Rattle.list_laws.proofs.FilterLemmas.{Contains-map, Contains-filter, Contains-from_filter, AreRelatedAs, AllPairs-filter_map, AllPairs-from_filter_map}
-use Rattle.orders.proofs.PlaceLemmas.{at_places, place_of, places_of, All-at_places, IsLegalOrder-numbers, IsLegalOrder-places, IsCompletedAt-number}
+use Rattle.list_laws.proofs.FilterLemmas.{Contains-map, Contains-filter, Contains-from_filter, AreRelatedAs, AllPairs-filter_map}
+use Rattle.list_laws.proofs.FilterLemmas.{AllPairs-from_filter_map}
+use Rattle.orders.proofs.PlaceLemmas.{at_places, place_of, places_of, All-at_places, IsLegalOrder-numbers, IsLegalOrder-places}
+use Rattle.orders.proofs.PlaceLemmas.{IsCompletedAt-number}
 use Rattle.orders.proofs.PlaceLemmas.{IsCompletedAt-place, Contains-place}
 use Rattle.orders.proofs.CallsAtLemmas.{length-calls_at}
 use Rattle.segments.proofs.PartLemmas.{IsLegal-part}
@@ -24,7 +26,8 @@ use Rattle.segments.proofs.SegmentLemmas.{known-IsSegment, calls-IsSegment, Goes
 abbrev pub start_of : Contents → SegmentView → Contents
 start_of start segment = within segment.lo segment.hi start
 
-start_is : (start : Contents) (calls : List Operation) (segment : SegmentView) → IsSegment start calls segment → segment.start ≡ start_of start segment
+start_is : (start : Contents) (calls : List Operation) (segment : SegmentView) → IsSegment start calls segment
+    → segment.start ≡ start_of start segment
 start_is start calls segment h =
     ap (λ s. s.start) h.view ∙ ap₂ (λ lo hi. within lo hi start) (ap (λ s. s.lo) (sym h.view)) (ap (λ s. s.hi) (sym h.view))
 
@@ -42,11 +45,13 @@ IsLegalOrder-restricted start calls segments s order are is h =
       precedence =
           AllPairs-filter_map R (slice_get calls) (filter test order)
           (AllPairs-filter (AreRelatedAs R (slice_get calls)) test order (AllPairs-from_filter_map R (slice_get calls) order h.precedence));
-      legal = IsLegal-part calls test s.lo s.hi start order (λ k d within. GoesByKeys-segment start calls segments s (get_or order k d) are is) h.legal;
+      legal = IsLegal-part calls test s.lo s.hi start order
+          (λ k d within. GoesByKeys-segment start calls segments s (get_or order k d) are is) h.legal;
     }
 
 -- the calls of a segment, as they stand in an order of all, are an order of the segment
-pub IsOrderOf-restricted : (start : Contents) (calls : List Operation) (segments : List SegmentView) (segment : SegmentView) (order : List ℕ)
+pub IsOrderOf-restricted : (start : Contents) (calls : List Operation) (segments : List SegmentView)
+    (segment : SegmentView) (order : List ℕ)
     → AreSegments start calls segments
     → Contains segments segment → IsOrder start calls order
     → IsOrderOf segment (filter (has_number segment.numbers) order)
@@ -59,7 +64,8 @@ IsOrderOf-restricted start calls segments s order are is h =
     let its_start = sym (start_is start calls s segment) in
     let (places, placed, within) =
     places_of s.numbers kept
-    (All-from_contains (Contains s.numbers) kept (λ n in_kept. has_number-Contains s.numbers n (Contains-from_filter test order n in_kept).1)) in
+    (All-from_contains (Contains s.numbers) kept
+        (λ n in_kept. has_number-Contains s.numbers n (Contains-from_filter test order n in_kept).1)) in
     let legal_order : IsLegalOrder (start_of start s) calls (at_places s.numbers places) =
     subst (IsLegalOrder (start_of start s) calls) placed (IsLegalOrder-restricted start calls segments s order are is h.legal_order) in (
       places,
@@ -70,7 +76,8 @@ IsOrderOf-restricted start calls segments s order are is h =
             (subst (λ taken. IsLegalOrder (start_of start s) taken places) its_calls
             (IsLegalOrder-places (start_of start s) calls s.numbers places known within legal_order));
         complete = λ place completed.
-            let (below, by_number) = IsCompletedAt-number calls s.numbers place known (subst (λ taken. IsCompletedAt taken place) (sym its_calls) completed) in
+            let (below, by_number) = IsCompletedAt-number calls s.numbers place known (subst (λ taken. IsCompletedAt taken place)
+                (sym its_calls) completed) in
             let number = slice_index s.numbers place in
             let in_kept =
             Contains-filter test order number (h.complete number by_number)
@@ -93,7 +100,8 @@ pub record IsOrderByNumber (start : Contents) (calls : List Operation) (segment 
   pub complete : (n : ℕ) → Contains segment.numbers n → IsCompletedAt calls n → Contains order n
 
 -- each order of a segment is one by number
-pub IsOrderByNumber-from_order : (start : Contents) (calls : List Operation) (segment : SegmentView) (order : List ℕ) → IsSegment start calls segment
+pub IsOrderByNumber-from_order : (start : Contents) (calls : List Operation) (segment : SegmentView) (order : List ℕ)
+    → IsSegment start calls segment
     → IsOrderOf segment order
     → IsOrderByNumber start calls segment order
 IsOrderByNumber-from_order start calls s order segment (places, placed, h) =

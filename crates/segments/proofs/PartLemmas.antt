@@ -10,7 +10,8 @@ use Rattle.segments.proofs.RangeLemmas.{IsInside, IsOutside, within-after_call, 
 
 -- a test of numbers goes by a key range: the call of a number that passes is within it, and that of another leaves its pairs
 abbrev pub GoesByKeys : List Operation → (ℕ → Bool) → ℕ → ℕ → ℕ → Type 0
-GoesByKeys calls test low high n = (a : Operation) → slice_get calls n ≡ Some a → MatchBool (test n) (IsInside low high a.call) (IsOutside low high a.call)
+GoesByKeys calls test low high n = (a : Operation) → slice_get calls n ≡ Some a
+    → MatchBool (test n) (IsInside low high a.call) (IsOutside low high a.call)
 
 -- the calls of a range, one call further
 pub IsLegal-part_next : (calls : List Operation) (test : ℕ → Bool) (low high : ℕ) (m : Contents) (n : ℕ) (a : Operation) (order : List ℕ)
@@ -26,7 +27,8 @@ IsLegal-part_next calls test low high m n a order by_keys here legal = next (tes
     next false outside h = rw (within_left_call low high m a.call a.response outside) h
 
 -- the calls of a legal list within a range are legal from the pairs of the range on
-pub IsLegal-part : (calls : List Operation) (test : ℕ → Bool) (low high : ℕ) (m : Contents) (order : List ℕ) → All (GoesByKeys calls test low high) order
+pub IsLegal-part : (calls : List Operation) (test : ℕ → Bool) (low high : ℕ) (m : Contents) (order : List ℕ)
+    → All (GoesByKeys calls test low high) order
     → IsLegal m (calls_at calls order)
     → IsLegal (within low high m) (calls_at calls (filter test order))
 IsLegal-part calls test low high m [] by_keys legal = tt
@@ -46,7 +48,8 @@ IsLegal-part calls test low high m (n ∷ order) by_keys legal =
           (IsLegalCall-within low high m a.call a.response (keys a e)).0 h.0,
           rw (within-after_call low high m a.call a.response (keys a e)) at (rest (after_call m a.call a.response) h.1),
         )
-    part (Some a) e false keys h rest = rw (within_left_call low high m a.call a.response (keys a e)) at (rest (after_call m a.call a.response) h.1)
+    part (Some a) e false keys h rest = rw (within_left_call low high m a.call a.response (keys a e)) at
+        (rest (after_call m a.call a.response) h.1)
 
 -- a list of calls is legal where each of them is in one of some ranges, and the calls of each range are legal by themselves
 pub IsLegal-from_parts : {I : Type 0} (calls : List Operation) (test : I → ℕ → Bool) (low high : I → ℕ) (m : Contents) (order : List ℕ)
@@ -55,7 +58,8 @@ pub IsLegal-from_parts : {I : Type 0} (calls : List Operation) (test : I → ℕ
 IsLegal-from_parts calls test low high m [] by_keys covered legal = tt
 IsLegal-from_parts {I = I} calls test low high m (n ∷ order) by_keys covered legal =
     join (slice_get calls n) refl (λ k parts. IsLegal-from_parts calls test low high k order
-    (λ i. All-tail (GoesByKeys calls (test i) (low i) (high i)) n order (by_keys i)) (All-tail (λ n. (i : I) × (test i n ≡ true)) n order covered) parts)
+    (λ i. All-tail (GoesByKeys calls (test i) (low i) (high i)) n order (by_keys i))
+        (All-tail (λ n. (i : I) × (test i n ≡ true)) n order covered) parts)
   where
     without : (i : I) (b : Bool) → slice_get calls n ≡ None
         → IsLegal (within (low i) (high i) m) (calls_at calls (cond b (n ∷ filter (test i) order) (filter (test i) order)))
@@ -64,7 +68,8 @@ IsLegal-from_parts {I = I} calls test low high m (n ∷ order) by_keys covered l
     without i false none h = h
 
     join : (o : Option Operation) → slice_get calls n ≡ o
-        → ((k : Contents) → ((i : I) → IsLegal (within (low i) (high i) k) (calls_at calls (filter (test i) order))) → IsLegal k (calls_at calls order))
+        → ((k : Contents) → ((i : I) → IsLegal (within (low i) (high i) k) (calls_at calls (filter (test i) order)))
+        → IsLegal k (calls_at calls order))
         → IsLegal m (cons_option o (calls_at calls order))
     join None e rest = rest m (λ i. without i (test i n) e (legal i))
     join (Some a) e rest =
@@ -73,6 +78,7 @@ IsLegal-from_parts {I = I} calls test low high m (n ∷ order) by_keys covered l
         let legal_there = rw (passes, e) at (legal i) in (
           (IsLegalCall-within (low i) (high i) m a.call a.response inside).1 legal_there.0,
           rest (after_call m a.call a.response)
-              (λ j. IsLegal-part_next calls (test j) (low j) (high j) m n a order (All-head (GoesByKeys calls (test j) (low j) (high j)) n order (by_keys j)) e
+              (λ j. IsLegal-part_next calls (test j) (low j) (high j) m n a order
+                  (All-head (GoesByKeys calls (test j) (low j) (high j)) n order (by_keys j)) e
               (legal j)),
         )

@@ -1,9 +1,11 @@
 -- The map by key ranges: what a call does to the pairs of a range.
 use Rattle.events.specs.declared.event.Reply.TheVariants as replies
-use Rattle.std.proofs.Common.{◌≡◌, ℕ, ◌<◌, ◌≤◌, Bool, true, false, ◌==◌, ◌&&◌, nat_le, nat_lt, cond, [], ◌∷◌, ◌++◌, Some, None, Option, refl, sym, ap, ◌∙◌, inl}
+use Rattle.std.proofs.Common.{◌≡◌, ℕ, ◌<◌, ◌≤◌, Bool, true, false, ◌==◌, ◌&&◌, nat_le, nat_lt, cond, [], ◌∷◌, ◌++◌, Some, None, Option}
+use Rattle.std.proofs.Common.{refl, sym, ap, ◌∙◌, inl}
 use Rattle.std.proofs.Common.{inr, ⊎_elim, arith}
 use Rattle.std.specs.Prelude.{◌⊎◌, ◌↔◌}
-use Rattle.std.proofs.lemmas.Bool.{false≢true, and_parts, and_from, and_left, and_right, leb-true, le-leb, lt-leb, lt-ltb, le-ltb, eqb-true, cases_Bool}
+use Rattle.std.proofs.lemmas.Bool.{false≢true, and_parts, and_from, and_left, and_right, leb-true, le-leb, lt-leb, lt-ltb, le-ltb, eqb-true}
+use Rattle.std.proofs.lemmas.Bool.{cases_Bool}
 use Rattle.std.proofs.lemmas.List.{append-nil}
 use Rattle.std.proofs.lemmas.List.Elements.{filter-append}
 use Rattle.events.specs.declared.event.Call.{Call}
@@ -28,7 +30,8 @@ pub bounds : (low high key : ℕ) → in_range low high key ≡ true → (low �
 bounds low high key h = let parts = and_parts (nat_le low key) (nat_le key high) h in (leb-true low key parts.0, leb-true key high parts.1)
 
 -- a value that is not at its key may be left out
-value_at_cond : (b : Bool) (k value : ℕ) (m : Contents) (key : ℕ) → (k == key) ≡ false → value_at (cond b ((k, value) ∷ m) m) key ≡ value_at m key
+value_at_cond : (b : Bool) (k value : ℕ) (m : Contents) (key : ℕ) → (k == key) ≡ false
+    → value_at (cond b ((k, value) ∷ m) m) key ≡ value_at m key
 value_at_cond true k value m key other = rw other refl
 value_at_cond false k value m key other = refl
 
@@ -37,7 +40,8 @@ pub value_at-within : (low high : ℕ) (m : Contents) (key : ℕ) → low ≤ ke
 value_at-within low high [] key lo hi = refl
 value_at-within low high ((k, value) ∷ m) key lo hi = ⊎_elim
     (λ same. rw (eqb-true k key same) (rw (in_range-true low high key lo hi) (rw (rw (eqb-true k key same) at same) refl)))
-    (λ other. value_at_cond (in_range low high k) k value (within low high m) key other ∙ (value_at-within low high m key lo hi ∙ rw other refl))
+    (λ other. value_at_cond (in_range low high k) k value (within low high m) key other
+        ∙ (value_at-within low high m key lo hi ∙ rw other refl))
     (cases_Bool (k == key))
 
 -- an insert within a range is one among its pairs
@@ -53,7 +57,8 @@ pub within-remove : (low high : ℕ) (m : Contents) (key : ℕ) → low ≤ key 
     → within low high (after m (Remove key)) ≡ after (within low high m) (Remove key)
 within-remove low high m key lo hi =
     let p = λ (pair : ℕ × ℕ). in_range low high pair.0 in
-    filter-append p (below key m) (above key m) ∙ rw (filter_comm p (λ pair. nat_lt pair.0 key) m, filter_comm p (λ pair. nat_lt key pair.0) m) refl
+    filter-append p (below key m) (above key m)
+        ∙ rw (filter_comm p (λ pair. nat_lt pair.0 key) m, filter_comm p (λ pair. nat_lt key pair.0) m) refl
 
 -- a replacement within a range is one among its pairs
 within-replace : (low high : ℕ) (m : Contents) (key expected value : ℕ) → low ≤ key → key ≤ high
@@ -62,7 +67,8 @@ within-replace low high m key expected value lo hi =
     within_either (is_just (value_at m key) expected)
     ∙ rw (value_at-within low high m key lo hi) refl
   where
-    within_either : (b : Bool) → within low high (cond b (put key value m) m) ≡ cond b (put key value (within low high m)) (within low high m)
+    within_either : (b : Bool) → within low high (cond b (put key value m) m) ≡ cond b (put key value (within low high m))
+        (within low high m)
     within_either true = within-insert low high m key value lo hi
     within_either false = refl
 
@@ -82,7 +88,8 @@ abbrev pub IsOutside : ℕ → ℕ → Call → Type 0
 IsOutside low high call = (may_change call ≡ false) ⊎ ((high_key call < low) ⊎ (high < low_key call))
 
 -- a call within a range is answered by the pairs of the range
-pub reply_to-within : (low high : ℕ) (m : Contents) (call : Call) → IsInside low high call → reply_to (within low high m) call ≡ reply_to m call
+pub reply_to-within : (low high : ℕ) (m : Contents) (call : Call) → IsInside low high call
+    → reply_to (within low high m) call ≡ reply_to m call
 reply_to-within low high m (Get key) h = ap value_reply (value_at-within low high m key h.low_inside h.high_inside)
 reply_to-within low high m (Insert key value) h = ap value_reply (value_at-within low high m key h.low_inside h.high_inside)
 reply_to-within low high m (Remove key) h = ap value_reply (value_at-within low high m key h.low_inside h.high_inside)
@@ -90,7 +97,8 @@ reply_to-within low high m (Replace key expected value) h = ap value_reply (valu
 reply_to-within low high m (Scan a b) h = ap replies.Pairs (within-within low high a b m h.low_inside h.high_inside)
 
 -- a call within a range changes the pairs of the range as it does all
-pub within-after : (low high : ℕ) (m : Contents) (call : Call) → IsInside low high call → within low high (after m call) ≡ after (within low high m) call
+pub within-after : (low high : ℕ) (m : Contents) (call : Call) → IsInside low high call
+    → within low high (after m call) ≡ after (within low high m) call
 within-after low high m (Get key) h = refl
 within-after low high m (Insert key value) h = within-insert low high m key value h.low_inside h.high_inside
 within-after low high m (Remove key) h = within-remove low high m key h.low_inside h.high_inside
@@ -130,7 +138,8 @@ in_range-outside low high key (inr out) = and_right (nat_le low key) (nat_le key
 around : (low high : ℕ) (m : Contents) (key : ℕ) → (key < low) ⊎ (high < key)
     → within low high (below key m) ++ within low high (above key m) ≡ within low high m
 around low high m key (inl out) = rw (within-below_low low high m key out) (within-above_low low high m key out)
-around low high m key (inr out) = rw (within-above_high low high m key out) (append-nil (within low high (below key m)) ∙ within-below_high low high m key out)
+around low high m key (inr out) = rw (within-above_high low high m key out) (append-nil (within low high (below key m)) ∙ within-below_high
+    low high m key out)
 
 -- an insert outside a range leaves its pairs
 within-insert_outside : (low high : ℕ) (m : Contents) (key value : ℕ) → (key < low) ⊎ (high < key)
@@ -140,8 +149,10 @@ within-insert_outside low high m key value out =
     ∙ rw (in_range-outside low high key out) (around low high m key out)
 
 -- a removal outside a range leaves its pairs
-within-remove_outside : (low high : ℕ) (m : Contents) (key : ℕ) → (key < low) ⊎ (high < key) → within low high (after m (Remove key)) ≡ within low high m
-within-remove_outside low high m key out = filter-append (λ pair. in_range low high pair.0) (below key m) (above key m) ∙ around low high m key out
+within-remove_outside : (low high : ℕ) (m : Contents) (key : ℕ) → (key < low) ⊎ (high < key)
+    → within low high (after m (Remove key)) ≡ within low high m
+within-remove_outside low high m key out = filter-append (λ pair. in_range low high pair.0) (below key m) (above key m)
+    ∙ around low high m key out
 
 -- a replacement outside a range leaves its pairs
 within-replace_outside : (low high : ℕ) (m : Contents) (key expected value : ℕ) → (key < low) ⊎ (high < key)
@@ -155,14 +166,16 @@ within-replace_outside low high m key expected value out = either (is_just (valu
 -- a call outside a range leaves the pairs of the range
 pub within_left : (low high : ℕ) (m : Contents) (call : Call) → IsOutside low high call → within low high (after m call) ≡ within low high m
 within_left low high m (Get key) h = refl
-within_left low high m (Insert key value) h = ⊎_elim (λ same. absurd (false≢true (sym same))) (λ out. within-insert_outside low high m key value out) h
+within_left low high m (Insert key value) h = ⊎_elim (λ same. absurd (false≢true (sym same))) (λ out. within-insert_outside low high
+    m key value out) h
 within_left low high m (Remove key) h = ⊎_elim (λ same. absurd (false≢true (sym same))) (λ out. within-remove_outside low high m key out) h
 within_left low high m (Scan a b) h = refl
 within_left low high m (Replace key expected value) h =
     ⊎_elim (λ same. absurd (false≢true (sym same))) (λ out. within-replace_outside low high m key expected value out) h
 
 -- what holds after a call and where nothing changed holds after it was answered so
-after_reply_either : (P : Contents → Contents → Type 0) (m n : Contents) (call : Call) (reply : Reply) → P m n → P (after m call) (after n call)
+after_reply_either : (P : Contents → Contents → Type 0) (m n : Contents) (call : Call) (reply : Reply) → P m n
+    → P (after m call) (after n call)
     → P (after_reply m call reply) (after_reply n call reply)
 after_reply_either P m n call replies.None same changed = changed
 after_reply_either P m n call (replies.Some value) same changed = changed
@@ -170,7 +183,8 @@ after_reply_either P m n call (replies.Pairs pairs) same changed = changed
 after_reply_either P m n call replies.Refused same changed = same
 
 -- and after a call of a history
-after_call_either : (P : Contents → Contents → Type 0) (m n : Contents) (call : Call) (response : Option Response) → P m n → P (after m call) (after n call)
+after_call_either : (P : Contents → Contents → Type 0) (m n : Contents) (call : Call) (response : Option Response) → P m n
+    → P (after m call) (after n call)
     → P (after_call m call response) (after_call n call response)
 after_call_either P m n call None same changed = changed
 after_call_either P m n call (Some r) same changed = after_reply_either P m n call r.reply same changed

@@ -22,7 +22,8 @@ use Rattle.segments.proofs.PartLemmas.{GoesByKeys}
 pub known-IsSegment : (start : Contents) (calls : List Operation) (segment : SegmentView) → IsSegment start calls segment
     → All (λ n. n < length calls) segment.numbers
 known-IsSegment start calls segment h = All-from_contains (λ n. n < length calls) segment.numbers
-    (λ n is. let found = some_at (slice_get calls n) (λ a. IsTrue (belongs a)) (((h.members n n is).0 is).0) in slice_get_within calls n found.0 found.1)
+    (λ n is. let found = some_at (slice_get calls n) (λ a. IsTrue (belongs a)) (((h.members n n is).0 is).0) in slice_get_within calls
+        n found.0 found.1)
 
 -- the calls of a segment are those with its numbers
 pub calls-IsSegment : (start : Contents) (calls : List Operation) (segment : SegmentView) → IsSegment start calls segment
@@ -30,7 +31,8 @@ pub calls-IsSegment : (start : Contents) (calls : List Operation) (segment : Seg
 calls-IsSegment start calls segment h = ap (λ s. s.calls) h.view
 
 -- each call of a segment is within its keys
-pub IsInside-segment : (start : Contents) (calls : List Operation) (segment : SegmentView) (n : ℕ) (a : Operation) → IsSegment start calls segment
+pub IsInside-segment : (start : Contents) (calls : List Operation) (segment : SegmentView) (n : ℕ) (a : Operation)
+    → IsSegment start calls segment
     → Contains segment.numbers n
     → slice_get calls n ≡ Some a
     → IsInside segment.lo segment.hi a.call
@@ -42,13 +44,15 @@ IsInside-segment start calls segment n a h is here =
     }
 
 -- two segments at different places have their keys apart, so the calls of the one leave the pairs of the other
-pub IsOutside-other : (start : Contents) (calls : List Operation) (segments : List SegmentView) (i j : ℕ) (s t : SegmentView) (n : ℕ) (a : Operation)
+pub IsOutside-other : (start : Contents) (calls : List Operation) (segments : List SegmentView) (i j : ℕ) (s t : SegmentView)
+    (n : ℕ) (a : Operation)
     → AreSegments start calls segments
     → (i ≡ j → ⊥)
     → slice_get segments i ≡ Some s → slice_get segments j ≡ Some t
     → Contains t.numbers n → slice_get calls n ≡ Some a → IsOutside s.lo s.hi a.call
 IsOutside-other start calls segments i j s t n a h apart s_at t_at is here =
-    let inside = IsInside-segment start calls t n a (All-contains (IsSegment start calls) segments t h.each (Contains-at segments j t t_at)) is here in
+    let inside = IsInside-segment start calls t n a (All-contains (IsSegment start calls) segments t h.each
+        (Contains-at segments j t t_at)) is here in
     ⊎_elim (λ equal. absurd (apart equal)) (λ other. ⊎_elim
     (λ before. let below = AllPairs-at (λ s t. s.hi < t.lo) segments i j s t h.by_key before s_at t_at in let low = inside.low_inside in
     inr (inr (omega arith)))
@@ -77,8 +81,10 @@ GoesByKeys-segment start calls segments s n h s_is a here = by_test (has_number 
         let t_at : slice_get segments j ≡ Some t = slice_get-get_or segments j t within ∙ ap Some is in
         IsOutside-other start calls segments i j s t n a h
         (λ equal. not_in no_number
-        (subst (λ u. Contains u.numbers n) (same_Some t s (sym t_at ∙ (ap (slice_get segments) (sym equal) ∙ s_at))) holds)) s_at t_at holds here
+        (subst (λ u. Contains u.numbers n) (same_Some t s (sym t_at ∙ (ap (slice_get segments) (sym equal) ∙ s_at))) holds))
+            s_at t_at holds here
 
     by_test : (b : Bool) → has_number s.numbers n ≡ b → MatchBool b (IsInside s.lo s.hi a.call) (IsOutside s.lo s.hi a.call)
-    by_test true e = IsInside-segment start calls s n a (All-contains (IsSegment start calls) segments s h.each s_is) (has_number-Contains s.numbers n e) here
+    by_test true e = IsInside-segment start calls s n a (All-contains (IsSegment start calls) segments s h.each s_is)
+        (has_number-Contains s.numbers n e) here
     by_test false e = outside e (belongs a) refl

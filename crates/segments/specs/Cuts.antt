@@ -24,4 +24,5 @@ BelongsAt calls n = IsSomeAnd (slice_get calls n) (λ a. IsTrue (belongs a))
 
 -- calls m and n are together: no cut separates their keys
 abbrev pub AreTogether : List Operation → ℕ → ℕ → Type 0
-AreTogether calls m n = IsSomeAnd (slice_get calls m) (λ a. IsSomeAnd (slice_get calls n) (λ b. (c : ℕ) → IsCut calls c → Separates c a.call b.call → ⊥))
+AreTogether calls m n = IsSomeAnd (slice_get calls m) (λ a. IsSomeAnd (slice_get calls n) (λ b. (c : ℕ) → IsCut calls c → Separates c
+    a.call b.call → ⊥))

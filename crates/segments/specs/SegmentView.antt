@@ -11,7 +11,8 @@ use Rattle.events.specs.Precedence.{NonePrecedesItself}
 use Rattle.events.specs.Keys.{low_key, high_key}
 use Rattle.orders.specs.Orders.{calls_at}
 
--- some calls by number, with the least and the greatest key that they name, and the pairs from the one to the other that the map holds at the start
+-- some calls by number, with the least and the greatest key that they name, and the pairs from the one to the other that the map holds at
+-- the start
 pub record SegmentView : Type 0 where
   pub numbers : List ℕ
   pub calls : List Operation

@@ -1,5 +1,6 @@
 -- What each step does to holdings that are shared out.
-use Rattle.std.proofs.Common.{◌≡◌, ℕ, ◌+◌, ◌^◌, ◌<◌, ◌≤◌, ◌≢◌, ◌==◌, cond, List, [], ◌∷◌, ◌++◌, length, set, refl, sym, ap, ◌∙◌, length-append, arith}
+use Rattle.std.proofs.Common.{◌≡◌, ℕ, ◌+◌, ◌^◌, ◌<◌, ◌≤◌, ◌≢◌, ◌==◌, cond, List, [], ◌∷◌, ◌++◌, length, set, refl, sym, ap, ◌∙◌}
+use Rattle.std.proofs.Common.{length-append, arith}
 use Rattle.std.specs.Prelude.{sum_by, All}
 use Rattle.std.proofs.lemmas.List.Sums.{sum_by_push, sum_by-append, count_by-le-length}
 use Rattle.std.proofs.lemmas.List.Elements.{All-set, All-weaker, All-push}
@@ -9,7 +10,8 @@ use lib.ListN.{get_elem?}
 use Rattle.atomic_table.proofs.Lists.{set_else}
 use Rattle.tickets.specs.declared.rule.Holding.{Holding}
 use Rattle.tickets.specs.Numbers.{times_in, EachOnce}
-use Rattle.tickets.specs.Holdings.{drawn_count, left_count, times_drawn, IsSharedOut, after_draw, noted, kept_part, given_part, both_parts, no_part}
+use Rattle.tickets.specs.Holdings.{drawn_count, left_count, times_drawn, IsSharedOut, after_draw, noted, kept_part, given_part, both_parts}
+use Rattle.tickets.specs.Holdings.{no_part}
 use Rattle.tickets.proofs.Sums.{All-read, sum_by-replaced, read-le-sum_by, sum_by-plus, sum_by-sole}
 
 -- how often a number stands in a list with one number more
@@ -30,7 +32,8 @@ not_drawn word x n le after = grind (arith, nat_tests)
 
 module _ (quota word : ℕ) (all : List Holding) (shared : IsSharedOut quota word all) where
   -- holdings with the same sums, and no floor above the word, are shared out as well
-  pub IsSharedOut-same : (new : List Holding) → sum_by drawn_count new ≡ sum_by drawn_count all → sum_by left_count new ≡ sum_by left_count all
+  pub IsSharedOut-same : (new : List Holding) → sum_by drawn_count new ≡ sum_by drawn_count all
+      → sum_by left_count new ≡ sum_by left_count all
       → ((x : ℕ) → sum_by (times_drawn x) new ≡ sum_by (times_drawn x) all) → All (λ h. h.floor ≤ word) new → IsSharedOut quota word new
   IsSharedOut-same new drawn left times floors = record {
     small = shared.small;
@@ -64,7 +67,8 @@ module _ (quota word : ℕ) (all : List Holding) (shared : IsSharedOut quota wor
         λ x. let a = sum_by-replaced (times_drawn x) all i h new at in let b = times_in-push h.drawn word x in omega arith in
         record {
           small = shared.small;
-          drawn = let a = sum_by-replaced drawn_count all i h new at in let b = length-append h.drawn (word ∷ []) in let c = shared.drawn in omega arith;
+          drawn = let a = sum_by-replaced drawn_count all i h new at in let b = length-append h.drawn (word ∷ []) in let c =
+              shared.drawn in omega arith;
           left = let a = sum_by-replaced left_count all i h new at in let b = shared.left in omega arith;
           below = λ x lt. times x ∙ drawn_once word x _ lt (shared.below x) (shared.others x);
           others = λ x le. times x ∙ not_drawn word x _ le (shared.others x);
@@ -77,7 +81,8 @@ module _ (quota word : ℕ) (all : List Holding) (shared : IsSharedOut quota wor
     pub IsSharedOut-note : (part : ℕ) → IsSharedOut quota word (set all i (noted h part))
     IsSharedOut-note part =
         let new = noted h part in
-        let same : (f : Holding → ℕ) → f new ≡ f h → sum_by f (set all i new) ≡ sum_by f all = λ f e. let a = sum_by-replaced f all i h new at in omega arith in
+        let same : (f : Holding → ℕ) → f new ≡ f h → sum_by f (set all i new) ≡ sum_by f all = λ f e. let a =
+            sum_by-replaced f all i h new at in omega arith in
         IsSharedOut-same _ (same drawn_count refl) (same left_count refl) (λ x. same (times_drawn x) refl)
         (All-set (λ k. k.floor ≤ word) all i new floor-le shared.floors)
 

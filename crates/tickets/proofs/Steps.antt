@@ -6,13 +6,16 @@ use Rattle.atomic_table.specs.Table.{step, keeps, Allows, Splits, Joins, Final, 
 use Rattle.atomic_table.proofs.Lists.{exchanged, set_again}
 use Rattle.tickets.specs.declared.rule.Holding.{Holding}
 use Rattle.tickets.specs.Numbers.{EachOnce}
-use Rattle.tickets.specs.Holdings.{drawn_count, left_count, IsSharedOut, KeepsCount, Place, after_draw, Draws, noted, SetsAside, StaysWithin, kept_part}
+use Rattle.tickets.specs.Holdings.{drawn_count, left_count, IsSharedOut, KeepsCount, Place, after_draw, Draws, noted, SetsAside}
+use Rattle.tickets.specs.Holdings.{StaysWithin, kept_part}
 use Rattle.tickets.specs.Holdings.{given_part, both_parts, no_part}
-use Rattle.tickets.proofs.Sharing.{floor-le, share-small, IsSharedOut-draw, IsSharedOut-note, IsSharedOut-split, IsSharedOut-join, EachOnce-sole}
+use Rattle.tickets.proofs.Sharing.{floor-le, share-small, IsSharedOut-draw, IsSharedOut-note, IsSharedOut-split, IsSharedOut-join}
+use Rattle.tickets.proofs.Sharing.{EachOnce-sole}
 
 module _ (quota : ℕ) where
   -- the one word is what was written to it
-  written : (new n : ℕ) (words : List ℕ) (all : List Holding) → length words ≡ 1 → new ≡ n → IsSharedOut quota n all → (length (set words 0 new) ≡ 1)
+  written : (new n : ℕ) (words : List ℕ) (all : List Holding) → length words ≡ 1 → new ≡ n → IsSharedOut quota n all
+      → (length (set words 0 new) ≡ 1)
       × IsSharedOut quota (get_or (set words 0 new) 0 0) all
   written new n [] all one same shared = absurd (omega arith)
   written new n (w ∷ words) all one same shared = (one, subst (λ k. IsSharedOut quota k all) (sym same) shared)
@@ -33,7 +36,8 @@ module _ (quota : ℕ) where
         )
 
     -- a note of a part
-    pub note-allowed : (part : ℕ) → Allows (KeepsCount quota) slots id me 0 (λ n. either (n == part) part n) (SetsAside (step slots 0 part part none) me)
+    pub note-allowed : (part : ℕ) → Allows (KeepsCount quota) slots id me 0 (λ n. either (n == part) part n)
+        (SetsAside (step slots 0 part part none) me)
     note-allowed part s holds len at fits =
         let n = get_or s.words 0 0 in
         let same : either (n == part) part n ≡ n = exchanged n part part (λ m. m ≡ n) (λ e. sym e) (λ ne. refl) in (
@@ -65,6 +69,7 @@ module _ (quota : ℕ) where
     join-allowed other k s holds at apart there = (holds.0, IsSharedOut-join quota _ s.views holds.1 id h at other k apart there)
 
     -- the end, where one hand has the whole quota
-    pub EachOnce-end : (words : List ℕ) (slots : List (Unit {0})) → Final (Seen (KeepsCount quota) id h) words slots → drawn_count h + left_count h ≡ quota
+    pub EachOnce-end : (words : List ℕ) (slots : List (Unit {0})) → Final (Seen (KeepsCount quota) id h) words slots
+        → drawn_count h + left_count h ≡ quota
         → EachOnce (length h.drawn) h.drawn
     EachOnce-end words slots end whole = EachOnce-sole quota _ end.0.views end.1.0.1 id h end.1.1 whole

@@ -21,11 +21,13 @@ module _ {X : Type 0} where
     -- a sum after one item was replaced
     pub sum_by-replaced : (xs : List X) (i : ℕ) (x y : X) → get_elem? xs i ≡ some x → sum_by f (set xs i y) + f x ≡ sum_by f xs + f y
     sum_by-replaced xs i x y at =
-        let there = read-within xs i x at in subst (λ z. sum_by f (set xs i y) + f z ≡ sum_by f xs + f y) there.1 (sum_by-set f xs i y x there.0)
+        let there = read-within xs i x at in subst (λ z. sum_by f (set xs i y) + f z ≡ sum_by f xs + f y) there.1
+            (sum_by-set f xs i y x there.0)
 
     -- one item is within the sum
     pub read-le-sum_by : (xs : List X) (i : ℕ) (x : X) → get_elem? xs i ≡ some x → f x ≤ sum_by f xs
-    read-le-sum_by xs i x at = let there = read-within xs i x at in subst (λ z. f z ≤ sum_by f xs) there.1 (get_or-le-sum_by f xs i x there.0)
+    read-le-sum_by xs i x at = let there = read-within xs i x at in subst (λ z. f z ≤ sum_by f xs) there.1
+        (get_or-le-sum_by f xs i x there.0)
 
   -- a sum of sums, item by item
   pub sum_by-plus : (f g : X → ℕ) (xs : List X) → sum_by (λ x. f x + g x) xs ≡ sum_by f xs + sum_by g xs

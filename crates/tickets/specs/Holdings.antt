@@ -1,5 +1,6 @@
 -- What the hands of one counter hold, and the rule of its word.
--- The word is how many numbers were drawn. Each number below it was drawn by one hand, once, and each draw of the quota that is left is with one hand.
+-- The word is how many numbers were drawn. Each number below it was drawn by one hand, once, and each draw of the quota that is left is
+-- with one hand.
 use Rattle.std.specs.Prelude.{◌≡◌, ℕ, ◌+◌, ◌-◌, ◌^◌, ◌<◌, ◌≤◌, List, [], ◌∷◌, ◌++◌, length, slice_index, max, sum_by, All}
 use Rattle.atomic_table.specs.Table.{State, Me, Step}
 use Rattle.tickets.specs.declared.rule.Holding.{Holding}

@@ -39,7 +39,8 @@ long_more n long = grind arith
 pub sum-lengths : (f : ℕ → List Call) (long : ℕ) → ((p : ℕ) → length (f p) ≡ long) → (a n : ℕ)
     → sum (map (λ script. length script) (map f (range_with_len a n))) ≡ n * long
 sum-lengths f long h a zero = omega arith
-sum-lengths f long h a (suc n) = sum_by-cons (λ (x : ℕ). x) (length (f a)) (map (λ script. length script) (map f (range_with_len (a + 1) n)))
+sum-lengths f long h a (suc n) = sum_by-cons (λ (x : ℕ). x) (length (f a)) (map (λ script. length script)
+    (map f (range_with_len (a + 1) n)))
     ∙ ap₂ (λ (x y : ℕ). x + y) (h a) (sum-lengths f long h (a + 1) n) ∙ long_more n long
 
 -- whatever holds of each item that a function gives holds of all that it gives for a list of numbers
@@ -50,14 +51,16 @@ All-given P f h ps = All-map P f ps (λ k d _. h _)
 key_by-small : (mix : Mix) (word : ℕ) → mix.lo ≤ mix.hi → mix.hi < 2 ^ 32 → key_by mix word < 2 ^ 32
 key_by-small mix word le lt = grind arith
 
-call_by-tree : (mix : Mix) (share key : ℕ) (g : Lcg) → mix.lo ≤ mix.hi → mix.hi < 2 ^ 32 → key < 2 ^ 32 → IsTrue (is_tree_call (call_by mix share key g).0)
+call_by-tree : (mix : Mix) (share key : ℕ) (g : Lcg) → mix.lo ≤ mix.hi → mix.hi < 2 ^ 32 → key < 2 ^ 32
+    → IsTrue (is_tree_call (call_by mix share key g).0)
 call_by-tree mix share key g le lt small = grind (arith, tests)
 
 -- a call that is drawn is one that a tree can do
 next_call-tree : (mix : Mix) (g : Lcg) → mix.lo ≤ mix.hi → mix.hi < 2 ^ 32 → IsTrue (is_tree_call (next_call mix g).0)
 next_call-tree mix g le lt = call_by-tree mix _ _ _ le lt (key_by-small mix _ le lt)
 
-tree_calls : (mix : Mix) → mix.lo ≤ mix.hi → mix.hi < 2 ^ 32 → (n : ℕ) (g : Lcg) → AllByRecursion (λ call. IsTrue (is_tree_call call)) (calls_drawn mix n g)
+tree_calls : (mix : Mix) → mix.lo ≤ mix.hi → mix.hi < 2 ^ 32 → (n : ℕ) (g : Lcg)
+    → AllByRecursion (λ call. IsTrue (is_tree_call call)) (calls_drawn mix n g)
 unfolding calls_drawn
 tree_calls mix le lt zero g = tt
 tree_calls mix le lt (suc n) g = (next_call-tree mix g le lt, tree_calls mix le lt n (next_call mix g).1)
@@ -85,4 +88,5 @@ scripts_of-are_scripts seed processes calls mix lt keys within =
 pub scripts-more : (f : ℕ → List Call) (before : List (List Call)) (script : List Call) (a n k : ℕ) → script ≡ f a → k ≡ suc n
     → (before ++ script ∷ []) ++ map f (range_with_len (a + 1) n) ≡ before ++ map f (range_with_len a k)
 scripts-more f before script a n k e g = append_assoc before (script ∷ []) (map f (range_with_len (a + 1) n))
-    ∙ ap (λ (s : List Call). before ++ s ∷ map f (range_with_len (a + 1) n)) e ∙ ap (λ (m : ℕ). before ++ map f (range_with_len a m)) (sym g)
+    ∙ ap (λ (s : List Call). before ++ s ∷ map f (range_with_len (a + 1) n)) e
+    ∙ ap (λ (m : ℕ). before ++ map f (range_with_len a m)) (sym g)

@@ -1,5 +1,6 @@
 -- A run whose calls have their effects within them has points.
-use Rattle.std.proofs.Common.{◌≡◌, ℕ, ◌+◌, ◌<◌, ◌≤◌, Bool, true, false, List, length, Option, Some, None, refl, sym, ap, ◌∙◌, subst, inl, inr, ⊎_elim, arith}
+use Rattle.std.proofs.Common.{◌≡◌, ℕ, ◌+◌, ◌<◌, ◌≤◌, Bool, true, false, List, length, Option, Some, None, refl, sym, ap, ◌∙◌, subst, inl}
+use Rattle.std.proofs.Common.{inr, ⊎_elim, arith}
 use Rattle.std.specs.Prelude.{◌≢◌, ◌⊎◌, slice_get, IsTrue, IsSome, IfSome, is_some}
 use Rattle.std.proofs.lemmas.Bool.{false≢true}
 use Rattle.std.proofs.lemmas.Option.{same_Some, slice_get_within}
@@ -50,7 +51,8 @@ module _ (plan : Plan) (start : Contents) (first : State) (schedule : List ℕ) 
           let within = slice_get_within schedule u c.process ends.turn in
           (Some x.t, (omega arith, x.within, inr (x.does, x.nothing)))
 
-  module _ (points : ℕ → Option ℕ) (each : (n : ℕ) (a : Operation) → slice_get calls n ≡ Some a → IsPointOf a (h.call_of n) (points n)) where
+  module _ (points : ℕ → Option ℕ) (each : (n : ℕ) (a : Operation) → slice_get calls n ≡ Some a → IsPointOf a
+      (h.call_of n) (points n)) where
     pointed : (n t : ℕ) (a : Operation) → HasPoint calls points n a t → IsPointOf a (h.call_of n) (Some t)
     pointed n t a has = subst (IsPointOf a (h.call_of n)) has.point (each n a has.call)
 
@@ -68,7 +70,8 @@ module _ (plan : Plan) (start : Contents) (first : State) (schedule : List ℕ) 
         let window = (pointed n p a has).1 in
         (omega (arith, window.0), λ completed. until a.response (h.call_of n).ends completed (h.each n a has.call).ends window.1)
       where
-        until : (response : Option Response) (o : Option ℕ) → IsTrue (is_some response) → EndsWith plan first schedule (h.call_of n) a.call response o
+        until : (response : Option Response) (o : Option ℕ) → IsTrue (is_some response)
+            → EndsWith plan first schedule (h.call_of n) a.call response o
             → IfSome o (λ e. p ≤ e) → p ≤ last_step o
         until None o completed ends le = cc
         until (Some r) None completed ends le = absurd ends

@@ -1,5 +1,6 @@
 -- The calls of a list of events, by the places of their invocations and responses.
-use Rattle.std.proofs.Common.{◌≡◌, ℕ, zero, suc, ◌+◌, ◌<◌, ◌≤◌, ◌==◌, Bool, true, false, cond, List, [], ◌∷◌, Option, Some, None, refl, sym, ◌∙◌, subst, arith}
+use Rattle.std.proofs.Common.{◌≡◌, ℕ, zero, suc, ◌+◌, ◌<◌, ◌≤◌, ◌==◌, Bool, true, false, cond, List, [], ◌∷◌, Option, Some, None, refl, sym}
+use Rattle.std.proofs.Common.{◌∙◌, subst, arith}
 use Rattle.std.proofs.Common.{eqb-true, eq-eqb}
 use Rattle.std.specs.Prelude.{slice_get}
 use Rattle.std.proofs.lemmas.Bool.{false≢true}
@@ -32,15 +33,18 @@ not_before i events k e (j, is, here) = omega arith
 -- the first response of a process
 abbrev IsFirstAnswer : ℕ → ℕ → List Event → Option Response → Type 0
 IsFirstAnswer p i events None = (k : ℕ) (reply : Reply) → HasAt i events k (Answer p reply) → ⊥
-IsFirstAnswer p i events (Some r) = HasAt i events r.res (Answer p r.reply) × ((k : ℕ) (reply : Reply) → k < r.res → HasAt i events k (Answer p reply) → ⊥)
+IsFirstAnswer p i events (Some r) = HasAt i events r.res (Answer p r.reply)
+    × ((k : ℕ) (reply : Reply) → k < r.res → HasAt i events k (Answer p reply) → ⊥)
 
 -- and the first one behind a place
 abbrev pub IsNextAnswer : ℕ → ℕ → List Event → ℕ → Option Response → Type 0
 IsNextAnswer p i events place None = (k : ℕ) (reply : Reply) → place < k → HasAt i events k (Answer p reply) → ⊥
 IsNextAnswer p i events place (Some r) =
-    (place < r.res) × HasAt i events r.res (Answer p r.reply) × ((k : ℕ) (reply : Reply) → place < k → k < r.res → HasAt i events k (Answer p reply) → ⊥)
+    (place < r.res) × HasAt i events r.res (Answer p r.reply)
+        × ((k : ℕ) (reply : Reply) → place < k → k < r.res → HasAt i events k (Answer p reply) → ⊥)
 
-no_answer : (i p q : ℕ) (call : Call) (events : List Event) (k : ℕ) (reply : Reply) → HasAt i (Invoke q call ∷ events) k (Answer p reply) → i < k
+no_answer : (i p q : ℕ) (call : Call) (events : List Event) (k : ℕ) (reply : Reply)
+    → HasAt i (Invoke q call ∷ events) k (Answer p reply) → i < k
 no_answer i p q call events k reply (zero, is, here) = cc
 no_answer i p q call events k reply (suc j, is, here) = omega arith
 
@@ -54,7 +58,8 @@ first_answer p i [] = λ k reply (j, is, here). none-some (Answer p reply) here
 first_answer p i (Invoke q call ∷ events) = goes_on (response_from p (suc i) events) (first_answer p (suc i) events)
   where
     goes_on : (o : Option Response) → IsFirstAnswer p (suc i) events o → IsFirstAnswer p i (Invoke q call ∷ events) o
-    goes_on None h = λ k reply is. h k reply (earlier i (Invoke q call) events k (Answer p reply) (no_answer i p q call events k reply is) is)
+    goes_on None h = λ k reply is. h k reply (earlier i (Invoke q call) events k (Answer p reply)
+        (no_answer i p q call events k reply is) is)
     goes_on (Some r) h = (
       later i (Invoke q call) events r.res (Answer p r.reply) h.0,
       λ k reply less is. h.1 k reply less (earlier i (Invoke q call) events k (Answer p reply) (no_answer i p q call events k reply is) is),
@@ -68,14 +73,17 @@ first_answer p i (Answer q answer ∷ events) = by_test (q == p) refl (response_
       λ k reply less is. let up = not_before i (Answer q answer ∷ events) k (Answer p reply) is in omega arith,
     )
     by_test false other None h =
-        λ k reply is. h k reply (earlier i (Answer q answer) events k (Answer p reply) (other_answer i p q answer events k reply other is) is)
+        λ k reply is. h k reply (earlier i (Answer q answer) events k (Answer p reply) (other_answer i p q answer events k
+            reply other is) is)
     by_test false other (Some r) h = (
       later i (Answer q answer) events r.res (Answer p r.reply) h.0,
-      λ k reply less is. h.1 k reply less (earlier i (Answer q answer) events k (Answer p reply) (other_answer i p q answer events k reply other is) is),
+      λ k reply less is. h.1 k reply less (earlier i (Answer q answer) events k (Answer p reply) (other_answer i p q answer events k
+          reply other is) is),
     )
 
 -- what stands behind a place of the rest stands behind it in the whole
-next_later : (p i : ℕ) (x : Event) (events : List Event) (place : ℕ) (o : Option Response) → i < place → IsNextAnswer p (suc i) events place o
+next_later : (p i : ℕ) (x : Event) (events : List Event) (place : ℕ) (o : Option Response) → i < place
+    → IsNextAnswer p (suc i) events place o
     → IsNextAnswer p i (x ∷ events) place o
 next_later p i x events place None up h = λ k reply less is. h k reply less (earlier i x events k (Answer p reply) (omega arith) is)
 next_later p i x events place (Some r) up h = (
@@ -85,7 +93,8 @@ next_later p i x events place (Some r) up h = (
 )
 
 -- the first response of the rest is the first one behind the first place
-next_first : (p i : ℕ) (x : Event) (events : List Event) (o : Option Response) → IsFirstAnswer p (suc i) events o → IsNextAnswer p i (x ∷ events) i o
+next_first : (p i : ℕ) (x : Event) (events : List Event) (o : Option Response) → IsFirstAnswer p (suc i) events o
+    → IsNextAnswer p i (x ∷ events) i o
 next_first p i x events None h = λ k reply less is. h k reply (earlier i x events k (Answer p reply) less is)
 next_first p i x events (Some r) h = (
   let up = not_before (suc i) events r.res (Answer p r.reply) h.0 in omega arith,
@@ -117,7 +126,8 @@ call_from i (Invoke p call ∷ events) (suc n) a here =
       invoked = later i (Invoke p call) events a.inv (Invoke c.process a.call) c.invoked;
       response = next_later c.process i (Invoke p call) events a.inv a.response (omega arith) c.response;
     }
-call_from i (Invoke p call ∷ events) zero a here = subst (IsCallAt i (Invoke p call ∷ events)) (same_Some (operation_of p call i events) a here) (record {
+call_from i (Invoke p call ∷ events) zero a here =
+    subst (IsCallAt i (Invoke p call ∷ events)) (same_Some (operation_of p call i events) a here) (record {
   process = p;
   invoked = at_first i (Invoke p call) events;
   response = next_first p i (Invoke p call) events (response_from p (suc i) events) (first_answer p (suc i) events);

@@ -157,7 +157,8 @@ module _ (plan : Plan) (start : Contents) (first : State) (schedule : List ℕ) 
         go (Finds x) = absurd (false≢true (sym (x.nothing t (its-step e.changes p number c t own)) ∙ own.change))
         go (Pends pending nothing) = absurd (false≢true (sym (nothing t (its-step e.changes p number c t own)) ∙ own.change))
 
-    once : (t u p number : ℕ) → ChangesIn plan first schedule e.changes t p number → ChangesIn plan first schedule e.changes u p number → t ≡ u
+    once : (t u p number : ℕ) → ChangesIn plan first schedule e.changes t p number
+        → ChangesIn plan first schedule e.changes u p number → t ≡ u
     once t u p number one two =
         let c = the-call t p number one.now one.call one.at one.is_in in
         let x = changes-once p number c t one in

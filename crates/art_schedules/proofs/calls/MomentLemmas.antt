@@ -14,7 +14,8 @@ use Rattle.events.specs.Events.{process_of}
 use Rattle.art_steps.specs.Steps.{Turn, Asks, Answers}
 use Rattle.art_steps.specs.Act.{act}
 use Rattle.art_core.specs.declared.process.Process.{Process}
-use Rattle.art_core.specs.Core.{Plan, State, Move, Invokes, Makes, Responds, begun, step, move_of, move_from, next_call, next_move, known_reply, opened_on}
+use Rattle.art_core.specs.Core.{Plan, State, Move, Invokes, Makes, Responds, begun, step, move_of, move_from, next_call, next_move}
+use Rattle.art_core.specs.Core.{known_reply, opened_on}
 use Rattle.art_core.specs.Core.{invocation, after_move, word_of_move}
 use Rattle.art_core.specs.Runs.{run_on, At}
 use Rattle.art_core.proofs.HistoryLemmas.{all-idle, nowhere, is-moved, changed-at, step-lengths}
@@ -34,7 +35,8 @@ pub moment-before : (plan : Plan) (first : State) (schedule : List ℕ) (t : ℕ
     → (At plan first schedule t next × (length schedule ≤ t)) ⊎ StepAt plan first schedule t next
 moment-before plan first [] zero next h = inl (h, omega arith)
 moment-before plan first [] (suc t) next h = inl (h, omega arith)
-moment-before plan first (x ∷ schedule) zero next h = inr (record { before = first; at = refl; turn = x; here = refl; is = one (step plan first x) h })
+moment-before plan first (x ∷ schedule) zero next h =
+    inr (record { before = first; at = refl; turn = x; here = refl; is = one (step plan first x) h })
   where
     one : (o : Option State) → run_on plan o [] ≡ Some next → o ≡ Some next
     one None k = absurd (none-some next k)
@@ -42,13 +44,15 @@ moment-before plan first (x ∷ schedule) zero next h = inr (record { before = f
 moment-before plan first (x ∷ schedule) (suc t) next h = go (step plan first x) refl (λ s. moment-before plan s schedule t next) h
   where
     go : (o : Option State) → step plan first x ≡ o
-        → ((s : State) → At plan s schedule (suc t) next → (At plan s schedule t next × (length schedule ≤ t)) ⊎ StepAt plan s schedule t next)
+        → ((s : State) → At plan s schedule (suc t) next → (At plan s schedule t next × (length schedule ≤ t))
+        ⊎ StepAt plan s schedule t next)
         → run_on plan o (take (suc t) schedule) ≡ Some next
         → (At plan first (x ∷ schedule) (suc t) next × (length (x ∷ schedule) ≤ suc t)) ⊎ StepAt plan first (x ∷ schedule) (suc t) next
     go None e rest k = absurd (nowhere plan (take (suc t) schedule) next k)
     go (Some s) e rest k = ⊎_elim
         (λ over. let short = over.1 in inl (ap (λ o. run_on plan o (take t schedule)) e ∙ over.0, omega arith))
-        (λ r. inr (record { before = r.before; at = ap (λ o. run_on plan o (take t schedule)) e ∙ r.at; turn = r.turn; here = r.here; is = r.is })) (rest s k)
+        (λ r. inr (record { before = r.before; at = ap (λ o. run_on plan o (take t schedule)) e ∙ r.at; turn = r.turn; here = r.here; is =
+            r.is })) (rest s k)
 
 -- the move that logs an event
 abbrev pub logging : Event → Move
@@ -90,7 +94,8 @@ responds-next plan p w reply h = go w.call refl h
     calls None k = none-some (Responds reply) k
     calls (Some other) k = cc
 
-    turns : (call : Call) (t : Turn) → act plan.shape plan.variant call w.got ≡ t → ◌≡◌ {A = Option Move} (Some (move_of t)) (Some (Responds reply))
+    turns : (call : Call) (t : Turn) → act plan.shape plan.variant call w.got ≡ t
+        → ◌≡◌ {A = Option Move} (Some (move_of t)) (Some (Responds reply))
         → known_reply plan w.got (Some call) ≡ Some reply
     turns call (Asks a point) e k = absurd (cc k)
     turns call (Answers other) e k = let same : other ≡ reply = cc in rw e (ap Some same)
@@ -103,8 +108,10 @@ responds-next plan p w reply h = go w.call refl h
 -- How process p goes on in a step of process r, from w to q.
 pub data Goes (plan : Plan) (r p : ℕ) (w q : Process) : Type 0 where
   Stays : q.call ≡ w.call → length (begun q) ≡ length (begun w) → Goes plan r p w q
-  Begins : (call : Call) → r ≡ p → next_move plan p w ≡ Some (Invokes call) → q.call ≡ Some call → length (begun q) ≡ length (begun w) + 1 → Goes plan r p w q
-  Ends : (reply : Reply) → r ≡ p → next_move plan p w ≡ Some (Responds reply) → q.call ≡ None → length (begun q) ≡ length (begun w) → Goes plan r p w q
+  Begins : (call : Call) → r ≡ p → next_move plan p w ≡ Some (Invokes call) → q.call ≡ Some call → length (begun q) ≡ length (begun w) + 1
+      → Goes plan r p w q
+  Ends : (reply : Reply) → r ≡ p → next_move plan p w ≡ Some (Responds reply) → q.call ≡ None → length (begun q) ≡ length (begun w)
+      → Goes plan r p w q
 
 moves-on : (plan : Plan) (p n : ℕ) (w : Process) (m : Move) → next_move plan p w ≡ Some m → Goes plan p p w (after_move p m n w)
 moves-on plan p n w (Invokes call) h =
@@ -118,7 +125,8 @@ pub record Went (plan : Plan) (s : State) (r p : ℕ) (q : Process) : Type 0 whe
   pub own : slice_get s.processes p ≡ Some process
   pub goes : Goes plan r p process q
 
-pub went : (plan : Plan) (s next : State) (r p : ℕ) (q : Process) → step plan s r ≡ Some next → slice_get next.processes p ≡ Some q → Went plan s r p q
+pub went : (plan : Plan) (s next : State) (r p : ℕ) (q : Process) → step plan s r ≡ Some next → slice_get next.processes p ≡ Some q
+    → Went plan s r p q
 went plan s next r p q e own =
     let m = is-moved plan s r next e in
     let n = slice_index s.words (word_of_move m.move) in
@@ -191,9 +199,11 @@ module _ (plan : Plan) (first : State) (schedule : List ℕ) (p : ℕ) where
   goes-on (suc t) begun_at calls call now less at begins silent = ⊎_elim
       (λ later. ⊎_elim
       (λ over. goes-on t begun_at calls call now later over.0 begins (λ u reply low high. silent u reply low (omega arith)))
-      (λ r. one-more r (goes-on t begun_at calls call r.before later r.at begins (λ u reply low high. silent u reply low (omega arith))) later)
+      (λ r. one-more r (goes-on t begun_at calls call r.before later r.at begins (λ u reply low high. silent u reply low
+          (omega arith))) later)
       (moment-before plan first schedule t now at))
-      (λ same. let e : t ≡ begun_at = omega arith in begins now (subst (λ i. At plan first schedule (suc i) now) e at)) (cases_lt begun_at t)
+      (λ same. let e : t ≡ begun_at = omega arith in begins now (subst (λ i. At plan first schedule (suc i) now) e at))
+          (cases_lt begun_at t)
     where
       one-more : (r : StepAt plan first schedule t now) → IsIn r.before p calls call → begun_at < t → IsIn now p calls call
       one-more r is later =
@@ -204,9 +214,11 @@ module _ (plan : Plan) (first : State) (schedule : List ℕ) (p : ℕ) where
           let same = same_Some is.process b.process (sym is.own ∙ b.own) in
           ends r is later q own (subst (λ w. Goes plan r.turn p w q) (sym same) b.goes)
         where
-          ends : (r : StepAt plan first schedule t now) (is : IsIn r.before p calls call) → begun_at < t → (q : Process) → slice_get now.processes p ≡ Some q
+          ends : (r : StepAt plan first schedule t now) (is : IsIn r.before p calls call) → begun_at < t → (q : Process)
+              → slice_get now.processes p ≡ Some q
               → Goes plan r.turn p is.process q → IsIn now p calls call
-          ends r is later q own (Stays same count) = record { process = q; own = own; count = count ∙ is.count; is_open = same ∙ is.is_open }
+          ends r is later q own (Stays same count) =
+              record { process = q; own = own; count = count ∙ is.count; is_open = same ∙ is.is_open }
           ends r is later q own (Begins other turn next open_now count) =
               absurd (none-some call (sym (invokes-next plan p is.process other next).0 ∙ is.is_open))
           ends r is later q own (Ends reply turn next idle count) = absurd (silent t reply later (omega arith) (record {
@@ -221,7 +233,8 @@ module _ (plan : Plan) (first : State) (schedule : List ℕ) (p : ℕ) where
 -- there is a state at each earlier moment
 pub earlier-moment : (plan : Plan) (first : State) (schedule : List ℕ) (t u : ℕ) (now : State) → u ≤ t → At plan first schedule t now
     → (then : State) × At plan first schedule u then
-earlier-moment plan first schedule zero u now le at = (now, let same : u ≡ 0 = omega arith in subst (λ i. At plan first schedule i now) (sym same) at)
+earlier-moment plan first schedule zero u now le at =
+    (now, let same : u ≡ 0 = omega arith in subst (λ i. At plan first schedule i now) (sym same) at)
 earlier-moment plan first schedule (suc t) u now le at = ⊎_elim
     (λ less. ⊎_elim (λ over. earlier-moment plan first schedule t u now (omega arith) over.0)
     (λ r. earlier-moment plan first schedule t u r.before (omega arith) r.at) (moment-before plan first schedule t now at))
@@ -232,7 +245,8 @@ pub record Moved (plan : Plan) (next : State) (p : ℕ) (w : Process) (m : Move)
   pub word : ℕ
   pub own : slice_get next.processes p ≡ Some (after_move p m word w)
 
-pub moved-now : (plan : Plan) (before next : State) (p : ℕ) (w : Process) (m : Move) → step plan before p ≡ Some next → slice_get before.processes p ≡ Some w
+pub moved-now : (plan : Plan) (before next : State) (p : ℕ) (w : Process) (m : Move) → step plan before p ≡ Some next
+    → slice_get before.processes p ≡ Some w
     → next_move plan p w ≡ Some m → Moved plan next p w m
 moved-now plan before next p w m is own is_next =
     let r = is-moved plan before p next is in
@@ -248,7 +262,8 @@ moved-now plan before next p w m is own is_next =
     record { word = n; own = here ∙ ap Some (known ∙ ap₂ (λ (x : Move) (y : Process). after_move p x n y) move same) }
 
 -- after an invocation the process is in the call, and after a response in none
-pub in-call : (plan : Plan) (next : State) (p : ℕ) (w : Process) (call : Call) → Moved plan next p w (Invokes call) → IsIn next p (length (begun w) + 1) call
+pub in-call : (plan : Plan) (next : State) (p : ℕ) (w : Process) (call : Call) → Moved plan next p w (Invokes call)
+    → IsIn next p (length (begun w) + 1) call
 in-call plan next p w call m = record {
   process = after_move p (Invokes call) m.word w;
   own = m.own;
@@ -265,8 +280,10 @@ stage-after plan next p w reply m =
     omega arith
 
 -- a process that is in a call has begun it at a step before
-pub begun-before : (plan : Plan) (words schedule : List ℕ) (t : ℕ) (now : State) (p calls : ℕ) (call : Call) → At plan (opened_on plan words) schedule t now
-    → IsIn now p calls call → (u : ℕ) × (l : LogsAt plan (opened_on plan words) schedule u (Invoke p call)) × (length (begun l.process) + 1 ≡ calls)
+pub begun-before : (plan : Plan) (words schedule : List ℕ) (t : ℕ) (now : State) (p calls : ℕ) (call : Call)
+    → At plan (opened_on plan words) schedule t now
+    → IsIn now p calls call → (u : ℕ) × (l : LogsAt plan (opened_on plan words) schedule u (Invoke p call))
+    × (length (begun l.process) + 1 ≡ calls)
 begun-before plan words schedule zero now p calls call at is =
     let first = same_Some (opened_on plan words) now at in
     let idle = all-idle (length plan.scripts) p is.process (ap (λ s. slice_get s.processes p) first ∙ is.own) in
@@ -278,11 +295,13 @@ begun-before plan words schedule (suc t) now p calls call at is = ⊎_elim
     by_step r b.process b.own b.goes (begun-before plan words schedule t r.before p calls call r.at))
     (moment-before plan (opened_on plan words) schedule t now at)
   where
-    by_step : (r : StepAt plan (opened_on plan words) schedule t now) (w : Process) → slice_get r.before.processes p ≡ Some w → Goes plan r.turn p w is.process
+    by_step : (r : StepAt plan (opened_on plan words) schedule t now) (w : Process) → slice_get r.before.processes p ≡ Some w
+        → Goes plan r.turn p w is.process
         → (IsIn r.before p calls call
         → (u : ℕ) × (l : LogsAt plan (opened_on plan words) schedule u (Invoke p call)) × (length (begun l.process) + 1 ≡ calls))
         → (u : ℕ) × (l : LogsAt plan (opened_on plan words) schedule u (Invoke p call)) × (length (begun l.process) + 1 ≡ calls)
-    by_step r w own (Stays same count) rest = rest (record { process = w; own = own; count = sym count ∙ is.count; is_open = sym same ∙ is.is_open })
+    by_step r w own (Stays same count) rest = rest (record { process = w; own = own; count = sym count ∙ is.count; is_open = sym
+        same ∙ is.is_open })
     by_step r w own (Begins other turn next open_now count) rest =
         let same : other ≡ call = same_Some other call (sym open_now ∙ is.is_open) in (
           t,

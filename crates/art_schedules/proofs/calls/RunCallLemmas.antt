@@ -26,7 +26,8 @@ use Rattle.art_core.proofs.HistoryLemmas.{logged, start-clock, start-length}
 use Rattle.art_schedules.specs.calls.RunCalls.{IsIn, EndsAt, RunCall, IsWithin, EndsWith, IsRunCall, last_step, HasCalls}
 use Rattle.art_schedules.specs.calls.Laws.{RunsHaveCalls}
 use Rattle.art_schedules.proofs.calls.EventPlaceLemmas.{IsNextAnswer, IsCallAt, call_at, invocation_at, at_place, from_place}
-use Rattle.art_schedules.proofs.calls.MomentLemmas.{LogsAt, begun-before, earlier-moment, goes-on, in-call, invokes-next, moment-before, moved-now}
+use Rattle.art_schedules.proofs.calls.MomentLemmas.{LogsAt, begun-before, earlier-moment, goes-on, in-call, invokes-next, moment-before}
+use Rattle.art_schedules.proofs.calls.MomentLemmas.{moved-now}
 use Rattle.art_schedules.proofs.calls.MomentLemmas.{responds-next}
 use Rattle.art_schedules.proofs.calls.MomentLemmas.{same-process, stage-after, stage-idle, stage-open, stage-rises}
 use Rattle.art_schedules.proofs.calls.TraceLemmas.{Dated, Traced, traced}
@@ -69,7 +70,8 @@ module _ (plan : Plan) (words schedule : List ℕ) (s : State) (trace : Traced p
   places-go-up : (i j t u : ℕ) (e f : Event) → IsDated i t e → IsDated j u f → t < u → i < j
   places-go-up i j t u e f here there less = ⊎_elim
       (λ same. let k = same-step i j t u e f here there same in absurd (omega arith))
-      (λ differ. ⊎_elim (λ before. before) (λ after. let k = steps-go-up j i u t f e there here after in absurd (omega arith)) differ) (cases_order i j)
+      (λ differ. ⊎_elim (λ before. before) (λ after. let k = steps-go-up j i u t f e there here after in absurd (omega arith))
+          differ) (cases_order i j)
 
   same-place : (i j t u : ℕ) (e f : Event) → IsDated i t e → IsDated j u f → t ≡ u → i ≡ j
   same-place i j t u e f here there same = ⊎_elim (λ equal. equal)
@@ -77,13 +79,15 @@ module _ (plan : Plan) (words schedule : List ℕ) (s : State) (trace : Traced p
       (λ after. let k = steps-go-up j i u t f e there here after in absurd (omega arith)) differ) (cases_order i j)
 
   -- a step that logs an event has its place in the history
-  place-of-step : (t : ℕ) (e : Event) → LogsAt plan first schedule t e → (place : ℕ) × IsDated place t e × (slice_get history place ≡ Some e)
+  place-of-step : (t : ℕ) (e : Event) → LogsAt plan first schedule t e → (place : ℕ) × IsDated place t e
+      × (slice_get history place ≡ Some e)
   place-of-step t e logs =
       let among = trace.complete t e (slice_get_within schedule t (process_of e) logs.turn) logs in
       let (place, is) = place_of-Contains trace.events (t, e) among in (
         place,
         is,
-        ap (λ es. slice_get es place) trace.history ∙ (slice_get-map (λ (x : Dated). x.1) trace.events place ∙ ap (option_map (λ (x : Dated). x.1)) is),
+        ap (λ es. slice_get es place) trace.history
+            ∙ (slice_get-map (λ (x : Dated). x.1) trace.events place ∙ ap (option_map (λ (x : Dated). x.1)) is),
       )
 
   -- the step that logs the response
@@ -98,7 +102,8 @@ module _ (plan : Plan) (words schedule : List ℕ) (s : State) (trace : Traced p
     begun_at : IsDated a.inv c.begins (Invoke c.process a.call)
     ended_at : EndsAtPlace c.process a.response c.ends
 
-  module _ (a : Operation) (is : IsCallAt 0 history a) (begins : ℕ) (begun_at : IsDated a.inv begins (Invoke is.process a.call)) (ends : Option ℕ)
+  module _ (a : Operation) (is : IsCallAt 0 history a) (begins : ℕ)
+      (begun_at : IsDated a.inv begins (Invoke is.process a.call)) (ends : Option ℕ)
       (ended_at : EndsAtPlace is.process a.response ends) where
     abbrev p : ℕ
     p = is.process
@@ -136,7 +141,8 @@ module _ (plan : Plan) (words schedule : List ℕ) (s : State) (trace : Traced p
         by_response : (place : ℕ) → IsDated place u (Answer p reply) → slice_get history place ≡ Some (Answer p reply) → a.inv < place
             → (response : Option Response) (ends : Option ℕ) → IsNextAnswer p 0 history a.inv response → EndsAtPlace p response ends
             → IfSome ends (λ e. t ≤ e) → ⊥
-        by_response place is_dated here after None None none at until = none place reply after (from_place history place (Answer p reply) here)
+        by_response place is_dated here after None None none at until =
+            none place reply after (from_place history place (Answer p reply) here)
         by_response place is_dated here after None (Some e) none at until = at
         by_response place is_dated here after (Some r) None next at until = at
         by_response place is_dated here after (Some r) (Some e) next at until =
@@ -145,7 +151,8 @@ module _ (plan : Plan) (words schedule : List ℕ) (s : State) (trace : Traced p
 
     during : (t : ℕ) (now : State) → At plan first schedule t now → IsWithin run_call t → IsIn now p calls a.call
     during t now at within =
-        goes-on plan first schedule p t begins calls a.call now within.0 at next-moment (λ u reply low high logs. silent t u reply low high within.1 logs)
+        goes-on plan first schedule p t begins calls a.call now within.0 at next-moment
+            (λ u reply low high logs. silent t u reply low high within.1 logs)
 
     -- the response
     ending : (r : Response) (e : ℕ) → a.response ≡ Some r → ends ≡ Some e → IsDated r.res e (Answer p r.reply) → a.inv < r.res
@@ -166,14 +173,16 @@ module _ (plan : Plan) (words schedule : List ℕ) (s : State) (trace : Traced p
         }
 
     -- a process that is in the call is not behind its response
-    not-after : (t : ℕ) (now : State) (call : Call) (r : Response) (e : ℕ) → At plan first schedule t now → IsIn now p calls call → a.response ≡ Some r
+    not-after : (t : ℕ) (now : State) (call : Call) (r : Response) (e : ℕ) → At plan first schedule t now → IsIn now p calls call
+        → a.response ≡ Some r
         → ends ≡ Some e → IsDated r.res e (Answer p r.reply) → a.inv < r.res → e < t → ⊥
     not-after t now call r e at in_it response is_ends dated_at after late =
         let le = logs-dated r.res e (Answer p r.reply) dated_at in
         let ended = ending r e response is_ends dated_at after in
         let within = slice_get_within schedule e p le.turn in
         let (next, next_at) = earlier-moment plan first schedule t (suc e) now (omega arith) at in
-        let same = same-process plan first schedule p e ended.before le.now ended.is_in.process le.process ended.at le.at ended.is_in.own le.own in
+        let same = same-process plan first schedule p e ended.before le.now ended.is_in.process le.process ended.at le.at
+            ended.is_in.own le.own in
         ⊎_elim (λ over. omega arith)
         (λ b.
         let turn : b.turn ≡ p = same_Some b.turn p (sym b.here ∙ le.turn) in
@@ -184,11 +193,13 @@ module _ (plan : Plan) (words schedule : List ℕ) (s : State) (trace : Traced p
         let low = stage-open in_it.process call in_it.is_open in
         let count : length (begun le.process) ≡ calls = ap (λ q. length (begun q)) (sym same) ∙ ended.is_in.count in
         let count_now = in_it.count in
-        let up = stage-rises plan first schedule p (suc e) t next now (after_move p (Responds r.reply) m.word le.process) in_it.process (omega arith) next_at at
+        let up = stage-rises plan first schedule p (suc e) t next now (after_move p (Responds r.reply) m.word le.process) in_it.process
+            (omega arith) next_at at
         m.own in_it.own in
         omega arith) (moment-before plan first schedule e next next_at)
 
-    within : (t : ℕ) (now : State) (call : Call) → At plan first schedule t now → IsIn now p calls call → IsWithin run_call t × (call ≡ a.call)
+    within : (t : ℕ) (now : State) (call : Call) → At plan first schedule t now → IsIn now p calls call
+        → IsWithin run_call t × (call ≡ a.call)
     within t now call at in_it =
         let window : IsWithin run_call t = (begun_by_then, until a.response refl ends refl is.response ended_at) in
         let known = during t now at window in
@@ -201,7 +212,8 @@ module _ (plan : Plan) (words schedule : List ℕ) (s : State) (trace : Traced p
             let high = stage-open in_it.process call in_it.is_open in
             let low = stage-idle logs.process idle in
             let count = in_it.count in
-            let up = stage-rises plan first schedule p t begins now logs.now in_it.process logs.process more at logs.at in_it.own logs.own in
+            let up = stage-rises plan first schedule p t begins now logs.now in_it.process logs.process more at logs.at
+                in_it.own logs.own in
             absurd (omega arith)) (cases_lt begins t)
 
         until : (response : Option Response) → a.response ≡ response → (o : Option ℕ) → ends ≡ o → IsNextAnswer p 0 history a.inv response
@@ -234,7 +246,8 @@ module _ (plan : Plan) (words schedule : List ℕ) (s : State) (trace : Traced p
       ended_at = ended_at;
     }
       where
-        ends_with : (response : Option Response) → a.response ≡ response → (o : Option ℕ) → ends ≡ o → IsNextAnswer p 0 history a.inv response
+        ends_with : (response : Option Response) → a.response ≡ response → (o : Option ℕ) → ends ≡ o
+            → IsNextAnswer p 0 history a.inv response
             → EndsAtPlace p response o
             → EndsWith plan first schedule run_call a.call response o
         ends_with None is_response None is_ends next at_place = tt
@@ -252,7 +265,8 @@ module _ (plan : Plan) (words schedule : List ℕ) (s : State) (trace : Traced p
     where
       find_end : (p : ℕ) (response : Option Response) → IsNextAnswer p 0 history a.inv response → (o : Option ℕ) × EndsAtPlace p response o
       find_end p None next = (None, tt)
-      find_end p (Some r) next = let (t, is) = dated r.res (Answer p r.reply) (at_place history r.res (Answer p r.reply) next.1) in (Some t, is)
+      find_end p (Some r) next = let (t, is) =
+          dated r.res (Answer p r.reply) (at_place history r.res (Answer p r.reply) next.1) in (Some t, is)
 
   module _ (call_of : ℕ → RunCall) (each : (n : ℕ) (a : Operation) → slice_get (operations history) n ≡ Some a → Found a (call_of n)) where
     -- a call of a process is not begun before itself
@@ -267,7 +281,8 @@ module _ (plan : Plan) (words schedule : List ℕ) (s : State) (trace : Traced p
         let early = (f.run_call.within (suc d.begins) next b.call at in_c).0.0 in
         omega arith
       where
-        behind : (response : Option Response) (o : Option ℕ) → EndsWith plan first schedule d b.call response o → IfSome o (λ e. suc d.begins ≤ e)
+        behind : (response : Option Response) (o : Option ℕ) → EndsWith plan first schedule d b.call response o
+            → IfSome o (λ e. suc d.begins ≤ e)
         behind None None ends = tt
         behind None (Some e) ends = absurd ends
         behind (Some r) None ends = tt
@@ -279,12 +294,15 @@ module _ (plan : Plan) (words schedule : List ℕ) (s : State) (trace : Traced p
     same-number m n a b here there same =
         let f = each m a here in
         let g = each n b there in
-        let place = same-place a.inv b.inv (call_of m).begins (call_of n).begins (Invoke (call_of m).process a.call) (Invoke (call_of n).process b.call)
+        let place = same-place a.inv b.inv (call_of m).begins (call_of n).begins (Invoke (call_of m).process a.call)
+            (Invoke (call_of n).process b.call)
         f.begun_at g.begun_at same in
         ⊎_elim (λ equal. equal)
         (λ differ. ⊎_elim
-        (λ before. let less = AllPairs-at (λ a b. a.inv < b.inv) (operations history) m n a b (inv_rises history) before here there in absurd (omega arith))
-        (λ after. let less = AllPairs-at (λ a b. a.inv < b.inv) (operations history) n m b a (inv_rises history) after there here in absurd (omega arith))
+        (λ before. let less = AllPairs-at (λ a b. a.inv < b.inv) (operations history) m n a b (inv_rises history) before here
+            there in absurd (omega arith))
+        (λ after. let less = AllPairs-at (λ a b. a.inv < b.inv) (operations history) n m b a (inv_rises history) after there
+            here in absurd (omega arith))
         differ) (cases_order m n)
 
     distinct : (m n : ℕ) → m < length (operations history) → n < length (operations history) → (call_of m).process ≡ (call_of n).process
@@ -305,7 +323,8 @@ module _ (plan : Plan) (words schedule : List ℕ) (s : State) (trace : Traced p
         let g = each n b there in
         by_response a.response (call_of m).ends f.ended_at before
       where
-        by_response : (response : Option Response) (o : Option ℕ) → EndsAtPlace (call_of m).process response o → is_before response b.inv ≡ true
+        by_response : (response : Option Response) (o : Option ℕ) → EndsAtPlace (call_of m).process response o
+            → is_before response b.inv ≡ true
             → last_step o < (call_of n).begins
         by_response None o ended_at before = cc
         by_response (Some r) None ended_at before = absurd ended_at
@@ -357,4 +376,5 @@ run-has-calls plan start words schedule s run =
     let zeroed = start-clock plan.shape plan.variant start words run.starts in
     let end : At plan (opened_on plan words) schedule (length schedule) s =
     subst (λ xs. Gives plan (opened_on plan words) xs s) (sym (take-length schedule)) run.gives in
-    calls-of-run plan words schedule s (traced plan words schedule s run.within long zeroed run.gives run.few_steps (length schedule) s end) end
+    calls-of-run plan words schedule s (traced plan words schedule s run.within long zeroed run.gives run.few_steps
+        (length schedule) s end) end

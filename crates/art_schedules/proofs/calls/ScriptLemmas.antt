@@ -12,7 +12,8 @@ abbrev pub AreTreeCalls : List (List Call) → Type 0
 AreTreeCalls scripts = All (λ script. All (λ call. IsTrue (is_tree_call call)) script) scripts
 
 -- the next call is one of the script
-pub next-tree : (plan : Plan) → AreTreeCalls plan.scripts → (p : ℕ) (q : Process) (call : Call) → next_call plan p q ≡ Some call → is_tree_call call ≡ true
+pub next-tree : (plan : Plan) → AreTreeCalls plan.scripts → (p : ℕ) (q : Process) (call : Call) → next_call plan p q ≡ Some call
+    → is_tree_call call ≡ true
 next-tree plan calls p q call e = go (slice_get plan.scripts p) refl e
   where
     go : (o : Option (List Call)) → slice_get plan.scripts p ≡ o → next_in o (length (begun q)) ≡ Some call → is_tree_call call ≡ true

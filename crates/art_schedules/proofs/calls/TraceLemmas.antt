@@ -1,5 +1,6 @@
 -- The events of a run, each with the step that logs it.
-use Rattle.std.proofs.Common.{◌≡◌, ℕ, zero, suc, ◌+◌, ◌^◌, ◌<◌, ◌≤◌, List, [], ◌∷◌, ◌++◌, length, map, take, drop, Some, refl, sym, ap, ap₂, ◌∙◌, subst}
+use Rattle.std.proofs.Common.{◌≡◌, ℕ, zero, suc, ◌+◌, ◌^◌, ◌<◌, ◌≤◌, List, [], ◌∷◌, ◌++◌, length, map, take, drop, Some, refl, sym, ap, ap₂}
+use Rattle.std.proofs.Common.{◌∙◌, subst}
 use Rattle.std.proofs.Common.{⊎_elim, arith}
 use Rattle.std.specs.Prelude.{option_map, slice_get, slice_index, slice_set, flat_map, All, AllPairs, Contains}
 use Rattle.std.proofs.lemmas.Bool.{cases_lt}
@@ -19,7 +20,8 @@ use Rattle.art_core.specs.declared.process.Process.{Process}
 use Rattle.art_core.specs.Core.{Plan, State, Move, Invokes, Makes, Responds, after_move, moved, next_move, opened_on, step, word_of_move}
 use Rattle.art_core.specs.Plans.{IsPlan}
 use Rattle.art_core.specs.Runs.{run_on, At, Gives, HasFewSteps}
-use Rattle.art_core.proofs.HistoryLemmas.{IsLogged, all_steps, is-moved, logged, map-same, no-logs, one-move, one-step, opened-logged, steps-rise}
+use Rattle.art_core.proofs.HistoryLemmas.{IsLogged, all_steps, is-moved, logged, map-same, no-logs, one-move, one-step, opened-logged}
+use Rattle.art_core.proofs.HistoryLemmas.{steps-rise}
 use Rattle.art_core.proofs.RunLemmas.{run-on-append}
 use Rattle.art_schedules.proofs.calls.MomentLemmas.{LogsAt, StepAt, logging, moment-before}
 
@@ -59,14 +61,16 @@ its-word (Answer p reply) = refl
 
 module _ (plan : Plan) (first : State) (schedule : List ℕ) (t : ℕ) (s next : State) (h : Traced plan first schedule t s) where
   -- what a step that is made now logs is an event of this move
-  logs-now : (p : ℕ) (q : Process) (m : Move) (e : Event) → slice_get schedule t ≡ Some p → At plan first schedule t s → slice_get s.processes p ≡ Some q
+  logs-now : (p : ℕ) (q : Process) (m : Move) (e : Event) → slice_get schedule t ≡ Some p → At plan first schedule t s
+      → slice_get s.processes p ≡ Some q
       → next_move plan p q ≡ Some m → LogsAt plan first schedule t e → (process_of e ≡ p) × (logging e ≡ m)
   logs-now p q m e turn at here is_next logs =
       let own : process_of e ≡ p = same_Some (process_of e) p (sym logs.turn ∙ turn) in
       let state = same_Some logs.now s (sym logs.at ∙ at) in
       let process = same_Some logs.process q
       (sym logs.own ∙ (ap (λ z. slice_get z.processes (process_of e)) state ∙ (ap (slice_get s.processes) own ∙ here))) in
-      (own, same_Some (logging e) m (sym logs.next ∙ (ap (λ w. next_move plan (process_of e) w) process ∙ (ap (λ i. next_move plan i q) own ∙ is_next))))
+      (own, same_Some (logging e) m (sym logs.next ∙ (ap (λ w. next_move plan (process_of e) w) process
+          ∙ (ap (λ i. next_move plan i q) own ∙ is_next))))
 
   -- past the end of the schedule
   past-end : length schedule ≤ t → Traced plan first schedule (suc t) s
@@ -80,23 +84,27 @@ module _ (plan : Plan) (first : State) (schedule : List ℕ) (t : ℕ) (s next :
     is_logged = h.is_logged;
   }
 
-  by-access : (p : ℕ) (q : Process) (a : Access) → slice_get schedule t ≡ Some p → At plan first schedule t s → slice_get s.processes p ≡ Some q
+  by-access : (p : ℕ) (q : Process) (a : Access) → slice_get schedule t ≡ Some p → At plan first schedule t s
+      → slice_get s.processes p ≡ Some q
       → next_move plan p q ≡ Some (Makes a) → next ≡ moved s p q (Makes a) → IsLogged plan next → Traced plan first schedule (suc t) next
   by-access p q a turn at here is_next is logged_next = record {
     events = h.events;
     history = ap (λ z. logged z.processes) is
-        ∙ (ap history_of_logs (map-same (λ q. q.log) s.processes p q (after_move p (Makes a) (slice_index s.words (word_of_move (Makes a))) q) here refl)
+        ∙ (ap history_of_logs (map-same (λ q. q.log) s.processes p q
+            (after_move p (Makes a) (slice_index s.words (word_of_move (Makes a))) q) here refl)
         ∙ h.history);
     rising = h.rising;
     early = λ k d within. let before = h.early k d within in omega arith;
     sound = h.sound;
     complete = λ u e before logs. ⊎_elim (λ less. h.complete u e less logs)
         (λ more. let same : u ≡ t = omega arith in
-        absurd (no-event e a (logs-now p q (Makes a) e turn at here is_next (subst (λ i. LogsAt plan first schedule i e) same logs)).1)) (cases_lt u t);
+        absurd (no-event e a (logs-now p q (Makes a) e turn at here is_next (subst (λ i. LogsAt plan first schedule i e) same
+            logs)).1)) (cases_lt u t);
     is_logged = logged_next;
   }
 
-  by-event : (e : Event) (q : Process) → slice_get schedule t ≡ Some (process_of e) → At plan first schedule t s → slice_get s.processes (process_of e) ≡ Some q
+  by-event : (e : Event) (q : Process) → slice_get schedule t ≡ Some (process_of e) → At plan first schedule t s
+      → slice_get s.processes (process_of e) ≡ Some q
       → next_move plan (process_of e) q ≡ Some (logging e) → next ≡ moved s (process_of e) q (logging e) → IsLogged plan next
       → Traced plan first schedule (suc t) next
   by-event e q turn at here is_next is logged_next =
@@ -118,7 +126,8 @@ module _ (plan : Plan) (first : State) (schedule : List ℕ) (t : ℕ) (s next :
             ∙ (ap (λ xs. xs ++ e ∷ []) h.history ∙ sym (map-append (λ (x : Dated). x.1) h.events (last ∷ [])))));
         rising =
             AllPairs-append (λ (x y : Dated). x.0 < y.0) h.events (last ∷ []) h.rising
-            (AllPairs-cons (λ (x y : Dated). x.0 < y.0) last [] (All-nil (λ (y : Dated). t < y.0)) (AllPairs-nil (λ (x y : Dated). x.0 < y.0)))
+            (AllPairs-cons (λ (x y : Dated). x.0 < y.0) last [] (All-nil (λ (y : Dated). t < y.0))
+                (AllPairs-nil (λ (x y : Dated). x.0 < y.0)))
             (All-from_contains (λ (x : Dated). All (λ (y : Dated). x.0 < y.0) (last ∷ [])) h.events
             (λ x among. All-cons (λ (y : Dated). x.0 < y.0) last [] (All-contains (λ (x : Dated). x.0 < t) h.events x h.early among)
             (All-nil (λ (y : Dated). x.0 < y.0))));
@@ -139,7 +148,8 @@ module _ (plan : Plan) (first : State) (schedule : List ℕ) (t : ℕ) (s next :
         is_logged = logged_next;
       }
 
-  one-step-more : (r : StepAt plan first schedule t next) → r.before ≡ s → IsPlan plan → all_steps s + 1 < 2 ^ 61 → Traced plan first schedule (suc t) next
+  one-step-more : (r : StepAt plan first schedule t next) → r.before ≡ s → IsPlan plan → all_steps s + 1 < 2 ^ 61
+      → Traced plan first schedule (suc t) next
   one-step-more r same within few =
       let step_is = subst (λ (z : State). step plan z r.turn ≡ Some next) same r.is in
       let at = subst (λ (z : State). At plan first schedule t z) same r.at in
@@ -148,7 +158,8 @@ module _ (plan : Plan) (first : State) (schedule : List ℕ) (t : ℕ) (s next :
       (one-move plan within s r.turn m.process h.is_logged m.here few m.process.call m.move refl m.is_next) in
       by_move m.process m.move at m.here m.is_next m.is logged_next
     where
-      by_move : (q : Process) (m : Move) → At plan first schedule t s → slice_get s.processes r.turn ≡ Some q → next_move plan r.turn q ≡ Some m
+      by_move : (q : Process) (m : Move) → At plan first schedule t s → slice_get s.processes r.turn ≡ Some q
+          → next_move plan r.turn q ≡ Some m
           → next ≡ moved s r.turn q m → IsLogged plan next → Traced plan first schedule (suc t) next
       by_move q (Invokes call) at here is_next is logged_next = by-event (Invoke r.turn call) q r.here at here is_next is logged_next
       by_move q (Makes a) at here is_next is logged_next = by-access r.turn q a r.here at here is_next is logged_next
@@ -160,7 +171,8 @@ pub few-before : (plan : Plan) (first : State) (schedule : List ℕ) (s : State)
 few-before plan first schedule s gives t now at =
     steps-rise plan (drop t schedule) now s
     (ap (λ o. run_on plan o (drop t schedule)) (sym at)
-    ∙ (sym (run-on-append plan (Some first) (take t schedule) (drop t schedule)) ∙ (ap (run_on plan (Some first)) (take-append-drop t schedule) ∙ gives)))
+    ∙ (sym (run-on-append plan (Some first) (take t schedule) (drop t schedule))
+    ∙ (ap (run_on plan (Some first)) (take-append-drop t schedule) ∙ gives)))
 
 module _ (plan : Plan) (words schedule : List ℕ) (s : State) (within : IsPlan plan) (long : length words ≡ table_words plan.shape)
     (zeroed : slice_index words 0 ≡ 0) (gives : Gives plan (opened_on plan words) schedule s) (few : HasFewSteps s) where

@@ -1,5 +1,6 @@
 -- What calm_after makes of each word.
-use Rattle.std.proofs.Common.{◌≡◌, ℕ, zero, suc, ◌+◌, ◌*◌, ◌-◌, ◌/◌, ◌<◌, ◌≤◌, Bool, true, false, List, length, refl, ap, sym, subst, ◌∙◌, inl, inr, arith}
+use Rattle.std.proofs.Common.{◌≡◌, ℕ, zero, suc, ◌+◌, ◌*◌, ◌-◌, ◌/◌, ◌<◌, ◌≤◌, Bool, true, false, List, length, refl, ap, sym, subst, ◌∙◌}
+use Rattle.std.proofs.Common.{inl, inr, arith}
 use Rattle.std.specs.Prelude.{◌⊎◌, ◌||◌, ◌&&◌, nat_lt, map, slice_index, Option, Some, None, if◌then◌else◌}
 use Rattle.std.proofs.lemmas.Bool.{cases_lt, cases_Bool, lt-ltb, ltb-true}
 use Rattle.std.proofs.lemmas.List.{get_or_past}
@@ -30,7 +31,8 @@ right-true false y e = e
 module _ (shape : Shape) (words : List ℕ) (word : ℕ) where
   low-false : word < 5 → (n : ℕ) → n ≤ suc word → lies_below shape words word n ≡ false
   low-false low zero h = refl
-  low-false low (suc n) h = both-false (lies_at words word n (kind_at shape n)) (lies_below shape words word n) (here (kind_at shape n) refl)
+  low-false low (suc n) h = both-false (lies_at words word n (kind_at shape n)) (lies_below shape words word n)
+      (here (kind_at shape n) refl)
       (low-false low n (omega (arith, h)))
     where
       here : (o : Option Kind) → kind_at shape n ≡ o → lies_at words word n o ≡ false
@@ -46,17 +48,20 @@ module _ (shape : Shape) (words : List ℕ) (word : ℕ) where
     ]
       where
         at-base : lies_at words word base (kind_at shape base) ≡ true
-        at-base = ap (lies_at words word base) row ∙ (ap (λ b. b && is_busy (slice_index words base)) (lt-ltb word (base + row_words kind) high) ∙ busy)
+        at-base = ap (lies_at words word base) row
+            ∙ (ap (λ b. b && is_busy (slice_index words base)) (lt-ltb word (base + row_words kind) high) ∙ busy)
 
         here : (m : ℕ) → base ≡ m → lies_at words word m (kind_at shape m) ≡ true
         here m e = subst (λ b. lies_at words word b (kind_at shape b) ≡ true) e at-base
 
     free-false : is_busy (slice_index words base) ≡ false → (n : ℕ) → n ≤ suc word → lies_below shape words word n ≡ false
     free-false free zero h = refl
-    free-false free (suc n) h = both-false (lies_at words word n (kind_at shape n)) (lies_below shape words word n) (here (kind_at shape n) refl)
+    free-false free (suc n) h = both-false (lies_at words word n (kind_at shape n)) (lies_below shape words word n)
+        (here (kind_at shape n) refl)
         (free-false free n (omega (arith, h)))
       where
-        tests : (k : Kind) → kind_at shape n ≡ Some k → (b : Bool) → nat_lt word (n + row_words k) ≡ b → (b && is_busy (slice_index words n)) ≡ false
+        tests : (k : Kind) → kind_at shape n ≡ Some k → (b : Bool) → nat_lt word (n + row_words k) ≡ b
+            → (b && is_busy (slice_index words n)) ≡ false
         tests k e false f = refl
         tests k e true f =
             let same = rows_apart shape n base k kind word e row (omega (arith, h)) (ltb-true word (n + row_words k) f) low high in
@@ -70,12 +75,15 @@ of-low : (shape : Shape) (words : List ℕ) (word : ℕ) → word < 5 → is_of_
 unfolding is_of_busy_row
 of-low shape words word low = low-false shape words word low (suc word) (omega arith)
 
-pub of-busy : (shape : Shape) (words : List ℕ) (word base : ℕ) (kind : Kind) → kind_at shape base ≡ Some kind → base ≤ word → word < base + row_words kind
+pub of-busy : (shape : Shape) (words : List ℕ) (word base : ℕ) (kind : Kind) → kind_at shape base ≡ Some kind → base ≤ word
+    → word < base + row_words kind
     → is_busy (slice_index words base) ≡ true → is_of_busy_row shape words word ≡ true
 unfolding is_of_busy_row
-of-busy shape words word base kind row low high busy = busy-true shape words word base kind row low high busy (suc word) (omega (arith, low))
+of-busy shape words word base kind row low high busy =
+    busy-true shape words word base kind row low high busy (suc word) (omega (arith, low))
 
-pub of-free : (shape : Shape) (words : List ℕ) (word base : ℕ) (kind : Kind) → kind_at shape base ≡ Some kind → base ≤ word → word < base + row_words kind
+pub of-free : (shape : Shape) (words : List ℕ) (word base : ℕ) (kind : Kind) → kind_at shape base ≡ Some kind → base ≤ word
+    → word < base + row_words kind
     → is_busy (slice_index words base) ≡ false → is_of_busy_row shape words word ≡ false
 unfolding is_of_busy_row
 of-free shape words word base kind row low high free = free-false shape words word base kind row low high free (suc word) (omega arith)
@@ -88,7 +96,8 @@ module _ (shape : Shape) (calm later : List ℕ) where
   unfolding calm_after
   after-long = as-many (λ word. if is_of_busy_row shape later word then slice_index calm word else slice_index later word) 0 (length later)
 
-  after-at : (word : ℕ) → word < length later → slice_index (calm_after shape calm later) word ≡ chosen word (is_of_busy_row shape later word)
+  after-at : (word : ℕ) → word < length later → slice_index (calm_after shape calm later) word ≡ chosen word
+      (is_of_busy_row shape later word)
   unfolding calm_after
   after-at word h =
       entry-at (λ word. if is_of_busy_row shape later word then slice_index calm word else slice_index later word) 0 (length later) word h
@@ -113,10 +122,12 @@ module _ (shape : Shape) (calm later : List ℕ) where
   after-free base kind row free word low high = at-false word (of-free shape later word base kind row low high free)
 
   -- those of a busy row are calm's;
-  pub after-busy : table_words shape ≤ length later → (base : ℕ) (kind : Kind) → kind_at shape base ≡ Some kind → is_busy (slice_index later base) ≡ true
+  pub after-busy : table_words shape ≤ length later → (base : ℕ) (kind : Kind) → kind_at shape base ≡ Some kind
+      → is_busy (slice_index later base) ≡ true
       → SameWords calm (calm_after shape calm later) base kind
   after-busy long base kind row busy word low high =
-      after-at word (omega (arith, row_ends shape base kind row, long, high)) ∙ ap (chosen word) (of-busy shape later word base kind row low high busy)
+      after-at word (omega (arith, row_ends shape base kind row, long, high))
+          ∙ ap (chosen word) (of-busy shape later word base kind row low high busy)
 
   -- each is one of both
   pub after-either : (word : ℕ) → (slice_index (calm_after shape calm later) word ≡ slice_index calm word)
@@ -139,7 +150,8 @@ pub record IsOfRow (shape : Shape) (word : ℕ) : Type 0 where
   pub high : word < base + row_words kind
 
 module _ (shape : Shape) (word : ℕ) where
-  numbered : (kind : Kind) (number : ℕ) → number < rows_of shape kind → base_of shape kind number ≤ word → word < base_of shape kind number + row_words kind
+  numbered : (kind : Kind) (number : ℕ) → number < rows_of shape kind → base_of shape kind number ≤ word
+      → word < base_of shape kind number + row_words kind
       → IsOfRow shape word
   numbered kind number within low high = record
       { base = base_of shape kind number; kind = kind; row = kind_at-base_of shape kind number within; low = low; high = high }
@@ -147,13 +159,17 @@ module _ (shape : Shape) (word : ℕ) where
   of-four : (number : ℕ) → number ≡ (word - 5) / 7 → 5 ≤ word → word < 5 + 7 * shape.rows4 → IsOfRow shape word
   of-four number e low high = numbered Four number (omega (arith, e, low, high)) (omega (arith, e, low, high)) (omega (arith, e, low, high))
 
-  of-sixteen : (number : ℕ) → number ≡ (word - (5 + 7 * shape.rows4)) / 21 → 5 + 7 * shape.rows4 ≤ word → word < 5 + 7 * shape.rows4 + 21 * shape.rows16
+  of-sixteen : (number : ℕ) → number ≡ (word - (5 + 7 * shape.rows4)) / 21 → 5 + 7 * shape.rows4 ≤ word
+      → word < 5 + 7 * shape.rows4 + 21 * shape.rows16
       → IsOfRow shape word
-  of-sixteen number e low high = numbered Sixteen number (omega (arith, e, low, high)) (omega (arith, e, low, high)) (omega (arith, e, low, high))
+  of-sixteen number e low high = numbered Sixteen number (omega (arith, e, low, high)) (omega (arith, e, low, high))
+      (omega (arith, e, low, high))
 
-  of-forty-eight : (number : ℕ) → number ≡ (word - (5 + 7 * shape.rows4 + 21 * shape.rows16)) / 83 → 5 + 7 * shape.rows4 + 21 * shape.rows16 ≤ word
+  of-forty-eight : (number : ℕ) → number ≡ (word - (5 + 7 * shape.rows4 + 21 * shape.rows16)) / 83
+      → 5 + 7 * shape.rows4 + 21 * shape.rows16 ≤ word
       → word < 5 + 7 * shape.rows4 + 21 * shape.rows16 + 83 * shape.rows48 → IsOfRow shape word
-  of-forty-eight number e low high = numbered FortyEight number (omega (arith, e, low, high)) (omega (arith, e, low, high)) (omega (arith, e, low, high))
+  of-forty-eight number e low high = numbered FortyEight number (omega (arith, e, low, high)) (omega (arith, e, low, high))
+      (omega (arith, e, low, high))
 
   of-full : (number : ℕ) → number ≡ (word - (5 + 7 * shape.rows4 + 21 * shape.rows16 + 83 * shape.rows48)) / 258
       → 5 + 7 * shape.rows4 + 21 * shape.rows16 + 83 * shape.rows48 ≤ word → word < table_words shape → IsOfRow shape word

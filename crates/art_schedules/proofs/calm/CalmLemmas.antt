@@ -1,5 +1,6 @@
 -- Calm beside the first state, and what a step makes of it.
-use Rattle.std.proofs.Common.{◌≡◌, ◌≢◌, ℕ, ◌+◌, ◌%◌, ◌^◌, ◌<◌, ◌≤◌, true, false, List, [], ◌∷◌, length, refl, ap, sym, subst, ◌∙◌, inl, inr, arith, ne_eqb}
+use Rattle.std.proofs.Common.{◌≡◌, ◌≢◌, ℕ, ◌+◌, ◌%◌, ◌^◌, ◌<◌, ◌≤◌, true, false, List, [], ◌∷◌, length, refl, ap, sym, subst, ◌∙◌, inl, inr}
+use Rattle.std.proofs.Common.{arith, ne_eqb}
 use Rattle.std.specs.Prelude.{◌⊎◌, slice_index, All, Some}
 use Rattle.std.proofs.lemmas.Bool.{cases_eq, cases_lt, cases_Bool}
 use Rattle.std.proofs.lemmas.List.{get_or_past}
@@ -36,16 +37,19 @@ use Rattle.art_versions.proofs.versions.RunLemmas.{AllIdle}
 use Rattle.art_schedules.specs.calm.Calm.{is_busy, calm_after, IsCalm}
 use Rattle.art_schedules.specs.calm.Changes.{AsksFor, HoldsThen, RowChange, RowsStay, RowWritten, RowFilled, RowTaken, RowReleased}
 use Rattle.art_schedules.specs.calm.Changes.{CalmChange, CalmStays, CalmFilled, CalmReleased, CalmStep}
-use Rattle.art_schedules.proofs.calm.AfterLemmas.{after-long, after-past, after-low, after-free, after-busy, after-either, IsOfRow, row-of-word}
+use Rattle.art_schedules.proofs.calm.AfterLemmas.{after-long, after-past, after-low, after-free, after-busy, after-either, IsOfRow}
+use Rattle.art_schedules.proofs.calm.AfterLemmas.{row-of-word}
 use Rattle.art_schedules.proofs.calm.ReachedLemmas.{reached-good}
-use Rattle.art_schedules.proofs.calm.VersionLemmas.{locked-busy, obsolete-busy, free-parts, free-busy, not-behind, held-locked, held-version, VersionChange}
+use Rattle.art_schedules.proofs.calm.VersionLemmas.{locked-busy, obsolete-busy, free-parts, free-busy, not-behind, held-locked}
+use Rattle.art_schedules.proofs.calm.VersionLemmas.{held-version, VersionChange}
 use Rattle.art_schedules.proofs.calm.VersionLemmas.{Stays}
 use Rattle.art_schedules.proofs.calm.VersionLemmas.{IsTaken, IsReleased}
 use Rattle.art_schedules.proofs.calm.VersionLemmas.{version-change, released-free, obsolete-free}
 use Rattle.art_schedules.proofs.calm.VersionLemmas.{obsolete-stays, BusySettled}
 
 -- a version that is kept in the optimistic tree is not obsolete
-pub kept-live : (variant : Variant) (P : OfRows) (x : Held) → IsKept (locks variant) P x → (variant ≡ Optimistic) ⊎ (is_obsolete x.kept ≡ false)
+pub kept-live : (variant : Variant) (P : OfRows) (x : Held) → IsKept (locks variant) P x → (variant ≡ Optimistic)
+    ⊎ (is_obsolete x.kept ≡ false)
     → is_obsolete x.kept ≡ false
 kept-live variant P x k (inl e) = go (subst (λ v. IsVersion (locks v) x.kept) e k.0)
   where
@@ -53,14 +57,16 @@ kept-live variant P x k (inl e) = go (subst (λ v. IsVersion (locks v) x.kept) e
     go f = ne_eqb (x.kept % 2) 1 (λ g. omega (arith, f, g))
 kept-live variant P x k (inr e) = e
 
-pub claimed-row : (shape : Shape) (words : List ℕ) (base : ℕ) (kind : Kind) → IsClaimed shape words base kind → kind_at shape base ≡ Some kind
+pub claimed-row : (shape : Shape) (words : List ℕ) (base : ℕ) (kind : Kind) → IsClaimed shape words base kind
+    → kind_at shape base ≡ Some kind
 claimed-row shape words base kind x = ap (kind_at shape) x.is ∙ kind_at-base_of shape kind x.number x.within
 
 zero-free : (v : ℕ) → v ≡ 0 → is_busy v ≡ false
 zero-free v e = ap is_busy e
 
 module _ (variant : Variant) (shape : Shape) (n m : ℕ) (s later : State) (h : IsSound variant shape n s) (k : IsSound variant shape m later)
-    (steady : IsSteady variant shape s later) (p : ℕ) (change : RowChange variant shape s p later) (settled-then : BusySettled variant shape later)
+    (steady : IsSteady variant shape s later) (p : ℕ) (change : RowChange variant shape s p later)
+        (settled-then : BusySettled variant shape later)
     (first calm : List ℕ) (c : IsCalm variant shape first s calm) where
   abbrev after : List ℕ
   after = calm_after shape calm later.words
@@ -83,9 +89,11 @@ module _ (variant : Variant) (shape : Shape) (n m : ℕ) (s later : State) (h : 
         ∙ (free-parts (slice_index later.words base) free).0
   ]
 
-  live : (base : ℕ) (kind : Kind) → kind_at shape base ≡ Some kind → is_obsolete (slice_index first base) ≡ false → is_obsolete (slice_index after base) ≡ false
+  live : (base : ℕ) (kind : Kind) → kind_at shape base ≡ Some kind → is_obsolete (slice_index first base) ≡ false
+      → is_obsolete (slice_index after base) ≡ false
   live base kind row alive = elim (cases_Bool (is_busy (slice_index later.words base))) [
-    | inl busy ↦ ap is_obsolete (busy-row base kind row busy base (omega arith) (omega (arith, some-words kind))) ∙ c.live base kind row alive
+    | inl busy ↦ ap is_obsolete (busy-row base kind row busy base (omega arith) (omega (arith, some-words kind)))
+        ∙ c.live base kind row alive
     | inr free ↦ ap is_obsolete (free-row base kind row free base (omega arith) (omega (arith, some-words kind)))
         ∙ (free-parts (slice_index later.words base) free).1
   ]
@@ -93,11 +101,13 @@ module _ (variant : Variant) (shape : Shape) (n m : ℕ) (s later : State) (h : 
   held : (r : ℕ) (call : Call) (w : Process) → IsOpen later r call w → (x : Held) → IsAmong x (held_by variant shape call w)
       → (variant ≡ Optimistic) ⊎ (is_obsolete x.kept ≡ false) → slice_index after x.base ≡ x.kept
   held r call w o x a known =
-      busy-row x.base x.kind row (locked-busy (slice_index later.words x.base) locked) x.base (omega arith) (omega (arith, some-words x.kind))
+      busy-row x.base x.kind row (locked-busy (slice_index later.words x.base) locked) x.base (omega arith)
+          (omega (arith, some-words x.kind))
       ∙ go (version-change variant shape n s h p later x.base x.kind row change)
     where
       kept : IsKept (locks variant) (IsSettled variant shape later) x
-      kept = held-is-kept (IsSettled variant shape later) (setting shape variant call) (stage_of variant shape call w) (k.knows r call w o) x a
+      kept = held-is-kept (IsSettled variant shape later) (setting shape variant call) (stage_of variant shape call w)
+          (k.knows r call w o) x a
 
       row : kind_at shape x.base ≡ Some x.kind
       row = settled-row variant shape later x.base x.kind kept.1
@@ -127,11 +137,13 @@ module _ (variant : Variant) (shape : Shape) (n m : ℕ) (s later : State) (h : 
   children : (word : ℕ) → IsGoodAt (IsSettled variant shape later) shape word (slice_index after word)
   children word = elim (after-either shape calm later.words word) [
     | inl e ↦ subst (IsGoodAt (IsSettled variant shape later) shape word) (sym e)
-        (good-more (IsSettled variant shape s) (IsSettled variant shape later) shape steady.settled word (slice_index calm word) (c.children word))
+        (good-more (IsSettled variant shape s) (IsSettled variant shape later) shape steady.settled word (slice_index calm word)
+            (c.children word))
     | inr e ↦ subst (IsGoodAt (IsSettled variant shape later) shape word) (sym e) (k.children word)
   ]
 
-  filled : (r : ℕ) (call : Call) (w : Process) → IsOpen later r call w → (base : ℕ) (kind : Kind) → filled_by variant shape call w ≡ (base, kind) ∷ []
+  filled : (r : ℕ) (call : Call) (w : Process) → IsOpen later r call w → (base : ℕ) (kind : Kind)
+      → filled_by variant shape call w ≡ (base, kind) ∷ []
       → SameWords later.words after base kind
   filled r call w o base kind f = elim (cases_Bool (is_busy (slice_index later.words base))) [
     | inl busy ↦ absurd ((settled-then base kind row busy).unfilled r call w o base kind f refl)
@@ -176,14 +188,18 @@ module _ (variant : Variant) (shape : Shape) (n m : ℕ) (s later : State) (h : 
 
   -- How it changes.
 
-  unchanged : (base : ℕ) (kind : Kind) → kind_at shape base ≡ Some kind → slice_index later.words base ≡ slice_index s.words base → (word : ℕ) → base ≤ word
-      → word < base + row_words kind → slice_index later.words word ≡ slice_index s.words word → slice_index after word ≡ slice_index calm word
+  unchanged : (base : ℕ) (kind : Kind) → kind_at shape base ≡ Some kind → slice_index later.words base ≡ slice_index s.words base
+      → (word : ℕ) → base ≤ word
+      → word < base + row_words kind → slice_index later.words word ≡ slice_index s.words word
+      → slice_index after word ≡ slice_index calm word
   unchanged base kind row version word low high same = elim (cases_Bool (is_busy (slice_index later.words base))) [
     | inl busy ↦ busy-row base kind row busy word low high
-    | inr free ↦ free-row base kind row free word low high ∙ (same ∙ sym (c.free base kind row (ap is_busy (sym version) ∙ free) word low high))
+    | inr free ↦ free-row base kind row free word low high
+        ∙ (same ∙ sym (c.free base kind row (ap is_busy (sym version) ∙ free) word low high))
   ]
 
-  by-row : (word : ℕ) → 5 ≤ word → ((r : IsOfRow shape word) → slice_index after word ≡ slice_index calm word) → slice_index after word ≡ slice_index calm word
+  by-row : (word : ℕ) → 5 ≤ word → ((r : IsOfRow shape word) → slice_index after word ≡ slice_index calm word)
+      → slice_index after word ≡ slice_index calm word
   by-row word high f = elim (cases_lt word (table_words shape)) [
     | inl less ↦ f (row-of-word shape word high less)
     | inr more ↦ after-past shape calm later.words word (omega (arith, k.long, more))
@@ -200,7 +216,8 @@ module _ (variant : Variant) (shape : Shape) (n m : ℕ) (s later : State) (h : 
     elsewhere word r d = unchanged r.base r.kind r.row (others r.base d) word r.low r.high (others word away)
       where
         away : word ≢ x.base
-        away e = d (rows_apart shape r.base x.base r.kind x.kind word r.row its-row r.low r.high (omega (arith, e)) (omega (arith, e, some-words x.kind))).0
+        away e = d (rows_apart shape r.base x.base r.kind x.kind word r.row its-row r.low r.high (omega (arith, e))
+            (omega (arith, e, some-words x.kind))).0
 
     all-stay : is_busy (slice_index later.words x.base) ≡ true → (word : ℕ) → 5 ≤ word → slice_index after word ≡ slice_index calm word
     all-stay busy word high = by-row word high (λ r. elim (cases_eq r.base x.base) [
@@ -216,7 +233,8 @@ module _ (variant : Variant) (shape : Shape) (n m : ℕ) (s later : State) (h : 
       where
         inside : (r : IsOfRow shape word) → r.base ≡ x.base → IsOutside x.base x.kind word → ⊥
         inside r e out =
-            let same = rows_apart shape r.base x.base r.kind x.kind x.base r.row its-row (omega (arith, e)) (omega (arith, e, some-words r.kind)) (omega arith)
+            let same = rows_apart shape r.base x.base r.kind x.kind x.base r.row its-row (omega (arith, e))
+                (omega (arith, e, some-words r.kind)) (omega arith)
             (omega (arith, some-words x.kind)) in
             let words = ap row_words same.1 in
             elim out [
@@ -231,7 +249,8 @@ module _ (variant : Variant) (shape : Shape) (n m : ℕ) (s later : State) (h : 
     same-version base kind row = others base (not-behind shape base b word kind kb row its behind)
 
     other-stays : (other : ℕ) → 5 ≤ other → other ≢ word → slice_index after other ≡ slice_index calm other
-    other-stays other high d = by-row other high (λ r. unchanged r.base r.kind r.row (same-version r.base r.kind r.row) other r.low r.high (others other d))
+    other-stays other high d = by-row other high (λ r. unchanged r.base r.kind r.row (same-version r.base r.kind r.row) other r.low
+        r.high (others other d))
 
   calm-change : BusySettled variant shape s → RowChange variant shape s p later → CalmChange variant shape s p later calm after
   calm-change settled (RowsStay same) = CalmStays (λ word high. by-row word high (λ r.
@@ -246,7 +265,8 @@ module _ (variant : Variant) (shape : Shape) (n m : ℕ) (s later : State) (h : 
       row = settled-row variant shape s x.base x.kind kept.1
 
       busy : is_busy (slice_index later.words x.base) ≡ true
-      busy = locked-busy (slice_index later.words x.base) (ap is_locked (same-version x.base x.kind row word behind others x.base x.kind row)
+      busy = locked-busy (slice_index later.words x.base)
+          (ap is_locked (same-version x.base x.kind row word behind others x.base x.kind row)
           ∙ held-locked variant shape n s h x.base
           (record { holder = p; call = asks.call; process = asks.process; is_open = asks.is_open; row = x; among = among; is = refl }))
   calm-change settled (RowFilled word value asks b kb filled row behind is others) =
@@ -263,18 +283,23 @@ module _ (variant : Variant) (shape : Shape) (n m : ℕ) (s later : State) (h : 
       (locked-busy (slice_index later.words x.base) (ap is_locked is ∙ taken-locked x.kept (version-free (locks variant) x.kept kept.0))))
   calm-change settled (RowReleased x value asks rest with then kept written is others) = elim written [
     | inl w ↦ subst (λ v. (a : AsksFor variant shape s p (Store x.base v)) → IsWith x rest (held_by variant shape a.call a.process)
-        → HoldsThen variant shape later p a.call rest → CalmChange variant shape s p later calm after) (sym w) (released (is ∙ w)) asks with then
-    | inr w ↦ CalmStays (all-stay x kept others (obsolete-busy (slice_index later.words x.base) (ap is_obsolete (is ∙ w) ∙ obsolete_obsolete x.kept)))
+        → HoldsThen variant shape later p a.call rest → CalmChange variant shape s p later calm after) (sym w)
+            (released (is ∙ w)) asks with then
+    | inr w ↦ CalmStays (all-stay x kept others (obsolete-busy (slice_index later.words x.base)
+        (ap is_obsolete (is ∙ w) ∙ obsolete_obsolete x.kept)))
   ]
     where
-      released : slice_index later.words x.base ≡ released_word x.kept → (a : AsksFor variant shape s p (Store x.base (released_word x.kept)))
-          → IsWith x rest (held_by variant shape a.call a.process) → HoldsThen variant shape later p a.call rest → CalmChange variant shape s p later calm after
+      released : slice_index later.words x.base ≡ released_word x.kept
+          → (a : AsksFor variant shape s p (Store x.base (released_word x.kept)))
+          → IsWith x rest (held_by variant shape a.call a.process) → HoldsThen variant shape later p a.call rest
+          → CalmChange variant shape s p later calm after
       released now a b d = elim (cases_Bool (is_obsolete x.kept)) [
         | inl gone ↦ CalmStays (all-stay x kept others
             (obsolete-busy (slice_index later.words x.base) (ap is_obsolete now ∙ (obsolete_released x.kept ∙ gone))))
         | inr alive ↦ CalmReleased x a rest b d kept alive
             (free-row x.base x.kind (its-row x kept others) (free-busy (slice_index later.words x.base)
-            (ap is_locked now ∙ released-free x.kept (version-free (locks variant) x.kept kept.0)) (ap is_obsolete now ∙ (obsolete_released x.kept ∙ alive))))
+            (ap is_locked now ∙ released-free x.kept (version-free (locks variant) x.kept kept.0))
+                (ap is_obsolete now ∙ (obsolete_released x.kept ∙ alive))))
             (rest-stay x kept others)
       ]
 
@@ -283,12 +308,15 @@ module _ (variant : Variant) (shape : Shape) (n m : ℕ) (s later : State) (h : 
     rows = change;
     change = calm-change settled change;
     busy = busy-row;
-    held = λ base kind row x. busy-row base kind row (locked-busy (slice_index later.words base) (held-locked variant shape m later k base x));
-    obsolete = λ base kind row gone. obsolete-stays variant shape s later base kind (version-change variant shape n s h p later base kind row change) gone;
+    held = λ base kind row x. busy-row base kind row
+        (locked-busy (slice_index later.words base) (held-locked variant shape m later k base x));
+    obsolete = λ base kind row gone. obsolete-stays variant shape s later base kind
+        (version-change variant shape n s h p later base kind row change) gone;
   }
 
 -- Before the first step calm is the words.
-pub calm-first : (variant : Variant) (shape : Shape) (n : ℕ) (s : State) → IsSound variant shape n s → AllIdle s → BusySettled variant shape s
+pub calm-first : (variant : Variant) (shape : Shape) (n : ℕ) (s : State) → IsSound variant shape n s → AllIdle s
+    → BusySettled variant shape s
     → AreZeroPastClaims shape s.words → All (λ w. w < 2 ^ 64) s.words → IsCalm variant shape s.words s s.words
 calm-first variant shape n s h none settled fresh small = record {
   long = h.long;

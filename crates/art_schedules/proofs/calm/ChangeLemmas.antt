@@ -1,5 +1,6 @@
 -- What each step of a full tree changes in the words of rows.
-use Rattle.std.proofs.Common.{◌≡◌, ◌≢◌, ℕ, ◌+◌, ◌^◌, ◌<◌, ◌≤◌, Bool, true, false, List, [], length, refl, ap, sym, subst, ◌∙◌, inl, inr, arith}
+use Rattle.std.proofs.Common.{◌≡◌, ◌≢◌, ℕ, ◌+◌, ◌^◌, ◌<◌, ◌≤◌, Bool, true, false, List, [], length, refl, ap, sym, subst, ◌∙◌, inl, inr}
+use Rattle.std.proofs.Common.{arith}
 use Rattle.std.proofs.Common.{eq-eqb, ne_eqb}
 use Rattle.std.specs.Prelude.{◌==◌, slice_get, slice_index, slice_set, Option, Some, None, if◌then◌else◌}
 use Rattle.std.proofs.lemmas.Bool.{cases_eq}
@@ -24,7 +25,8 @@ use Rattle.art_stages.specs.Calls.{CallAt, call_turn, call_after, call_begun}
 use Rattle.art_stages.specs.Stages.{setting}
 use Rattle.art_core.specs.declared.process.Process.{Process}
 use Rattle.art_core.specs.Accesses.{told}
-use Rattle.art_core.specs.Core.{Plan, State, Move, Invokes, Makes, Responds, after_move, moved, move_of, invocation, next_call, move_from, word_of_move}
+use Rattle.art_core.specs.Core.{Plan, State, Move, Invokes, Makes, Responds, after_move, moved, move_of, invocation, next_call, move_from}
+use Rattle.art_core.specs.Core.{word_of_move}
 use Rattle.art_core.specs.Core.{new_word, step}
 use Rattle.art_core.proofs.HistoryLemmas.{is-moved}
 use Rattle.art_serial.proofs.writes.StoreLemmas.{stored-at}
@@ -41,14 +43,16 @@ use Rattle.art_versions.proofs.versions.StepLemmas.{after-more, does, next-turn}
 use Rattle.art_schedules.specs.calm.Changes.{AsksFor, HoldsThen, RowChange, RowsStay, RowWritten, RowFilled, RowTaken, RowReleased}
 
 -- a word that is written as it was
-same-words : (words : List ℕ) (word x : ℕ) → word < length words → slice_index (slice_set words word (slice_index words word)) x ≡ slice_index words x
+same-words : (words : List ℕ) (word x : ℕ) → word < length words
+    → slice_index (slice_set words word (slice_index words word)) x ≡ slice_index words x
 same-words words word x h = elim (cases_eq x word) [
   | inl e ↦ ap (slice_index (slice_set words word (slice_index words word))) e
       ∙ (stored-at words word (slice_index words word) h ∙ ap (slice_index words) (sym e))
   | inr d ↦ index-other words word (slice_index words word) x d
 ]
 
-module _ (variant : Variant) (shape : Shape) (root : 1 ≤ shape.rows256) (n : ℕ) (s : State) (h : IsSound variant shape n s) (few : n < 2 ^ 62) (p : ℕ)
+module _ (variant : Variant) (shape : Shape) (root : 1 ≤ shape.rows256) (n : ℕ) (s : State) (h : IsSound variant shape n s)
+    (few : n < 2 ^ 62) (p : ℕ)
     (q : Process)
     (here : slice_get s.processes p ≡ Some q) where
   abbrev Changed : Move → Type 0
@@ -57,7 +61,8 @@ module _ (variant : Variant) (shape : Shape) (root : 1 ≤ shape.rows256) (n : �
   -- no word of a row is written
   low-word : (m : Move) → word_of_move m < 5 → Changed m
   low-word m low = RowsStay
-      (λ word high. index-other s.words (word_of_move m) (new_word m (slice_index s.words (word_of_move m))) word (λ e. omega (arith, e, low, high)))
+      (λ word high. index-other s.words (word_of_move m) (new_word m (slice_index s.words (word_of_move m))) word
+          (λ e. omega (arith, e, low, high)))
 
   module _ (call : Call) (is-open : q.call ≡ Some call) where
     abbrev c : Setting
@@ -89,26 +94,31 @@ module _ (variant : Variant) (shape : Shape) (root : 1 ≤ shape.rows256) (n : �
 
     holds-then : (a : Access) (rows : List Held) → holds c (stage_of variant shape call (later a)) ≡ rows
         → HoldsThen variant shape (moved s p q (Makes a)) p call rows
-    holds-then a rows e = record { process = later a; is_open = record { own = set-here s.processes p q (later a) here; is_open = is-open }; holds = e }
+    holds-then a rows e = record { process = later a; is_open = record { own = set-here s.processes p q (later a) here; is_open =
+        is-open }; holds = e }
 
     -- a row whose version it kept is none that it holds
     apart : (x y : Held) → IsKept (locks variant) P x → slice_index s.words x.base ≡ x.kept → IsAmong y (holds c place) → y.base ≢ x.base
     apart x y k is a same =
         let locked = h.locked p call q (record { own = here; is_open = is-open }) y a in
         let kept = held-is-kept P c place (h.knows p call q (record { own = here; is_open = is-open })) y a in
-        omega (arith, ap (slice_index s.words) same, is, locked, version-free (locks variant) x.kept k.0, version-free (locks variant) y.kept kept.0)
+        omega (arith, ap (slice_index s.words) same, is, locked, version-free (locks variant) x.kept k.0, version-free
+            (locks variant) y.kept kept.0)
 
     access : (a : Access) (mark : Option Point) → call_turn c place ≡ Asks a mark → AccessDoes P c place → Changed (Makes a)
     access a mark e (Reads word at turn after) = subst (λ a. Changed (Makes a)) (asks-same (sym turn ∙ e))
         (RowsStay (λ x high. same-words s.words word x (in-table (Load word) at turn)))
     access a mark e (Writes x word value at turn among kept behind good after) = subst (λ a. Changed (Makes a)) (asks-same (sym turn ∙ e))
-        (RowWritten word value (asks-for (Store word value) at turn) x among kept behind (stored-at s.words word value (in-table (Store word value) at turn))
+        (RowWritten word value (asks-for (Store word value) at turn) x among kept behind
+            (stored-at s.words word value (in-table (Store word value) at turn))
         (λ other d. index-other s.words word value other d))
     access a mark e (Fills b k word value at turn filled behind row good after) = subst (λ a. Changed (Makes a)) (asks-same (sym turn ∙ e))
-        (RowFilled word value (asks-for (Store word value) at turn) b k filled row behind (stored-at s.words word value (in-table (Store word value) at turn))
+        (RowFilled word value (asks-for (Store word value) at turn) b k filled row behind
+            (stored-at s.words word value (in-table (Store word value) at turn))
         (λ other d. index-other s.words word value other d))
     access a mark e (Ends b k word value at turn filled behind row good after) = subst (λ a. Changed (Makes a)) (asks-same (sym turn ∙ e))
-        (RowFilled word value (asks-for (Store word value) at turn) b k filled row behind (stored-at s.words word value (in-table (Store word value) at turn))
+        (RowFilled word value (asks-for (Store word value) at turn) b k filled row behind
+            (stored-at s.words word value (in-table (Store word value) at turn))
         (λ other d. index-other s.words word value other d))
     access a mark e (Releases x rest value at turn hold none written kept after) = subst (λ a. Changed (Makes a)) (asks-same (sym turn ∙ e))
         (RowReleased x value (asks-for (Store x.base value) at turn) rest hold
@@ -132,7 +142,8 @@ module _ (variant : Variant) (shape : Shape) (root : 1 ≤ shape.rows256) (n : �
         words-if : Bool → List ℕ
         words-if b = slice_set s.words x.base (if b then locked_word x.kept else slice_index s.words x.base)
 
-        found : (b : Bool) → (slice_index s.words x.base == x.kept) ≡ b → (y : ℕ) → slice_index (moved s p q (Makes swap)).words y ≡ slice_index (words-if b) y
+        found : (b : Bool) → (slice_index s.words x.base == x.kept) ≡ b → (y : ℕ)
+            → slice_index (moved s p q (Makes swap)).words y ≡ slice_index (words-if b) y
         found b f y = ap (λ t. slice_index (words-if t) y) f
 
         small : slice_index s.words x.base ≡ x.kept → locked_word x.kept ≡ x.kept + 2
@@ -153,19 +164,22 @@ module _ (variant : Variant) (shape : Shape) (root : 1 ≤ shape.rows256) (n : �
       goes (act plan.shape plan.variant call q.got) (sym turn) k
     where
       turn : act plan.shape plan.variant call q.got ≡ call_turn (setting shape variant call) (stage_of variant shape call q)
-      turn = ap (λ x. act x plan.variant call q.got) its-shape ∙ (ap (λ v. act shape v call q.got) its-variant ∙ next-turn variant shape call q)
+      turn = ap (λ x. act x plan.variant call q.got) its-shape
+          ∙ (ap (λ v. act shape v call q.got) its-variant ∙ next-turn variant shape call q)
 
       doing : AccessDoes (IsSettled variant shape s) (setting shape variant call) (stage_of variant shape call q)
       doing = does variant full shape call (IsSettled variant shape s) (settled-row variant shape s) h.root (stage_of variant shape call q)
           (h.knows p call q (record { own = here; is_open = e }))
 
-      goes : (t : Turn) → call_turn (setting shape variant call) (stage_of variant shape call q) ≡ t → ◌≡◌ {A = Option Move} (Some (move_of t)) (Some m)
+      goes : (t : Turn) → call_turn (setting shape variant call) (stage_of variant shape call q) ≡ t
+          → ◌≡◌ {A = Option Move} (Some (move_of t)) (Some m)
           → Changed m
       goes (Asks a mark) f l = subst Changed (same_Some (Makes a) m l) (access call e a mark f doing)
       goes (Answers reply) f l = subst Changed (same_Some (Responds reply) m l) (low-word (Responds reply) (omega arith))
 
 -- A step of a full tree.
-pub row-change : (variant : Variant) → IsFull variant → (plan : Plan) → plan.variant ≡ variant → 1 ≤ plan.shape.rows256 → (n : ℕ) → n < 2 ^ 62 → (s : State)
+pub row-change : (variant : Variant) → IsFull variant → (plan : Plan) → plan.variant ≡ variant → 1 ≤ plan.shape.rows256 → (n : ℕ)
+    → n < 2 ^ 62 → (s : State)
     → IsSound variant plan.shape n s → (p : ℕ) (later : State) → step plan s p ≡ Some later → RowChange variant plan.shape s p later
 row-change variant full plan its-variant root n few s h p later e =
     let m = is-moved plan s p later e in

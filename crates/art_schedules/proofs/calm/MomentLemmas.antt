@@ -14,8 +14,10 @@ use Rattle.art_schedules.specs.calm.Laws.{IsOfMoment}
 use Rattle.art_schedules.proofs.calm.InductionLemmas.{along}
 use Rattle.art_schedules.proofs.calm.RunLemmas.{calm-goes, calm-at, step-at}
 
-pub of-moment : (plan : Plan) (start : Contents) (words schedule : List ℕ) (s : State) → IsRun plan start words schedule s → IsFull plan.variant
-    → (base : ℕ) (kind : Kind) → kind_at plan.shape base ≡ Some kind → IsOfMoment plan words schedule (calm_of plan words schedule) base kind
+pub of-moment : (plan : Plan) (start : Contents) (words schedule : List ℕ) (s : State) → IsRun plan start words schedule s
+    → IsFull plan.variant
+    → (base : ℕ) (kind : Kind) → kind_at plan.shape base ≡ Some kind
+    → IsOfMoment plan words schedule (calm_of plan words schedule) base kind
 of-moment plan start words schedule s run full base kind row = along plan start words Holds first next schedule s run
   where
     Holds : List ℕ → State → Type 0
@@ -32,7 +34,8 @@ of-moment plan start words schedule s run full base kind row = along plan start 
       same = λ word low high. ap (λ c. slice_index c word) (calm-goes plan words).first;
     }
 
-    next : (earlier : List ℕ) (p : ℕ) (u v : State) → IsRun plan start words earlier u → IsRun plan start words (earlier ++ p ∷ []) v → step plan u p ≡ Some v
+    next : (earlier : List ℕ) (p : ℕ) (u v : State) → IsRun plan start words earlier u → IsRun plan start words (earlier ++ p ∷ []) v
+        → step plan u p ≡ Some v
         → Holds earlier u → Holds (earlier ++ p ∷ []) v
     next earlier p u v before behind e here = elim (cases_Bool (is_busy (slice_index v.words base))) [
       | inl busy ↦ record {

@@ -22,10 +22,12 @@ word-slot base FortyEight slot x = (x.place - 35, omega (arith, x.low, x.high), 
 word-slot base Full slot x = (x.place - 2, omega (arith, x.low, x.high), omega (arith, x.is, x.low))
 
 -- the slot of a byte is one of the row
-pub slot-of-row : (words : List ℕ) (base : ℕ) (kind : Kind) (x slot : ℕ) → x < 256 → slot_of words base kind x ≡ Some slot → IsSlot base kind slot
+pub slot-of-row : (words : List ℕ) (base : ℕ) (kind : Kind) (x slot : ℕ) → x < 256 → slot_of words base kind x ≡ Some slot
+    → IsSlot base kind slot
 slot-of-row words base kind x slot byte e = word-slot base kind slot (slot-is words base kind x slot byte e)
 
-module _ (P : OfRows) (shape : Shape) (is_row : (b : ℕ) (k : Kind) → P b k → kind_at shape b ≡ Some k) (words : List ℕ) (top : P (root_base shape) Full)
+module _ (P : OfRows) (shape : Shape) (is_row : (b : ℕ) (k : Kind) → P b k → kind_at shape b ≡ Some k) (words : List ℕ)
+    (top : P (root_base shape) Full)
     (good : (word : ℕ) → IsGoodAt P shape word (slice_index words word)) where
   -- a child that is a row
   child-row : (base : ℕ) (kind : Kind) (x b : ℕ) (k : Kind) → P base kind → x < 256 → child_on shape words base kind x ≡ Row b k → P b k
@@ -34,7 +36,8 @@ module _ (P : OfRows) (shape : Shape) (is_row : (b : ℕ) (k : Kind) → P b k �
       go : (o : Option ℕ) → slot_of words base kind x ≡ o → child_in shape words o ≡ Row b k → P b k
       go None f g = absurd (empty-row g)
       go (Some slot) f g =
-          (subst (λ c. Each (IsNamed P) (child_rows c)) g (good slot base kind (is_row base kind here) (slot-of-row words base kind x slot byte f))).0
+          (subst (λ c. Each (IsNamed P) (child_rows c)) g
+              (good slot base kind (is_row base kind here) (slot-of-row words base kind x slot byte f))).0
 
   pub reached-good : (base : ℕ) (kind : Kind) → Reached shape words base kind → P base kind
   reached-good base kind root = top

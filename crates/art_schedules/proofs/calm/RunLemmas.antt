@@ -37,7 +37,8 @@ on-append plan (q ∷ schedule) p s t calm e = go (step plan s q) refl (λ u. on
     go : (o : Option State) → step plan s q ≡ o
         → ((u : State) (calm : List ℕ) → run_on plan (Some u) schedule ≡ Some t
         → calm_on plan (Some u) calm (schedule ++ p ∷ []) ≡ calm_behind plan.shape (calm_on plan (Some u) calm schedule) (step plan t p))
-        → calm_on plan (Some s) calm ((q ∷ schedule) ++ p ∷ []) ≡ calm_behind plan.shape (calm_on plan (Some s) calm (q ∷ schedule)) (step plan t p)
+        → calm_on plan (Some s) calm ((q ∷ schedule) ++ p ∷ []) ≡ calm_behind plan.shape
+            (calm_on plan (Some s) calm (q ∷ schedule)) (step plan t p)
     go None f rest = absurd (nowhere plan schedule t (ap (λ o. run_on plan o schedule) (sym f) ∙ e))
     go (Some u) f rest =
         ap (λ o. calm_on plan o (calm_behind plan.shape calm o) (schedule ++ p ∷ [])) f
@@ -45,11 +46,13 @@ on-append plan (q ∷ schedule) p s t calm e = go (step plan s q) refl (λ u. on
         ∙ ap (λ o. calm_behind plan.shape (calm_on plan o (calm_behind plan.shape calm o) schedule) (step plan t p)) (sym f))
 
 -- behind one step more
-pub calm-next : (plan : Plan) (words schedule : List ℕ) (p : ℕ) (s t : State) → Gives plan (opened_on plan words) schedule s → step plan s p ≡ Some t
+pub calm-next : (plan : Plan) (words schedule : List ℕ) (p : ℕ) (s t : State) → Gives plan (opened_on plan words) schedule s
+    → step plan s p ≡ Some t
     → calm_of plan words (schedule ++ p ∷ []) ≡ calm_after plan.shape (calm_of plan words schedule) t.words
 unfolding calm_of
 calm-next plan words schedule p s t e f =
-    on-append plan schedule p (opened_on plan words) s words e ∙ ap (calm_behind plan.shape (calm_on plan (Some (opened_on plan words)) words schedule)) f
+    on-append plan schedule p (opened_on plan words) s words e
+        ∙ ap (calm_behind plan.shape (calm_on plan (Some (opened_on plan words)) words schedule)) f
 
 pub calm-goes : (plan : Plan) (words : List ℕ) → CalmGoes plan words
 unfolding calm_of
@@ -65,7 +68,8 @@ begins : (plan : Plan) (start : Contents) (words schedule : List ℕ) (s : State
     → IsRun plan start words [] (opened_on plan words)
 begins plan start words schedule s run = run-begins plan start words [] schedule (opened_on plan words) s run refl
 
-pub calm-at : (plan : Plan) (start : Contents) (words schedule : List ℕ) (s : State) → IsRun plan start words schedule s → IsFull plan.variant
+pub calm-at : (plan : Plan) (start : Contents) (words schedule : List ℕ) (s : State) → IsRun plan start words schedule s
+    → IsFull plan.variant
     → IsCalm plan.variant plan.shape words s (calm_of plan words schedule)
 calm-at plan start words schedule s run full = along plan start words Holds first next schedule s run
   where
@@ -82,16 +86,19 @@ calm-at plan start words schedule s run full = along plan start words Holds firs
         (fresh-at plan.variant full plan start words [] (opened_on plan words) none refl)
         (small-words plan start words [] (opened_on plan words) none))
 
-    next : (earlier : List ℕ) (p : ℕ) (u v : State) → IsRun plan start words earlier u → IsRun plan start words (earlier ++ p ∷ []) v → step plan u p ≡ Some v
+    next : (earlier : List ℕ) (p : ℕ) (u v : State) → IsRun plan start words earlier u → IsRun plan start words (earlier ++ p ∷ []) v
+        → step plan u p ≡ Some v
         → Holds earlier u → Holds (earlier ++ p ∷ []) v
     next earlier p u v before behind e here =
         let made = step-of-run plan.variant full plan start words earlier p u v before refl e in
         subst (IsCalm plan.variant plan.shape words v) (sym (calm-next plan words earlier p u v before.gives e))
         (calm-kept plan.variant plan.shape made.count (made.count + 1) u v made.before made.behind made.steady p made.rows
         (settled-at plan.variant full plan start words (earlier ++ p ∷ []) v behind refl) words (calm_of plan words earlier) here
-        (fresh-at plan.variant full plan start words (earlier ++ p ∷ []) v behind refl) (small-words plan start words (earlier ++ p ∷ []) v behind))
+        (fresh-at plan.variant full plan start words (earlier ++ p ∷ []) v behind refl)
+            (small-words plan start words (earlier ++ p ∷ []) v behind))
 
-pub step-at : (plan : Plan) (start : Contents) (words schedule : List ℕ) (p : ℕ) (s t : State) → IsRun plan start words (schedule ++ p ∷ []) t
+pub step-at : (plan : Plan) (start : Contents) (words schedule : List ℕ) (p : ℕ) (s t : State)
+    → IsRun plan start words (schedule ++ p ∷ []) t
     → IsFull plan.variant → Gives plan (opened_on plan words) schedule s
     → CalmStep plan.variant plan.shape s p t (calm_of plan words schedule) (calm_of plan words (schedule ++ p ∷ []))
 step-at plan start words schedule p s t run full e =
@@ -106,13 +113,16 @@ step-at plan start words schedule p s t run full e =
 -- What holds before the first step, and is kept by each step with calm beside it, holds behind each run.
 pub along-calm : (plan : Plan) (start : Contents) (words : List ℕ) → IsFull plan.variant → (Holds : List ℕ → State → List ℕ → Type 0)
     → Holds [] (opened_on plan words) words
-    → ((schedule : List ℕ) (p : ℕ) (s t : State) (calm after : List ℕ) → IsRun plan start words schedule s → IsRun plan start words (schedule ++ p ∷ []) t
+    → ((schedule : List ℕ) (p : ℕ) (s t : State) (calm after : List ℕ) → IsRun plan start words schedule s
+    → IsRun plan start words (schedule ++ p ∷ []) t
     → step plan s p ≡ Some t → IsCalm plan.variant plan.shape words s calm → IsCalm plan.variant plan.shape words t after
     → CalmStep plan.variant plan.shape s p t calm after → Holds schedule s calm → Holds (schedule ++ p ∷ []) t after)
     → (schedule : List ℕ) (s : State) → IsRun plan start words schedule s → Holds schedule s (calm_of plan words schedule)
-along-calm plan start words full Holds first next schedule s run = along plan start words (λ earlier u. Holds earlier u (calm_of plan words earlier))
+along-calm plan start words full Holds first next schedule s run =
+    along plan start words (λ earlier u. Holds earlier u (calm_of plan words earlier))
     (subst (Holds [] (opened_on plan words)) (sym (calm-goes plan words).first) first)
-    (λ earlier p u v before behind e here. next earlier p u v (calm_of plan words earlier) (calm_of plan words (earlier ++ p ∷ [])) before behind e
+    (λ earlier p u v before behind e here. next earlier p u v (calm_of plan words earlier)
+        (calm_of plan words (earlier ++ p ∷ [])) before behind e
     (calm-at plan start words earlier u before full) (calm-at plan start words (earlier ++ p ∷ []) v behind full)
     (step-at plan start words earlier p u v behind full before.gives) here)
     schedule s run

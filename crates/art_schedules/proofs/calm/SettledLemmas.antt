@@ -25,7 +25,8 @@ use Rattle.art_schedules.specs.calm.Calm.{is_busy}
 use Rattle.art_schedules.proofs.calm.ChangeLemmas.{row-change}
 use Rattle.art_schedules.proofs.calm.VersionLemmas.{BusySettled, busy-settled-step}
 
-settled-run : (variant : Variant) → IsFull variant → (plan : Plan) → plan.variant ≡ variant → 1 ≤ plan.shape.rows256 → (schedule : List ℕ) (n : ℕ)
+settled-run : (variant : Variant) → IsFull variant → (plan : Plan) → plan.variant ≡ variant → 1 ≤ plan.shape.rows256
+    → (schedule : List ℕ) (n : ℕ)
     (first s : State) → n + length schedule < 2 ^ 62 → IsSound variant plan.shape n first → BusySettled variant plan.shape first
     → run_on plan (Some first) schedule ≡ Some s → BusySettled variant plan.shape s
 settled-run variant full plan v root [] n first s few h k e = subst (BusySettled variant plan.shape) (same_Some first s e) k
@@ -39,23 +40,28 @@ settled-run variant full plan v root (p ∷ schedule) n first s few h k e =
     go (Some next) f l later =
         let made = one-step variant full plan v root n (omega (arith, few)) first h p next f in
         later next (omega (arith, few)) made.0
-        (busy-settled-step variant plan.shape n first next p h made.1 (row-change variant full plan v root n (omega (arith, few)) first h p next f) k) l
+        (busy-settled-step variant plan.shape n first next p h made.1
+            (row-change variant full plan v root n (omega (arith, few)) first h p next f) k) l
 
 -- at the opening no row is busy
-opening-settled : (variant : Variant) (shape : Shape) (some : 1 ≤ shape.rows256) (s : State) → s.words ≡ opening shape → BusySettled variant shape s
+opening-settled : (variant : Variant) (shape : Shape) (some : 1 ≤ shape.rows256) (s : State) → s.words ≡ opening shape
+    → BusySettled variant shape s
 opening-settled variant shape some s is base kind row busy = absurd (true-false busy (ap is_busy zero-version))
   where
     behind : base ≢ root_base shape + 1
     behind same =
-        let apart = rows_apart shape base (root_base shape) kind Full (root_base shape + 1) row (root-row variant shape some) (omega (arith, same))
+        let apart = rows_apart shape base (root_base shape) kind Full (root_base shape + 1) row (root-row variant shape some)
+            (omega (arith, same))
         (omega (arith, same, some-words kind)) (omega arith) (omega arith) in
         omega (arith, same, apart.0)
 
     zero-version : slice_index s.words base ≡ 0
-    zero-version = ap (λ w. slice_index w base) is ∙ zeros variant shape some base (differ-from base 4 (omega (arith, row_begins shape base kind row))) behind
+    zero-version = ap (λ w. slice_index w base) is
+        ∙ zeros variant shape some base (differ-from base 4 (omega (arith, row_begins shape base kind row))) behind
 
 -- with the clock set back, and no process in a call
-reset-settled : (variant : Variant) (shape : Shape) (s t : State) → t.words ≡ slice_set s.words 0 0 → AllIdle t → BusySettled variant shape s
+reset-settled : (variant : Variant) (shape : Shape) (s t : State) → t.words ≡ slice_set s.words 0 0 → AllIdle t
+    → BusySettled variant shape s
     → BusySettled variant shape t
 reset-settled variant shape s t is none h base kind row busy =
     let x = h base kind row (ap is_busy (sym (at base (omega (arith, row_begins shape base kind row)))) ∙ busy) in
@@ -72,7 +78,8 @@ reset-settled variant shape s t is none h base kind row busy =
     at : (x : ℕ) → 0 < x → slice_index t.words x ≡ slice_index s.words x
     at x some = ap (λ w. slice_index w x) is ∙ index-other s.words 0 0 x (differ-from x 0 some)
 
-pub start-settled : (variant : Variant) → IsFull variant → (plan : Plan) (start : Contents) (words : List ℕ) → plan.variant ≡ variant → 1 ≤ plan.shape.rows256
+pub start-settled : (variant : Variant) → IsFull variant → (plan : Plan) (start : Contents) (words : List ℕ) → plan.variant ≡ variant
+    → 1 ≤ plan.shape.rows256
     → StartsOn plan.shape plan.variant start words → BusySettled variant plan.shape (opened_on plan words)
 start-settled variant full plan start words v root h =
     let first = start_plan plan.shape plan.variant start in

@@ -61,7 +61,8 @@ fine-over (Replace key old new) tree value word e = go (value == old) e
     go true f = omega (arith, same_Some (leaf_word key new) word f, small-leaf key new (grind (arith, tree)) (grind (arith, tree)))
     go false f = absurd (none-some word f)
 
-fine-rows : (shape : Shape) → IsWithinLimits shape → (kind : Kind) (number : ℕ) → number < rows_of shape kind → row_word (base_of shape kind number) < 2 ^ 64
+fine-rows : (shape : Shape) → IsWithinLimits shape → (kind : Kind) (number : ℕ) → number < rows_of shape kind
+    → row_word (base_of shape kind number) < 2 ^ 64
 fine-rows shape limits Four number h = omega (arith, limits.rows4, h)
 fine-rows shape limits Sixteen number h = omega (arith, limits.rows4, limits.rows16, h)
 fine-rows shape limits FortyEight number h = omega (arith, limits.rows4, limits.rows16, limits.rows48, h)
@@ -84,7 +85,8 @@ module _ (plan : Plan) (limits : IsWithinLimits plan.shape) (calls : AreTreeCall
     -- it writes such a word, and its call stays so
     goes-on : (m : Move) → new_word m (slice_index s.words (word_of_move m)) < 2 ^ 64
         → ((call : Call) → (after_move p m (slice_index s.words (word_of_move m)) q).call ≡ Some call
-        → (is_tree_call call ≡ true) × SmallAt (stage_of plan.variant plan.shape call (after_move p m (slice_index s.words (word_of_move m)) q)))
+        → (is_tree_call call ≡ true) × SmallAt (stage_of plan.variant plan.shape call
+            (after_move p m (slice_index s.words (word_of_move m)) q)))
         → Small m
     goes-on m few own = record {
       words = All-set (λ w. w < 2 ^ 64) s.words (word_of_move m) (new_word m (slice_index s.words (word_of_move m))) few h.words;
@@ -93,7 +95,8 @@ module _ (plan : Plan) (limits : IsWithinLimits plan.shape) (calls : AreTreeCall
         | inr t ↦ h.calls r call w (record { own = t.1; is_open = o.is_open })
       ];
       stages = λ r call w o. elim (changed-at s.processes p (after_move p m (slice_index s.words (word_of_move m)) q) r w o.own) [
-        | inl t ↦ subst (λ v. SmallAt (stage_of plan.variant plan.shape call v)) (sym t.1) (own call (ap (λ v. v.call) (sym t.1) ∙ o.is_open)).1
+        | inl t ↦ subst (λ v. SmallAt (stage_of plan.variant plan.shape call v)) (sym t.1)
+            (own call (ap (λ v. v.call) (sym t.1) ∙ o.is_open)).1
         | inr t ↦ h.stages r call w (record { own = t.1; is_open = o.is_open })
       ];
     }
@@ -121,7 +124,8 @@ module _ (plan : Plan) (limits : IsWithinLimits plan.shape) (calls : AreTreeCall
         begins None f g = absurd (none-some m g)
         begins (Some call) f g = subst Small (same_Some (Invokes call) m g) (goes-on (Invokes call) (omega arith) (λ other i.
             let same = same_Some call other i in
-            subst (λ x. (is_tree_call x ≡ true) × SmallAt (stage_of plan.variant plan.shape x (after_move p (Invokes call) (slice_index s.words 0) q))) same (
+            subst (λ x. (is_tree_call x ≡ true)
+                × SmallAt (stage_of plan.variant plan.shape x (after_move p (Invokes call) (slice_index s.words 0) q))) same (
               next-tree plan calls p q call f,
               begun-small (setting plan.shape plan.variant call)
                   (fine call (next-tree plan calls p q call f)) call,
@@ -131,27 +135,33 @@ module _ (plan : Plan) (limits : IsWithinLimits plan.shape) (calls : AreTreeCall
         opens : IsOpen s p call q
         opens = record { own = here; is_open = e }
 
-        turn : act plan.shape plan.variant call q.got ≡ call_turn (setting plan.shape plan.variant call) (stage_of plan.variant plan.shape call q)
+        turn : act plan.shape plan.variant call q.got ≡ call_turn (setting plan.shape plan.variant call)
+            (stage_of plan.variant plan.shape call q)
         turn = next-turn plan.variant plan.shape call q
 
         tree : is_tree_call call ≡ true
         tree = h.calls p call q opens
 
         small-turn : SmallTurn (call_turn (setting plan.shape plan.variant call) (stage_of plan.variant plan.shape call q))
-        small-turn = call-turn-small (setting plan.shape plan.variant call) (fine call tree) (stage_of plan.variant plan.shape call q) (h.stages p call q opens)
+        small-turn = call-turn-small (setting plan.shape plan.variant call) (fine call tree) (stage_of plan.variant plan.shape call q)
+            (h.stages p call q opens)
 
         accesses : (a : Access) (mark : Option Point) → SmallTurn (Asks a mark) → Small (Makes a)
-        accesses a mark small = goes-on (Makes a) (changed-small a mark (slice_index s.words (word_of a)) (small_at s.words (word_of a) h.words) small)
+        accesses a mark small = goes-on (Makes a) (changed-small a mark (slice_index s.words (word_of a))
+            (small_at s.words (word_of a) h.words) small)
             (λ other i.
             let same = same_Some call other (sym e ∙ i) in
             subst
-            (λ x. (is_tree_call x ≡ true) × SmallAt (stage_of plan.variant plan.shape x (after_move p (Makes a) (slice_index s.words (word_of a)) q)))
+            (λ x. (is_tree_call x ≡ true) × SmallAt (stage_of plan.variant plan.shape x
+                (after_move p (Makes a) (slice_index s.words (word_of a)) q)))
             same (
               tree,
-              subst SmallAt (sym (after-more (setting plan.shape plan.variant call) (call_begun (setting plan.shape plan.variant call)) q.got
+              subst SmallAt (sym (after-more (setting plan.shape plan.variant call)
+                  (call_begun (setting plan.shape plan.variant call)) q.got
                   (told a (slice_index s.words (word_of a)))))
                   (call-after-small (setting plan.shape plan.variant call) (fine call tree) (stage_of plan.variant plan.shape call q)
-                  (told a (slice_index s.words (word_of a))) (told-small a (slice_index s.words (word_of a)) (small_at s.words (word_of a) h.words))
+                  (told a (slice_index s.words (word_of a)))
+                      (told-small a (slice_index s.words (word_of a)) (small_at s.words (word_of a) h.words))
                   (h.stages p call q opens)),
             ))
 
@@ -186,10 +196,12 @@ first-small plan words all = record {
 opening-small : (shape : Shape) → AreSmall (opening shape)
 opening-small shape =
     All-set (λ w. w < 2 ^ 64) (slice_set (replicate (table_words shape) 0) 4 1) (info_at (root_base shape)) 3 (omega arith)
-    (All-set (λ w. w < 2 ^ 64) (replicate (table_words shape) 0) 4 1 (omega arith) (All-replicate (λ w. w < 2 ^ 64) (table_words shape) 0 (omega arith)))
+    (All-set (λ w. w < 2 ^ 64) (replicate (table_words shape) 0) 4 1 (omega arith)
+        (All-replicate (λ w. w < 2 ^ 64) (table_words shape) 0 (omega arith)))
 
 -- Words are small in every run, of any variant.
-pub small-words : (plan : Plan) (start : Contents) (words schedule : List ℕ) (s : State) → IsRun plan start words schedule s → All (λ w. w < 2 ^ 64) s.words
+pub small-words : (plan : Plan) (start : Contents) (words schedule : List ℕ) (s : State) → IsRun plan start words schedule s
+    → All (λ w. w < 2 ^ 64) s.words
 small-words plan start words schedule s run =
     (small-run plan run.within.shape run.within.calls schedule (opened_on plan words) s (first-small plan words begun) run.gives).words
   where

@@ -1,5 +1,6 @@
 -- What a call carries at its stage is below 2^64, and so is what it stores.
-use Rattle.std.proofs.Common.{◌≡◌, ℕ, zero, suc, ◌+◌, ◌*◌, ◌-◌, ◌%◌, ◌^◌, ◌<◌, ◌≤◌, Bool, true, false, [], ◌∷◌, ◌++◌, refl, ap, sym, subst, arith}
+use Rattle.std.proofs.Common.{◌≡◌, ℕ, zero, suc, ◌+◌, ◌*◌, ◌-◌, ◌%◌, ◌^◌, ◌<◌, ◌≤◌, Bool, true, false, [], ◌∷◌, ◌++◌, refl, ap, sym, subst}
+use Rattle.std.proofs.Common.{arith}
 use Rattle.std.specs.Prelude.{◌==◌, nat_lt, nat_le, map, set, slice_index, Option, Some, None, if◌then◌else◌}
 use Rattle.std.proofs.lemmas.Bool.{ltb-true}
 use Rattle.std.proofs.lemmas.List.{length-append}
@@ -18,7 +19,8 @@ use Rattle.art_serial.proofs.inserts.SmallLemmas.{differs-before}
 use Rattle.art_serial.proofs.trees.InfoWords.{path_byte}
 use Rattle.art_steps.specs.declared.access.Access.TheVariants.{Store, Exchange as Swap}
 use Rattle.art_steps.specs.Steps.{Turn, Asks, numbers}
-use Rattle.art_steps.specs.Rows.{Setting, is_insert, is_full, locks, releases_early, leaves_out_check, takes_unchecked, key_of, path_differs_at}
+use Rattle.art_steps.specs.Rows.{Setting, is_insert, is_full, locks, releases_early, leaves_out_check, takes_unchecked, key_of}
+use Rattle.art_steps.specs.Rows.{path_differs_at}
 use Rattle.art_steps.specs.Updates.{overwriting, new_leaf, lesser, greater, next_kind, new_entry, keys_differ_at, Under}
 use Rattle.art_stages.specs.declared.stage.Held.{Held}
 use Rattle.art_stages.specs.declared.stage.Keys.{Keys as KeyWords}
@@ -40,20 +42,29 @@ use Rattle.art_stages.specs.declared.stage.Spread.{Spread}
 use Rattle.art_stages.specs.declared.stage.Outcome.{Outcome}
 use Rattle.art_stages.specs.declared.stage.Outcome.TheVariants.{Refused}
 use Rattle.art_stages.specs.declared.stage.Stage.{Stage}
-use Rattle.art_stages.specs.declared.stage.Stage.TheVariants.{Lock, Exchange, Wait, Leave, Between, Info, Find, FindKeys, FindMore, FindCount, Slot, Check}
-use Rattle.art_stages.specs.declared.stage.Stage.TheVariants.{CheckLast, LetGo, Take, Write, ClaimPair, StorePair, PutLoad, PutStore, PutLeaf, PutKeys, PutMore}
-use Rattle.art_stages.specs.declared.stage.Stage.TheVariants.{PutCount, ClaimGrow, GrowInfo, GrowLoad, GrowStore, SpreadIndex, SpreadLoad, SpreadStore}
+use Rattle.art_stages.specs.declared.stage.Stage.TheVariants.{Lock, Exchange, Wait, Leave, Between, Info, Find, FindKeys, FindMore}
+use Rattle.art_stages.specs.declared.stage.Stage.TheVariants.{FindCount, Slot, Check}
+use Rattle.art_stages.specs.declared.stage.Stage.TheVariants.{CheckLast, LetGo, Take, Write, ClaimPair, StorePair, PutLoad, PutStore}
+use Rattle.art_stages.specs.declared.stage.Stage.TheVariants.{PutLeaf, PutKeys, PutMore}
+use Rattle.art_stages.specs.declared.stage.Stage.TheVariants.{PutCount, ClaimGrow, GrowInfo, GrowLoad, GrowStore, SpreadIndex, SpreadLoad}
+use Rattle.art_stages.specs.declared.stage.Stage.TheVariants.{SpreadStore}
 use Rattle.art_stages.specs.declared.stage.Stage.TheVariants.{GrowLeaf, GrowKeys, GrowCount, Hang, Obsolete, Unlock, Over}
 use Rattle.art_stages.specs.declared.stage.ScanStep.{ScanStep}
 use Rattle.art_stages.specs.declared.stage.ScanStep.TheVariants as scan
-use Rattle.art_stages.specs.Stages.{row_at, held, keys_among, keys_in, count_in, byte_in, keys_before, keys_after, place_in, old_child, new_child}
-use Rattle.art_stages.specs.Automaton.{start_at, hold_alone, end_at, release_at, no_value, moves_at, put_at, work_at, take_at, taken_at, pair_work, down_from}
-use Rattle.art_stages.specs.Automaton.{overwrite_at, seek_coupled, insert_coupled, let_go_at, place_coupled, overwrite_unlocked, seek_unlocked, take_alone}
+use Rattle.art_stages.specs.Stages.{row_at, held, keys_among, keys_in, count_in, byte_in, keys_before, keys_after, place_in, old_child}
+use Rattle.art_stages.specs.Stages.{new_child}
+use Rattle.art_stages.specs.Automaton.{start_at, hold_alone, end_at, release_at, no_value, moves_at, put_at, work_at, take_at, taken_at}
+use Rattle.art_stages.specs.Automaton.{pair_work, down_from}
+use Rattle.art_stages.specs.Automaton.{overwrite_at, seek_coupled, insert_coupled, let_go_at, place_coupled, overwrite_unlocked}
+use Rattle.art_stages.specs.Automaton.{seek_unlocked, take_alone}
 use Rattle.art_stages.specs.Automaton.{beside_work}
-use Rattle.art_stages.specs.Automaton.{grow_unlocked, insert_unlocked, found_at, checked_at, among_at, words_at, keys_one, indexed_at, find_at, arrived_at}
+use Rattle.art_stages.specs.Automaton.{grow_unlocked, insert_unlocked, found_at, checked_at, among_at, words_at, keys_one, indexed_at}
+use Rattle.art_stages.specs.Automaton.{find_at, arrived_at}
 use Rattle.art_stages.specs.Automaton.{leaf_work}
-use Rattle.art_stages.specs.Automaton.{entered_at, below_at, pair_after, put_keys_after, copies_at, spreads_at, entries_at, fill_at, leaf_after, keys_at_after}
-use Rattle.art_stages.specs.Automaton.{after_with, turn_at, between_turn, find_turn, pair_turn, put_keys_turn, grow_keys_turn, grow_leaf_turn}
+use Rattle.art_stages.specs.Automaton.{entered_at, below_at, pair_after, put_keys_after, copies_at, spreads_at, entries_at, fill_at}
+use Rattle.art_stages.specs.Automaton.{leaf_after, keys_at_after}
+use Rattle.art_stages.specs.Automaton.{after_with, turn_at, between_turn, find_turn, pair_turn, put_keys_turn, grow_keys_turn}
+use Rattle.art_stages.specs.Automaton.{grow_leaf_turn}
 use Rattle.art_stages.specs.Automaton.{grow_count_turn, store_of}
 use Rattle.art_stages.specs.Scans.{Walk, at, scan_turn, keys_turn, release_turn}
 use Rattle.art_stages.specs.Calls.{CallAt, OnKey, OnScan, call_turn, call_after, begun_as}
@@ -179,7 +190,8 @@ module _ (c : Setting) (fine : IsFine c) where
   small-pair : (slot key value : ℕ) → SmallChild (Leaf key value) → SmallWork (pair_work c slot key value)
   small-pair slot key value s = (differ-level key (key_of c.call), key_byte-small key (keys_differ_at key (key_of c.call)), s)
 
-  small-overwrite : (n : Held) (slot value : ℕ) (o : Option ℕ) → ((word : ℕ) → o ≡ Some word → word < 2 ^ 64) → SmallStage (overwrite_at n slot value o)
+  small-overwrite : (n : Held) (slot value : ℕ) (o : Option ℕ) → ((word : ℕ) → o ≡ Some word → word < 2 ^ 64)
+      → SmallStage (overwrite_at n slot value o)
   small-overwrite n slot value None few = tt
   small-overwrite n slot value (Some word) few = few word refl
 
@@ -230,14 +242,17 @@ module _ (c : Setting) (fine : IsFine c) where
 
   inserts-unlocked : (p : Position) (f : Finding) → SmallFinding f → SmallStage (insert_unlocked c p f)
   inserts-unlocked p (Lacks keys) s =
-      if-small (is_full (row_at p.row) (count_in p.row.kind keys)) (grow_unlocked c p.row p.above p.slot keys) (take_alone c p.row (work.Put keys))
+      if-small (is_full (row_at p.row) (count_in p.row.kind keys)) (grow_unlocked c p.row p.above p.slot keys)
+          (take_alone c p.row (work.Put keys))
       (grows-unlocked p.row p.above p.slot keys) (small-alone p.row (work.Put keys) tt)
   inserts-unlocked p (Has slot Empty) s = small-alone p.row (leaf_work c slot None) fine.leaf
   inserts-unlocked p (Has slot (Leaf key value)) s =
       if-small (key == key_of c.call) (take_alone c p.row (leaf_work c slot (Some value)))
-      (if nat_le (keys_differ_at key (key_of c.call)) (row_at p.row).level then Wait Root else take_alone c p.row (pair_work c slot key value))
+      (if nat_le (keys_differ_at key (key_of c.call)) (row_at p.row).level then Wait Root else take_alone c p.row
+          (pair_work c slot key value))
       (small-alone p.row (leaf_work c slot (Some value)) fine.leaf)
-      (if-small (nat_le (keys_differ_at key (key_of c.call)) (row_at p.row).level) (Wait Root) (take_alone c p.row (pair_work c slot key value)) tt
+      (if-small (nat_le (keys_differ_at key (key_of c.call)) (row_at p.row).level) (Wait Root)
+          (take_alone c p.row (pair_work c slot key value)) tt
       (small-alone p.row (pair_work c slot key value) (small-pair slot key value s)))
   inserts-unlocked p (Has slot (ChildRow base kind)) s = s
 
@@ -249,7 +264,8 @@ module _ (c : Setting) (fine : IsFine c) where
 
   small-checked : (l i e : Bool) (p : Position) (f : Finding) → SmallFinding f → SmallStage (checked_at l i e c p f)
   small-checked true i e p f s = small-found true i e p f s
-  small-checked false i e p f s = if-small (leaves_out_check c.variant c.call) (found_at false i e c p f) (Check p f) (small-found false i e p f s) s
+  small-checked false i e p f s = if-small (leaves_out_check c.variant c.call) (found_at false i e c p f) (Check p f)
+      (small-found false i e p f s) s
 
   small-among : (l i e : Bool) (p : Position) (keys : KeyWords) (o : Option ℕ) → SmallStage (among_at l i e c p keys o)
   small-among l i e p keys None = small-checked l i e p (Lacks keys) tt
@@ -296,7 +312,8 @@ module _ (c : Setting) (fine : IsFine c) where
   differs-few : (m : Held) (x : ℕ) → path_differs_at c (row_at m) ≡ Some x → x ≤ 3
   differs-few m x e = let less = differs-before (row_at m).path (key_bytes (key_of c.call)) x e in omega (arith, less)
 
-  small-pair-after : (h : Hold) (p : Pair) (base : ℕ) (word : PairWord) → SmallPair p → row_word base < 2 ^ 64 → SmallStage (pair_after h p base word)
+  small-pair-after : (h : Hold) (p : Pair) (base : ℕ) (word : PairWord) → SmallPair p → row_word base < 2 ^ 64
+      → SmallStage (pair_after h p base word)
   small-pair-after h p base pair_word.Info s r = (s, r)
   small-pair-after h p base pair_word.Keys s r = (s, r)
   small-pair-after h p base pair_word.Lesser s r = (s, r)
@@ -344,7 +361,8 @@ module _ (c : Setting) (fine : IsFine c) where
 
   small-claimed-row : (h : Hold) (slot : ℕ) (keys : KeyWords) (w : ℕ) (b : Bool) → nat_lt w (rows_of c.shape (next_kind h.row.kind)) ≡ b
       → SmallStage
-      (if b then GrowInfo (record { hold = h; slot = slot; keys = keys; base = base_of c.shape (next_kind h.row.kind) w }) else Unlock h (Some Refused))
+      (if b then GrowInfo (record { hold = h; slot = slot; keys = keys; base = base_of c.shape (next_kind h.row.kind) w
+          }) else Unlock h (Some Refused))
   small-claimed-row h slot keys w true e = fine.rows (next_kind h.row.kind) w (ltb-true w (rows_of c.shape (next_kind h.row.kind)) e)
   small-claimed-row h slot keys w false e = tt
 
@@ -358,17 +376,20 @@ module _ (c : Setting) (fine : IsFine c) where
   small-after true i e (Between d kept) w few s = s
   small-after false i e (Between d kept) w few s = if-small (w == d.above.kept) (Info d kept) (Wait Root) s tt
   small-after l i e (Info d kept) w few s =
-      small-below l i d (held d.base d.kind w kept) (path_differs_at c (row_at (held d.base d.kind w kept))) s (differs-few (held d.base d.kind w kept))
+      small-below l i d (held d.base d.kind w kept) (path_differs_at c (row_at (held d.base d.kind w kept))) s
+          (differs-few (held d.base d.kind w kept))
   small-after l i e (Find p) w few s = small-find l i e p.row.kind p w few
   small-after l i e (FindKeys p count) w few s = tt
   small-after l i e (FindMore p count first) w few s = small-words l i e p (record { first = first; second = w; count = count })
   small-after l i e (FindCount p index) w few s = small-checked l i e p (Lacks (record { first = index; second = 0; count = w })) tt
   small-after l i e (Slot p slot) w few s = small-checked l i e p (Has slot (child_of c.shape w)) (again_below c.shape w few)
-  small-after l i e (Check p f) w few s = if-small (w == p.row.kept) (found_at l i e c p f) (start_at l) (small-found l i e p f s) (small-start l)
+  small-after l i e (Check p f) w few s = if-small (w == p.row.kept) (found_at l i e c p f) (start_at l)
+      (small-found l i e p f s) (small-start l)
   small-after l i e (CheckLast n) w few s = if-small (w == n.kept) (Over no_value) (start_at l) tt (small-start l)
   small-after l i e (LetGo above p f) w few s = small-found l i e p f s
   small-after l i e (Take t) w few s =
-      if-small (w == t.row.kept) (taken_at c t.held t.below t.work t.row) (release_at l t.held None) (small-taken t.held t.below t.work t.row s)
+      if-small (w == t.row.kept) (taken_at c t.held t.below t.work t.row) (release_at l t.held None)
+          (small-taken t.held t.below t.work t.row s)
       (small-release l t.held None)
   small-after l i e (Write h slot word value) w few s = tt
   small-after l i e (ClaimPair h p) w few s = small-claimed-pair h p w (nat_lt w (rows_of c.shape Four)) refl s
@@ -379,7 +400,8 @@ module _ (c : Setting) (fine : IsFine c) where
   small-after l i e (PutKeys h keys) w few s = small-keys-after l h.row.kind h keys
   small-after l i e (PutMore h keys) w few s = tt
   small-after l i e (PutCount h keys) w few s = tt
-  small-after l i e (ClaimGrow h slot keys) w few s = small-claimed-row h slot keys w (nat_lt w (rows_of c.shape (next_kind h.row.kind))) refl
+  small-after l i e (ClaimGrow h slot keys) w few s =
+      small-claimed-row h slot keys w (nat_lt w (rows_of c.shape (next_kind h.row.kind))) refl
   small-after l i e (GrowInfo g) w few s = small-fill g.hold.row.kind g s
   small-after l i e (GrowLoad g place left) w few s = (s, again_below c.shape w few)
   small-after l i e (GrowStore g place left word) w few s = small-copies g (place + 1) left s.0

@@ -5,7 +5,8 @@ use Rattle.std.proofs.lemmas.List.{length-set, length-map}
 use Rattle.std.proofs.lemmas.List.Elements.{All-nil, All-cons, All-take, All-append, All-set}
 use Rattle.art_rows.specs.declared.table.Kind.{Kind}
 use Rattle.art_rows.specs.declared.table.Kind.TheVariants.{Four, Sixteen, FortyEight, Full}
-use Rattle.art_rows.specs.Words.{packed, low_bytes, key_bytes, first_difference, Info, kind_code, info_word, info_of, keys4_of, keys16_of, entry_of}
+use Rattle.art_rows.specs.Words.{packed, low_bytes, key_bytes, first_difference, Info, kind_code, info_word, info_of, keys4_of, keys16_of}
+use Rattle.art_rows.specs.Words.{entry_of}
 use Rattle.art_rows.specs.Words.{entries_of, count_of}
 use Rattle.art_rows.specs.Words.{keys4_word, keys16_word, more_keys16_word, entries_word, place_of, with_key}
 use Rattle.art_rows.proofs.ByteLemmas.{entries-most, place-within}
@@ -28,7 +29,8 @@ level-few : (kind : Kind) (info : ℕ) → (info_of kind info).level ≤ 3
 level-few kind info = go (info % 4 == kind_code kind)
   where
     chosen : Bool → Info
-    chosen b = if b then record { level = (info / 4) % 4; path = low_bytes ((info / 4) % 4) (info / 256) } else record { level = 0; path = [] }
+    chosen b = if b then record { level = (info / 4) % 4; path = low_bytes ((info / 4) % 4) (info / 256) } else record
+        { level = 0; path = [] }
 
     go : (b : Bool) → (chosen b).level ≤ 3
     go true = omega arith
@@ -38,7 +40,8 @@ path-few : (kind : Kind) (info : ℕ) → length (info_of kind info).path ≤ 4
 path-few kind info = go (info % 4 == kind_code kind)
   where
     chosen : Bool → Info
-    chosen b = if b then record { level = (info / 4) % 4; path = low_bytes ((info / 4) % 4) (info / 256) } else record { level = 0; path = [] }
+    chosen b = if b then record { level = (info / 4) % 4; path = low_bytes ((info / 4) % 4) (info / 256) } else record
+        { level = 0; path = [] }
 
     go : (b : Bool) → length (chosen b).path ≤ 4
     go true = omega (arith, length-low_bytes ((info / 4) % 4) (info / 256))
@@ -51,7 +54,8 @@ info-small kind level path few long bytes =
 
 -- the info of a larger row, with the level and the path of this one,
 pub grown-info : (larger kind : Kind) (info : ℕ) → info_word larger (info_of kind info).level (info_of kind info).path < 2 ^ 64
-grown-info larger kind info = info-small larger (info_of kind info).level (info_of kind info).path (level-few kind info) (path-few kind info)
+grown-info larger kind info = info-small larger (info_of kind info).level (info_of kind info).path (level-few kind info)
+    (path-few kind info)
     (bytes-small (info_of kind info).path (path_byte kind info))
 
 taken-long : (level key : ℕ) → length (take level (key_bytes key)) ≤ 4

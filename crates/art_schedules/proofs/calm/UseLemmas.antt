@@ -33,7 +33,8 @@ use Rattle.art_schedules.proofs.calm.CalmLemmas.{claimed-row}
 same-word : {word other value v : ℕ} → Store word value ≡ Store other v → word ≡ other
 same-word e = cc
 
-module _ (variant : Variant) (shape : Shape) (n : ℕ) (s : State) (h : IsSound variant shape n s) (p : ℕ) (later : State) (calm after : List ℕ)
+module _ (variant : Variant) (shape : Shape) (n : ℕ) (s : State) (h : IsSound variant shape n s) (p : ℕ) (later : State)
+    (calm after : List ℕ)
     (step : CalmStep variant shape s p later calm after) (call : Call) (q : Process) (o : IsOpen s p call q) where
   abbrev turn : Turn
   turn = call_turn (setting shape variant call) (stage_of variant shape call q)
@@ -47,9 +48,11 @@ module _ (variant : Variant) (shape : Shape) (n : ℕ) (s : State) (h : IsSound 
   its-turn : (a : Access) (asks : AsksFor variant shape s p a) → turn ≡ Asks a asks.mark
   its-turn a asks =
       subst (λ x. call_turn (setting shape variant x) (stage_of variant shape x q) ≡ Asks a asks.mark) (its-call a asks)
-      (subst (λ w. call_turn (setting shape variant asks.call) (stage_of variant shape asks.call w) ≡ Asks a asks.mark) (its-process a asks) asks.turn)
+      (subst (λ w. call_turn (setting shape variant asks.call) (stage_of variant shape asks.call w) ≡ Asks a asks.mark)
+          (its-process a asks) asks.turn)
 
-  its-filling : (a : Access) (asks : AsksFor variant shape s p a) (base : ℕ) (kind : Kind) → filled_by variant shape asks.call asks.process ≡ (base, kind) ∷ []
+  its-filling : (a : Access) (asks : AsksFor variant shape s p a) (base : ℕ) (kind : Kind)
+      → filled_by variant shape asks.call asks.process ≡ (base, kind) ∷ []
       → filled_by variant shape call q ≡ (base, kind) ∷ []
   its-filling a asks base kind e =
       subst (λ x. filled_by variant shape x q ≡ (base, kind) ∷ []) (its-call a asks)
@@ -64,7 +67,8 @@ module _ (variant : Variant) (shape : Shape) (n : ℕ) (s : State) (h : IsSound 
     where
       go : CalmChange variant shape s p later calm after → Stays
       go (CalmStays same) = same
-      go (CalmFilled word value asks base kind filled behind is others) = absurd (none word value asks.mark (its-turn (Store word value) asks))
+      go (CalmFilled word value asks base kind filled behind is others) =
+          absurd (none word value asks.mark (its-turn (Store word value) asks))
       go (CalmReleased x asks rest with then kept alive row others) =
           absurd (none x.base (released_word x.kept) asks.mark (its-turn (Store x.base (released_word x.kept)) asks))
 
@@ -77,7 +81,8 @@ module _ (variant : Variant) (shape : Shape) (n : ℕ) (s : State) (h : IsSound 
     with-written x among behind = go step.change
       where
         kept : IsKept (locks variant) (IsSettled variant shape s) x
-        kept = held-is-kept (IsSettled variant shape s) (setting shape variant call) (stage_of variant shape call q) (h.knows p call q o) x among
+        kept = held-is-kept (IsSettled variant shape s) (setting shape variant call) (stage_of variant shape call q)
+            (h.knows p call q o) x among
 
         row : kind_at shape x.base ≡ Some x.kind
         row = settled-row variant shape s x.base x.kind kept.1
@@ -87,7 +92,8 @@ module _ (variant : Variant) (shape : Shape) (n : ℕ) (s : State) (h : IsSound 
         go (CalmFilled other v asks base kind filled within is others) =
             let its = its-filling (Store other v) asks base kind filled in
             let same = its-word other v asks in
-            let one = rows_apart shape x.base base x.kind kind word row (claimed-row shape s.words base kind (h.filled p call q o base kind its))
+            let one = rows_apart shape x.base base x.kind kind word row
+                (claimed-row shape s.words base kind (h.filled p call q o base kind its))
             (omega (arith, behind.0)) behind.1 (omega (arith, same, within.0)) (omega (arith, same, within.1)) in
             absurd (kept.1.unfilled p call q o base kind its one.0)
         go (CalmReleased y asks rest with then held alive its others) =
@@ -115,7 +121,8 @@ module _ (variant : Variant) (shape : Shape) (n : ℕ) (s : State) (h : IsSound 
     with-released x among version other high outside = go step.change
       where
         kept : IsKept (locks variant) (IsSettled variant shape s) x
-        kept = held-is-kept (IsSettled variant shape s) (setting shape variant call) (stage_of variant shape call q) (h.knows p call q o) x among
+        kept = held-is-kept (IsSettled variant shape s) (setting shape variant call) (stage_of variant shape call q)
+            (h.knows p call q o) x among
 
         row : kind_at shape x.base ≡ Some x.kind
         row = settled-row variant shape s x.base x.kind kept.1

@@ -40,10 +40,12 @@ pub free-busy : (v : ℕ) → is_locked v ≡ false → is_obsolete v ≡ false 
 free-busy v l o = or_from (is_locked v) (is_obsolete v) l o
 
 -- the row that has a word behind another's version has another base
-pub not-behind : (shape : Shape) (base b word : ℕ) (kind k : Kind) → kind_at shape base ≡ Some kind → kind_at shape b ≡ Some k → IsBehindVersion b k word
+pub not-behind : (shape : Shape) (base b word : ℕ) (kind k : Kind) → kind_at shape base ≡ Some kind → kind_at shape b ≡ Some k
+    → IsBehindVersion b k word
     → base ≢ word
 not-behind shape base b word kind k e row behind same =
-    let one = rows_apart shape base b kind k word e row (omega (arith, same)) (omega (arith, same, some-words kind)) (omega (arith, behind.0)) behind.1 in
+    let one = rows_apart shape base b kind k word e row (omega (arith, same)) (omega (arith, same, some-words kind))
+        (omega (arith, behind.0)) behind.1 in
     omega (arith, same, one.0, behind.0)
 
 module _ (variant : Variant) (shape : Shape) (n : ℕ) (s : State) (h : IsSound variant shape n s) where
@@ -56,18 +58,23 @@ module _ (variant : Variant) (shape : Shape) (n : ℕ) (s : State) (h : IsSound 
   held-version base x = ap (slice_index s.words) (sym x.is) ∙ h.locked x.holder x.call x.process x.is_open x.row x.among
 
   pub held-locked : (base : ℕ) → IsHeld variant shape s base → is_locked (slice_index s.words base) ≡ true
-  held-locked base x = ap is_locked (held-version base x) ∙ taken-locked x.row.kept (version-free (locks variant) x.row.kept (held-kept base x).0)
+  held-locked base x = ap is_locked (held-version base x)
+      ∙ taken-locked x.row.kept (version-free (locks variant) x.row.kept (held-kept base x).0)
 
--- What a step makes of a row's version: it stays, or rises by two from one that was not locked, or a release from one that was not locked replaces it.
+-- What a step makes of a row's version: it stays, or rises by two from one that was not locked, or a release from one that was not locked
+-- replaces it.
 pub data VersionChange (variant : Variant) (shape : Shape) (s later : State) (base : ℕ) (kind : Kind) : Type 0 where
   Stays : slice_index later.words base ≡ slice_index s.words base → VersionChange variant shape s later base kind
-  IsTaken : (v : ℕ) → (v / 2) % 2 ≡ 0 → slice_index s.words base ≡ v → slice_index later.words base ≡ v + 2 → IsSettled variant shape s base kind
+  IsTaken : (v : ℕ) → (v / 2) % 2 ≡ 0 → slice_index s.words base ≡ v → slice_index later.words base ≡ v + 2
+      → IsSettled variant shape s base kind
       → VersionChange variant shape s later base kind
   IsReleased : (v : ℕ) → (v / 2) % 2 ≡ 0 → slice_index s.words base ≡ v + 2
-      → (slice_index later.words base ≡ released_word v) ⊎ (slice_index later.words base ≡ obsolete_word v) → IsSettled variant shape s base kind
+      → (slice_index later.words base ≡ released_word v) ⊎ (slice_index later.words base ≡ obsolete_word v)
+      → IsSettled variant shape s base kind
       → VersionChange variant shape s later base kind
 
-module _ (variant : Variant) (shape : Shape) (n : ℕ) (s : State) (h : IsSound variant shape n s) (p : ℕ) (later : State) (base : ℕ) (kind : Kind)
+module _ (variant : Variant) (shape : Shape) (n : ℕ) (s : State) (h : IsSound variant shape n s) (p : ℕ) (later : State)
+    (base : ℕ) (kind : Kind)
     (row : kind_at shape base ≡ Some kind) where
   settled-here : (x : Held) → base ≡ x.base → IsKept (locks variant) (IsSettled variant shape s) x → IsSettled variant shape s base kind
   settled-here x e k =
@@ -79,15 +86,18 @@ module _ (variant : Variant) (shape : Shape) (n : ℕ) (s : State) (h : IsSound 
   version-change (RowsStay same) = Stays (same base (row_begins shape base kind row))
   version-change (RowWritten word value asks x among kept behind is others) =
       Stays (others base (not-behind shape base x.base word kind x.kind row (settled-row variant shape s x.base x.kind kept.1) behind))
-  version-change (RowFilled word value asks b k filled its behind is others) = Stays (others base (not-behind shape base b word kind k row its behind))
+  version-change (RowFilled word value asks b k filled its behind is others) =
+      Stays (others base (not-behind shape base b word kind k row its behind))
   version-change (RowTaken x asks rows with then kept was is others) = elim (cases_eq base x.base) [
-    | inl e ↦ IsTaken x.kept (version-free (locks variant) x.kept kept.0) (ap (slice_index s.words) e ∙ was) (ap (slice_index later.words) e ∙ is)
+    | inl e ↦ IsTaken x.kept (version-free (locks variant) x.kept kept.0) (ap (slice_index s.words) e ∙ was)
+        (ap (slice_index later.words) e ∙ is)
         (settled-here x e kept)
     | inr d ↦ Stays (others base d)
   ]
   version-change (RowReleased x value asks rest with then kept written is others) = elim (cases_eq base x.base) [
     | inl e ↦ IsReleased x.kept (version-free (locks variant) x.kept kept.0)
-        (ap (slice_index s.words) e ∙ h.locked p asks.call asks.process asks.is_open x (with-here x rest (held_by variant shape asks.call asks.process) with))
+        (ap (slice_index s.words) e ∙ h.locked p asks.call asks.process asks.is_open x (with-here x rest (held_by variant shape asks.call
+            asks.process) with))
         (elim written [
           | inl w ↦ inl (ap (slice_index later.words) e ∙ (is ∙ w))
           | inr w ↦ inr (ap (slice_index later.words) e ∙ (is ∙ w))
@@ -113,10 +123,12 @@ locked-same v = ap (λ m. m == 1) (parity v)
     parity v = omega arith
 
 -- an obsolete row stays obsolete
-pub obsolete-stays : (variant : Variant) (shape : Shape) (s later : State) (base : ℕ) (kind : Kind) → VersionChange variant shape s later base kind
+pub obsolete-stays : (variant : Variant) (shape : Shape) (s later : State) (base : ℕ) (kind : Kind)
+    → VersionChange variant shape s later base kind
     → is_obsolete (slice_index s.words base) ≡ true → is_obsolete (slice_index later.words base) ≡ true
 obsolete-stays variant shape s later base kind (Stays e) gone = ap is_obsolete e ∙ gone
-obsolete-stays variant shape s later base kind (IsTaken v free was is settled) gone = ap is_obsolete is ∙ (locked-same v ∙ (ap is_obsolete (sym was) ∙ gone))
+obsolete-stays variant shape s later base kind (IsTaken v free was is settled) gone = ap is_obsolete is
+    ∙ (locked-same v ∙ (ap is_obsolete (sym was) ∙ gone))
 obsolete-stays variant shape s later base kind (IsReleased v free was (inl e) settled) gone =
     ap is_obsolete e ∙ (obsolete_released v ∙ (sym (locked-same v) ∙ (ap is_obsolete (sym was) ∙ gone)))
 obsolete-stays variant shape s later base kind (IsReleased v free was (inr e) settled) gone = ap is_obsolete e ∙ obsolete_obsolete v
@@ -126,9 +138,11 @@ abbrev pub BusySettled : Variant → Shape → State → Type 0
 BusySettled variant shape s = (base : ℕ) (kind : Kind) → kind_at shape base ≡ Some kind → is_busy (slice_index s.words base) ≡ true
     → IsSettled variant shape s base kind
 
-pub busy-settled-step : (variant : Variant) (shape : Shape) (n : ℕ) (s later : State) (p : ℕ) → IsSound variant shape n s → IsSteady variant shape s later
+pub busy-settled-step : (variant : Variant) (shape : Shape) (n : ℕ) (s later : State) (p : ℕ) → IsSound variant shape n s
+    → IsSteady variant shape s later
     → RowChange variant shape s p later → BusySettled variant shape s → BusySettled variant shape later
-busy-settled-step variant shape n s later p h steady change settled base kind row busy = go (version-change variant shape n s h p later base kind row change)
+busy-settled-step variant shape n s later p h steady change settled base kind row busy =
+    go (version-change variant shape n s h p later base kind row change)
   where
     go : VersionChange variant shape s later base kind → IsSettled variant shape later base kind
     go (Stays e) = steady.settled base kind (settled base kind row (ap is_busy (sym e) ∙ busy))

@@ -23,12 +23,14 @@ use Rattle.art_serial.proofs.inserts.OutcomeLemmas.{child-same}
 use Rattle.art_serial.proofs.inserts.SmallLemmas.{path_byte-small}
 use Rattle.art_serial.proofs.trees.Changes.{way_byte}
 use Rattle.art_schedules.specs.changes.Rows.{OneRow, IsFilled}
-use Rattle.art_schedules.specs.changes.Effects.{Keeps, Fills, PutsLeaf, RemovesLeaf, HangsPair, HangsGrown, IsPutOn, IsRemovedFrom, IsPairHung, IsGrownHung}
+use Rattle.art_schedules.specs.changes.Effects.{Keeps, Fills, PutsLeaf, RemovesLeaf, HangsPair, HangsGrown, IsPutOn, IsRemovedFrom}
+use Rattle.art_schedules.specs.changes.Effects.{IsPairHung, IsGrownHung}
 use Rattle.art_schedules.specs.changes.Effects.{Effect, HasEffect, IsGone}
 use Rattle.art_schedules.specs.changes.Follows.{HasFewClaims, Follows, KeepsTree}
 use Rattle.art_schedules.specs.changes.Laws.{EffectsFollow}
 use Rattle.art_schedules.proofs.changes.FollowLemmas.{follows-by, kept-trees-follow}
-use Rattle.art_schedules.proofs.changes.RowLemmas.{claimed-sits, same-kind, other-row, reached-sits, unlocked, live, still-claimed, fresh, infos, changes}
+use Rattle.art_schedules.proofs.changes.RowLemmas.{claimed-sits, same-kind, other-row, reached-sits, unlocked, live, still-claimed, fresh}
+use Rattle.art_schedules.proofs.changes.RowLemmas.{infos, changes}
 use Rattle.art_schedules.specs.changes.Courses.{IsGoneBy, ComesInBy}
 
 -- the byte at which a child's keys part from the key is a byte
@@ -37,7 +39,8 @@ parted-small words key d a Empty h = absurd h
 parted-small words key d a (Leaf k v) h = subst (λ z. z < 256) (sym h.1) (key_byte-small k d)
 parted-small words key d a (Row b kind) h = subst (λ z. z < 256) (sym h.1) (path_byte-small words b kind d)
 
-module _ (s : Shape) (n claims : ℕ) (calm later : List ℕ) (m : Contents) (rest : IsAtRest s n calm) (means : Means s calm m) (few : HasFewClaims claims later)
+module _ (s : Shape) (n claims : ℕ) (calm later : List ℕ) (m : Contents) (rest : IsAtRest s n calm) (means : Means s calm m)
+    (few : HasFewClaims claims later)
     (base : ℕ) (kind : Kind) (one : OneRow s calm later base kind) where
   -- ---- nothing of the tree has changed
 
@@ -109,7 +112,8 @@ module _ (s : Shape) (n claims : ℕ) (calm later : List ℕ) (m : Contents) (re
   put-follows : LeavesArePut → (x key value : ℕ) → IsPutOn s calm later base kind x key value
       → Follows s claims calm later (put key value m) (IsGoneBy None) (ComesInBy None)
   put-follows puts x key value is = leaf-follows (put key value m) is.leads.reached is.row.info
-      (puts s calm later m key value base kind x rest.tree means is.leads is.free (changes s n calm later rest base kind one x (Leaf key value) is.row))
+      (puts s calm later m key value base kind x rest.tree means is.leads is.free
+          (changes s n calm later rest base kind one x (Leaf key value) is.row))
 
   removed-follows : LeavesAreRemoved → (x key : ℕ) → IsRemovedFrom s calm later base kind x key
       → Follows s claims calm later (below key m ++ above key m) (IsGoneBy None) (ComesInBy None)
@@ -119,13 +123,15 @@ module _ (s : Shape) (n claims : ℕ) (calm later : List ℕ) (m : Contents) (re
   -- ---- a fresh row
 
   -- a row that was filled and is not reached is not the row that changes, so its words are the same
-  fresh-same : (row : ℕ) (larger : Kind) → Reached s calm base kind → ((k : Kind) → Reached s calm row k → ⊥) → IsFilled s calm later row larger
+  fresh-same : (row : ℕ) (larger : Kind) → Reached s calm base kind → ((k : Kind) → Reached s calm row k → ⊥)
+      → IsFilled s calm later row larger
       → SameRow calm later row larger
   fresh-same row larger reached new filled =
       other-row s n calm later rest base kind one row larger (claimed-sits s later row larger filled.claimed)
       (λ same. new kind (subst (λ b. Reached s calm b kind) (sym same) reached))
 
-  filled-row : (row : ℕ) (larger : Kind) → IsFilled s calm later row larger → (b : ℕ) (k : Kind) → (b ≡ row) × (k ≡ larger) → IsFilled s calm later b k
+  filled-row : (row : ℕ) (larger : Kind) → IsFilled s calm later row larger → (b : ℕ) (k : Kind) → (b ≡ row) × (k ≡ larger)
+      → IsFilled s calm later b k
   filled-row row larger filled b k (is, kinds) = subst₂ (λ b k. IsFilled s calm later b k) (sym is) (sym kinds) filled
 
   module _ (hangs : PairsAreHung) (x key value row d a : ℕ) (is : IsPairHung s calm later base kind x key value row d a) where
@@ -184,7 +190,8 @@ module _ (s : Shape) (n claims : ℕ) (calm later : List ℕ) (m : Contents) (re
     grown-hung : IsTree s later × HasRowInPlace s calm later full row larger × Means s later (put key value m)
     grown-hung =
         let change = changes s n calm later rest base kind one x (Row row larger) is.row in
-        hangs s calm later m key value base kind x full full_kind y row larger rest.tree means is.above is.hangs is.leads later-grown (record {
+        hangs s calm later m key value base kind x full full_kind y row larger rest.tree means is.above is.hangs is.leads
+            later-grown (record {
           others = λ b k r ne but. change.others b k r ne;
           info = change.info;
           form = change.form;
@@ -193,17 +200,20 @@ module _ (s : Shape) (n claims : ℕ) (calm later : List ℕ) (m : Contents) (re
         })
 
     grown-follows : Follows s claims calm later (put key value m) (λ b. b ≡ full) (λ b k. (b ≡ row) × (k ≡ larger))
-    grown-follows = follows (put key value m) (λ b. b ≡ full) (λ b k. (b ≡ row) × (k ≡ larger)) is.above.reached is.row.info grown-hung.0 grown-hung.2
+    grown-follows = follows (put key value m) (λ b. b ≡ full) (λ b k. (b ≡ row) × (k ≡ larger)) is.above.reached is.row.info
+        grown-hung.0 grown-hung.2
         (λ b k. grown-hung.1 b k) (filled-row row larger is.filled)
 
-module _ (trees : SameTreesAreOne) (puts : LeavesArePut) (removes : LeavesAreRemoved) (pairs : PairsAreHung) (grown : GrownRowsAreHung) where
+module _ (trees : SameTreesAreOne) (puts : LeavesArePut) (removes : LeavesAreRemoved) (pairs : PairsAreHung)
+    (grown : GrownRowsAreHung) where
   pub effects-follow : EffectsFollow
   effects-follow s n claims calm later m (Keeps base kind) rest means one few (own, same) =
       kept-trees-follow trees s n claims calm later m rest means
       (keeps s n claims calm later m rest means few base kind one own (kept s n claims calm later m rest means few base kind one same)) few
   effects-follow s n claims calm later m (Fills base kind) rest means one few (own, none) =
       kept-trees-follow trees s n claims calm later m rest means
-      (keeps s n claims calm later m rest means few base kind one own (unreached s n claims calm later m rest means few base kind one none)) few
+      (keeps s n claims calm later m rest means few base kind one own
+          (unreached s n claims calm later m rest means few base kind one none)) few
   effects-follow s n claims calm later m (PutsLeaf base kind x key value) rest means one few is =
       put-follows s n claims calm later m rest means few base kind one puts x key value is
   effects-follow s n claims calm later m (RemovesLeaf base kind x key) rest means one few is =
@@ -214,7 +224,8 @@ module _ (trees : SameTreesAreOne) (puts : LeavesArePut) (removes : LeavesAreRem
       grown-follows s n claims calm later m rest means few base kind one grown x key value full full_kind y row larger is
 
 -- a row that goes by an effect was one of the tree
-pub gone-reached : (shape : Shape) (calm later : List ℕ) (e : Effect) → HasEffect shape calm later e → (b : ℕ) → IsGone e b → (k : Kind) × Reached shape calm b k
+pub gone-reached : (shape : Shape) (calm later : List ℕ) (e : Effect) → HasEffect shape calm later e → (b : ℕ) → IsGone e b → (k : Kind)
+    × Reached shape calm b k
 gone-reached shape calm later (Keeps base kind) h b g = absurd g
 gone-reached shape calm later (Fills base kind) h b g = absurd g
 gone-reached shape calm later (PutsLeaf base kind x key value) h b g = absurd g

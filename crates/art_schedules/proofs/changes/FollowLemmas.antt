@@ -17,9 +17,11 @@ use Rattle.art_schedules.specs.changes.Laws.{KeptTreesFollow, LowWordsKeep}
 use Rattle.art_schedules.specs.changes.Courses.{IsGoneBy, ComesInBy}
 
 -- a tree at rest of these rows, with their infos, follows
-pub follows-by : (s : Shape) (n : ℕ) (calm later : List ℕ) (pairs : Contents) (gone : ℕ → Type 0) (fresh : ℕ → Kind → Type 0) → IsAtRest s n later
+pub follows-by : (s : Shape) (n : ℕ) (calm later : List ℕ) (pairs : Contents) (gone : ℕ → Type 0) (fresh : ℕ → Kind → Type 0)
+    → IsAtRest s n later
     → Means s later pairs → ((b : ℕ) (k : Kind) → Reached s later b k ↔ ((Reached s calm b k × (gone b → ⊥)) ⊎ fresh b k))
-    → ((b : ℕ) (k : Kind) → Reached s calm b k → slice_index later (info_at b) ≡ slice_index calm (info_at b)) → Follows s n calm later pairs gone fresh
+    → ((b : ℕ) (k : Kind) → Reached s calm b k → slice_index later (info_at b) ≡ slice_index calm (info_at b))
+    → Follows s n calm later pairs gone fresh
 follows-by s n calm later pairs gone fresh rests means rows infos = record {
   rests = rests;
   means = means;

@@ -36,7 +36,8 @@ pub same-kind : (s : Shape) (a b : ℕ) (k l : Kind) → Sits s a k → Sits s b
 same-kind s a b k l x y same =
     (sits-part s a b 0 0 k l x y (omega (arith, two-words k)) (omega (arith, two-words l)) (ap (λ i. i + 0) same)).0
 
-module _ (s : Shape) (n : ℕ) (calm later : List ℕ) (rest : IsAtRest s n calm) (base : ℕ) (kind : Kind) (one : OneRow s calm later base kind) where
+module _ (s : Shape) (n : ℕ) (calm later : List ℕ) (rest : IsAtRest s n calm) (base : ℕ) (kind : Kind)
+    (one : OneRow s calm later base kind) where
   pub other-row : (b : ℕ) (k : Kind) → Sits s b k → b ≢ base → SameRow calm later b k
   other-row b k x ne j low high = one.others b k j (sits-kind_at s b k x) ne high
 
@@ -71,13 +72,15 @@ module _ (s : Shape) (n : ℕ) (calm later : List ℕ) (rest : IsAtRest s n calm
   pub fresh : IsClaimed s later base kind → AreZeroPastClaims s later
   fresh own k number above low word from to = ⊎_elim
       (λ here.
-      let (kinds, numbers, bases, places) = sits-part s (base_of s k number) base 0 0 k kind (record { number = number; low = low; is = refl })
+      let (kinds, numbers, bases, places) = sits-part s (base_of s k number) base 0 0 k kind
+          (record { number = number; low = low; is = refl })
       (claimed-sits s later base kind own) (omega (arith, two-words k)) (omega (arith, two-words kind)) (ap (λ i. i + 0) here) in
       absurd (omega (arith, above, numbers, subst (λ q. own.number < slice_index later (claims_of q)) (sym kinds) own.claimed)))
       (λ apart.
       let (j, high, is) = offset (base_of s k number) (row_words k) word from to in
       ap (λ w. slice_index later w) is
-      ∙ (one.others (base_of s k number) k j (sits-kind_at s (base_of s k number) k (record { number = number; low = low; is = refl })) apart high
+      ∙ (one.others (base_of s k number) k j (sits-kind_at s (base_of s k number) k
+          (record { number = number; low = low; is = refl })) apart high
       ∙ (ap (λ w. slice_index calm w) (sym is)
       ∙ rest.fresh k number (omega (arith, above, one.claims k)) low word from to))) (cases_eq (base_of s k number) base)
 
@@ -116,7 +119,8 @@ rows-are-by-words s calm later base kind row long small claims same unlocked liv
         → slice_index later (b + j) ≡ slice_index calm (b + j)
     by b k j x ne high (inl less) = same (b + j) (omega (arith, (sits-inside s b j k x high).0)) (inl less)
     by b k j x ne high (inr (inl more)) = same (b + j) (omega (arith, (sits-inside s b j k x high).0)) (inr more)
-    by b k j x ne high (inr (inr (i, within, is))) = absurd (ne (sits-part s b base j i k kind x (kind_at-sits s base kind row) high within is).2)
+    by b k j x ne high (inr (inr (i, within, is))) =
+        absurd (ne (sits-part s b base j i k kind x (kind_at-sits s base kind row) high within is).2)
 
 pub slots-are-children : SlotsAreChildren
 slots-are-children s n calm later base kind x slot rest reached one byte at same = record {
@@ -136,7 +140,8 @@ slots-are-children s n calm later base kind x slot rest reached one byte at same
         (λ apart. other-row s n calm later rest base kind one b k (sits s n calm rest r) apart j low high) (cases_eq b base)
 
     change : ChangesAt s calm later base kind x (child_of s (slice_index later slot))
-    change = word-changes s n calm rest later base slot (slice_index later slot) x kind reached byte at untouched refl (rest.tree.form base kind reached)
+    change = word-changes s n calm rest later base slot (slice_index later slot) x kind reached byte at untouched refl
+        (rest.tree.form base kind reached)
         (child_of s (slice_index later slot)) refl
 
 pub slots-are-written : ChildrenAreRead → SlotsAreWritten

@@ -12,7 +12,8 @@ use Rattle.art_serial.proofs.alone.PlaceLemmas.{Sits, sits-part, sits-inside}
 use Rattle.art_serial.proofs.alone.SlotLemmas.{slot-is, row-keys, form-same, IsChildWord}
 use Rattle.art_serial.proofs.alone.LikeLemmas.{sits}
 use Rattle.art_serial.proofs.inserts.OutcomeLemmas.{split, child-same}
-use Rattle.art_schedules.specs.changes.Written.{StoresAreSlots, HungRowsAreSlots, ChildrenAreOfRows, PutsAreChildren, PairsAreFresh, CopiesAreFresh}
+use Rattle.art_schedules.specs.changes.Written.{StoresAreSlots, HungRowsAreSlots, ChildrenAreOfRows, PutsAreChildren, PairsAreFresh}
+use Rattle.art_schedules.specs.changes.Written.{CopiesAreFresh}
 use Rattle.art_schedules.specs.changes.Written.{WrittenPairsAreRows, WrittenRowsAreCopies}
 use Rattle.art_schedules.proofs.changes.RowLemmas.{claimed-sits}
 
@@ -34,7 +35,8 @@ pub hung-rows-are-slots : HungRowsAreSlots
 hung-rows-are-slots s n words written calm later base kind x slot fresh larger rest reached byte at hung before after claimed new = record {
   at = at;
   others = λ j low high ne. after j low high
-      ∙ (hung.same (base + j) (omega (arith, (sits-inside s base j kind place high).0)) ne (outside j high (split (base + j) fresh (row_words larger)))
+      ∙ (hung.same (base + j) (omega (arith, (sits-inside s base j kind place high).0)) ne
+          (outside j high (split (base + j) fresh (row_words larger)))
       ∙ sym (before j low high));
   here = ap (λ w. slice_index later w) its-place.is
       ∙ (after its-place.place (omega (arith, first-some kind, its-place.low)) its-place.high
@@ -53,7 +55,8 @@ hung-rows-are-slots s n words written calm later base kind x slot fresh larger r
     outside j high (inl less) = inl less
     outside j high (inr (inl more)) = inr more
     outside j high (inr (inr (i, within, same))) =
-        let (kinds, numbers, bases, places) = sits-part s base fresh j i kind larger place (claimed-sits s later fresh larger claimed) high within same in
+        let (kinds, numbers, bases, places) = sits-part s base fresh j i kind larger place (claimed-sits s later fresh larger claimed)
+            high within same in
         absurd (new kind (subst (λ b. Reached s calm b kind) bases reached))
 
 pub children-are-of-rows : ChildrenAreOfRows

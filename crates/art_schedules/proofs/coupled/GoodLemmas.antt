@@ -55,18 +55,21 @@ module _ (plan : Plan) (start : Contents) (words schedule : List ℕ) (p : ℕ) 
         stays : IsGoneBy effect x.base → ⊥
         stays gone = false≢true (sym (held-live plan.shape s t p words calm after f r call q o x a good.live) ∙ dead x.base gone)
 
-  module _ (good : GoodOf plan.shape s p calm) (live : TakesLive plan.shape s p) (takes : TakesReached plan.shape s p calm) (call : Call) (q : Process)
+  module _ (good : GoodOf plan.shape s p calm) (live : TakesLive plan.shape s p) (takes : TakesReached plan.shape s p calm)
+      (call : Call) (q : Process)
       (o : IsOpen t p call q) (x : Held) (a : IsAmong x (held_by Coupled plan.shape call q)) where
     row : kind_at plan.shape x.base ≡ Some x.kind
     row = settled-row Coupled plan.shape t x.base x.kind (held-is-kept (IsSettled Coupled plan.shape t) (setting plan.shape Coupled call)
         (stage_of Coupled plan.shape call q) (f.behind.knows p call q o) x a).1
 
     -- with the base and the version of a good row it is one
-    as-good : (y : Held) (kind : Kind) → Reached plan.shape calm y.base kind → is_obsolete y.kept ≡ false → y.base ≡ x.base → y.kept ≡ x.kept
+    as-good : (y : Held) (kind : Kind) → Reached plan.shape calm y.base kind → is_obsolete y.kept ≡ false
+        → y.base ≡ x.base → y.kept ≡ x.kept
         → IsInTree plan.shape calm x
     as-good y kind reached alive base kept =
         let its : kind ≡ x.kind = same_Some kind x.kind
-        (sym (reached-kind plan.shape s t p words calm after f claims h.rests y.base kind reached) ∙ (ap (kind_at plan.shape) base ∙ row)) in
+        (sym (reached-kind plan.shape s t p words calm after f claims h.rests y.base kind reached)
+            ∙ (ap (kind_at plan.shape) base ∙ row)) in
         record {
           reached = subst (λ b. Reached plan.shape calm b x.kind) base (subst (Reached plan.shape calm y.base) its reached);
           live = ap is_obsolete (sym kept) ∙ alive;

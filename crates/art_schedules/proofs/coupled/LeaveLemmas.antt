@@ -1,5 +1,6 @@
 -- Rows that are obsolete: nobody takes one, and those of the calm tree are about to leave it.
-use Rattle.std.proofs.Common.{◌≡◌, ◌⊎◌, inl, inr, ℕ, ◌+◌, ◌<◌, ◌≤◌, List, [], ◌∷◌, ◌++◌, refl, ap, sym, subst, ◌∙◌, Bool, true, false, arith}
+use Rattle.std.proofs.Common.{◌≡◌, ◌⊎◌, inl, inr, ℕ, ◌+◌, ◌<◌, ◌≤◌, List, [], ◌∷◌, ◌++◌, refl, ap, sym, subst, ◌∙◌, Bool, true, false}
+use Rattle.std.proofs.Common.{arith}
 use Rattle.std.specs.Prelude.{slice_index, Option, Some}
 use Rattle.std.proofs.lemmas.Bool.{cases_eq, false≢true}
 use Rattle.std.proofs.lemmas.Option.{same_Some}
@@ -17,7 +18,8 @@ use Rattle.art_steps.specs.declared.access.Access.TheVariants.{Store, Exchange a
 use Rattle.art_steps.specs.declared.access.Point.{Point}
 use Rattle.art_steps.specs.declared.access.Point.TheVariants as point
 use Rattle.art_steps.specs.Steps.{Asks}
-use Rattle.art_steps.proofs.TurnLemmas.{store-word, load-store, add-store, exchange-store, add-exchange, load-exchange, store-exchange, answers-asks}
+use Rattle.art_steps.proofs.TurnLemmas.{store-word, load-store, add-store, exchange-store, add-exchange, load-exchange, store-exchange}
+use Rattle.art_steps.proofs.TurnLemmas.{answers-asks}
 use Rattle.art_steps.proofs.TurnLemmas.{stores-same}
 use Rattle.art_stages.specs.declared.stage.Held.{Held}
 use Rattle.art_stages.specs.declared.stage.Hold.{Hold}
@@ -78,9 +80,11 @@ lock-stores shape call (OnScan low high x) word value mark e = go x.step e
     go (scan.Exchange entry v) e = absurd (exchange-store e)
     go step e = refl
 
--- What a call that stores the version of a row is at: one of the stages that release a row that it holds, or the one that makes a row obsolete.
+-- What a call that stores the version of a row is at: one of the stages that release a row that it holds, or the one that makes a row
+-- obsolete.
 data Releases (shape : Shape) (call : Call) (x : CallAt) (base value : ℕ) : Type 0 where
-  ByUnlock : (n : Held) → IsAmong (lock_of n) (holds (setting shape Coupled call) x) → value ≡ released_word n.kept → Releases shape call x base value
+  ByUnlock : (n : Held) → IsAmong (lock_of n) (holds (setting shape Coupled call) x) → value ≡ released_word n.kept
+      → Releases shape call x base value
   ByObsolete : (h : Hold) → x ≡ OnKey (Obsolete h) → base ≡ h.row.base → Releases shape call x base value
 
 releases-at : (shape : Shape) (call : Call) (x : CallAt) (base value : ℕ) (mark : Option Point) → may_release x ≡ true
@@ -101,23 +105,28 @@ releases-at shape call (OnScan low high x) base value mark e turn = go x.step e 
 -- Where a row comes from that is held behind a step of process p: it was held before, from the same version, or p takes it in the step.
 pub data HeldFrom (shape : Shape) (s : State) (p : ℕ) (x : Held) : Type 0 where
   HeldBefore : (h : IsHeld Coupled shape s x.base) → h.row.kept ≡ x.kept → HeldFrom shape s p x
-  TakenNow : (y : Held) → AsksFor Coupled shape s p (Swap y.base y.kept (locked_word y.kept)) → slice_index s.words y.base ≡ y.kept → y.base ≡ x.base
+  TakenNow : (y : Held) → AsksFor Coupled shape s p (Swap y.base y.kept (locked_word y.kept))
+      → slice_index s.words y.base ≡ y.kept → y.base ≡ x.base
       → y.kept ≡ x.kept → HeldFrom shape s p x
 
-module _ (shape : Shape) (root : 1 ≤ shape.rows256) (s t : State) (p : ℕ) (first calm after : List ℕ) (f : Facts shape s t p first calm after) where
+module _ (shape : Shape) (root : 1 ≤ shape.rows256) (s t : State) (p : ℕ) (first calm after : List ℕ)
+    (f : Facts shape s t p first calm after) where
   -- a row that is held has its version locked
   held-locked : (r : ℕ) (call : Call) (q : Process) → IsOpen t r call q → (x : Held) → IsAmong x (held_by Coupled shape call q)
       → is_locked (slice_index t.words x.base) ≡ true
   held-locked r call q o x a =
-      let kept = held-is-kept (IsSettled Coupled shape t) (setting shape Coupled call) (stage_of Coupled shape call q) (f.behind.knows r call q o) x a in
+      let kept = held-is-kept (IsSettled Coupled shape t) (setting shape Coupled call) (stage_of Coupled shape call q)
+          (f.behind.knows r call q o) x a in
       ap is_locked (f.behind.locked r call q o x a) ∙ taken-locked x.kept (version-free true x.kept kept.0)
 
-  pub held-from : (r : ℕ) (call : Call) (q : Process) → IsOpen t r call q → (x : Held) → IsAmong x (held_by Coupled shape call q) → HeldFrom shape s p x
+  pub held-from : (r : ℕ) (call : Call) (q : Process) → IsOpen t r call q → (x : Held) → IsAmong x (held_by Coupled shape call q)
+      → HeldFrom shape s p x
   held-from r call q o x a = go f.goes.rows
     where
       row : kind_at shape x.base ≡ Some x.kind
       row = settled-row Coupled shape t x.base x.kind
-          (held-is-kept (IsSettled Coupled shape t) (setting shape Coupled call) (stage_of Coupled shape call q) (f.behind.knows r call q o) x a).1
+          (held-is-kept (IsSettled Coupled shape t) (setting shape Coupled call) (stage_of Coupled shape call q)
+              (f.behind.knows r call q o) x a).1
 
       version : slice_index t.words x.base ≡ x.kept + 2
       version = f.behind.locked r call q o x a
@@ -132,19 +141,23 @@ module _ (shape : Shape) (root : 1 ≤ shape.rows256) (s t : State) (p : ℕ) (f
       go : RowChange Coupled shape s p t → HeldFrom shape s p x
       go (RowsStay same) = stayed (same x.base (row_begins shape x.base x.kind row))
       go (RowWritten word value asks y among kept behind is others) =
-          stayed (others x.base (not-behind shape x.base y.base word x.kind y.kind row (settled-row Coupled shape s y.base y.kind kept.1) behind))
-      go (RowFilled word value asks b k filled its behind is others) = stayed (others x.base (not-behind shape x.base b word x.kind k row its behind))
+          stayed (others x.base (not-behind shape x.base y.base word x.kind y.kind row (settled-row Coupled shape s y.base
+              y.kind kept.1) behind))
+      go (RowFilled word value asks b k filled its behind is others) =
+          stayed (others x.base (not-behind shape x.base b word x.kind k row its behind))
       go (RowTaken y asks rows with then kept was is others) = elim (cases_eq x.base y.base) [
         | inl e ↦ TakenNow y asks was (sym e) (omega (arith, is, ap (slice_index t.words) e, version))
         | inr d ↦ stayed (others x.base d)
       ]
       go (RowReleased y value asks rest with then kept written is others) = elim (cases_eq x.base y.base) [
-        | inl e ↦ absurd (false≢true (sym (free y value kept.0 written) ∙ (ap is_locked (sym is ∙ ap (slice_index t.words) (sym e)) ∙ held-locked r call q o x
+        | inl e ↦ absurd (false≢true (sym (free y value kept.0 written) ∙ (ap is_locked (sym is ∙ ap (slice_index t.words) (sym e))
+            ∙ held-locked r call q o x
             a)))
         | inr d ↦ stayed (others x.base d)
       ]
         where
-          free : (y : Held) (value : ℕ) → is_locked y.kept ≡ false → (value ≡ released_word y.kept) ⊎ (value ≡ obsolete_word y.kept) → is_locked value ≡ false
+          free : (y : Held) (value : ℕ) → is_locked y.kept ≡ false → (value ≡ released_word y.kept) ⊎ (value ≡ obsolete_word y.kept)
+              → is_locked value ≡ false
           free y value un (inl e) = ap is_locked e ∙ released-free y.kept (version-free true y.kept un)
           free y value un (inr e) = ap is_locked e ∙ obsolete-free y.kept (version-free true y.kept un)
 
@@ -173,10 +186,13 @@ module _ (shape : Shape) (root : 1 ≤ shape.rows256) (s t : State) (p : ℕ) (f
         go : RowChange Coupled shape s p t → MadeBy base kind
         go (RowsStay same) = stayed (same base (row_begins shape base kind row))
         go (RowWritten word value asks y among kept behind is others) =
-            stayed (others base (not-behind shape base y.base word kind y.kind row (settled-row Coupled shape s y.base y.kind kept.1) behind))
-        go (RowFilled word value asks b k filled its behind is others) = stayed (others base (not-behind shape base b word kind k row its behind))
+            stayed (others base (not-behind shape base y.base word kind y.kind row (settled-row Coupled shape s y.base
+                y.kind kept.1) behind))
+        go (RowFilled word value asks b k filled its behind is others) =
+            stayed (others base (not-behind shape base b word kind k row its behind))
         go (RowTaken y asks rows with then kept before is others) = elim (cases_eq base y.base) [
-          | inl e ↦ absurd (false≢true (sym was ∙ (ap (λ b. is_obsolete (slice_index s.words b)) e ∙ (ap is_obsolete before ∙ (sym (locked-same y.kept)
+          | inl e ↦ absurd
+              (false≢true (sym was ∙ (ap (λ b. is_obsolete (slice_index s.words b)) e ∙ (ap is_obsolete before ∙ (sym (locked-same y.kept)
               ∙ (ap is_obsolete (sym is) ∙ (ap (λ b. is_obsolete (slice_index t.words b)) (sym e) ∙ now)))))))
           | inr d ↦ stayed (others base d)
         ]
@@ -197,7 +213,8 @@ module _ (shape : Shape) (root : 1 ≤ shape.rows256) (s t : State) (p : ℕ) (f
 
             by : Releases shape asks.call x y.base value → base ≡ y.base → is_obsolete value ≡ true → MadeBy base kind
             by (ByUnlock n among same) e dead =
-                absurd (false≢true (sym (ap is_obsolete same ∙ (obsolete_released n.kept ∙ live p asks.call asks.process asks.is_open (lock_of n) among)) ∙ dead))
+                absurd (false≢true (sym (ap is_obsolete same ∙ (obsolete_released n.kept ∙ live p asks.call asks.process asks.is_open
+                    (lock_of n) among)) ∙ dead))
             by (ByObsolete h is same) e dead = record {
               call = asks.call;
               hold = h;
@@ -210,16 +227,20 @@ module _ (shape : Shape) (root : 1 ≤ shape.rows256) (s t : State) (p : ℕ) (f
               where
                 touched : TouchesOwn (setting shape Coupled asks.call) x → MadeBy base kind
                 touched (LoadsHeld word mark turn held) = absurd (load-store (sym turn ∙ asks.turn))
-                touched (StoresOwn word v mark turn (inl held)) = absurd (not-behind shape y.base held.row.base word y.kind held.row.kind y-row
+                touched (StoresOwn word v mark turn (inl held)) =
+                    absurd (not-behind shape y.base held.row.base word y.kind held.row.kind y-row
                     (settled-row Coupled shape s held.row.base held.row.kind
-                    (kept-row shape s t p first calm after f p asks.call asks.process asks.is_open held.row held.among)) held.behind (store-word (sym asks.turn
+                    (kept-row shape s t p first calm after f p asks.call asks.process asks.is_open held.row held.among)) held.behind
+                        (store-word (sym asks.turn
                     ∙ turn)))
                 touched (StoresOwn word v mark turn (inr fill)) = absurd (not-behind shape y.base fill.base word y.kind fill.kind y-row
-                    (claimed-row shape s.words fill.base fill.kind (f.sound.filled p asks.call asks.process asks.is_open fill.base fill.kind fill.filled))
+                    (claimed-row shape s.words fill.base fill.kind
+                        (f.sound.filled p asks.call asks.process asks.is_open fill.base fill.kind fill.filled))
                     fill.behind
                     (store-word (sym asks.turn ∙ turn)))
                 touched (ClaimsRow k mark turn may) = absurd (add-store (sym turn ∙ asks.turn))
-                touched (ReleasesHeld row v mark turn among may) = by (releases-at shape asks.call x y.base value asks.mark may asks.turn) e dead
+                touched (ReleasesHeld row v mark turn among may) =
+                    by (releases-at shape asks.call x y.base value asks.mark may asks.turn) e dead
                 touched (Replies r turn) = absurd (answers-asks (sym turn ∙ asks.turn))
 
 module _ (plan : Plan) (start : Contents) (words schedule : List ℕ) (p : ℕ) (s t : State) (claims : ℕ) (m : Contents)
@@ -242,7 +263,8 @@ module _ (plan : Plan) (start : Contents) (words schedule : List ℕ) (p : ℕ) 
     not-gone r call q o x a alive gone =
         false≢true (sym (held-live plan.shape s t p words calm after f r call q o x a alive) ∙ goes.gone x.base gone)
 
-    still-hangs : (r : ℕ) (call : Call) (q : Process) → IsOpen t r call q → (x : Held) → IsAmong x (held_by Coupled plan.shape call q) → (byte : ℕ) → byte < 256
+    still-hangs : (r : ℕ) (call : Call) (q : Process) → IsOpen t r call q → (x : Held) → IsAmong x (held_by Coupled plan.shape call q)
+        → (byte : ℕ) → byte < 256
         → (base : ℕ) (kind : Kind) → child_on plan.shape calm x.base x.kind byte ≡ ChildRow base kind
         → child_on plan.shape after x.base x.kind byte ≡ ChildRow base kind
     still-hangs r call q o x a byte small base kind hangs =
@@ -251,7 +273,8 @@ module _ (plan : Plan) (start : Contents) (words schedule : List ℕ) (p : ℕ) 
     unlock-among : (shape : Shape) (u : State) (r : ℕ) (call : Call) (hold : Hold) (outcome : _)
         (x : IsAtStage Coupled shape u r call (OnKey (Unlock hold outcome)))
         → IsAmong (lock_of hold.row) (held_by Coupled shape call x.process)
-    unlock-among shape u r call hold outcome x = subst (λ y. IsAmong (lock_of hold.row) (holds (setting shape Coupled call) y)) (sym x.at) (inl refl)
+    unlock-among shape u r call hold outcome x =
+        subst (λ y. IsAmong (lock_of hold.row) (holds (setting shape Coupled call) y)) (sym x.at) (inl refl)
 
     -- it was obsolete before
     was-leaving : (base : ℕ) (kind : Kind) → (IsGoneBy effect base → ⊥) → IsLeaving plan.shape s calm leaving base kind
@@ -325,7 +348,8 @@ module _ (plan : Plan) (start : Contents) (words schedule : List ℕ) (p : ℕ) 
 
         kinds : x.hold.row.kind ≡ kind
         kinds = same_Some x.hold.row.kind kind (sym (settled-row Coupled plan.shape s x.hold.row.base x.hold.row.kind
-            (kept-row plan.shape s t p words calm after f p x.call x.at.process x.at.is_open (lock_of x.hold.row) (held-there (lock_of x.hold.row) (inl refl))))
+            (kept-row plan.shape s t p words calm after f p x.call x.at.process x.at.is_open (lock_of x.hold.row)
+                (held-there (lock_of x.hold.row) (inl refl))))
             ∙ (ap (kind_at plan.shape) (sym x.is) ∙ row))
 
         then : IsAtStage Coupled plan.shape t p x.call (OnKey (Unlock (hold_alone y.0.above) (Some no_value)))
@@ -364,8 +388,10 @@ module _ (plan : Plan) (start : Contents) (words schedule : List ℕ) (p : ℕ) 
     takes-live-rows : TakesLive plan.shape s p
     takes-live-rows x asks is =
         let turn = ap (call_turn (setting plan.shape Coupled call)) (sym at-stage.at)
-        ∙ its-turn plan.shape s t p words calm after f call at-stage.process at-stage.is_open (Swap x.base x.kept (locked_word x.kept)) asks in
-        live-taken plan.shape s t p words calm after f claims h.rests leaving leave call at-stage.process at-stage.is_open found stage at-stage.at k.way x.base
+        ∙ its-turn plan.shape s t p words calm after f call at-stage.process at-stage.is_open
+            (Swap x.base x.kept (locked_word x.kept)) asks in
+        live-taken plan.shape s t p words calm after f claims h.rests leaving leave call at-stage.process at-stage.is_open found stage
+            at-stage.at k.way x.base
         x.kept
         asks.mark turn is
 
@@ -381,7 +407,8 @@ work-takes-live plan start words schedule p s t claims m call stage h at w x ask
 
     touches : TouchesOwn (setting plan.shape Coupled call) (OnKey stage)
     touches = work-own Coupled (inl refl) plan.shape call h.run.before.within.shape.root stage w
-        (subst (Knows (RowsOf plan.shape) (setting plan.shape Coupled call)) at.at (rows-known Coupled plan.shape known.count s p call at.process known.sound
+        (subst (Knows (RowsOf plan.shape) (setting plan.shape Coupled call)) at.at
+            (rows-known Coupled plan.shape known.count s p call at.process known.sound
         at.is_open))
 
     turn : turn_at (setting plan.shape Coupled call) stage ≡ Asks (Swap x.base x.kept (locked_word x.kept)) asks.mark

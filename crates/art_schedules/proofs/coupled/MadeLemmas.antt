@@ -62,17 +62,21 @@ facts plan start words schedule p s t claims m h =
 pub record IsMade (shape : Shape) (s t : State) (p : ℕ) (call : Call) (q : Process) (a : Access) : Type 0 where
   pub process : Process
   pub is_open : IsOpen t p call process
-  pub at : stage_of Coupled shape call process ≡ call_after (setting shape Coupled call) (stage_of Coupled shape call q) (told a (slice_index s.words (word_of
+  pub at : stage_of Coupled shape call process ≡ call_after (setting shape Coupled call) (stage_of Coupled shape call q)
+      (told a (slice_index s.words (word_of
       a)))
   pub words : t.words ≡ slice_set s.words (word_of a) (changed a (slice_index s.words (word_of a)))
 
-pub made : (plan : Plan) (p : ℕ) (s t : State) (call : Call) (q : Process) (a : Access) (mark : Option Point) → plan.variant ≡ Coupled → step plan s p ≡ Some t
-    → IsOpen s p call q → call_turn (setting plan.shape Coupled call) (stage_of Coupled plan.shape call q) ≡ Asks a mark → IsMade plan.shape s t p call q a
+pub made : (plan : Plan) (p : ℕ) (s t : State) (call : Call) (q : Process) (a : Access) (mark : Option Point) → plan.variant ≡ Coupled
+    → step plan s p ≡ Some t
+    → IsOpen s p call q → call_turn (setting plan.shape Coupled call) (stage_of Coupled plan.shape call q) ≡ Asks a mark
+    → IsMade plan.shape s t p call q a
 made plan p s t call q a mark coupled e o turn =
     subst (λ u. IsMade plan.shape s u p call q a) (sym is) (record {
       process = after_move p (Makes a) (slice_index s.words (word_of a)) q;
       is_open = record { own = set-here s.processes p q _ o.own; is_open = o.is_open };
-      at = after-more (setting plan.shape Coupled call) (call_begun (setting plan.shape Coupled call)) q.got (told a (slice_index s.words (word_of a)));
+      at = after-more (setting plan.shape Coupled call) (call_begun (setting plan.shape Coupled call)) q.got
+          (told a (slice_index s.words (word_of a)));
       words = refl;
     })
   where
@@ -89,7 +93,8 @@ made plan p s t call q a mark coupled e o turn =
         ∙ ap (moved s p q) (same_Some m.move (Makes a) (sym m.is_next ∙ (ap (next_move plan p) process ∙ move))))
 
 -- another call is open still, where it was
-pub others-open : (plan : Plan) (p r : ℕ) (s t : State) (call : Call) (q : Process) → step plan s p ≡ Some t → r ≢ p → IsOpen s r call q → IsOpen t r call q
+pub others-open : (plan : Plan) (p r : ℕ) (s t : State) (call : Call) (q : Process) → step plan s p ≡ Some t → r ≢ p → IsOpen s r call q
+    → IsOpen t r call q
 others-open plan p r s t call q e apart o =
     let m = is-moved plan s p t e in
     record {

@@ -1,5 +1,6 @@
 -- A step of a call on its way, in a run.
-use Rattle.std.proofs.Common.{◌≡◌, inl, inr, ℕ, zero, suc, ◌+◌, ◌-◌, ◌^◌, ◌<◌, List, [], ◌∷◌, ◌++◌, refl, ap, sym, subst, ◌∙◌, Bool, true, false, All}
+use Rattle.std.proofs.Common.{◌≡◌, inl, inr, ℕ, zero, suc, ◌+◌, ◌-◌, ◌^◌, ◌<◌, List, [], ◌∷◌, ◌++◌, refl, ap, sym, subst, ◌∙◌, Bool, true}
+use Rattle.std.proofs.Common.{false, All}
 use Rattle.std.proofs.Common.{arith}
 use Rattle.std.specs.Prelude.{length, slice_get, slice_index, slice_set, Option, Some, None}
 use Rattle.std.proofs.lemmas.Bool.{false≢true}
@@ -23,7 +24,8 @@ use Rattle.art_steps.specs.declared.access.Point.{Point}
 use Rattle.art_steps.specs.Steps.{Asks, Answers}
 use Rattle.art_steps.specs.Fits.{word_of}
 use Rattle.art_steps.specs.Rows.{Setting, key_of, is_insert, is_scan, locks}
-use Rattle.art_steps.proofs.TurnLemmas.{asks-same, load-exchange, store-exchange, load-store, exchange-store, exchange-word, exchanges-same, store-word}
+use Rattle.art_steps.proofs.TurnLemmas.{asks-same, load-exchange, store-exchange, load-store, exchange-store, exchange-word, exchanges-same}
+use Rattle.art_steps.proofs.TurnLemmas.{store-word}
 use Rattle.art_steps.proofs.TurnLemmas.{answers-asks}
 use Rattle.art_stages.specs.declared.stage.Held.{Held}
 use Rattle.art_stages.specs.declared.stage.Keys.{Keys}
@@ -35,7 +37,8 @@ use Rattle.art_stages.specs.declared.stage.Work.TheVariants as work
 use Rattle.art_stages.specs.declared.stage.Target.{Target}
 use Rattle.art_stages.specs.declared.stage.Target.TheVariants.{Root, Below, Taken}
 use Rattle.art_stages.specs.declared.stage.Stage.{Stage}
-use Rattle.art_stages.specs.declared.stage.Stage.TheVariants.{Lock, Exchange, Between, Info, Find, FindKeys, FindMore, FindCount, Slot, LetGo, Unlock, Over}
+use Rattle.art_stages.specs.declared.stage.Stage.TheVariants.{Lock, Exchange, Between, Info, Find, FindKeys, FindMore, FindCount, Slot}
+use Rattle.art_stages.specs.declared.stage.Stage.TheVariants.{LetGo, Unlock, Over}
 use Rattle.art_stages.specs.Stages.{row_at, byte_in, setting, target_base, count_in, place_in}
 use Rattle.art_stages.specs.Automaton.{turn_at, find_turn, between_turn, stage_after, work_at, put_at, moves_at}
 use Rattle.art_stages.specs.Calls.{OnKey, call_turn, call_after, begun_as}
@@ -71,7 +74,8 @@ use Rattle.art_schedules.specs.coupled.Good.{WaysTakeReached, SeekersAreNotAnswe
 use Rattle.art_schedules.proofs.coupled.OwnLemmas.{ways-go-on, findings-stay}
 use Rattle.art_schedules.proofs.coupled.StayLemmas.{own-still, ways-are-kept}
 use Rattle.art_schedules.proofs.coupled.MadeLemmas.{Facts, facts, IsMade, made, others-open}
-use Rattle.art_schedules.proofs.coupled.RowLemmas.{kept-row, others-same, held-calm, held-live, its-turn, own-same, keeps-without, keeps-released}
+use Rattle.art_schedules.proofs.coupled.RowLemmas.{kept-row, others-same, held-calm, held-live, its-turn, own-same, keeps-without}
+use Rattle.art_schedules.proofs.coupled.RowLemmas.{keeps-released}
 use Rattle.art_schedules.proofs.work.LockedLemmas.{among-lock}
 use Rattle.art_schedules.proofs.effects.KeptLemmas.{begins-kept}
 
@@ -168,20 +172,24 @@ byte-in-small : (c : Setting) (h : Held) → byte_in c h < 256
 byte-in-small c h = key_byte-small (key_of c.call) (row_at h).level
 
 reached-by : (c : Setting) (table : List ℕ) (d : Down) → IsBelow c table d → Reached c.shape table d.base d.kind
-reached-by c table d k = below k.0.leads.reached (byte_in c d.above) (byte-in-small c d.above) (ap (child_in c.shape table) k.1.at ∙ k.1.has)
+reached-by c table d k = below k.0.leads.reached (byte_in c d.above) (byte-in-small c d.above)
+    (ap (child_in c.shape table) k.1.at ∙ k.1.has)
 
 -- its target is a row of the calm tree
-target-reached : (c : Setting) (calm : List ℕ) (t : Target) → KnowsTarget c calm t → (kind : Kind) × Reached c.shape calm (target_base c t) kind
+target-reached : (c : Setting) (calm : List ℕ) (t : Target) → KnowsTarget c calm t → (kind : Kind)
+    × Reached c.shape calm (target_base c t) kind
 target-reached c calm Root k = (Full, root)
 target-reached c calm (Below d) k = (d.kind, reached-by c calm d k)
 target-reached c calm (Taken t) k = absurd k
 
-target-of : (o : Option Reply) (i : Bool) (c : Setting) (calm : List ℕ) (t : Target) (v : ℕ) → KnowsAt o i c calm (Exchange t v) → KnowsTarget c calm t
+target-of : (o : Option Reply) (i : Bool) (c : Setting) (calm : List ℕ) (t : Target) (v : ℕ) → KnowsAt o i c calm (Exchange t v)
+    → KnowsTarget c calm t
 target-of None i c calm t v k = k
 target-of (Some r) i c calm t v k = absurd k
 
 -- so is each row whose version it exchanges
-row-swapped : (o : Option Reply) (c : Setting) → locks c.variant ≡ true → (i : Bool) (calm : List ℕ) (stage : Stage) → KnowsAt o i c calm stage
+row-swapped : (o : Option Reply) (c : Setting) → locks c.variant ≡ true → (i : Bool) (calm : List ℕ) (stage : Stage)
+    → KnowsAt o i c calm stage
     → (word v w : ℕ) (mark : Option Point) → turn_at c stage ≡ Asks (Swap word v w) mark → (kind : Kind) × Reached c.shape calm word kind
 row-swapped o c l i calm stage k word v w mark e = go (knows-does o c l i calm stage k)
   where
@@ -219,7 +227,8 @@ module _ (shape : Shape) (s t : State) (p : ℕ) (first calm after : List ℕ) (
     not-there t v at base kind l same =
         let process : l.at.process ≡ q = same_Some l.at.process q (sym l.at.is_open.own ∙ (ap (slice_get s.processes) same ∙ o.own)) in
         let its : l.call ≡ call = same_Some l.call call (sym l.at.is_open.is_open ∙ (ap (λ w. w.call) process ∙ o.is_open)) in
-        exchange-unlock (sym l.at.at ∙ (ap (λ w. stage_of Coupled shape l.call w) process ∙ (ap (λ x. stage_of Coupled shape x q) its ∙ at)))
+        exchange-unlock (sym l.at.at ∙ (ap (λ w. stage_of Coupled shape l.call w) process
+            ∙ (ap (λ x. stage_of Coupled shape x q) its ∙ at)))
 
     its-row : (base : ℕ) (kind : Kind) (l : IsLeaving shape s calm leaving base kind)
         → IsAmong (lock_of l.hold.row) (held_by Coupled shape l.call l.at.process)
@@ -240,7 +249,8 @@ module _ (shape : Shape) (s t : State) (p : ℕ) (first calm after : List ℕ) (
         let kinds : kind ≡ d.kind = one-kind d.base kind d.kind r (below k.0.leads.reached (byte_in c d.above) small hangs) in
         let same = (rest.tree.once l.hold.row.base d.above.base l.byte (byte_in c d.above) d.base l.hold.row.kind d.above.kind d.kind
         l.reached k.0.leads.reached l.is_byte small (l.hangs ∙ ap (ChildRow d.base) kinds) hangs).0 in
-        not-there (Below d) v at d.base kind l (f.sound.apart l.process p l.call call l.at.process q l.at.is_open o (lock_of l.hold.row) (lock_of d.above)
+        not-there (Below d) v at d.base kind l
+            (f.sound.apart l.process p l.call call l.at.process q l.at.is_open o (lock_of l.hold.row) (lock_of d.above)
         (its-row d.base kind l) (subst (λ x. IsAmong (lock_of d.above) (holds c x)) (sym at) (inl refl)) same)
     takes-live (Taken t) v at k kind r dead = absurd k
 
@@ -263,8 +273,10 @@ module _ (shape : Shape) (s t : State) (p : ℕ) (first calm after : List ℕ) (
     knows-key : (stage : Stage) → stage_of Coupled shape call q ≡ OnKey stage → KnowsKey (IsSettled Coupled shape s) c stage
     knows-key stage at = subst (Knows (IsSettled Coupled shape s) c) at (f.sound.knows p call q o)
 
-    pub live-taken : (found : Option Reply) (stage : Stage) → stage_of Coupled shape call q ≡ OnKey stage → KnowsAt found (is_insert call) c calm stage
-        → (word v : ℕ) (m : Option Point) → turn_at c stage ≡ Asks (Swap word v (locked_word v)) m → slice_index s.words word ≡ v → is_obsolete v ≡ false
+    pub live-taken : (found : Option Reply) (stage : Stage) → stage_of Coupled shape call q ≡ OnKey stage
+        → KnowsAt found (is_insert call) c calm stage
+        → (word v : ℕ) (m : Option Point) → turn_at c stage ≡ Asks (Swap word v (locked_word v)) m → slice_index s.words word ≡ v
+        → is_obsolete v ≡ false
     live-taken found stage at k word v m e is = go (knows-does found c refl (is_insert call) calm stage k)
       where
         go : DoesAt c (is_insert call) stage → is_obsolete v ≡ false
@@ -281,13 +293,16 @@ module _ (shape : Shape) (s t : State) (p : ℕ) (first calm after : List ℕ) (
             (ap (slice_index s.words) (exchange-word its) ∙ (is ∙ sym version)) row.0 row.1).1
 
     gets-at : (found : Option Reply) (stage : Stage) (a : Access) (mark : Option Point) → stage_of Coupled shape call q ≡ OnKey stage
-        → KnowsAt found (is_insert call) c calm stage → turn_at c stage ≡ Asks a mark → Gets c calm s.words stage (told a (slice_index s.words (word_of a)))
+        → KnowsAt found (is_insert call) c calm stage → turn_at c stage ≡ Asks a mark
+        → Gets c calm s.words stage (told a (slice_index s.words (word_of a)))
     gets-at found stage a mark at k turn = record {
       loads = λ word m e. ap (λ x. told x (slice_index s.words (word_of x))) (asks-same (sym turn ∙ e));
-      takes = λ word v m e is kind r. takes word v m e (sym (ap (λ x. told x (slice_index s.words (word_of x))) (asks-same (sym turn ∙ e))) ∙ is) kind r;
+      takes = λ word v m e is kind r. takes word v m e
+          (sym (ap (λ x. told x (slice_index s.words (word_of x))) (asks-same (sym turn ∙ e))) ∙ is) kind r;
     }
       where
-        takes : (word v : ℕ) (m : Option Point) → turn_at c stage ≡ Asks (Swap word v (locked_word v)) m → slice_index s.words word ≡ v → (kind : Kind)
+        takes : (word v : ℕ) (m : Option Point) → turn_at c stage ≡ Asks (Swap word v (locked_word v)) m
+            → slice_index s.words word ≡ v → (kind : Kind)
             → Reached shape calm word kind → SameRow calm s.words word kind × (is_obsolete v ≡ false)
         takes word v m e is kind r = go (knows-does found c refl (is_insert call) calm stage k)
           where
@@ -307,7 +322,8 @@ module _ (shape : Shape) (s t : State) (p : ℕ) (first calm after : List ℕ) (
 
     -- ---- the calm tree, and the rows of the call
 
-    none-filled : (found : Option Reply) (stage : Stage) → stage_of Coupled shape call q ≡ OnKey stage → KnowsAt found (is_insert call) c calm stage
+    none-filled : (found : Option Reply) (stage : Stage) → stage_of Coupled shape call q ≡ OnKey stage
+        → KnowsAt found (is_insert call) c calm stage
         → (b : ℕ) (k : Kind)
         → filled_by Coupled shape call q ≡ (b, k) ∷ [] → ⊥
     none-filled found stage at k b kind e = no-items (sym (fills-none found c (is_insert call) calm stage k) ∙ (ap fills (sym at) ∙ e))
@@ -319,7 +335,8 @@ module _ (shape : Shape) (s t : State) (p : ℕ) (first calm after : List ℕ) (
         (among-lock h (held_at_stage true (is_insert call) stage) a)
 
     -- the words of rows behind their versions stay
-    words-stay : (found : Option Reply) (stage : Stage) → stage_of Coupled shape call q ≡ OnKey stage → KnowsAt found (is_insert call) c calm stage → (base : ℕ)
+    words-stay : (found : Option Reply) (stage : Stage) → stage_of Coupled shape call q ≡ OnKey stage
+        → KnowsAt found (is_insert call) c calm stage → (base : ℕ)
         (kind : Kind) → kind_at shape base ≡ Some kind → SameRow s.words t.words base kind
     words-stay found stage at k = own-same shape s t p first calm after f call q o (none-filled found stage at k) stores
       where
@@ -345,7 +362,8 @@ module _ (shape : Shape) (s t : State) (p : ℕ) (first calm after : List ℕ) (
         here = ap (call_turn c) at
 
         without : ((word value : ℕ) (m : Option Point) → turn_at c stage ≡ Asks (Store word value) m → ⊥) → KeepsTree shape calm after
-        without none = keeps-without shape s t p first calm after f call q o claims rest small (λ word value m e. none word value m (sym here ∙ e))
+        without none = keeps-without shape s t p first calm after f call q o claims rest small (λ word value m e. none word
+            value m (sym here ∙ e))
 
         go : DoesAt c (is_insert call) stage → KeepsTree shape calm after
         go (DoesLoad other l x) = without (λ word value m e. load-store (sym x ∙ e))
@@ -358,7 +376,8 @@ module _ (shape : Shape) (s t : State) (p : ℕ) (first calm after : List ℕ) (
             let row = settled-row Coupled shape s h.base h.kind settled in
             let access : a ≡ Store h.base (released_word h.kept) = asks-same (sym turn ∙ x) in
             let inside : h.base < length s.words = omega (arith, row-inside shape h.base h.kind row, f.sound.long) in
-            keeps-released shape s t p first calm after f call q o claims rest small (lock_of h) held-here (record { same = own.same; live = own.live })
+            keeps-released shape s t p first calm after f call q o claims rest small (lock_of h) held-here
+                (record { same = own.same; live = own.live })
             (words-stay found stage at k.way h.base h.kind row)
             (ap (λ ws. slice_index ws h.base) words
             ∙ (ap (λ b. slice_index (slice_set s.words (word_of b) (changed b (slice_index s.words (word_of b)))) h.base) access
@@ -384,7 +403,8 @@ stage-asks c l i calm (LetGo above p f) k = (_, _, refl)
 stage-asks c l i calm stage k = absurd k
 
 -- of each kind few claims were made
-few-claims : (shape : Shape) (s t : State) (p : ℕ) (first calm after : List ℕ) (f : Facts shape s t p first calm after) → HasFewClaims (f.count + 2) after
+few-claims : (shape : Shape) (s t : State) (p : ℕ) (first calm after : List ℕ) (f : Facts shape s t p first calm after)
+    → HasFewClaims (f.count + 2) after
 few-claims shape s t p first calm after f kind =
     let few = f.behind.claims kind in
     omega (arith, few, f.then.low (claims_of kind) (claims-few kind))
@@ -402,7 +422,8 @@ module _ (plan : Plan) (start : Contents) (words schedule : List ℕ) (p : ℕ) 
 
   -- the rows that the call holds behind the step are still
   rows-still : (call : Call) (r : ℕ) (effect : Option Effect) (next : Stage) (x : IsAtStage Coupled plan.shape t r call (OnKey next))
-      → ((h : Held) → IsAmong (lock_of h) (held_by Coupled plan.shape call x.process) → SameRow s.words t.words h.base h.kind × (IsGoneBy effect h.base → ⊥))
+      → ((h : Held) → IsAmong (lock_of h) (held_by Coupled plan.shape call x.process) → SameRow s.words t.words h.base h.kind
+      × (IsGoneBy effect h.base → ⊥))
       → Each (IsStill calm s.words after t.words effect) (held_at_stage true (is_insert call) next)
   rows-still call r effect next x same = each-among _ (held_at_stage true (is_insert call) next) (λ h a.
       let among = subst (λ y. IsAmong (lock_of h) (holds (setting plan.shape Coupled call) y)) (sym x.at)
@@ -424,7 +445,8 @@ module _ (plan : Plan) (start : Contents) (words schedule : List ℕ) (p : ℕ) 
     access-made = made plan p s t call at.process a mark h.coupled h.run.made at.is_open (ap (call_turn its) at.at ∙ turn)
 
     next-at : IsAtStage Coupled plan.shape t p call (OnKey (stage_after its stage got))
-    next-at = record { process = access-made.process; is_open = access-made.is_open; at = access-made.at ∙ ap (λ x. call_after its x got) at.at }
+    next-at = record { process = access-made.process; is_open = access-made.is_open; at = access-made.at ∙ ap
+        (λ x. call_after its x got) at.at }
 
     keeps-tree : KeepsTree plan.shape calm after
     keeps-tree = tree-stays plan.shape s t p words calm after f claims h.rests leaving leave call at.process at.is_open found stage a mark
@@ -432,23 +454,28 @@ module _ (plan : Plan) (start : Contents) (words schedule : List ℕ) (p : ℕ) 
         access-made.words
 
     own-gets : Gets its calm s.words stage got
-    own-gets = gets-at plan.shape s t p words calm after f claims h.rests leaving leave call at.process at.is_open found stage a mark at.at k.way turn
+    own-gets = gets-at plan.shape s t p words calm after f claims h.rests leaving leave call at.process at.is_open found stage a
+        mark at.at k.way turn
 
     own-still-rows : Each (IsStill calm s.words after t.words None) (held_at_stage true (is_insert call) (stage_after its stage got))
     own-still-rows = rows-still call p None (stage_after its stage got) next-at (λ x among.
         let settled = (held-is-kept (IsSettled Coupled plan.shape t) its (stage_of Coupled plan.shape call next-at.process)
         (f.behind.knows p call next-at.process next-at.is_open) (lock_of x) among).1 in (
-          words-stay plan.shape s t p words calm after f claims h.rests leaving leave call at.process at.is_open found stage at.at k.way x.base x.kind
+          words-stay plan.shape s t p words calm after f claims h.rests leaving leave call at.process at.is_open found stage at.at
+              k.way x.base x.kind
               (settled-row Coupled plan.shape t x.base x.kind settled),
           λ y. y,
         ))
 
     module _ (trees : KeptTreesFollow) where
       own-follows : Follows plan.shape (f.count + 2) calm after m (IsGoneBy None) (ComesInBy None)
-      own-follows = trees plan.shape claims (f.count + 2) calm after m h.rests h.means keeps-tree (few-claims plan.shape s t p words calm after f)
+      own-follows = trees plan.shape claims (f.count + 2) calm after m h.rests h.means keeps-tree (few-claims plan.shape s t p
+          words calm after f)
 
-      knows-then : (o : Option Reply) → KnowsWay its calm s.words o (stage_after its stage got) → KnowsWay its after t.words o (stage_after its stage got)
-      knows-then o x = ways-are-kept plan.shape call (f.count + 2) calm s.words after t.words m None o (stage_after its stage got) own-follows own-still-rows x
+      knows-then : (o : Option Reply) → KnowsWay its calm s.words o (stage_after its stage got)
+          → KnowsWay its after t.words o (stage_after its stage got)
+      knows-then o x = ways-are-kept plan.shape call (f.count + 2) calm s.words after t.words m None o (stage_after its stage got)
+          own-follows own-still-rows x
 
       own-of : (hs : List Held) → Each (IsStill calm s.words after t.words None) hs → Each (IsHeldLive calm s.words) hs
           → Each (IsHeldLive after t.words) hs
@@ -471,14 +498,16 @@ pub calls-go-on : KeptTreesFollow → WaysLeadToValues → LeavesAreSmall → Ca
 calls-go-on trees ways leaves plan start words schedule p s t claims m leaving call stage h leave tree key-call at k =
     let c = setting plan.shape Coupled call in
     let x = stage-asks c refl (is_insert call) (calm_of plan words schedule) stage k.way in
-    let fits = (knows-key plan.shape s t p words _ _ (f plan start words schedule p s t claims m h) claims h.rests leaving leave call at.process at.is_open
+    let fits = (knows-key plan.shape s t p words _ _ (f plan start words schedule p s t claims m h) claims h.rests leaving leave call
+        at.process at.is_open
     stage at.at).fits in
     record {
       next = stage_after c stage _;
       at = next-at plan start words schedule p s t claims m h leaving leave call stage at None k x.0 x.1 x.2;
       keeps = keeps-tree plan start words schedule p s t claims m h leaving leave call stage at None k x.0 x.1 x.2;
       goes = goes-then plan start words schedule p s t claims m h leaving leave call stage at None k x.0 x.1 x.2 trees
-          (ways-go-on ways leaves plan.shape call claims (calm_of plan words schedule) s.words m stage _ tree key-call h.rests h.means fits k
+          (ways-go-on ways leaves plan.shape call claims (calm_of plan words schedule) s.words m stage _ tree key-call
+              h.rests h.means fits k
           (own-gets plan start words schedule p s t claims m h leaving leave call stage at None k x.0 x.1 x.2));
     }
 
@@ -489,7 +518,8 @@ calls-stay trees plan start words schedule p s t claims m leaving call stage rep
       next = stage_after c stage _;
       at = next-at plan start words schedule p s t claims m h leaving leave call stage at (Some reply) k a mark turn;
       keeps = keeps-tree plan start words schedule p s t claims m h leaving leave call stage at (Some reply) k a mark turn;
-      knows = knows-then plan start words schedule p s t claims m h leaving leave call stage at (Some reply) k a mark turn trees (Some reply)
+      knows = knows-then plan start words schedule p s t claims m h leaving leave call stage at (Some reply) k a mark turn
+          trees (Some reply)
           (findings-stay plan.shape call claims (calm_of plan words schedule) s.words stage _ reply h.rests k
           (own-gets plan start words schedule p s t claims m h leaving leave call stage at (Some reply) k a mark turn));
     }
@@ -547,7 +577,8 @@ seekers-are-not-answered shape call table words stage reply k turn =
 
 pub ways-take-reached : WaysTakeReached
 ways-take-reached plan start words schedule p s t claims m call stage found h at k x asks is =
-    row-swapped found (setting plan.shape Coupled call) refl (is_insert call) (calm_of plan words schedule) stage k.way x.base x.kept (locked_word x.kept)
+    row-swapped found (setting plan.shape Coupled call) refl (is_insert call) (calm_of plan words schedule) stage k.way x.base x.kept
+        (locked_word x.kept)
     asks.mark
     (ap (call_turn (setting plan.shape Coupled call)) (sym at.at)
     ∙ its-turn plan.shape s t p words _ _ (f plan start words schedule p s t claims m h) call at.process at.is_open
@@ -586,11 +617,13 @@ at-reached : (o : Option Reply) (i : Bool) (c : Setting) (table : List ℕ) (sta
 at-reached None i c table stage k = stage-reached i c table stage k
 at-reached (Some r) true c table (Info d kept) k = absurd k.1
 at-reached (Some r) false c table (Info d kept) k = (k.1.0, tt)
-at-reached (Some r) i c table (Unlock h outcome) k = (k.2, subst (λ o. Each (λ h. Reached c.shape table h.base h.kind) (all_of o)) (sym k.0) tt)
+at-reached (Some r) i c table (Unlock h outcome) k =
+    (k.2, subst (λ o. Each (λ h. Reached c.shape table h.base h.kind) (all_of o)) (sym k.0) tt)
 at-reached (Some r) i c table (Over outcome) k = tt
 at-reached (Some r) i c table stage k = absurd k
 
-locked-each : (shape : Shape) (table : List ℕ) (hs : List Held) → Each (λ h. Reached shape table h.base h.kind) hs → (h : Held) → IsAmong h (locks_of hs)
+locked-each : (shape : Shape) (table : List ℕ) (hs : List Held) → Each (λ h. Reached shape table h.base h.kind) hs → (h : Held)
+    → IsAmong h (locks_of hs)
     → Reached shape table h.base h.kind
 locked-each shape table [] k h a = absurd a
 locked-each shape table (x ∷ hs) k h (inl e) = subst (λ y. Reached shape table y.base y.kind) (sym e) k.0

@@ -12,7 +12,8 @@ use Rattle.art_rows.specs.declared.table.Kind.{Kind}
 use Rattle.art_rows.specs.declared.table.Kind.TheVariants.{Four, Sixteen, FortyEight, Full}
 use Rattle.art_rows.specs.declared.table.Child.TheVariants.{Empty, Row as ChildRow, Leaf}
 use Rattle.art_rows.specs.Table.{capacity, root_base, info_at, keys_at, more_keys_at, index_at, count_at, child_at}
-use Rattle.art_rows.specs.Words.{is_locked, key_bytes, first_difference, keys4_of, keys16_of, place_of, entries_of, child_of, child_word, count_of}
+use Rattle.art_rows.specs.Words.{is_locked, key_bytes, first_difference, keys4_of, keys16_of, place_of, entries_of, child_of, child_word}
+use Rattle.art_rows.specs.Words.{count_of}
 use Rattle.art_rows.proofs.KindLemmas.{seven-words}
 use Rattle.art_rows.proofs.ByteLemmas.{key_byte-small}
 use Rattle.art_steps.specs.declared.variant.Variant.TheVariants.{Coupled}
@@ -33,7 +34,8 @@ use Rattle.art_stages.specs.declared.stage.Stage.{Stage}
 use Rattle.art_stages.specs.declared.stage.Stage.TheVariants.{Lock, Exchange, Between, Info, Find, FindKeys, FindMore, FindCount, Slot}
 use Rattle.art_stages.specs.declared.stage.Stage.TheVariants.{LetGo, Write, ClaimPair, ClaimGrow, Unlock, Over}
 use Rattle.art_stages.specs.Stages.{row_at, held, root_place, byte_in, keys_among, count_in, setting}
-use Rattle.art_stages.specs.Automaton.{after_with, seek_coupled, insert_coupled, place_coupled, let_go_at, found_at, words_at, among_at, find_at}
+use Rattle.art_stages.specs.Automaton.{after_with, seek_coupled, insert_coupled, place_coupled, let_go_at, found_at, words_at, among_at}
+use Rattle.art_stages.specs.Automaton.{find_at}
 use Rattle.art_stages.specs.Automaton.{below_at, entered_at, hold_alone, no_value, pair_work, overwrite_at, keys_one, release_at}
 use Rattle.art_core.specs.Meaning.{root, Means}
 use Rattle.art_core.specs.Forms.{HasForm, level_in, path_in}
@@ -68,9 +70,11 @@ pub own-word : (calm words : List ℕ) (n : Held) → IsHeldLive calm words n �
     → slice_index words word ≡ slice_index calm word
 own-word calm words n own word behind =
     let is : n.base + (word - n.base) ≡ word = omega (arith, behind.0) in
-    sym (ap (slice_index words) is) ∙ (own.same (word - n.base) (omega (arith, behind.0)) (omega (arith, behind.0, behind.1)) ∙ ap (slice_index calm) is)
+    sym (ap (slice_index words) is) ∙ (own.same (word - n.base) (omega (arith, behind.0)) (omega (arith, behind.0, behind.1)) ∙ ap
+        (slice_index calm) is)
 
-module _ (shape : Shape) (call : Call) (tree : is_tree_call call ≡ true) (key-call : is_scan call ≡ false) (n : ℕ) (calm words : List ℕ) (m : Contents)
+module _ (shape : Shape) (call : Call) (tree : is_tree_call call ≡ true) (key-call : is_scan call ≡ false) (n : ℕ)
+    (calm words : List ℕ) (m : Contents)
     (rest : IsAtRest shape n calm) (means : Means shape calm m) (ways : WaysLeadToValues) (leaves : LeavesAreSmall) where
   abbrev c : Setting
   c = setting shape Coupled call
@@ -109,7 +113,8 @@ module _ (shape : Shape) (call : Call) (tree : is_tree_call call ≡ true) (key-
     unlocks : (h : Held) → IsOnWay c calm h → Own h → value_at m (key_of call) ≡ None → To (Unlock (hold_alone h) (Some no_value))
     unlocks h on own none = Finds reply.None (finds-none none) (knows false e (Some reply.None) _ (refl, refl, on.leads.reached) (own, tt))
 
-    overwrites : (h : Held) (slot k v : ℕ) (o : Option ℕ) → overwriting call v ≡ o → IsOnWay c calm h → Own h → HasChild c calm h slot (Leaf k v)
+    overwrites : (h : Held) (slot k v : ℕ) (o : Option ℕ) → overwriting call v ≡ o → IsOnWay c calm h → Own h
+        → HasChild c calm h slot (Leaf k v)
         → k ≡ key_of call → To (overwrite_at h slot v o)
     overwrites h slot k v None f on own at is =
         let has = own-leaf c rest means ways h slot k v on at is in
@@ -123,7 +128,8 @@ module _ (shape : Shape) (call : Call) (tree : is_tree_call call ≡ true) (key-
     seeks h (Has slot Empty) on own at = unlocks h on own (empty-slot c rest means ways h slot on at)
     seeks h (Has slot (Leaf k v)) on own at = go (k == key_of call) refl
       where
-        go : (b : Bool) → (k == key_of call) ≡ b → To (if b then overwrite_at h slot v (overwriting call v) else Unlock (hold_alone h) (Some no_value))
+        go : (b : Bool) → (k == key_of call) ≡ b
+            → To (if b then overwrite_at h slot v (overwriting call v) else Unlock (hold_alone h) (Some no_value))
         go true same = overwrites h slot k v (overwriting call v) refl on own at (eqb-true k (key_of call) same)
         go false apart = unlocks h on own (other-leaf c rest means ways h slot k v on at (eqb-false k (key_of call) apart))
     seeks h (Has slot (ChildRow base kind)) on own at = GoesOn (knows false e None _ (on, at) (own, tt))
@@ -152,7 +158,8 @@ module _ (shape : Shape) (call : Call) (tree : is_tree_call call ≡ true) (key-
         empty : Leaf k v ≢ Empty
         empty f = cc
 
-        go : (b : Bool) → (k == key_of call) ≡ b → To (if b then Write (hold_alone h) slot (child_word (new_leaf call)) (Some v) else ClaimPair (hold_alone h)
+        go : (b : Bool) → (k == key_of call) ≡ b
+            → To (if b then Write (hold_alone h) slot (child_word (new_leaf call)) (Some v) else ClaimPair (hold_alone h)
             (record {
               slot = slot;
               level = keys_differ_at k (key_of call);
@@ -185,7 +192,8 @@ module _ (shape : Shape) (call : Call) (tree : is_tree_call call ≡ true) (key-
             (own, tt)
     alone h (Has slot (ChildRow base kind)) on own at room = GoesOn (knows true e None _ (on, at) (own, tt))
 
-    lets-go : (h : Held) (above : Option Held) (slot : ℕ) (f : Finding) → HangsBelow c calm h slot above → IsOnWay c calm h → Each Own (h ∷ all_of above)
+    lets-go : (h : Held) (above : Option Held) (slot : ℕ) (f : Finding) → HangsBelow c calm h slot above → IsOnWay c calm h
+        → Each Own (h ∷ all_of above)
         → KnowsFinding true c calm h f
         → HasRoom h f → To (let_go_at c h above slot f)
     lets-go h None slot f up on own at room = alone h f on own.0 at room
@@ -204,19 +212,22 @@ module _ (shape : Shape) (call : Call) (tree : is_tree_call call ≡ true) (key-
           finds = (refl, up.1.at, on.leads, on.info);
         }) own
 
-    inserts : (p : Position) (f : Finding) → KnowsPlace true c calm p → Each Own (p.row ∷ all_of p.above) → FitsPlace p → KnowsFinding true c calm p.row f
+    inserts : (p : Position) (f : Finding) → KnowsPlace true c calm p → Each Own (p.row ∷ all_of p.above) → FitsPlace p
+        → KnowsFinding true c calm p.row f
         → To (place_coupled c p f)
     inserts p (Has slot child) (on, up) own under at = lets-go p.row p.above p.slot (Has slot child) up on own at tt
     inserts p (Lacks keys) (on, up) own under at = go (count_in p.row.kind keys == capacity p.row.kind) refl
       where
         go : (b : Bool) → (count_in p.row.kind keys == capacity p.row.kind) ≡ b
-            → To (if b then ClaimGrow (record { row = p.row; above = p.above }) p.slot keys else let_go_at c p.row p.above p.slot (Lacks keys))
+            → To (if b then ClaimGrow (record { row = p.row; above = p.above }) p.slot keys else let_go_at c p.row p.above
+                p.slot (Lacks keys))
         go true full = grows p.row p.above p.slot keys on own up under at (eqb-true _ _ full)
         go false room = lets-go p.row p.above p.slot (Lacks keys) up on own at (not_full _ _ room (count-most p.row.kind keys))
 
   -- ---- FIND
 
-  found : (i : Bool) → is_insert call ≡ i → (p : Position) (f : Finding) → KnowsPlace i c calm p → Each Own (held_at_place true i p) → FitsPlace p
+  found : (i : Bool) → is_insert call ≡ i → (p : Position) (f : Finding) → KnowsPlace i c calm p
+      → Each Own (held_at_place true i p) → FitsPlace p
       → KnowsFinding i c calm p.row f → To (found_at true i false c p f)
   found false e p f on own under at = seeks e p.row f on own.0 at
   found true e p f on own under at = inserts e p f on own under at
@@ -226,7 +237,8 @@ module _ (shape : Shape) (call : Call) (tree : is_tree_call call ≡ true) (key-
   lacks false h keys l = l.absent
 
   -- the slot of a byte is that of its place among the keys
-  among : (i : Bool) → is_insert call ≡ i → (p : Position) (keys : Keys) → KnowsPlace i c calm p → Each Own (held_at_place true i p) → FitsPlace p
+  among : (i : Bool) → is_insert call ≡ i → (p : Position) (keys : Keys) → KnowsPlace i c calm p
+      → Each Own (held_at_place true i p) → FitsPlace p
       → slot_in c calm p.row ≡ option_map (child_at p.row.kind p.row.base) (place_of (byte_in c p.row) (keys_among p.row.kind keys))
       → (slot_in c calm p.row ≡ None → LacksByte c p.row keys calm) → To (words_at true i false c p keys)
   among i e p keys on own under is lack = go (place_of (byte_in c p.row) (keys_among p.row.kind keys)) is
@@ -245,7 +257,8 @@ module _ (shape : Shape) (call : Call) (tree : is_tree_call call ≡ true) (key-
   form-of : (i : Bool) (p : Position) → KnowsPlace i c calm p → HasForm calm p.row.base p.row.kind
   form-of i p k = rest.tree.form p.row.base p.row.kind (on-way i p k).leads.reached
 
-  four : (i : Bool) → is_insert call ≡ i → (base info was : ℕ) (above : Option Held) (slot w : ℕ) → KnowsPlace i c calm (place base Four info was above slot)
+  four : (i : Bool) → is_insert call ≡ i → (base info was : ℕ) (above : Option Held) (slot w : ℕ)
+      → KnowsPlace i c calm (place base Four info was above slot)
       → Each Own (held_at_place true i (place base Four info was above slot)) → FitsPlace (place base Four info was above slot)
       → w ≡ slice_index calm (keys_at base) → To (words_at true i false c (place base Four info was above slot) (keys_one w))
   four i e base info was above slot w on own under is =
@@ -258,12 +271,14 @@ module _ (shape : Shape) (call : Call) (tree : is_tree_call call ≡ true) (key-
   sixteen : (i : Bool) → is_insert call ≡ i → (base info was : ℕ) (above : Option Held) (slot count first second : ℕ)
       → KnowsPlace i c calm (place base Sixteen info was above slot)
       → Each Own (held_at_place true i (place base Sixteen info was above slot)) → FitsPlace (place base Sixteen info was above slot)
-      → count ≡ slice_index calm (count_at Sixteen base) → first ≡ slice_index calm (keys_at base) → second ≡ slice_index calm (more_keys_at base)
+      → count ≡ slice_index calm (count_at Sixteen base) → first ≡ slice_index calm (keys_at base)
+      → second ≡ slice_index calm (more_keys_at base)
       → To (words_at true i false c (place base Sixteen info was above slot) (record { first = first; second = second; count = count }))
   sixteen i e base info was above slot count first second on own under a b d =
       let p = place base Sixteen info was above slot in
       let x = byte_in c (held base Sixteen info was) in
-      let same : keys16_of count first second ≡ keys16_of (slice_index calm (count_at Sixteen base)) (slice_index calm (keys_at base)) (slice_index calm
+      let same : keys16_of count first second ≡ keys16_of (slice_index calm (count_at Sixteen base))
+          (slice_index calm (keys_at base)) (slice_index calm
       (more_keys_at base)) =
       ap (λ v. keys16_of v first second) a ∙ (ap (λ v. keys16_of (slice_index calm (count_at Sixteen base)) v second) b
       ∙ ap (λ v. keys16_of (slice_index calm (count_at Sixteen base)) (slice_index calm (keys_at base)) v) d) in
@@ -277,7 +292,8 @@ module _ (shape : Shape) (call : Call) (tree : is_tree_call call ≡ true) (key-
       → w ≡ slice_index calm (index_at base (byte_in c (held base FortyEight info was)))
       → To (find_at true i false FortyEight c (place base FortyEight info was above slot) w)
   indexed i e base info was above slot w on own under is =
-      subst (λ j. To (if entry == 0 then (if j then FindCount p w else found_at true i false c p (Lacks (keys_one w))) else Slot p (child_at FortyEight base
+      subst (λ j. To (if entry == 0 then (if j then FindCount p w else found_at true i false c p (Lacks (keys_one w))) else Slot p
+          (child_at FortyEight base
       (entry - 1))))
       (sym e) (go (entry == 0) refl)
     where
@@ -290,19 +306,23 @@ module _ (shape : Shape) (call : Call) (tree : is_tree_call call ≡ true) (key-
       entry : ℕ
       entry = slice_index (entries_of w) (x % 8)
 
-      slot-is : (b : Bool) → (entry == 0) ≡ b → slot_in c calm (held base FortyEight info was) ≡ (if b then None else Some (child_at FortyEight base (entry -
+      slot-is : (b : Bool) → (entry == 0) ≡ b → slot_in c calm (held base FortyEight info was) ≡ (if b then None else Some
+          (child_at FortyEight base (entry -
           1)))
       slot-is b f =
-          ap (λ v. if slice_index (entries_of v) (x % 8) == 0 then None else Some (child_at FortyEight base (slice_index (entries_of v) (x % 8) - 1))) (sym is)
+          ap (λ v. if slice_index (entries_of v) (x % 8) == 0 then None else Some
+              (child_at FortyEight base (slice_index (entries_of v) (x % 8) - 1))) (sym is)
           ∙ ap (λ b. if b then None else Some (child_at FortyEight base (entry - 1))) f
 
       none-at : (i : Bool) → is_insert call ≡ i → KnowsPlace i c calm p → Each Own (held_at_place true i p)
-          → slot_in c calm (held base FortyEight info was) ≡ None → To (if i then FindCount p w else found_at true i false c p (Lacks (keys_one w)))
+          → slot_in c calm (held base FortyEight info was) ≡ None
+          → To (if i then FindCount p w else found_at true i false c p (Lacks (keys_one w)))
       none-at true e on own none = GoesOn (knows true e None _ (on, refl, is, none) own)
       none-at false e on own none = found false e p (Lacks (keys_one w)) on own under none
 
       go : (b : Bool) → (entry == 0) ≡ b
-          → To (if b then (if i then FindCount p w else found_at true i false c p (Lacks (keys_one w))) else Slot p (child_at FortyEight base (entry - 1)))
+          → To (if b then (if i then FindCount p w else found_at true i false c p (Lacks (keys_one w))) else Slot p
+              (child_at FortyEight base (entry - 1)))
       go true f = none-at i e on own (slot-is true f)
       go false f = GoesOn (knows i e None _ (on, slot-is false f) own)
 
@@ -317,17 +337,20 @@ module _ (shape : Shape) (call : Call) (tree : is_tree_call call ≡ true) (key-
       first true p own = own.0
       first false p own = own.0
 
-      go : (kind : Kind) → KnowsPlace i c calm (place base kind info was above slot) → Each Own (held_at_place true i (place base kind info was above slot))
+      go : (kind : Kind) → KnowsPlace i c calm (place base kind info was above slot)
+          → Each Own (held_at_place true i (place base kind info was above slot))
           → FitsPlace (place base kind info was above slot) → Gets c calm words (Find (place base kind info was above slot)) w
           → To (find_at true i false kind c (place base kind info was above slot) w)
       go Four on own under got = four i e base info was above slot w on own under
           (got.loads (keys_at base) None refl
-          ∙ own-word calm words (held base Four info was) (first i (place base Four info was above slot) own) (keys_at base) (omega arith, omega arith))
+          ∙ own-word calm words (held base Four info was) (first i (place base Four info was above slot) own) (keys_at base)
+              (omega arith, omega arith))
       go Sixteen on own under got = GoesOn (knows i e None _ (
         on,
         refl,
         got.loads (count_at Sixteen base) None refl
-            ∙ own-word calm words (held base Sixteen info was) (first i (place base Sixteen info was above slot) own) (count_at Sixteen base) (
+            ∙ own-word calm words (held base Sixteen info was) (first i (place base Sixteen info was above slot) own)
+                (count_at Sixteen base) (
               omega arith,
               omega arith,
             ),
@@ -362,13 +385,16 @@ module _ (shape : Shape) (call : Call) (tree : is_tree_call call ≡ true) (key-
       → To (found_at true i false c p (Has slot (child_of shape w)))
   child-read i e p slot w on at own fits got = found i e p (Has slot (child_of shape w)) on own fits.0 (record {
     at = at;
-    has = ap (child_of shape) (sym (got.loads slot _ refl ∙ own-word calm words p.row (first-own i p own) slot (slot-behind p.row.base p.row.kind slot
+    has = ap (child_of shape) (sym (got.loads slot _ refl ∙ own-word calm words p.row (first-own i p own) slot
+        (slot-behind p.row.base p.row.kind slot
         fits.1)));
   })
 
   -- the count of a row of kind 48, which an insert asks for
-  counted : (i : Bool) → is_insert call ≡ i → (base : ℕ) (kind : Kind) (info was : ℕ) (above : Option Held) (slot index w : ℕ) → kind ≡ FortyEight
-      → KnowsPlace i c calm (place base kind info was above slot) → index ≡ slice_index calm (index_at base (byte_in c (held base kind info was)))
+  counted : (i : Bool) → is_insert call ≡ i → (base : ℕ) (kind : Kind) (info was : ℕ) (above : Option Held) (slot index w : ℕ)
+      → kind ≡ FortyEight
+      → KnowsPlace i c calm (place base kind info was above slot)
+      → index ≡ slice_index calm (index_at base (byte_in c (held base kind info was)))
       → slot_in c calm (held base kind info was) ≡ None → Each Own (held_at_place true i (place base kind info was above slot))
       → FitsPlace (place base kind info was above slot) → Gets c calm words (FindCount (place base kind info was above slot) index) w
       → To (found_at true i false c (place base kind info was above slot) (Lacks (record { first = index; second = 0; count = w })))
@@ -403,7 +429,8 @@ module _ (shape : Shape) (call : Call) (tree : is_tree_call call ≡ true) (key-
 
   -- ---- LOCK, and from a row to the one below
 
-  entered : (i : Bool) → is_insert call ≡ i → (t : Target) (v w : ℕ) → KnowsTarget c calm t → Each Own (rows_of_target t) → Gets c calm words (Exchange t v) w
+  entered : (i : Bool) → is_insert call ≡ i → (t : Target) (v w : ℕ) → KnowsTarget c calm t → Each Own (rows_of_target t)
+      → Gets c calm words (Exchange t v) w
       → w ≡ v → To (entered_at true i false c t v)
   entered i e Root v w k own got is = GoesOn (knows i e None _ (way i) (mine i))
     where
@@ -486,14 +513,16 @@ module _ (shape : Shape) (call : Call) (tree : is_tree_call call ≡ true) (key-
           (mine, own.1)
 
   -- once an insert has let the row above go
-  still : is_insert call ≡ true → (p : Position) (f : Finding) → p.above ≡ None → IsOnWay c calm p.row → Own p.row → KnowsFinding true c calm p.row f
+  still : is_insert call ≡ true → (p : Position) (f : Finding) → p.above ≡ None → IsOnWay c calm p.row → Own p.row
+      → KnowsFinding true c calm p.row f
       → HasRoom p.row f → To (place_coupled c p f)
   still e p (Has slot child) none on own at room =
       subst (λ o. To (let_go_at c p.row o p.slot (Has slot child))) (sym none) (alone e p.row (Has slot child) on own at room)
   still e p (Lacks keys) none on own at room = go (count_in p.row.kind keys == capacity p.row.kind) refl
     where
       go : (b : Bool) → (count_in p.row.kind keys == capacity p.row.kind) ≡ b
-          → To (if b then ClaimGrow (record { row = p.row; above = p.above }) p.slot keys else let_go_at c p.row p.above p.slot (Lacks keys))
+          → To (if b then ClaimGrow (record { row = p.row; above = p.above }) p.slot keys else let_go_at c p.row p.above
+              p.slot (Lacks keys))
       go true full = absurd (full-not-less _ _ full room)
       go false less = subst (λ o. To (let_go_at c p.row o p.slot (Lacks keys))) (sym none) (alone e p.row (Lacks keys) on own at room)
 
@@ -501,8 +530,10 @@ module _ (shape : Shape) (call : Call) (tree : is_tree_call call ≡ true) (key-
   below-own d kept true own = own.0
   below-own d kept false own = own.0
 
-  more : (i : Bool) → is_insert call ≡ i → (base : ℕ) (kind : Kind) (info was : ℕ) (above : Option Held) (slot count first w : ℕ) → kind ≡ Sixteen
-      → KnowsPlace i c calm (place base kind info was above slot) → count ≡ slice_index calm (count_at Sixteen base) → first ≡ slice_index calm (keys_at base)
+  more : (i : Bool) → is_insert call ≡ i → (base : ℕ) (kind : Kind) (info was : ℕ) (above : Option Held)
+      (slot count first w : ℕ) → kind ≡ Sixteen
+      → KnowsPlace i c calm (place base kind info was above slot) → count ≡ slice_index calm (count_at Sixteen base)
+      → first ≡ slice_index calm (keys_at base)
       → w ≡ slice_index calm (more_keys_at base) → Each Own (held_at_place true i (place base kind info was above slot))
       → FitsPlace (place base kind info was above slot)
       → To (words_at true i false c (place base kind info was above slot) (record { first = first; second = w; count = count }))
@@ -518,7 +549,8 @@ module _ (shape : Shape) (call : Call) (tree : is_tree_call call ≡ true) (key-
     where
       differ : Full ≡ Sixteen → ⊥
       differ e = cc
-  more i e base Sixteen info was above slot count first w kinds on a b d own under = sixteen i e base info was above slot count first w on own under a b d
+  more i e base Sixteen info was above slot count first w kinds on a b d own under =
+      sixteen i e base info was above slot count first w on own under a b d
 
   -- ---- each stage
 
@@ -540,7 +572,8 @@ module _ (shape : Shape) (call : Call) (tree : is_tree_call call ≡ true) (key-
   next i e (Info d kept) w k own fits got =
       subst (λ v. To (below_at true i c d (held d.base d.kind v kept) (path_differs_at c (row_at (held d.base d.kind v kept)))))
       (sym (got.loads (info_at d.base) None refl
-      ∙ own-word calm words (held d.base d.kind 0 kept) (below-own d kept i own) (info_at d.base) (omega arith, omega (arith, seven-words d.kind))))
+      ∙ own-word calm words (held d.base d.kind 0 kept) (below-own d kept i own) (info_at d.base)
+          (omega arith, omega (arith, seven-words d.kind))))
       (arrives i e d kept k own)
   next i e (Find p) w k own fits got = finds i e p.row.base p.row.kind p.row.info p.row.kept p.above p.slot w k own fits got
   next i e (FindKeys p count) w k own fits got = GoesOn (knows i e None _ (
@@ -553,7 +586,8 @@ module _ (shape : Shape) (call : Call) (tree : is_tree_call call ≡ true) (key-
   next i e (FindMore p count first) w k own fits got =
       more i e p.row.base p.row.kind p.row.info p.row.kept p.above p.slot count first w k.1 k.0 k.2 k.3
       (got.loads (more_keys_at p.row.base) None refl
-      ∙ own-word calm words p.row (first-own i p own) (more_keys_at p.row.base) (omega arith, omega (arith, seven-words p.row.kind))) own fits
+      ∙ own-word calm words p.row (first-own i p own) (more_keys_at p.row.base)
+          (omega arith, omega (arith, seven-words p.row.kind))) own fits
   next i e (FindCount p index) w k own fits got =
       counted i e p.row.base p.row.kind p.row.info p.row.kept p.above p.slot index w k.1 k.0 k.2 k.3 own fits got
   next i e (Slot p slot) w k own fits got = child-read i e p slot w k.0 k.1 own fits got

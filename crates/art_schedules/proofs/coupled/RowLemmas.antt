@@ -1,5 +1,6 @@
 -- What a step leaves of the words of rows, and of the calm tree, where a call on its way makes it.
-use Rattle.std.proofs.Common.{◌≡◌, ◌≢◌, ◌⊎◌, inl, inr, ℕ, ◌+◌, ◌/◌, ◌%◌, ◌^◌, ◌<◌, ◌≤◌, List, [], ◌∷◌, refl, ap, sym, subst, ◌∙◌, true, false, All, arith}
+use Rattle.std.proofs.Common.{◌≡◌, ◌≢◌, ◌⊎◌, inl, inr, ℕ, ◌+◌, ◌/◌, ◌%◌, ◌^◌, ◌<◌, ◌≤◌, List, [], ◌∷◌, refl, ap, sym, subst, ◌∙◌, true}
+use Rattle.std.proofs.Common.{false, All, arith}
 use Rattle.std.specs.Prelude.{slice_index, Option, Some}
 use Rattle.std.proofs.lemmas.Bool.{cases_eq, cases_lt}
 use Rattle.std.proofs.lemmas.Option.{same_Some}
@@ -49,11 +50,13 @@ module _ (shape : Shape) (s t : State) (p : ℕ) (first calm after : List ℕ) (
   pub kept-row : (r : ℕ) (call : Call) (q : Process) → IsOpen s r call q → (x : Held) → IsAmong x (held_by Coupled shape call q)
       → IsSettled Coupled shape s x.base x.kind
   kept-row r call q o x a =
-      (held-is-kept (IsSettled Coupled shape s) (setting shape Coupled call) (stage_of Coupled shape call q) (f.sound.knows r call q o) x a).1
+      (held-is-kept (IsSettled Coupled shape s) (setting shape Coupled call) (stage_of Coupled shape call q)
+          (f.sound.knows r call q o) x a).1
 
   -- Behind its version a row keeps its words, where the step writes to no such word of it.
   pub rows-same : (base : ℕ) (kind : Kind) → kind_at shape base ≡ Some kind
-      → ((word value : ℕ) (asks : AsksFor Coupled shape s p (Store word value)) (x : Held) → IsAmong x (held_by Coupled shape asks.call asks.process)
+      → ((word value : ℕ) (asks : AsksFor Coupled shape s p (Store word value)) (x : Held)
+      → IsAmong x (held_by Coupled shape asks.call asks.process)
       → IsBehindVersion x.base x.kind word → x.base ≡ base → ⊥)
       → ((word value : ℕ) (asks : AsksFor Coupled shape s p (Store word value)) (b : ℕ) (k : Kind)
       → filled_by Coupled shape asks.call asks.process ≡ (b, k) ∷ [] → b ≡ base → ⊥)
@@ -67,7 +70,8 @@ module _ (shape : Shape) (s t : State) (p : ℕ) (first calm after : List ℕ) (
       go (RowsStay same) = same (base + j) (omega (arith, row_begins shape base kind row))
       go (RowWritten word value asks x among kept its is others) = elim (cases_eq (base + j) word) [
         | inl e ↦ absurd (written word value asks x among its (rows_apart shape x.base base x.kind kind word
-            (settled-row Coupled shape s x.base x.kind kept.1) row (omega (arith, its.0)) its.1 (omega (arith, e)) (omega (arith, e, high))).0)
+            (settled-row Coupled shape s x.base x.kind kept.1) row (omega (arith, its.0)) its.1 (omega (arith, e))
+                (omega (arith, e, high))).0)
         | inr d ↦ others (base + j) d
       ]
       go (RowFilled word value asks b k fills its behind is others) = elim (cases_eq (base + j) word) [
@@ -93,7 +97,8 @@ module _ (shape : Shape) (s t : State) (p : ℕ) (first calm after : List ℕ) (
   pub held-calm : (r : ℕ) (call : Call) (q : Process) → IsOpen t r call q → (x : Held) → IsAmong x (held_by Coupled shape call q)
       → SameRow calm after x.base x.kind
   held-calm r call q o x a =
-      let settled = (held-is-kept (IsSettled Coupled shape t) (setting shape Coupled call) (stage_of Coupled shape call q) (f.behind.knows r call q o) x a).1 in
+      let settled = (held-is-kept (IsSettled Coupled shape t) (setting shape Coupled call) (stage_of Coupled shape call q)
+          (f.behind.knows r call q o) x a).1 in
       steady-row calm after x.base x.kind (f.goes.held x.base x.kind (settled-row Coupled shape t x.base x.kind settled)
       (record { holder = r; call = call; process = q; is_open = o; row = x; among = a; is = refl }))
 
@@ -117,7 +122,8 @@ module _ (shape : Shape) (s t : State) (p : ℕ) (first calm after : List ℕ) (
     pub its-turn : (a : Access) (asks : AsksFor Coupled shape s p a) → turn ≡ Asks a asks.mark
     its-turn a asks =
         subst (λ x. call_turn (setting shape Coupled x) (stage_of Coupled shape x q) ≡ Asks a asks.mark) (its-call a asks)
-        (subst (λ w. call_turn (setting shape Coupled asks.call) (stage_of Coupled shape asks.call w) ≡ Asks a asks.mark) (its-process a asks) asks.turn)
+        (subst (λ w. call_turn (setting shape Coupled asks.call) (stage_of Coupled shape asks.call w) ≡ Asks a asks.mark)
+            (its-process a asks) asks.turn)
 
     its-filling : (a : Access) (asks : AsksFor Coupled shape s p a) (base : ℕ) (kind : Kind)
         → filled_by Coupled shape asks.call asks.process ≡ (base, kind) ∷ []
@@ -157,7 +163,8 @@ module _ (shape : Shape) (s t : State) (p : ℕ) (first calm after : List ℕ) (
         (without-store Coupled shape f.count s f.sound p t calm after f.goes call q o none)
 
     -- and where it releases a row that it holds and has not written to
-    pub keeps-released : (n : ℕ) → IsAtRest shape n calm → All (λ w. w < 2 ^ 64) after → (x : Held) → IsAmong x (held_by Coupled shape call q)
+    pub keeps-released : (n : ℕ) → IsAtRest shape n calm → All (λ w. w < 2 ^ 64) after → (x : Held)
+        → IsAmong x (held_by Coupled shape call q)
         → IsHeldLive calm s.words x → SameRow s.words t.words x.base x.kind → slice_index t.words x.base ≡ released_word x.kept
         → (mark : Option Point)
         → turn ≡ Asks (Store x.base (released_word x.kept)) mark → KeepsTree shape calm after
@@ -178,7 +185,8 @@ module _ (shape : Shape) (s t : State) (p : ℕ) (first calm after : List ℕ) (
         reached-row base kind r = sits-kind_at shape base kind (sits shape n calm rest r)
 
         free-kept : (x.kept / 2) % 2 ≡ 0
-        free-kept = version-free true x.kept (held-is-kept (IsSettled Coupled shape s) (setting shape Coupled call) (stage_of Coupled shape call q)
+        free-kept = version-free true x.kept (held-is-kept (IsSettled Coupled shape s) (setting shape Coupled call)
+            (stage_of Coupled shape call q)
             (f.sound.knows p call q o) x a).0
 
         free : is_busy (slice_index t.words x.base) ≡ false
@@ -202,7 +210,8 @@ module _ (shape : Shape) (s t : State) (p : ℕ) (first calm after : List ℕ) (
         outside : (base : ℕ) (kind : Kind) → kind_at shape base ≡ Some kind → base ≢ x.base → (j : ℕ) → j < row_words kind
             → slice_index after (base + j) ≡ slice_index calm (base + j)
         outside base kind its d j high =
-            with-released Coupled shape f.count s f.sound p t calm after f.goes call q o x.base (released_word x.kept) mark e x a refl (base + j)
+            with-released Coupled shape f.count s f.sound p t calm after f.goes call q o x.base (released_word x.kept) mark e
+                x a refl (base + j)
             (omega (arith, row_begins shape base kind its)) (apart-from base kind its d j high)
 
         rows : (base : ℕ) (kind : Kind) → kind_at shape base ≡ Some kind → SameRow calm after base kind
@@ -213,13 +222,16 @@ module _ (shape : Shape) (s t : State) (p : ℕ) (first calm after : List ℕ) (
           | inr d ↦ λ j low high. outside base kind its d j high
         ]
 
-        lives : (base : ℕ) (kind : Kind) → Reached shape calm base kind → (base ≡ x.base) ⊎ (base ≢ x.base) → is_obsolete (slice_index after base) ≡ false
+        lives : (base : ℕ) (kind : Kind) → Reached shape calm base kind → (base ≡ x.base) ⊎ (base ≢ x.base)
+            → is_obsolete (slice_index after base) ≡ false
         lives base kind r (inl e) =
             ap (λ b. is_obsolete (slice_index after b)) e
-            ∙ (ap is_obsolete (f.then.free x.base x.kind row free x.base (omega arith) (omega (arith, some-words x.kind)) ∙ is) ∙ (obsolete_released x.kept ∙
+            ∙ (ap is_obsolete (f.then.free x.base x.kind row free x.base (omega arith) (omega (arith, some-words x.kind)) ∙ is)
+            ∙ (obsolete_released x.kept ∙
             own.live))
         lives base kind r (inr d) =
             let its = reached-row base kind r in
             let none : base + 0 ≡ base = omega arith in
             ap (λ b. is_obsolete (slice_index after b)) (sym none)
-            ∙ (ap is_obsolete (outside base kind its d 0 (some-words kind)) ∙ (ap (λ b. is_obsolete (slice_index calm b)) none ∙ rest.live base kind r))
+            ∙ (ap is_obsolete (outside base kind its d 0 (some-words kind))
+            ∙ (ap (λ b. is_obsolete (slice_index calm b)) none ∙ rest.live base kind r))

@@ -15,7 +15,8 @@ use Rattle.art_stages.specs.declared.stage.Down.{Down}
 use Rattle.art_stages.specs.declared.stage.Target.{Target}
 use Rattle.art_stages.specs.declared.stage.Target.TheVariants.{Root, Below, Taken}
 use Rattle.art_stages.specs.declared.stage.Stage.{Stage}
-use Rattle.art_stages.specs.declared.stage.Stage.TheVariants.{Lock, Exchange, Between, Info, Find, FindKeys, FindMore, FindCount, Slot, LetGo, Unlock, Over}
+use Rattle.art_stages.specs.declared.stage.Stage.TheVariants.{Lock, Exchange, Between, Info, Find, FindKeys, FindMore, FindCount, Slot}
+use Rattle.art_stages.specs.declared.stage.Stage.TheVariants.{LetGo, Unlock, Over}
 use Rattle.art_stages.specs.Stages.{setting}
 use Rattle.art_serial.specs.trees.Trees.{SameRow, LeadsTo}
 use Rattle.art_versions.specs.versions.Holding.{Each}
@@ -32,7 +33,8 @@ module _ (c : Setting) (n : ℕ) (calm after : List ℕ) (pairs : Contents) (gon
   abbrev Still : Held → Type 0
   Still h = SameRow calm after h.base h.kind × (gone h.base → ⊥)
 
-  above-still : (h : Held) (slot : ℕ) (above : Option Held) → Each Still (all_of above) → HangsBelow c calm h slot above → HangsBelow c after h slot above
+  above-still : (h : Held) (slot : ℕ) (above : Option Held) → Each Still (all_of above) → HangsBelow c calm h slot above
+      → HangsBelow c after h slot above
   above-still h slot None still k = tt
   above-still h slot (Some a) still k = hangs-still c follows a slot (ChildRow h.base h.kind) still.0 k
 
@@ -53,7 +55,8 @@ module _ (c : Setting) (n : ℕ) (calm after : List ℕ) (pairs : Contents) (gon
       → KnowsInfo i c after d
   info-still true d kept still k = hangs-still c follows d.above d.slot (ChildRow d.base d.kind) still.1.0 k
   info-still false d kept still k =
-      subst (λ l. LeadsTo c.shape after (key_of c.call) d.base d.kind (slice_index (key_bytes (key_of c.call)) l)) (sym (follows.level d.base d.kind k.reached))
+      subst (λ l. LeadsTo c.shape after (key_of c.call) d.base d.kind (slice_index (key_bytes (key_of c.call)) l))
+          (sym (follows.level d.base d.kind k.reached))
       (follows.ways (key_of c.call) d.base d.kind _ k still.0.1)
 
   passed-still : (i : Bool) (d : Down) (kept : ℕ) → Each Still (held_at_stage true i (Info d kept)) → IsPassed i c calm d
@@ -96,7 +99,8 @@ module _ (c : Setting) (n : ℕ) (calm after : List ℕ) (pairs : Contents) (gon
   reply-still : (r : Reply) (i : Bool) (stage : Stage) → Each Still (held_at_stage true i stage) → KnowsReply r i c calm stage
       → KnowsReply r i c after stage
   reply-still r i (Info d kept) still (is, k) = (is, passed-still i d kept still k)
-  reply-still r i (Unlock h outcome) still (none, is, reached) = (none, is, (follows.rows h.row.base h.row.kind).1 (inl (reached, still.0.1)))
+  reply-still r i (Unlock h outcome) still (none, is, reached) =
+      (none, is, (follows.rows h.row.base h.row.kind).1 (inl (reached, still.0.1)))
   reply-still r i (Over outcome) still k = k
   reply-still r i stage still k = absurd k
 

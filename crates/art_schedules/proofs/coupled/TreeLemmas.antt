@@ -12,7 +12,8 @@ use Rattle.art_stages.specs.declared.stage.Frame.{Frame}
 use Rattle.art_stages.specs.declared.stage.Entry.{Entry}
 use Rattle.art_stages.specs.declared.stage.Entry.TheVariants.{Root, Below}
 use Rattle.art_stages.specs.declared.stage.ScanStep.{ScanStep}
-use Rattle.art_stages.specs.declared.stage.ScanStep.TheVariants.{Lock, Exchange, Wait, Info, Keys, FirstKeys, SecondKeys, Index, Child as LoadChild, Release}
+use Rattle.art_stages.specs.declared.stage.ScanStep.TheVariants.{Lock, Exchange, Wait, Info, Keys, FirstKeys, SecondKeys, Index}
+use Rattle.art_stages.specs.declared.stage.ScanStep.TheVariants.{Child as LoadChild, Release}
 use Rattle.art_stages.specs.declared.stage.ScanStep.TheVariants.{Over}
 use Rattle.art_core.specs.Meaning.{Reached}
 use Rattle.art_serial.specs.trees.Trees.{IsAtRest, SameRow}
@@ -28,7 +29,8 @@ use Rattle.art_schedules.specs.changes.Follows.{Follows}
 use Rattle.art_schedules.specs.work.Own.{IsWalked, ReadsWalked}
 use Rattle.art_schedules.specs.coupled.Scanning.{KnowsWords, KnowsFrame, KnowsEntry, KnowsStep, StaysAt, ScansKeepTrees}
 
-module _ (shape : Shape) (claims n : ℕ) (calm after : List ℕ) (pairs : Contents) (effect : Option Effect) (rest : IsAtRest shape claims calm)
+module _ (shape : Shape) (claims n : ℕ) (calm after : List ℕ) (pairs : Contents) (effect : Option Effect)
+    (rest : IsAtRest shape claims calm)
     (follows : Follows shape n calm after pairs (IsGoneBy effect) (ComesInBy effect)) (rows : List Held)
     (still : (h : Held) → IsAmong h rows → StaysAt shape calm after effect h.base) where
   -- a row of the calm tree that stays
@@ -38,11 +40,13 @@ module _ (shape : Shape) (claims n : ℕ) (calm after : List ℕ) (pairs : Conte
       let x = stays kind (sits-kind_at shape base kind (sits shape claims calm rest r)) in
       (x.0, (follows.rows base kind).1 (inl (r, x.1)))
 
-  walked-still : (r : Held) → IsWalked r rows → Reached shape calm r.base r.kind → SameRow calm after r.base r.kind × Reached shape after r.base r.kind
+  walked-still : (r : Held) → IsWalked r rows → Reached shape calm r.base r.kind → SameRow calm after r.base r.kind
+      × Reached shape after r.base r.kind
   walked-still r (row, among, same) reached =
       reached-still r.base r.kind reached (subst (StaysAt shape calm after effect) same (still row among))
 
-  words-still : (kind : Kind) (base : ℕ) (keys : KeyWords) (index : ℕ) → SameRow calm after base kind → index < 32 → KnowsWords kind calm base keys index
+  words-still : (kind : Kind) (base : ℕ) (keys : KeyWords) (index : ℕ) → SameRow calm after base kind → index < 32
+      → KnowsWords kind calm base keys index
       → KnowsWords kind after base keys index
   words-still Four base keys index row small k = k ∙ sym (row 2 (omega arith) (omega arith))
   words-still Sixteen base keys index row small k = (
@@ -60,7 +64,8 @@ module _ (shape : Shape) (claims n : ℕ) (calm after : List ℕ) (pairs : Conte
       let x = walked-still f.row walked k.reached in
       record { reached = x.1; words = words-still f.row.kind f.row.base f.keys f.index x.0 k.few k.words; fits = k.fits; few = k.few }
 
-  way-still : (way : List Frame) → Each (λ f. IsWalked f.row rows) way → Each (KnowsFrame shape calm) way → Each (KnowsFrame shape after) way
+  way-still : (way : List Frame) → Each (λ f. IsWalked f.row rows) way → Each (KnowsFrame shape calm) way
+      → Each (KnowsFrame shape after) way
   way-still [] walked k = tt
   way-still (f ∷ way) walked k = (frame-still f walked.0 k.0, way-still way walked.1 k.1)
 
@@ -96,7 +101,8 @@ module _ (shape : Shape) (claims n : ℕ) (calm after : List ℕ) (pairs : Conte
   step-still (Index r j m) reads info (k, is, small) = ((walked-still r reads k).1, is, small)
   step-still (LoadChild f slot) reads info (k, (x, small, is)) =
       let row = walked-still f.row reads k.reached in
-      (frame-still f reads k, (x, small, slot-same calm after f.row.base f.row.kind x small (row-keys calm after f.row.base f.row.kind row.0) ∙ is))
+      (frame-still f reads k, (x, small, slot-same calm after f.row.base f.row.kind x small (row-keys calm after f.row.base
+          f.row.kind row.0) ∙ is))
   step-still (Release r) reads info k = tt
   step-still Over reads info k = tt
 

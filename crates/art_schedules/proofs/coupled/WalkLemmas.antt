@@ -1,5 +1,6 @@
 -- Scans by themselves.
-use Rattle.std.proofs.Common.{◌≡◌, ◌≢◌, ◌⊎◌, inl, inr, ℕ, zero, suc, ◌<◌, ◌≤◌, List, [], ◌∷◌, length, slice_index, slice_set, refl, sym, ap, ◌∙◌, subst, arith}
+use Rattle.std.proofs.Common.{◌≡◌, ◌≢◌, ◌⊎◌, inl, inr, ℕ, zero, suc, ◌<◌, ◌≤◌, List, [], ◌∷◌, length, slice_index, slice_set, refl, sym, ap}
+use Rattle.std.proofs.Common.{◌∙◌, subst, arith}
 use Rattle.std.specs.Prelude.{Option, Some}
 use Rattle.std.proofs.lemmas.Bool.{cases_eq, cases_lt}
 use Rattle.std.proofs.lemmas.List.{length-set}
@@ -53,23 +54,27 @@ set-word words later word v x long same = go (cases_eq x word) (cases_lt word (l
         ap (slice_index (slice_set later word v)) e ∙ (stored-at later word v (omega (arith, within, long))
         ∙ (sym (stored-at words word v within) ∙ ap (slice_index (slice_set words word v)) (sym e)))
     go (inl e) (inr past) =
-        ap (λ xs. slice_index xs x) (past-set later word v (omega (arith, past, long))) ∙ (same ∙ ap (λ xs. slice_index xs x) (sym (past-set words word v
+        ap (λ xs. slice_index xs x) (past-set later word v (omega (arith, past, long)))
+            ∙ (same ∙ ap (λ xs. slice_index xs x) (sym (past-set words word v
         past)))
     go (inr d) most = index-other later word v x d ∙ (same ∙ sym (index-other words word v x d))
 
-module _ (c : Setting) (rows : List Held) (at0 : CallAt) (calm after : List ℕ) (long : length after ≡ length calm) (same : SameOn rows calm after) where
+module _ (c : Setting) (rows : List Held) (at0 : CallAt) (calm after : List ℕ) (long : length after ≡ length calm)
+    (same : SameOn rows calm after) where
   stays : {x : CallAt} {now : List ℕ} → Alone c rows at0 calm x now
       → (later : List ℕ) × Alone c rows at0 after x later × SameOn rows now later × (length later ≡ length now)
   stays here = (after, here, same, long)
   stays (further {at = earlier} {now = before} alone a mark asks within) = go (stays alone)
     where
       go : ((later : List ℕ) × Alone c rows at0 after earlier later × SameOn rows before later × (length later ≡ length before))
-          → (later : List ℕ) × Alone c rows at0 after (call_after c earlier (got_by a before)) later × SameOn rows (words_after a before) later
+          → (later : List ℕ) × Alone c rows at0 after (call_after c earlier (got_by a before)) later
+          × SameOn rows (words_after a before) later
           × (length later ≡ length (words_after a before))
       go (later, its, on, len) =
           let is : slice_index later (word_of a) ≡ slice_index before (word_of a) = on (word_of a) within in (
             words_after a later,
-            subst (λ w. Alone c rows at0 after (call_after c earlier w) (words_after a later)) (ap (told a) is) (further its a mark asks within),
+            subst (λ w. Alone c rows at0 after (call_after c earlier w) (words_after a later)) (ap (told a) is)
+                (further its a mark asks within),
             λ word of. ap (λ v. slice_index (slice_set later (word_of a) (changed a v)) word) is
                 ∙ set-word before later (word_of a) (changed a (slice_index before (word_of a))) word len (on word of),
             length-set later (word_of a) (changed a (slice_index later (word_of a)))
@@ -81,12 +86,15 @@ walks-stay c rows at0 x calm after now long same alone = stays c rows at0 calm a
 
 -- ---- the end of a walk
 
-alone-suits : (c : Setting) (rows : List Held) (at0 : CallAt) (w0 : List ℕ) {at : CallAt} {now : List ℕ} → Alone c rows at0 w0 at now → Suits c at0 → Suits c at
+alone-suits : (c : Setting) (rows : List Held) (at0 : CallAt) (w0 : List ℕ) {at : CallAt} {now : List ℕ} → Alone c rows at0 w0 at now
+    → Suits c at0 → Suits c at
 alone-suits c rows at0 w0 here s = s
-alone-suits c rows at0 w0 (further {at = earlier} {now = before} alone a mark asks within) s = suits-on c earlier (got_by a before) (alone-suits c rows at0 w0
+alone-suits c rows at0 w0 (further {at = earlier} {now = before} alone a mark asks within) s =
+    suits-on c earlier (got_by a before) (alone-suits c rows at0 w0
     alone s)
 
-alone-runs : (c : Setting) (rows : List Held) (at0 : CallAt) (w0 last : List ℕ) (r : Reply) {at : CallAt} {now : List ℕ} → Alone c rows at0 w0 at now
+alone-runs : (c : Setting) (rows : List Held) (at0 : CallAt) (w0 last : List ℕ) (r : Reply) {at : CallAt} {now : List ℕ}
+    → Alone c rows at0 w0 at now
     → Suits c at0
     → RunsAlone (rest_at c at0) w0 last r → RunsAlone (rest_at c at) now last r
 alone-runs c rows at0 w0 last r here s runs = runs
@@ -105,19 +113,24 @@ module _ (shape : Shape) (low high : ℕ) where
   asks-not e = cc
 
   -- a scan that is over answers its pairs
-  over-answers : (w : Walk) (now last : List ℕ) (r : Reply) → RunsAlone (rest_at c (OnScan low high (at scan.Over w))) now last r → r ≡ reply.Pairs w.pairs
+  over-answers : (w : Walk) (now last : List ℕ) (r : Reply) → RunsAlone (rest_at c (OnScan low high (at scan.Over w))) now last r
+      → r ≡ reply.Pairs w.pairs
   over-answers w now last r (ends h) = same-reply (sym (call_next c (OnScan low high (at scan.Over w))) ∙ h)
   over-answers w now last r (goes a p h k) = absurd (asks-not (sym h ∙ call_next c (OnScan low high (at scan.Over w))))
 
   -- and so does one that releases its rows
   release-answers : (rows : List Held) (n : Held) (pairs : List (ℕ × ℕ)) (way : List Frame) (now last : List ℕ) (r : Reply)
-      → RunsAlone (rest_at c (OnScan low high (at (scan.Release n) (record { rows = rows; pairs = pairs; way = way })))) now last r → r ≡ reply.Pairs pairs
+      → RunsAlone (rest_at c (OnScan low high (at (scan.Release n) (record { rows = rows; pairs = pairs; way = way })))) now last r
+      → r ≡ reply.Pairs pairs
   release-answers [] n pairs way now last r runs = over-answers (record { rows = []; pairs = pairs; way = [] }) _ last r
-      (runs-behind c (OnScan low high (at (scan.Release n) (record { rows = []; pairs = pairs; way = way }))) refl (Store n.base (released_word n.kept)) (Some
+      (runs-behind c (OnScan low high (at (scan.Release n) (record { rows = []; pairs = pairs; way = way }))) refl
+          (Store n.base (released_word n.kept)) (Some
       point.Unlock) refl
       now 0 (slice_set now n.base (released_word n.kept)) last r refl refl runs)
-  release-answers (y ∷ rows) n pairs way now last r runs = release-answers rows y pairs [] (slice_set now n.base (released_word n.kept)) last r
-      (runs-behind c (OnScan low high (at (scan.Release n) (record { rows = y ∷ rows; pairs = pairs; way = way }))) refl (Store n.base (released_word n.kept))
+  release-answers (y ∷ rows) n pairs way now last r runs =
+      release-answers rows y pairs [] (slice_set now n.base (released_word n.kept)) last r
+      (runs-behind c (OnScan low high (at (scan.Release n) (record { rows = y ∷ rows; pairs = pairs; way = way }))) refl
+          (Store n.base (released_word n.kept))
       (Some point.Unlock) refl now 0 (slice_set now n.base (released_word n.kept)) last r refl refl runs)
 
   ended : (step : ScanStep) (w : Walk) (now last : List ℕ) (r : Reply) → IsOver step

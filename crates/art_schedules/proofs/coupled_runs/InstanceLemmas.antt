@@ -36,7 +36,8 @@ use Rattle.art_schedules.specs.coupled.Moments.{LeavesBy}
 use Rattle.art_schedules.specs.coupled.Good.{HoldsGood}
 use Rattle.art_schedules.specs.effects.AtWork.{AtEnd, Answering, Leaving}
 use Rattle.art_schedules.specs.effects.Outcomes.{Makes}
-use Rattle.art_schedules.specs.coupled_runs.CoupledFits.{Ghosts, ghosts_with, IsWorld, HasNone, OfScans, IsFit, Seeks, Works, Finds, Ends, Walks}
+use Rattle.art_schedules.specs.coupled_runs.CoupledFits.{Ghosts, ghosts_with, IsWorld, HasNone, OfScans, IsFit, Seeks, Works, Finds, Ends}
+use Rattle.art_schedules.specs.coupled_runs.CoupledFits.{Walks}
 use Rattle.art_schedules.specs.coupled_runs.CoupledFits.{CoupledFits}
 use Rattle.art_schedules.specs.coupled_runs.KeptScans.{ScansAreKept}
 use Rattle.art_schedules.proofs.coupled_runs.PartLaws.{LawsOfParts}
@@ -49,17 +50,21 @@ use Rattle.art_schedules.proofs.stories.OpenLemmas.{set-here, set-other, same-st
 
 -- an end is answered what it has
 end-answers : (shape : Shape) (real calm : List ℕ) (call : Call) (reply answer : Reply) (stage : Stage)
-    → AtEnd (setting shape Coupled call) real calm reply stage → turn_at (setting shape Coupled call) stage ≡ Answers answer → reply ≡ answer
-end-answers shape real calm call reply answer stage (Answering o e at) turn = e ∙ go (ap (turn_at (setting shape Coupled call)) (sym at) ∙ turn)
+    → AtEnd (setting shape Coupled call) real calm reply stage
+    → turn_at (setting shape Coupled call) stage ≡ Answers answer → reply ≡ answer
+end-answers shape real calm call reply answer stage (Answering o e at) turn = e
+    ∙ go (ap (turn_at (setting shape Coupled call)) (sym at) ∙ turn)
   where
     go : turn_at (setting shape Coupled call) (Over o) ≡ Answers answer → reply_for o ≡ answer
     go k = cc
-end-answers shape real calm call reply answer stage (Leaving o h e at rows same) turn = absurd (go (ap (turn_at (setting shape Coupled call)) (sym at) ∙ turn))
+end-answers shape real calm call reply answer stage (Leaving o h e at rows same) turn =
+    absurd (go (ap (turn_at (setting shape Coupled call)) (sym at) ∙ turn))
   where
     go : turn_at (setting shape Coupled call) (Unlock h (Some o)) ≡ Answers answer → ⊥
     go k = cc
 
-obsolete-asks : (shape : Shape) (call : Call) (h : Hold) (answer : Reply) → turn_at (setting shape Coupled call) (Obsolete h) ≡ Answers answer → ⊥
+obsolete-asks : (shape : Shape) (call : Call) (h : Hold) (answer : Reply)
+    → turn_at (setting shape Coupled call) (Obsolete h) ≡ Answers answer → ⊥
 obsolete-asks shape call h answer e = cc
 
 unlock-asks : (shape : Shape) (call : Call) (h : Hold) (outcome : Option Outcome) (answer : Reply)
@@ -99,7 +104,8 @@ module _ (laws : LawsOfParts) (shape : Shape) (scripts : List (List Call)) (star
         (told : IsToldStep plan start words schedule tale p s t x y) → IsWorld shape g s x → AllFit (CoupledFits shape Scans g) schedule s x
         → (call : Call) (q later : Process) (a : Access) (status : Status) → MakesAccess plan s p t call q later a
         → CoupledFits shape Scans g schedule s x p call q status
-        → OwnStep plan words schedule tale p t x y call q status (λ effect now. IsLedOn Ghosts World (CoupledFits shape Scans) g schedule p s t x y
+        → OwnStep plan words schedule tale p t x y call q status
+            (λ effect now. IsLedOn Ghosts World (CoupledFits shape Scans) g schedule p s t x y
         (λ next. CoupledFits shape Scans next (schedule ++ p ∷ []) t y p call later now))
 
     pub owns : OwnClause here there
@@ -118,7 +124,8 @@ module _ (laws : LawsOfParts) (shape : Shape) (scripts : List (List Call)) (star
 
     pub begins : BeginClause here there
     begins told world all call q later b goes =
-        led.led laws shape scripts start words Scans scans schedule tale p s t g told world all None makes (λ b k x. absurd x) None None (led.NoFresh refl)
+        led.led laws shape scripts start words Scans scans schedule tale p s t g told world all None makes (λ b k x. absurd x) None None
+            (led.NoFresh refl)
         (led.leaves-off laws shape scripts start words Scans scans schedule tale p s t g told world all off makes)
         (λ ghost. CoupledFits shape Scans ghost (schedule ++ p ∷ []) t there p call later Before)
         (record {
@@ -133,7 +140,8 @@ module _ (laws : LawsOfParts) (shape : Shape) (scripts : List (List Call)) (star
 
         off : (other : Call) (stage : Stage) → IsAtStage Coupled shape s p other (OnKey stage) → ⊥
         off other stage y =
-            none-some other (sym b.idle ∙ (ap (λ (x : Process). x.call) (same_Some q y.process (sym b.own ∙ y.is_open.own)) ∙ y.is_open.is_open))
+            none-some other (sym b.idle ∙ (ap (λ (x : Process). x.call) (same_Some q y.process (sym b.own ∙ y.is_open.own))
+                ∙ y.is_open.is_open))
 
         rows : HoldsGood shape there call later
         rows h a = absurd (subst (IsAmong h) (ap (holds (setting shape Coupled call)) b.stage ∙ begun-holds shape call) a)
@@ -163,7 +171,8 @@ module _ (laws : LawsOfParts) (shape : Shape) (scripts : List (List Call)) (star
 
     pub answers : AnswerClause here there
     answers told world all call q status reply x f goes =
-        led.led laws shape scripts start words Scans scans schedule tale p s t g told world all None makes (λ b k x. absurd x) None None (led.NoFresh refl)
+        led.led laws shape scripts start words Scans scans schedule tale p s t g told world all None makes (λ b k x. absurd x) None None
+            (led.NoFresh refl)
         leaves
         (λ ghost. HasItsReply plan words schedule tale p call q status reply) (go f.fit)
       where
@@ -174,7 +183,8 @@ module _ (laws : LawsOfParts) (shape : Shape) (scripts : List (List Call)) (star
             → turn_at (setting shape Coupled other) b ≡ Answers reply
         at-answer other b y =
             ap (call_turn (setting shape Coupled other)) (sym y.at ∙ same-stage Coupled shape s p other call y.process q y.is_open x.here)
-            ∙ (ap (λ z. call_turn (setting shape Coupled z) (stage_of Coupled shape call q)) (same-call s p other call y.process q y.is_open x.here)
+            ∙ (ap (λ z. call_turn (setting shape Coupled z) (stage_of Coupled shape call q))
+                (same-call s p other call y.process q y.is_open x.here)
             ∙ x.answers)
 
         leaves : LeavesBy shape s t p here None g.leaving (set_at g.leaving p None)
@@ -189,8 +199,10 @@ module _ (laws : LawsOfParts) (shape : Shape) (scripts : List (List Call)) (star
         turn stage at = ap (call_turn (setting shape Coupled call)) (sym at) ∙ x.answers
 
         go : IsFit shape Scans g schedule s here p call q status → HasItsReply plan words schedule tale p call q status reply
-        go (Seeks stage on none at knows e) = absurd (laws.seekers_are_not_answered shape call here s.words stage reply knows (turn stage at))
-        go (Works stage at w e) = absurd ((laws.workers_only_work (setting shape Coupled call) s.words here (g.fresh p) stage w.0).1 reply (turn stage at))
+        go (Seeks stage on none at knows e) = absurd (laws.seekers_are_not_answered shape call here s.words stage reply
+            knows (turn stage at))
+        go (Works stage at w e) = absurd ((laws.workers_only_work (setting shape Coupled call) s.words here (g.fresh p) stage w.0).1
+            reply (turn stage at))
         go (Finds stage found none at knows e) = (
           status,
           Stays refl,
@@ -202,7 +214,8 @@ module _ (laws : LawsOfParts) (shape : Shape) (scripts : List (List Call)) (star
           Stays refl,
           ⊎_elim
               (λ k. subst (λ y. HasReply y reply) (sym k) (end-answers shape s.words here call known reply stage end (turn stage at)))
-              (λ k. subst (λ y. HasReply y reply) (sym k.1) (sym k.0 ∙ end-answers shape s.words here call known reply stage end (turn stage at))) e,
+              (λ k. subst (λ y. HasReply y reply) (sym k.1)
+                  (sym k.0 ∙ end-answers shape s.words here call known reply stage end (turn stage at))) e,
         )
         go (Walks low high at none stage y) = scans.answers schedule tale p s t here there told call q status reply x y
 
@@ -218,14 +231,18 @@ module _ (laws : LawsOfParts) (shape : Shape) (scripts : List (List Call)) (star
       },
     );
     begins = λ schedule tale p s t calm after g told.
-        at-calm schedule tale p s t g (BeginClause schedule tale p s t g) (begins schedule tale p s t g) calm after told.calm_is told.after_is told;
+        at-calm schedule tale p s t g (BeginClause schedule tale p s t g) (begins schedule tale p s t g) calm after told.calm_is
+            told.after_is told;
     own = λ schedule tale p s t calm after g told.
-        at-calm schedule tale p s t g (OwnClause schedule tale p s t g) (owns schedule tale p s t g) calm after told.calm_is told.after_is told;
+        at-calm schedule tale p s t g (OwnClause schedule tale p s t g) (owns schedule tale p s t g) calm after told.calm_is
+            told.after_is told;
     answers = λ schedule tale p s t calm after g told.
-        at-calm schedule tale p s t g (AnswerClause schedule tale p s t g) (answers schedule tale p s t g) calm after told.calm_is told.after_is told;
+        at-calm schedule tale p s t g (AnswerClause schedule tale p s t g) (answers schedule tale p s t g) calm after told.calm_is
+            told.after_is told;
   }
 
--- Every run of the coupled tree is linearizable: from the laws, from what fits its scans and is kept, and from what stories give where what fits each call is
+-- Every run of the coupled tree is linearizable: from the laws, from what fits its scans and is kept, and from what stories give where what
+-- fits each call is
 -- kept.
 pub coupled-is-linearizable : LawsOfParts
     → ((shape : Shape) (scripts : List (List Call)) (start : Contents) (words : List ℕ) → HaveScans shape scripts start words)

@@ -63,7 +63,8 @@ module _ (laws : LawsOfParts) (shape : Shape) (scripts : List (List Call)) (star
 
   module _ (schedule : List ℕ) (tale : Tale) (p : ℕ) (s t : State) (g : Ghosts)
       (told : IsToldStep plan start words schedule tale p s t (calm_of plan words schedule) (calm_of plan words (schedule ++ p ∷ [])))
-      (world : IsWorld shape g s (calm_of plan words schedule)) (all : AllFit (CoupledFits shape Scans g) schedule s (calm_of plan words schedule)) where
+      (world : IsWorld shape g s (calm_of plan words schedule))
+          (all : AllFit (CoupledFits shape Scans g) schedule s (calm_of plan words schedule)) where
     abbrev calm : List ℕ
     calm = calm_of plan words schedule
 
@@ -123,14 +124,16 @@ module _ (laws : LawsOfParts) (shape : Shape) (scripts : List (List Call)) (star
     -- ---- the rows that are held behind the step
 
     pub takes-none-live : (call : Call) (q : Process) → IsOpen s p call q
-        → ((word v w : ℕ) (mark : Option Point) → call_turn (setting shape Coupled call) (stage_of Coupled shape call q) ≡ Asks (Swap word v w) mark → ⊥)
+        → ((word v w : ℕ) (mark : Option Point)
+        → call_turn (setting shape Coupled call) (stage_of Coupled shape call q) ≡ Asks (Swap word v w) mark → ⊥)
         → TakesLive shape s p × TakesReached shape s p calm
     takes-none-live call q o none = (λ h asks e. absurd (none-asked h asks), λ h asks e. absurd (none-asked h asks))
       where
         none-asked : (h : Held) → AsksFor Coupled shape s p (Swap h.base h.kept (locked_word h.kept)) → ⊥
         none-asked h x =
             none h.base h.kept (locked_word h.kept) x.mark
-            (ap (λ y. call_turn (setting shape Coupled y) (stage_of Coupled shape call q)) (same-call s p call x.call q x.process o x.is_open)
+            (ap (λ y. call_turn (setting shape Coupled y) (stage_of Coupled shape call q))
+                (same-call s p call x.call q x.process o x.is_open)
             ∙ (ap (call_turn (setting shape Coupled x.call)) (same-stage Coupled shape s p call x.call q x.process o x.is_open) ∙ x.turn))
 
     -- ---- what fits the other calls
@@ -160,7 +163,8 @@ module _ (laws : LawsOfParts) (shape : Shape) (scripts : List (List Call)) (star
           none-still : HasNone g r → HasNone (ghosts_with g p f l) r
           none-still n = (fresh-same ∙ n.0, left-same ∙ n.1)
 
-          go : IsFit shape Scans g schedule s calm r call q status → IsFit shape Scans (ghosts_with g p f l) (schedule ++ p ∷ []) t after r call q status
+          go : IsFit shape Scans g schedule s calm r call q status
+              → IsFit shape Scans (ghosts_with g p f l) (schedule ++ p ∷ []) t after r call q status
           go (Seeks stage on none at knows e) =
               Seeks stage on (none-still none) at
               (laws.others_leave_ways plan start words schedule p s t told.claims m r call stage None m effect is-step apart
@@ -192,7 +196,8 @@ module _ (laws : LawsOfParts) (shape : Shape) (scripts : List (List Call)) (star
 
       -- ---- all of it
 
-      pub led : FreshBehind shape s t (g.fresh p) f → LeavesBy shape s t p calm effect g.leaving (set_at g.leaving p l) → (Own : Ghosts → Type 0)
+      pub led : FreshBehind shape s t (g.fresh p) f → LeavesBy shape s t p calm effect g.leaving (set_at g.leaving p l)
+          → (Own : Ghosts → Type 0)
           → Own (ghosts_with g p f l) → IsLedOn Ghosts World (CoupledFits shape Scans) g schedule p s t calm after Own
       led fresh leaves Own own = record {
         next = ghosts_with g p f l;
@@ -213,7 +218,8 @@ module _ (laws : LawsOfParts) (shape : Shape) (scripts : List (List Call)) (star
               subst (λ (y : Named). IsClaimed shape t.words y.0 y.1) (same_Some new row (sym e ∙ x)) there
 
           claimed : (r : ℕ) (row : Named) → set_at g.fresh p f r ≡ Some row → IsClaimed shape t.words row.0 row.1
-          claimed r row e = ⊎_elim (λ x. own-claimed row fresh (sym x.1 ∙ e)) (λ x. claims-rise row.0 row.1 (world.claimed r row (sym x.1 ∙ e)))
+          claimed r row e = ⊎_elim (λ x. own-claimed row fresh (sym x.1 ∙ e)) (λ x. claims-rise row.0 row.1
+              (world.claimed r row (sym x.1 ∙ e)))
               (set-cases g.fresh p f r)
 
           -- another process has the row of p only if p had it before
@@ -221,17 +227,20 @@ module _ (laws : LawsOfParts) (shape : Shape) (scripts : List (List Call)) (star
           mixed r row (SameFresh e) x y = world.apart p r row (sym e ∙ x) y
           mixed r row (NoFresh e) x y = absurd (none-some row (sym e ∙ x))
           mixed r row (NewFresh new e not there) x y =
-              absurd (not (subst (λ (y : Named). IsClaimed shape s.words y.0 y.1) (sym (same_Some new row (sym e ∙ x))) (world.claimed r row y)))
+              absurd (not (subst (λ (y : Named). IsClaimed shape s.words y.0 y.1) (sym (same_Some new row (sym e ∙ x)))
+                  (world.claimed r row y)))
 
           apart : (q r : ℕ) (row : Named) → set_at g.fresh p f q ≡ Some row → set_at g.fresh p f r ≡ Some row → q ≡ r
           apart q r row a b = ⊎_elim
               (λ x. ⊎_elim (λ y. x.0 ∙ sym y.0) (λ y. x.0 ∙ mixed r row fresh (sym x.1 ∙ a) (sym y.1 ∙ b)) (set-cases g.fresh p f r))
-              (λ x. ⊎_elim (λ y. sym (y.0 ∙ mixed q row fresh (sym y.1 ∙ b) (sym x.1 ∙ a))) (λ y. world.apart q r row (sym x.1 ∙ a) (sym y.1 ∙ b))
+              (λ x. ⊎_elim (λ y. sym (y.0 ∙ mixed q row fresh (sym y.1 ∙ b) (sym x.1 ∙ a)))
+                  (λ y. world.apart q r row (sym x.1 ∙ a) (sym y.1 ∙ b))
               (set-cases g.fresh p f r))
               (set-cases g.fresh p f q)
 
     -- what the step has to do with obsolete rows, by the stage of the call on a key
-    pub leaves-of : (call : Call) (q : Process) → IsOpen s p call q → (stage : Stage) → stage_of Coupled shape call q ≡ OnKey stage → (effect : Option Effect)
+    pub leaves-of : (call : Call) (q : Process) → IsOpen s p call q → (stage : Stage) → stage_of Coupled shape call q ≡ OnKey stage
+        → (effect : Option Effect)
         → Makes Coupled shape s p calm after m effect → (l : Option ℕ) → ((h : Hold) → stage ≡ Obsolete h → MakesLeave shape calm h l)
         → ((h : Hold) (outcome : Option Outcome) (base : ℕ) → stage ≡ Unlock h outcome → g.leaving p ≡ Some base → IsGoneBy effect base)
         → ((base : ℕ) (kind : Kind) → ComesInBy effect base kind → is_obsolete (slice_index t.words base) ≡ false)

@@ -58,19 +58,23 @@ use Rattle.art_schedules.specs.effects.Begins.{BeginsWork}
 use Rattle.art_schedules.specs.work.Ways.{IsInTree}
 
 -- an end takes no row
-end-swaps : (shape : Shape) (real calm : List ℕ) (call : Call) (reply : Reply) (stage : Stage) → AtEnd (setting shape Coupled call) real calm reply stage
+end-swaps : (shape : Shape) (real calm : List ℕ) (call : Call) (reply : Reply) (stage : Stage)
+    → AtEnd (setting shape Coupled call) real calm reply stage
     → (word v w : ℕ) (mark : Option Point) → turn_at (setting shape Coupled call) stage ≡ Asks (Swap word v w) mark → ⊥
-end-swaps shape real calm call reply stage (Answering o e at) word v w mark turn = go (ap (turn_at (setting shape Coupled call)) (sym at) ∙ turn)
+end-swaps shape real calm call reply stage (Answering o e at) word v w mark turn =
+    go (ap (turn_at (setting shape Coupled call)) (sym at) ∙ turn)
   where
     go : turn_at (setting shape Coupled call) (Over o) ≡ Asks (Swap word v w) mark → ⊥
     go k = cc
-end-swaps shape real calm call reply stage (Leaving o h e at rows same) word v w mark turn = go (ap (turn_at (setting shape Coupled call)) (sym at) ∙ turn)
+end-swaps shape real calm call reply stage (Leaving o h e at rows same) word v w mark turn =
+    go (ap (turn_at (setting shape Coupled call)) (sym at) ∙ turn)
   where
     go : turn_at (setting shape Coupled call) (Unlock h (Some o)) ≡ Asks (Swap word v w) mark → ⊥
     go k = cc
 
 -- it makes no row obsolete
-end-keeps : (shape : Shape) (real calm : List ℕ) (call : Call) (reply : Reply) (h : Hold) → AtEnd (setting shape Coupled call) real calm reply (Obsolete h) → ⊥
+end-keeps : (shape : Shape) (real calm : List ℕ) (call : Call) (reply : Reply) (h : Hold)
+    → AtEnd (setting shape Coupled call) real calm reply (Obsolete h) → ⊥
 end-keeps shape real calm call reply h (Answering o e at) = cc
 end-keeps shape real calm call reply h (Leaving o k e at rows same) = cc
 
@@ -108,7 +112,8 @@ module _ (laws : LawsOfParts) (shape : Shape) (scripts : List (List Call)) (star
 
     abbrev Behind : Option Effect → Status → Type 0
     Behind effect now =
-        IsLedOn Ghosts (λ g schedule s calm. IsWorld shape g s calm) (CoupledFits shape Scans) g schedule p s t calm after (λ next. Fit next now)
+        IsLedOn Ghosts (λ g schedule s calm. IsWorld shape g s calm) (CoupledFits shape Scans) g schedule p s t calm after
+            (λ next. Fit next now)
 
     abbrev Answer : Type 0
     Answer = OwnStep plan words schedule tale p t calm after call q status Behind
@@ -129,18 +134,21 @@ module _ (laws : LawsOfParts) (shape : Shape) (scripts : List (List Call)) (star
     none-now = (set-here g.fresh p None, set-here g.leaving p None)
 
     -- the call keeps the pairs, and has no fresh row behind the step
-    plain : (next : Status) → Makes Coupled shape s p calm after m None → Next plan (opened_on plan words) schedule tale p (length (begun q)) call status next
+    plain : (next : Status) → Makes Coupled shape s p calm after m None
+        → Next plan (opened_on plan words) schedule tale p (length (begun q)) call status next
         → LeavesBy shape s t p calm None g.leaving (set_at g.leaving p None) → TakesLive shape s p × TakesReached shape s p calm
         → IsFit shape Scans (ghosts_with g p None None) (schedule ++ p ∷ []) t after p call later next → Answer
     plain next makes how leaves takes fit =
         Keeps next (led.makes-goes laws shape scripts start words Scans scans schedule tale p s t g told world all None makes) how
-        (led.led laws shape scripts start words Scans scans schedule tale p s t g told world all None makes (λ b k x. absurd x) None None (led.NoFresh refl)
+        (led.led laws shape scripts start words Scans scans schedule tale p s t g told world all None makes (λ b k x. absurd x) None None
+            (led.NoFresh refl)
         leaves (λ ghost. Fit ghost next) (record { tree = tree; rows = good None makes takes; fit = fit }))
 
     leaves-plain : (stage : Stage) → stage_of Coupled shape call q ≡ OnKey stage → Makes Coupled shape s p calm after m None
         → ((h : Hold) → stage ≡ Obsolete h → ⊥) → g.leaving p ≡ None → LeavesBy shape s t p calm None g.leaving (set_at g.leaving p None)
     leaves-plain stage at makes keeps none =
-        led.leaves-of laws shape scripts start words Scans scans schedule tale p s t g told world all call q made.here stage at None makes None
+        led.leaves-of laws shape scripts start words Scans scans schedule tale p s t g told world all call q made.here stage
+            at None makes None
         (λ h e. absurd (keeps h e)) (λ h outcome base e x. absurd (none-some base (sym none ∙ x))) (λ base kind x. absurd x)
 
     -- ---- on its way
@@ -190,7 +198,8 @@ module _ (laws : LawsOfParts) (shape : Shape) (scripts : List (List Call)) (star
                 (led.fact laws shape scripts start words Scans scans schedule tale p s t g told world all).behind made.behind)
 
             rows : held_by Coupled shape call later ≡ locks_of (rows_of_hold h)
-            rows = ap (holds (setting shape Coupled call)) (there ∙ ap OnKey f) ∙ ap locks_of (works-hold (is_insert call) (setting shape Coupled call) h w)
+            rows = ap (holds (setting shape Coupled call)) (there ∙ ap OnKey f)
+                ∙ ap locks_of (works-hold (is_insert call) (setting shape Coupled call) h w)
 
             in-tree : (x : Held) → IsAmong (lock_of x) (locks_of (rows_of_hold h)) → IsInTree shape after x
             in-tree x among =
@@ -212,7 +221,8 @@ module _ (laws : LawsOfParts) (shape : Shape) (scripts : List (List Call)) (star
         go : goes.Goes (setting shape Coupled call) after t.words m from.next → Answer
         go (goes.GoesOn k) = plain Before makes keeps-status leaves takes (Seeks from.next on none-now there k refl)
         go (goes.Finds reply does k) =
-            plain (Found reply) makes (FindsNow reply (subst HasNotChanged (sym e) tt) refl does) leaves takes (Finds from.next reply none-now there k refl)
+            plain (Found reply) makes (FindsNow reply (subst HasNotChanged (sym e) tt) refl does) leaves takes
+                (Finds from.next reply none-now there k refl)
         go (goes.Works h w f begins each) =
             plain Before makes keeps-status leaves takes (Works from.next there
             (subst (λ y. IsWorking shape t.words after call from.next y (set_at g.leaving p None p)) (sym (set-here g.fresh p None))
@@ -229,7 +239,8 @@ module _ (laws : LawsOfParts) (shape : Shape) (scripts : List (List Call)) (star
         (λ h f. let k : KnowsWay (setting shape Coupled call) calm s.words (Some reply) (Obsolete h)
         = subst (KnowsWay (setting shape Coupled call) calm s.words (Some reply)) f knows in k.way)
         none.1) (
-          laws.ways_take_live plan start words schedule p s t told.claims m g.leaving call stage (Some reply) is-step world.obsolete here knows,
+          laws.ways_take_live plan start words schedule p s t told.claims m g.leaving call stage (Some reply) is-step
+              world.obsolete here knows,
           laws.ways_take_reached plan start words schedule p s t told.claims m call stage (Some reply) is-step here knows,
         )
         (Finds from.next reply none-now (at-next from.at.process from.at.is_open from.next from.at.at) from.knows refl)
@@ -241,7 +252,8 @@ module _ (laws : LawsOfParts) (shape : Shape) (scripts : List (List Call)) (star
         turn = ap (call_turn (setting shape Coupled call)) (sym at) ∙ made.asks
 
         from : StaysFrom shape call t p calm after reply
-        from = laws.calls_stay plan start words schedule p s t told.claims m g.leaving call stage reply a made.mark is-step world.obsolete here knows turn
+        from = laws.calls_stay plan start words schedule p s t told.claims m g.leaving call stage reply a made.mark is-step
+            world.obsolete here knows turn
 
         makes : Makes Coupled shape s p calm after m None
         makes = led.keeps-makes laws shape scripts start words Scans scans schedule tale p s t g told world all from.keeps
@@ -249,12 +261,14 @@ module _ (laws : LawsOfParts) (shape : Shape) (scripts : List (List Call)) (star
     -- ---- behind its effect, or refused
 
     ends : (stage : Stage) (reply : Reply) → HasNone g p → stage_of Coupled shape call q ≡ OnKey stage
-        → AtEnd (setting shape Coupled call) s.words calm reply stage → (status ≡ Changed reply) ⊎ ((reply ≡ Refused) × (status ≡ Found Refused)) → Answer
+        → AtEnd (setting shape Coupled call) s.words calm reply stage → (status ≡ Changed reply)
+        ⊎ ((reply ≡ Refused) × (status ≡ Found Refused)) → Answer
     ends stage reply none at end e =
         plain status from.makes (Stays refl)
         (leaves-plain stage at from.makes (λ h f. end-keeps shape s.words calm call reply h
         (subst (AtEnd (setting shape Coupled call) s.words calm reply) f end)) none.1)
-        (led.takes-none-live laws shape scripts start words Scans scans schedule tale p s t g told world all call q made.here (λ word v w mark k.
+        (led.takes-none-live laws shape scripts start words Scans scans schedule tale p s t g told world all call q made.here
+            (λ word v w mark k.
         end-swaps shape s.words calm call reply stage end word v w mark (ap (call_turn (setting shape Coupled call)) (sym at) ∙ k)))
         (Ends from.next reply none-now (at-next from.at.process from.at.is_open from.next from.at.at) from.ends e)
       where
@@ -265,7 +279,8 @@ module _ (laws : LawsOfParts) (shape : Shape) (scripts : List (List Call)) (star
 
     -- ---- at work
 
-    works : (stage : Stage) → stage_of Coupled shape call q ≡ OnKey stage → IsWorking shape s.words calm call stage (g.fresh p) (g.leaving p)
+    works : (stage : Stage) → stage_of Coupled shape call q ≡ OnKey stage
+        → IsWorking shape s.words calm call stage (g.fresh p) (g.leaving p)
         → status ≡ Before → Answer
     works stage at w e = go (laws.workers_go_on plan start words schedule p s t told.claims m
         told.step told.rests told.means
@@ -273,7 +288,8 @@ module _ (laws : LawsOfParts) (shape : Shape) (scripts : List (List Call)) (star
         (record { process = q; is_open = made.here; at = at }) w.0 w.1)
       where
         takes : TakesLive shape s p × TakesReached shape s p calm
-        takes = led.takes-none-live laws shape scripts start words Scans scans schedule tale p s t g told world all call q made.here (λ word v x mark k.
+        takes = led.takes-none-live laws shape scripts start words Scans scans schedule tale p s t g told world all call q made.here
+            (λ word v x mark k.
             (laws.workers_only_work (setting shape Coupled call) s.words calm (g.fresh p) stage w.0).0 word v x mark
             (ap (call_turn (setting shape Coupled call)) (sym at) ∙ k))
 
@@ -289,18 +305,22 @@ module _ (laws : LawsOfParts) (shape : Shape) (scripts : List (List Call)) (star
 
         go : WorkerStep plan s p t calm after m call stage (g.fresh p) (g.leaving p) → Answer
         go (WorksOn next fresh there work goes makes, (left, marked)) =
-            Keeps Before (led.makes-goes laws shape scripts start words Scans scans schedule tale p s t g told world all None makes) (Stays (sym e))
-            (led.led laws shape scripts start words Scans scans schedule tale p s t g told world all None makes (λ b k x. absurd x) fresh (obsolete_by stage)
+            Keeps Before (led.makes-goes laws shape scripts start words Scans scans schedule tale p s t g told world all None
+                makes) (Stays (sym e))
+            (led.led laws shape scripts start words Scans scans schedule tale p s t g told world all None makes (λ b k x. absurd x) fresh
+                (obsolete_by stage)
             (⊎_elim (λ x. led.SameFresh x) (λ x. led.NewFresh x.0 x.1 (x.2 x.0.1)
             (work-claimed (setting shape Coupled call) t.words after fresh next work x.0 x.1)) goes)
-            (led.leaves-of laws shape scripts start words Scans scans schedule tale p s t g told world all call q made.here stage at None makes
+            (led.leaves-of laws shape scripts start words Scans scans schedule tale p s t g told world all call q made.here
+                stage at None makes
             (obsolete_by stage) obsoletes (λ h outcome base f x. absurd (none-some base (sym left ∙ x))) (λ base kind x. absurd x))
             (λ ghost. Fit ghost Before)
             (record {
               tree = tree;
               rows = good None makes takes;
               fit = Works next (at-next there.process there.is_open next there.at)
-                  (subst (λ y. IsWorking shape t.words after call next y (set_at g.leaving p (obsolete_by stage) p)) (sym (set-here g.fresh p fresh))
+                  (subst (λ y. IsWorking shape t.words after call next y (set_at g.leaving p (obsolete_by stage) p))
+                      (sym (set-here g.fresh p fresh))
                   (subst (IsWorking shape t.words after call next fresh) (sym (set-here g.leaving p (obsolete_by stage))) (work, marked)))
                   refl;
             }))
@@ -310,11 +330,13 @@ module _ (laws : LawsOfParts) (shape : Shape) (scripts : List (List Call)) (star
             takes
             (Ends next Refused none-now (at-next there.process there.is_open next there.at) end (inr (refl, refl)))
         go (TakesEffect next effect reply there end makes fresh pairs legal accepted live, (left, named)) =
-            Changes effect reply (led.makes-goes laws shape scripts start words Scans scans schedule tale p s t g told world all (Some effect) makes) unchanged
+            Changes effect reply (led.makes-goes laws shape scripts start words Scans scans schedule tale p s t g told world all
+                (Some effect) makes) unchanged
             (legal, pairs) accepted
             (led.led laws shape scripts start words Scans scans schedule tale p s t g told world all (Some effect) makes
             (fresh-is effect (g.fresh p) fresh) None None (led.NoFresh refl)
-            (led.leaves-of laws shape scripts start words Scans scans schedule tale p s t g told world all call q made.here stage at (Some effect) makes None
+            (led.leaves-of laws shape scripts start words Scans scans schedule tale p s t g told world all call q made.here stage at
+                (Some effect) makes None
             (λ h f. absurd (obsolete-named stage h f named)) (λ h outcome base f x. left base x) live)
             (λ ghost. Fit ghost (Changed reply))
             (record {
@@ -325,7 +347,8 @@ module _ (laws : LawsOfParts) (shape : Shape) (scripts : List (List Call)) (star
 
     -- ---- a scan
 
-    walks : (low high : ℕ) (at : ScanAt) → HasNone g p → stage_of Coupled shape call q ≡ OnScan low high at → Scans schedule s calm p call q status → Answer
+    walks : (low high : ℕ) (at : ScanAt) → HasNone g p → stage_of Coupled shape call q ≡ OnScan low high at
+        → Scans schedule s calm p call q status → Answer
     walks low high at none stage x =
         plain from.next makes from.how
         (led.leaves-off laws shape scripts start words Scans scans schedule tale p s t g told world all off makes)
@@ -334,7 +357,8 @@ module _ (laws : LawsOfParts) (shape : Shape) (scripts : List (List Call)) (star
       where
         from : ScanStep plan words schedule tale p s t calm after call q later status Scans
         from =
-            scans.own schedule tale p s t calm after g.leaving told world.obsolete call q later a status made ((all p call q made.here).1.rows) low high at
+            scans.own schedule tale p s t calm after g.leaving told world.obsolete call q later a status made
+                ((all p call q made.here).1.rows) low high at
             stage x
 
         makes : Makes Coupled shape s p calm after m None

@@ -1,10 +1,13 @@
 -- The laws of the parts of which the proof is made.
 use Rattle.art_schedules.specs.changes.Laws.{KeptTreesFollow}
-use Rattle.art_schedules.specs.effects.Laws.{WorkBegins, WorkersMayHaveNoMark, OthersKeepMarked, WorkersGoOn, ObsoleteRowsHang, WorkersOnlyWork}
+use Rattle.art_schedules.specs.effects.Laws.{WorkBegins, WorkersMayHaveNoMark, OthersKeepMarked, WorkersGoOn, ObsoleteRowsHang}
+use Rattle.art_schedules.specs.effects.Laws.{WorkersOnlyWork}
 use Rattle.art_schedules.specs.effects.Laws.{OthersKeepEnds, EndersGoOn}
-use Rattle.art_schedules.specs.coupled.Laws.{CallsBegin, CallsGoOn, CallsStay, FoundIsAnswered, OthersLeaveWays, WaysTakeLive, ObsoleteRowsLeave, RestsHaveNone}
+use Rattle.art_schedules.specs.coupled.Laws.{CallsBegin, CallsGoOn, CallsStay, FoundIsAnswered, OthersLeaveWays, WaysTakeLive}
+use Rattle.art_schedules.specs.coupled.Laws.{ObsoleteRowsLeave, RestsHaveNone}
 use Rattle.art_schedules.specs.coupled.Good.{WaysTakeReached, GoodRowsStay, OthersLeaveGood, SeekersAreNotAnswered}
-use Rattle.art_schedules.specs.locked_scans.Laws.{ScansBegin, ScansComeOn, WalkedScansFind, FoundScansStay, FoundScansAnswer, WalkingScansAsk}
+use Rattle.art_schedules.specs.locked_scans.Laws.{ScansBegin, ScansComeOn, WalkedScansFind, FoundScansStay, FoundScansAnswer}
+use Rattle.art_schedules.specs.locked_scans.Laws.{WalkingScansAsk}
 use Rattle.art_schedules.specs.locked_scans.Laws.{ScansTakeLive, ScansTakeReached, OthersLeaveScans, OthersLeaveTrees}
 use Rattle.art_schedules.specs.stories.Laws.{StartsAreAtRest, StoriesGiveOrders}
 

@@ -107,7 +107,8 @@ module _ (laws : LawsOfParts) (shape : Shape) (scripts : List (List Call)) (star
       -- ---- its own step
 
       module _ (leaving : ℕ → Option ℕ) (leave : ObsoleteLeave shape s here leaving) (low high : ℕ) (q later : Process) (a : Access)
-          (made : MakesAccess plan s p t (Scan low high) q later a) (x : ScanAt) (at : stage_of Coupled shape (Scan low high) q ≡ OnScan low high x) where
+          (made : MakesAccess plan s p t (Scan low high) q later a) (x : ScanAt)
+              (at : stage_of Coupled shape (Scan low high) q ≡ OnScan low high x) where
         abbrev its : Call
         its = Scan low high
 
@@ -154,7 +155,8 @@ module _ (laws : LawsOfParts) (shape : Shape) (scripts : List (List Call)) (star
                 steps Before Before comes.goes.next (λ open-yet. k.2) comes.goes.at comes.goes.keeps (Stays refl)
                 (walking, comes.goes.walked, comes.tree walking)
         own-scan (Found reply) k =
-            steps (Found reply) (Found reply) stays.next (λ open-yet. absurd (open-yet k.walked)) stays.at stays.keeps (Stays refl) stays.found
+            steps (Found reply) (Found reply) stays.next (λ open-yet. absurd (open-yet k.walked)) stays.at stays.keeps
+                (Stays refl) stays.found
           where
             stays : ScanStays shape low high t p here there reply
             stays = laws.found_scans_stay plan start words schedule p s t told.claims m low high x reply a made.mark is-step in-scan k
@@ -185,14 +187,16 @@ module _ (laws : LawsOfParts) (shape : Shape) (scripts : List (List Call)) (star
                   effect is-step apart theirs
                   makes.goes.follows stay k.0 k.1 k.2,
             )
-        other-scan (Found reply) k = (laws.others_leave_scans plan start words schedule p s t told.claims m r low high x is-step apart theirs).2 reply k
+        other-scan (Found reply) k = (laws.others_leave_scans plan start words schedule p s t told.claims m r low high x is-step
+            apart theirs).2 reply k
         other-scan (Changed reply) k = absurd k
 
     -- ---- of the calm words of the run
 
     abbrev BeginClause : List ℕ → List ℕ → Type 0
     BeginClause calm after =
-        IsToldStep plan start words schedule tale p s t calm after → (low high : ℕ) (q later : Process) → BeginsCall plan s p t (Scan low high) q later
+        IsToldStep plan start words schedule tale p s t calm after → (low high : ℕ) (q later : Process)
+            → BeginsCall plan s p t (Scan low high) q later
         → Scans (schedule ++ p ∷ []) t after p (Scan low high) later Before
 
     pub begins : (calm after : List ℕ) → BeginClause calm after
@@ -200,8 +204,10 @@ module _ (laws : LawsOfParts) (shape : Shape) (scripts : List (List Call)) (star
 
     abbrev OwnClause : List ℕ → List ℕ → Type 0
     OwnClause calm after =
-        (leaving : ℕ → Option ℕ) → IsToldStep plan start words schedule tale p s t calm after → ObsoleteLeave shape s calm leaving → (call : Call)
-        (q later : Process) (a : Access) (status : Status) → MakesAccess plan s p t call q later a → HoldsGood shape calm call q → (low high : ℕ) (at : ScanAt)
+        (leaving : ℕ → Option ℕ) → IsToldStep plan start words schedule tale p s t calm after
+            → ObsoleteLeave shape s calm leaving → (call : Call)
+        (q later : Process) (a : Access) (status : Status) → MakesAccess plan s p t call q later a → HoldsGood shape calm call q
+            → (low high : ℕ) (at : ScanAt)
         → stage_of Coupled shape call q ≡ OnScan low high at → Scans schedule s calm p call q status
         → ScanStep plan words schedule tale p s t calm after call q later status Scans
 
@@ -217,7 +223,8 @@ module _ (laws : LawsOfParts) (shape : Shape) (scripts : List (List Call)) (star
     abbrev OtherClause : List ℕ → List ℕ → Type 0
     OtherClause calm after =
         IsToldStep plan start words schedule tale p s t calm after → (effect : Option Effect) → Makes Coupled shape s p calm after m effect
-        → (r : ℕ) (call : Call) (q : Process) (status : Status) → r ≢ p → IsOpen s r call q → IsOpen t r call q → HoldsGood shape calm call q
+        → (r : ℕ) (call : Call) (q : Process) (status : Status) → r ≢ p → IsOpen s r call q → IsOpen t r call q
+        → HoldsGood shape calm call q
         → Scans schedule s calm r call q status → Scans (schedule ++ p ∷ []) t after r call q status
 
     other-here : OtherClause here there
@@ -249,13 +256,16 @@ module _ (laws : LawsOfParts) (shape : Shape) (scripts : List (List Call)) (star
     pub answers : (calm : List ℕ) (call : Call) (q : Process) (status : Status) (reply : Reply) → AnswersCall plan s p t call q reply
         → Scans schedule s calm p call q status → HasItsReply plan words schedule tale p call q status reply
     answers calm call q status reply ended x =
-        subst (λ y. call_turn (setting shape Coupled y) (stage_of Coupled shape y q) ≡ Answers reply → stage_of Coupled shape y q ≡ OnScan x.low x.high x.at
+        subst (λ y. call_turn (setting shape Coupled y) (stage_of Coupled shape y q) ≡ Answers reply
+            → stage_of Coupled shape y q ≡ OnScan x.low x.high x.at
         → HasItsReply plan words schedule tale p y q status reply) (sym x.is)
-        (λ turn at. answer x.low x.high calm q reply x.at status (ap (call_turn (setting shape Coupled (Scan x.low x.high))) (sym at) ∙ turn) x.knows)
+        (λ turn at. answer x.low x.high calm q reply x.at status
+            (ap (call_turn (setting shape Coupled (Scan x.low x.high))) (sym at) ∙ turn) x.knows)
         ended.answers x.stage
 
 -- What fits open scans is kept by each step of a run.
-pub scans-are-kept : LawsOfParts → (shape : Shape) (scripts : List (List Call)) (start : Contents) (words : List ℕ) → HaveScans shape scripts start words
+pub scans-are-kept : LawsOfParts → (shape : Shape) (scripts : List (List Call)) (start : Contents) (words : List ℕ)
+    → HaveScans shape scripts start words
 scans-are-kept laws shape scripts start words = (
   CoupledScans shape,
   record {

@@ -11,11 +11,13 @@ use Rattle.art_schedules.specs.changes.Effects.{Effect, Keeps, Fills, PutsLeaf, 
 use Rattle.art_schedules.specs.effects.AtWork.{AtWork, Claiming, Going, Hanging, IsPending, fresh_of, HasNew}
 
 -- the fresh row of a call at work was claimed
-pub work-claimed : (c : Setting) (real calm : List ℕ) (fresh : Option Named) (stage : Stage) → AtWork c real calm fresh stage → (row : Named) → fresh ≡ Some row
+pub work-claimed : (c : Setting) (real calm : List ℕ) (fresh : Option Named) (stage : Stage) → AtWork c real calm fresh stage
+    → (row : Named) → fresh ≡ Some row
     → IsClaimed c.shape real row.0 row.1
 work-claimed c real calm fresh stage (Claiming none x) row e = absurd (none-some row (sym none ∙ e))
 work-claimed c real calm fresh stage (Going x) row e =
-    let new : HasNew c real calm x.words x.hold x.work stage (Some row) = subst (HasNew c real calm x.words x.hold x.work stage) e x.new in new.claimed
+    let new : HasNew c real calm x.words x.hold x.work stage (Some row) =
+        subst (HasNew c real calm x.words x.hold x.work stage) e x.new in new.claimed
 work-claimed c real calm fresh stage (Hanging x) row e = go x.effect x.pending (sym x.fresh_row ∙ e)
   where
     go : (effect : Effect) → IsPending c real calm effect x.old → fresh_of effect ≡ Some row → IsClaimed c.shape real row.0 row.1

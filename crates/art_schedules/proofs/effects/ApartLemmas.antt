@@ -12,7 +12,8 @@ use Rattle.art_schedules.specs.changes.Effects.{Effect, Keeps, Fills, PutsLeaf, 
 use Rattle.art_schedules.specs.effects.AtWork.{fresh_of, IsPending, AtWork, Claiming, Going, Hanging}
 use Rattle.art_schedules.specs.effects.Outcomes.{IsOther, FreshGoesOn, AreTwoRows}
 
-pending-claimed : (c : Setting) (real calm : List ℕ) (e : Effect) (old : Option ℕ) → IsPending c real calm e old → (row : Named) → fresh_of e ≡ Some row
+pending-claimed : (c : Setting) (real calm : List ℕ) (e : Effect) (old : Option ℕ) → IsPending c real calm e old → (row : Named)
+    → fresh_of e ≡ Some row
     → IsClaimed c.shape real row.0 row.1
 pending-claimed c real calm (Keeps base kind) old pending row is = absurd (none-some row is)
 pending-claimed c real calm (Fills base kind) old pending row is = absurd (none-some row is)
@@ -20,10 +21,12 @@ pending-claimed c real calm (PutsLeaf base kind x key value) old pending row is 
 pending-claimed c real calm (RemovesLeaf base kind x key) old pending row is = absurd (none-some row is)
 pending-claimed c real calm (HangsPair base kind x key value fresh d a) old (leads, none, parts, slot, ready, pair) row is =
     subst (λ (z : Named). IsClaimed c.shape real z.0 z.1) (same_Some (fresh, Four) row is) ready.claimed
-pending-claimed c real calm (HangsGrown base kind x key value full full_kind y fresh larger) old (above, none, hangs, leads, empty, slot, ready, copy) row is =
+pending-claimed c real calm (HangsGrown base kind x key value full full_kind y fresh larger) old
+    (above, none, hangs, leads, empty, slot, ready, copy) row is =
     subst (λ (z : Named). IsClaimed c.shape real z.0 z.1) (same_Some (fresh, larger) row is) ready.claimed
 
-pub fresh-claimed : (c : Setting) (real calm : List ℕ) (stage : Stage) (row : Named) → AtWork c real calm (Some row) stage → IsClaimed c.shape real row.0 row.1
+pub fresh-claimed : (c : Setting) (real calm : List ℕ) (stage : Stage) (row : Named) → AtWork c real calm (Some row) stage
+    → IsClaimed c.shape real row.0 row.1
 fresh-claimed c real calm stage row (Claiming none g) = absurd (none-some row (sym none))
 fresh-claimed c real calm stage row (Going g) = g.new.claimed
 fresh-claimed c real calm stage row (Hanging g) = pending-claimed c real calm g.effect g.old g.pending row (sym g.fresh_row)
@@ -34,7 +37,8 @@ apart-swap None (Some b) h = tt
 apart-swap (Some a) None h = tt
 apart-swap (Some a) (Some b) h = λ e. h (sym e)
 
-pub stay-apart : (c : Setting) (s : State) (calm : List ℕ) (stage : Stage) (fresh later other : Option Named) → AtWork c s.words calm other stage
+pub stay-apart : (c : Setting) (s : State) (calm : List ℕ) (stage : Stage) (fresh later other : Option Named)
+    → AtWork c s.words calm other stage
     → FreshGoesOn c.shape s fresh later → AreTwoRows fresh other → AreTwoRows later other × AreTwoRows other later
 stay-apart c s calm stage fresh later other work (inl same) apart =
     let now = subst (λ z. AreTwoRows z other) (sym same) apart in (now, apart-swap later other now)

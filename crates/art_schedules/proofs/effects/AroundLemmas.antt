@@ -90,10 +90,12 @@ pub own-access : (plan : Plan) (p : ℕ) (s t : State) → IsMoved plan s p t �
 own-access plan p s t m call q o a mark turn = record {
   process = after_move p (Makes a) (slice_index s.words (word_of a)) q;
   is_open = record {
-    own = ap (λ (u : State). slice_get u.processes p) is ∙ set-here s.processes p q (after_move p (Makes a) (slice_index s.words (word_of a)) q) o.own;
+    own = ap (λ (u : State). slice_get u.processes p) is
+        ∙ set-here s.processes p q (after_move p (Makes a) (slice_index s.words (word_of a)) q) o.own;
     is_open = o.is_open;
   };
-  at = after-more (setting plan.shape plan.variant call) (call_begun (setting plan.shape plan.variant call)) q.got (told a (slice_index s.words (word_of a)));
+  at = after-more (setting plan.shape plan.variant call) (call_begun (setting plan.shape plan.variant call)) q.got
+      (told a (slice_index s.words (word_of a)));
   words = ap (λ (u : State). u.words) is;
 }
   where
@@ -111,7 +113,8 @@ own-access plan p s t m call q o a mark turn = record {
     is = m.is ∙ (ap (λ w. moved s p w m.move) same ∙ ap (moved s p q) (sym (same_Some (Makes a) m.move asked)))
 
 -- a process that does not step is in the same call at the same stage
-pub other-open : (plan : Plan) (p : ℕ) (s t : State) → IsMoved plan s p t → (r : ℕ) → r ≢ p → (call : Call) (w : Process) → IsOpen s r call w
+pub other-open : (plan : Plan) (p : ℕ) (s t : State) → IsMoved plan s p t → (r : ℕ) → r ≢ p → (call : Call) (w : Process)
+    → IsOpen s r call w
     → IsOpen t r call w
 other-open plan p s t m r ne call w o = record {
   own = ap (λ (u : State). slice_get u.processes r) m.is
@@ -119,7 +122,8 @@ other-open plan p s t m r ne call w o = record {
   is_open = o.is_open;
 }
 
-module _ (plan : Plan) (p : ℕ) (s t : State) (calm after : List ℕ) (x : Around plan p s t calm after) (r : ℕ) (ne : r ≢ p) (call : Call) (w : Process)
+module _ (plan : Plan) (p : ℕ) (s t : State) (calm after : List ℕ) (x : Around plan p s t calm after) (r : ℕ) (ne : r ≢ p)
+    (call : Call) (w : Process)
     (o : IsOpen s r call w) (h : Held) (among : IsAmong h (held_by plan.variant plan.shape call w)) where
   abbrev variant : Variant
   variant = plan.variant
@@ -131,7 +135,8 @@ module _ (plan : Plan) (p : ℕ) (s t : State) (calm after : List ℕ) (x : Arou
   then-open = other-open plan p s t x.move r ne call w o
 
   kept : IsKept (locks variant) (IsSettled variant shape s) h
-  kept = held-is-kept (IsSettled variant shape s) (setting shape variant call) (stage_of variant shape call w) (x.before.knows r call w o) h among
+  kept = held-is-kept (IsSettled variant shape s) (setting shape variant call) (stage_of variant shape call w)
+      (x.before.knows r call w o) h among
 
   pub others-row : kind_at shape h.base ≡ Some h.kind
   others-row = settled-row variant shape s h.base h.kind kept.1
@@ -143,11 +148,13 @@ module _ (plan : Plan) (p : ℕ) (s t : State) (calm after : List ℕ) (x : Arou
     | inr d ↦ absurd (go (x.written h.base h.kind others-row word low high d))
   ]
     where
-      go : IsHeldBy variant shape s p h.base ⊎ ((word ≡ h.base) × IsTakenBy variant shape s p t h.base) ⊎ IsFilledBy variant shape s p h.base → ⊥
+      go : IsHeldBy variant shape s p h.base ⊎ ((word ≡ h.base) × IsTakenBy variant shape s p t h.base)
+          ⊎ IsFilledBy variant shape s p h.base → ⊥
       go (inl (y, is)) = ne
           (x.before.apart r y.holder call y.call w y.process o y.is_open h y.row among y.among (sym y.is) ∙ is)
       go (inr (inl (e, taken))) = ne
-          (x.behind.apart r taken.0.holder call taken.0.call w taken.0.process then-open taken.0.is_open h taken.0.row among taken.0.among (sym taken.0.is)
+          (x.behind.apart r taken.0.holder call taken.0.call w taken.0.process then-open taken.0.is_open h taken.0.row among
+              taken.0.among (sym taken.0.is)
           ∙ taken.1)
       go (inr (inr f)) = kept.1.unfilled p f.call f.process f.is_open h.base f.kind f.fills refl
 

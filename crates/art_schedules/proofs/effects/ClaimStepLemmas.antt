@@ -58,7 +58,8 @@ use Rattle.art_schedules.proofs.effects.ReleaseLemmas.{kept-by-words}
 use Rattle.art_schedules.specs.work.Ways.{IsInTree, IsSame}
 
 module _ (read : ChildrenAreRead) (trees : KeptTreesFollow) (effects : EffectsFollow) (plan : Plan) (p : ℕ) (s t : State)
-    (calm after : List ℕ) (x : Around plan p s t calm after) (k : ℕ) (rest : IsAtRest plan.shape k calm) (m : Contents) (means : Means plan.shape calm m)
+    (calm after : List ℕ) (x : Around plan p s t calm after) (k : ℕ) (rest : IsAtRest plan.shape k calm) (m : Contents)
+        (means : Means plan.shape calm m)
     (call : Call) (q : Process) (o : IsOpen s p call q) (stage : Stage) (at : stage_of plan.variant plan.shape call q ≡ OnKey stage) where
   abbrev variant : Variant
   variant = plan.variant
@@ -101,10 +102,13 @@ module _ (read : ChildrenAreRead) (trees : KeptTreesFollow) (effects : EffectsFo
 
   -- ---- the claim
 
-  module _ (h : Hold) (work : Work) (is : stage ≡ work_at c h work) (kind : Kind) (turn : turn_at c (work_at c h work) ≡ Asks (Add (claims_of kind)) None)
+  module _ (h : Hold) (work : Work) (is : stage ≡ work_at c h work) (kind : Kind)
+      (turn : turn_at c (work_at c h work) ≡ Asks (Add (claims_of kind)) None)
       (begin : ℕ → Stage)
-      (next : (number : ℕ) → stage_after c (work_at c h work) number ≡ (if nat_lt number (rows_of shape kind) then begin number else Unlock h (Some Refused)))
-      (place : (number : ℕ) → hold_at (begin number) ≡ Some h) (fills : (number : ℕ) → FillsAt h work (base_of shape kind number) kind (begin number))
+      (next : (number : ℕ) → stage_after c (work_at c h work) number ≡ (if nat_lt number (rows_of shape kind) then begin number else Unlock
+          h (Some Refused)))
+      (place : (number : ℕ) → hold_at (begin number) ≡ Some h)
+          (fills : (number : ℕ) → FillsAt h work (base_of shape kind number) kind (begin number))
       (begins : BeginsWork c calm h work) (rows : Each (IsInTree c.shape calm) (rows_of_hold h))
       (same : Each (IsSame calm s.words) (rows_of_hold h)) where
     abbrev number : ℕ
@@ -194,7 +198,8 @@ module _ (read : ChildrenAreRead) (trees : KeptTreesFollow) (effects : EffectsFo
             words = calm;
             first_long = x.calm_before.long;
             long = x.calm_before.long;
-            solo = subst (λ z. Solo c (OnKey (work_at c h work)) calm (OnKey z) calm) goes (further here (claims kind number None turn unused));
+            solo = subst (λ z. Solo c (OnKey (work_at c h work)) calm (OnKey z) calm) goes
+                (further here (claims kind number None turn unused));
             was = calms stays h rows;
             same = each-with (λ row. IsSame calm after row × IsSame after t.words row) (IsSame calm t.words) (rows_of_hold h)
                 (λ row among both j low high. both.1 j low high ∙ both.0 j low high) (pair-up (rows_of_hold h) (calms stays h rows) sames);
@@ -238,5 +243,6 @@ module _ (read : ChildrenAreRead) (trees : KeptTreesFollow) (effects : EffectsFo
           (λ number. (refl, inl (pair_word.Info, refl))) begins g.rows g.same
       go (work.Put keys) is e begins = absurd (true-false e refl)
       go (work.Grow slot keys) is e begins = claim-step g.hold (work.Grow slot keys) is (next_kind g.hold.row.kind) refl
-          (λ number. GrowInfo (record { hold = g.hold; slot = slot; keys = keys; base = base_of shape (next_kind g.hold.row.kind) number })) (λ number. refl)
+          (λ number. GrowInfo (record { hold = g.hold; slot = slot; keys = keys; base = base_of shape (next_kind g.hold.row.kind) number
+              })) (λ number. refl)
           (λ number. refl) (λ number. (refl, refl)) begins g.rows g.same

@@ -1,5 +1,6 @@
 -- A call at work, behind its claim and before its first release, while it steps.
-use Rattle.std.proofs.Common.{◌≡◌, ◌≢◌, ◌⊎◌, inl, inr, ℕ, ◌+◌, ◌-◌, ◌<◌, ◌≤◌, List, [], ◌∷◌, length, slice_index, Bool, false, refl, sym, ap, ◌∙◌, subst, arith}
+use Rattle.std.proofs.Common.{◌≡◌, ◌≢◌, ◌⊎◌, inl, inr, ℕ, ◌+◌, ◌-◌, ◌<◌, ◌≤◌, List, [], ◌∷◌, length, slice_index, Bool, false, refl, sym}
+use Rattle.std.proofs.Common.{ap, ◌∙◌, subst, arith}
 use Rattle.std.specs.Prelude.{take, slice_set, Option, Some, None}
 use Rattle.std.proofs.lemmas.Option.{same_Some, none-some}
 use Rattle.events.specs.declared.event.Call.{Call}
@@ -56,7 +57,8 @@ use Rattle.art_schedules.specs.changes.Courses.{IsGoneBy, ComesInBy}
 use Rattle.art_schedules.specs.changes.Laws.{EffectsFollow, KeptTreesFollow}
 use Rattle.art_schedules.proofs.changes.RowLemmas.{steady-row}
 use Rattle.art_schedules.specs.work.Solo.{Solo, further, loads, stores}
-use Rattle.art_schedules.specs.work.Own.{IsHeldWord, IsFilledWord, TouchesOwn, LoadsHeld, StoresOwn, ClaimsRow, ReleasesHeld, Replies, may_release}
+use Rattle.art_schedules.specs.work.Own.{IsHeldWord, IsFilledWord, TouchesOwn, LoadsHeld, StoresOwn, ClaimsRow, ReleasesHeld, Replies}
+use Rattle.art_schedules.specs.work.Own.{may_release}
 use Rattle.art_schedules.specs.work.Works.{RowsOf, IsRelease, IsDoneBy, PairHangs, GrownHangs, IsWorkDone}
 use Rattle.art_schedules.specs.work.Laws.{WorkIsDone}
 use Rattle.art_schedules.proofs.work.EndLemmas.{end-releases}
@@ -90,7 +92,8 @@ refused-value : {h : Hold} {o : Option ℕ} → Unlock h (Some (Value o)) ≡ Un
 refused-value e = cc
 
 -- a word of a row that is held
-word-same : (words later : List ℕ) (rows : List Held) → Each (IsSame words later) rows → (row : Held) → IsAmong row (locks_of rows) → (word : ℕ)
+word-same : (words later : List ℕ) (rows : List Held) → Each (IsSame words later) rows → (row : Held)
+    → IsAmong row (locks_of rows) → (word : ℕ)
     → IsBehindVersion row.base row.kind word → slice_index later word ≡ slice_index words word
 word-same words later [] same row among word behind = absurd among
 word-same words later (x ∷ rows) same row (inl e) word behind =
@@ -98,7 +101,8 @@ word-same words later (x ∷ rows) same row (inl e) word behind =
     let size : row_words row.kind ≡ row_words x.kind = ap (λ (h : Held). row_words h.kind) e in
     let is : word ≡ x.base + (word - x.base) = omega (arith, base, behind.0) in
     ap (slice_index later) is
-    ∙ (same.0 (word - x.base) (omega (arith, base, behind.0)) (omega (arith, base, size, behind.0, behind.1)) ∙ ap (slice_index words) (sym is))
+    ∙ (same.0 (word - x.base) (omega (arith, base, behind.0)) (omega (arith, base, size, behind.0, behind.1))
+    ∙ ap (slice_index words) (sym is))
 word-same words later (x ∷ rows) same row (inr among) word behind = word-same words later rows same.1 row among word behind
 
 -- what the fresh row's stage comes to
@@ -122,20 +126,23 @@ fills-next c h (work.Pair p) b l stage w (is, inl (word, e)) = inl
     (subst (λ z. FillsAt h (work.Pair p) b z (pair_after h p b word)) (sym is) (pair-next h p b word)))
 fills-next c h (work.Pair p) b l stage w (is, inr e) = inr (ap (λ z. hold_at (stage_after c z w)) e)
 fills-next c h (work.Put keys) b l stage w none = absurd none
-fills-next c h (work.Grow slot keys) b l stage w (is, growing) = elim (grow-next c stage w (record { hold = h; slot = slot; keys = keys; base = b }) growing) [
+fills-next c h (work.Grow slot keys) b l stage w (is, growing) =
+    elim (grow-next c stage w (record { hold = h; slot = slot; keys = keys; base = b }) growing) [
   | inl later ↦ inl (is, later)
   | inr hang ↦ inr (ap (λ z. hold_at (stage_after c z w)) hang.1)
 ]
 
 -- the row that is filled at its stage
-fills-new : (h : Hold) (work : Work) (b : ℕ) (l : Kind) (stage : Stage) → FillsAt h work b l stage → (d : ℕ) (i : Kind) → fills (OnKey stage) ≡ (d, i) ∷ []
+fills-new : (h : Hold) (work : Work) (b : ℕ) (l : Kind) (stage : Stage) → FillsAt h work b l stage → (d : ℕ) (i : Kind)
+    → fills (OnKey stage) ≡ (d, i) ∷ []
     → ◌≡◌ {A = Named} (d, i) (b, l)
 fills-new h (work.Write slot word old) b l stage none d i f = absurd none
 fills-new h (work.Pair p) b l stage (is, inl (word, e)) d i f =
     first-item (sym f ∙ (ap (λ z. fills (OnKey z)) e ∙ ap (λ z. (b, z) ∷ []) (sym is)))
 fills-new h (work.Pair p) b l stage (is, inr e) d i f = absurd (no-items (sym (ap (λ z. fills (OnKey z)) e) ∙ f))
 fills-new h (work.Put keys) b l stage none d i f = absurd none
-fills-new h (work.Grow slot keys) b l stage (is, growing) d i f = elim (grow-fills stage (record { hold = h; slot = slot; keys = keys; base = b }) growing) [
+fills-new h (work.Grow slot keys) b l stage (is, growing) d i f =
+    elim (grow-fills stage (record { hold = h; slot = slot; keys = keys; base = b }) growing) [
   | inl own ↦ first-item (sym f ∙ (own ∙ ap (λ z. (b, z) ∷ []) (sym is)))
   | inr hang ↦ absurd (no-items (sym (ap (λ z. fills (OnKey z)) hang) ∙ f))
 ]
@@ -165,9 +172,12 @@ may-not (grow_keys g j left e) = refl
 may-not (grow_count g e) = refl
 may-not (hang_stage g e) = refl
 
-module _ (read : ChildrenAreRead) (trees : KeptTreesFollow) (effects : EffectsFollow) (done : WorkIsDone) (plan : Plan) (p : ℕ) (s t : State)
-    (calm after : List ℕ) (x : Around plan p s t calm after) (k : ℕ) (rest : IsAtRest plan.shape k calm) (m : Contents) (means : Means plan.shape calm m)
-    (call : Call) (q : Process) (o : IsOpen s p call q) (stage : Stage) (at : stage_of plan.variant plan.shape call q ≡ OnKey stage) (fresh : Option Named)
+module _ (read : ChildrenAreRead) (trees : KeptTreesFollow) (effects : EffectsFollow) (done : WorkIsDone) (plan : Plan)
+    (p : ℕ) (s t : State)
+    (calm after : List ℕ) (x : Around plan p s t calm after) (k : ℕ) (rest : IsAtRest plan.shape k calm) (m : Contents)
+        (means : Means plan.shape calm m)
+    (call : Call) (q : Process) (o : IsOpen s p call q) (stage : Stage) (at : stage_of plan.variant plan.shape call q ≡ OnKey stage)
+        (fresh : Option Named)
     (g : IsGoing (setting plan.shape plan.variant call) s.words calm fresh stage) where
   abbrev variant : Variant
   variant = plan.variant
@@ -212,7 +222,8 @@ module _ (read : ChildrenAreRead) (trees : KeptTreesFollow) (effects : EffectsFo
     pub same : Each (IsSame words t.words) rows
     pub new : (b : ℕ) (l : Kind) → FillsFresh c s.words calm g.words g.hold g.work stage b l → HasFilledFresh c t.words after b l
         × SameRow words after b l
-    pub wrote : (word value : ℕ) (mark : Option Point) → turn_at c stage ≡ Asks (Store word value) mark → word < length g.words → slice_index words word ≡ value
+    pub wrote : (word value : ℕ) (mark : Option Point) → turn_at c stage ≡ Asks (Store word value) mark → word < length g.words
+        → slice_index words word ≡ value
     pub process : Process
     pub is_open : IsOpen t p call process
     pub stage_at : stage_of variant shape call process ≡ OnKey (stage_after c stage w)
@@ -243,7 +254,8 @@ module _ (read : ChildrenAreRead) (trees : KeptTreesFollow) (effects : EffectsFo
   }
 
   late : (row : Held) → IsInTree c.shape calm row → 5 ≤ row.base
-  late row inside = row_begins shape row.base row.kind (settled-row variant shape s row.base row.kind (x.calm_before.reached row.base row.kind inside.reached))
+  late row inside = row_begins shape row.base row.kind (settled-row variant shape s row.base row.kind (x.calm_before.reached row.base
+      row.kind inside.reached))
 
   -- where no word of a row of calm changes
   module _ (stays : (word : ℕ) → 5 ≤ word → slice_index after word ≡ slice_index calm word) where
@@ -264,12 +276,14 @@ module _ (read : ChildrenAreRead) (trees : KeptTreesFollow) (effects : EffectsFo
 
   -- ---- a load
 
-  loaded : (word : ℕ) (mark : Option Point) → turn_at c stage ≡ Asks (Load word) mark → IsHeldWord c (OnKey stage) word → Moved (slice_index s.words word)
+  loaded : (word : ℕ) (mark : Option Point) → turn_at c stage ≡ Asks (Load word) mark → IsHeldWord c (OnKey stage) word
+      → Moved (slice_index s.words word)
   loaded word mark turn held =
       let asks = asks-now (Load word) mark turn in
       let own : OwnAccess plan p s t call q (Load word) = own-access plan p s t x.move call q o (Load word) mark asks in
       let real : t.words ≡ s.words = own.words ∙ load-same word s.words in
-      let stays = without-store variant shape x.count s x.before p t calm after x.changes call q o (λ w value mk e. load-store (sym asks ∙ e)) in
+      let stays = without-store variant shape x.count s x.before p t calm after x.changes call q o
+          (λ w value mk e. load-store (sym asks ∙ e)) in
       let told = word-same g.words s.words rows g.same held.row (subst (IsAmong held.row) is-holds held.among) word held.behind in
       record {
         made = made-stays stays;
@@ -332,10 +346,12 @@ module _ (read : ChildrenAreRead) (trees : KeptTreesFollow) (effects : EffectsFo
         (subst (IsAmong held.row) (sym (ap (holds c) at)) held.among) held.behind in
         stored (made-stays stays) (calms-stay stays)
         (λ b l new. new-stays stays now b l new (λ j low high. index-other g.words word value (b + j)
-        (λ e. new-apart b l new held.row held.among word (omega (arith, e)) (omega (arith, e, high)) (omega (arith, held.behind.0)) held.behind.1))
+        (λ e. new-apart b l new held.row held.among word (omega (arith, e)) (omega (arith, e, high))
+            (omega (arith, held.behind.0)) held.behind.1))
         (ap (λ ws. slice_index ws b) own.words
         ∙ index-other s.words word value b
-        (λ e. new-apart b l new held.row held.among word (omega (arith, e)) (omega (arith, e, some-words l)) (omega (arith, held.behind.0)) held.behind.1)))
+        (λ e. new-apart b l new held.row held.among word (omega (arith, e)) (omega (arith, e, some-words l))
+            (omega (arith, held.behind.0)) held.behind.1)))
 
     stored-filled : (b : ℕ) (l : Kind) → FillsFresh c s.words calm g.words g.hold g.work stage b l → fills (OnKey stage) ≡ (b, l) ∷ []
         → IsBehindVersion b l word
@@ -355,12 +371,14 @@ module _ (read : ChildrenAreRead) (trees : KeptTreesFollow) (effects : EffectsFo
         others = with-filled variant shape x.count s x.before p t calm after x.changes call q o word value mark asks b l filled behind
 
         made : Kept
-        made = kept-filled read trees effects plan p s t calm after x k rest m means b l new.claimed row new.unreached new.live word behind others low5
+        made = kept-filled read trees effects plan p s t calm after x k rest m means b l new.claimed row new.unreached new.live word
+            behind others low5
 
         calms : Each (IsSame calm after) rows
         calms = each-with (IsInTree c.shape calm) (IsSame calm after) rows
             (λ y among inside j low high. others (y.base + j) (omega (arith, late y inside))
-            (λ e. new-apart b l new (lock_of y) (subst (IsAmong (lock_of y)) (sym is-holds) among) word (omega (arith, behind.0)) behind.1 (omega (arith, e))
+            (λ e. new-apart b l new (lock_of y) (subst (IsAmong (lock_of y)) (sym is-holds) among) word (omega (arith, behind.0)) behind.1
+                (omega (arith, e))
             (omega (arith, e, high)))) g.rows
 
         version : slice_index t.words b ≡ slice_index calm b
@@ -471,9 +489,11 @@ module _ (read : ChildrenAreRead) (trees : KeptTreesFollow) (effects : EffectsFo
       before = each-with (IsSame g.first calm) (IsSame calm g.first) rows (λ row among same j low high. sym (same j low high)) g.was
 
       is-done : IsWorkDone c g.hold g.work g.first next mv.words
-      is-done = done c g.hold g.work g.first mv.words next x.full (no-scan c calm g.hold g.work g.begins) x.root (omega (arith, g.first_long)) g.knows
+      is-done = done c g.hold g.work g.first mv.words next x.full (no-scan c calm g.hold g.work g.begins) x.root
+          (omega (arith, g.first_long)) g.knows
           (fits-kept c g.hold g.work calm g.first g.begins.byte
-          (way_byte shape calm (key_of call) (upper_row g.hold).base (upper_row g.hold).kind g.begins.byte g.begins.leads) before g.begins.finds
+          (way_byte shape calm (key_of call) (upper_row g.hold).base (upper_row g.hold).kind g.begins.byte g.begins.leads)
+              before g.begins.finds
           g.begins.words)
           mv.solo release
 
@@ -522,7 +542,8 @@ module _ (read : ChildrenAreRead) (trees : KeptTreesFollow) (effects : EffectsFo
               pair.slot b.leads.reached small b.finds.0 in
               omega (arith, place.2, g.first_long, g.long)
 
-          at-pair : (row.1 ≡ Four) × (((word : _) × (stage ≡ StorePair g.hold pair row.0 word)) ⊎ (stage ≡ Write g.hold pair.slot (row_word row.0) None))
+          at-pair : (row.1 ≡ Four) × (((word : _) × (stage ≡ StorePair g.hold pair row.0 word)) ⊎ (stage ≡ Write g.hold pair.slot
+              (row_word row.0) None))
               → IsHanging c t.words after (Some row) next
           at-pair (kind, inl (word, e)) =
               absurd (no-place g.hold (ap (λ z. hold_at (stage_after c z w)) e ∙ pair-place g.hold pair row.0 word))

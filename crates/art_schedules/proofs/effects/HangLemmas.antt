@@ -1,5 +1,6 @@
 -- What the work left at its first release is what its last release will do to calm's tree.
-use Rattle.std.proofs.Common.{◌≡◌, ◌≢◌, inl, inr, ℕ, ◌+◌, ◌^◌, ◌<◌, ◌≤◌, List, ◌++◌, length, slice_index, true, refl, sym, ap, ◌∙◌, subst, arith}
+use Rattle.std.proofs.Common.{◌≡◌, ◌≢◌, inl, inr, ℕ, ◌+◌, ◌^◌, ◌<◌, ◌≤◌, List, ◌++◌, length, slice_index, true, refl, sym, ap, ◌∙◌, subst}
+use Rattle.std.proofs.Common.{arith}
 use Rattle.std.proofs.Common.{eq-eqb, ne_eqb}
 use Rattle.std.specs.Prelude.{nat_lt, ◌&&◌, take, slice_set, Option, Some, None, if◌then◌else◌}
 use Rattle.std.proofs.lemmas.Bool.{cases_lt, cases_eq, and_parts, ltb-true, false≢true}
@@ -78,7 +79,8 @@ module _ (c : Setting) (n : ℕ) (real after first words : List ℕ) (rest : IsA
   leaf-is : (k value : ℕ) → c.call ≡ Insert k value → new_leaf c.call ≡ Leaf key value
   leaf-is k value e = ap new_leaf e ∙ ap (λ z. Leaf z value) (sym (ap key_of e))
 
-  insert-does : (k value : ℕ) → c.call ≡ Insert k value → (e : Effect) (old : Option ℕ) → IsEffectOf (Insert k value) old e → IsEffectOf c.call old e
+  insert-does : (k value : ℕ) → c.call ≡ Insert k value → (e : Effect) (old : Option ℕ) → IsEffectOf (Insert k value) old e
+      → IsEffectOf c.call old e
   insert-does k value is e old does = subst (λ z. IsEffectOf z old e) (sym is) does
 
   -- ---- a slot is overwritten
@@ -96,9 +98,11 @@ module _ (c : Setting) (n : ℕ) (real after first words : List ℕ) (rest : IsA
         was.0 (subst (λ ws. SameRow ws real h.row.base h.row.kind) stored same.0)
 
     here-at : (e : Effect) → ((b : ℕ) → IsGone e b → ⊥) → IsReleasing c real after h.row e (Value old) at
-    here-at e none = Last (is ∙ ap (λ z. Unlock (record { row = h.row; above = z }) (Some (Value old))) alone) (λ b gone. absurd (none b gone))
+    here-at e none = Last (is ∙ ap (λ z. Unlock (record { row = h.row; above = z }) (Some (Value old))) alone)
+        (λ b gone. absurd (none b gone))
 
-    stored-leaf : (k value : ℕ) → key < 2 ^ 32 → value < 2 ^ 30 → word ≡ leaf_word key value → IsOld c after key h.row.base h.row.kind byte old
+    stored-leaf : (k value : ℕ) → key < 2 ^ 32 → value < 2 ^ 30 → word ≡ leaf_word key value
+        → IsOld c after key h.row.base h.row.kind byte old
         → IsEffectOf c.call old (PutsLeaf h.row.base h.row.kind byte key value) → IsHanging c real after None at
     stored-leaf k value low few wd was-old does = record {
       row = h.row;
@@ -169,7 +173,8 @@ module _ (c : Setting) (n : ℕ) (real after first words : List ℕ) (rest : IsA
     pub write-hangs : IsHanging c real after None at
     write-hangs = go (child_on s after h.row.base h.row.kind byte) refl over
       where
-        go : (child : Child) → child_on s after h.row.base h.row.kind byte ≡ child → IsOverwritten c word old child → IsHanging c real after None at
+        go : (child : Child) → child_on s after h.row.base h.row.kind byte ≡ child → IsOverwritten c word old child
+            → IsHanging c real after None at
         go Empty on (ins, wd, none) = insert-leaf c.call refl ins wd (subst (IsOld c after key h.row.base h.row.kind byte) (sym none) on)
         go (Leaf k value) on (own, some, inl new) = insert-leaf c.call refl new.0 new.1
             (subst (IsOld c after key h.row.base h.row.kind byte) (sym some) (on ∙ ap (λ z. Leaf z value) own))
@@ -199,7 +204,8 @@ module _ (c : Setting) (n : ℕ) (real after first words : List ℕ) (rest : IsA
         ap (child_in s after) absent,
         inl (children-are-of-rows s first words after real h.row.base h.row.kind (byte_in c h.row) (Leaf key insert.value)
             (puts-are-children s first words h.row.base h.row.kind (byte_in c h.row) (Leaf key insert.value)
-            (subst (HasPut s first words h.row.base h.row.kind (byte_in c h.row)) (leaf-is insert.key insert.value insert.is) has_put)) was.0 same.0
+            (subst (HasPut s first words h.row.base h.row.kind (byte_in c h.row)) (leaf-is insert.key insert.value insert.is)
+                has_put)) was.0 same.0
             (key_byte-small key (row_at h.row).level)),
       );
       does = insert-does insert.key insert.value insert.is (PutsLeaf h.row.base h.row.kind (byte_in c h.row) key insert.value) None
@@ -210,7 +216,8 @@ module _ (c : Setting) (n : ℕ) (real after first words : List ℕ) (rest : IsA
 
   -- ---- a fresh row is hung in the upper row
 
-  module _ (byte slot fresh : ℕ) (kind : Kind) (leads : LeadsTo s after key up.base up.kind byte) (has_slot : slot_of after up.base up.kind byte ≡ Some slot)
+  module _ (byte slot fresh : ℕ) (kind : Kind) (leads : LeadsTo s after key up.base up.kind byte)
+      (has_slot : slot_of after up.base up.kind byte ≡ Some slot)
       (insert : IsInsert c.call) (ready : HasFilledFresh c real after fresh kind) (filled : SameRow words after fresh kind)
       (apart : (a : Held) → h.above ≡ Some a → h.row.base ≢ a.base)
       (others : (word : ℕ) → word ≢ slot → IsOutside fresh kind word → slice_index words word ≡ slice_index first word)
@@ -235,11 +242,13 @@ module _ (c : Setting) (n : ℕ) (real after first words : List ℕ) (rest : IsA
         let is-up : up.base ≡ a.base = ap (λ z. (upper_of h.row z).base) e in
         same.0 j low high
         ∙ (others (h.row.base + j)
-        (λ eq. apart a e ((rows_apart s h.row.base up.base h.row.kind up.kind slot row up-row (omega (arith, sym eq)) (omega (arith, sym eq, high))
+        (λ eq. apart a e ((rows_apart s h.row.base up.base h.row.kind up.kind slot row up-row (omega (arith, sym eq))
+            (omega (arith, sym eq, high))
         (omega (arith, place.0)) place.1).0 ∙ is-up)) (out (h.row.base + j) (omega arith) (omega (arith, high)) row)
         ∙ sym (was.0 j low high))
       where
-        out : (word : ℕ) → h.row.base ≤ word → word < h.row.base + row_words h.row.kind → kind_at s h.row.base ≡ Some h.row.kind → IsOutside fresh kind word
+        out : (word : ℕ) → h.row.base ≤ word → word < h.row.base + row_words h.row.kind → kind_at s h.row.base ≡ Some h.row.kind
+            → IsOutside fresh kind word
         out word low high row = elim (cases_lt word fresh) [
           | inl less ↦ inl less
           | inr more ↦ elim (cases_lt word (fresh + row_words kind)) [
@@ -249,7 +258,8 @@ module _ (c : Setting) (n : ℕ) (real after first words : List ℕ) (rest : IsA
           ]
         ]
 
-  module _ (p : Pair) (byte fresh : ℕ) (leads : LeadsTo s after key up.base up.kind byte) (has_slot : slot_of after up.base up.kind byte ≡ Some p.slot)
+  module _ (p : Pair) (byte fresh : ℕ) (leads : LeadsTo s after key up.base up.kind byte)
+      (has_slot : slot_of after up.base up.kind byte ≡ Some p.slot)
       (parts : Parts after key p.level p.byte p.child) (insert : IsInsert c.call) (child : child_of s (slice_index after p.slot) ≡ p.child)
       (small : p.byte < 256) (ready : HasFilledFresh c real after fresh Four) (filled : SameRow words after fresh Four)
       (apart : (a : Held) → h.above ≡ Some a → h.row.base ≢ a.base) (is : at ≡ Unlock h (Some no_value))
@@ -272,7 +282,8 @@ module _ (c : Setting) (n : ℕ) (real after first words : List ℕ) (rest : IsA
             (is ∙ (ap (λ z. Unlock (record { row = h.row; above = z }) (Some no_value)) e
             ∙ ap (λ z. Unlock (record { row = h.row; above = Some z }) (Some no_value)) (sym (ap (upper_of h.row) e))))
             rows.0
-            (lower-same byte p.slot fresh Four leads has_slot insert ready filled apart (λ word ne out. hung.same word ne out) hung.hangs a e)
+            (lower-same byte p.slot fresh Four leads has_slot insert ready filled apart
+                (λ word ne out. hung.same word ne out) hung.hangs a e)
             (λ b gone. gone)
 
     pub pair-hangs : IsHanging c real after (Some (fresh, Four)) at
@@ -311,7 +322,8 @@ module _ (c : Setting) (n : ℕ) (real after first words : List ℕ) (rest : IsA
       (has_slot : slot_of after up.base up.kind byte ≡ Some slot)
       (own : LeadsTo s after key h.row.base h.row.kind (byte_in c h.row)) (info : slice_index after (info_at h.row.base) ≡ h.row.info)
       (insert : IsInsert c.call)
-      (absent : slot_of after h.row.base h.row.kind (byte_in c h.row) ≡ None) (child : child_of s (slice_index after slot) ≡ Row h.row.base h.row.kind)
+      (absent : slot_of after h.row.base h.row.kind (byte_in c h.row) ≡ None)
+          (child : child_of s (slice_index after slot) ≡ Row h.row.base h.row.kind)
       (larger : kind ≡ next_kind h.row.kind)
       (ready : HasFilledFresh c real after fresh kind) (filled : SameRow words after fresh kind)
       (apart : (a : Held) → h.above ≡ Some a → h.row.base ≢ a.base)
@@ -353,11 +365,13 @@ module _ (c : Setting) (n : ℕ) (real after first words : List ℕ) (rest : IsA
         ap (child_in s after) absent,
         (
           slot,
-          up-slot byte slot fresh (next_kind h.row.kind) leads has_slot insert ready-next filled-next apart (λ word ne out. hung.same word ne out) hung.hangs,
+          up-slot byte slot fresh (next_kind h.row.kind) leads has_slot insert ready-next filled-next apart
+              (λ word ne out. hung.same word ne out) hung.hangs,
         ),
         ready-next,
         record {
-          form = form-same words after fresh (next_kind h.row.kind) (row-keys words after fresh (next_kind h.row.kind) filled-next) hung.form;
+          form = form-same words after fresh (next_kind h.row.kind)
+              (row-keys words after fresh (next_kind h.row.kind) filled-next) hung.form;
           info = info-kept words after fresh (next_kind h.row.kind) filled-next ∙ (hung.info ∙ info-is);
           others = λ z small ne. child-same s words after fresh (next_kind h.row.kind) z small filled-next
               ∙ (hung.others z small ne ∙ sym (child-same s first after h.row.base h.row.kind z small was.0));

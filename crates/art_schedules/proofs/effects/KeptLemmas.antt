@@ -26,7 +26,8 @@ use Rattle.art_serial.proofs.inserts.OutcomeLemmas.{child-same}
 use Rattle.art_serial.proofs.trees.Changes.{way_byte}
 use Rattle.art_versions.specs.versions.Locking.{all_of, rows_of_hold}
 use Rattle.art_versions.specs.versions.Holding.{Each, Named}
-use Rattle.art_schedules.specs.changes.Effects.{Effect, Keeps, Fills, PutsLeaf, RemovesLeaf, HangsPair, HangsGrown, base_of_effect, kind_of_effect, IsGone}
+use Rattle.art_schedules.specs.changes.Effects.{Effect, Keeps, Fills, PutsLeaf, RemovesLeaf, HangsPair, HangsGrown, base_of_effect}
+use Rattle.art_schedules.specs.changes.Effects.{kind_of_effect, IsGone}
 use Rattle.art_schedules.specs.changes.Follows.{Follows}
 use Rattle.art_schedules.proofs.changes.EffectLemmas.{parted-small}
 use Rattle.art_schedules.proofs.changes.WrittenLemmas.{children-are-of-rows}
@@ -45,14 +46,16 @@ upper-each P h e = go h.row h.above e
     go row (Some a) e = e.1.0
 
 -- the word of a slot
-pub slot-word : (words later : List ℕ) (base : ℕ) (kind : Kind) (x slot : ℕ) → x < 256 → SameRow words later base kind → slot_of words base kind x ≡ Some slot
+pub slot-word : (words later : List ℕ) (base : ℕ) (kind : Kind) (x slot : ℕ) → x < 256 → SameRow words later base kind
+    → slot_of words base kind x ≡ Some slot
     → slice_index later slot ≡ slice_index words slot
 slot-word words later base kind x slot byte same at =
     let place : IsChildWord base kind slot = slot-is words base kind x slot byte at in
     ap (slice_index later) place.is
     ∙ (same place.place (omega (arith, first-some kind, place.low)) place.high ∙ ap (slice_index words) (sym place.is))
 
-pub lacks-kept : (c : Setting) (n : Held) (seen : Keys) (words later : List ℕ) → IsSame words later n → LacksByte c n seen words → LacksByte c n seen later
+pub lacks-kept : (c : Setting) (n : Held) (seen : Keys) (words later : List ℕ) → IsSame words later n → LacksByte c n seen words
+    → LacksByte c n seen later
 lacks-kept c n seen words later same lacks =
     let byte = key_byte-small (key_of c.call) (row_at n).level in
     let keys = row-keys words later n.base n.kind same in
@@ -74,7 +77,8 @@ fits-kept c h (work.Write slot word old) words later x byte same finds fits = tt
 fits-kept c h (work.Pair p) words later x byte same finds fits =
     let upper = upper_row h in (
       fits.0,
-      ap (child_of c.shape) (slot-word words later upper.base upper.kind x p.slot byte (upper-each (IsSame words later) h same) finds.0) ∙ fits.1,
+      ap (child_of c.shape) (slot-word words later upper.base upper.kind x p.slot byte (upper-each (IsSame words later) h same)
+          finds.0) ∙ fits.1,
       fits.2,
       fits.3,
       fits.4,
@@ -85,7 +89,8 @@ fits-kept c h (work.Grow slot keys) words later x byte same finds fits =
       fits.0,
       lacks-kept c h.row keys words later same.0 fits.1,
       fits.2,
-      ap (child_of c.shape) (slot-word words later upper.base upper.kind x slot byte (upper-each (IsSame words later) h same) finds.1) ∙ fits.3,
+      ap (child_of c.shape) (slot-word words later upper.base upper.kind x slot byte (upper-each (IsSame words later) h same)
+          finds.1) ∙ fits.3,
     )
 
 module _ (s : Shape) (n : ℕ) (calm after : List ℕ) (pairs : Contents) (gone : ℕ → Type 0) (fresh : ℕ → Kind → Type 0)
@@ -100,7 +105,8 @@ module _ (s : Shape) (n : ℕ) (calm after : List ℕ) (pairs : Contents) (gone 
   ]
 
   -- a child that hangs on a way parts from the key as before
-  pub parts-kept : (key d a base : ℕ) (kind : Kind) (x : ℕ) (child : Child) → LeadsTo s calm key base kind x → child_on s calm base kind x ≡ child
+  pub parts-kept : (key d a base : ℕ) (kind : Kind) (x : ℕ) (child : Child) → LeadsTo s calm key base kind x
+      → child_on s calm base kind x ≡ child
       → Parts calm key d a child → Parts after key d a child
   parts-kept key d a base kind x Empty leads is parts = parts
   parts-kept key d a base kind x (Leaf k value) leads is parts = parts
@@ -116,7 +122,8 @@ module _ (c : Setting) (n : ℕ) (calm after : List ℕ) (pairs : Contents) (gon
       record { reached = reached-kept c.shape n calm after pairs gone fresh f row.base row.kind inside.reached stays; live = inside.live }
 
   finds-kept : (h : Hold) (work : Work) (x : ℕ) → LeadsTo c.shape calm (key_of c.call) (upper_row h).base (upper_row h).kind x
-      → Each (IsSame calm after) (rows_of_hold h) → Each (λ row. gone row.base → ⊥) (rows_of_hold h) → FitsWords c h work calm → FindsSlot c calm h work x
+      → Each (IsSame calm after) (rows_of_hold h) → Each (λ row. gone row.base → ⊥) (rows_of_hold h) → FitsWords c h work calm
+      → FindsSlot c calm h work x
       → FindsSlot c after h work x
   finds-kept h (work.Write slot word old) x leads same stay fits (alone, slot_is, over) =
       let byte = way_byte c.shape calm (key_of c.call) (upper_row h).base (upper_row h).kind x leads in (
@@ -129,7 +136,8 @@ module _ (c : Setting) (n : ℕ) (calm after : List ℕ) (pairs : Contents) (gon
       let byte = way_byte c.shape calm (key_of c.call) upper.base upper.kind x leads in
       let child : child_on c.shape calm upper.base upper.kind x ≡ p.child =
       ap (λ o. child_in c.shape calm o) slot_is ∙ fits.1 in (
-        slot-same calm after upper.base upper.kind x byte (row-keys calm after upper.base upper.kind (upper-each (IsSame calm after) h same)) ∙ slot_is,
+        slot-same calm after upper.base upper.kind x byte
+            (row-keys calm after upper.base upper.kind (upper-each (IsSame calm after) h same)) ∙ slot_is,
         parts-kept c.shape n calm after pairs gone fresh f (key_of c.call) p.level p.byte upper.base upper.kind x p.child leads child parts,
       )
   finds-kept h (work.Put keys) x leads same stay fits (alone, info) = (alone, info-kept calm after h.row.base h.row.kind same.0 ∙ info)
@@ -137,7 +145,8 @@ module _ (c : Setting) (n : ℕ) (calm after : List ℕ) (pairs : Contents) (gon
       let upper = upper_row h in
       let byte = way_byte c.shape calm (key_of c.call) upper.base upper.kind x leads in (
         above,
-        slot-same calm after upper.base upper.kind x byte (row-keys calm after upper.base upper.kind (upper-each (IsSame calm after) h same)) ∙ slot_is,
+        slot-same calm after upper.base upper.kind x byte
+            (row-keys calm after upper.base upper.kind (upper-each (IsSame calm after) h same)) ∙ slot_is,
         f.ways (key_of c.call) h.row.base h.row.kind (byte_in c h.row) own stay.0,
         info-kept calm after h.row.base h.row.kind same.0 ∙ info,
       )
@@ -157,12 +166,14 @@ module _ (c : Setting) (n : ℕ) (calm after : List ℕ) (pairs : Contents) (gon
 
   -- ---- what is pending
 
-  old-kept : (key base : ℕ) (kind : Kind) (x : ℕ) (old : Option ℕ) → x < 256 → SameRow calm after base kind → IsOld c calm key base kind x old
+  old-kept : (key base : ℕ) (kind : Kind) (x : ℕ) (old : Option ℕ) → x < 256 → SameRow calm after base kind
+      → IsOld c calm key base kind x old
       → IsOld c after key base kind x old
   old-kept key base kind x None byte same is = child-same c.shape calm after base kind x byte same ∙ is
   old-kept key base kind x (Some value) byte same is = child-same c.shape calm after base kind x byte same ∙ is
 
-  slot-kept : (real later : List ℕ) (base : ℕ) (kind : Kind) (x slot word : ℕ) → x < 256 → SameRow calm after base kind → SameRow real later base kind
+  slot-kept : (real later : List ℕ) (base : ℕ) (kind : Kind) (x slot word : ℕ) → x < 256 → SameRow calm after base kind
+      → SameRow real later base kind
       → HasWordAt calm real base kind x slot word → HasWordAt after later base kind x slot word
   slot-kept real later base kind x slot word byte same own has =
       let at = slot-same calm after base kind x byte (row-keys calm after base kind same) ∙ has.at in
@@ -184,7 +195,8 @@ module _ (c : Setting) (n : ℕ) (calm after : List ℕ) (pairs : Contents) (gon
   NewStays (Some row) later = HasFilledFresh c later after row.0 row.1 × SameRow calm after row.0 row.1
 
   pub pending-kept : (real later : List ℕ) (e : Effect) (old : Option ℕ) → IsPending c real calm e old
-      → SameRow calm after (base_of_effect e) (kind_of_effect e) → SameRow real later (base_of_effect e) (kind_of_effect e) → (gone (base_of_effect e) → ⊥)
+      → SameRow calm after (base_of_effect e) (kind_of_effect e) → SameRow real later (base_of_effect e) (kind_of_effect e)
+      → (gone (base_of_effect e) → ⊥)
       → NewStays (fresh_of e) later → GoneStays e → IsPending c later after e old
   pending-kept real later (Keeps base kind) old none same own stays new goes = none
   pending-kept real later (Fills base kind) old none same own stays new goes = none

@@ -23,22 +23,27 @@ use Rattle.art_stages.specs.declared.stage.Outcome.TheVariants.{Value}
 use Rattle.art_stages.specs.declared.stage.Work.{Work}
 use Rattle.art_stages.specs.declared.stage.Work.TheVariants as work
 use Rattle.art_stages.specs.declared.stage.Stage.{Stage}
-use Rattle.art_stages.specs.declared.stage.Stage.TheVariants.{Lock, Exchange, Wait, Leave, Between, Info, Find, FindKeys, FindMore, FindCount, Slot}
-use Rattle.art_stages.specs.declared.stage.Stage.TheVariants.{Check, CheckLast, LetGo, Take, StorePair, PutKeys, GrowLeaf, GrowKeys, GrowCount}
+use Rattle.art_stages.specs.declared.stage.Stage.TheVariants.{Lock, Exchange, Wait, Leave, Between, Info, Find, FindKeys, FindMore}
+use Rattle.art_stages.specs.declared.stage.Stage.TheVariants.{FindCount, Slot}
+use Rattle.art_stages.specs.declared.stage.Stage.TheVariants.{Check, CheckLast, LetGo, Take, StorePair, PutKeys, GrowLeaf, GrowKeys}
+use Rattle.art_stages.specs.declared.stage.Stage.TheVariants.{GrowCount}
 use Rattle.art_stages.specs.declared.stage.Stage.TheVariants.{Obsolete, Over, Unlock}
 use Rattle.art_stages.specs.Stages.{setting}
-use Rattle.art_stages.specs.Automaton.{turn_at, work_at, store_of, pair_turn, put_keys_turn, grow_leaf_turn, grow_keys_turn, grow_count_turn}
+use Rattle.art_stages.specs.Automaton.{turn_at, work_at, store_of, pair_turn, put_keys_turn, grow_leaf_turn, grow_keys_turn}
+use Rattle.art_stages.specs.Automaton.{grow_count_turn}
 use Rattle.art_core.specs.Meaning.{Reached, child_on}
 use Rattle.art_serial.specs.trees.Trees.{IsAtRest}
 use Rattle.art_serial.proofs.trees.Changes.{way_byte}
 use Rattle.art_versions.specs.versions.Holding.{Named}
 use Rattle.art_versions.proofs.versions.MoveLemmas.{true-false}
 use Rattle.art_schedules.specs.calm.Calm.{calm_of}
-use Rattle.art_schedules.specs.changes.Effects.{Effect, Keeps, Fills, PutsLeaf, RemovesLeaf, HangsPair, HangsGrown, base_of_effect, kind_of_effect, IsGone}
+use Rattle.art_schedules.specs.changes.Effects.{Effect, Keeps, Fills, PutsLeaf, RemovesLeaf, HangsPair, HangsGrown, base_of_effect}
+use Rattle.art_schedules.specs.changes.Effects.{kind_of_effect, IsGone}
 use Rattle.art_schedules.specs.work.Own.{is_work}
 use Rattle.art_schedules.proofs.work.OwnLemmas.{is_over}
 use Rattle.art_schedules.proofs.work.WorkLemmas.{at-work}
-use Rattle.art_schedules.specs.effects.AtWork.{claims_row, hold_at, IsPending, IsReleasing, Last, Lower, Gone, AtWork, Claiming, Going, Hanging}
+use Rattle.art_schedules.specs.effects.AtWork.{claims_row, hold_at, IsPending, IsReleasing, Last, Lower, Gone, AtWork, Claiming, Going}
+use Rattle.art_schedules.specs.effects.AtWork.{Hanging}
 use Rattle.art_schedules.specs.effects.Outcomes.{EndStep, Leaves, Answers as AnswersNow}
 use Rattle.art_schedules.specs.effects.Marks.{obsolete_by, IsMarkedBy, HangsOnAbove, EnderStep}
 use Rattle.art_schedules.specs.effects.Laws.{WorkersMayHaveNoMark, ObsoleteRowsHang, WorkersOnlyWork, LeaversStep, EndersGoOn}
@@ -46,7 +51,8 @@ use Rattle.art_schedules.proofs.effects.StageLemmas.{place-work}
 
 -- ---- no mark
 
-releasing-unmarked : {c : Setting} {real calm : List ℕ} {row : Held} {e : Effect} {o : Outcome} {stage : Stage} (at : IsReleasing c real calm row e o stage)
+releasing-unmarked : {c : Setting} {real calm : List ℕ} {row : Held} {e : Effect} {o : Outcome} {stage : Stage}
+    (at : IsReleasing c real calm row e o stage)
     → IsMarkedBy None at
 releasing-unmarked (Last is gone) = λ b some. absurd (none-some b some)
 releasing-unmarked (Lower lower is inside same none) = refl

@@ -1,5 +1,6 @@
 -- A call at work, or at its end, while another process steps.
-use Rattle.std.proofs.Common.{◌≡◌, ◌≢◌, ◌⊎◌, inl, inr, ℕ, ◌+◌, ◌<◌, ◌≤◌, List, [], ◌∷◌, ◌++◌, slice_index, true, false, refl, sym, ap, ◌∙◌, subst, arith}
+use Rattle.std.proofs.Common.{◌≡◌, ◌≢◌, ◌⊎◌, inl, inr, ℕ, ◌+◌, ◌<◌, ◌≤◌, List, [], ◌∷◌, ◌++◌, slice_index, true, false, refl, sym, ap, ◌∙◌}
+use Rattle.std.proofs.Common.{subst, arith}
 use Rattle.std.specs.Prelude.{Option, Some, None}
 use Rattle.std.proofs.lemmas.Bool.{cases_lt, cases_eq}
 use Rattle.std.proofs.lemmas.Option.{same_Some}
@@ -45,7 +46,8 @@ use Rattle.art_schedules.specs.calm.Changes.{CalmChange, CalmStays, CalmFilled, 
 use Rattle.art_schedules.specs.calm.Changes.{RowChange, RowsStay, RowWritten, RowFilled, RowTaken, RowReleased}
 use Rattle.art_schedules.proofs.calm.CalmLemmas.{claimed-row}
 use Rattle.art_schedules.proofs.calm.VersionLemmas.{locked-same, obsolete-busy}
-use Rattle.art_schedules.specs.changes.Effects.{Effect, Keeps, Fills, PutsLeaf, RemovesLeaf, HangsPair, HangsGrown, base_of_effect, kind_of_effect, IsGone}
+use Rattle.art_schedules.specs.changes.Effects.{Effect, Keeps, Fills, PutsLeaf, RemovesLeaf, HangsPair, HangsGrown, base_of_effect}
+use Rattle.art_schedules.specs.changes.Effects.{kind_of_effect, IsGone}
 use Rattle.art_schedules.specs.changes.Courses.{IsGoneBy, ComesInBy}
 use Rattle.art_schedules.specs.changes.Written.{IsUnreached}
 use Rattle.art_schedules.proofs.changes.RowLemmas.{steady-row}
@@ -63,7 +65,8 @@ use Rattle.art_schedules.specs.work.Ways.{IsInTree, IsSame}
 use Rattle.art_schedules.proofs.calm.ReachedLemmas.{slot-of-row}
 
 -- of each row that is held
-pub each-with : (P Q : Held → Type 0) (rows : List Held) → ((row : Held) → IsAmong (lock_of row) (locks_of rows) → P row → Q row) → Each P rows → Each Q rows
+pub each-with : (P Q : Held → Type 0) (rows : List Held) → ((row : Held) → IsAmong (lock_of row) (locks_of rows) → P row → Q row)
+    → Each P rows → Each Q rows
 each-with P Q [] f e = tt
 each-with P Q (row ∷ rows) f e = (f row (inl refl) e.0, each-with P Q rows (λ x among. f x (inr among)) e.1)
 
@@ -72,15 +75,18 @@ each-of Q [] f = tt
 each-of Q (row ∷ rows) f = (f row (inl refl), each-of Q rows (λ x among. f x (inr among)))
 
 -- all rows are held before the claim
-pub holds-claiming : (c : Setting) (h : Hold) (work : Work) → claims_row work ≡ true → holds c (OnKey (work_at c h work)) ≡ locks_of (rows_of_hold h)
+pub holds-claiming : (c : Setting) (h : Hold) (work : Work) → claims_row work ≡ true
+    → holds c (OnKey (work_at c h work)) ≡ locks_of (rows_of_hold h)
 holds-claiming c h (work.Write slot word old) e = absurd (true-false e refl)
 holds-claiming c h (work.Pair p) e = refl
 holds-claiming c h (work.Put keys) e = absurd (true-false e refl)
 holds-claiming c h (work.Grow slot keys) e = refl
 
 module _ (read : ChildrenAreRead) (plan : Plan) (p : ℕ) (s t : State) (calm after : List ℕ) (x : Around plan p s t calm after) (k : ℕ)
-    (rest : IsAtRest plan.shape k calm) (m : Contents) (effect : Option Effect) (made : Makes plan.variant plan.shape s p calm after m effect)
-    (all-reached : HoldsReached plan.variant plan.shape s p calm) (r : ℕ) (ne : r ≢ p) (call : Call) (w : Process) (o : IsOpen s r call w) where
+    (rest : IsAtRest plan.shape k calm) (m : Contents) (effect : Option Effect)
+        (made : Makes plan.variant plan.shape s p calm after m effect)
+    (all-reached : HoldsReached plan.variant plan.shape s p calm) (r : ℕ) (ne : r ≢ p) (call : Call) (w : Process)
+        (o : IsOpen s r call w) where
   abbrev variant : Variant
   variant = plan.variant
 
@@ -116,7 +122,8 @@ module _ (read : ChildrenAreRead) (plan : Plan) (p : ℕ) (s t : State) (calm af
   same-on row among same j low high = real-row row among j low high ∙ (same j low high ∙ sym (calm-row row among j low high))
 
   -- a row that goes by the step hangs in no row that this call holds
-  gone-once : (row : Held) → HoldsRow row → (base : ℕ) (kind : Kind) (y b : ℕ) (l : Kind) → base ≡ row.base → Reached shape calm base kind → y < 256
+  gone-once : (row : Held) → HoldsRow row → (base : ℕ) (kind : Kind) (y b : ℕ) (l : Kind) → base ≡ row.base
+      → Reached shape calm base kind → y < 256
       → child_on shape calm base kind y ≡ Row b l → IsGoneBy effect b → ⊥
   gone-once row among base kind y b l is reached small hangs = go effect made.by
     where
@@ -139,7 +146,8 @@ module _ (read : ChildrenAreRead) (plan : Plan) (p : ℕ) (s t : State) (calm af
           let one = rest.tree.once base b2 y x2 b kind k2 l reached by.has.above.reached small
           (way_byte shape calm key b2 k2 x2 by.has.above) hangs its in
           let taken = by.held in
-          ne (x.before.apart r taken.0.holder call taken.0.call w taken.0.process o taken.0.is_open (lock_of row) taken.0.row among taken.0.among
+          ne (x.before.apart r taken.0.holder call taken.0.call w taken.0.process o taken.0.is_open (lock_of row) taken.0.row
+              among taken.0.among
           (sym is ∙ (one.0 ∙ sym taken.0.is)) ∙ taken.1)
 
   -- ---- a fresh row
@@ -153,7 +161,8 @@ module _ (read : ChildrenAreRead) (plan : Plan) (p : ℕ) (s t : State) (calm af
       late : 5 ≤ word
       late = omega (arith, row_begins shape b l row, low)
 
-      not-filled : (other : Call) (q : Process) → IsOpen s p other q → (b2 : ℕ) (l2 : Kind) → filled_by variant shape other q ≡ (b2, l2) ∷ [] → b ≢ b2
+      not-filled : (other : Call) (q : Process) → IsOpen s p other q → (b2 : ℕ) (l2 : Kind)
+          → filled_by variant shape other q ≡ (b2, l2) ∷ [] → b ≢ b2
       not-filled other q oq b2 l2 f same = elim owned [
         | inl mine ↦ ne (x.before.fills_apart r p call other w q o oq b b2 l l2 mine f same)
         | inr settled ↦ settled.unfilled p other q oq b2 l2 f same
@@ -188,7 +197,8 @@ module _ (read : ChildrenAreRead) (plan : Plan) (p : ℕ) (s t : State) (calm af
 
       no-version : (d : ℕ) (i : Kind) (word : ℕ) → kind_at shape d ≡ Some i → IsBehindVersion d i word → b ≢ word
       no-version d i word its within e =
-          let one = (rows_apart shape b d l i word row its (omega (arith, e)) (omega (arith, e, some-words l)) (omega (arith, within.0)) within.1).0 in
+          let one = (rows_apart shape b d l i word row its (omega (arith, e)) (omega (arith, e, some-words l))
+              (omega (arith, within.0)) within.1).0 in
           omega (arith, one, e, within.0)
 
       go : RowChange variant shape s p t → is_obsolete (slice_index t.words b) ≡ false
@@ -198,7 +208,8 @@ module _ (read : ChildrenAreRead) (plan : Plan) (p : ℕ) (s t : State) (calm af
       go (RowFilled word value asks d i f its within is others) = as-before (others b (no-version d i word its within))
       go (RowTaken h asks rows with then kept was is others) = elim (cases_eq b h.base) [
         | inl e ↦ ap (λ z. is_obsolete (slice_index t.words z)) e
-            ∙ (ap is_obsolete is ∙ (locked-same h.kept ∙ (ap is_obsolete (sym was) ∙ (ap (λ z. is_obsolete (slice_index s.words z)) (sym e) ∙ live))))
+            ∙ (ap is_obsolete is ∙ (locked-same h.kept ∙ (ap is_obsolete (sym was) ∙ (ap (λ z. is_obsolete (slice_index s.words z))
+                (sym e) ∙ live))))
         | inr differs ↦ as-before (others b differs)
       ]
       go (RowReleased h value asks rows with then kept version is others) =
@@ -207,7 +218,8 @@ module _ (read : ChildrenAreRead) (plan : Plan) (p : ℕ) (s t : State) (calm af
 
   claims-rise : (b : ℕ) (l : Kind) → IsClaimed shape s.words b l → IsClaimed shape t.words b l
   claims-rise b l claimed =
-      record { number = claimed.number; claimed = omega (arith, claimed.claimed, x.steady.claims l); within = claimed.within; is = claimed.is }
+      record { number = claimed.number; claimed = omega (arith, claimed.claimed, x.steady.claims l); within =
+          claimed.within; is = claimed.is }
 
   new-stays : (b : ℕ) (l : Kind) → HasFilledFresh c s.words calm b l → IsOwned b l → (ComesInBy effect b l → ⊥)
       → HasFilledFresh c t.words after b l × SameRow calm after b l
@@ -237,7 +249,8 @@ module _ (read : ChildrenAreRead) (plan : Plan) (p : ℕ) (s t : State) (calm af
   -- ---- before the claim, and before the first release
 
   module _ (stage : Stage) (at : stage_of variant shape call w ≡ OnKey stage) where
-    holds-row : (h : Hold) → holds c (OnKey stage) ≡ locks_of (rows_of_hold h) → (row : Held) → IsAmong (lock_of row) (locks_of (rows_of_hold h))
+    holds-row : (h : Hold) → holds c (OnKey stage) ≡ locks_of (rows_of_hold h) → (row : Held)
+        → IsAmong (lock_of row) (locks_of (rows_of_hold h))
         → HoldsRow row
     holds-row h is row among = subst (IsAmong (lock_of row)) (sym is ∙ ap (holds c) (sym at)) among
 
@@ -295,7 +308,8 @@ module _ (read : ChildrenAreRead) (plan : Plan) (p : ℕ) (s t : State) (calm af
               (subst (λ z. Knows (IsSettled variant shape s) c (OnKey z)) hang knows).known.0)
         ]
 
-    new-on : (words : List ℕ) (h : Hold) (work : Work) (fresh : Option Named) → IsOther effect fresh → HasNew c s.words calm words h work stage fresh
+    new-on : (words : List ℕ) (h : Hold) (work : Work) (fresh : Option Named) → IsOther effect fresh
+        → HasNew c s.words calm words h work stage fresh
         → HasNew c t.words after words h work stage fresh
     new-on words h work None other none = none
     new-on words h work (Some row) other new =
@@ -340,14 +354,16 @@ module _ (read : ChildrenAreRead) (plan : Plan) (p : ℕ) (s t : State) (calm af
 
     -- ---- before the release of the row that changes
 
-    settled-slot : (base : ℕ) (kind : Kind) (y slot b : ℕ) (l : Kind) → kind_at shape base ≡ Some kind → y < 256 → slot_of calm base kind y ≡ Some slot
+    settled-slot : (base : ℕ) (kind : Kind) (y slot b : ℕ) (l : Kind) → kind_at shape base ≡ Some kind → y < 256
+        → slot_of calm base kind y ≡ Some slot
         → slice_index s.words slot ≡ row_word b → kind_at shape b ≡ Some l → IsSettled variant shape s b l
     settled-slot base kind y slot b l row small has word its =
         let good = x.before.children slot base kind row (slot-of-row calm base kind y slot small has) in
         let child : child_of shape (slice_index s.words slot) ≡ Row b l = ap (child_of shape) word ∙ read shape (Row b l) its in
         (subst (λ z. Each (IsNamed (IsSettled variant shape s)) (child_rows z)) child good).0
 
-    pending-new : (e : Effect) (old : Option ℕ) → kind_at shape (base_of_effect e) ≡ Some (kind_of_effect e) → IsPending c s.words calm e old
+    pending-new : (e : Effect) (old : Option ℕ) → kind_at shape (base_of_effect e) ≡ Some (kind_of_effect e)
+        → IsPending c s.words calm e old
         → IsOther effect (fresh_of e)
         → NewStays c made.goes.claims calm after _ (IsGoneBy effect) (ComesInBy effect) made.goes.follows (fresh_of e) t.words
     pending-new (Keeps base kind) old row pending other = tt
@@ -358,13 +374,15 @@ module _ (read : ChildrenAreRead) (plan : Plan) (p : ℕ) (s t : State) (calm af
         let its = claimed-row shape s.words b Four ready.claimed in
         new-stays b Four ready
         (inr (settled-slot base kind y slot.0 b Four row (way_byte shape calm key base kind y leads) slot.1.at slot.1.here its)) other
-    pending-new (HangsGrown base kind y key value full full_kind z b larger) old row (above, none, hangs, leads, empty, slot, ready, copy) other =
+    pending-new (HangsGrown base kind y key value full full_kind z b larger) old row
+        (above, none, hangs, leads, empty, slot, ready, copy) other =
         let its = claimed-row shape s.words b larger ready.claimed in
         new-stays b larger ready
         (inr (settled-slot base kind y slot.0 b larger row (way_byte shape calm key base kind y above) slot.1.at slot.1.here its)) other
 
     -- a row that goes by the effect hangs in the row that changes
-    pending-gone : (row : Held) → HoldsRow row → (e : Effect) (old : Option ℕ) → base_of_effect e ≡ row.base → IsPending c s.words calm e old → (b : ℕ)
+    pending-gone : (row : Held) → HoldsRow row → (e : Effect) (old : Option ℕ) → base_of_effect e ≡ row.base
+        → IsPending c s.words calm e old → (b : ℕ)
         → IsGone e b → (l : Kind) × (kind_at shape b ≡ Some l) × (IsGoneBy effect b → ⊥)
     pending-gone row among (Keeps base kind) old is pending b gone = absurd gone
     pending-gone row among (Fills base kind) old is pending b gone = absurd gone
@@ -417,7 +435,8 @@ module _ (read : ChildrenAreRead) (plan : Plan) (p : ℕ) (s t : State) (calm af
         its : kind_at shape (base_of_effect g.effect) ≡ Some (kind_of_effect g.effect)
         its = ap (kind_at shape) g.base ∙ (held-row g.row among ∙ ap Some (sym g.kind))
 
-        on-row : (words later : List ℕ) → SameRow words later g.row.base g.row.kind → SameRow words later (base_of_effect g.effect) (kind_of_effect g.effect)
+        on-row : (words later : List ℕ) → SameRow words later g.row.base g.row.kind
+            → SameRow words later (base_of_effect g.effect) (kind_of_effect g.effect)
         on-row words later same =
             subst (λ b. SameRow words later b (kind_of_effect g.effect)) (sym g.base)
             (subst (λ l. SameRow words later g.row.base l) (sym g.kind) same)
@@ -425,7 +444,8 @@ module _ (read : ChildrenAreRead) (plan : Plan) (p : ℕ) (s t : State) (calm af
         lower-row : (lower : Held) → IsAmong (lock_of lower) (locks_of (rows_of_hold (record { row = lower; above = Some g.row })))
         lower-row lower = inl refl
 
-        holds-lower : (lower : Held) → holds c (OnKey stage) ≡ locks_of (rows_of_hold (record { row = lower; above = Some g.row })) → HoldsRow lower
+        holds-lower : (lower : Held) → holds c (OnKey stage) ≡ locks_of
+            (rows_of_hold (record { row = lower; above = Some g.row })) → HoldsRow lower
         holds-lower lower is = holds-row (record { row = lower; above = Some g.row }) is lower (lower-row lower)
 
         goes : IsReleasing c s.words calm g.row g.effect (Value g.old) stage
@@ -445,7 +465,8 @@ module _ (read : ChildrenAreRead) (plan : Plan) (p : ℕ) (s t : State) (calm af
             (subst (λ z. SameRow calm after z l) (sym same) (subst (SameRow calm after lower.base) kinds (calm-row lower held)), which.2)
 
         releasing : (at : IsReleasing c s.words calm g.row g.effect (Value g.old) stage)
-            → (later : IsReleasing c t.words after g.row g.effect (Value g.old) stage) × ((left : Option ℕ) → IsMarkedBy left at → IsMarkedBy left later)
+            → (later : IsReleasing c t.words after g.row g.effect (Value g.old) stage)
+            × ((left : Option ℕ) → IsMarkedBy left at → IsMarkedBy left later)
         releasing (Last is obsolete) = (
           Last is (λ b gone.
               let which = pending-gone g.row among g.effect g.old g.base g.pending b gone in
@@ -469,7 +490,8 @@ module _ (read : ChildrenAreRead) (plan : Plan) (p : ℕ) (s t : State) (calm af
     end-stays reply (Leaving out h is unlock rows same) =
         let held : holds c (OnKey stage) ≡ locks_of (rows_of_hold h) = ap (λ z. holds c (OnKey z)) unlock in
         Leaving out h is unlock (rows-on h held rows)
-        (each-with (IsSame calm s.words) (IsSame after t.words) (rows_of_hold h) (λ row among same. same-on row (holds-row h held row among) same) same)
+        (each-with (IsSame calm s.words) (IsSame after t.words) (rows_of_hold h)
+            (λ row among same. same-on row (holds-row h held row among) same) same)
 
     pub stays-at : IsAtStage variant shape t r call (OnKey stage)
     stays-at = record { process = w; is_open = other-open plan p s t x.move r ne call w o; at = at }
@@ -479,23 +501,28 @@ module _ (read : ChildrenAreRead) (plan : Plan) (p : ℕ) (s t : State) (calm af
 pub others-keep-work : ChildrenAreRead → OthersKeepWork
 others-keep-work read plan start words schedule p s t n m effect last rest made reached r ne call stage fresh is other work =
     let x = around plan start words schedule p s t last in (
-      stays-at read plan p s t (calm_of plan words schedule) (calm_of plan words (schedule ++ p ∷ [])) x n rest m effect made reached r ne call is.process
+      stays-at read plan p s t (calm_of plan words schedule) (calm_of plan words (schedule ++ p ∷ [])) x n rest m effect made reached r
+          ne call is.process
           is.is_open stage is.at,
-      (work-stays read plan p s t (calm_of plan words schedule) (calm_of plan words (schedule ++ p ∷ [])) x n rest m effect made reached r ne call is.process
+      (work-stays read plan p s t (calm_of plan words schedule) (calm_of plan words (schedule ++ p ∷ [])) x n rest m effect made reached r
+          ne call is.process
           is.is_open stage is.at fresh other work).0,
     )
 
 pub others-keep-marked : ChildrenAreRead → OthersKeepMarked
 others-keep-marked read plan start words schedule p s t n m effect last rest made reached r ne call stage fresh left is other work marked =
     let kept = work-stays read plan p s t (calm_of plan words schedule) (calm_of plan words (schedule ++ p ∷ []))
-    (around plan start words schedule p s t last) n rest m effect made reached r ne call is.process is.is_open stage is.at fresh other work in
+    (around plan start words schedule p s t last) n rest m effect made reached r ne call is.process is.is_open stage is.at
+        fresh other work in
     (kept.0, kept.1 left marked)
 
 pub others-keep-ends : ChildrenAreRead → OthersKeepEnds
 others-keep-ends read plan start words schedule p s t n m effect last rest made reached r ne call stage reply is end =
     let x = around plan start words schedule p s t last in (
-      stays-at read plan p s t (calm_of plan words schedule) (calm_of plan words (schedule ++ p ∷ [])) x n rest m effect made reached r ne call is.process
+      stays-at read plan p s t (calm_of plan words schedule) (calm_of plan words (schedule ++ p ∷ [])) x n rest m effect made reached r
+          ne call is.process
           is.is_open stage is.at,
-      end-stays read plan p s t (calm_of plan words schedule) (calm_of plan words (schedule ++ p ∷ [])) x n rest m effect made reached r ne call is.process
+      end-stays read plan p s t (calm_of plan words schedule) (calm_of plan words (schedule ++ p ∷ [])) x n rest m effect made reached r
+          ne call is.process
           is.is_open stage is.at reply end,
     )

@@ -55,14 +55,17 @@ use Rattle.art_schedules.specs.effects.Marks.{obsolete_by, IsMarkedBy, WorkerSte
 use Rattle.art_schedules.specs.effects.Outcomes.{Makes, Works, TakesEffect, EndStep, Leaves, Answers as AnswersNow}
 use Rattle.art_schedules.proofs.effects.AroundLemmas.{Around}
 use Rattle.art_schedules.proofs.effects.KeptLemmas.{inside-kept, unreached-kept, pending-kept, NewStays, GoneStays}
-use Rattle.art_schedules.proofs.effects.ReleaseLemmas.{kept-by-words, its-row, own, elsewhere, outside-same, kept-unchanged, takes-effect, is-obsolete}
+use Rattle.art_schedules.proofs.effects.ReleaseLemmas.{kept-by-words, its-row, own, elsewhere, outside-same, kept-unchanged, takes-effect}
+use Rattle.art_schedules.proofs.effects.ReleaseLemmas.{is-obsolete}
 use Rattle.art_schedules.proofs.effects.ReleaseLemmas.{obsolete-same}
 use Rattle.art_schedules.proofs.effects.ReleaseLemmas.{kept-obsolete}
 use Rattle.art_schedules.proofs.effects.ReplyLemmas.{does-so}
 use Rattle.art_schedules.specs.work.Ways.{IsInTree, IsSame}
 
-module _ (read : ChildrenAreRead) (trees : KeptTreesFollow) (effects : EffectsFollow) (says : WaysSayValues) (plan : Plan) (p : ℕ) (s t : State)
-    (calm after : List ℕ) (x : Around plan p s t calm after) (k : ℕ) (rest : IsAtRest plan.shape k calm) (m : Contents) (means : Means plan.shape calm m)
+module _ (read : ChildrenAreRead) (trees : KeptTreesFollow) (effects : EffectsFollow) (says : WaysSayValues) (plan : Plan)
+    (p : ℕ) (s t : State)
+    (calm after : List ℕ) (x : Around plan p s t calm after) (k : ℕ) (rest : IsAtRest plan.shape k calm) (m : Contents)
+        (means : Means plan.shape calm m)
     (call : Call) (q : Process) (o : IsOpen s p call q) (stage : Stage) (at : stage_of plan.variant plan.shape call q ≡ OnKey stage) where
   abbrev variant : Variant
   variant = plan.variant
@@ -79,7 +82,8 @@ module _ (read : ChildrenAreRead) (trees : KeptTreesFollow) (effects : EffectsFo
   abbrev Kept : Type 0
   Kept = Makes variant shape s p calm after m None
 
-  holds-row : (h : Hold) → holds c (OnKey stage) ≡ locks_of (rows_of_hold h) → (row : Held) → IsAmong (lock_of row) (locks_of (rows_of_hold h)) → HoldsRow row
+  holds-row : (h : Hold) → holds c (OnKey stage) ≡ locks_of (rows_of_hold h) → (row : Held)
+      → IsAmong (lock_of row) (locks_of (rows_of_hold h)) → HoldsRow row
   holds-row h is row among = subst (IsAmong (lock_of row)) (sym is ∙ ap (holds c) (sym at)) among
 
   inside : Kept → (row : Held) → IsInTree c.shape calm row → IsInTree c.shape after row
@@ -89,7 +93,8 @@ module _ (read : ChildrenAreRead) (trees : KeptTreesFollow) (effects : EffectsFo
   -- ---- one row is released, while the upper one is held
 
   module _ (lower upper : Held) (is : holds c (OnKey stage) ≡ locks_of (rows_of_hold (record { row = lower; above = Some upper })))
-      (live : is_obsolete lower.kept ≡ false) (value : ℕ) (mark : Option Point) (turn : turn_at c stage ≡ Asks (Store lower.base value) mark) where
+      (live : is_obsolete lower.kept ≡ false) (value : ℕ) (mark : Option Point)
+          (turn : turn_at c stage ≡ Asks (Store lower.base value) mark) where
     abbrev both : Hold
     both = record { row = lower; above = Some upper }
 
@@ -118,7 +123,8 @@ module _ (read : ChildrenAreRead) (trees : KeptTreesFollow) (effects : EffectsFo
 
       calm-other : (word : ℕ) → b ≤ word → word < b + row_words l → slice_index after word ≡ slice_index calm word
       calm-other word low high =
-          outside-same read trees effects plan p s t calm after x k rest m means call q o stage at lower lower-held live value mark turn word
+          outside-same read trees effects plan p s t calm after x k rest m means call q o stage at lower lower-held live
+              value mark turn word
           (omega (arith, row_begins shape b l row, low)) (outside word low high)
 
       calm-other-row : SameRow calm after b l
@@ -126,8 +132,10 @@ module _ (read : ChildrenAreRead) (trees : KeptTreesFollow) (effects : EffectsFo
 
       real-other-row : SameRow s.words t.words b l
       real-other-row j low high =
-          elsewhere read trees effects plan p s t calm after x k rest m means call q o stage at lower lower-held live value mark turn (b + j)
-          (λ e. ne (rows_apart shape lower.base b lower.kind l lower.base lower-row row (omega arith) (omega (arith, some-words lower.kind)) (omega (arith, e))
+          elsewhere read trees effects plan p s t calm after x k rest m means call q o stage at lower lower-held live
+              value mark turn (b + j)
+          (λ e. ne (rows_apart shape lower.base b lower.kind l lower.base lower-row row (omega arith)
+              (omega (arith, some-words lower.kind)) (omega (arith, e))
           (omega (arith, e, high))).0)
 
   -- where the call is behind the release
@@ -178,7 +186,8 @@ module _ (read : ChildrenAreRead) (trees : KeptTreesFollow) (effects : EffectsFo
           ap (λ z. holds c (OnKey z)) unlock ∙ ap (λ z. locks_of (rows_of_hold z)) whole in
           let ins : Each (IsInTree c.shape calm) (rows_of_hold both) = subst (λ z. Each (IsInTree c.shape calm) (rows_of_hold z)) whole
           rows in
-          let sames : Each (IsSame calm s.words) (rows_of_hold both) = subst (λ z. Each (IsSame calm s.words) (rows_of_hold z)) whole same in
+          let sames : Each (IsSame calm s.words) (rows_of_hold both) =
+              subst (λ z. Each (IsSame calm s.words) (rows_of_hold z)) whole same in
           let ne = distinct h.row a held ins.0.live (released_word h.row.kept) (Some point.Unlock) turn in
           let row = its-row read trees effects plan p s t calm after x k rest m means call q o stage at a
           (upper-held h.row a held ins.0.live (released_word h.row.kept) (Some point.Unlock) turn) ins.1.0.live in
@@ -225,7 +234,8 @@ module _ (read : ChildrenAreRead) (trees : KeptTreesFollow) (effects : EffectsFo
       go (PutsLeaf base kind y key value) pending = tt
       go (RemovesLeaf base kind y key) pending = tt
       go (HangsPair base kind y key value fresh d a) (leads, none, parts, slot, ready, pair) = one fresh Four ready
-      go (HangsGrown base kind y key value full full_kind z fresh larger) (above, none, hangs, leads, empty, slot, ready, copy) = one fresh larger ready
+      go (HangsGrown base kind y key value full full_kind z fresh larger) (above, none, hangs, leads, empty, slot, ready, copy) =
+          one fresh larger ready
 
   -- the row that comes is not obsolete, if none that is ready is
   fresh-live : (e : Effect) (old : Option ℕ) → IsPending c s.words calm e old
@@ -237,16 +247,19 @@ module _ (read : ChildrenAreRead) (trees : KeptTreesFollow) (effects : EffectsFo
   fresh-live (RemovesLeaf base kind y key) old pending live b l none = absurd none
   fresh-live (HangsPair base kind y key value fresh d a) old (leads, none, parts, slot, ready, pair) live b l is =
       ap (λ z. is_obsolete (slice_index t.words z)) is.0 ∙ live fresh Four ready
-  fresh-live (HangsGrown base kind y key value full full_kind z fresh larger) old (above, none, hangs, leads, empty, slot, ready, copy) live b l is =
+  fresh-live (HangsGrown base kind y key value full full_kind z fresh larger) old
+      (above, none, hangs, leads, empty, slot, ready, copy) live b l is =
       ap (λ w. is_obsolete (slice_index t.words w)) is.0 ∙ live fresh larger ready
 
   module _ (fresh : Option Named) (g : IsHanging c s.words calm fresh stage) (left : Option ℕ) where
     abbrev Step : Type 0
     Step = WorkerStep plan s p t calm after m call stage fresh left
 
-    on-row : (words later : List ℕ) → SameRow words later g.row.base g.row.kind → SameRow words later (base_of_effect g.effect) (kind_of_effect g.effect)
+    on-row : (words later : List ℕ) → SameRow words later g.row.base g.row.kind
+        → SameRow words later (base_of_effect g.effect) (kind_of_effect g.effect)
     on-row words later same =
-        subst (λ b. SameRow words later b (kind_of_effect g.effect)) (sym g.base) (subst (λ l. SameRow words later g.row.base l) (sym g.kind) same)
+        subst (λ b. SameRow words later b (kind_of_effect g.effect)) (sym g.base)
+            (subst (λ l. SameRow words later g.row.base l) (sym g.kind) same)
 
     -- the lower row is released
     lower-released : (lower : Held) → holds c (OnKey stage) ≡ locks_of (rows_of_hold (record { row = lower; above = Some g.row }))
@@ -263,7 +276,8 @@ module _ (read : ChildrenAreRead) (trees : KeptTreesFollow) (effects : EffectsFo
         (upper-held lower g.row is here.live value mark turn) g.inside.live in
         let calms = calm-other-row lower g.row is here.live value mark turn g.row.base g.row.kind row ne in
         let reals = real-other-row lower g.row is here.live value mark turn g.row.base g.row.kind row ne in
-        let fresh-words = λ (b : ℕ) (l : Kind) (its : kind_at shape b ≡ Some l) (none : IsUnreached shape calm b) (word : ℕ) (low : b ≤ word)
+        let fresh-words =
+            λ (b : ℕ) (l : Kind) (its : kind_at shape b ≡ Some l) (none : IsUnreached shape calm b) (word : ℕ) (low : b ≤ word)
         (high : word < b + row_words l). calm-other lower g.row is here.live value mark turn b l its
         (λ e. none lower.kind (subst (λ z. Reached shape calm z lower.kind) e here.reached)) word low high in
         let fresh-versions = λ (b : ℕ) (l : Kind) (none : IsUnreached shape calm b).
@@ -310,21 +324,26 @@ module _ (read : ChildrenAreRead) (trees : KeptTreesFollow) (effects : EffectsFo
                   (ap (λ z. stage_after c z 0) is))
                   (Answering (Value g.old) refl refl) made g.fresh_row so.0 so.1 (value_answers g.old)
                   (fresh-live g.effect g.old g.pending (λ b l ready.
-                  ap is_obsolete (elsewhere read trees effects plan p s t calm after x k rest m means call q o stage at g.row among g.inside.live
+                  ap is_obsolete (elsewhere read trees effects plan p s t calm after x k rest m means call q o stage at g.row
+                      among g.inside.live
                   (released_word g.row.kept) (Some point.Unlock) turn b
-                  (λ e. ready.unreached g.row.kind (subst (λ z. Reached shape calm z g.row.kind) (sym e) g.inside.reached))) ∙ ready.live_now)),
+                  (λ e. ready.unreached g.row.kind (subst (λ z. Reached shape calm z g.row.kind) (sym e) g.inside.reached)))
+                      ∙ ready.live_now)),
               (marks, unlocks (hold_alone g.row) (Some (Value g.old)) is),
             )
         go (Lower lower is here same none) marks =
-            let held : holds c (OnKey stage) ≡ locks_of (rows_of_hold (record { row = lower; above = Some g.row })) = ap (λ z. holds c (OnKey z)) is in
+            let held : holds c (OnKey stage) ≡ locks_of (rows_of_hold (record { row = lower; above = Some g.row })) =
+                ap (λ z. holds c (OnKey z)) is in
             let turn : turn_at c stage ≡ Asks (Store lower.base (released_word lower.kept)) (Some point.Unlock) = ap (turn_at c) is in
             let made = kept-unchanged read trees effects plan p s t calm after x k rest m means call q o stage at lower
-            (lower-held lower g.row held here.live (released_word lower.kept) (Some point.Unlock) turn) here.live (Some point.Unlock) turn same in
+            (lower-held lower g.row held here.live (released_word lower.kept) (Some point.Unlock) turn) here.live
+                (Some point.Unlock) turn same in
             lower-released lower held here (released_word lower.kept) (Some point.Unlock) turn made (ap (λ z. stage_after c z 0) is)
             (λ b l reached gone. absurd (none b gone)) (λ b gone. absurd (none b gone)) marks
             (λ b some. absurd (none-some b (sym (unlocks (record { row = lower; above = Some g.row }) (Some (Value g.old)) is) ∙ some)))
         go (Gone lower is value here leaves only) marks =
-            let held : holds c (OnKey stage) ≡ locks_of (rows_of_hold (record { row = lower; above = Some g.row })) = ap (λ z. holds c (OnKey z)) is in
+            let held : holds c (OnKey stage) ≡ locks_of (rows_of_hold (record { row = lower; above = Some g.row })) =
+                ap (λ z. holds c (OnKey z)) is in
             let turn : turn_at c stage ≡ Asks (Store lower.base (obsolete_word lower.kept)) (Some point.Unlock) = ap (turn_at c) is in
             let among = lower-held lower g.row held here.live (obsolete_word lower.kept) (Some point.Unlock) turn in
             let made = kept-obsolete read trees effects plan p s t calm after x k rest m means call q o stage at lower among here.live
@@ -339,12 +358,14 @@ module _ (read : ChildrenAreRead) (trees : KeptTreesFollow) (effects : EffectsFo
               λ none. none,
             ))
             (λ b gone. ap (λ z. is_obsolete (slice_index t.words z)) (only b gone)
-            ∙ is-obsolete read trees effects plan p s t calm after x k rest m means call q o stage at lower among here.live (Some point.Unlock) turn) marks
+            ∙ is-obsolete read trees effects plan p s t calm after x k rest m means call q o stage at lower among here.live
+                (Some point.Unlock) turn) marks
             (λ b some. subst (IsGone g.effect) (same_Some lower.base b (sym (ap obsolete_by is) ∙ some)) leaves)
 
 -- The row above one that goes is the row that changes, which the call holds.
 pub holds-above : (c : Setting) (real calm : List ℕ) (n : ℕ) (stage : Stage) (fresh : Option Named) → IsAtRest c.shape n calm
-    → (g : IsHanging c real calm fresh stage) → (b : ℕ) → IsGone g.effect b → (a y : ℕ) (above l : Kind) → Reached c.shape calm a above → y < 256
+    → (g : IsHanging c real calm fresh stage) → (b : ℕ) → IsGone g.effect b → (a y : ℕ) (above l : Kind)
+    → Reached c.shape calm a above → y < 256
     → child_on c.shape calm a above y ≡ Row b l → IsAmong (lock_of g.row) (holds c (OnKey stage)) × (g.row.base ≡ a)
 holds-above c real calm n stage fresh rest g b gone a y above l reached small hangs =
     (releasing-holds g.at, sym g.base ∙ same g.effect g.old g.pending gone)
@@ -352,7 +373,8 @@ holds-above c real calm n stage fresh rest g b gone a y above l reached small ha
     releasing-holds : IsReleasing c real calm g.row g.effect (Value g.old) stage → IsAmong (lock_of g.row) (holds c (OnKey stage))
     releasing-holds (Last is obsolete) = subst (λ z. IsAmong (lock_of g.row) (holds c (OnKey z))) (sym is) (inl refl)
     releasing-holds (Lower lower is inside same none) = subst (λ z. IsAmong (lock_of g.row) (holds c (OnKey z))) (sym is) (inr (inl refl))
-    releasing-holds (Gone lower is value inside leaves only) = subst (λ z. IsAmong (lock_of g.row) (holds c (OnKey z))) (sym is) (inr (inl refl))
+    releasing-holds (Gone lower is value inside leaves only) =
+        subst (λ z. IsAmong (lock_of g.row) (holds c (OnKey z))) (sym is) (inr (inl refl))
 
     same : (e : Effect) (old : Option ℕ) → IsPending c real calm e old → IsGone e b → base_of_effect e ≡ a
     same (Keeps base kind) old pending none = absurd none

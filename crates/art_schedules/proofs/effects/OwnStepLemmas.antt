@@ -29,9 +29,11 @@ module _ (plan : Plan) (words schedule : List ℕ) (p : ℕ) (s t : State) (m : 
   StepsOn fresh left = WorkerStep plan s p t (calm_of plan words schedule) (calm_of plan words (schedule ++ p ∷ [])) m call stage fresh left
 
 pub workers-go-on : ChildrenAreRead → KeptTreesFollow → EffectsFollow → WaysSayValues → WorkIsDone → WorkersGoOn
-workers-go-on read trees effects says done plan start words schedule p s t n m last rest means call stage fresh left is work marked = go work marked
+workers-go-on read trees effects says done plan start words schedule p s t n m last rest means call stage fresh left is work
+    marked = go work marked
   where
-    go : (work : AtWorkNow plan words schedule p s t m call stage fresh) → IsMarked left work → StepsOn plan words schedule p s t m call stage fresh left
+    go : (work : AtWorkNow plan words schedule p s t m call stage fresh) → IsMarked left work
+        → StepsOn plan words schedule p s t m call stage fresh left
     go (Claiming none g) marks =
         subst (StepsOn plan words schedule p s t m call stage fresh) (sym marks)
         (subst (λ z. StepsOn plan words schedule p s t m call stage z None) (sym none)

@@ -1,5 +1,6 @@
 -- What a step makes of calm's tree: nothing, or the effect of the row that it releases.
-use Rattle.std.proofs.Common.{◌≡◌, ◌≢◌, ◌⊎◌, inl, inr, ℕ, ◌+◌, ◌/◌, ◌%◌, ◌<◌, ◌≤◌, List, length, slice_index, true, false, refl, sym, ap, ◌∙◌, subst, arith}
+use Rattle.std.proofs.Common.{◌≡◌, ◌≢◌, ◌⊎◌, inl, inr, ℕ, ◌+◌, ◌/◌, ◌%◌, ◌<◌, ◌≤◌, List, length, slice_index, true, false, refl, sym, ap}
+use Rattle.std.proofs.Common.{◌∙◌, subst, arith}
 use Rattle.std.specs.Prelude.{Option, Some, None}
 use Rattle.std.proofs.lemmas.Bool.{cases_lt}
 use Rattle.events.specs.declared.event.Call.{Call}
@@ -44,14 +45,16 @@ use Rattle.art_schedules.specs.calm.Calm.{is_busy}
 use Rattle.art_schedules.proofs.calm.UseLemmas.{with-released}
 use Rattle.art_schedules.proofs.calm.VersionLemmas.{free-busy, free-parts, released-free, obsolete-busy}
 use Rattle.art_schedules.specs.changes.Rows.{OneRow, SameOutside, HasNewChild}
-use Rattle.art_schedules.specs.changes.Effects.{Effect, Keeps, Fills, PutsLeaf, RemovesLeaf, HangsPair, HangsGrown, base_of_effect, kind_of_effect, IsGone}
+use Rattle.art_schedules.specs.changes.Effects.{Effect, Keeps, Fills, PutsLeaf, RemovesLeaf, HangsPair, HangsGrown, base_of_effect}
+use Rattle.art_schedules.specs.changes.Effects.{kind_of_effect, IsGone}
 use Rattle.art_schedules.specs.changes.Effects.{HasEffect}
 use Rattle.art_schedules.specs.changes.Follows.{HasFewClaims}
 use Rattle.art_schedules.specs.changes.Laws.{EffectsFollow, KeptTreesFollow}
 use Rattle.art_schedules.specs.changes.Written.{IsUnreached, HasWordAt}
 use Rattle.art_schedules.proofs.changes.FollowLemmas.{low-words-keep}
 use Rattle.art_schedules.proofs.changes.RowLemmas.{rows-are-by-words, steady-row}
-use Rattle.art_schedules.proofs.changes.WorkedLemmas.{stored-leaves-are-put, stored-zeros-remove, written-pairs-are-hung, written-rows-are-hung}
+use Rattle.art_schedules.proofs.changes.WorkedLemmas.{stored-leaves-are-put, stored-zeros-remove, written-pairs-are-hung}
+use Rattle.art_schedules.proofs.changes.WorkedLemmas.{written-rows-are-hung}
 use Rattle.art_schedules.proofs.changes.WrittenLemmas.{children-are-of-rows}
 use Rattle.art_schedules.specs.effects.AtWork.{IsOld, IsPending, HasStoredLeaf}
 use Rattle.art_schedules.specs.effects.Outcomes.{Makes}
@@ -76,9 +79,11 @@ old-free c calm key base kind y None is = inl is
 old-free c calm key base kind y (Some value) is = inr (value, is)
 
 -- what is pending is the effect, once calm has the row's words
-pub pending-effect : ChildrenAreRead → (c : Setting) (n : ℕ) (real calm after : List ℕ) (e : Effect) (old : Option ℕ) → IsAtRest c.shape n calm
+pub pending-effect : ChildrenAreRead → (c : Setting) (n : ℕ) (real calm after : List ℕ) (e : Effect) (old : Option ℕ)
+    → IsAtRest c.shape n calm
     → OneRow c.shape calm after (base_of_effect e) (kind_of_effect e) → SameRow real after (base_of_effect e) (kind_of_effect e)
-    → ((b : ℕ) (k : Kind) → IsClaimed c.shape real b k → IsClaimed c.shape after b k) → IsPending c real calm e old → HasEffect c.shape calm after e
+    → ((b : ℕ) (k : Kind) → IsClaimed c.shape real b k → IsClaimed c.shape after b k) → IsPending c real calm e old
+    → HasEffect c.shape calm after e
 pending-effect read c n real calm after (Keeps base kind) old rest one same claims none = absurd none
 pending-effect read c n real calm after (Fills base kind) old rest one same claims none = absurd none
 pending-effect read c n real calm after (PutsLeaf base kind y key value) old rest one same claims (leads, was, row) = go row
@@ -99,17 +104,22 @@ pending-effect read c n real calm after (PutsLeaf base kind y key value) old res
 pending-effect read c n real calm after (RemovesLeaf base kind y key) old rest one same claims (leads, was, slot) =
     stored-zeros-remove read c.shape n calm after base kind y slot.0 key rest one leads (old-free c calm key base kind y old was)
     (slot-later calm real after base kind y slot.0 0 (way_byte c.shape calm key base kind y leads) same slot.1)
-pending-effect read c n real calm after (HangsPair base kind y key value fresh d a) old rest one same claims (leads, none, parts, slot, ready, pair) =
+pending-effect read c n real calm after (HangsPair base kind y key value fresh d a) old rest one same claims
+    (leads, none, parts, slot, ready, pair) =
     written-pairs-are-hung read c.shape n calm after calm base kind y slot.0 key value fresh d a rest one leads parts
-    (slot-later calm real after base kind y slot.0 (row_word fresh) (way_byte c.shape calm key base kind y leads) same slot.1) pair (λ j low high. refl)
+    (slot-later calm real after base kind y slot.0 (row_word fresh) (way_byte c.shape calm key base kind y leads) same slot.1) pair
+        (λ j low high. refl)
     ready.unreached (record { claimed = claims fresh Four ready.claimed; live = ready.live })
 pending-effect read c n real calm after (HangsGrown base kind y key value full full_kind z fresh larger) old rest one same claims
     (above, none, hangs, leads, empty, slot, ready, copy) =
-    written-rows-are-hung read c.shape n calm after calm calm base kind y slot.0 key value full full_kind z fresh larger rest one above hangs leads empty
-    (slot-later calm real after base kind y slot.0 (row_word fresh) (way_byte c.shape calm key base kind y above) same slot.1) copy (λ j low high. refl)
+    written-rows-are-hung read c.shape n calm after calm calm base kind y slot.0 key value full full_kind z fresh larger rest one
+        above hangs leads empty
+    (slot-later calm real after base kind y slot.0 (row_word fresh) (way_byte c.shape calm key base kind y above) same slot.1) copy
+        (λ j low high. refl)
     (λ j low high. refl) ready.unreached (record { claimed = claims fresh larger ready.claimed; live = ready.live })
 
-module _ (read : ChildrenAreRead) (trees : KeptTreesFollow) (effects : EffectsFollow) (plan : Plan) (p : ℕ) (s t : State) (calm after : List ℕ)
+module _ (read : ChildrenAreRead) (trees : KeptTreesFollow) (effects : EffectsFollow) (plan : Plan) (p : ℕ) (s t : State)
+    (calm after : List ℕ)
     (x : Around plan p s t calm after) (k : ℕ) (rest : IsAtRest plan.shape k calm) (m : Contents) (means : Means plan.shape calm m) where
   abbrev variant : Variant
   variant = plan.variant
@@ -152,15 +162,19 @@ module _ (read : ChildrenAreRead) (trees : KeptTreesFollow) (effects : EffectsFo
     by = tt;
   }
 
-  one-row : (base : ℕ) (kind : Kind) → kind_at shape base ≡ Some kind → SameOutside calm after base kind → is_obsolete (slice_index after base) ≡ false
+  one-row : (base : ℕ) (kind : Kind) → kind_at shape base ≡ Some kind → SameOutside calm after base kind
+      → is_obsolete (slice_index after base) ≡ false
       → OneRow shape calm after base kind
   one-row base kind row same live =
-      rows-are-by-words shape calm after base kind row as-long x.calm_behind.small claims-rise same (x.calm_behind.unlocked base kind row) live
+      rows-are-by-words shape calm after base kind row as-long x.calm_behind.small claims-rise same
+          (x.calm_behind.unlocked base kind row) live
 
   -- a row that calm's tree does not reach has changed behind its version
-  pub kept-filled : (base : ℕ) (kind : Kind) → IsClaimed shape s.words base kind → kind_at shape base ≡ Some kind → IsUnreached shape calm base
+  pub kept-filled : (base : ℕ) (kind : Kind) → IsClaimed shape s.words base kind → kind_at shape base ≡ Some kind
+      → IsUnreached shape calm base
       → is_obsolete (slice_index calm base) ≡ false → (word : ℕ) → IsBehindVersion base kind word
-      → ((other : ℕ) → 5 ≤ other → other ≢ word → slice_index after other ≡ slice_index calm other) → 5 ≤ base → Makes variant shape s p calm after m None
+      → ((other : ℕ) → 5 ≤ other → other ≢ word → slice_index after other ≡ slice_index calm other) → 5 ≤ base
+      → Makes variant shape s p calm after m None
   kept-filled base kind claimed row none live word behind others late =
       let same = others base late (λ e. omega (arith, e, behind.0)) in
       let one = one-row base kind row (λ w low out. others w low (λ e. elim out [
@@ -179,7 +193,8 @@ module _ (read : ChildrenAreRead) (trees : KeptTreesFollow) (effects : EffectsFo
 
   -- ---- a row that the process releases
 
-  module _ (call : Call) (q : Process) (o : IsOpen s p call q) (stage : Stage) (at : stage_of variant shape call q ≡ OnKey stage) (row : Held)
+  module _ (call : Call) (q : Process) (o : IsOpen s p call q) (stage : Stage)
+      (at : stage_of variant shape call q ≡ OnKey stage) (row : Held)
       (among : IsAmong (lock_of row) (held_by variant shape call q)) (live : is_obsolete row.kept ≡ false) where
     abbrev c : Setting
     c = setting shape variant call
@@ -213,7 +228,8 @@ module _ (read : ChildrenAreRead) (trees : KeptTreesFollow) (effects : EffectsFo
       behind-same j low high = elsewhere (row.base + j) (λ e. omega (arith, e, low))
 
       pub outside-same : SameOutside calm after row.base row.kind
-      outside-same word low out = with-released variant shape x.count s x.before p t calm after x.changes call q o row.base value mark asks (lock_of row) among
+      outside-same word low out = with-released variant shape x.count s x.before p t calm after x.changes call q o row.base value mark asks
+          (lock_of row) among
           refl word low out
 
     -- unchanged, or with a change
@@ -222,7 +238,8 @@ module _ (read : ChildrenAreRead) (trees : KeptTreesFollow) (effects : EffectsFo
       value = released_word row.kept
 
       free : is_busy (slice_index t.words row.base) ≡ false
-      free = ap is_busy (at-base value mark turn) ∙ free-busy value (released-free row.kept free-version) (obsolete_released row.kept ∙ live)
+      free = ap is_busy (at-base value mark turn)
+          ∙ free-busy value (released-free row.kept free-version) (obsolete_released row.kept ∙ live)
 
       after-row : steady.SameWords t.words after row.base row.kind
       after-row = x.calm_behind.free row.base row.kind its-row free
@@ -246,13 +263,15 @@ module _ (read : ChildrenAreRead) (trees : KeptTreesFollow) (effects : EffectsFo
         by = tt;
       }
 
-      pub takes-effect : (e : Effect) (old : Option ℕ) → base_of_effect e ≡ row.base → kind_of_effect e ≡ row.kind → IsPending c s.words calm e old
+      pub takes-effect : (e : Effect) (old : Option ℕ) → base_of_effect e ≡ row.base → kind_of_effect e ≡ row.kind
+          → IsPending c s.words calm e old
           → ((b : ℕ) → IsGone e b → is_obsolete (slice_index s.words b) ≡ true) → Makes variant shape s p calm after m (Some e)
       takes-effect e old base kind pending gone =
           let its : OneRow shape calm after (base_of_effect e) (kind_of_effect e) =
           subst (λ b. OneRow shape calm after b (kind_of_effect e)) (sym base) (subst (OneRow shape calm after row.base) (sym kind) one) in
           let same : SameRow s.words after (base_of_effect e) (kind_of_effect e) =
-          subst (λ b. SameRow s.words after b (kind_of_effect e)) (sym base) (subst (SameRow s.words after row.base) (sym kind) real-after) in
+          subst (λ b. SameRow s.words after b (kind_of_effect e)) (sym base)
+              (subst (SameRow s.words after row.base) (sym kind) real-after) in
           let has = pending-effect read c k s.words calm after e old rest its same claimed-then pending in
           record {
             goes = record {
@@ -275,7 +294,8 @@ module _ (read : ChildrenAreRead) (trees : KeptTreesFollow) (effects : EffectsFo
       obsolete-same word low = elim (cases_lt word row.base) [
         | inl less ↦ outside-same (obsolete_word row.kept) mark turn word low (inl less)
         | inr more ↦ elim (cases_lt word (row.base + row_words row.kind)) [
-          | inl within ↦ x.changes.busy row.base row.kind its-row (obsolete-busy (slice_index t.words row.base) is-obsolete) word more within
+          | inl within ↦ x.changes.busy row.base row.kind its-row
+              (obsolete-busy (slice_index t.words row.base) is-obsolete) word more within
           | inr past ↦ outside-same (obsolete_word row.kept) mark turn word low (inr past)
         ]
       ]

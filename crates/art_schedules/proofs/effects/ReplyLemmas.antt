@@ -34,7 +34,8 @@ parted-said calm key d a (Leaf k value) parts =
     inr (λ e. same-differ (key_bytes key) d (ap (λ z. first_difference (key_bytes z) (key_bytes key)) (sym e) ∙ parts.0), refl)
 parted-said calm key d a (Row b kind) parts = (d, parts.0, refl)
 
-module _ (says : WaysSayValues) (c : Setting) (n : ℕ) (real calm : List ℕ) (m : Contents) (rest : IsAtRest c.shape n calm) (means : Means c.shape calm m) where
+module _ (says : WaysSayValues) (c : Setting) (n : ℕ) (real calm : List ℕ) (m : Contents) (rest : IsAtRest c.shape n calm)
+    (means : Means c.shape calm m) where
   -- what the map has at the key of an effect
   value-before : (e : Effect) (old : Option ℕ) → IsPending c real calm e old → value_at m (key_of_effect e) ≡ old
   value-before (Keeps base kind) old none = absurd none
@@ -44,7 +45,8 @@ module _ (says : WaysSayValues) (c : Setting) (n : ℕ) (real calm : List ℕ) (
   value-before (RemovesLeaf base kind y key) old (leads, was, slot) =
       says c.shape n calm m key base kind y old rest means leads (old-said c calm key base kind y old was)
   value-before (HangsPair base kind y key value fresh d a) old (leads, none, parts, slot, ready, pair) =
-      says c.shape n calm m key base kind y None rest means leads (parted-said calm key d a (child_on c.shape calm base kind y) parts) ∙ sym none
+      says c.shape n calm m key base kind y None rest means leads
+          (parted-said calm key d a (child_on c.shape calm base kind y) parts) ∙ sym none
   value-before (HangsGrown base kind y key value full full_kind z fresh larger) old (above, none, hangs, leads, empty, slot, ready, copy) =
       says c.shape n calm m key full full_kind z None rest means leads (subst (IsSaidBy calm key None) (sym empty) refl) ∙ sym none
 

@@ -24,8 +24,10 @@ use Rattle.art_stages.specs.declared.stage.Stage.TheVariants.{GrowInfo, GrowLoad
 use Rattle.art_stages.specs.declared.stage.Stage.TheVariants.{GrowLeaf, GrowKeys, GrowCount, Hang, Obsolete, Unlock, Over}
 use Rattle.art_stages.specs.Calls.{OnKey}
 use Rattle.art_versions.specs.versions.Holding.{fills, row_grown}
-use Rattle.art_schedules.proofs.work.WorkLemmas.{AtWork, writes, pairs, put_loads, put_stores, put_leaf, put_keys, put_more, put_count, grow_info, grow_loads}
-use Rattle.art_schedules.proofs.work.WorkLemmas.{grow_stores, spread_index, spread_loads, spread_stores, grow_leaf, grow_keys, grow_count, hangs}
+use Rattle.art_schedules.proofs.work.WorkLemmas.{AtWork, writes, pairs, put_loads, put_stores, put_leaf, put_keys, put_more, put_count}
+use Rattle.art_schedules.proofs.work.WorkLemmas.{grow_info, grow_loads}
+use Rattle.art_schedules.proofs.work.WorkLemmas.{grow_stores, spread_index, spread_loads, spread_stores, grow_leaf, grow_keys, grow_count}
+use Rattle.art_schedules.proofs.work.WorkLemmas.{hangs}
 use Rattle.art_schedules.specs.effects.AtWork.{hold_at, growing_at, writes_at}
 
 -- a stage behind the claim and before the first release
@@ -48,8 +50,10 @@ place-work (Take t) hold e = absurd (none-some hold e)
 place-work (Write h slot word reply) hold e = subst (λ x. (b : Bool)
     × AtWork x b (Write h slot word reply)) (same_Some h hold e) (false, writes slot word reply)
 place-work (ClaimPair h p) hold e = absurd (none-some hold e)
-place-work (StorePair h p base word) hold e = subst (λ x. (b : Bool) × AtWork x b (StorePair h p base word)) (same_Some h hold e) (false, pairs p base word)
-place-work (PutLoad h keys left) hold e = subst (λ x. (b : Bool) × AtWork x b (PutLoad h keys left)) (same_Some h hold e) (false, put_loads keys left)
+place-work (StorePair h p base word) hold e = subst (λ x. (b : Bool) × AtWork x b (StorePair h p base word)) (same_Some h hold e)
+    (false, pairs p base word)
+place-work (PutLoad h keys left) hold e = subst (λ x. (b : Bool) × AtWork x b (PutLoad h keys left)) (same_Some h hold e)
+    (false, put_loads keys left)
 place-work (PutStore h keys left word) hold e = subst (λ x. (b : Bool)
     × AtWork x b (PutStore h keys left word)) (same_Some h hold e) (false, put_stores keys left word)
 place-work (PutLeaf h keys) hold e = subst (λ x. (b : Bool) × AtWork x b (PutLeaf h keys)) (same_Some h hold e) (false, put_leaf keys)
@@ -93,7 +97,8 @@ work-place (grow_count g e) = ap Some e
 work-place (hangs g e) = ap Some e
 
 -- where a row grows, the fresh row is being filled, or is to be hung
-pub grow-fills : (stage : Stage) (grown : Growing) → growing_at stage ≡ Some grown → (fills (OnKey stage) ≡ row_grown grown) ⊎ (stage ≡ Hang grown)
+pub grow-fills : (stage : Stage) (grown : Growing) → growing_at stage ≡ Some grown → (fills (OnKey stage) ≡ row_grown grown)
+    ⊎ (stage ≡ Hang grown)
 grow-fills (Lock t first) grown e = absurd (none-some grown e)
 grow-fills (Exchange t v) grown e = absurd (none-some grown e)
 grow-fills (Wait t) grown e = absurd (none-some grown e)

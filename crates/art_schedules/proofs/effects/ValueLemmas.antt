@@ -23,11 +23,13 @@ pub byte-in-small : (c : Setting) (h : Held) → byte_in c h < 256
 byte-in-small c h = key_byte-small (key_of c.call) (row_at h).level
 
 module _ (c : Setting) {calm : List ℕ} where
-  pub hangs-on : (h : Held) (slot : ℕ) (child : Child) → HasChild c calm h slot child → child_on c.shape calm h.base h.kind (byte_in c h) ≡ child
+  pub hangs-on : (h : Held) (slot : ℕ) (child : Child) → HasChild c calm h slot child
+      → child_on c.shape calm h.base h.kind (byte_in c h) ≡ child
   hangs-on h slot child at = ap (child_in c.shape calm) at.at ∙ at.has
 
   -- the row below is reached
-  pub reached-below : (h : Held) (slot base : ℕ) (kind : Kind) → HangsOnWay c calm h slot (ChildRow base kind) → Reached c.shape calm base kind
+  pub reached-below : (h : Held) (slot base : ℕ) (kind : Kind) → HangsOnWay c calm h slot (ChildRow base kind)
+      → Reached c.shape calm base kind
   reached-below h slot base kind (on, at) =
       below on.leads.reached (byte_in c h) (byte-in-small c h) (hangs-on h slot (ChildRow base kind) at)
 
@@ -55,12 +57,14 @@ module _ (c : Setting) {n : ℕ} {calm : List ℕ} {m : Contents} (rest : IsAtRe
   pub own-leaf : (h : Held) (slot k v : ℕ) → IsOnWay c calm h → HasChild c calm h slot (Leaf k v) → k ≡ key_of c.call
       → value_at m (key_of c.call) ≡ Some v
   own-leaf h slot k v on at is =
-      ((ways c.shape calm m (key_of c.call) h.base h.kind (byte_in c h) rest.tree means on.leads).1 k v (hangs-on c h slot (Leaf k v) at)).0 is
+      ((ways c.shape calm m (key_of c.call) h.base h.kind (byte_in c h) rest.tree means on.leads).1 k v
+          (hangs-on c h slot (Leaf k v) at)).0 is
 
   pub other-leaf : (h : Held) (slot k v : ℕ) → IsOnWay c calm h → HasChild c calm h slot (Leaf k v) → k ≢ key_of c.call
       → value_at m (key_of c.call) ≡ None
   other-leaf h slot k v on at is =
-      ((ways c.shape calm m (key_of c.call) h.base h.kind (byte_in c h) rest.tree means on.leads).1 k v (hangs-on c h slot (Leaf k v) at)).1 is
+      ((ways c.shape calm m (key_of c.call) h.base h.kind (byte_in c h) rest.tree means on.leads).1 k v
+          (hangs-on c h slot (Leaf k v) at)).1 is
 
   pub other-row : (h : Held) (slot base d : ℕ) (kind : Kind) → IsOnWay c calm h → HasChild c calm h slot (ChildRow base kind)
       → first_difference (path_in calm base kind) (key_bytes (key_of c.call)) ≡ Some d → value_at m (key_of c.call) ≡ None

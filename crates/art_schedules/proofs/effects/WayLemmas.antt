@@ -1,4 +1,5 @@
--- What a call knows of the rows on its way stays so where calm's tree goes on, for a row whose calm words stay and that does not leave the tree.
+-- What a call knows of the rows on its way stays so where calm's tree goes on, for a row whose calm words stay and that does not leave the
+-- tree.
 use Rattle.std.proofs.Common.{◌≡◌, ℕ, ◌+◌, ◌-◌, ◌<◌, ◌≤◌, List, slice_index, Bool, true, false, sym, ap, ◌∙◌, subst, arith}
 use Rattle.map_object.specs.MapObject.{Contents}
 use Rattle.art_rows.specs.declared.table.Kind.{Kind}

@@ -37,7 +37,8 @@ some-none : {x : ℕ} → ◌≡◌ {A = Option ℕ} (Some x) None → ⊥
 some-none e = cc
 
 module _ (c : Setting) (real calm : List ℕ) (long : length calm ≡ table_words c.shape) (h : Hold) where
-  going : (work : Work) → Knows (RowsOf c.shape) c (OnKey (work_at c h work)) → claims_row work ≡ false → writes_at (work_at c h work) ≡ true
+  going : (work : Work) → Knows (RowsOf c.shape) c (OnKey (work_at c h work)) → claims_row work ≡ false
+      → writes_at (work_at c h work) ≡ true
       → hold_at (work_at c h work) ≡ Some h → BeginsWork c calm h work
       → Each (IsInTree c.shape calm) (rows_of_hold h) → Each (IsSame calm real) (rows_of_hold h)
       → AtWork c real calm None (work_at c h work)

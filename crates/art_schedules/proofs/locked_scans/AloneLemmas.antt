@@ -22,10 +22,12 @@ failed-keeps word v to real e = ap (λ b. slice_set real word (if b then to else
 
 module _ (c : Setting) (at0 : CallAt) (w0 : List ℕ) where
   -- the same with more rows
-  pub alone-more : (rows more : List Held) → ((word : ℕ) → IsOfRows rows word → IsOfRows more word) → {x : CallAt} {now : List ℕ} → Alone c rows at0 w0 x now
+  pub alone-more : (rows more : List Held) → ((word : ℕ) → IsOfRows rows word → IsOfRows more word) → {x : CallAt} {now : List ℕ}
+      → Alone c rows at0 w0 x now
       → Alone c more at0 w0 x now
   alone-more rows more within here = here
-  alone-more rows more within (further alone a mark asks of) = further (alone-more rows more within alone) a mark asks (within (word_of a) of)
+  alone-more rows more within (further alone a mark asks of) =
+      further (alone-more rows more within alone) a mark asks (within (word_of a) of)
 
   -- other words stay
   pub alone-outside : (rows : List Held) (word : ℕ) → (IsOfRows rows word → ⊥) → {x : CallAt} {now : List ℕ} → Alone c rows at0 w0 x now
@@ -36,7 +38,8 @@ module _ (c : Setting) (at0 : CallAt) (w0 : List ℕ) where
       ∙ alone-outside rows word out alone
 
   -- By itself the call makes the access that it makes on words that are the same on the rows.
-  pub follows : (rows : List Held) (real : List ℕ) (a : Access) (mark : Option Point) {x : CallAt} {now : List ℕ} → Alone c rows at0 w0 x now
+  pub follows : (rows : List Held) (real : List ℕ) (a : Access) (mark : Option Point) {x : CallAt} {now : List ℕ}
+      → Alone c rows at0 w0 x now
       → length real ≡ length now → SameOn rows now real → call_turn c x ≡ Asks a mark → IsOfRows rows (word_of a)
       → Alone c rows at0 w0 (call_after c x (got_by a real)) (words_after a now) × SameOn rows (words_after a now) (words_after a real)
       × (length (words_after a real) ≡ length (words_after a now))

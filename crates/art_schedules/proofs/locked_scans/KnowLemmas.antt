@@ -20,7 +20,8 @@ use Rattle.art_steps.specs.Rows.{Setting}
 use Rattle.art_steps.proofs.TurnLemmas.{asks-answers, asks-same}
 use Rattle.art_stages.specs.declared.stage.Held.{Held}
 use Rattle.art_stages.specs.declared.stage.ScanStep.{ScanStep}
-use Rattle.art_stages.specs.declared.stage.ScanStep.TheVariants.{Lock, Exchange, Wait, Info, Keys, FirstKeys, SecondKeys, Index, Child as LoadChild, Release}
+use Rattle.art_stages.specs.declared.stage.ScanStep.TheVariants.{Lock, Exchange, Wait, Info, Keys, FirstKeys, SecondKeys, Index}
+use Rattle.art_stages.specs.declared.stage.ScanStep.TheVariants.{Child as LoadChild, Release}
 use Rattle.art_stages.specs.declared.stage.ScanStep.TheVariants.{Over}
 use Rattle.art_stages.specs.Stages.{setting, held}
 use Rattle.art_stages.specs.Scans.{Walk, ScanAt, at, scan_turn, scan_after, keys_turn}
@@ -64,7 +65,8 @@ same-scan e = cc
 -- the rows of a walk are held
 walk-among : (step : ScanStep) (w : Walk) → (IsOver step → ⊥) → (h : Held) → IsAmong h w.rows
     → IsAmong (lock_of h) (locks_of (scan_locked step w))
-walk-among (Info base kind kept) w open-yet h a = among-lock h (w.rows ++ held base kind 0 kept ∷ []) (among-front h w.rows (held base kind 0 kept ∷ []) a)
+walk-among (Info base kind kept) w open-yet h a =
+    among-lock h (w.rows ++ held base kind 0 kept ∷ []) (among-front h w.rows (held base kind 0 kept ∷ []) a)
 walk-among (Release n) w open-yet h a = absurd (open-yet tt)
 walk-among Over w open-yet h a = absurd (open-yet tt)
 walk-among (Lock entry first) w open-yet h a = among-lock h w.rows a
@@ -91,7 +93,8 @@ module _ (shape : Shape) (low high : ℕ) (calm after : List ℕ) (effect : Opti
   stays-at : (h : Held) → IsAmong (lock_of h) (rows_of_scan shape low high x) → StaysAt shape calm after effect h.base
   stays-at h a kind e =
       let is : h.kind ≡ kind = same_Some h.kind kind (sym (kinds (lock_of h) a) ∙ e) in
-      (subst (λ k. SameRow calm after h.base k) is (λ j from to. same (h.base + j) (lock_of h, a, omega arith, omega (arith, to))), left (lock_of h) a)
+      (subst (λ k. SameRow calm after h.base k) is (λ j from to. same (h.base + j) (lock_of h, a, omega arith, omega (arith, to))),
+          left (lock_of h) a)
 
   tree-stays : (claims n : ℕ) (pairs : Contents) → IsAtRest shape claims calm
       → Follows shape n calm after pairs (IsGoneBy effect) (ComesInBy effect)
@@ -158,7 +161,8 @@ one-stage shape t p low high x y a b =
     let process : a.process ≡ b.process = same_Some a.process b.process (sym a.is_open.own ∙ b.is_open.own) in
     same-scan (sym a.at ∙ (ap (λ q. stage_of Coupled shape (Scan low high) q) process ∙ b.at))
 
-module _ (trees : KeptTreesFollow) (plan : Plan) (start : Contents) (words schedule : List ℕ) (p : ℕ) (s t : State) (claims : ℕ) (m : Contents) (low high : ℕ)
+module _ (trees : KeptTreesFollow) (plan : Plan) (start : Contents) (words schedule : List ℕ) (p : ℕ) (s t : State) (claims : ℕ)
+    (m : Contents) (low high : ℕ)
     (h : IsCoupledStep plan start words schedule p s t claims m) (step : ScanStep) (w : Walk)
     (here : IsAtStage Coupled plan.shape s p (Scan low high) (OnScan low high (at step w)))
     (open-yet : IsOver step → ⊥) (walked : HasWalked plan.shape low high (calm_of plan words schedule) s.words (at step w))

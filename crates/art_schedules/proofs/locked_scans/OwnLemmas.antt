@@ -1,5 +1,6 @@
 -- A step of a scan, in a run.
-use Rattle.std.proofs.Common.{◌≡◌, ◌≢◌, inl, inr, ℕ, ◌+◌, ◌<◌, ◌≤◌, ◌==◌, List, [], ◌∷◌, ◌++◌, length, slice_index, refl, sym, ap, ◌∙◌, subst}
+use Rattle.std.proofs.Common.{◌≡◌, ◌≢◌, inl, inr, ℕ, ◌+◌, ◌<◌, ◌≤◌, ◌==◌, List, [], ◌∷◌, ◌++◌, length, slice_index, refl, sym, ap, ◌∙◌}
+use Rattle.std.proofs.Common.{subst}
 use Rattle.std.proofs.Common.{Bool, true, false, eqb-true, arith, if◌then◌else◌}
 use Rattle.std.specs.Prelude.{Option, Some, None}
 use Rattle.std.proofs.lemmas.Bool.{false≢true}
@@ -23,12 +24,14 @@ use Rattle.art_steps.specs.declared.access.Point.TheVariants as point
 use Rattle.art_steps.specs.Steps.{Asks}
 use Rattle.art_steps.specs.Fits.{word_of}
 use Rattle.art_steps.specs.Rows.{Setting}
-use Rattle.art_steps.proofs.TurnLemmas.{load-store, load-add, store-word, asks-answers, load-word, load-exchange, exchange-store, exchange-add, exchange-word}
+use Rattle.art_steps.proofs.TurnLemmas.{load-store, load-add, store-word, asks-answers, load-word, load-exchange, exchange-store}
+use Rattle.art_steps.proofs.TurnLemmas.{exchange-add, exchange-word}
 use Rattle.art_steps.proofs.TurnLemmas.{exchanges-same}
 use Rattle.art_stages.specs.declared.stage.Held.{Held}
 use Rattle.art_stages.specs.declared.stage.Entry.{Entry}
 use Rattle.art_stages.specs.declared.stage.ScanStep.{ScanStep}
-use Rattle.art_stages.specs.declared.stage.ScanStep.TheVariants.{Lock, Exchange, Wait, Info, Keys, FirstKeys, SecondKeys, Index, Child as LoadChild, Release}
+use Rattle.art_stages.specs.declared.stage.ScanStep.TheVariants.{Lock, Exchange, Wait, Info, Keys, FirstKeys, SecondKeys, Index}
+use Rattle.art_stages.specs.declared.stage.ScanStep.TheVariants.{Child as LoadChild, Release}
 use Rattle.art_stages.specs.declared.stage.ScanStep.TheVariants.{Over}
 use Rattle.art_stages.specs.Stages.{setting}
 use Rattle.art_stages.specs.Scans.{Walk, ScanAt, at, scan_turn, scan_after, step_after, entry_base, entry_at, keys_turn, release_rows}
@@ -84,7 +87,8 @@ module _ (shape : Shape) (low high : ℕ) where
   rows x = rows_of_scan shape low high x
 
   -- what a scan has walked, by the rows that it holds
-  build : (calm words now : List ℕ) (x : ScanAt) (all : List Held) → rows x ≡ all → unwaited x ≡ x → Alone c all begun calm (OnScan low high x) now
+  build : (calm words now : List ℕ) (x : ScanAt) (all : List Held) → rows x ≡ all → unwaited x ≡ x
+      → Alone c all begun calm (OnScan low high x) now
       → length words ≡ length now → SameOn all now words → Each (IsHeldLive calm words) all → Walked calm words x
   build calm words now x all e plain alone long same own = record {
     now = now;
@@ -102,7 +106,8 @@ module _ (shape : Shape) (low high : ℕ) where
   keys-load FortyEight n = (_, _, refl)
   keys-load Full n = (_, _, refl)
 
-  reads-load : (step : ScanStep) (w : Walk) → IsRead step → (word : ℕ) × (mark : Option Point) × (scan_turn c (at step w) ≡ Asks (Load word) mark)
+  reads-load : (step : ScanStep) (w : Walk) → IsRead step → (word : ℕ) × (mark : Option Point)
+      × (scan_turn c (at step w) ≡ Asks (Load word) mark)
   reads-load (Info base kind kept) w k = (_, _, refl)
   reads-load (Keys n) w k = keys-load n.kind n
   reads-load (FirstKeys n count) w k = (_, _, refl)
@@ -170,12 +175,14 @@ module _ (plan : Plan) (start : Contents) (words schedule : List ℕ) (p : ℕ) 
     among-here y a = subst (λ z. IsAmong y (holds its z)) (sym here.at) a
 
     row-of : (y : Held) → IsAmong y mine → kind_at shape y.base ≡ Some y.kind
-    row-of y a = settled-row Coupled shape s y.base y.kind (kept-row shape s t p words calm after f p call here.process here.is_open y (among-here y a))
+    row-of y a = settled-row Coupled shape s y.base y.kind (kept-row shape s t p words calm after f p call here.process here.is_open
+        y (among-here y a))
 
     locked-of : (y : Held) → IsAmong y mine → is_locked (slice_index s.words y.base) ≡ true
     locked-of y a =
         let kept = held-is-kept Settled its (OnScan low high x) knows y a in
-        ap is_locked (f.sound.locked p call here.process here.is_open y (among-here y a)) ∙ taken-locked y.kept (version-free true y.kept kept.0)
+        ap is_locked (f.sound.locked p call here.process here.is_open y (among-here y a))
+            ∙ taken-locked y.kept (version-free true y.kept kept.0)
 
     no-filling : (b : ℕ) (k : Kind) → filled_by Coupled shape call here.process ≡ (b, k) ∷ [] → ⊥
     no-filling b k e = no-items (sym (ap fills here.at) ∙ e)
@@ -195,13 +202,15 @@ module _ (plan : Plan) (start : Contents) (words schedule : List ℕ) (p : ℕ) 
 
       -- calm has the same words of the rows that it holds behind the step
       pub next-on : SameOn (rows_of_scan shape low high next) calm after
-      next-on = subst (λ z. SameOn (holds its z) calm after) behind-at.at (calm-on shape s t p words calm after f p call behind-at.process behind-at.is_open)
+      next-on = subst (λ z. SameOn (holds its z) calm after) behind-at.at
+          (calm-on shape s t p words calm after f p call behind-at.process behind-at.is_open)
 
       -- what it has walked on the calm of before it has walked on that of behind it
       carried : HasWalked shape low high calm t.words next → HasWalked shape low high after t.words next
       carried k = carry shape low high calm after t.words t.words next (f.then.long ∙ sym f.before.long) refl next-on (λ word of. refl) k
 
-      words-same : ((word value : ℕ) (l : Option Point) → Asks a mark ≡ Asks (Store word value) l → (y : Held) × IsAmong y mine × (word ≡ y.base))
+      words-same : ((word value : ℕ) (l : Option Point) → Asks a mark ≡ Asks (Store word value) l → (y : Held) × IsAmong y mine
+          × (word ≡ y.base))
           → (base : ℕ) (kind : Kind) → kind_at shape base ≡ Some kind → SameRow s.words t.words base kind
       words-same stores = own-same shape s t p words calm after f call here.process here.is_open no-filling
           (λ word value l e.
@@ -212,7 +221,8 @@ module _ (plan : Plan) (start : Contents) (words schedule : List ℕ) (p : ℕ) 
       keeps none = keeps-without shape s t p words calm after f call here.process here.is_open claims h.rests f.then.small
           (λ word value l e. none word value l (sym turn ∙ (sym (ap (call_turn its) here.at) ∙ e)))
 
-      goes : ((word value : ℕ) (l : Option Point) → Asks a mark ≡ Asks (Store word value) l → ⊥) → HasWalked shape low high calm t.words next
+      goes : ((word value : ℕ) (l : Option Point) → Asks a mark ≡ Asks (Store word value) l → ⊥)
+          → HasWalked shape low high calm t.words next
           → ScanGoes shape low high t p calm after
       goes none k = record { next = next; at = behind-at; keeps = keeps none; walked = carried k }
 
@@ -241,7 +251,8 @@ module _ (plan : Plan) (start : Contents) (words schedule : List ℕ) (p : ℕ) 
             go : AccessDoes Settled its (OnScan low high x) → rows_of_scan shape low high next ≡ mine
             go (Reads other l e has) =
                 let is : other ≡ word = load-word (sym e ∙ turns) in
-                let value : slice_index s.words other ≡ got = ap (slice_index s.words) is ∙ sym (ap (λ b. told b (slice_index s.words (word_of b))) load) in
+                let value : slice_index s.words other ≡ got = ap (slice_index s.words) is
+                    ∙ sym (ap (λ b. told b (slice_index s.words (word_of b))) load) in
                 subst (λ v. holds its (call_after its (OnScan low high x) v) ≡ holds its (OnScan low high x)) value
                 (has (slice_index s.words other) (f.sound.children other)).1
             go (Writes y other v l e among kept behind good has) = absurd (load-store (sym turns ∙ e))
@@ -255,12 +266,15 @@ module _ (plan : Plan) (start : Contents) (words schedule : List ℕ) (p : ℕ) 
         reads : HasWalked shape low high calm s.words x → ScanGoes shape low high t p calm after
         reads k =
             let of : IsOfRows mine (word_of a) =
-            subst (IsOfRows mine) (sym (ap word_of load)) (held-word.row, held-word.among, omega (arith, held-word.behind.0), held-word.behind.1) in
-            let alone = subst (λ y. Alone its mine (call_begun its) calm (OnScan low high y) k.now) (reads-unwaited shape low high step w read) k.alone in
+            subst (IsOfRows mine) (sym (ap word_of load))
+                (held-word.row, held-word.among, omega (arith, held-word.behind.0), held-word.behind.1) in
+            let alone = subst (λ y. Alone its mine (call_begun its) calm (OnScan low high y) k.now)
+                (reads-unwaited shape low high step w read) k.alone in
             let y = follows its (call_begun its) calm mine s.words a mark alone k.long k.same turn of in
             let same : t.words ≡ s.words = access.words ∙ (ap (λ b. words_after b s.words) load ∙ load-same word s.words) in
             goes (λ other v l e. load-store (ap (λ b. Asks b mark) (sym load) ∙ e))
-            (build shape low high calm t.words (words_after a k.now) next mine held-same (plain-unwaited next (reads-plain shape low high step w got read))
+            (build shape low high calm t.words (words_after a k.now) next mine held-same
+                (plain-unwaited next (reads-plain shape low high step w got read))
             y.0 (ap length access.words ∙ y.2) (subst (SameOn mine (words_after a k.now)) (sym access.words) y.1)
             (subst (λ ws. Each (IsHeldLive calm ws) mine) (sym same) k.own))
 
@@ -288,7 +302,8 @@ module _ (plan : Plan) (start : Contents) (words schedule : List ℕ) (p : ℕ) 
         let a = Load (entry_base its entry) in
         let made = access (Lock entry first) w here a mark turn in
         goes (Lock entry first) w here a mark turn (λ other v l e. load-store e)
-        (subst (λ ws. HasWalked shape low high calm ws (step_after its low high (Lock entry first) w (slice_index s.words (entry_base its entry))))
+        (subst (λ ws. HasWalked shape low high calm ws
+            (step_after its low high (Lock entry first) w (slice_index s.words (entry_base its entry))))
         (sym (made.words ∙ load-same (entry_base its entry) s.words)) (go (is_locked (slice_index s.words (entry_base its entry)))))
       where
         go : (b : Bool) → HasWalked shape low high calm s.words
@@ -315,8 +330,10 @@ module _ (plan : Plan) (start : Contents) (words schedule : List ℕ) (p : ℕ) 
 
       fails : (slice_index s.words base == v) ≡ false → HasWalked shape low high calm t.words
           (if slice_index s.words base == v then entry_at its low high entry w v else at (Lock entry false) w)
-      fails e = subst (λ b. HasWalked shape low high calm t.words (if b then entry_at its low high entry w v else at (Lock entry false) w)) (sym e)
-          (subst (λ ws. HasWalked shape low high calm ws (at (Lock entry false) w)) (sym (swapped.words ∙ failed-keeps base v (locked_word v) s.words e))
+      fails e = subst (λ b. HasWalked shape low high calm t.words (if b then entry_at its low high entry w v else at
+          (Lock entry false) w)) (sym e)
+          (subst (λ ws. HasWalked shape low high calm ws (at (Lock entry false) w))
+              (sym (swapped.words ∙ failed-keeps base v (locked_word v) s.words e))
           (again s.words v k))
 
       module _ (got : (slice_index s.words base == v) ≡ true) where
@@ -348,7 +365,8 @@ module _ (plan : Plan) (start : Contents) (words schedule : List ℕ) (p : ℕ) 
             is_open = here.is_open;
             mark = None;
             turn = ap (call_turn its) here.at
-                ∙ (ap (λ b. Asks (Swap b v (locked_word v)) None) (sym based) ∙ ap (λ u. Asks (Swap y.base u (locked_word u)) None) (sym version));
+                ∙ (ap (λ b. Asks (Swap b v (locked_word v)) None) (sym based)
+                ∙ ap (λ u. Asks (Swap y.base u (locked_word u)) None) (sym version));
           }) at-version
 
           free : is_busy (slice_index s.words y.base) ≡ false
@@ -362,7 +380,8 @@ module _ (plan : Plan) (start : Contents) (words schedule : List ℕ) (p : ℕ) 
 
           outside : (word : ℕ) → y.base ≤ word → word < y.base + row_words y.kind → IsOfRows old word → ⊥
           outside word from to (z, a, low-end, high-end) =
-              apart z a (rows_apart shape z.base y.base z.kind y.kind word (row-of (Exchange entry v) w here z a) row low-end high-end from to).0
+              apart z a (rows_apart shape z.base y.base z.kind y.kind word (row-of (Exchange entry v) w here z a) row low-end
+                  high-end from to).0
 
           -- alone on calm the row has the words of the run
           same-now : SameOn all k.now s.words
@@ -411,8 +430,10 @@ module _ (plan : Plan) (start : Contents) (words schedule : List ℕ) (p : ℕ) 
               let z = follows its (call_begun its) calm all s.words swap None loaded.0 loaded.2 loaded.1 refl of-all in
               build shape low high calm t.words (words_after swap (words_after (Load base) k.now)) last all holding
               (plain-unwaited last (entered shape low high entry w v))
-              (subst (λ u. Alone its all (call_begun its) calm (OnScan low high u) (words_after swap (words_after (Load base) k.now))) to-last z.0)
-              (ap length swapped.words ∙ z.2) (subst (SameOn all (words_after swap (words_after (Load base) k.now))) (sym swapped.words) z.1) own-then
+              (subst (λ u. Alone its all (call_begun its) calm (OnScan low high u)
+                  (words_after swap (words_after (Load base) k.now))) to-last z.0)
+              (ap length swapped.words ∙ z.2) (subst (SameOn all (words_after swap (words_after (Load base) k.now)))
+                  (sym swapped.words) z.1) own-then
 
         takes : HasWalked shape low high calm t.words (if slice_index s.words base == v then last else at (Lock entry false) w)
         takes = subst (HasWalked shape low high calm t.words) (sym to-last) (go (does (Exchange entry v) w here))
@@ -516,7 +537,8 @@ module _ (plan : Plan) (start : Contents) (words schedule : List ℕ) (p : ℕ) 
           (λ word value l g. (lock_of n, inl refl, store-word (sym g))) y.base y.kind e
 
       wrote : slice_index t.words n.base ≡ released_word n.kept
-      wrote = ap (λ ws. slice_index ws n.base) (access (Release n) w here (Store n.base (released_word n.kept)) (Some point.Unlock) refl).words
+      wrote = ap (λ ws. slice_index ws n.base)
+          (access (Release n) w here (Store n.base (released_word n.kept)) (Some point.Unlock) refl).words
           ∙ stored-at s.words n.base (released_word n.kept) (omega (arith, row-inside shape n.base n.kind row, f.sound.long))
 
       on-calm : (y : Held) → IsAmong y (locks_of w.rows) → SameRow calm after y.base y.kind

@@ -17,12 +17,14 @@ use Rattle.art_stages.specs.declared.stage.Frame.{Frame}
 use Rattle.art_stages.specs.declared.stage.Entry.{Entry}
 use Rattle.art_stages.specs.declared.stage.Entry.TheVariants.{Root, Below}
 use Rattle.art_stages.specs.declared.stage.ScanStep.{ScanStep}
-use Rattle.art_stages.specs.declared.stage.ScanStep.TheVariants.{Lock, Exchange, Wait, Info, Keys, FirstKeys, SecondKeys, Index, Child as LoadChild, Release}
+use Rattle.art_stages.specs.declared.stage.ScanStep.TheVariants.{Lock, Exchange, Wait, Info, Keys, FirstKeys, SecondKeys, Index}
+use Rattle.art_stages.specs.declared.stage.ScanStep.TheVariants.{Child as LoadChild, Release}
 use Rattle.art_stages.specs.declared.stage.ScanStep.TheVariants.{Over}
 use Rattle.art_stages.specs.Stages.{row_at, held, setting}
 use Rattle.art_stages.specs.Automaton.{keys_one}
 use Rattle.art_stages.specs.Scans.{Walk, ScanAt, at, on_way, frame_of, in_word, release_rows, slot_at, bytes_at, index_at_list, words_at}
-use Rattle.art_stages.specs.Scans.{child_from, frame_at, way_at, resume_at, with_frame, with_held, row_begins, visit_list, visit_at, entry_at, child_after}
+use Rattle.art_stages.specs.Scans.{child_from, frame_at, way_at, resume_at, with_frame, with_held, row_begins, visit_list, visit_at}
+use Rattle.art_stages.specs.Scans.{entry_at, child_after}
 use Rattle.art_stages.specs.Scans.{keys_after_word, step_after, keys16, walked}
 use Rattle.art_schedules.specs.locked_scans.Walking.{unwaited}
 
@@ -86,7 +88,8 @@ module _ (shape : Shape) (low high : ℕ) where
   words-plain r w j zero other rest = rest
   words-plain r w j (suc m) other rest = go (filter (in_word j) (bytes_of low high (row_at r))) (words-plain r w (j + 1) m other rest)
     where
-      go : (xs : List ℕ) → IsPlain (words_at low high r w (j + 1) m other) → IsPlain (index_at_list r w j m xs (words_at low high r w (j + 1) m other))
+      go : (xs : List ℕ) → IsPlain (words_at low high r w (j + 1) m other)
+          → IsPlain (index_at_list r w j m xs (words_at low high r w (j + 1) m other))
       go [] later = later
       go (x ∷ xs) later = tt
 

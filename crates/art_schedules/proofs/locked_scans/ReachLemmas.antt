@@ -16,7 +16,8 @@ use Rattle.art_stages.specs.declared.stage.Held.{Held}
 use Rattle.art_stages.specs.declared.stage.Entry.{Entry}
 use Rattle.art_stages.specs.declared.stage.Entry.TheVariants.{Root, Below}
 use Rattle.art_stages.specs.declared.stage.ScanStep.{ScanStep}
-use Rattle.art_stages.specs.declared.stage.ScanStep.TheVariants.{Lock, Exchange, Wait, Info, Keys, FirstKeys, SecondKeys, Index, Child as LoadChild, Release}
+use Rattle.art_stages.specs.declared.stage.ScanStep.TheVariants.{Lock, Exchange, Wait, Info, Keys, FirstKeys, SecondKeys, Index}
+use Rattle.art_stages.specs.declared.stage.ScanStep.TheVariants.{Child as LoadChild, Release}
 use Rattle.art_stages.specs.declared.stage.ScanStep.TheVariants.{Over}
 use Rattle.art_stages.specs.Stages.{setting}
 use Rattle.art_stages.specs.Scans.{Walk, at, scan_turn, entry_base}
@@ -34,7 +35,8 @@ module _ (shape : Shape) (calm : List ℕ) (low high : ℕ) where
   abbrev c : Setting
   c = setting shape Coupled (Scan low high)
 
-  entry-reached : (rows : List Held) (entry : Entry) → KnowsEntry shape calm rows entry → (kind : Kind) × Reached shape calm (entry_base c entry) kind
+  entry-reached : (rows : List Held) (entry : Entry) → KnowsEntry shape calm rows entry → (kind : Kind)
+      × Reached shape calm (entry_base c entry) kind
   entry-reached rows Root k = (Full, root)
   entry-reached rows (Below base kind) k = (kind, below k.reached k.byte k.is_byte k.hangs)
 
@@ -61,5 +63,6 @@ scans-take-reached plan start words schedule p s t claims m low high x step here
     let f = facts plan start words schedule p s t claims m step in
     taken-reached plan.shape (calm_of plan words schedule) low high x.step x.walk k h.base h.kept (locked_word h.kept) asks.mark
     (ap (call_turn (setting plan.shape Coupled (Scan low high))) (sym here.at)
-    ∙ its-turn plan.shape s t p words (calm_of plan words schedule) (calm_of plan words (schedule ++ p ∷ [])) f (Scan low high) here.process here.is_open
+    ∙ its-turn plan.shape s t p words (calm_of plan words schedule) (calm_of plan words (schedule ++ p ∷ [])) f (Scan low high)
+        here.process here.is_open
     (Swap h.base h.kept (locked_word h.kept)) asks)

@@ -29,7 +29,8 @@ use Rattle.art_schedules.specs.locked_scans.Laws.{OthersLeaveScans}
 use Rattle.art_schedules.specs.coupled.Knows.{IsHeldLive}
 
 -- words that are the same on rows are so on each of them
-on-row : (rows : List Held) (words later : List ℕ) → SameOn rows words later → (h : Held) → IsAmong h rows → SameRow words later h.base h.kind
+on-row : (rows : List Held) (words later : List ℕ) → SameOn rows words later → (h : Held) → IsAmong h rows
+    → SameRow words later h.base h.kind
 on-row rows words later same h a j low high = same (h.base + j) (h, a, omega arith, omega (arith, high))
 
 pub rows-own : (calm after words later : List ℕ) (hs : List Held)
@@ -63,14 +64,17 @@ module _ (shape : Shape) (s t : State) (p : ℕ) (first calm after : List ℕ) (
   -- calm has the same words of the rows that a call holds behind the step,
   pub calm-on : (r : ℕ) (call : Call) (q : Process) → IsOpen t r call q → SameOn (held_by Coupled shape call q) calm after
   calm-on r call q o word (h, a, from, to) =
-      let settled = (held-is-kept (IsSettled Coupled shape t) (setting shape Coupled call) (stage_of Coupled shape call q) (f.behind.knows r call q o) h a).1 in
+      let settled = (held-is-kept (IsSettled Coupled shape t) (setting shape Coupled call) (stage_of Coupled shape call q)
+          (f.behind.knows r call q o) h a).1 in
       f.goes.held h.base h.kind (settled-row Coupled shape t h.base h.kind settled)
       (record { holder = r; call = call; process = q; is_open = o; row = h; among = a; is = refl }) word from to
 
   -- and so have the words, where another process makes the step
-  pub others-on : (r : ℕ) (call : Call) (q : Process) → r ≢ p → IsOpen s r call q → IsOpen t r call q → SameOn (held_by Coupled shape call q) s.words t.words
+  pub others-on : (r : ℕ) (call : Call) (q : Process) → r ≢ p → IsOpen s r call q → IsOpen t r call q
+      → SameOn (held_by Coupled shape call q) s.words t.words
   others-on r call q apart o then word (h, a, from, to) = elim (cases_eq word h.base) [
-    | inl e ↦ ap (slice_index t.words) e ∙ (f.behind.locked r call q then h a ∙ (sym (f.sound.locked r call q o h a) ∙ ap (slice_index s.words) (sym e)))
+    | inl e ↦ ap (slice_index t.words) e ∙ (f.behind.locked r call q then h a ∙ (sym (f.sound.locked r call q o h a) ∙ ap
+        (slice_index s.words) (sym e)))
     | inr d ↦
         let is : h.base + (word - h.base) ≡ word = omega (arith, from) in
         sym (ap (slice_index t.words) is) ∙ (others-same shape s t p first calm after f r call q apart o h a (word - h.base)
@@ -85,7 +89,8 @@ others-leave-scans plan start words schedule p s t claims m r low high x h apart
     let f = facts plan start words schedule p s t claims m h in
     let then = others-open plan p r s t (Scan low high) at.process h.run.made apart at.is_open in
     let c = setting plan.shape Coupled (Scan low high) in
-    let on = subst (λ y. SameOn (holds c y) calm after) at.at (calm-on plan.shape s t p words calm after f r (Scan low high) at.process then) in
+    let on = subst (λ y. SameOn (holds c y) calm after) at.at
+        (calm-on plan.shape s t p words calm after f r (Scan low high) at.process then) in
     let real = subst (λ y. SameOn (holds c y) s.words t.words) at.at
     (others-on plan.shape s t p words calm after f r (Scan low high) at.process apart at.is_open then) in (
       record { process = at.process; is_open = then; at = at.at },

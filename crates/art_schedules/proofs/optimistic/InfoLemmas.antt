@@ -27,9 +27,12 @@ use Rattle.art_stages.specs.declared.stage.Pair.{Pair}
 use Rattle.art_stages.specs.declared.stage.PairWord.{PairWord}
 use Rattle.art_stages.specs.declared.stage.PairWord.TheVariants as pair_word
 use Rattle.art_stages.specs.declared.stage.Stage.{Stage}
-use Rattle.art_stages.specs.declared.stage.Stage.TheVariants.{Lock, Exchange, Wait, Leave, Between, Info, Find, FindKeys, FindMore, FindCount, Slot, Check}
-use Rattle.art_stages.specs.declared.stage.Stage.TheVariants.{CheckLast, LetGo, Take, Write, ClaimPair, StorePair, PutLoad, PutStore, PutLeaf, PutKeys, PutMore}
-use Rattle.art_stages.specs.declared.stage.Stage.TheVariants.{PutCount, ClaimGrow, GrowInfo, GrowLoad, GrowStore, SpreadIndex, SpreadLoad, SpreadStore}
+use Rattle.art_stages.specs.declared.stage.Stage.TheVariants.{Lock, Exchange, Wait, Leave, Between, Info, Find, FindKeys, FindMore}
+use Rattle.art_stages.specs.declared.stage.Stage.TheVariants.{FindCount, Slot, Check}
+use Rattle.art_stages.specs.declared.stage.Stage.TheVariants.{CheckLast, LetGo, Take, Write, ClaimPair, StorePair, PutLoad, PutStore}
+use Rattle.art_stages.specs.declared.stage.Stage.TheVariants.{PutLeaf, PutKeys, PutMore}
+use Rattle.art_stages.specs.declared.stage.Stage.TheVariants.{PutCount, ClaimGrow, GrowInfo, GrowLoad, GrowStore, SpreadIndex, SpreadLoad}
+use Rattle.art_stages.specs.declared.stage.Stage.TheVariants.{SpreadStore}
 use Rattle.art_stages.specs.declared.stage.Stage.TheVariants.{GrowLeaf, GrowKeys, GrowCount, Hang, Obsolete, Unlock, Over}
 use Rattle.art_stages.specs.Stages.{row_at, byte_in, keys_in, place_in, leaf_place, new_child_at, setting}
 use Rattle.art_stages.specs.Automaton.{turn_at, find_turn, pair_turn, put_keys_turn, grow_keys_turn, grow_leaf_turn, grow_count_turn}
@@ -37,7 +40,8 @@ use Rattle.art_stages.specs.Calls.{CallAt, OnKey, OnScan, call_turn}
 use Rattle.art_core.specs.declared.process.Process.{Process}
 use Rattle.art_core.specs.Core.{State}
 use Rattle.art_core.specs.Meaning.{Reached}
-use Rattle.art_versions.specs.versions.Holding.{OfRows, Named, Each, IsSlot, IsKept, IsCopied, HangsIn, KnowsKey, Knows, holds, fills, row_filled}
+use Rattle.art_versions.specs.versions.Holding.{OfRows, Named, Each, IsSlot, IsKept, IsCopied, HangsIn, KnowsKey, Knows, holds, fills}
+use Rattle.art_versions.specs.versions.Holding.{row_filled}
 use Rattle.art_versions.specs.versions.Locking.{all_of}
 use Rattle.art_versions.specs.versions.Effects.{IsAmong}
 use Rattle.art_versions.specs.versions.Versions.{IsOpen, IsSettled, IsSound, stage_of}
@@ -63,7 +67,8 @@ module _ (shape : Shape) (call : Call) (P : OfRows) (is-row : (b : ℕ) (k : Kin
   abbrev c : Setting
   c = setting shape Optimistic call
 
-  away : (base : ℕ) (kind : Kind) (word : ℕ) → kind_at shape base ≡ Some kind → base ≤ word → word < base + row_words kind → word ≢ info_at base
+  away : (base : ℕ) (kind : Kind) (word : ℕ) → kind_at shape base ≡ Some kind → base ≤ word → word < base + row_words kind
+      → word ≢ info_at base
       → IsAway shape word
   away base kind word row from within other = record { base = base; kind = kind; row = row; from = from; within = within; other = other }
 
@@ -79,7 +84,8 @@ module _ (shape : Shape) (call : Call) (P : OfRows) (is-row : (b : ℕ) (k : Kin
       apart Full h e = omega (arith, h.2, e)
 
   away-base : (h : Held) → IsKept false P h → IsAway shape h.base
-  away-base h kept = away h.base h.kind h.base (is-row h.base h.kind kept.1) (omega arith) (omega (arith, seven-words h.kind)) (λ e. omega (arith, e))
+  away-base h kept = away h.base h.kind h.base (is-row h.base h.kind kept.1) (omega arith) (omega (arith, seven-words h.kind))
+      (λ e. omega (arith, e))
 
   -- the word is no info, or it is that of the row that is filled
   abbrev Aims : List Named → ℕ → Type 0
@@ -97,30 +103,40 @@ module _ (shape : Shape) (call : Call) (P : OfRows) (is-row : (b : ℕ) (k : Kin
   pair : (p : Pair) (base : ℕ) (which : PairWord) (word value : ℕ) (mark : Option Point) → kind_at shape base ≡ Some Four
       → pair_turn c p base which ≡ Asks (Store word value) mark → Aims ((base, Four) ∷ []) word
   pair p base pair_word.Info word value mark row e = inr (base, Four, refl, sym (store-word e))
-  pair p base pair_word.Keys word value mark row e = inl (to (keys_at base) word (store-word e) (away base Four _ row (omega arith) (omega arith)
+  pair p base pair_word.Keys word value mark row e =
+      inl (to (keys_at base) word (store-word e) (away base Four _ row (omega arith) (omega arith)
       (λ f. omega (arith, f))))
-  pair p base pair_word.Lesser word value mark row e = inl (to (child_at Four base 0) word (store-word e) (away base Four _ row (omega arith)
+  pair p base pair_word.Lesser word value mark row e =
+      inl (to (child_at Four base 0) word (store-word e) (away base Four _ row (omega arith)
       (omega arith) (λ f. omega (arith, f))))
-  pair p base pair_word.Greater word value mark row e = inl (to (child_at Four base 1) word (store-word e) (away base Four _ row (omega arith)
+  pair p base pair_word.Greater word value mark row e =
+      inl (to (child_at Four base 1) word (store-word e) (away base Four _ row (omega arith)
       (omega arith) (λ f. omega (arith, f))))
 
   put-keys : (kind : Kind) (h : Hold) (keys : Keys) (word value : ℕ) (mark : Option Point) → kind_at shape h.row.base ≡ Some kind
       → put_keys_turn kind c h keys ≡ Asks (Store word value) mark → IsAway shape word
-  put-keys Four h keys word value mark row e = to (keys_at h.row.base) word (store-word e) (away h.row.base Four _ row (omega arith) (omega arith)
+  put-keys Four h keys word value mark row e =
+      to (keys_at h.row.base) word (store-word e) (away h.row.base Four _ row (omega arith) (omega arith)
       (λ f. omega (arith, f)))
-  put-keys Sixteen h keys word value mark row e = to (keys_at h.row.base) word (store-word e) (away h.row.base Sixteen _ row (omega arith) (omega arith)
+  put-keys Sixteen h keys word value mark row e =
+      to (keys_at h.row.base) word (store-word e) (away h.row.base Sixteen _ row (omega arith) (omega arith)
       (λ f. omega (arith, f)))
   put-keys FortyEight h keys word value mark row e =
       let small = key_byte-small (Rattle.art_steps.specs.Rows.key_of call) (row_at h.row).level in
-      to (index_at h.row.base (byte_in c h.row)) word (store-word e) (away h.row.base FortyEight _ row (omega arith) (omega (arith, small)) (λ f. omega
+      to (index_at h.row.base (byte_in c h.row)) word (store-word e)
+          (away h.row.base FortyEight _ row (omega arith) (omega (arith, small)) (λ f. omega
       (arith, f)))
-  put-keys Full h keys word value mark row e = to h.row.base word (store-word e) (away h.row.base Full _ row (omega arith) (omega arith) (λ f. omega
+  put-keys Full h keys word value mark row e =
+      to h.row.base word (store-word e) (away h.row.base Full _ row (omega arith) (omega arith) (λ f. omega
       (arith, f)))
 
-  grown : (kind : Kind) (g : Growing) (place left word value : ℕ) (mark : Option Point) → kind_at shape g.base ≡ Some (next_kind kind) → IsCopied kind
-      → place + left < capacity kind → Asks (Store (new_child_at kind c g place) value) None ≡ Asks (Store word value) mark → IsAway shape word
+  grown : (kind : Kind) (g : Growing) (place left word value : ℕ) (mark : Option Point)
+      → kind_at shape g.base ≡ Some (next_kind kind) → IsCopied kind
+      → place + left < capacity kind → Asks (Store (new_child_at kind c g place) value) None ≡ Asks (Store word value) mark
+      → IsAway shape word
   grown Four g place left word value mark row copied less e =
-      to (new_child_at Four c g place) word (store-word e) (away-slot g.base Sixteen _ row (_, moved (nat_lt place (place_in c g.hold g.keys)) less, refl))
+      to (new_child_at Four c g place) word (store-word e)
+          (away-slot g.base Sixteen _ row (_, moved (nat_lt place (place_in c g.hold g.keys)) less, refl))
     where
       moved : (b : Bool) → place + left < 4 → (if b then place else place + 1) < 16
       moved true h = omega (arith, h)
@@ -130,7 +146,8 @@ module _ (shape : Shape) (call : Call) (P : OfRows) (is-row : (b : ℕ) (k : Kin
   grown FortyEight g place left word value mark row copied less e = absurd copied
   grown Full g place left word value mark row copied less e = absurd copied
 
-  grown-leaf : (kind : Kind) (g : Growing) (word value : ℕ) (mark : Option Point) → g.hold.row.kind ≡ kind → kind_at shape g.base ≡ Some (next_kind kind)
+  grown-leaf : (kind : Kind) (g : Growing) (word value : ℕ) (mark : Option Point) → g.hold.row.kind ≡ kind
+      → kind_at shape g.base ≡ Some (next_kind kind)
       → grow_leaf_turn kind c g ≡ Asks (Store word value) mark → IsAway shape word
   grown-leaf Four g word value mark is row e =
       let few = keys4-few g.keys.first in
@@ -143,12 +160,15 @@ module _ (shape : Shape) (call : Call) (P : OfRows) (is-row : (b : ℕ) (k : Kin
       to (child_at FortyEight g.base 16) word (store-word e) (away-slot g.base FortyEight _ row (16, omega arith, refl))
   grown-leaf FortyEight g word value mark is row e =
       to (child_at Full g.base (byte_in c g.hold.row)) word (store-word e)
-      (away-slot g.base Full _ row (byte_in c g.hold.row, key_byte-small (Rattle.art_steps.specs.Rows.key_of call) (row_at g.hold.row).level, refl))
+      (away-slot g.base Full _ row (byte_in c g.hold.row, key_byte-small (Rattle.art_steps.specs.Rows.key_of call)
+          (row_at g.hold.row).level, refl))
   grown-leaf Full g word value mark is row e =
       to (child_at Full g.base (byte_in c g.hold.row)) word (store-word e)
-      (away-slot g.base Full _ row (byte_in c g.hold.row, key_byte-small (Rattle.art_steps.specs.Rows.key_of call) (row_at g.hold.row).level, refl))
+      (away-slot g.base Full _ row (byte_in c g.hold.row, key_byte-small (Rattle.art_steps.specs.Rows.key_of call)
+          (row_at g.hold.row).level, refl))
 
-  grown-keys : (kind : Kind) (g : Growing) (place left word value : ℕ) (mark : Option Point) → kind_at shape g.base ≡ Some (next_kind kind) → IsCopied kind
+  grown-keys : (kind : Kind) (g : Growing) (place left word value : ℕ) (mark : Option Point)
+      → kind_at shape g.base ≡ Some (next_kind kind) → IsCopied kind
       → place + left < 32 → grow_keys_turn kind c g place ≡ Asks (Store word value) mark → IsAway shape word
   grown-keys Four g place left word value mark row copied less e = go (place == 0) e
     where
@@ -158,13 +178,16 @@ module _ (shape : Shape) (call : Call) (P : OfRows) (is-row : (b : ℕ) (k : Kin
           (Rattle.art_stages.specs.Stages.keys_after c g.hold g.keys))) None)
           ≡ Asks (Store word value) mark → IsAway shape word
       go true e = to (keys_at g.base) word (store-word e) (away g.base Sixteen _ row (omega arith) (omega arith) (λ f. omega (arith, f)))
-      go false e = to (more_keys_at g.base) word (store-word e) (away g.base Sixteen _ row (omega arith) (omega arith) (λ f. omega (arith, f)))
+      go false e = to (more_keys_at g.base) word (store-word e) (away g.base Sixteen _ row (omega arith) (omega arith)
+          (λ f. omega (arith, f)))
   grown-keys Sixteen g place left word value mark row copied less e =
-      to (index_at g.base (8 * place)) word (store-word e) (away g.base FortyEight _ row (omega arith) (omega (arith, less)) (λ f. omega (arith, f)))
+      to (index_at g.base (8 * place)) word (store-word e)
+          (away g.base FortyEight _ row (omega arith) (omega (arith, less)) (λ f. omega (arith, f)))
   grown-keys FortyEight g place left word value mark row copied less e = absurd copied
   grown-keys Full g place left word value mark row copied less e = absurd copied
 
-  grown-count : (kind : Kind) (g : Growing) (word value : ℕ) (mark : Option Point) → kind_at shape g.base ≡ Some (next_kind kind) → IsCopied kind
+  grown-count : (kind : Kind) (g : Growing) (word value : ℕ) (mark : Option Point)
+      → kind_at shape g.base ≡ Some (next_kind kind) → IsCopied kind
       → grow_count_turn kind g ≡ Asks (Store word value) mark → IsAway shape word
   grown-count Four g word value mark row copied e =
       to (count_at Sixteen g.base) word (store-word e) (away g.base Sixteen _ row (omega arith) (omega arith) (λ f. omega (arith, f)))
@@ -214,7 +237,8 @@ module _ (shape : Shape) (call : Call) (P : OfRows) (is-row : (b : ℕ) (k : Kin
       (away-slot h.row.base h.row.kind _ (is-row h.row.base h.row.kind k.kept.0.1) (leaf_place h.row.kind c h keys, k.fits.1, refl)))
   aims (PutKeys h keys) k word value mark e = inl (put-keys h.row.kind h keys word value mark (is-row h.row.base h.row.kind k.kept.0.1) e)
   aims (PutMore h keys) k word value mark e = inl (to (more_keys_at h.row.base) word (store-word e)
-      (away h.row.base Sixteen _ (is-row h.row.base h.row.kind k.kept.0.1 ∙ ap Some k.fits) (omega arith) (omega arith) (λ f. omega (arith, f))))
+      (away h.row.base Sixteen _ (is-row h.row.base h.row.kind k.kept.0.1 ∙ ap Some k.fits) (omega arith) (omega arith)
+          (λ f. omega (arith, f))))
   aims (PutCount h keys) k word value mark e = inl (elim k.fits [
     | inl is ↦ counts h.row Sixteen is (is-row h.row.base h.row.kind k.kept.0.1) word value mark _ (omega arith) (omega arith) e
     | inr is ↦ counts h.row FortyEight is (is-row h.row.base h.row.kind k.kept.0.1) word value mark _ (omega arith) (omega arith) e
@@ -234,7 +258,8 @@ module _ (shape : Shape) (call : Call) (P : OfRows) (is-row : (b : ℕ) (k : Kin
       (away-slot s.growing.base Full _ (k.filled.0 ∙ ap (λ x. Some (next_kind x)) k.fits.1)
       (8 * s.place + entry, omega (arith, k.fits.2, k.fits.3), refl)))
   aims (GrowLeaf g) k word value mark e = inl (grown-leaf g.hold.row.kind g word value mark refl k.filled.0 e)
-  aims (GrowKeys g place left) k word value mark e = inl (grown-keys g.hold.row.kind g place left word value mark k.filled.0 k.fits.1 k.fits.2 e)
+  aims (GrowKeys g place left) k word value mark e =
+      inl (grown-keys g.hold.row.kind g place left word value mark k.filled.0 k.fits.1 k.fits.2 e)
   aims (GrowCount g) k word value mark e = inl (grown-count g.hold.row.kind g word value mark k.filled.0 k.fits.1 e)
   aims (Hang g) k word value mark e = inl (to g.slot word (store-word e) (hung g.hold.above g.slot k.fits k.kept.1))
   aims (Obsolete h) k word value mark e = inl (to h.row.base word (store-word e) (away-base h.row k.kept.0))
@@ -256,7 +281,8 @@ module _ (shape : Shape) (n : ℕ) (s : State) (sound : IsSound Optimistic shape
       (rows_apart shape b base k kind word other row from within (omega (arith, is)) (omega (arith, is, seven-words kind))).0
 
   -- the row is not the one that a process fills
-  unfilled : (base : ℕ) (kind : Kind) → IsSettled Optimistic shape s base kind → (p : ℕ) (call : Call) (q : Process) → IsOpen s p call q → (b : ℕ) (k : Kind)
+  unfilled : (base : ℕ) (kind : Kind) → IsSettled Optimistic shape s base kind → (p : ℕ) (call : Call) (q : Process) → IsOpen s p call q
+      → (b : ℕ) (k : Kind)
       → fills (stage_of Optimistic shape call q) ≡ (b, k) ∷ [] → b ≡ base → ⊥
   unfilled base kind settled p call q o b k e same = settled.unfilled p call q o b k e (sym same)
 
@@ -269,7 +295,8 @@ module _ (shape : Shape) (n : ℕ) (s : State) (sound : IsSound Optimistic shape
         (stage_of Optimistic shape asks.call asks.process)
         (sound.knows p asks.call asks.process asks.is_open) h among word value asks.mark asks.turn) [
           | inl a ↦ a.other (sym e
-              ∙ ap info_at (sym (info-row base kind a.base a.kind word (settled-row Optimistic shape s base kind settled) a.row a.from a.within e)))
+              ∙ ap info_at (sym (info-row base kind a.base a.kind word (settled-row Optimistic shape s base kind settled) a.row
+                  a.from a.within e)))
           | inr f ↦ unfilled base kind settled p asks.call asks.process asks.is_open f.0 f.1 f.2 (omega (arith, e, f.3))
         ])
     | inr d ↦ others (info_at base) d
@@ -292,7 +319,8 @@ module _ (shape : Shape) (n : ℕ) (s : State) (sound : IsSound Optimistic shape
 
   -- calm's info words are the present ones, of settled rows
   abbrev pub InfosAgree : State → List ℕ → Type 0
-  InfosAgree u calm = (base : ℕ) (kind : Kind) → IsSettled Optimistic shape u base kind → slice_index calm (info_at base) ≡ slice_index u.words (info_at base)
+  InfosAgree u calm = (base : ℕ) (kind : Kind) → IsSettled Optimistic shape u base kind
+      → slice_index calm (info_at base) ≡ slice_index u.words (info_at base)
 
   pub infos-agree : (first calm after : List ℕ) → IsCalm Optimistic shape first s calm → IsCalm Optimistic shape first t after
       → CalmStep Optimistic shape s p t calm after → InfosAgree s calm → InfosAgree t after
@@ -301,7 +329,8 @@ module _ (shape : Shape) (n : ℕ) (s : State) (sound : IsSound Optimistic shape
       row : kind_at shape base ≡ Some kind
       row = settled-row Optimistic shape t base kind settled
 
-      was : is_busy (slice_index t.words base) ≡ true → VersionChange Optimistic shape s t base kind → IsSettled Optimistic shape s base kind
+      was : is_busy (slice_index t.words base) ≡ true → VersionChange Optimistic shape s t base kind
+          → IsSettled Optimistic shape s base kind
       was busy (Stays e) = before.settled base kind row (ap is_busy (sym e) ∙ busy)
       was busy (IsTaken v free is later x) = x
       was busy (IsReleased v free is later x) = x
@@ -310,7 +339,8 @@ module _ (shape : Shape) (n : ℕ) (s : State) (sound : IsSound Optimistic shape
       go false e = behind.free base kind row e (info_at base) (omega arith) (omega (arith, seven-words kind))
       go true e =
           let x = was e (version-change Optimistic shape n s sound p t base kind row made.rows) in
-          made.busy base kind row e (info_at base) (omega arith) (omega (arith, seven-words kind)) ∙ (here base kind x ∙ sym (info-stays made.rows base kind x))
+          made.busy base kind row e (info_at base) (omega arith) (omega (arith, seven-words kind))
+              ∙ (here base kind x ∙ sym (info-stays made.rows base kind x))
 
 -- ---- runs
 
@@ -320,12 +350,14 @@ infos-stay plan start words schedule p s t h v =
     info-stays plan.shape made.count s made.before p t made.rows
 
 pub calm-agrees : CalmAgrees
-calm-agrees plan start words schedule s run v = record { free = calm.free; info = λ base kind reached. infos base kind (settled base kind reached) }
+calm-agrees plan start words schedule s run v =
+    record { free = calm.free; info = λ base kind reached. infos base kind (settled base kind reached) }
   where
     calm : IsCalm plan.variant plan.shape words s (calm_of plan words schedule)
     calm = calm-at plan start words schedule s run (inr v)
 
-    settled : (base : ℕ) (kind : Kind) → Reached plan.shape (calm_of plan words schedule) base kind → IsSettled Optimistic plan.shape s base kind
+    settled : (base : ℕ) (kind : Kind) → Reached plan.shape (calm_of plan words schedule) base kind
+        → IsSettled Optimistic plan.shape s base kind
     settled base kind reached = subst (λ x. IsSettled x plan.shape s base kind) v (calm.reached base kind reached)
 
     Holds : List ℕ → State → List ℕ → Type 0

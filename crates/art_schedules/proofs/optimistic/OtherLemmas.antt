@@ -1,5 +1,6 @@
 -- A step of another process.
-use Rattle.std.proofs.Common.{◌≡◌, ◌≢◌, inl, inr, ℕ, ◌+◌, ◌%◌, ◌≤◌, List, [], ◌∷◌, ◌++◌, slice_index, true, false, refl, sym, ap, ◌∙◌, subst, arith}
+use Rattle.std.proofs.Common.{◌≡◌, ◌≢◌, inl, inr, ℕ, ◌+◌, ◌%◌, ◌≤◌, List, [], ◌∷◌, ◌++◌, slice_index, true, false, refl, sym, ap, ◌∙◌}
+use Rattle.std.proofs.Common.{subst, arith}
 use Rattle.std.proofs.Common.{ne_eqb}
 use Rattle.std.specs.Prelude.{Option, Some}
 use Rattle.std.proofs.lemmas.Bool.{cases_eq, false≢true}
@@ -39,7 +40,8 @@ taken-live : (v : ℕ) → v % 4 ≡ 0 → is_obsolete (v + 2) ≡ false
 taken-live v e = ne_eqb ((v + 2) % 2) 1 (λ f. omega (arith, e, f))
 
 module _ (shape : Shape) (n k : ℕ) (s t : State) (before : IsSound Optimistic shape n s) (behind : IsSound Optimistic shape k t) (mover : ℕ)
-    (writes : WritesOwn Optimistic shape s mover t) (calm after : List ℕ) (made : CalmStep Optimistic shape s mover t calm after) (effect : Option Effect)
+    (writes : WritesOwn Optimistic shape s mover t) (calm after : List ℕ) (made : CalmStep Optimistic shape s mover t calm after)
+        (effect : Option Effect)
     (leaving : (base : ℕ) → IsGoneBy effect base → is_obsolete (slice_index t.words base) ≡ true)
     (p : ℕ) (call : Call) (q : Process) (other : p ≢ mover) (was : IsOpen s p call q) (is : IsOpen t p call q) where
   -- a row that the process holds
@@ -47,7 +49,8 @@ module _ (shape : Shape) (n k : ℕ) (s t : State) (before : IsSound Optimistic 
   still h among = record { row = steady-row calm after h.base h.kind (made.held h.base h.kind row held-then); same = same; stays = stays }
     where
       kept : IsKept false (IsSettled Optimistic shape s) h
-      kept = held-is-kept (IsSettled Optimistic shape s) (setting shape Optimistic call) (stage_of Optimistic shape call q) (before.knows p call q was) h among
+      kept = held-is-kept (IsSettled Optimistic shape s) (setting shape Optimistic call) (stage_of Optimistic shape call q)
+          (before.knows p call q was) h among
 
       row : Rattle.art_rows.specs.Table.kind_at shape h.base ≡ Some h.kind
       row = settled-row Optimistic shape s h.base h.kind kept.1

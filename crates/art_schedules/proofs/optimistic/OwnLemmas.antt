@@ -1,5 +1,6 @@
 -- A step of a call that knows its way.
-use Rattle.std.proofs.Common.{◌≡◌, ◌≢◌, ◌⊎◌, inl, inr, ℕ, ◌+◌, ◌-◌, ◌%◌, ◌<◌, ◌≤◌, ◌==◌, List, [], ◌∷◌, ◌++◌, length, slice_index, Option, Some, None}
+use Rattle.std.proofs.Common.{◌≡◌, ◌≢◌, ◌⊎◌, inl, inr, ℕ, ◌+◌, ◌-◌, ◌%◌, ◌<◌, ◌≤◌, ◌==◌, List, [], ◌∷◌, ◌++◌, length, slice_index, Option}
+use Rattle.std.proofs.Common.{Some, None}
 use Rattle.std.proofs.Common.{Bool, true, false, refl, sym, ap, ◌∙◌, subst, arith, eqb-true, option_map, if◌then◌else◌}
 use Rattle.std.specs.Prelude.{nat_le}
 use Rattle.std.proofs.lemmas.Bool.{eqb-false}
@@ -77,8 +78,10 @@ row-child e = cc
 leaf-child : {k v : ℕ} → Leaf k v ≢ Empty
 leaf-child e = cc
 
-module _ (shape : Shape) (call : Call) (tree : is_tree_call call ≡ true) (key-call : is_scan call ≡ false) (n : ℕ) (calm words : List ℕ) (m : Contents)
-    (rest : IsAtRest shape n calm) (means : Means shape calm m) (agrees : Agrees shape words calm) (ways : WaysLeadToValues) (leaves : LeavesAreSmall) where
+module _ (shape : Shape) (call : Call) (tree : is_tree_call call ≡ true) (key-call : is_scan call ≡ false) (n : ℕ)
+    (calm words : List ℕ) (m : Contents)
+    (rest : IsAtRest shape n calm) (means : Means shape calm m) (agrees : Agrees shape words calm) (ways : WaysLeadToValues)
+        (leaves : LeavesAreSmall) where
   abbrev c : Setting
   c = setting shape Optimistic call
 
@@ -95,7 +98,8 @@ module _ (shape : Shape) (call : Call) (tree : is_tree_call call ≡ true) (key-
   To stage = Goes c calm words m stage
 
   -- what is known, where it is known whether the call is an insert
-  knows : (i : Bool) → is_insert call ≡ i → (o : Option Reply) (stage : Stage) → KnowsAt o i c calm words stage → Each Past (rows_kept false i stage)
+  knows : (i : Bool) → is_insert call ≡ i → (o : Option Reply) (stage : Stage) → KnowsAt o i c calm words stage
+      → Each Past (rows_kept false i stage)
       → Each Own (held_at_stage false i stage) → KnowsWay c calm words o stage
   knows i e o stage k past rows = record {
     way = subst (λ j. KnowsAt o j c calm words stage) (sym e) k;
@@ -117,7 +121,8 @@ module _ (shape : Shape) (call : Call) (tree : is_tree_call call ≡ true) (key-
   stand-word h kept st word low high =
       sym (agrees.free h.base h.kind kept.1 (ap is_busy st ∙ unmarked-free h.kept kept.0) word low high)
 
-  behind-word : (h : Held) → Kept h → Stands words h → (word : ℕ) → IsBehindVersion h.base h.kind word → slice_index words word ≡ slice_index calm word
+  behind-word : (h : Held) → Kept h → Stands words h → (word : ℕ) → IsBehindVersion h.base h.kind word
+      → slice_index words word ≡ slice_index calm word
   behind-word h kept st word behind = stand-word h kept st word (omega (arith, behind.0)) behind.1
 
   own-of : (h : Held) → Kept h → Stands words h → Reached shape calm h.base h.kind → Own h
@@ -146,7 +151,8 @@ module _ (shape : Shape) (call : Call) (tree : is_tree_call call ≡ true) (key-
     ends : value_at m (key_of call) ≡ None → To (Over no_value)
     ends none = Finds reply.None (finds-none none) (knows false e (Some reply.None) _ refl tt tt)
 
-    overwrites : (h : Held) (slot k v : ℕ) (o : Option ℕ) → overwriting call v ≡ o → IsOnWay c calm h → Past h → HasChild c calm h slot (Leaf k v)
+    overwrites : (h : Held) (slot k v : ℕ) (o : Option ℕ) → overwriting call v ≡ o → IsOnWay c calm h → Past h
+        → HasChild c calm h slot (Leaf k v)
         → k ≡ key_of call → To (overwrite_unlocked c h slot v o)
     overwrites h slot k v None f on past at is =
         let has = own-leaf c rest means ways h slot k v on at is in
@@ -191,7 +197,8 @@ module _ (shape : Shape) (call : Call) (tree : is_tree_call call ≡ true) (key-
       }),
     ) (past.1.0, (past.0, tt)) tt)
 
-    inserts : (p : Position) (f : Finding) → IsOnWay c calm p.row → HangsBelow c calm words p.row p.slot p.above → Each Past (p.row ∷ all_of p.above)
+    inserts : (p : Position) (f : Finding) → IsOnWay c calm p.row → HangsBelow c calm words p.row p.slot p.above
+        → Each Past (p.row ∷ all_of p.above)
         → FitsPlace p → KnowsFinding true c calm p.row f → To (insert_unlocked c p f)
     inserts p (Lacks keys) on up past under at = go (count_in p.row.kind keys == capacity p.row.kind) refl
       where
@@ -222,21 +229,24 @@ module _ (shape : Shape) (call : Call) (tree : is_tree_call call ≡ true) (key-
             let d = keys_differ_at k (key_of call) in
             takes p.row (pair_work c slot k v) past.0 (record {
               call = tree;
-              words = (insert-of call tree e, at.has, leaf-child, key_byte-small k d, first-differs (key_bytes k) (key_bytes (key_of call)) d (parts apart));
+              words = (insert-of call tree e, at.has, leaf-child, key_byte-small k d, first-differs (key_bytes k)
+                  (key_bytes (key_of call)) d (parts apart));
               byte = byte_in c p.row;
               leads = on.leads;
               finds = (at.at, (parts apart, refl));
             })
 
         go : (b : Bool) → (k == key_of call) ≡ b → To (if b then take_alone c p.row (leaf_work c slot (Some v))
-            else if nat_le (keys_differ_at k (key_of call)) (row_at p.row).level then Wait Root else take_alone c p.row (pair_work c slot k v))
+            else if nat_le (keys_differ_at k (key_of call)) (row_at p.row).level then Wait Root else take_alone c p.row
+                (pair_work c slot k v))
         go true same = takes p.row (leaf_work c slot (Some v)) past.0
             (overwritten c tree p.row slot (Leaf k v) (child_word (new_leaf call)) (Some v) on at
             (eqb-true k (key_of call) same, refl, inl (e, refl)))
         go false other = pairs (nat_le (keys_differ_at k (key_of call)) (row_at p.row).level) other
     inserts p (Has slot (ChildRow base kind)) on up past under at = GoesOn (knows true e None _ (λ st. (on, at)) (past.0, tt) tt)
 
-  found : (i : Bool) → is_insert call ≡ i → (p : Position) (f : Finding) → IsOnWay c calm p.row → HangsBelow c calm words p.row p.slot p.above
+  found : (i : Bool) → is_insert call ≡ i → (p : Position) (f : Finding) → IsOnWay c calm p.row
+      → HangsBelow c calm words p.row p.slot p.above
       → Each Past (p.row ∷ all_of p.above) → FitsPlace p → KnowsFinding i c calm p.row f → To (found_at false i false c p f)
   found false e p f on up past under at = seeks e p.row f on past.0 at
   found true e p f on up past under at = inserts e p f on up past under at
@@ -257,16 +267,19 @@ module _ (shape : Shape) (call : Call) (tree : is_tree_call call ≡ true) (key-
   form-of p k st = rest.tree.form p.row.base p.row.kind (k.knows_place.0 st).leads.reached
 
   -- it has been found, if the row stands
-  sees : (i : Bool) → is_insert call ≡ i → (p : Position) (f : Finding) → AtRow p → (Stands words p.row → KnowsFinding i c calm p.row f) → To (Check p f)
+  sees : (i : Bool) → is_insert call ≡ i → (p : Position) (f : Finding) → AtRow p
+      → (Stands words p.row → KnowsFinding i c calm p.row f) → To (Check p f)
   sees i e p f k at = GoesOn (knows i e None _ (k.knows_place, at) k.are_past tt)
 
   -- the slot of a byte is that of its place among the keys
   among : (i : Bool) → is_insert call ≡ i → (p : Position) (keys : Keys) → AtRow p
-      → (Stands words p.row → slot_in c calm p.row ≡ option_map (child_at p.row.kind p.row.base) (place_of (byte_in c p.row) (keys_among p.row.kind keys)))
+      → (Stands words p.row → slot_in c calm p.row ≡ option_map (child_at p.row.kind p.row.base) (place_of (byte_in c p.row)
+          (keys_among p.row.kind keys)))
       → (Stands words p.row → slot_in c calm p.row ≡ None → LacksByte c p.row keys calm) → To (words_at false i false c p keys)
   among i e p keys k is lack = go (place_of (byte_in c p.row) (keys_among p.row.kind keys)) is
     where
-      go : (o : Option ℕ) → (Stands words p.row → slot_in c calm p.row ≡ option_map (child_at p.row.kind p.row.base) o) → To (among_at false i false c p keys o)
+      go : (o : Option ℕ) → (Stands words p.row → slot_in c calm p.row ≡ option_map (child_at p.row.kind p.row.base) o)
+          → To (among_at false i false c p keys o)
       go None none = sees i e p (Lacks keys) k (λ st. lacks i p.row keys (lack st (none st)))
       go (Some place) some = GoesOn (knows i e None _ (k.knows_place, some) k.are_past tt)
 
@@ -274,10 +287,12 @@ module _ (shape : Shape) (call : Call) (tree : is_tree_call call ≡ true) (key-
   place base kind info was above slot = record { row = held base kind info was; above = above; slot = slot }
 
   -- what was read of a row that stands is calm's
-  calm-word : (h : Held) → Kept h → (word w : ℕ) → IsBehindVersion h.base h.kind word → w ≡ slice_index words word → Stands words h → w ≡ slice_index calm word
+  calm-word : (h : Held) → Kept h → (word w : ℕ) → IsBehindVersion h.base h.kind word → w ≡ slice_index words word → Stands words h
+      → w ≡ slice_index calm word
   calm-word h kept word w behind got st = got ∙ behind-word h kept st word behind
 
-  four : (i : Bool) → is_insert call ≡ i → (base info was : ℕ) (above : Option Held) (slot w : ℕ) → AtRow (place base Four info was above slot)
+  four : (i : Bool) → is_insert call ≡ i → (base info was : ℕ) (above : Option Held) (slot w : ℕ)
+      → AtRow (place base Four info was above slot)
       → (Stands words (held base Four info was) → w ≡ slice_index calm (keys_at base))
       → To (words_at false i false c (place base Four info was above slot) (keys_one w))
   four i e base info was above slot w k is =
@@ -285,11 +300,13 @@ module _ (shape : Shape) (call : Call) (tree : is_tree_call call ≡ true) (key-
       let x = byte_in c (held base Four info was) in
       among i e p (keys_one w) k
       (λ st. ap (λ v. option_map (child_at Four base) (place_of x (keys4_of v))) (sym (is st)))
-      (λ st none. record { form = form-of p k st; absent = none; keys = ap keys4_of (is st); count = ap (λ v. length (keys4_of v)) (is st) })
+      (λ st none. record { form = form-of p k st; absent = none; keys = ap keys4_of (is st); count = ap
+          (λ v. length (keys4_of v)) (is st) })
 
   sixteen : (i : Bool) → is_insert call ≡ i → (base info was : ℕ) (above : Option Held) (slot count first second : ℕ)
       → AtRow (place base Sixteen info was above slot)
-      → (Stands words (held base Sixteen info was) → (count ≡ slice_index calm (count_at Sixteen base)) × (first ≡ slice_index calm (keys_at base)))
+      → (Stands words (held base Sixteen info was) → (count ≡ slice_index calm (count_at Sixteen base))
+      × (first ≡ slice_index calm (keys_at base)))
       → (Stands words (held base Sixteen info was) → second ≡ slice_index calm (more_keys_at base))
       → To (words_at false i false c (place base Sixteen info was above slot) (record { first = first; second = second; count = count }))
   sixteen i e base info was above slot count first second k seen last =
@@ -305,14 +322,17 @@ module _ (shape : Shape) (call : Call) (tree : is_tree_call call ≡ true) (key-
 
       same : Stands words (held base Sixteen info was) → keys16_of count first second
           ≡ keys16_of (slice_index calm (count_at Sixteen base)) (slice_index calm (keys_at base)) (slice_index calm (more_keys_at base))
-      same st = ap (λ v. keys16_of v first second) (seen st).0 ∙ (ap (λ v. keys16_of (slice_index calm (count_at Sixteen base)) v second) (seen st).1
+      same st = ap (λ v. keys16_of v first second) (seen st).0
+          ∙ (ap (λ v. keys16_of (slice_index calm (count_at Sixteen base)) v second) (seen st).1
           ∙ ap (λ v. keys16_of (slice_index calm (count_at Sixteen base)) (slice_index calm (keys_at base)) v) (last st))
 
-  indexed : (i : Bool) → is_insert call ≡ i → (base info was : ℕ) (above : Option Held) (slot w : ℕ) → AtRow (place base FortyEight info was above slot)
+  indexed : (i : Bool) → is_insert call ≡ i → (base info was : ℕ) (above : Option Held) (slot w : ℕ)
+      → AtRow (place base FortyEight info was above slot)
       → (Stands words (held base FortyEight info was) → w ≡ slice_index calm (index_at base (byte_in c (held base FortyEight info was))))
       → To (find_at false i false FortyEight c (place base FortyEight info was above slot) w)
   indexed i e base info was above slot w k is =
-      subst (λ j. To (if entry == 0 then (if j then FindCount p w else Check p (Lacks (keys_one w))) else Slot p (child_at FortyEight base (entry - 1))))
+      subst (λ j. To (if entry == 0 then (if j then FindCount p w else Check p (Lacks (keys_one w))) else Slot p
+          (child_at FortyEight base (entry - 1))))
       (sym e) (go (entry == 0) refl)
     where
       p : Position
@@ -327,7 +347,8 @@ module _ (shape : Shape) (call : Call) (tree : is_tree_call call ≡ true) (key-
       slot-is : (b : Bool) → (entry == 0) ≡ b → Stands words (held base FortyEight info was)
           → slot_in c calm (held base FortyEight info was) ≡ (if b then None else Some (child_at FortyEight base (entry - 1)))
       slot-is b f st =
-          ap (λ v. if slice_index (entries_of v) (x % 8) == 0 then None else Some (child_at FortyEight base (slice_index (entries_of v) (x % 8) - 1)))
+          ap (λ v. if slice_index (entries_of v) (x % 8) == 0 then None else Some
+              (child_at FortyEight base (slice_index (entries_of v) (x % 8) - 1)))
           (sym (is st)) ∙ ap (λ b. if b then None else Some (child_at FortyEight base (entry - 1))) f
 
       none-at : (i : Bool) → is_insert call ≡ i → (entry == 0) ≡ true → To (if i then FindCount p w else Check p (Lacks (keys_one w)))
@@ -366,7 +387,8 @@ module _ (shape : Shape) (call : Call) (tree : is_tree_call call ≡ true) (key-
       })
 
   -- the count of a row of kind 48, which an insert asks for
-  counted : (i : Bool) → is_insert call ≡ i → (base : ℕ) (kind : Kind) (info was : ℕ) (above : Option Held) (slot index w : ℕ) → kind ≡ FortyEight
+  counted : (i : Bool) → is_insert call ≡ i → (base : ℕ) (kind : Kind) (info was : ℕ) (above : Option Held) (slot index w : ℕ)
+      → kind ≡ FortyEight
       → AtRow (place base kind info was above slot)
       → (Stands words (held base kind info was) → (index ≡ slice_index calm (index_at base (byte_in c (held base kind info was))))
       × (slot_in c calm (held base kind info was) ≡ None))
@@ -385,7 +407,8 @@ module _ (shape : Shape) (call : Call) (tree : is_tree_call call ≡ true) (key-
       differ : Full ≡ FortyEight → ⊥
       differ e = cc
   counted i e base FortyEight info was above slot index w kinds k seen got =
-      sees i e (place base FortyEight info was above slot) (Lacks (record { first = index; second = 0; count = w })) k (λ st. knows-keys i e st)
+      sees i e (place base FortyEight info was above slot) (Lacks (record { first = index; second = 0; count = w })) k
+          (λ st. knows-keys i e st)
     where
       knows-keys : (i : Bool) → is_insert call ≡ i → Stands words (held base FortyEight info was)
           → KnowsKeys i c calm (held base FortyEight info was) (record { first = index; second = 0; count = w })
@@ -394,14 +417,17 @@ module _ (shape : Shape) (call : Call) (tree : is_tree_call call ≡ true) (key-
         form = form-of (place base FortyEight info was above slot) k st;
         absent = (seen st).1;
         keys = ap entries_of (seen st).0;
-        count = ap (count_of 48) (calm-word (held base FortyEight info was) k.row_kept (count_at FortyEight base) w (omega arith, omega arith)
+        count = ap (count_of 48) (calm-word (held base FortyEight info was) k.row_kept (count_at FortyEight base) w
+            (omega arith, omega arith)
             (got _ _ refl) st)
             ∙ ap (λ j. if j then count_of 48 (slice_index calm (count_at FortyEight base)) else 0) (sym e);
       }
 
-  more : (i : Bool) → is_insert call ≡ i → (base : ℕ) (kind : Kind) (info was : ℕ) (above : Option Held) (slot count first w : ℕ) → kind ≡ Sixteen
+  more : (i : Bool) → is_insert call ≡ i → (base : ℕ) (kind : Kind) (info was : ℕ) (above : Option Held)
+      (slot count first w : ℕ) → kind ≡ Sixteen
       → AtRow (place base kind info was above slot)
-      → (Stands words (held base kind info was) → (count ≡ slice_index calm (count_at Sixteen base)) × (first ≡ slice_index calm (keys_at base)))
+      → (Stands words (held base kind info was) → (count ≡ slice_index calm (count_at Sixteen base))
+      × (first ≡ slice_index calm (keys_at base)))
       → (Stands words (held base kind info was) → w ≡ slice_index calm (more_keys_at base))
       → To (words_at false i false c (place base kind info was above slot) (record { first = first; second = w; count = count }))
   more i e base Four info was above slot count first w kinds k seen last = absurd (differ kinds)
@@ -450,10 +476,12 @@ module _ (shape : Shape) (call : Call) (tree : is_tree_call call ≡ true) (key-
   row-below d kept = held d.base d.kind (slice_index words (info_at d.base)) kept
 
   -- the row below has a path that differs nowhere from the key
-  leads-on : (d : Down) (kept : ℕ) → Reached shape calm d.base d.kind → first_difference (path_in words d.base d.kind) (key_bytes (key_of call)) ≡ None
+  leads-on : (d : Down) (kept : ℕ) → Reached shape calm d.base d.kind
+      → first_difference (path_in words d.base d.kind) (key_bytes (key_of call)) ≡ None
       → IsOnWay c calm (row-below d kept)
   leads-on d kept reached none = record {
-    leads = subst (λ l. LeadsTo shape calm (key_of call) d.base d.kind (slice_index (key_bytes (key_of call)) l)) (level-is d.base d.kind reached)
+    leads = subst (λ l. LeadsTo shape calm (key_of call) d.base d.kind (slice_index (key_bytes (key_of call)) l))
+        (level-is d.base d.kind reached)
         (ways-are-paths shape calm (key_of call) d.base d.kind rest.tree reached
         (ap (λ xs. first_difference xs (key_bytes (key_of call))) (path-is d.base d.kind reached) ∙ none));
     info = info-is d.base d.kind reached;
@@ -461,7 +489,8 @@ module _ (shape : Shape) (call : Call) (tree : is_tree_call call ≡ true) (key-
 
   goes-down : (i : Bool) → is_insert call ≡ i → (d : Down) (kept : ℕ) → IsBelow c calm words d
       → (slice_index words d.base ≡ kept → Reached shape calm d.base d.kind)
-      → first_difference (path_in words d.base d.kind) (key_bytes (key_of call)) ≡ None → Each Past (held d.base d.kind 0 kept ∷ d.above ∷ [])
+      → first_difference (path_in words d.base d.kind) (key_bytes (key_of call)) ≡ None
+      → Each Past (held d.base d.kind 0 kept ∷ d.above ∷ [])
       → To (Find (record { row = row-below d kept; above = Some d.above; slot = d.slot }))
   goes-down i e d kept k reached none past =
       GoesOn (knows i e None _ ((λ st. leads-on d kept (reached st) none), (λ st. k st)) past tt)
@@ -470,7 +499,8 @@ module _ (shape : Shape) (call : Call) (tree : is_tree_call call ≡ true) (key-
   hangs-pair : is_insert call ≡ true → (d : Down) (kept x : ℕ) → IsBelow c calm words d
       → first_difference (path_in words d.base d.kind) (key_bytes (key_of call)) ≡ Some x → Past d.above
       → To (take_alone c d.above (beside_work d.slot (row-below d kept) x))
-  hangs-pair e d kept x k differs past = GoesOn (knows true e None _ ((λ st. (k st).0.leads.reached), tt, (λ st. begins (k st))) (past, tt) tt)
+  hangs-pair e d kept x k differs past = GoesOn (knows true e None _ ((λ st. (k st).0.leads.reached), tt,
+      (λ st. begins (k st))) (past, tt) tt)
     where
       begins : HangsOnWay c calm d.above d.slot (ChildRow d.base d.kind)
           → BeginsWork c calm (hold_alone d.above) (beside_work d.slot (row-below d kept) x)
@@ -488,7 +518,8 @@ module _ (shape : Shape) (call : Call) (tree : is_tree_call call ≡ true) (key-
             );
             byte = byte_in c d.above;
             leads = hang.0.leads;
-            finds = (hang.1.at, (ap (λ xs. first_difference xs (key_bytes (key_of call))) same ∙ differs, ap (λ xs. slice_index xs x) (sym same)));
+            finds = (hang.1.at, (ap (λ xs. first_difference xs (key_bytes (key_of call))) same ∙ differs, ap
+                (λ xs. slice_index xs x) (sym same)));
           }
 
   arrives : (i : Bool) → is_insert call ≡ i → (d : Down) (kept : ℕ) → KnowsStage i c calm words (Info d kept)
@@ -514,11 +545,13 @@ module _ (shape : Shape) (call : Call) (tree : is_tree_call call ≡ true) (key-
   taking : (i : Bool) → is_insert call ≡ i → (row : Held) (above below : Option Held) (w : Work) → IsReachedHere c calm words row
       → Each (IsReachedHere c calm words) (all_of below) → (AllStand words row below → BeginsWork c calm (hold_taken row above below) w)
       → Kept row → Stands words row → Each Past (row ∷ all_of below) → Each Own (all_of above) → To (taken_at c above below w row)
-  taking i e row above None w here under k kept st past own = Works (record { row = row; above = above }) w refl (k st) (own-of row kept st (here st), own)
+  taking i e row above None w here under k kept st past own =
+      Works (record { row = row; above = above }) w refl (k st) (own-of row kept st (here st), own)
   taking i e row above (Some b) w here under k kept st past own =
       GoesOn (knows i e None _ (under.0, tt, (λ stb. k (st, stb))) (past.1.0, (past.0, tt)) (own-of row kept st (here st), tt))
 
-  fails : (i : Bool) → is_insert call ≡ i → (above : Option Held) → Each Past (all_of above) → Each Own (all_of above) → To (release_at false above None)
+  fails : (i : Bool) → is_insert call ≡ i → (above : Option Held) → Each Past (all_of above) → Each Own (all_of above)
+      → To (release_at false above None)
   fails i e None past own = again
   fails i e (Some a) past own = GoesOn (knows i e None _ refl past own)
 
@@ -550,7 +583,8 @@ module _ (shape : Shape) (call : Call) (tree : is_tree_call call ≡ true) (key-
       go true same = passes i e d was k (sym (got _ _ refl) ∙ eqb-true w d.above.kept same) past
       go false same = again
   next i e (Info d was) w k kept fits past own got =
-      subst (λ v. To (below_at false i c d (held d.base d.kind v was) (path_differs_at c (row_at (held d.base d.kind v was))))) (sym (got _ _ refl))
+      subst (λ v. To (below_at false i c d (held d.base d.kind v was) (path_differs_at c (row_at (held d.base d.kind v was)))))
+          (sym (got _ _ refl))
       (arrives i e d was k past)
   next i e (Find p) w k kept fits past own got =
       finds i e p.row.base p.row.kind p.row.info p.row.kept p.above p.slot w (at-row p k kept.0 past) got
@@ -588,7 +622,8 @@ module _ (shape : Shape) (call : Call) (tree : is_tree_call call ≡ true) (key-
 
 pub ways-go-on : WaysLeadToValues → LeavesAreSmall → WaysGoOn
 ways-go-on ways leaves shape call n calm words m stage w tree key-call rest means agrees rows k got =
-    next shape call tree key-call n calm words m rest means agrees ways leaves (is_insert call) refl stage w k.way rows.kept rows.fits k.kept k.rows got
+    next shape call tree key-call n calm words m rest means agrees ways leaves (is_insert call) refl stage w k.way rows.kept
+        rows.fits k.kept k.rows got
 
 -- ---- a call that has found what it will answer
 
@@ -625,7 +660,8 @@ module _ (shape : Shape) (call : Call) (calm words : List ℕ) (r : Reply) where
   answers i stage w (k, past, own) got = absurd k
 
 pub findings-stay : FindingsStay
-findings-stay shape call calm words stage w r k got = elim (answers shape call calm words r (is_insert call) stage w (k.way, k.kept, k.rows) got) [
+findings-stay shape call calm words stage w r k got =
+    elim (answers shape call calm words r (is_insert call) stage w (k.way, k.kept, k.rows) got) [
   | inl x ↦ inl (record { way = x.0; kept = x.1; rows = x.2 })
   | inr x ↦ inr (record { way = x.0; kept = x.1; rows = x.2 })
 ]

@@ -126,7 +126,8 @@ data Asking (c : Setting) (stage : Stage) : Type 0 where
   AsksTake : (x : Taking) → stage ≡ Take x → Asking c stage
   GivesRow : (h : Hold) → stage ≡ Unlock h None → h.above ≡ None → Asking c stage
 
-asking : (shape : Shape) (call : Call) (calm words : List ℕ) (i : Bool) (stage : Stage) → KnowsStage i (setting shape Optimistic call) calm words stage
+asking : (shape : Shape) (call : Call) (calm words : List ℕ) (i : Bool) (stage : Stage)
+    → KnowsStage i (setting shape Optimistic call) calm words stage
     → Asking (setting shape Optimistic call) stage
 asking shape call calm words i (Wait t) k = AsksLoad _ _ refl
 asking shape call calm words i (Between d was) k = AsksLoad _ _ refl
@@ -150,7 +151,8 @@ asking shape call calm words i stage k = absurd k
 
 -- ---- a step of a run
 
-module _ (plan : Plan) (start : Contents) (first schedule : List ℕ) (p : ℕ) (s t : State) (run : IsRun plan start first (schedule ++ p ∷ []) t)
+module _ (plan : Plan) (start : Contents) (first schedule : List ℕ) (p : ℕ) (s t : State)
+    (run : IsRun plan start first (schedule ++ p ∷ []) t)
     (v : plan.variant ≡ Optimistic) (e : Rattle.art_core.specs.Runs.Gives plan (opened_on plan first) schedule s) where
   abbrev shape : Shape
   shape = plan.shape
@@ -253,8 +255,10 @@ module _ (plan : Plan) (start : Contents) (first schedule : List ℕ) (p : ℕ) 
       abbrev Result : Type 0
       Result = (x : StepsOn plan first schedule p t call) × To x.next
 
-      pure : (a : Access) (mark : Option Point) → turn_at c stage ≡ Asks a mark → Goes c calm s.words m (stage_after c stage (got_by a s.words))
-      pure a mark turn = ways-go-on ways leaves shape call n calm s.words m stage (got_by a s.words) tree key-call rest means agrees rows k (gets a mark turn)
+      pure : (a : Access) (mark : Option Point) → turn_at c stage ≡ Asks a mark
+          → Goes c calm s.words m (stage_after c stage (got_by a s.words))
+      pure a mark turn = ways-go-on ways leaves shape call n calm s.words m stage (got_by a s.words) tree key-call rest means agrees rows k
+          (gets a mark turn)
 
       same-goes : (a : Access) → Made shape s p t call stage a → t.words ≡ s.words → after ≡ calm
           → Goes c calm s.words m (stage_after c stage (got_by a s.words))
@@ -272,7 +276,8 @@ module _ (plan : Plan) (start : Contents) (first schedule : List ℕ) (p : ℕ) 
 
       -- a row is taken
       module _ (x : Taking) (is : stage ≡ Take x) where
-        turn : turn_at c stage ≡ Asks (Swap x.row.base x.row.kept (locked_word x.row.kept)) (Some (Rattle.art_steps.specs.Rows.lock_point shape x.row.base))
+        turn : turn_at c stage ≡ Asks (Swap x.row.base x.row.kept (locked_word x.row.kept))
+            (Some (Rattle.art_steps.specs.Rows.lock_point shape x.row.base))
         turn = ap (turn_at c) is
 
         abbrev value : ℕ
@@ -331,7 +336,8 @@ module _ (plan : Plan) (start : Contents) (first schedule : List ℕ) (p : ℕ) 
 
           row-own : IsHeldReached shape calm s.words x.row
           row-own = (
-            (λ j low less. sym (agrees.free x.row.base x.row.kind row-at (ap is_busy st ∙ free) (x.row.base + j) (omega arith) (omega (arith, less)))),
+            (λ j low less. sym (agrees.free x.row.base x.row.kind row-at (ap is_busy st ∙ free) (x.row.base + j) (omega arith)
+                (omega (arith, less)))),
             knows-taking.0 st,
           )
 
@@ -385,7 +391,8 @@ module _ (plan : Plan) (start : Contents) (first schedule : List ℕ) (p : ℕ) 
             way = (
               (λ stb. subst (λ l. Reached shape l b.base b.kind) (sym calm-is) (reach.0 (back b kept.1.0 stb))),
               tt,
-              (λ stb. subst (λ l. BeginsWork c l (record { row = b; above = Some x.row }) w) (sym calm-is) (know (st, back b kept.1.0 stb))),
+              (λ stb. subst (λ l. BeginsWork c l (record { row = b; above = Some x.row }) w) (sym calm-is)
+                  (know (st, back b kept.1.0 stb))),
             );
             kept = (past-then b were.1.0, (past-then x.row were.0, tt));
             rows = (own-moves x.row row-at row-own, tt);
@@ -396,7 +403,8 @@ module _ (plan : Plan) (start : Contents) (first schedule : List ℕ) (p : ℕ) 
           succeeds = (
             steps-on _ did (keeps n rest calm-is),
             subst (λ y. To (stage_after c y value)) (sym is)
-                (subst (λ b. To (if b then taken_at c x.held x.below x.work x.row else release_at false x.held None)) (sym (eq-eqb value x.row.kept st))
+                (subst (λ b. To (if b then taken_at c x.held x.below x.work x.row else release_at false x.held None))
+                    (sym (eq-eqb value x.row.kept st))
                 (taken x.held x.below x.work knows-taking.1 knows-taking.2 kept-rows past-rows own-rows fits)),
           )
 
@@ -434,7 +442,8 @@ module _ (plan : Plan) (start : Contents) (first schedule : List ℕ) (p : ℕ) 
         alive : is_obsolete (released_word h.row.kept) ≡ false
         alive = obsolete_released h.row.kept ∙ (free-parts h.row.kept (unmarked-free h.row.kept kept-row.0)).1
 
-        calm-row : (word : ℕ) → h.row.base ≤ word → word < h.row.base + row_words h.row.kind → slice_index after word ≡ slice_index t.words word
+        calm-row : (word : ℕ) → h.row.base ≤ word → word < h.row.base + row_words h.row.kind
+            → slice_index after word ≡ slice_index t.words word
         calm-row word low less =
             is-calm.free h.row.base h.row.kind here (ap is_busy version ∙ free-busy (released_word h.row.kept) no-lock alive) word low less
 
@@ -442,7 +451,8 @@ module _ (plan : Plan) (start : Contents) (first schedule : List ℕ) (p : ℕ) 
         row-same j low less =
             calm-row (h.row.base + j) (omega arith) (omega (arith, less))
             ∙ (ap (λ l. slice_index l (h.row.base + j)) did-go.words
-            ∙ (index-other s.words h.row.base (released_word h.row.kept) (h.row.base + j) (λ f. omega (arith, f, low)) ∙ own-row.0 j low less))
+            ∙ (index-other s.words h.row.base (released_word h.row.kept) (h.row.base + j) (λ f. omega (arith, f, low))
+            ∙ own-row.0 j low less))
 
         among : IsAmong (lock_of h.row) (held_by Optimistic shape call at.process)
         among = subst (λ y. IsAmong (lock_of h.row) (holds c y)) (sym at.at)
@@ -453,7 +463,8 @@ module _ (plan : Plan) (start : Contents) (first schedule : List ℕ) (p : ℕ) 
         others b kind j there d less =
             with-released Optimistic shape made.count s made.before p t calm after change call at.process at.is_open h.row.base
             (released_word h.row.kept) (Some point.Unlock)
-            (its-turn _ _ let-go) (lock_of h.row) among refl (b + j) (omega (arith, row_begins shape b kind there)) (outside (b + j) (omega arith)
+            (its-turn _ _ let-go) (lock_of h.row) among refl (b + j) (omega (arith, row_begins shape b kind there))
+                (outside (b + j) (omega arith)
             (omega (arith, less)))
           where
             outside : (word : ℕ) → b ≤ word → word < b + row_words kind → IsOutside h.row.base h.row.kind word
@@ -471,7 +482,8 @@ module _ (plan : Plan) (start : Contents) (first schedule : List ℕ) (p : ℕ) 
         low-same : (word : ℕ) → word < 5 → slice_index after word ≡ slice_index calm word
         low-same word small =
             is-calm.low word small ∙ (ap (λ l. slice_index l word) did-go.words
-            ∙ (index-other s.words h.row.base (released_word h.row.kept) word (λ f. omega (arith, f, small, row_begins shape h.row.base h.row.kind here))
+            ∙ (index-other s.words h.row.base (released_word h.row.kept) word
+                (λ f. omega (arith, f, small, row_begins shape h.row.base h.row.kind here))
             ∙ sym (was-calm.low word small)))
 
         same-tree : (b : ℕ) (kind : Kind) → Reached shape calm b kind → SameRow calm after b kind

@@ -48,7 +48,8 @@ scans-store-nothing shape call low high scan word value mark e = go scan.step sc
 pub quiet-steps-keep-trees : QuietStepsKeepTrees
 quiet-steps-keep-trees plan start words schedule p s t h quiet n rest =
     low-words-keep plan.shape n calm after rest (there.long ∙ sym here.long) there.small
-    (λ kind. omega (arith, here.low (claims_of kind) (claims-few kind), there.low (claims_of kind) (claims-few kind), made.steady.claims kind))
+    (λ kind. omega (arith, here.low (claims_of kind) (claims-few kind), there.low (claims_of kind) (claims-few kind),
+        made.steady.claims kind))
     (stays change.change)
   where
     calm : List ℕ
@@ -71,6 +72,7 @@ quiet-steps-keep-trees plan start words schedule p s t h quiet n rest =
 
     stays : CalmChange plan.variant plan.shape s p t calm after → (word : ℕ) → 5 ≤ word → slice_index after word ≡ slice_index calm word
     stays (CalmStays same) = same
-    stays (CalmFilled word value asks base kind filled behind is others) = absurd (quiet asks.call asks.process asks.is_open word value asks.mark asks.turn)
+    stays (CalmFilled word value asks base kind filled behind is others) =
+        absurd (quiet asks.call asks.process asks.is_open word value asks.mark asks.turn)
     stays (CalmReleased h asks rest among held-then kept live row others) =
         absurd (quiet asks.call asks.process asks.is_open h.base (released_word h.kept) asks.mark asks.turn)

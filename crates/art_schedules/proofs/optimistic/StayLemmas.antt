@@ -81,7 +81,8 @@ module _ (shape : Shape) (call : Call) (n : ℕ) (calm after : List ℕ) (pairs 
       row : SameRow calm after h.base h.kind
       row j low high =
           agree-then.free h.base h.kind here (ap is_busy st ∙ free) (h.base + j) (omega arith) (omega (arith, high))
-          ∙ (steady.stands h.base h.kind kept.1 (st ∙ sym stood) (ap Rattle.art_rows.specs.Words.is_locked stood ∙ (free-parts h.kept free).0)
+          ∙ (steady.stands h.base h.kind kept.1 (st ∙ sym stood)
+              (ap Rattle.art_rows.specs.Words.is_locked stood ∙ (free-parts h.kept free).0)
           (h.base + j) (omega arith) (omega (arith, high))
           ∙ sym (agree.free h.base h.kind here (ap is_busy stood ∙ free) (h.base + j) (omega arith) (omega (arith, high))))
 
@@ -96,7 +97,8 @@ module _ (shape : Shape) (call : Call) (n : ℕ) (calm after : List ℕ) (pairs 
       let x = back d.above kept past st in
       hangs d.above d.slot (ChildRow d.base d.kind) x.1 (k x.0)
 
-  above-kept : (h : Held) (slot : ℕ) (above : Option Held) → Each Kept (all_of above) → Each Past (all_of above) → HangsBelow c calm s.words h slot above
+  above-kept : (h : Held) (slot : ℕ) (above : Option Held) → Each Kept (all_of above) → Each Past (all_of above)
+      → HangsBelow c calm s.words h slot above
       → HangsBelow c after t.words h slot above
   above-kept h slot None kept past k = tt
   above-kept h slot (Some a) kept past k = λ st.
@@ -128,7 +130,8 @@ module _ (shape : Shape) (call : Call) (n : ℕ) (calm after : List ℕ) (pairs 
   differs-kept true d settled k = absurd k
   differs-kept false d settled (x, k) = (x, ap (λ xs. first_difference xs (key_bytes (key_of call))) (path-kept d.base d.kind settled) ∙ k)
 
-  reached-kept : (d : Down) (was : ℕ) → Kept (held d.base d.kind 0 was) → Past (held d.base d.kind 0 was) → IsReachedBelow c calm s.words d was
+  reached-kept : (d : Down) (was : ℕ) → Kept (held d.base d.kind 0 was) → Past (held d.base d.kind 0 was)
+      → IsReachedBelow c calm s.words d was
       → IsReachedBelow c after t.words d was
   reached-kept d was kept past k st =
       let x = back (held d.base d.kind 0 was) kept past st in
@@ -155,7 +158,8 @@ module _ (shape : Shape) (call : Call) (n : ℕ) (calm after : List ℕ) (pairs 
       let x = back h kept past st in
       (follows.rows h.base h.kind).1 (inl (k x.0, x.1.1))
 
-  under-kept : (row : Held) (above under : Option Held) → Each Kept (row ∷ (all_of above ++ all_of under)) → Each Past (row ∷ (all_of above ++ all_of under))
+  under-kept : (row : Held) (above under : Option Held) → Each Kept (row ∷ (all_of above ++ all_of under))
+      → Each Past (row ∷ (all_of above ++ all_of under))
       → Each (IsReachedHere c calm s.words) (all_of under) → Each (IsReachedHere c after t.words) (all_of under)
   under-kept row above None kept past k = tt
   under-kept row None (Some b) kept past k = (here-kept b kept.1.0 past.1.0 k.0, tt)
@@ -201,11 +205,13 @@ module _ (shape : Shape) (call : Call) (n : ℕ) (calm after : List ℕ) (pairs 
     says p.row kept.0 past.0 _ _ (λ x a. finding-still c follows i p.row f x a) k.1,
   )
   stage-kept i (Take x) kept past still k =
-      (here-kept x.row kept.0 past.0 k.0, under-kept x.row x.held x.below kept past k.1, taking-kept x.row x.held x.below x.work kept past still k.2)
+      (here-kept x.row kept.0 past.0 k.0, under-kept x.row x.held x.below kept past k.1, taking-kept x.row x.held x.below x.work
+          kept past still k.2)
   stage-kept i (Unlock h outcome) kept past still k = k
   stage-kept i stage kept past still k = absurd k
 
-  reply-kept : (r : Reply) (i : Bool) (stage : Stage) → Each Kept (rows_kept false i stage) → KnowsReply r i c s.words stage → KnowsReply r i c t.words stage
+  reply-kept : (r : Reply) (i : Bool) (stage : Stage) → Each Kept (rows_kept false i stage) → KnowsReply r i c s.words stage
+      → KnowsReply r i c t.words stage
   reply-kept r i (Info d was) kept k = (k.0, differs-kept i d kept.0.1 k.1)
   reply-kept r i (CheckLast h) kept k = k
   reply-kept r i (Over outcome) kept k = k

@@ -35,8 +35,10 @@ use Rattle.art_schedules.proofs.optimistic_runs.PartLaws.{LawsOfParts}
 
 -- an end is answered what it has
 end-answers : (shape : Shape) (real calm : List ℕ) (call : Call) (reply answer : Reply) (stage : Stage)
-    → AtEnd (setting shape Optimistic call) real calm reply stage → turn_at (setting shape Optimistic call) stage ≡ Answers answer → reply ≡ answer
-end-answers shape real calm call reply answer stage (Answering o e at) turn = e ∙ go (ap (turn_at (setting shape Optimistic call)) (sym at) ∙ turn)
+    → AtEnd (setting shape Optimistic call) real calm reply stage
+    → turn_at (setting shape Optimistic call) stage ≡ Answers answer → reply ≡ answer
+end-answers shape real calm call reply answer stage (Answering o e at) turn = e
+    ∙ go (ap (turn_at (setting shape Optimistic call)) (sym at) ∙ turn)
   where
     go : turn_at (setting shape Optimistic call) (Over o) ≡ Answers answer → reply_for o ≡ answer
     go k = cc
@@ -48,7 +50,8 @@ end-answers shape real calm call reply answer stage (Leaving o h e at rows same)
 
 -- what was found is what is answered
 found-answers : (shape : Shape) (calm words : List ℕ) (call : Call) (reply answer : Reply) (stage : Stage)
-    → KnowsWay (setting shape Optimistic call) calm words (Some reply) stage → turn_at (setting shape Optimistic call) stage ≡ Answers answer → reply ≡ answer
+    → KnowsWay (setting shape Optimistic call) calm words (Some reply) stage
+    → turn_at (setting shape Optimistic call) stage ≡ Answers answer → reply ≡ answer
 found-answers shape calm words call reply answer (Info d kept) k e = cc
 found-answers shape calm words call reply answer (CheckLast n) k e = cc
 found-answers shape calm words call reply answer (Over outcome) k e = k.way ∙ go e
@@ -76,7 +79,8 @@ module _ (laws : LawsOfParts) (shape : Shape) (scripts : List (List Call)) (star
   abbrev m : Contents
   m = tale.pairs (length schedule)
 
-  module _ (call : Call) (q : Process) (status : Status) (reply : Reply) (x : AnswersCall plan s p t call q reply) (tree : is_tree_call call ≡ true) where
+  module _ (call : Call) (q : Process) (status : Status) (reply : Reply) (x : AnswersCall plan s p t call q reply)
+      (tree : is_tree_call call ≡ true) where
     abbrev Answer : Type 0
     Answer = HasItsReply plan words schedule tale p call q status reply
 
@@ -87,7 +91,8 @@ module _ (laws : LawsOfParts) (shape : Shape) (scripts : List (List Call)) (star
     closed : (other : Process) → IsOpen t p call other → ⊥
     closed other o = none-some call (sym x.idle ∙ (ap (λ (y : Process). y.call) (same_Some x.later other (sym x.own ∙ o.own)) ∙ o.is_open))
 
-    works : (stage : Stage) → stage_of Optimistic shape call q ≡ OnKey stage → AtWork (setting shape Optimistic call) s.words calm (g p) stage → ⊥
+    works : (stage : Stage) → stage_of Optimistic shape call q ≡ OnKey stage
+        → AtWork (setting shape Optimistic call) s.words calm (g p) stage → ⊥
     works stage at w =
         go (laws.workers_step plan start words schedule p s t told.claims m
         told.step told.rests told.means call stage (g p)
@@ -136,13 +141,15 @@ module _ (laws : LawsOfParts) (shape : Shape) (scripts : List (List Call)) (star
             told.rests told.means k in
             absurd (closed from.0.at.process from.0.at.is_open)
         go (Finds stage found scan none at k e) =
-            (status, Stays refl, subst (λ y. HasReply y reply) (sym e) (found-answers shape calm s.words call found reply stage k (turn stage at)))
+            (status, Stays refl, subst (λ y. HasReply y reply) (sym e)
+                (found-answers shape calm s.words call found reply stage k (turn stage at)))
         go (Works stage at w e) = absurd (works stage at w)
         go (Ends stage known none at end e) = (
           status,
           Stays refl,
           ⊎_elim
               (λ k. subst (λ y. HasReply y reply) (sym k) (end-answers shape s.words calm call known reply stage end (turn stage at)))
-              (λ k. subst (λ y. HasReply y reply) (sym k.1) (sym k.0 ∙ end-answers shape s.words calm call known reply stage end (turn stage at))) e,
+              (λ k. subst (λ y. HasReply y reply) (sym k.1)
+                  (sym k.0 ∙ end-answers shape s.words calm call known reply stage end (turn stage at))) e,
         )
         go (Walks low high at none is stage e) = walks low high is e

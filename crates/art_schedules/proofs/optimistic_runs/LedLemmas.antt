@@ -44,7 +44,8 @@ use Rattle.art_schedules.proofs.stories.OpenLemmas.{set-cases, set-other}
 pub data FreshBehind (shape : Shape) (s t : State) (before fresh : Option Named) : Type 0 where
   SameFresh : fresh ≡ before → FreshBehind shape s t before fresh
   NoFresh : fresh ≡ None → FreshBehind shape s t before fresh
-  NewFresh : (row : Named) → fresh ≡ Some row → ((kind : Kind) → IsClaimed shape s.words row.0 kind → ⊥) → IsClaimed shape t.words row.0 row.1
+  NewFresh : (row : Named) → fresh ≡ Some row → ((kind : Kind) → IsClaimed shape s.words row.0 kind → ⊥)
+      → IsClaimed shape t.words row.0 row.1
       → FreshBehind shape s t before fresh
 
 -- the fresh row of the effect, or none, is this one
@@ -108,8 +109,10 @@ module _ (laws : LawsOfParts) (shape : Shape) (scripts : List (List Call)) (star
         go : {status : Status} → IsFit shape g s calm p call q status → Reached shape calm h.base h.kind
         go (Seeks stage scan none at k e) = ways None stage at k
         go (Finds stage reply scan none at k e) = ways (Some reply) stage at k
-        go (Works stage at w e) = laws.workers_hold_reached (setting shape Optimistic call) s.words calm stage (g p) w h (on (OnKey stage) at)
-        go (Ends stage reply none at end e) = laws.leavers_hold_reached (setting shape Optimistic call) s.words calm stage reply end h (on (OnKey stage) at)
+        go (Works stage at w e) = laws.workers_hold_reached (setting shape Optimistic call) s.words calm stage (g p) w h
+            (on (OnKey stage) at)
+        go (Ends stage reply none at end e) = laws.leavers_hold_reached (setting shape Optimistic call) s.words calm stage reply end h
+            (on (OnKey stage) at)
         go (Walks low high at none is stage e) = absurd (on (OnScan low high at) stage)
 
     claims-rise : (b : ℕ) (k : Kind) → IsClaimed shape s.words b k → IsClaimed shape t.words b k
@@ -117,7 +120,8 @@ module _ (laws : LawsOfParts) (shape : Shape) (scripts : List (List Call)) (star
 
     -- ---- what fits the other calls
 
-    module _ (effect : Option Effect) (makes : Makes Optimistic shape s p calm after m effect) (fresh-is : IsFreshOf effect (g p)) (f : Option Named) where
+    module _ (effect : Option Effect) (makes : Makes Optimistic shape s p calm after m effect) (fresh-is : IsFreshOf effect (g p))
+        (f : Option Named) where
       is-other : (r : ℕ) → r ≢ p → IsOther effect (g r)
       is-other r apart = go effect fresh-is
         where
@@ -131,14 +135,16 @@ module _ (laws : LawsOfParts) (shape : Shape) (scripts : List (List Call)) (star
               laws.effects_bring_theirs e (g r) (subst (λ o. AreTwoRows o (g r)) is (world.apart p r (λ x. apart (sym x))))
 
       other-fits : (r : ℕ) (call : Call) (q : Process) (status : Status) → r ≢ p → IsOpen s r call q → IsOpen t r call q
-          → OptimisticFits shape g schedule s calm r call q status → OptimisticFits shape (set_at g p f) (schedule ++ p ∷ []) t after r call q status
+          → OptimisticFits shape g schedule s calm r call q status
+          → OptimisticFits shape (set_at g p f) (schedule ++ p ∷ []) t after r call q status
       other-fits r call q status apart o behind x = record { tree = x.tree; fit = go x.fit }
         where
           same : set_at g p f r ≡ g r
           same = set-other g p f r apart
 
           way : (found : Option Reply) (stage : Stage) → stage_of Optimistic shape call q ≡ OnKey stage
-              → KnowsWay (setting shape Optimistic call) calm s.words found stage → KnowsWay (setting shape Optimistic call) after t.words found stage
+              → KnowsWay (setting shape Optimistic call) calm s.words found stage
+              → KnowsWay (setting shape Optimistic call) after t.words found stage
           way found stage at k =
               laws.other_steps_keep_ways plan start words schedule p s t told.step refl m effect
               (makes-goes effect makes) r call stage found apart (record { process = q; is_open = o; at = at }) behind k
@@ -179,7 +185,8 @@ module _ (laws : LawsOfParts) (shape : Shape) (scripts : List (List Call)) (star
               subst (λ (y : Named). IsClaimed shape t.words y.0 y.1) (same_Some new row (sym e ∙ x)) there
 
           claimed : (r : ℕ) (row : Named) → set_at g p f r ≡ Some row → IsClaimed shape t.words row.0 row.1
-          claimed r row e = ⊎_elim (λ x. own-claimed row fresh (sym x.1 ∙ e)) (λ x. claims-rise row.0 row.1 (world.claimed r row (sym x.1 ∙ e)))
+          claimed r row e = ⊎_elim (λ x. own-claimed row fresh (sym x.1 ∙ e)) (λ x. claims-rise row.0 row.1
+              (world.claimed r row (sym x.1 ∙ e)))
               (set-cases g p f r)
 
           own-apart : (r : ℕ) → r ≢ p → FreshBehind shape s t (g p) f → AreTwoRows f (g r) × AreTwoRows (g r) f

@@ -53,7 +53,8 @@ use Rattle.art_schedules.proofs.optimistic_runs.SmallLemmas.{work-kept, each-bot
 use Rattle.art_schedules.proofs.optimistic_runs.LedLemmas as led
 use Rattle.art_schedules.proofs.stories.OpenLemmas.{set-here, same-stage}
 
-over-asks : (shape : Shape) (call : Call) (o : Outcome) (a : Access) (mark : Option Point) → turn_at (setting shape Optimistic call) (Over o) ≡ Asks a mark → ⊥
+over-asks : (shape : Shape) (call : Call) (o : Outcome) (a : Access) (mark : Option Point)
+    → turn_at (setting shape Optimistic call) (Over o) ≡ Asks a mark → ⊥
 over-asks shape call o a mark e = cc
 
 module _ (laws : LawsOfParts) (shape : Shape) (scripts : List (List Call)) (start : Contents) (words : List ℕ)
@@ -81,7 +82,8 @@ module _ (laws : LawsOfParts) (shape : Shape) (scripts : List (List Call)) (star
     Fit next now = OptimisticFits shape next (schedule ++ p ∷ []) t after p call later now
 
     abbrev Behind : Option Effect → Status → Type 0
-    Behind effect now = IsLedOn Ghosts (λ g schedule s calm. IsWorld shape g s) (OptimisticFits shape) g schedule p s t calm after (λ next. Fit next now)
+    Behind effect now = IsLedOn Ghosts (λ g schedule s calm. IsWorld shape g s) (OptimisticFits shape) g schedule p s t calm after
+        (λ next. Fit next now)
 
     abbrev Answer : Type 0
     Answer = OwnStep plan words schedule tale p t calm after call q status Behind
@@ -125,20 +127,23 @@ module _ (laws : LawsOfParts) (shape : Shape) (scripts : List (List Call)) (star
         there : stage_of Optimistic shape call later ≡ OnKey from.0.next
         there = at-next from.0.at.process from.0.at.is_open from.0.next from.0.at.at
 
-        works : (h : Hold) (w : Work) → from.0.next ≡ work_at (setting shape Optimistic call) h w → BeginsWork (setting shape Optimistic call) after h w
+        works : (h : Hold) (w : Work) → from.0.next ≡ work_at (setting shape Optimistic call) h w
+            → BeginsWork (setting shape Optimistic call) after h w
             → Each (IsHeldReached shape after t.words) (rows_of_hold h)
             → AtWork (setting shape Optimistic call) t.words after None from.0.next
         works h w f begins each =
             subst (AtWork (setting shape Optimistic call) t.words after None) (sym f)
             (laws.work_begins (setting shape Optimistic call) t.words after h w told.calm_behind.long known begins
-            (each-map (λ (x : Held) y. record { reached = y.0.1; live = kept-live Optimistic (RowsOf shape) x y.1 (inl refl) }) (rows_of_hold h)
+            (each-map (λ (x : Held) y. record { reached = y.0.1; live = kept-live Optimistic (RowsOf shape) x y.1 (inl refl)
+                }) (rows_of_hold h)
             (each-both (IsHeldReached shape after t.words) (IsKept false (RowsOf shape)) (rows_of_hold h) each kept))
             (each-map (λ (x : Held) y. y.0) (rows_of_hold h) each))
           where
             known : Knows (RowsOf shape) (setting shape Optimistic call) (OnKey (work_at (setting shape Optimistic call) h w))
             known =
                 subst (Knows (RowsOf shape) (setting shape Optimistic call)) (there ∙ ap OnKey f)
-                (rows-known Optimistic shape _ t p call later (led.fact laws shape scripts start words schedule tale p s t g told world all).behind made.behind)
+                (rows-known Optimistic shape _ t p call later
+                    (led.fact laws shape scripts start words schedule tale p s t g told world all).behind made.behind)
 
             kept : Each (IsKept false (RowsOf shape)) (rows_of_hold h)
             kept = subst (Each (IsKept false (RowsOf shape))) (work-kept (is_insert call) (setting shape Optimistic call) h w) known.kept
@@ -162,7 +167,8 @@ module _ (laws : LawsOfParts) (shape : Shape) (scripts : List (List Call)) (star
         from.1
       where
         from : (x : StepsOn plan words schedule p t call)
-            × (KnowsWay (setting shape Optimistic call) after t.words (Some reply) x.next ⊎ KnowsWay (setting shape Optimistic call) after t.words None x.next)
+            × (KnowsWay (setting shape Optimistic call) after t.words (Some reply) x.next
+            ⊎ KnowsWay (setting shape Optimistic call) after t.words None x.next)
         from = laws.own_findings_stay plan start words schedule p s t told.step refl call stage
             (record { process = q; is_open = made.here; at = at }) a made.mark
             (ap (call_turn (setting shape Optimistic call)) (sym at) ∙ made.asks) told.claims told.rests reply knows
@@ -176,7 +182,8 @@ module _ (laws : LawsOfParts) (shape : Shape) (scripts : List (List Call)) (star
     -- ---- behind its effect, or refused
 
     ends : (stage : Stage) (reply : Reply) → g p ≡ None → stage_of Optimistic shape call q ≡ OnKey stage
-        → AtEnd (setting shape Optimistic call) s.words calm reply stage → (status ≡ Changed reply) ⊎ ((reply ≡ Refused) × (status ≡ Found Refused)) → Answer
+        → AtEnd (setting shape Optimistic call) s.words calm reply stage → (status ≡ Changed reply)
+        ⊎ ((reply ≡ Refused) × (status ≡ Found Refused)) → Answer
     ends stage reply none at end e =
         go (laws.leavers_step plan start words schedule p s t told.claims m
         told.step told.rests told.means call stage reply
@@ -191,14 +198,16 @@ module _ (laws : LawsOfParts) (shape : Shape) (scripts : List (List Call)) (star
 
     -- ---- at work
 
-    works : (stage : Stage) → stage_of Optimistic shape call q ≡ OnKey stage → AtWork (setting shape Optimistic call) s.words calm (g p) stage
+    works : (stage : Stage) → stage_of Optimistic shape call q ≡ OnKey stage
+        → AtWork (setting shape Optimistic call) s.words calm (g p) stage
         → status ≡ Before → Answer
     works stage at w e =
         go (laws.workers_step plan start words schedule p s t told.claims m
         told.step told.rests told.means call stage (g p)
         (record { process = q; is_open = made.here; at = at }) w)
       where
-        fresh-claimed : (fresh : Option Named) (next : Stage) → AtWork (setting shape Optimistic call) t.words after fresh next → (row : Named)
+        fresh-claimed : (fresh : Option Named) (next : Stage)
+            → AtWork (setting shape Optimistic call) t.words after fresh next → (row : Named)
             → fresh ≡ Some row → IsClaimed shape t.words row.0 row.1
         fresh-claimed fresh next work row f =
             laws.fresh_is_claimed (setting shape Optimistic call) t.words after next row
@@ -219,7 +228,8 @@ module _ (laws : LawsOfParts) (shape : Shape) (scripts : List (List Call)) (star
             plain (Found Refused) makes (FindsNow Refused (unchanged-before e) refl (inl refl, refl))
             (Ends next Refused none-now (at-next there.process there.is_open next there.at) end (inr (refl, refl)))
         go (outcomes.TakesEffect next effect reply there end makes fresh pairs legal accepted live) =
-            Changes effect reply (led.makes-goes laws shape scripts start words schedule tale p s t g told world all (Some effect) makes) (unchanged-before e)
+            Changes effect reply (led.makes-goes laws shape scripts start words schedule tale p s t g told world all (Some effect) makes)
+                (unchanged-before e)
             (legal, pairs) accepted
             (led.led laws shape scripts start words schedule tale p s t g told world all (Some effect) makes fresh None (led.NoFresh refl)
             (λ ghost. Fit ghost (Changed reply))
@@ -227,7 +237,8 @@ module _ (laws : LawsOfParts) (shape : Shape) (scripts : List (List Call)) (star
 
     -- ---- a scan
 
-    walks : (low high : ℕ) (at : ScanAt) → g p ≡ None → call ≡ Scan low high → stage_of Optimistic shape call q ≡ OnScan low high at → status ≡ Before → Answer
+    walks : (low high : ℕ) (at : ScanAt) → g p ≡ None → call ≡ Scan low high → stage_of Optimistic shape call q ≡ OnScan low high at
+        → status ≡ Before → Answer
     walks low high at none is stage e =
         plain Before makes (Stays (sym e))
         (Walks low high _ none-now is (made.stage ∙ ap (λ x. call_after (setting shape Optimistic call) x (got_by a s.words)) stage) refl)

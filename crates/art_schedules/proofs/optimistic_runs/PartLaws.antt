@@ -1,6 +1,7 @@
 -- The laws of the parts of which the proof is made.
 use Rattle.art_schedules.specs.changes.Laws.{KeptTreesFollow}
-use Rattle.art_schedules.specs.effects.Laws.{WorkBegins, WorkersHoldReached, LeaversHoldReached, OthersKeepWork, OthersKeepEnds, WorkersStep, LeaversStep}
+use Rattle.art_schedules.specs.effects.Laws.{WorkBegins, WorkersHoldReached, LeaversHoldReached, OthersKeepWork, OthersKeepEnds}
+use Rattle.art_schedules.specs.effects.Laws.{WorkersStep, LeaversStep}
 use Rattle.art_schedules.specs.effects.Laws.{EffectsBringTheirs, FreshIsClaimed}
 use Rattle.art_schedules.specs.optimistic.Laws.{WaysBegin}
 use Rattle.art_schedules.specs.optimistic.Steps.{OtherStepsKeepWays, OwnFindingsStay, OwnStepsGoOn, QuietStepsKeepTrees, ScansStoreNothing}

@@ -21,7 +21,8 @@ use Rattle.art_steps.specs.Rows.{Setting}
 use Rattle.art_steps.specs.Act.{act}
 use Rattle.art_steps.proofs.TurnLemmas.{asks-same, answers-asks, answers-same}
 use Rattle.art_stages.specs.declared.stage.ScanStep.{ScanStep}
-use Rattle.art_stages.specs.declared.stage.ScanStep.TheVariants.{Lock, Exchange, Wait, Info, Keys, FirstKeys, SecondKeys, Index, Child as LoadChild}
+use Rattle.art_stages.specs.declared.stage.ScanStep.TheVariants.{Lock, Exchange, Wait, Info, Keys, FirstKeys, SecondKeys, Index}
+use Rattle.art_stages.specs.declared.stage.ScanStep.TheVariants.{Child as LoadChild}
 use Rattle.art_stages.specs.declared.stage.ScanStep.TheVariants.{Release, Over}
 use Rattle.art_stages.specs.declared.stage.Held.{Held}
 use Rattle.art_stages.specs.Scans.{Walk, ScanAt, at, scan_start, scan_turn, keys_turn}
@@ -48,7 +49,8 @@ module _ (plan : Plan) (call : Call) (words : List ℕ) where
 
   -- each word that a call gets alone is the word that it loads
   alone-word : (n i word : ℕ) (mark : Option Point) → i < length (alone n plan call words)
-      → turn-of (take i (alone n plan call words)) ≡ Asks (Load word) mark → slice_index (alone n plan call words) i ≡ slice_index words word
+      → turn-of (take i (alone n plan call words)) ≡ Asks (Load word) mark
+      → slice_index (alone n plan call words) i ≡ slice_index words word
   alone-word zero i word mark less e = absurd (omega (arith, less))
   alone-word (suc n) i word mark less e = go (turn-of (alone n plan call words)) refl (alone-word n i word mark)
     where
@@ -59,14 +61,16 @@ module _ (plan : Plan) (call : Call) (words : List ℕ) where
       Before = i < length before → turn-of (take i before) ≡ Asks (Load word) mark → slice_index before i ≡ slice_index words word
 
       last : (a : Access) (m : Option Point) → turn-of before ≡ Asks a m → Before → i < length (before ++ got_by a words ∷ [])
-          → turn-of (take i (before ++ got_by a words ∷ [])) ≡ Asks (Load word) mark → slice_index (before ++ got_by a words ∷ []) i ≡ slice_index words word
+          → turn-of (take i (before ++ got_by a words ∷ [])) ≡ Asks (Load word) mark
+          → slice_index (before ++ got_by a words ∷ []) i ≡ slice_index words word
       last a m f earlier less e = elim (cases_lt i (length before)) [
         | inl old ↦ index-more i before (got_by a words) old
             ∙ earlier old (ap turn-of (sym (take-more i before (got_by a words) (omega (arith, old)))) ∙ e)
         | inr new ↦
             let is : i ≡ length before = omega (arith, new, less, length-append before (got_by a words ∷ [])) in
             let whole : take i (before ++ got_by a words ∷ []) ≡ before =
-            ap (λ k. take k (before ++ got_by a words ∷ [])) is ∙ (take-more (length before) before (got_by a words) (omega arith) ∙ take-length before) in
+            ap (λ k. take k (before ++ got_by a words ∷ [])) is
+                ∙ (take-more (length before) before (got_by a words) (omega arith) ∙ take-length before) in
             let same : a ≡ Load word = asks-same (sym f ∙ (ap turn-of (sym whole) ∙ e)) in
             ap (slice_index (before ++ got_by a words ∷ [])) is ∙ (index-last before (got_by a words) ∙ ap (λ x. got_by x words) same)
       ]
@@ -106,7 +110,8 @@ module _ (plan : Plan) (lo hi : ℕ) (v : plan.variant ≡ Optimistic) (some : 1
 
       is : act plan.shape plan.variant scan got ≡ scan_turn set here
       is = turn-is plan lo hi v some got ∙ (sym (ap (call_turn set) (all-fold plan.shape some lo hi (scan_start set) got))
-          ∙ ap (call_turn set) (ap (after_all set (call_begun set)) x.all ∙ (all-append plan.shape some lo hi (call_begun set) x.earlier x.attempt
+          ∙ ap (call_turn set) (ap (after_all set (call_begun set)) x.all ∙ (all-append plan.shape some lo hi (call_begun set)
+              x.earlier x.attempt
           ∙ (ap (λ y. after_all set y x.attempt) x.begins ∙ all-fold plan.shape some lo hi (scan_start set) x.attempt))))
 
       keys : (kind : Kind) (n : Held) → act plan.shape plan.variant scan got ≡ keys_turn kind n → LoadsOrAnswers got
@@ -115,7 +120,8 @@ module _ (plan : Plan) (lo hi : ℕ) (v : plan.variant ≡ Optimistic) (some : 1
       keys FortyEight n e = LoadsWord _ _ e
       keys Full n e = LoadsWord _ _ e
 
-      go : (step : ScanStep) (w : Walk) → Stands plan.shape some lo hi x.attempt step w → act plan.shape plan.variant scan got ≡ scan_turn set (at step w)
+      go : (step : ScanStep) (w : Walk) → Stands plan.shape some lo hi x.attempt step w
+          → act plan.shape plan.variant scan got ≡ scan_turn set (at step w)
           → LoadsOrAnswers got
       go (Lock entry first) w h e = absurd h
       go (Exchange entry u) w h e = absurd h
@@ -157,11 +163,13 @@ module _ (plan : Plan) (lo hi : ℕ) (v : plan.variant ≡ Optimistic) (some : 1
       holds i word r =
           let row = x.reads i word r in
           free row.base row.kind row.enters.row
-          (ap is_busy (sym (was row.entry row.base row.enters.reads)) ∙ unmarked-free (slice_index x.attempt row.entry) row.free) word row.from row.below
+          (ap is_busy (sym (was row.entry row.base row.enters.reads)) ∙ unmarked-free (slice_index x.attempt row.entry) row.free) word
+              row.from row.below
           ∙ sym (was i word r)
 
   -- It runs alone, and changes no word.
-  pub runs : (calm : List ℕ) (reply : Reply) → AnswersAlone plan scan calm reply → RunsAlone (act plan.shape plan.variant scan) calm calm reply
+  pub runs : (calm : List ℕ) (reply : Reply) → AnswersAlone plan scan calm reply
+      → RunsAlone (act plan.shape plan.variant scan) calm calm reply
   runs calm reply (n, e) = from n 0 (omega arith)
     where
       from : (d i : ℕ) → d + i ≡ n → RunsAlone (λ got. act plan.shape plan.variant scan (alone i plan scan calm ++ got)) calm calm reply
@@ -175,12 +183,14 @@ module _ (plan : Plan) (lo hi : ℕ) (v : plan.variant ≡ Optimistic) (some : 1
           before : List ℕ
           before = alone i plan scan calm
 
-          go : LoadsOrAnswers before → RunsAlone (λ got. act plan.shape plan.variant scan (alone (suc i) plan scan calm ++ got)) calm calm reply
+          go : LoadsOrAnswers before → RunsAlone (λ got. act plan.shape plan.variant scan
+              (alone (suc i) plan scan calm ++ got)) calm calm reply
               → RunsAlone (λ got. act plan.shape plan.variant scan (before ++ got)) calm calm reply
           go (LoadsWord word mark f) rest =
               let one : alone (suc i) plan scan calm ≡ before ++ slice_index calm word ∷ [] = ap (λ t. before ++ next_word t calm) f in
               goes (Load word) mark (ap (act plan.shape plan.variant scan) (append-nil before) ∙ f)
-              (subst (λ (w : List ℕ). RunsAlone (λ got. act plan.shape plan.variant scan (before ++ (slice_index calm word ∷ got))) w calm reply)
+              (subst (λ (w : List ℕ). RunsAlone
+                  (λ got. act plan.shape plan.variant scan (before ++ (slice_index calm word ∷ got))) w calm reply)
               (sym (set-get_or calm word 0))
               (same-runs (λ got. act plan.shape plan.variant scan (before ++ (slice_index calm word ∷ got)))
               (λ got. ap (act plan.shape plan.variant scan)

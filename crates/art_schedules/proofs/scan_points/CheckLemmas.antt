@@ -1,5 +1,6 @@
 -- An answered scan of the optimistic tree made its last check behind the moment of its reads.
-use Rattle.std.proofs.Common.{◌≡◌, ℕ, suc, ◌+◌, ◌<◌, ◌≤◌, Bool, true, false, List, [], ◌∷◌, length, take, refl, ap, sym, ◌∙◌, inl, inr, arith}
+use Rattle.std.proofs.Common.{◌≡◌, ℕ, suc, ◌+◌, ◌<◌, ◌≤◌, Bool, true, false, List, [], ◌∷◌, length, take, refl, ap, sym, ◌∙◌, inl, inr}
+use Rattle.std.proofs.Common.{arith}
 use Rattle.std.specs.Prelude.{◌⊎◌, if◌then◌else◌, slice_index, Option, None}
 use Rattle.events.specs.declared.event.Call.{Call}
 use Rattle.events.specs.declared.event.Call.TheVariants.{Scan}
@@ -62,7 +63,8 @@ module _ (plan : Plan) (lo hi : ℕ) (v : plan.variant ≡ Optimistic) (some : 1
   ]
 
   -- At the moment of its reads a scan that is answered has a word to get.
-  pub has-more : (first : State) (schedule got : List ℕ) (p calls : ℕ) (reply : Reply) (h : HasMoment plan first schedule p calls scan got reply)
+  pub has-more : (first : State) (schedule got : List ℕ) (p calls : ℕ) (reply : Reply)
+      (h : HasMoment plan first schedule p calls scan got reply)
       → act plan.shape plan.variant scan got ≡ Answers reply → length h.earlier + h.n < length h.earlier + length h.attempt
   has-more first schedule got p calls reply h answers =
       let x = first-read h.attempt reply (sym (h.begins h.attempt) ∙ (ap (act plan.shape plan.variant scan) (sym h.all) ∙ answers)) in

@@ -32,8 +32,10 @@ one-call plan first schedule s h t u p calls now past call other at-t at-u here 
     let (n, within, process, number) = h.all t now p calls call at-t here in
     let (a, is) = slice_get-below (operations (history_of s)) n within in
     let c = h.call_of n in
-    let one : IsIn now c.process c.calls call = subst (λ i. IsIn now i c.calls call) (sym process) (subst (λ i. IsIn now p i call) (sym number) here) in
-    let two : IsIn past c.process c.calls other = subst (λ i. IsIn past i c.calls other) (sym process) (subst (λ i. IsIn past p i other) (sym number) there) in
+    let one : IsIn now c.process c.calls call =
+        subst (λ i. IsIn now i c.calls call) (sym process) (subst (λ i. IsIn now p i call) (sym number) here) in
+    let two : IsIn past c.process c.calls other =
+        subst (λ i. IsIn past i c.calls other) (sym process) (subst (λ i. IsIn past p i other) (sym number) there) in
     ((h.each n a is).within t now call at-t one).1 ∙ sym ((h.each n a is).within u past other at-u two).1
 
 -- the map's reply to a scan is legal, and leaves the map
@@ -64,7 +66,8 @@ scan-point fronts ends calls maps plan start words schedule s run v u past at p 
     record { process = h.within.process; own = h.within.own; count = h.within.in_call; is_open = h.within.is_open } in
     let there : IsIn past p (length (begun q)) (Scan low high) = record { process = q; own = own; count = refl; is_open = is } in
     let same : h.within.call ≡ Scan low high =
-    one-call plan first schedule s (calls plan start words schedule s run) (min h.t u) u p (length (begun q)) h.now past h.within.call (Scan low high)
+    one-call plan first schedule s (calls plan start words schedule s run) (min h.t u) u p (length (begun q)) h.now past
+        h.within.call (Scan low high)
     at-now at here there in
     let more = has-more plan low high v some first (take u schedule) q.got p (length (begun q)) reply h answers in
     let earlier : min h.t u < u = sooner (min h.t u) u (omega arith) (λ last.
@@ -80,6 +83,7 @@ scan-point fronts ends calls maps plan start words schedule s run v u past at p 
       got = length h.earlier + h.n;
       has_got = h.within;
       replies = λ n m few rest means.
-          let is-map : reply ≡ reply_to m (Scan low high) = (runs-once runs-so (maps plan.shape plan.variant n calm m low high few rest means).runs).1 in
+          let is-map : reply ≡ reply_to m (Scan low high) =
+              (runs-once runs-so (maps plan.shape plan.variant n calm m low high few rest means).runs).1 in
           (is-map, does-scan m low high reply is-map);
     }

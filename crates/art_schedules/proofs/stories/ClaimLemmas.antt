@@ -18,5 +18,6 @@ module _ (starts : StartsAreAtRest) (trees : KeptTreesFollow) (orders : StoriesG
   pub optimistic-from-ghosts : ((plan : Plan) (start : Contents) (words schedule : List ℕ) (s : State) → IsRun plan start words schedule s
       → plan.variant ≡ Optimistic → IsLed plan start words) → OptimisticIsLinearizable
   optimistic-from-ghosts led plan start words schedule s run is =
-      orders-of-ghosts starts trees plan (inr is) start words Ghost (World plan start words) (Fits plan start words) (led plan start words schedule s run is)
+      orders-of-ghosts starts trees plan (inr is) start words Ghost (World plan start words) (Fits plan start words)
+          (led plan start words schedule s run is)
       orders schedule s run

@@ -1,4 +1,5 @@
--- A story is made along a schedule of a full tree, where a ghost, something of the state, and what fits each open call are led on by each step.
+-- A story is made along a schedule of a full tree, where a ghost, something of the state, and what fits each open call are led on by each
+-- step.
 use Rattle.std.proofs.Common.{◌≡◌, ◌≢◌, ℕ, ◌+◌, ◌<◌, ◌≤◌, Bool, true, false, List, [], ◌∷◌, ◌++◌, length, take, refl, sym, ap, ◌∙◌, subst}
 use Rattle.std.proofs.Common.{⊎_elim, arith}
 use Rattle.std.specs.Prelude.{slice_get, slice_index, Option, Some, None}
@@ -25,7 +26,8 @@ use Rattle.art_stages.specs.Calls.{call_turn, call_begun}
 use Rattle.art_stages.specs.Stages.{setting}
 use Rattle.art_core.specs.declared.process.Process.{Process}
 use Rattle.art_core.specs.Accesses.{got_by}
-use Rattle.art_core.specs.Core.{Plan, State, Move, Invokes, Makes, Responds, after_move, begun, history_of, invocation, known_reply, move_from, move_of, moved}
+use Rattle.art_core.specs.Core.{Plan, State, Move, Invokes, Makes, Responds, after_move, begun, history_of, invocation, known_reply}
+use Rattle.art_core.specs.Core.{move_from, move_of, moved}
 use Rattle.art_core.specs.Core.{next_call, next_move, opened_on, step, word_of_move}
 use Rattle.art_core.specs.Plans.{IsRun}
 use Rattle.art_core.proofs.HistoryLemmas.{changed-at, is-moved}
@@ -51,7 +53,8 @@ use Rattle.art_schedules.specs.stories.Stories.{Status, Before, Changed, HasRepl
 use Rattle.art_schedules.specs.stories.Fitting.{MeansAt, IsToldStep, Next, OwnStep, Keeps, Changes, MakesAccess, AnswersCall, AllFit}
 use Rattle.art_schedules.specs.stories.Fitting.{turn_of, OfState, OfCall, IsLedOn, AreLed, HasItsReply}
 use Rattle.art_schedules.specs.stories.Laws.{StartsAreAtRest, StoriesGiveOrders}
-use Rattle.art_schedules.proofs.stories.GrowthLemmas.{Continues, continued, continues, story-more, status-next, status-goes, status-changed, status-begun}
+use Rattle.art_schedules.proofs.stories.GrowthLemmas.{Continues, continued, continues, story-more, status-next, status-goes, status-changed}
+use Rattle.art_schedules.proofs.stories.GrowthLemmas.{status-begun}
 use Rattle.art_schedules.proofs.stories.GrowthLemmas.{kept-so-far, in-now}
 use Rattle.art_schedules.proofs.stories.StoryLemmas.{story-few}
 use Rattle.art_schedules.specs.changes.Courses.{pairs_by, TreeGoesOn}
@@ -61,7 +64,8 @@ answers-known : (plan : Plan) (got : List ℕ) (call : Call) (reply : Reply) →
     → act plan.shape plan.variant call got ≡ Answers reply
 answers-known plan got call reply known = go (act plan.shape plan.variant call got) refl known
   where
-    go : (turn : Turn) → act plan.shape plan.variant call got ≡ turn → reply_of turn ≡ Some reply → act plan.shape plan.variant call got ≡ Answers reply
+    go : (turn : Turn) → act plan.shape plan.variant call got ≡ turn → reply_of turn ≡ Some reply
+        → act plan.shape plan.variant call got ≡ Answers reply
     go (Asks a mark) e f = absurd (none-some reply f)
     go (Answers other) e f = e ∙ ap Answers (same_Some other reply f)
 
@@ -74,7 +78,8 @@ makes-next plan p w a h = go w.call refl h
     calls None k = none-some (Makes a) k
     calls (Some other) k = cc
 
-    turns : (call : Call) (turn : Turn) → act plan.shape plan.variant call w.got ≡ turn → ◌≡◌ {A = Option Move} (Some (move_of turn)) (Some (Makes a))
+    turns : (call : Call) (turn : Turn) → act plan.shape plan.variant call w.got ≡ turn
+        → ◌≡◌ {A = Option Move} (Some (move_of turn)) (Some (Makes a))
         → (mark : Option Point) × (act plan.shape plan.variant call w.got ≡ Asks a mark)
     turns call (Asks other mark) e k = let same : other ≡ a = cc in (mark, e ∙ ap (λ x. Asks x mark) same)
     turns call (Answers reply) e k = absurd (cc k)
@@ -124,7 +129,8 @@ module _ (starts : StartsAreAtRest) (trees : KeptTreesFollow) (plan : Plan) (ful
     fits = λ p call q o. absurd (idle-idle plan words p call q o);
   }
 
-  module _ (schedule : List ℕ) (p : ℕ) (s t : State) (before : IsRun plan start words schedule s) (behind : IsRun plan start words (schedule ++ p ∷ []) t)
+  module _ (schedule : List ℕ) (p : ℕ) (s t : State) (before : IsRun plan start words schedule s)
+      (behind : IsRun plan start words (schedule ++ p ∷ []) t)
       (made : step plan s p ≡ Some t) (h : IsTold schedule s) where
     abbrev n : ℕ
     n = length schedule
@@ -165,7 +171,8 @@ module _ (starts : StartsAreAtRest) (trees : KeptTreesFollow) (plan : Plan) (ful
     low-goes w own move word is none = record {
       claims = told.claims;
       follows = trees plan.shape told.claims told.claims calm after m told.rests told.means
-          (low-words-keep plan.shape told.claims calm after told.rests (told.calm_behind.long ∙ sym told.calm_before.long) told.calm_behind.small
+          (low-words-keep plan.shape told.claims calm after told.rests (told.calm_behind.long ∙ sym told.calm_before.long)
+              told.calm_behind.small
           (λ k. let e = claims k in omega arith) (stays told.change.change))
           (λ k. let e = claims k in omega (arith, told.rests.claims k));
       gone = λ b gone. absurd gone;
@@ -190,7 +197,8 @@ module _ (starts : StartsAreAtRest) (trees : KeptTreesFollow) (plan : Plan) (ful
             ∙ sym (told.calm_before.low (claims_of k) (low k).0)))
 
     -- one step more, where it changes the pairs by the effect, or keeps them
-    module _ (w : Process) (own : slice_get s.processes p ≡ Some w) (move : Move) (is : t ≡ moved s p w move) (change : Bool) (effect : Option Effect)
+    module _ (w : Process) (own : slice_get s.processes p ≡ Some w) (move : Move) (is : t ≡ moved s p w move) (change : Bool)
+        (effect : Option Effect)
         (goes : TreeGoesOn plan.shape t.words calm after m effect) where
       abbrev next : Contents
       next = pairs_by effect m
@@ -237,11 +245,13 @@ module _ (starts : StartsAreAtRest) (trees : KeptTreesFollow) (plan : Plan) (ful
       IsFitBehind g r call q = (status : Status) × Fits g longer t after r call q status
           × HasStatus plan first longer later (n + 1) r (length (begun q)) call status
 
-      told-more : (Own : Ghost → Type 0) → (on : IsLedOn Ghost World Fits h.ghost schedule p s t calm after Own) → (change ≡ false → next ≡ m)
+      told-more : (Own : Ghost → Type 0) → (on : IsLedOn Ghost World Fits h.ghost schedule p s t calm after Own)
+          → (change ≡ false → next ≡ m)
           → (change ≡ true → IsInCallAt plan first schedule n p)
           → ((call : Call) → moves.call ≡ Some call → IsFitBehind on.next p call moves)
           → ((call : Call) (q : Process) (reply : Reply) → IsOpen s p call q → known_reply plan q.got (Some call) ≡ Some reply
-          → (change ≡ false) × (status : Status) × HasStatus plan first schedule h.tale n p (length (begun q)) call status × HasReply status reply)
+          → (change ≡ false) × (status : Status) × HasStatus plan first schedule h.tale n p (length (begun q)) call status
+          × HasReply status reply)
           → IsTold longer t
       told-more Own on stays in-call its answers = record {
         tale = later;
@@ -251,7 +261,8 @@ module _ (starts : StartsAreAtRest) (trees : KeptTreesFollow) (plan : Plan) (ful
         means = more-means (story-few plan start words longer t later behind its-story);
         fits = λ r call q o.
             let (status, f, has) = fits r call q o in
-            (status, f, subst (λ i. HasStatus plan first longer later i r (length (begun q)) call status) (sym (length-append schedule (p ∷ []))) has);
+            (status, f, subst (λ i. HasStatus plan first longer later i r (length (begun q)) call status)
+                (sym (length-append schedule (p ∷ []))) has);
       }
         where
           c : Continues n h.tale later change next
@@ -267,7 +278,8 @@ module _ (starts : StartsAreAtRest) (trees : KeptTreesFollow) (plan : Plan) (ful
               let (status, f, has) = h.fits r call q old in (
                 status,
                 on.others r call q status x.0 old o f,
-                status-next plan start first schedule p h.tale later change next c r (length (begun q)) call status (λ e. absurd (x.0 e)) has,
+                status-next plan start first schedule p h.tale later change next c r (length (begun q)) call status
+                    (λ e. absurd (x.0 e)) has,
               ))
               (changed-at s.processes p moves r q (subst (λ x. slice_get x.processes r ≡ Some q) is o.own))
 
@@ -288,8 +300,10 @@ module _ (starts : StartsAreAtRest) (trees : KeptTreesFollow) (plan : Plan) (ful
     one-process : (w q : Process) (call : Call) → slice_get s.processes p ≡ Some w → IsOpen s p call q → w ≡ q
     one-process w q call own o = same_Some w q (sym own ∙ o.own)
 
-    one-call : (w q : Process) (call other : Call) → slice_get s.processes p ≡ Some w → w.call ≡ Some call → IsOpen s p other q → call ≡ other
-    one-call w q call other own opens o = same_Some call other (sym opens ∙ (ap (λ (x : Process). x.call) (one-process w q other own o) ∙ o.is_open))
+    one-call : (w q : Process) (call other : Call) → slice_get s.processes p ≡ Some w → w.call ≡ Some call
+        → IsOpen s p other q → call ≡ other
+    one-call w q call other own opens o = same_Some call other
+        (sym opens ∙ (ap (λ (x : Process). x.call) (one-process w q other own o) ∙ o.is_open))
 
     answers-turn : (call : Call) (q : Process) (reply : Reply) → known_reply plan q.got (Some call) ≡ Some reply
         → call_turn (setting plan.shape plan.variant call) (stage_of plan.variant plan.shape call q) ≡ Answers reply
@@ -305,13 +319,15 @@ module _ (starts : StartsAreAtRest) (trees : KeptTreesFollow) (plan : Plan) (ful
 
       none-asked : (a : Access) → AsksFor plan.variant plan.shape s p a → ⊥
       none-asked a asks =
-          none-some asks.call (sym idle ∙ (ap (λ (x : Process). x.call) (one-process w asks.process asks.call own asks.is_open) ∙ asks.is_open.is_open))
+          none-some asks.call (sym idle ∙ (ap (λ (x : Process). x.call) (one-process w asks.process asks.call own asks.is_open)
+              ∙ asks.is_open.is_open))
 
       stays : TreeGoesOn plan.shape t.words calm after m None
       stays = low-goes w own (Invokes call) refl is none-asked
 
       count : length (begun begun-as) ≡ length (begun w) + 1
-      count = ap (λ l. length l) (begun-more w (slice_index s.words (word_of_move (Invokes call)), Invoke p call)) ∙ length-append (begun w) (call ∷ [])
+      count = ap (λ l. length l) (begun-more w (slice_index s.words (word_of_move (Invokes call)), Invoke p call))
+          ∙ length-append (begun w) (call ∷ [])
 
       same-words : (word : ℕ) → word ≢ 0 → slice_index t.words word ≡ slice_index s.words word
       same-words word other = ap (λ x. slice_index x.words word) is ∙ index-other s.words 0 _ word other
@@ -328,18 +344,22 @@ module _ (starts : StartsAreAtRest) (trees : KeptTreesFollow) (plan : Plan) (ful
 
       begins-call : IsTold (schedule ++ p ∷ []) t
       begins-call =
-          told-more w own (Invokes call) is false None stays (λ g. Fits g (schedule ++ p ∷ []) t after p call begun-as Before) on (λ e. refl)
+          told-more w own (Invokes call) is false None stays
+              (λ g. Fits g (schedule ++ p ∷ []) t after p call begun-as Before) on (λ e. refl)
           (λ e. absurd (false≢true e))
           (λ other e. subst (λ x. IsFitBehind w own (Invokes call) is false None stays on.next p x begun-as) (same_Some call other e) (
             Before,
             on.own,
-            status-begun plan start first schedule p h.tale (continued n h.tale false m) false m (continues n h.tale false m) s t before.gives behind.gives
+            status-begun plan start first schedule p h.tale (continued n h.tale false m) false m (continues n h.tale false m) s t
+                before.gives behind.gives
                 (length (begun begun-as)) call w own idle count,
           ))
-          (λ other q reply o known. absurd (none-some other (sym idle ∙ (ap (λ (x : Process). x.call) (one-process w q other own o) ∙ o.is_open))))
+          (λ other q reply o known. absurd
+              (none-some other (sym idle ∙ (ap (λ (x : Process). x.call) (one-process w q other own o) ∙ o.is_open))))
 
     module _ (w : Process) (own : slice_get s.processes p ≡ Some w) (reply : Reply) (is-next : next_move plan p w ≡ Some (Responds reply))
-        (is : t ≡ moved s p w (Responds reply)) (call : Call) (opens : w.call ≡ Some call) (known : known_reply plan w.got (Some call) ≡ Some reply) where
+        (is : t ≡ moved s p w (Responds reply)) (call : Call) (opens : w.call ≡ Some call)
+            (known : known_reply plan w.got (Some call) ≡ Some reply) where
       not-asked : (a : Access) → AsksFor plan.variant plan.shape s p a → ⊥
       not-asked a asks =
           let is-w = one-process w asks.process asks.call own asks.is_open in
@@ -371,7 +391,8 @@ module _ (starts : StartsAreAtRest) (trees : KeptTreesFollow) (plan : Plan) (ful
         abbrev HasAnswer : Call → Process → Reply → Type 0
         HasAnswer c q r = (false ≡ false) × (x : Status) × HasStatus plan first schedule h.tale n p (length (begun q)) c x × HasReply x r
 
-        its-answer : (other : Call) (q : Process) (r : Reply) → IsOpen s p other q → known_reply plan q.got (Some other) ≡ Some r → HasAnswer other q r
+        its-answer : (other : Call) (q : Process) (r : Reply) → IsOpen s p other q → known_reply plan q.got (Some other) ≡ Some r
+            → HasAnswer other q r
         its-answer other q r o other-known =
             let is-w = one-process w q other own o in
             let is-call = one-call w q call other own opens o in
@@ -382,7 +403,8 @@ module _ (starts : StartsAreAtRest) (trees : KeptTreesFollow) (plan : Plan) (ful
             let (next, goes, has-reply) = on-answer.own in
             let now = status-goes plan start first schedule p h.tale (length (begun w)) call status next goes
             (in-now plan start first schedule p s before.gives p call w (record { own = own; is_open = opens })) has in
-            subst (λ c. HasAnswer c q r) is-call (subst (λ x. HasAnswer call x r) is-w (refl, next, now, subst (HasReply next) same has-reply))
+            subst (λ c. HasAnswer c q r) is-call
+                (subst (λ x. HasAnswer call x r) is-w (refl, next, now, subst (HasReply next) same has-reply))
 
         answers-call : IsTold (schedule ++ p ∷ []) t
         answers-call =
@@ -391,7 +413,8 @@ module _ (starts : StartsAreAtRest) (trees : KeptTreesFollow) (plan : Plan) (ful
             (λ e. refl) (λ e. absurd (false≢true e))
             (λ other e. absurd (none-some other e)) its-answer
 
-    module _ (w : Process) (own : slice_get s.processes p ≡ Some w) (a : Access) (is : t ≡ moved s p w (Makes a)) (call : Call) (opens : w.call ≡ Some call)
+    module _ (w : Process) (own : slice_get s.processes p ≡ Some w) (a : Access) (is : t ≡ moved s p w (Makes a)) (call : Call)
+        (opens : w.call ≡ Some call)
         (mark : Option Point) (asks : act plan.shape plan.variant call w.got ≡ Asks a mark) where
       abbrev q : Process
       q = after_move p (Makes a) (slice_index s.words (word_of_move (Makes a))) w
@@ -410,7 +433,8 @@ module _ (starts : StartsAreAtRest) (trees : KeptTreesFollow) (plan : Plan) (ful
         asks = sym (next-turn plan.variant plan.shape call w) ∙ asks;
         words = ap (λ x. x.words) is;
         got = refl;
-        stage = after-more (setting plan.shape plan.variant call) (call_begun (setting plan.shape plan.variant call)) w.got (got_by a s.words);
+        stage = after-more (setting plan.shape plan.variant call) (call_begun (setting plan.shape plan.variant call)) w.got
+            (got_by a s.words);
       }
 
       -- it answers nothing yet
@@ -420,16 +444,19 @@ module _ (starts : StartsAreAtRest) (trees : KeptTreesFollow) (plan : Plan) (ful
           let is-call = one-call w v call other own opens o in
           let turn : act plan.shape plan.variant call w.got ≡ Answers reply =
           subst (λ c. act plan.shape plan.variant c w.got ≡ Answers reply) (sym is-call)
-          (subst (λ (x : Process). act plan.shape plan.variant other x.got ≡ Answers reply) (sym is-w) (answers-known plan v.got other reply known)) in
+          (subst (λ (x : Process). act plan.shape plan.variant other x.got ≡ Answers reply) (sym is-w)
+              (answers-known plan v.got other reply known)) in
           asks-answers (sym asks ∙ turn)
 
       module _ (status : Status) (has : HasStatus plan first schedule h.tale n p calls call status) where
         -- where it keeps the pairs
         keeps : (next : Status) → Next plan first schedule h.tale p calls call status next
             → HasStatus plan first (schedule ++ p ∷ []) (continued n h.tale false m) (n + 1) p calls call next
-        keeps next how = status-next plan start first schedule p h.tale (continued n h.tale false m) false m (continues n h.tale false m) p calls call next
+        keeps next how = status-next plan start first schedule p h.tale (continued n h.tale false m) false m (continues n h.tale false
+            m) p calls call next
             (λ x. refl)
-            (status-goes plan start first schedule p h.tale calls call status next how (in-now plan start first schedule p s before.gives p call w here) has)
+            (status-goes plan start first schedule p h.tale calls call status next how
+                (in-now plan start first schedule p s before.gives p call w here) has)
 
         abbrev OwnFits : Status → Ghost → Type 0
         OwnFits now g = Fits g (schedule ++ p ∷ []) t after p call q now
@@ -449,7 +476,8 @@ module _ (starts : StartsAreAtRest) (trees : KeptTreesFollow) (plan : Plan) (ful
             let i = in-now plan start first schedule p s before.gives p call w here in
             told-more w own (Makes a) is true (Some effect) tree (OwnFits (Changed reply)) on (λ e. absurd (false≢true (sym e)))
             (λ e. (i.now, calls, call, i.at, i.is_in))
-            (λ other e. subst (λ x. IsFitBehind w own (Makes a) is true (Some effect) tree on.next p x q) (same_Some call other (sym opens ∙ e)) (
+            (λ other e. subst (λ x. IsFitBehind w own (Makes a) is true (Some effect) tree on.next p x q)
+                (same_Some call other (sym opens ∙ e)) (
               Changed reply,
               on.own,
               status-changed plan start first schedule p h.tale changed-tale true after-it c calls call reply refl
@@ -483,4 +511,5 @@ module _ (starts : StartsAreAtRest) (trees : KeptTreesFollow) (plan : Plan) (ful
 
   pub orders-of-ghosts : StoriesGiveOrders → (schedule : List ℕ) (s : State) → IsRun plan start words schedule s
       → IsLinearizable start (operations (history_of s))
-  orders-of-ghosts orders schedule s run = let (tale, story) = story-of-ghosts schedule s run in orders plan start words schedule s tale run story
+  orders-of-ghosts orders schedule s run = let (tale, story) =
+      story-of-ghosts schedule s run in orders plan start words schedule s tale run story

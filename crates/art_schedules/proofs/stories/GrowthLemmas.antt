@@ -1,5 +1,6 @@
 -- A story of a run, one step more.
-use Rattle.std.proofs.Common.{◌≡◌, ◌≢◌, ℕ, ◌+◌, ◌<◌, ◌≤◌, Bool, true, false, cond, List, [], ◌∷◌, ◌++◌, length, take, Some, None, refl, sym, ap, ◌∙◌, subst}
+use Rattle.std.proofs.Common.{◌≡◌, ◌≢◌, ℕ, ◌+◌, ◌<◌, ◌≤◌, Bool, true, false, cond, List, [], ◌∷◌, ◌++◌, length, take, Some, None, refl, sym}
+use Rattle.std.proofs.Common.{ap, ◌∙◌, subst}
 use Rattle.std.proofs.Common.{inl, inr, ⊎_elim, arith}
 use Rattle.std.specs.Prelude.{◌⊎◌, slice_get, nat_lt}
 use Rattle.std.proofs.lemmas.Bool.{false≢true, cases_lt, le-ltb, lt-ltb}
@@ -30,7 +31,8 @@ pub record Continues (n : ℕ) (tale later : Tale) (change : Bool) (next : Conte
   pub behind : later.pairs (n + 1) ≡ next
 
 abbrev pub continued : ℕ → Tale → Bool → Contents → Tale
-continued n tale change next = record { pairs = λ u. cond (nat_lt n u) next (tale.pairs u); changes = λ u. cond (nat_lt u n) (tale.changes u) change }
+continued n tale change next = record { pairs = λ u. cond (nat_lt n u) next (tale.pairs u); changes = λ u. cond (nat_lt u n)
+    (tale.changes u) change }
 
 pub continues : (n : ℕ) (tale : Tale) (change : Bool) (next : Contents) → Continues n tale (continued n tale change next) change next
 continues n tale change next = record {
@@ -103,7 +105,8 @@ module _ (plan : Plan) (start : Contents) (first : State) (schedule : List ℕ) 
       (record { kept = kept-so-far tale n p calls call status not h; moment = u; until = le; within = within; finds = does })
 
   module _ (tale later : Tale) (change : Bool) (next : Contents) (c : Continues n tale later change next) where
-    kept-more : (t r calls : ℕ) (call : Call) → t ≤ n → HasKept plan first schedule tale t r calls call → HasKept plan first longer later t r calls call
+    kept-more : (t r calls : ℕ) (call : Call) → t ≤ n → HasKept plan first schedule tale t r calls call
+        → HasKept plan first longer later t r calls call
     kept-more t r calls call le kept u less own = c.changes u (omega arith) ∙ kept u less (own-front u r calls call (omega arith) own)
 
     -- what was so at a moment of the schedule is so of the longer one
@@ -149,9 +152,11 @@ module _ (plan : Plan) (start : Contents) (first : State) (schedule : List ℕ) 
         kept : HasKept plan first longer later n r calls call → HasKept plan first longer later (n + 1) r calls call
         kept k u less own = ⊎_elim (λ l. k u l own) (λ e. e) (last u less own)
 
-        go : (status : Status) → HasStatus plan first longer later n r calls call status → HasStatus plan first longer later (n + 1) r calls call status
+        go : (status : Status) → HasStatus plan first longer later n r calls call status
+            → HasStatus plan first longer later (n + 1) r calls call status
         go Before k = kept k
-        go (Found reply) k = record { kept = kept k.kept; moment = k.moment; until = omega (arith, k.until); within = k.within; finds = k.finds }
+        go (Found reply) k = record { kept = kept k.kept; moment = k.moment; until = omega (arith, k.until); within =
+            k.within; finds = k.finds }
         go (Changed reply) k = record {
           step = k.step;
           until = omega (arith, k.until);
@@ -181,11 +186,13 @@ module _ (plan : Plan) (start : Contents) (first : State) (schedule : List ℕ) 
 
     module _ (s t : State) (gives : Gives plan first schedule s) (gives-next : Gives plan first longer t) where
       -- a call that begins in the step has made none before
-      pub status-begun : (calls : ℕ) (call : Call) (w : Process) → slice_get s.processes p ≡ Some w → w.call ≡ None → calls ≡ length (begun w) + 1
+      pub status-begun : (calls : ℕ) (call : Call) (w : Process) → slice_get s.processes p ≡ Some w → w.call ≡ None
+          → calls ≡ length (begun w) + 1
           → HasStatus plan first longer later (n + 1) p calls call Before
       status-begun calls call w own idle count u less its =
           let i = front-in u p calls call (omega arith) its.1 in
-          let rises = stage-rises plan first schedule p u n i.now s i.is_in.process w (omega arith) i.at (at-last s gives) i.is_in.own own in
+          let rises = stage-rises plan first schedule p u n i.now s i.is_in.process w (omega arith) i.at (at-last s gives)
+              i.is_in.own own in
           let opens = stage-open i.is_in.process call i.is_in.is_open in
           let rests = stage-idle w idle in
           absurd (omega (arith, rises, opens, rests, i.is_in.count, count))
@@ -197,11 +204,13 @@ module _ (plan : Plan) (start : Contents) (first : State) (schedule : List ℕ) 
       at-next now at = same_Some now t (sym (subst (λ l. run_on plan (Some first) l ≡ Some now) all-of at) ∙ gives-next)
 
       -- The story goes on, where it does so at the last moment and in the last step.
-      pub story-more : IsStory plan start first schedule tale → (change ≡ false → next ≡ tale.pairs n) → (change ≡ true → IsInCallAt plan first schedule n p)
+      pub story-more : IsStory plan start first schedule tale → (change ≡ false → next ≡ tale.pairs n)
+          → (change ≡ true → IsInCallAt plan first schedule n p)
           → ((r : ℕ) (call : Call) (w : Process) → IsOpen t r call w
           → (status : Status) × HasStatus plan first longer later (n + 1) r (length (begun w)) call status)
           → ((call : Call) (w : Process) (reply : Reply) → IsOpen s p call w → known_reply plan w.got (Some call) ≡ Some reply
-          → (change ≡ false) × (status : Status) × HasStatus plan first schedule tale n p (length (begun w)) call status × HasReply status reply)
+          → (change ≡ false) × (status : Status) × HasStatus plan first schedule tale n p (length (begun w)) call status
+          × HasReply status reply)
           → IsStory plan start first longer later
       story-more story stays in-call last-statuses last-answers = record {
         begins = c.pairs 0 (omega arith) ∙ story.begins;
@@ -220,7 +229,8 @@ module _ (plan : Plan) (start : Contents) (first : State) (schedule : List ℕ) 
               (λ more.
               let e : u ≡ n = omega (arith, many) in
               ap (λ i. later.pairs (i + 1)) e
-              ∙ (c.behind ∙ (stays (sym c.here ∙ (ap later.changes (sym e) ∙ none)) ∙ (sym (c.pairs n (omega arith)) ∙ ap later.pairs (sym e)))))
+              ∙ (c.behind ∙ (stays (sym c.here ∙ (ap later.changes (sym e) ∙ none))
+              ∙ (sym (c.pairs n (omega arith)) ∙ ap later.pairs (sym e)))))
               (cases_lt u n)
 
           in-calls : (u r : ℕ) → slice_get longer u ≡ Some r → later.changes u ≡ true → IsInCallAt plan first longer u r
@@ -256,7 +266,8 @@ module _ (plan : Plan) (start : Contents) (first : State) (schedule : List ℕ) 
               (cases_lt u (n + 1))
 
           answers : (u r calls : ℕ) (call : Call) (reply : Reply) → EndsAt plan first longer u r calls call reply
-              → (later.changes u ≡ false) × (status : Status) × HasStatus plan first longer later u r calls call status × HasReply status reply
+              → (later.changes u ≡ false) × (status : Status) × HasStatus plan first longer later u r calls call status
+              × HasReply status reply
           answers u r calls call reply ends = ⊎_elim
               (λ l.
               let (none, status, h, same) = story.answers u r calls call reply (record {
@@ -276,7 +287,8 @@ module _ (plan : Plan) (start : Contents) (first : State) (schedule : List ℕ) 
               let w = ends.is_in.process in
               let opens : IsOpen s p call w =
               record {
-                own = subst (λ i. slice_get s.processes i ≡ Some w) is-p (subst (λ x. slice_get x.processes r ≡ Some w) is-s ends.is_in.own);
+                own = subst (λ i. slice_get s.processes i ≡ Some w) is-p
+                    (subst (λ x. slice_get x.processes r ≡ Some w) is-s ends.is_in.own);
                 is_open = ends.is_in.is_open;
               } in
               let (none, status, h, same) = last-answers call w reply opens ends.known in (

@@ -12,7 +12,8 @@ use Rattle.art_versions.proofs.versions.KnownLemmas.{same-process, same-call}
 use Rattle.art_schedules.specs.stories.Fitting.{set_at}
 
 pub set-cases : {A : Type 0} (f : ℕ → A) (p : ℕ) (a : A) (r : ℕ) → ((r ≡ p) × (set_at f p a r ≡ a)) ⊎ ((r ≢ p) × (set_at f p a r ≡ f r))
-set-cases f p a r = ⊎_elim (λ x. inl (x.1, ap (λ b. if b then a else f r) x.0)) (λ x. inr (x.1, ap (λ b. if b then a else f r) x.0)) (eqb_tells r p)
+set-cases f p a r = ⊎_elim (λ x. inl (x.1, ap (λ b. if b then a else f r) x.0))
+    (λ x. inr (x.1, ap (λ b. if b then a else f r) x.0)) (eqb_tells r p)
 
 pub set-here : {A : Type 0} (f : ℕ → A) (p : ℕ) (a : A) → set_at f p a p ≡ a
 set-here f p a = ⊎_elim (λ x. x.1) (λ x. absurd (x.0 refl)) (set-cases f p a p)
@@ -20,7 +21,9 @@ set-here f p a = ⊎_elim (λ x. x.1) (λ x. absurd (x.0 refl)) (set-cases f p a
 pub set-other : {A : Type 0} (f : ℕ → A) (p : ℕ) (a : A) (r : ℕ) → r ≢ p → set_at f p a r ≡ f r
 set-other f p a r apart = ⊎_elim (λ x. absurd (apart x.0)) (λ x. x.1) (set-cases f p a r)
 
-pub same-stage : (variant : Variant) (shape : Shape) (s : State) (p : ℕ) (call other : Call) (q w : Process) → IsOpen s p call q → IsOpen s p other w
+pub same-stage : (variant : Variant) (shape : Shape) (s : State) (p : ℕ) (call other : Call) (q w : Process) → IsOpen s p call q
+    → IsOpen s p other w
     → stage_of variant shape call q ≡ stage_of variant shape other w
 same-stage variant shape s p call other q w o x =
-    ap (λ y. stage_of variant shape y q) (same-call s p call other q w o x) ∙ ap (stage_of variant shape other) (same-process s p call other q w o x)
+    ap (λ y. stage_of variant shape y q) (same-call s p call other q w o x)
+        ∙ ap (stage_of variant shape other) (same-process s p call other q w o x)

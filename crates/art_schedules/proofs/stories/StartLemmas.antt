@@ -21,7 +21,8 @@ use Rattle.art_serial.proofs.maps.SerialMapLemmas.{IsMap, is-kept}
 use Rattle.art_schedules.specs.stories.Laws.{StartsAreAtRest}
 
 -- the plan of the inserts is within the limits
-within-limits : (shape : Shape) (variant : Variant) (start : Contents) → IsWithinLimits shape → All (λ call. IsTrue (is_tree_call call)) (inserts start)
+within-limits : (shape : Shape) (variant : Variant) (start : Contents) → IsWithinLimits shape
+    → All (λ call. IsTrue (is_tree_call call)) (inserts start)
     → length start ≤ MAX_CALLS → IsPlan (start_plan shape variant start)
 within-limits shape variant start within calls few = record {
   shape = within;

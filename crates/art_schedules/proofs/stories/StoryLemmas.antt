@@ -1,5 +1,6 @@
 -- In a run with a story each call has its effect within itself.
-use Rattle.std.proofs.Common.{◌≡◌, ℕ, ◌+◌, ◌<◌, ◌≤◌, false, List, length, Option, Some, None, refl, sym, ◌∙◌, subst, inl, inr, ⊎_elim, arith}
+use Rattle.std.proofs.Common.{◌≡◌, ℕ, ◌+◌, ◌<◌, ◌≤◌, false, List, length, Option, Some, None, refl, sym, ◌∙◌, subst, inl, inr, ⊎_elim}
+use Rattle.std.proofs.Common.{arith}
 use Rattle.std.specs.Prelude.{◌⊎◌, IfSome}
 use Rattle.std.proofs.lemmas.Bool.{cases_lt}
 use Rattle.std.proofs.Math.Seq.{take-length}
@@ -23,7 +24,8 @@ use Rattle.art_schedules.specs.stories.Stories.{Status, Before, Found, Changed, 
 use Rattle.art_schedules.specs.stories.Stories.{IsStory, IsOwnStep}
 use Rattle.art_schedules.specs.stories.Laws.{StoriesGiveEffects, StoriesGiveOrders}
 
-module _ (plan : Plan) (start : Contents) (first s : State) (schedule : List ℕ) (tale : Tale) (gives : At plan first schedule (length schedule) s)
+module _ (plan : Plan) (start : Contents) (first s : State) (schedule : List ℕ) (tale : Tale)
+    (gives : At plan first schedule (length schedule) s)
     (story : IsStory plan start first schedule tale) (a : Operation) (c : RunCall) (is : IsRunCall plan first schedule a c) where
   -- the moments within the call are those at which its process is in it
   in-call : (u : ℕ) → u ≤ length schedule → IsWithin c u → IsInCall plan first schedule u c.process c.calls a.call
@@ -50,7 +52,8 @@ module _ (plan : Plan) (start : Contents) (first s : State) (schedule : List ℕ
       own = (h.own.0, is-within h.step h.own.1);
       change = h.change;
       does = leaves (tale.pairs h.step) (tale.pairs (h.step + 1)) h.does;
-      only = λ u own change. ⊎_elim (λ less. h.only u less (own-step u own) change) (λ none. absurd (false≢true (sym none ∙ change))) (last u own);
+      only = λ u own change. ⊎_elim (λ less. h.only u less (own-step u own) change)
+          (λ none. absurd (false≢true (sym none ∙ change))) (last u own);
     })
 
     -- of an answered call
@@ -81,7 +84,8 @@ module _ (plan : Plan) (start : Contents) (first s : State) (schedule : List ℕ
   call-effect : HasOwnEffect schedule tale.pairs tale.changes a c
   call-effect = go a.response refl c.ends refl is.ends
     where
-      go : (response : Option Response) → a.response ≡ response → (ends : Option ℕ) → c.ends ≡ ends → EndsWith plan first schedule c a.call response ends
+      go : (response : Option Response) → a.response ≡ response → (ends : Option ℕ) → c.ends ≡ ends
+          → EndsWith plan first schedule c a.call response ends
           → HasOwnEffect schedule tale.pairs tale.changes a c
       go None e None f ends =
           let until : IfSome c.ends (λ e. length schedule ≤ e) = subst (λ o. IfSome o (λ e. length schedule ≤ e)) (sym f) tt in

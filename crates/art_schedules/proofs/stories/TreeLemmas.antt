@@ -21,13 +21,15 @@ few-claims words Sixteen = omega arith
 few-claims words FortyEight = omega arith
 few-claims words Full = omega arith
 
-module _ (plan : Plan) (full : IsFull plan.variant) (start : Contents) (words schedule : List ℕ) (tale : Tale) (p : ℕ) (s t : State) (calm after : List ℕ)
+module _ (plan : Plan) (full : IsFull plan.variant) (start : Contents) (words schedule : List ℕ) (tale : Tale) (p : ℕ) (s t : State)
+    (calm after : List ℕ)
     (told : IsToldStep plan start words schedule tale p s t calm after) where
   -- where the rows of the tree say the same, calm's tree goes on by no effect
   pub tree-kept : KeptTreesFollow → KeepsTree plan.shape calm after
       → TreeGoesOn plan.shape t.words calm after (tale.pairs (length schedule)) None
   tree-kept trees keeps = record {
     claims = all_claims after;
-    follows = trees plan.shape told.claims (all_claims after) calm after (tale.pairs (length schedule)) told.rests told.means keeps (few-claims after);
+    follows = trees plan.shape told.claims (all_claims after) calm after (tale.pairs (length schedule)) told.rests told.means keeps
+        (few-claims after);
     gone = λ b gone. absurd gone;
   }

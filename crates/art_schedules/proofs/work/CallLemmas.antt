@@ -42,7 +42,8 @@ key-small (Scan low high) tree f = absurd (false≢true (sym f))
 key-small (Replace key old new) tree f = grind (arith, tree)
 
 -- a call that finds its key and overwrites nothing leaves the map
-pub kept-after : (m : Contents) (call : Call) (v : ℕ) → is_seek call ≡ true → overwriting call v ≡ None → value_at m (key_of call) ≡ Some v → after m call ≡ m
+pub kept-after : (m : Contents) (call : Call) (v : ℕ) → is_seek call ≡ true → overwriting call v ≡ None → value_at m (key_of call) ≡ Some v
+    → after m call ≡ m
 kept-after m (Get key) v seek none has = refl
 kept-after m (Remove key) v seek none has = absurd (none-some 0 (sym none))
 kept-after m (Replace key old new) v seek none has = ap (λ o. if is_just o old then put key new m else m) has ∙ go (v == old) refl none

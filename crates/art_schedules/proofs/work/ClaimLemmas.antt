@@ -1,5 +1,6 @@
 -- Work that begins with a claim.
-use Rattle.std.proofs.Common.{◌≡◌, ℕ, ◌+◌, ◌%◌, ◌^◌, ◌<◌, ◌≤◌, List, ◌∷◌, length, refl, ap, sym, subst, ◌∙◌, Bool, true, false, inl, inr, arith}
+use Rattle.std.proofs.Common.{◌≡◌, ℕ, ◌+◌, ◌%◌, ◌^◌, ◌<◌, ◌≤◌, List, ◌∷◌, length, refl, ap, sym, subst, ◌∙◌, Bool, true, false, inl, inr}
+use Rattle.std.proofs.Common.{arith}
 use Rattle.std.specs.Prelude.{◌≢◌, ◌⊎◌, nat_lt, slice_index, slice_set, Option, Some, None, if◌then◌else◌}
 use Rattle.std.proofs.lemmas.Bool.{cases_lt}
 use Rattle.events.specs.declared.event.Reply.{Reply}
@@ -41,7 +42,8 @@ use Rattle.art_schedules.proofs.work.GoingLemmas.{IsBehind, Going, IsAlong, goin
 use Rattle.art_schedules.proofs.work.EndLemmas.{releases, behind-no, end-releases, at-release}
 use Rattle.art_schedules.proofs.work.CallLemmas.{key-same}
 
-pub step-claim : (c : Setting) {at next : CallAt} {words later : List ℕ} (kind : Kind) (mark : Option Point) → call_turn c at ≡ Asks (Add (claims_of kind)) mark
+pub step-claim : (c : Setting) {at next : CallAt} {words later : List ℕ} (kind : Kind) (mark : Option Point)
+    → call_turn c at ≡ Asks (Add (claims_of kind)) mark
     → Step c at words next later → (number : ℕ) × (next ≡ call_after c at number) × (later ≡ words) × IsUnused c.shape words kind number
 step-claim c kind mark asks (loads w m h) = absurd (load-add (sym h ∙ asks))
 step-claim c kind mark asks (stores w v m h) = absurd (store-add (sym h ∙ asks))
@@ -68,7 +70,8 @@ module _ (s : Shape) (words : List ℕ) (kind : Kind) (number : ℕ) where
       ∙ number-other word l
 
   pub more-long : length (with_more words kind number) ≡ length words
-  more-long = stored-long (with_number words kind number) (claims_of kind) ((number + 1) % 2 ^ 64) ∙ stored-long words (claims_of kind) number
+  more-long = stored-long (with_number words kind number) (claims_of kind) ((number + 1) % 2 ^ 64)
+      ∙ stored-long words (claims_of kind) number
 
 -- The claim got the number of a row that only had zeros.
 pub record IsClaim (s : Shape) (words : List ℕ) (kind : Kind) (number : ℕ) : Type 0 where
@@ -99,15 +102,18 @@ pub hangs-row : (s : Shape) (l : Bool) (above : Option Held) (slot : ℕ) → Ha
 hangs-row s l None slot fits kept = absurd fits
 hangs-row s l (Some a) slot fits kept = (a.base, a.kind, kept.0.1, fits)
 
-pub slot-plain : (s : Shape) (words : List ℕ) (slot base : ℕ) (kind : Kind) → table_words s ≤ length words → kind_at s base ≡ Some kind → IsSlot base kind slot
+pub slot-plain : (s : Shape) (words : List ℕ) (slot base : ℕ) (kind : Kind) → table_words s ≤ length words → kind_at s base ≡ Some kind
+    → IsSlot base kind slot
     → IsPlain s slot × (slot < length words)
 slot-plain s words slot base kind long row at =
     let behind = slot-behind base kind slot at in
     (behind-plain s base kind slot row behind, omega (arith, behind.1, row_ends s base kind row, long))
 
-module _ (c : Setting) (full : IsFull c.variant) (some : 1 ≤ c.shape.rows256) (key : is_scan c.call ≡ false) (h : Hold) (kind : Kind) (b : Bool) (claim : Stage)
+module _ (c : Setting) (full : IsFull c.variant) (some : 1 ≤ c.shape.rows256) (key : is_scan c.call ≡ false) (h : Hold) (kind : Kind)
+    (b : Bool) (claim : Stage)
     (a1 : ℕ → Stage) (w0 : List ℕ) (asks : turn_at c claim ≡ Asks (Add (claims_of kind)) None)
-    (after : (number : ℕ) → stage_after c claim number ≡ (if nat_lt number (rows_of c.shape kind) then a1 number else Unlock h (Some Refused)))
+    (after : (number : ℕ) → stage_after c claim number ≡ (if nat_lt number (rows_of c.shape kind) then a1 number else Unlock
+        h (Some Refused)))
     (begins : (number : ℕ) → number < rows_of c.shape kind → Next h b (a1 number) × KnowsKey (RowsOf c.shape) c (a1 number))
     (busy : is_release claim ≡ false) where
   abbrev more : ℕ → List ℕ
@@ -123,7 +129,8 @@ module _ (c : Setting) (full : IsFull c.variant) (some : 1 ≤ c.shape.rows256) 
       ⊎ ((number : ℕ) × IsClaim c.shape w0 kind number × IsAlong c full some key h b (a1 number) w0 (more number) at words)
       ⊎ ((stage : Stage) × (at ≡ OnKey stage) × (((stage ≡ Unlock h (Some Refused)) × NoneLeft words) ⊎ IsBehind h stage))
 
-  claimed : (number : ℕ) → IsUnused c.shape w0 kind number → (next : CallAt) (later : List ℕ) → next ≡ OnKey (stage_after c claim number) → later ≡ w0
+  claimed : (number : ℕ) → IsUnused c.shape w0 kind number → (next : CallAt) (later : List ℕ)
+      → next ≡ OnKey (stage_after c claim number) → later ≡ w0
       → IsAt next later
   claimed number unused next later e f = elim (cases_lt number (rows_of c.shape kind)) [
     | inl l ↦
@@ -143,7 +150,8 @@ module _ (c : Setting) (full : IsFull c.variant) (some : 1 ≤ c.shape.rows256) 
         ))
     | inr l ↦
         let stage : next ≡ OnKey (Unlock h (Some Refused)) =
-        e ∙ ap OnKey (after number ∙ ap (λ x. if x then a1 number else Unlock h (Some Refused)) (not_less number (rows_of c.shape kind) l)) in
+        e ∙ ap OnKey (after number ∙ ap (λ x. if x then a1 number else Unlock h (Some Refused))
+            (not_less number (rows_of c.shape kind) l)) in
         inr (inr (Unlock h (Some Refused), stage, inl (refl, (number, unused, l, f))))
   ]
 
@@ -184,7 +192,8 @@ module _ (c : Setting) (full : IsFull c.variant) (some : 1 ≤ c.shape.rows256) 
 
       go : IsAt (OnKey at) words → (number : ℕ) × IsUnused c.shape w0 kind number × EndsBy number at words
       go (inl e) = absurd (true-false (sym (releases h at r) ∙ (ap is_release (key-same e.0) ∙ busy)))
-      go (inr (inl i)) = let end = at-release c full some key h b (a1 i.0) w0 (more i.0) at words i.2 r in (i.0, i.1.unused, inr (i.1, end.0, end.1))
+      go (inr (inl i)) = let end = at-release c full some key h b (a1 i.0) w0 (more i.0) at words i.2 r in (i.0, i.1.unused, inr
+          (i.1, end.0, end.1))
       go (inr (inr i)) = refused i.0 (key-same i.1) i.2
 
   -- the run from the claim, on words that have the number there, is one from the stage behind it

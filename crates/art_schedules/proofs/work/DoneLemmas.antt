@@ -18,7 +18,8 @@ use Rattle.art_stages.specs.declared.stage.Hold.{Hold}
 use Rattle.art_stages.specs.declared.stage.Work.TheVariants as work
 use Rattle.art_stages.specs.declared.stage.Stage.{Stage}
 use Rattle.art_stages.specs.declared.stage.Stage.TheVariants.{Write, Unlock}
-use Rattle.art_stages.specs.Stages.{row_at, rows_at, rows_held, held, byte_in, keys_in, count_in, value_reply, finish, ends, work_in, put_moves, part_of}
+use Rattle.art_stages.specs.Stages.{row_at, rows_at, rows_held, held, byte_in, keys_in, count_in, value_reply, finish, ends, work_in}
+use Rattle.art_stages.specs.Stages.{put_moves, part_of}
 use Rattle.art_stages.specs.Stages.{rest_in}
 use Rattle.art_stages.specs.Automaton.{no_value, moves_at, put_at}
 use Rattle.art_stages.specs.Calls.{OnKey}
@@ -38,9 +39,11 @@ use Rattle.art_versions.proofs.versions.KnownLemmas.{held-is-kept}
 use Rattle.art_versions.specs.versions.Laws.{IsFull}
 use Rattle.art_schedules.specs.work.Solo.{Solo, here}
 use Rattle.art_schedules.specs.work.Works.{RowsOf, FitsWords, IsRelease, IsDoneBy}
-use Rattle.art_schedules.proofs.work.WorkLemmas.{IsPlain, behind-plain, Next, writes, put_leaf, moves-next, holds-next, Acts, Loading, Storing, acts}
+use Rattle.art_schedules.proofs.work.WorkLemmas.{IsPlain, behind-plain, Next, writes, put_leaf, moves-next, holds-next, Acts, Loading}
+use Rattle.art_schedules.proofs.work.WorkLemmas.{Storing, acts}
 use Rattle.art_schedules.proofs.work.GoingLemmas.{IsAlong, going-first, going-ends, solo-along}
-use Rattle.art_schedules.proofs.work.EndLemmas.{comes-run, finish-comes, none-outcome, value-outcome, words-by, end-releases, at-release, unlock-end}
+use Rattle.art_schedules.proofs.work.EndLemmas.{comes-run, finish-comes, none-outcome, value-outcome, words-by, end-releases, at-release}
+use Rattle.art_schedules.proofs.work.EndLemmas.{unlock-end}
 
 module _ (c : Setting) (full : IsFull c.variant) (some : 1 ≤ c.shape.rows256) (key : is_scan c.call ≡ false) (h : Hold) where
   -- ---- a slot is overwritten
@@ -49,7 +52,8 @@ module _ (c : Setting) (full : IsFull c.variant) (some : 1 ≤ c.shape.rows256) 
       → RunsAlone (rest_in c (Write h slot word value)) words (with_unlocked (rows_held h) (slice_set words slot word)) (value_reply value)
   unfolding rest_in part_of
   write-runs slot word value words =
-      comes-run (store slot word >> (unlock_all (rows_held h) >> give (value_reply value))) (act c.shape c.variant c.call) (value_reply value)
+      comes-run (store slot word >> (unlock_all (rows_held h) >> give (value_reply value))) (act c.shape c.variant c.call)
+          (value_reply value)
       (then-comes {n = unlock_all (rows_held h) >> give (value_reply value)} (store-comes slot word words)
       (then-comes {n = give (value_reply value)} (unlock_all-comes (rows_held h) (slice_set words slot word))
       (give-comes (value_reply value) (with_unlocked (rows_held h) (slice_set words slot word)))))
@@ -70,8 +74,10 @@ module _ (c : Setting) (full : IsFull c.variant) (some : 1 ≤ c.shape.rows256) 
       go (Loading w mark asks plain knows) = absurd (load-store (sym asks))
       go (Storing w v mark asks plain knows) = subst (IsPlain c.shape) (sym (stores-same asks).0) plain
 
-  pub write-done : (slot word : ℕ) (value : Option ℕ) (w0 words : List ℕ) (at : Stage) → KnowsKey (RowsOf c.shape) c (Write h slot word value)
-      → Solo c (OnKey (Write h slot word value)) w0 (OnKey at) words → IsRelease h at → IsDoneBy c h (work.Write slot word value) 0 w0 at words
+  pub write-done : (slot word : ℕ) (value : Option ℕ) (w0 words : List ℕ) (at : Stage)
+      → KnowsKey (RowsOf c.shape) c (Write h slot word value)
+      → Solo c (OnKey (Write h slot word value)) w0 (OnKey at) words → IsRelease h at
+      → IsDoneBy c h (work.Write slot word value) 0 w0 at words
   write-done slot word value w0 words at k solo r =
       let first = Write h slot word value in
       let start : IsAlong c full some key h false first w0 w0 (OnKey first) w0 =
@@ -93,11 +99,13 @@ unfolding part_of
 moves_step c h l i e again keys zero rest = refl
 moves_step c h l i e again keys (suc n) rest = refl
 
-put_step : (c : Setting) (l i e : Bool) (again : Rest) (base : ℕ) (kind : Kind) (info kept : ℕ) (above : Option Held) (keys : Keys) (rest : List ℕ)
+put_step : (c : Setting) (l i e : Bool) (again : Rest) (base : ℕ) (kind : Kind) (info kept : ℕ) (above : Option Held)
+    (keys : Keys) (rest : List ℕ)
     → part_of l i e c (put_at kind c (record { row = held base kind info kept; above = above }) keys) again ends rest
     ≡ work_in c kind (row_of base kind info kept) (rows_at above) (work.Put keys) again ends rest
 unfolding part_of put put_in make_room
-put_step c l i e again base Four info kept above keys rest = moves_step c (record { row = held base Four info kept; above = above }) l i e again keys _ rest
+put_step c l i e again base Four info kept above keys rest =
+    moves_step c (record { row = held base Four info kept; above = above }) l i e again keys _ rest
 put_step c l i e again base Sixteen info kept above keys rest = moves_step c
     (record { row = held base Sixteen info kept; above = above }) l i e again keys _ rest
 put_step c l i e again base FortyEight info kept above keys rest = refl
@@ -116,10 +124,12 @@ put-first c h FortyEight keys = inl (put_leaf keys)
 put-first c h Full keys = inr (no_value, refl)
 
 -- a word of a row's keys and children is plain
-pub field-plain : (s : Shape) (base : ℕ) (kind : Kind) (word : ℕ) → kind_at s base ≡ Some kind → base + 2 ≤ word → word < base + row_words kind → IsPlain s word
+pub field-plain : (s : Shape) (base : ℕ) (kind : Kind) (word : ℕ) → kind_at s base ≡ Some kind → base + 2 ≤ word
+    → word < base + row_words kind → IsPlain s word
 field-plain s base kind word row low high = behind-plain s base kind word row (omega (arith, low), high)
 
-pub bare-beside : (s : Shape) (base : ℕ) (kind : Kind) (word : ℕ) → kind_at s base ≡ Some kind → (IsPlain s word → ⊥) → IsBeside base kind word
+pub bare-beside : (s : Shape) (base : ℕ) (kind : Kind) (word : ℕ) → kind_at s base ≡ Some kind → (IsPlain s word → ⊥)
+    → IsBeside base kind word
 bare-beside s base kind word row bare = elim (cases_lt word (base + 2)) [
   | inl l ↦ inl l
   | inr l ↦ elim (cases_lt word (base + row_words kind)) [
@@ -130,19 +140,22 @@ bare-beside s base kind word row bare = elim (cases_lt word (base + 2)) [
 
 module _ (c : Setting) (full : IsFull c.variant) (some : 1 ≤ c.shape.rows256) (key : is_scan c.call ≡ false) (h : Hold) where
   -- the row is one of the table
-  pub work-row : (b : Bool) (stage : Stage) → Next h b stage → KnowsKey (RowsOf c.shape) c stage → kind_at c.shape h.row.base ≡ Some h.row.kind
+  pub work-row : (b : Bool) (stage : Stage) → Next h b stage → KnowsKey (RowsOf c.shape) c stage
+      → kind_at c.shape h.row.base ≡ Some h.row.kind
   work-row b stage next k =
       (held-is-kept (RowsOf c.shape) c (OnKey stage) k (lock_of h.row)
       (subst (IsAmong (lock_of h.row)) (sym (holds-next c h b stage next)) (inl refl))).1
 
-  put-runs : (keys : Keys) (w0 : List ℕ) → table_words c.shape ≤ length w0 → kind_at c.shape h.row.base ≡ Some h.row.kind → FitsWords c h (work.Put keys) w0
+  put-runs : (keys : Keys) (w0 : List ℕ) → table_words c.shape ≤ length w0 → kind_at c.shape h.row.base ≡ Some h.row.kind
+      → FitsWords c h (work.Put keys) w0
       → (later : List ℕ) × RunsAlone (rest_in c (put_at h.row.kind c h keys)) w0 (with_unlocked (rows_held h) later) reply.None
       × HasPut c.shape w0 later h.row.base h.row.kind (byte_in c h.row) (new_leaf c.call)
   unfolding put
   put-runs keys w0 long row fits =
       let x = byte_in c h.row in
       let seen = fits.1 in
-      let did = leaf_put c (row_at h.row) w0 x fits.0.key fits.0.value fits.0.is fits.0.small (omega (arith, row_ends c.shape h.row.base h.row.kind row, long))
+      let did = leaf_put c (row_at h.row) w0 x fits.0.key fits.0.value fits.0.is fits.0.small
+          (omega (arith, row_ends c.shape h.row.base h.row.kind row, long))
       seen.form (byte_at-small c (row_at h.row).level) seen.absent (omega (arith, seen.count, fits.2)) in
       let comes : Comes (put c (row_at h.row) (keys_in h.row.kind keys) (count_in h.row.kind keys)) w0 tt did.0 =
       subst (λ ks. Comes (put c (row_at h.row) ks (count_in h.row.kind keys)) w0 tt did.0) (sym seen.keys)
@@ -155,7 +168,8 @@ module _ (c : Setting) (full : IsFull c.variant) (some : 1 ≤ c.shape.rows256) 
         subst (λ k. HasPut c.shape w0 did.0 h.row.base h.row.kind x (new_leaf k)) (sym fits.0.is) did.2,
       )
 
-  pub put-done : (keys : Keys) (w0 words : List ℕ) (at : Stage) → table_words c.shape ≤ length w0 → KnowsKey (RowsOf c.shape) c (put_at h.row.kind c h keys)
+  pub put-done : (keys : Keys) (w0 words : List ℕ) (at : Stage) → table_words c.shape ≤ length w0
+      → KnowsKey (RowsOf c.shape) c (put_at h.row.kind c h keys)
       → FitsWords c h (work.Put keys) w0 → Solo c (OnKey (put_at h.row.kind c h keys)) w0 (OnKey at) words → IsRelease h at
       → IsDoneBy c h (work.Put keys) 0 w0 at words
   put-done keys w0 words at fits k found solo r =

@@ -33,7 +33,8 @@ use Rattle.art_schedules.proofs.work.GoingLemmas.{AreRows, unlocked-plain, IsBeh
 use Rattle.art_schedules.proofs.work.CallLemmas.{key-same}
 
 -- a part that comes to a reply is a call that runs alone to it
-pub comes-run : (m : Part Reply) (again : Rest) {words later : List ℕ} (r : Reply) → Comes m words r later → RunsAlone (m again ends) words later r
+pub comes-run : (m : Part Reply) (again : Rest) {words later : List ℕ} (r : Reply) → Comes m words r later
+    → RunsAlone (m again ends) words later r
 comes-run m again {words = words} {later = later} r h = h.runs again ends later r (alone.ends refl)
 
 pub finish-comes : (rows : List Row) (words : List ℕ) → Comes (finish rows) words reply.None (with_unlocked rows words)
@@ -44,10 +45,12 @@ unlock-runs : (c : Setting) (h : Hold) (o : Outcome) (words : List ℕ)
 unfolding rest_in part_of
 unlock-runs c h o words =
     comes-run (unlock_all (rows_held h) >> give (reply_for o)) (act c.shape c.variant c.call) (reply_for o)
-    (then-comes {n = give (reply_for o)} (unlock_all-comes (rows_held h) words) (give-comes (reply_for o) (with_unlocked (rows_held h) words)))
+    (then-comes {n = give (reply_for o)} (unlock_all-comes (rows_held h) words)
+        (give-comes (reply_for o) (with_unlocked (rows_held h) words)))
 
 obsolete-runs : (c : Setting) (h : Hold) (words : List ℕ)
-    → RunsAlone (rest_in c (Obsolete h)) words (with_unlocked (rows_at h.above) (slice_set words h.row.base (obsolete_word h.row.kept))) reply.None
+    → RunsAlone (rest_in c (Obsolete h)) words
+        (with_unlocked (rows_at h.above) (slice_set words h.row.base (obsolete_word h.row.kept))) reply.None
 unfolding rest_in part_of
 obsolete-runs c h words =
     comes-run (unlock_obsolete (row_at h.row) >> finish (rows_at h.above)) (act c.shape c.variant c.call) reply.None
@@ -146,7 +149,8 @@ module _ (c : Setting) (full : IsFull c.variant) (some : 1 ≤ c.shape.rows256) 
   at-place b at r (inr e) = e
 
   -- the stage of the first release
-  pub at-release : (b : Bool) (a1 : Stage) (w0 other : List ℕ) (at : Stage) (words : List ℕ) → IsAlong c full some key h b a1 w0 other (OnKey at) words
+  pub at-release : (b : Bool) (a1 : Stage) (w0 other : List ℕ) (at : Stage) (words : List ℕ)
+      → IsAlong c full some key h b a1 w0 other (OnKey at) words
       → IsRelease h at → Goes b a1 w0 other at words × IsEnd h b at
   at-release b a1 w0 other at words i r = go (subst (λ x. Goes b a1 w0 other x words ⊎ IsBehind h x) (sym (key-same i.1)) i.2)
     where
@@ -154,14 +158,17 @@ module _ (c : Setting) (full : IsFull c.variant) (some : 1 ≤ c.shape.rows256) 
       go (inl g) = (g, at-place b at r g.place)
       go (inr x) = absurd (behind-no h at r x)
 
-  -- Where the rest alone, from the stage behind the claim, comes to these words with the rows unlocked, the words before the release are these.
-  pub unlock-end : (a1 : Stage) (w0 other : List ℕ) (at : Stage) (words target : List ℕ) (answer : Reply) → Goes false a1 w0 other at words → IsEnd h false at
+  -- Where the rest alone, from the stage behind the claim, comes to these words with the rows unlocked, the words before the release are
+  -- these.
+  pub unlock-end : (a1 : Stage) (w0 other : List ℕ) (at : Stage) (words target : List ℕ) (answer : Reply) → Goes false a1 w0 other at words
+      → IsEnd h false at
       → RunsAlone (rest_in c a1) other (with_unlocked (rows_held h) target) answer
       → (o : Outcome) × (at ≡ Unlock h (Some o)) × (reply_for o ≡ answer)
       × ((word : ℕ) → IsPlain c.shape word → slice_index words word ≡ slice_index target word)
   unlock-end a1 w0 other at words target answer g e run =
       let mine = g.runs (with_unlocked (rows_held h) g.now) (reply_for e.0)
-      (subst (λ x. RunsAlone (rest_in c x) g.now (with_unlocked (rows_held h) g.now) (reply_for e.0)) (sym e.1) (unlock-runs c h e.0 g.now)) in
+      (subst (λ x. RunsAlone (rest_in c x) g.now (with_unlocked (rows_held h) g.now) (reply_for e.0)) (sym e.1)
+          (unlock-runs c h e.0 g.now)) in
       let same = runs-once mine run in
       let knows : KnowsKey (RowsOf c.shape) c (Unlock h (Some e.0)) = subst (KnowsKey (RowsOf c.shape) c) e.1 g.knows in
       let rows = held-rows c.shape (locks c.variant) h knows.kept in (
@@ -172,7 +179,8 @@ module _ (c : Setting) (full : IsFull c.variant) (some : 1 ≤ c.shape.rows256) 
             ∙ (ap (λ ws. slice_index ws word) same.0 ∙ unlocked-plain c.shape (rows_held h) target word rows plain)),
       )
 
-  pub obsolete-end : (a1 : Stage) (w0 other : List ℕ) (at : Stage) (words target : List ℕ) → Goes true a1 w0 other at words → IsEnd h true at
+  pub obsolete-end : (a1 : Stage) (w0 other : List ℕ) (at : Stage) (words target : List ℕ)
+      → Goes true a1 w0 other at words → IsEnd h true at
       → RunsAlone (rest_in c a1) other (with_unlocked (rows_at h.above) (slice_set target h.row.base (obsolete_word h.row.kept))) reply.None
       → (word : ℕ) → IsPlain c.shape word → slice_index words word ≡ slice_index target word
   obsolete-end a1 w0 other at words target g e run word plain =
@@ -187,4 +195,5 @@ module _ (c : Setting) (full : IsFull c.variant) (some : 1 ≤ c.shape.rows256) 
       sym (g.alike word plain) ∙ (sym (stored-other g.now h.row.base word version away)
       ∙ (sym (unlocked-plain c.shape (rows_at h.above) (slice_set g.now h.row.base version) word rows plain)
       ∙ (ap (λ ws. slice_index ws word) same.0
-      ∙ (unlocked-plain c.shape (rows_at h.above) (slice_set target h.row.base version) word rows plain ∙ stored-other target h.row.base word version away))))
+      ∙ (unlocked-plain c.shape (rows_at h.above) (slice_set target h.row.base version) word rows plain
+      ∙ stored-other target h.row.base word version away))))

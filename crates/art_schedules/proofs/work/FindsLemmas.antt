@@ -66,11 +66,13 @@ module _ (c : Setting) (w0 : List ℕ) where
   byte base kind info was = byte_in c (held base kind info was)
 
   four : (base info was : ℕ) (above : Option Held) (slot : ℕ)
-      → Comes-to (place base Four info was above slot) (words_at l i e c (place base Four info was above slot) (keys_one (at-word (keys_at base))))
+      → Comes-to (place base Four info was above slot)
+          (words_at l i e c (place base Four info was above slot) (keys_one (at-word (keys_at base))))
   four base info was above slot = go (place_of (byte base Four info was) (keys4_of (at-word (keys_at base)))) refl
     where
       go : (o : Option ℕ) → place_of (byte base Four info was) (keys4_of (at-word (keys_at base))) ≡ o
-          → Comes-to (place base Four info was above slot) (among_at l i e c (place base Four info was above slot) (keys_one (at-word (keys_at base))) o)
+          → Comes-to (place base Four info was above slot)
+              (among_at l i e c (place base Four info was above slot) (keys_one (at-word (keys_at base))) o)
       go None f = inr (
         Lacks (keys_one (at-word (keys_at base))),
         sym (ap (λ o. found_of_slot c.shape w0 (keys4_of (at-word (keys_at base))) (length (keys4_of (at-word (keys_at base)))) (option_map
@@ -98,7 +100,8 @@ module _ (c : Setting) (w0 : List ℕ) where
   sixteen base Sixteen info was above slot count first second is a b d =
       go (place_of (byte base Sixteen info was) (keys16_of count first second)) refl
     where
-      same : keys16_of (at-word (count_at Sixteen base)) (at-word (keys_at base)) (at-word (more_keys_at base)) ≡ keys16_of count first second
+      same : keys16_of (at-word (count_at Sixteen base)) (at-word (keys_at base)) (at-word (more_keys_at base)) ≡ keys16_of
+          count first second
       same = sym (ap (λ n. keys16_of n first second) a ∙ (ap (λ n. keys16_of (at-word (count_at Sixteen base)) n second) b
           ∙ ap (keys16_of (at-word (count_at Sixteen base)) (at-word (keys_at base))) d))
 
@@ -115,7 +118,8 @@ module _ (c : Setting) (w0 : List ℕ) where
       )
       go (Some n) f = inl (
         refl,
-        ap (λ ks. option_map (child_at Sixteen base) (place_of (byte base Sixteen info was) ks)) same ∙ ap (option_map (child_at Sixteen base)) f,
+        ap (λ ks. option_map (child_at Sixteen base) (place_of (byte base Sixteen info was) ks)) same
+            ∙ ap (option_map (child_at Sixteen base)) f,
       )
 
   -- the byte's index word in kind 48, and its entry
@@ -134,7 +138,8 @@ module _ (c : Setting) (w0 : List ℕ) where
           (if b then (if j then FindCount (place base FortyEight info was above slot) (index base info was)
           else checked_stage c (place base FortyEight info was above slot) (Lacks (keys_one (index base info was))))
           else Slot (place base FortyEight info was above slot) (child_at FortyEight base (entry base info was - 1)))
-      go true true f g = inl (refl, refl, refl, ap (λ b. if b then None else Some (child_at FortyEight base (entry base info was - 1))) f, g)
+      go true true f g = inl (refl, refl, refl, ap (λ b. if b then None else Some (child_at FortyEight base
+          (entry base info was - 1))) f, g)
       go true false f g = inr (
         Lacks (keys_one (index base info was)),
         sym (ap (λ b. found_of_slot c.shape w0 (entries_of (index base info was))
@@ -149,7 +154,8 @@ module _ (c : Setting) (w0 : List ℕ) where
   counted : (base : ℕ) (kind : Kind) (info was : ℕ) (above : Option Held) (slot word : ℕ) → kind ≡ FortyEight
       → word ≡ at-word (index_at base (byte base kind info was))
       → slot_of w0 base FortyEight (byte base kind info was) ≡ None → is_insert c.call ≡ true
-      → IsSeen c (place base kind info was above slot) w0 (Lacks (record { first = word; second = 0; count = at-word (count_at FortyEight base) }))
+      → IsSeen c (place base kind info was above slot) w0
+          (Lacks (record { first = word; second = 0; count = at-word (count_at FortyEight base) }))
   counted base Four info was above slot word is a none insert = absurd (no is)
     where
       no : Four ≡ FortyEight → ⊥
@@ -171,24 +177,28 @@ module _ (c : Setting) (w0 : List ℕ) where
 
   -- what a stage of FIND loads, and where it leads to
   abbrev Leads : Position → Stage → Type 0
-  Leads p stage = (word : ℕ) × (mark : Option Point) × (turn_at c stage ≡ Asks (Load word) mark) × Comes-to p (stage_after c stage (at-word word))
+  Leads p stage = (word : ℕ) × (mark : Option Point) × (turn_at c stage ≡ Asks (Load word) mark)
+      × Comes-to p (stage_after c stage (at-word word))
 
   first-leads : (base : ℕ) (kind : Kind) (info was : ℕ) (above : Option Held) (slot : ℕ)
       → Leads (place base kind info was above slot) (Find (place base kind info was above slot))
   first-leads base Four info was above slot = (keys_at base, None, refl, four base info was above slot)
   first-leads base Sixteen info was above slot = (count_at Sixteen base, None, refl, inl (refl, refl, refl))
-  first-leads base FortyEight info was above slot = (index_at base (byte base FortyEight info was), None, refl, indexed base info was above slot)
+  first-leads base FortyEight info was above slot =
+      (index_at base (byte base FortyEight info was), None, refl, indexed base info was above slot)
   first-leads base Full info was above slot = (
     child_at Full base (byte base Full info was),
     None,
     refl,
-    inr (Has (child_at Full base (byte base Full info was)) (child_of c.shape (at-word (child_at Full base (byte base Full info was)))), refl, refl),
+    inr (Has (child_at Full base (byte base Full info was))
+        (child_of c.shape (at-word (child_at Full base (byte base Full info was)))), refl, refl),
   )
 
   leads : (p : Position) (stage : Stage) → Facts p stage → Leads p stage
   leads p (Find q) f =
       subst (λ x. Leads p (Find x)) (sym f) (first-leads p.row.base p.row.kind p.row.info p.row.kept p.above p.slot)
-  leads p (FindKeys q count) f = (keys_at q.row.base, None, refl, inl (f.0, f.1, f.2, ap (λ (x : Position). at-word (keys_at x.row.base)) f.0))
+  leads p (FindKeys q count) f = (keys_at q.row.base, None, refl, inl
+      (f.0, f.1, f.2, ap (λ (x : Position). at-word (keys_at x.row.base)) f.0))
   leads p (FindMore q count first) f =
       subst (λ x. Leads p (FindMore x count first)) (sym f.0) (
         more_keys_at p.row.base,
@@ -262,13 +272,15 @@ module _ (c : Setting) (w0 : List ℕ) where
 has-same : {slot other : ℕ} {child kid : Child} → rows.Has slot child ≡ rows.Has other kid → (slot ≡ other) × (child ≡ kid)
 has-same e = (cc, cc)
 
-lacks-same : {keys others : List ℕ} {count number : ℕ} → rows.Lacks keys count ≡ rows.Lacks others number → (keys ≡ others) × (count ≡ number)
+lacks-same : {keys others : List ℕ} {count number : ℕ} → rows.Lacks keys count ≡ rows.Lacks others number → (keys ≡ others)
+    × (count ≡ number)
 lacks-same e = (cc, cc)
 
 has-lacks : {slot count : ℕ} {child : Child} {keys : List ℕ} → rows.Has slot child ≡ rows.Lacks keys count → ⊥
 has-lacks e = cc
 
-pub seen-there : (c : Setting) (p : Position) (words : List ℕ) (f : Finding) → IsSeen c p words f → HasForm words p.row.base p.row.kind → IsThere c p words f
+pub seen-there : (c : Setting) (p : Position) (words : List ℕ) (f : Finding) → IsSeen c p words f → HasForm words p.row.base p.row.kind
+    → IsThere c p words f
 seen-there c p words (Has slot child) seen form = go (slot_of words p.row.base p.row.kind (byte_in c p.row)) refl seen
   where
     go : (o : Option ℕ) → slot_of words p.row.base p.row.kind (byte_in c p.row) ≡ o

@@ -11,7 +11,8 @@ use Rattle.art_steps.specs.declared.access.Access.TheVariants.{Load, Store, Exch
 use Rattle.art_steps.specs.declared.access.Point.{Point}
 use Rattle.art_steps.specs.Steps.{Asks}
 use Rattle.art_steps.specs.Rows.{Setting}
-use Rattle.art_steps.proofs.TurnLemmas.{load-exchange, store-exchange, add-exchange, load-store, load-add, store-add, asks-same, asks-answers, add-word}
+use Rattle.art_steps.proofs.TurnLemmas.{load-exchange, store-exchange, add-exchange, load-store, load-add, store-add, asks-same}
+use Rattle.art_steps.proofs.TurnLemmas.{asks-answers, add-word}
 use Rattle.art_stages.specs.declared.stage.Held.{Held}
 use Rattle.art_stages.specs.Calls.{CallAt, call_turn, call_after}
 use Rattle.art_core.specs.Accesses.{got_by, words_after}
@@ -52,7 +53,8 @@ module _ (c : Setting) (full : IsFull c.variant) (some : 1 ≤ c.shape.rows256) 
 
   load-fewer : (word : ℕ) (mark : Option Point) → call_turn c at ≡ Asks (Load word) mark → AccessDoes (RowsOf s) c at → (value : ℕ)
       → IsFewer (call_after c at value)
-  load-fewer word mark asks (Reads w m e after) value = let has = after value (all-good s w value) in same-fewer (call_after c at value) has.1 has.2
+  load-fewer word mark asks (Reads w m e after) value = let has =
+      after value (all-good s w value) in same-fewer (call_after c at value) has.1 has.2
   load-fewer word mark asks (Writes h w v m e among kept behind good after) value = absurd (load-store (sym asks ∙ e))
   load-fewer word mark asks (Fills b k w v m e filled behind row good after) value = absurd (load-store (sym asks ∙ e))
   load-fewer word mark asks (Ends b k w v m e filled behind row good after) value = absurd (load-store (sym asks ∙ e))
@@ -77,7 +79,8 @@ module _ (c : Setting) (full : IsFull c.variant) (some : 1 ≤ c.shape.rows256) 
   -- a claim: the rows that are held are the same, and the row of the number is filled, if there is one
   abbrev IsClaimed : Kind → ℕ → Type 0
   IsClaimed kind number = (holds c (call_after c at number) ≡ holds c at)
-      × ((fills (call_after c at number) ≡ []) ⊎ ((number < rows_of s kind) × (fills (call_after c at number) ≡ (base_of s kind number, kind) ∷ [])))
+      × ((fills (call_after c at number) ≡ [])
+      ⊎ ((number < rows_of s kind) × (fills (call_after c at number) ≡ (base_of s kind number, kind) ∷ [])))
 
   claim-fills : (kind : Kind) (mark : Option Point) → call_turn c at ≡ Asks (Add (claims_of kind)) mark → AccessDoes (RowsOf s) c at
       → (number : ℕ)
@@ -109,9 +112,11 @@ module _ (c : Setting) (full : IsFull c.variant) (some : 1 ≤ c.shape.rows256) 
   doing : AccessDoes (RowsOf s) c at
   doing = rows-do c.variant full s c.call some at knows
 
-  module _ (at0 : CallAt) (w0 words real : List ℕ) (long : length real ≡ length words) (solo : Solo c at0 w0 at words) (agrees : AgreesOn c at words real) where
+  module _ (at0 : CallAt) (w0 words real : List ℕ) (long : length real ≡ length words) (solo : Solo c at0 w0 at words)
+      (agrees : AgreesOn c at words real) where
     -- what is held and filled there was so before
-    fewer-agrees : (next : CallAt) (word : ℕ) → IsFewer next → IsHeldWord c next word ⊎ IsFilledWord next word → slice_index real word ≡ slice_index words word
+    fewer-agrees : (next : CallAt) (word : ℕ) → IsFewer next → IsHeldWord c next word ⊎ IsFilledWord next word
+        → slice_index real word ≡ slice_index words word
     fewer-agrees next word fewer (inl h) = agrees word (inl (record { row = h.row; among = fewer.0 h.row h.among; behind = h.behind }))
     fewer-agrees next word fewer (inr f) =
         agrees word (inr (record { base = f.base; kind = f.kind; filled = fewer.1 f.base f.kind f.filled; behind = f.behind }))
@@ -127,14 +132,16 @@ module _ (c : Setting) (full : IsFull c.variant) (some : 1 ≤ c.shape.rows256) 
       h.behind.0,
     )
 
-    claim-agrees : (kind : Kind) (number : ℕ) → slice_index real (claims_of kind) ≡ number → IsUnused s words kind number → IsUnused s real kind number
+    claim-agrees : (kind : Kind) (number : ℕ) → slice_index real (claims_of kind) ≡ number → IsUnused s words kind number
+        → IsUnused s real kind number
         → IsClaimed kind number → AgreesOn c (call_after c at number) words (words_after (Add (claims_of kind)) real)
     claim-agrees kind number told mine its claimed word (inl h) =
         let held : IsHeldWord c at word = record { row = h.row; among = subst (IsAmong h.row) claimed.0 h.among; behind = h.behind } in
         stored-other real (claims_of kind) word _ (λ e. omega (arith, e, held-high word held, claims-few kind)) ∙ agrees word (inl held)
     claim-agrees kind number told mine its claimed word (inr f) = go claimed.1
       where
-        go : (fills (call_after c at number) ≡ []) ⊎ ((number < rows_of s kind) × (fills (call_after c at number) ≡ (base_of s kind number, kind) ∷ []))
+        go : (fills (call_after c at number) ≡ [])
+            ⊎ ((number < rows_of s kind) × (fills (call_after c at number) ≡ (base_of s kind number, kind) ∷ []))
             → slice_index (words_after (Add (claims_of kind)) real) word ≡ slice_index words word
         go (inl e) = absurd (nothing (sym e ∙ f.filled))
         go (inr e) =
@@ -163,14 +170,16 @@ module _ (c : Setting) (full : IsFull c.variant) (some : 1 ≤ c.shape.rows256) 
           solo = subst (λ n. Solo c at0 w0 (call_after c at n) words) (sym told) (further solo (loads word mark asks));
           long = ap length same ∙ long;
           before = λ w own. ap (λ ws. slice_index ws w) same ∙ agrees w own;
-          behind = λ w own. ap (λ ws. slice_index ws w) same ∙ fewer-agrees next w (load-fewer word mark asks doing (slice_index real word)) own;
+          behind = λ w own. ap (λ ws. slice_index ws w) same
+              ∙ fewer-agrees next w (load-fewer word mark asks doing (slice_index real word)) own;
         }
     follows (Store word value) mark asks tt = record {
       words = slice_set words word value;
       solo = further solo (stores word value mark asks);
       long = stored-long real word value ∙ (long ∙ sym (stored-long words word value));
       before = λ w own. alike-set words real w word value long (agrees w own);
-      behind = λ w own. alike-set words real w word value long (fewer-agrees (call_after c at 0) w (store-fewer word value mark asks doing) own);
+      behind = λ w own. alike-set words real w word value long
+          (fewer-agrees (call_after c at 0) w (store-fewer word value mark asks doing) own);
     }
     follows (Exchange word from to) mark asks none = absurd none
     follows (Add word) mark asks can =
@@ -188,15 +197,18 @@ module _ (c : Setting) (full : IsFull c.variant) (some : 1 ≤ c.shape.rows256) 
         })
 
 -- what touches own words can be followed
-pub own-follows : (c : Setting) (at : CallAt) (words real : List ℕ) (a : Access) (mark : Option Point) → TouchesOwn c at → call_turn c at ≡ Asks a mark
+pub own-follows : (c : Setting) (at : CallAt) (words real : List ℕ) (a : Access) (mark : Option Point) → TouchesOwn c at
+    → call_turn c at ≡ Asks a mark
     → ((kind : Kind) → a ≡ Add (claims_of kind)
     → IsUnused c.shape words kind (slice_index real (claims_of kind)) × IsUnused c.shape real kind (slice_index real (claims_of kind)))
     → CanFollow c at words real a
 own-follows c at words real a mark (LoadsHeld word m e held) asks unused = subst (CanFollow c at words real) (asks-same (sym e ∙ asks)) held
-own-follows c at words real a mark (StoresOwn word value m e own) asks unused = subst (CanFollow c at words real) (asks-same (sym e ∙ asks)) tt
+own-follows c at words real a mark (StoresOwn word value m e own) asks unused =
+    subst (CanFollow c at words real) (asks-same (sym e ∙ asks)) tt
 own-follows c at words real a mark (ClaimsRow kind m e may) asks unused =
     let is : Add (claims_of kind) ≡ a = asks-same (sym e ∙ asks) in
     let fresh = unused kind (sym is) in
     subst (CanFollow c at words real) is (kind, refl, fresh.0, fresh.1)
-own-follows c at words real a mark (ReleasesHeld row value m e among releases) asks unused = subst (CanFollow c at words real) (asks-same (sym e ∙ asks)) tt
+own-follows c at words real a mark (ReleasesHeld row value m e among releases) asks unused =
+    subst (CanFollow c at words real) (asks-same (sym e ∙ asks)) tt
 own-follows c at words real a mark (Replies reply e) asks unused = absurd (asks-answers (sym asks ∙ e))

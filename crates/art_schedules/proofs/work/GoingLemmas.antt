@@ -39,7 +39,8 @@ use Rattle.art_schedules.proofs.work.WorkLemmas.{IsPlain, AtWork, IsEnd, Next, n
 -- ---- a step, by what the stage asks
 
 module _ (c : Setting) {at : CallAt} {words : List ℕ} where
-  pub step-load : {next : CallAt} {later : List ℕ} (word : ℕ) (mark : Option Point) → call_turn c at ≡ Asks (Load word) mark → Step c at words next later
+  pub step-load : {next : CallAt} {later : List ℕ} (word : ℕ) (mark : Option Point) → call_turn c at ≡ Asks (Load word) mark
+      → Step c at words next later
       → (next ≡ call_after c at (slice_index words word)) × (later ≡ words)
   step-load word mark asks (loads w m h) = (ap (λ w. call_after c at (slice_index words w)) (load-word (sym h ∙ asks)), refl)
   step-load word mark asks (stores w v m h) = absurd (load-store (sym (sym h ∙ asks)))
@@ -90,10 +91,12 @@ unlocked-plain s (n ∷ rows) words word are plain =
 
 -- behind the first release
 abbrev pub IsBehind : Hold → Stage → Type 0
-IsBehind h stage = ((a : Held) × (o : Outcome) × (h.above ≡ Some a) × (stage ≡ Unlock (hold_alone a) (Some o))) ⊎ ((o : Outcome) × (stage ≡ Over o))
+IsBehind h stage = ((a : Held) × (o : Outcome) × (h.above ≡ Some a) × (stage ≡ Unlock (hold_alone a) (Some o)))
+    ⊎ ((o : Outcome) × (stage ≡ Over o))
 
 module _ (c : Setting) (full : IsFull c.variant) (some : 1 ≤ c.shape.rows256) (key : is_scan c.call ≡ false) (h : Hold) where
-  -- From a stage behind the claim with the first words, and alone with others that are like them, the work is at this stage with these words.
+  -- From a stage behind the claim with the first words, and alone with others that are like them, the work is at this stage with these
+  -- words.
   pub record Going (b : Bool) (a1 : Stage) (w0 other : List ℕ) (stage : Stage) (words : List ℕ) : Type 0 where
     pub place : Next h b stage
     pub knows : KnowsKey (RowsOf c.shape) c stage
@@ -126,13 +129,16 @@ module _ (c : Setting) (full : IsFull c.variant) (some : 1 ≤ c.shape.rows256) 
     pub behind-on : (stage : Stage) {words later : List ℕ} {next : CallAt} → IsBehind h stage → Step c (OnKey stage) words next later
         → (after : Stage) × (next ≡ OnKey after) × IsBehind h after
     behind-on stage {words = words} {later = later} {next = next} (inl e) step =
-        let own : Step c (OnKey (Unlock (hold_alone e.0) (Some e.1))) words next later = subst (λ x. Step c (OnKey x) words next later) e.3 step in
+        let own : Step c (OnKey (Unlock (hold_alone e.0) (Some e.1))) words next later =
+            subst (λ x. Step c (OnKey x) words next later) e.3 step in
         (Over e.1, (step-store c _ _ _ refl own).0, inr (e.1, refl))
     behind-on stage {words = words} {later = later} {next = next} (inr e) step =
         absurd (step-none c (reply_for e.0) refl (subst (λ x. Step c (OnKey x) words next later) e.1 step))
 
-    pub load-on : (stage : Stage) (words : List ℕ) (g : Going b a1 w0 other stage words) → AtWork h b stage → (word : ℕ) (mark : Option Point)
-        → turn_at c stage ≡ Asks (Load word) mark → IsPlain c.shape word → KnowsKey (RowsOf c.shape) c (stage_after c stage (slice_index words word))
+    pub load-on : (stage : Stage) (words : List ℕ) (g : Going b a1 w0 other stage words) → AtWork h b stage
+        → (word : ℕ) (mark : Option Point)
+        → turn_at c stage ≡ Asks (Load word) mark → IsPlain c.shape word
+        → KnowsKey (RowsOf c.shape) c (stage_after c stage (slice_index words word))
         → (after : Going b a1 w0 other (stage_after c stage (slice_index words word)) words) × (after.now ≡ g.now)
     load-on stage words g work word mark asks plain knows = (
       record {
@@ -143,13 +149,15 @@ module _ (c : Setting) (full : IsFull c.variant) (some : 1 ≤ c.shape.rows256) 
         now = g.now;
         as_long = g.as_long;
         alike = g.alike;
-        runs = λ last reply r. g.runs last reply (runs-before c (OnKey stage) key (Load word) mark asks g.now (slice_index words word) g.now last reply
+        runs = λ last reply r. g.runs last reply
+            (runs-before c (OnKey stage) key (Load word) mark asks g.now (slice_index words word) g.now last reply
             (g.alike word plain) (load-same word g.now) r);
       },
       refl,
     )
 
-    pub store-on : (stage : Stage) (words : List ℕ) (g : Going b a1 w0 other stage words) → AtWork h b stage → (word value : ℕ) (mark : Option Point)
+    pub store-on : (stage : Stage) (words : List ℕ) (g : Going b a1 w0 other stage words) → AtWork h b stage
+        → (word value : ℕ) (mark : Option Point)
         → turn_at c stage ≡ Asks (Store word value) mark → IsPlain c.shape word → KnowsKey (RowsOf c.shape) c (stage_after c stage 0)
         → (after : Going b a1 w0 other (stage_after c stage 0) (slice_set words word value)) × (after.now ≡ slice_set g.now word value)
     store-on stage words g work word value mark asks plain knows = (
@@ -161,7 +169,8 @@ module _ (c : Setting) (full : IsFull c.variant) (some : 1 ≤ c.shape.rows256) 
         now = slice_set g.now word value;
         as_long = stored-long g.now word value ∙ (g.as_long ∙ sym (stored-long words word value));
         alike = λ i is. alike-set words g.now i word value g.as_long (g.alike i is);
-        runs = λ last reply r. g.runs last reply (runs-before c (OnKey stage) key (Store word value) mark asks g.now 0 (slice_set g.now word value) last reply
+        runs = λ last reply r. g.runs last reply
+            (runs-before c (OnKey stage) key (Store word value) mark asks g.now 0 (slice_set g.now word value) last reply
             refl refl r);
       },
       refl,
@@ -179,7 +188,8 @@ module _ (c : Setting) (full : IsFull c.variant) (some : 1 ≤ c.shape.rows256) 
         let after = store-on stage words g work word value mark asks plain knows in
         (stage_after c stage 0, did.0, inl (subst (λ ws. Going b a1 w0 other (stage_after c stage 0) ws) (sym did.1) after.0))
 
-    pub along-on : (at next : CallAt) (words later : List ℕ) → IsAlong b a1 w0 other at words → Step c at words next later → IsAlong b a1 w0 other next later
+    pub along-on : (at next : CallAt) (words later : List ℕ) → IsAlong b a1 w0 other at words → Step c at words next later
+        → IsAlong b a1 w0 other next later
     along-on at next words later i step = go i.2
       where
         own : Step c (OnKey i.0) words next later
@@ -210,7 +220,8 @@ module _ (c : Setting) (full : IsFull c.variant) (some : 1 ≤ c.shape.rows256) 
       runs = λ last reply r. r;
     }
 
-    pub solo-along : {at0 at : CallAt} {start words : List ℕ} → Solo c at0 start at words → IsAlong b a1 w0 other at0 start → IsAlong b a1 w0 other at words
+    pub solo-along : {at0 at : CallAt} {start words : List ℕ} → Solo c at0 start at words → IsAlong b a1 w0 other at0 start
+        → IsAlong b a1 w0 other at words
     solo-along solo i = solos-keep c (IsAlong b a1 w0 other) along-on solo i
 
     -- It comes to its first release: a run from here has an end.
@@ -219,7 +230,8 @@ module _ (c : Setting) (full : IsFull c.variant) (some : 1 ≤ c.shape.rows256) 
 
     pub going-ends : {at0 : CallAt} {start : List ℕ} {rest : Rest} {ws last : List ℕ} {reply : Reply} → RunsAlone rest ws last reply
         → (stage : Stage) (words : List ℕ)
-        → Solo c at0 start (OnKey stage) words → (g : Going b a1 w0 other stage words) → ((got : List ℕ) → rest got ≡ rest_in c stage got) → ws ≡ g.now
+        → Solo c at0 start (OnKey stage) words → (g : Going b a1 w0 other stage words)
+        → ((got : List ℕ) → rest got ≡ rest_in c stage got) → ws ≡ g.now
         → Next h b stage → Comes-to at0 start
     going-ends run stage words solo g same is (inr e) = (stage, words, solo, g, e)
     going-ends {at0} {start} (alone.ends {rest = rest} {words = ws} {reply = reply} e) stage words solo g same is (inl work) = go
@@ -231,13 +243,15 @@ module _ (c : Setting) (full : IsFull c.variant) (some : 1 ≤ c.shape.rows256) 
         go : Acts c stage → Comes-to at0 start
         go (Loading word mark asks plain knows) = absurd (asked asks)
         go (Storing word value mark asks plain knows) = absurd (asked asks)
-    going-ends {at0} {start} (alone.goes {rest = rest} {words = ws} {last = last} {reply = reply} a p e run) stage words solo g same is (inl work) =
+    going-ends {at0} {start} (alone.goes {rest = rest} {words = ws} {last = last} {reply = reply} a p e run) stage words solo g
+        same is (inl work) =
         go (λ stage words solo g same is next. going-ends run stage words solo g same is next) (acts c full some work g.knows)
       where
         asked : {x : Access} {mark : Option Point} → turn_at c stage ≡ Asks x mark → a ≡ x
         asked f = asks-same (sym e ∙ (same [] ∙ (call_next c (OnKey stage) ∙ f)))
 
-        on : (x : Access) (got : ℕ) → a ≡ x → got_by x g.now ≡ got → (more : List ℕ) → rest (got_by a ws ∷ more) ≡ rest_in c (stage_after c stage got) more
+        on : (x : Access) (got : ℕ) → a ≡ x → got_by x g.now ≡ got → (more : List ℕ)
+            → rest (got_by a ws ∷ more) ≡ rest_in c (stage_after c stage got) more
         on x got f told more =
             ap (λ y. rest (got_by y ws ∷ more)) f ∙ (ap (λ l. rest (got_by x l ∷ more)) is ∙ (ap (λ n. rest (n ∷ more)) told
             ∙ (same (got ∷ more) ∙ sym (goes_on c stage got more key))))
@@ -246,7 +260,8 @@ module _ (c : Setting) (full : IsFull c.variant) (some : 1 ≤ c.shape.rows256) 
         words-on x later f left = ap (λ y. words_after y ws) f ∙ (ap (words_after x) is ∙ left)
 
         go : ((stage : Stage) (words : List ℕ) → Solo c at0 start (OnKey stage) words → (g : Going b a1 w0 other stage words)
-            → ((got : List ℕ) → rest (got_by a ws ∷ got) ≡ rest_in c stage got) → words_after a ws ≡ g.now → Next h b stage → Comes-to at0 start)
+            → ((got : List ℕ) → rest (got_by a ws ∷ got) ≡ rest_in c stage got) → words_after a ws ≡ g.now → Next h b stage
+            → Comes-to at0 start)
             → Acts c stage → Comes-to at0 start
         go again (Loading word mark asks plain knows) =
             let value = slice_index words word in

@@ -39,7 +39,8 @@ use Rattle.art_schedules.proofs.work.WorkLemmas.{IsPlain, behind-plain, plain-or
 use Rattle.art_schedules.proofs.work.GoingLemmas.{Going}
 use Rattle.art_schedules.proofs.work.EndLemmas.{comes-run, obsolete-end}
 use Rattle.art_schedules.proofs.work.DoneLemmas.{field-plain}
-use Rattle.art_schedules.proofs.work.ClaimLemmas.{with_number, with_more, number-other, outside-fresh, hangs-row, slot-plain, IsClaim, EndsBy, claim-end}
+use Rattle.art_schedules.proofs.work.ClaimLemmas.{with_number, with_more, number-other, outside-fresh, hangs-row, slot-plain, IsClaim}
+use Rattle.art_schedules.proofs.work.ClaimLemmas.{EndsBy, claim-end}
 use Rattle.art_schedules.proofs.work.ClaimLemmas.{claim-runs}
 use Rattle.art_schedules.proofs.work.ClaimLemmas.{claim-comes}
 
@@ -50,7 +51,8 @@ unlocked-same (n ∷ rows) words = unlocked-same rows (slice_set words n.base (r
 empty-row : {base : ℕ} {kind : Kind} → ChildRow base kind ≡ Empty → ⊥
 empty-row e = cc
 
-module _ (c : Setting) (full : IsFull c.variant) (some : 1 ≤ c.shape.rows256) (key : is_scan c.call ≡ false) (h : Hold) (slot : ℕ) (keys : Keys) (w0 : List ℕ)
+module _ (c : Setting) (full : IsFull c.variant) (some : 1 ≤ c.shape.rows256) (key : is_scan c.call ≡ false) (h : Hold) (slot : ℕ)
+    (keys : Keys) (w0 : List ℕ)
     (long : table_words c.shape ≤ length w0) (knows : KnowsKey (RowsOf c.shape) c (ClaimGrow h slot keys)) (found : FitsWords c h
     (work.Grow slot keys) w0) where
   abbrev next : Kind
@@ -106,7 +108,8 @@ module _ (c : Setting) (full : IsFull c.variant) (some : 1 ≤ c.shape.rows256) 
 
     -- the held row has the same words
     same-row : HasSameFields w0 first h.row.base h.row.kind
-    same-row word low high = number-other c.shape w0 next number word (omega (arith, low, row_begins c.shape h.row.base h.row.kind knows.kept.0.1))
+    same-row word low high = number-other c.shape w0 next number word
+        (omega (arith, low, row_begins c.shape h.row.base h.row.kind knows.kept.0.1))
 
     -- what GROW leaves, where the fresh row has this number
     abbrev Grown : ℕ → Type 0
@@ -119,7 +122,8 @@ module _ (c : Setting) (full : IsFull c.variant) (some : 1 ≤ c.shape.rows256) 
     grown =
         let seen = found.1 in
         let did = row_grown c (rows_at h.above) slot (row_at h.row) first found.0.key found.0.value found.0.is found.0.small
-        (subst (λ n. n < rows_of c.shape next) (sym told) claim.room) (omega (arith, long, stored-long w0 (claims_of next) number)) knows.kept.0.1
+        (subst (λ n. n < rows_of c.shape next) (sym told) claim.room)
+            (omega (arith, long, stored-long w0 (claims_of next) number)) knows.kept.0.1
         (λ word low high. zeros word (omega (arith, low, ap base told)) (omega (arith, high, ap base told)))
         (form-same w0 first h.row.base h.row.kind same-row seen.form)
         (slot-same w0 first h.row.base h.row.kind x same-row byte ∙ seen.absent)
@@ -132,13 +136,15 @@ module _ (c : Setting) (full : IsFull c.variant) (some : 1 ≤ c.shape.rows256) 
               (keys-same w0 first h.row.base h.row.kind x same-row byte ∙ sym seen.keys)
               (subst (λ k. Comes (grow c (rows_at h.above) slot (row_at h.row) (keys_in_row first h.row.base h.row.kind x) k) first tt last)
               (count-same c.call w0 first h.row.base h.row.kind x same-row byte ∙ sym seen.count) did.1),
-          subst (λ k. HasFresh c.shape first did.0 h.row.base h.row.kind (base (slice_index first (claims_of next))) next info x (new_leaf k))
+          subst (λ k. HasFresh c.shape first did.0 h.row.base h.row.kind (base (slice_index first (claims_of next))) next
+              info x (new_leaf k))
               (sym found.0.is) did.2,
         )
       where
         zeros : (word : ℕ) → base number ≤ word → word < base number + row_words next → slice_index first word ≡ 0
         zeros word low high =
-            number-other c.shape w0 next number word (omega (arith, low, row_begins c.shape (base number) next row)) ∙ claim.unused claim.room word low high
+            number-other c.shape w0 next number word (omega (arith, low, row_begins c.shape (base number) next row))
+                ∙ claim.unused claim.room word low high
 
     abbrev target : List ℕ
     target = slice_set grown.0 slot (row_word (base number))
@@ -176,7 +182,8 @@ module _ (c : Setting) (full : IsFull c.variant) (some : 1 ≤ c.shape.rows256) 
         | inr is ↦ g.rest word (not-plain c.shape word is)
       ];
       version = g.rest (base number) (λ is. is.bare (base number) next row refl);
-      info = plain (info_at (base number)) (behind-plain c.shape (base number) next (info_at (base number)) row (omega arith, omega (arith, two-words next)))
+      info = plain (info_at (base number)) (behind-plain c.shape (base number) next (info_at (base number)) row
+          (omega arith, omega (arith, two-words next)))
           ∙ (in-fresh (info_at (base number)) (omega arith) (omega (arith, two-words next)) ∙ grown.2.info);
       form = form-same grown.0 words (base number) next fields grown.2.form;
       others = λ y small other.
@@ -194,15 +201,18 @@ module _ (c : Setting) (full : IsFull c.variant) (some : 1 ≤ c.shape.rows256) 
         claims-away word l Full e = omega (arith, l, e)
 
         fields : HasSameFields grown.0 words (base number) next
-        fields word low high = plain word (field-plain c.shape (base number) next word row low high) ∙ in-fresh word (omega (arith, low)) high
+        fields word low high = plain word (field-plain c.shape (base number) next word row low high)
+            ∙ in-fresh word (omega (arith, low)) high
 
   abbrev ClaimEnds : ℕ → Stage → List ℕ → Type 0
-  ClaimEnds number at words = EndsBy c full some key h next true (ClaimGrow h slot keys) behind w0 refl (λ number. refl) begins refl number at words
+  ClaimEnds number at words = EndsBy c full some key h next true (ClaimGrow h slot keys) behind w0 refl (λ number. refl) begins
+      refl number at words
 
   run-of : (number : ℕ) (claim : IsClaim c.shape w0 next number)
       → RunsAlone (rest_in c (behind number)) (with_more w0 next number) (with_unlocked (rows_at h.above) (last number claim)) reply.None
   run-of number claim =
-      claim-runs c full some key h next true (ClaimGrow h slot keys) behind w0 refl (λ number. refl) begins refl number claim.room (omega (arith, long))
+      claim-runs c full some key h next true (ClaimGrow h slot keys) behind w0 refl (λ number. refl) begins refl number claim.room
+          (omega (arith, long))
       (with_unlocked (rows_at h.above) (last number claim)) reply.None (grow-runs number claim)
 
   done-by : (number : ℕ) (at : Stage) (words : List ℕ) → ClaimEnds number at words → IsDoneBy c h (work.Grow slot keys) number w0 at words

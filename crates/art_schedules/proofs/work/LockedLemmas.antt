@@ -18,7 +18,8 @@ use Rattle.art_stages.specs.declared.stage.Down.{Down}
 use Rattle.art_stages.specs.declared.stage.ScanStep.{ScanStep}
 use Rattle.art_stages.specs.declared.stage.ScanStep.TheVariants as scan
 use Rattle.art_stages.specs.declared.stage.Stage.{Stage}
-use Rattle.art_stages.specs.declared.stage.Stage.TheVariants.{Lock, Exchange, Wait, Leave, Between, Info, Find, FindKeys, FindMore, FindCount, Slot}
+use Rattle.art_stages.specs.declared.stage.Stage.TheVariants.{Lock, Exchange, Wait, Leave, Between, Info, Find, FindKeys, FindMore}
+use Rattle.art_stages.specs.declared.stage.Stage.TheVariants.{FindCount, Slot}
 use Rattle.art_stages.specs.declared.stage.Stage.TheVariants.{Check, CheckLast, LetGo, Take}
 use Rattle.art_stages.specs.Stages.{setting, held, row_at, byte_in}
 use Rattle.art_stages.specs.Scans.{Walk, at}
@@ -57,7 +58,8 @@ module _ (shape : Shape) (call : Call) (some : 1 ≤ shape.rows256) where
       → TouchesOwn c (OnKey (Find (record { row = held base kind info was; above = above; slot = slot })))
   find-own base Four info was above slot =
       let p : Position = record { row = held base Four info was; above = above; slot = slot } in
-      LoadsHeld (keys_at base) None refl (record { row = held base Four 0 was; among = place-among (is_insert call) p; behind = (omega arith, omega arith) })
+      LoadsHeld (keys_at base) None refl (record { row = held base Four 0 was; among = place-among (is_insert call) p; behind =
+          (omega arith, omega arith) })
   find-own base Sixteen info was above slot =
       let p : Position = record { row = held base Sixteen info was; above = above; slot = slot } in
       LoadsHeld (count_at Sixteen base) None refl
@@ -66,14 +68,16 @@ module _ (shape : Shape) (call : Call) (some : 1 ≤ shape.rows256) where
       let p : Position = record { row = held base FortyEight info was; above = above; slot = slot } in
       let small = key_byte-small (key_of call) (row_at (held base FortyEight info was)).level in
       LoadsHeld (index_at base (byte_in c (held base FortyEight info was))) None refl
-      (record { row = held base FortyEight 0 was; among = place-among (is_insert call) p; behind = (omega (arith, small), omega (arith, small)) })
+      (record { row = held base FortyEight 0 was; among = place-among (is_insert call) p; behind =
+          (omega (arith, small), omega (arith, small)) })
   find-own base Full info was above slot =
       let p : Position = record { row = held base Full info was; above = above; slot = slot } in
       let small = key_byte-small (key_of call) (row_at (held base Full info was)).level in
       LoadsHeld (child_at Full base (byte_in c (held base Full info was))) None refl
       (record { row = held base Full 0 was; among = place-among (is_insert call) p; behind = (omega (arith, small), omega (arith, small)) })
 
-  key-own : (stage : Stage) → KnowsKey (RowsOf shape) c stage → ReadsHeld (OnKey stage) → is_lock (OnKey stage) ≡ false → TouchesOwn c (OnKey stage)
+  key-own : (stage : Stage) → KnowsKey (RowsOf shape) c stage → ReadsHeld (OnKey stage) → is_lock (OnKey stage) ≡ false
+      → TouchesOwn c (OnKey stage)
   key-own (Lock t first) k r e = absurd (false≢true (sym e))
   key-own (Exchange t v) k r e = absurd (false≢true (sym e))
   key-own (Wait t) k r e = absurd k.fits.0
@@ -110,7 +114,8 @@ module _ (shape : Shape) (call : Call) (some : 1 ≤ shape.rows256) where
 
   -- a word of a row that the scan has walked is one of a row that it holds
   module _ (low high : ℕ) (w : Walk) where
-    walked-word : (step : ScanStep) (n : Held) (word : ℕ) → scan_locked step w ≡ w.rows → IsWalked n w.rows → Each (IsKept true (RowsOf shape)) w.rows
+    walked-word : (step : ScanStep) (n : Held) (word : ℕ) → scan_locked step w ≡ w.rows → IsWalked n w.rows
+        → Each (IsKept true (RowsOf shape)) w.rows
         → RowsOf shape n.base n.kind → IsBehindVersion n.base n.kind word → IsHeldWord c (OnScan low high (at step w)) word
     walked-word step n word is walked kept known behind =
         let row = among-each (IsKept true (RowsOf shape)) walked.0 w.rows walked.1 kept in
@@ -118,13 +123,15 @@ module _ (shape : Shape) (call : Call) (some : 1 ≤ shape.rows256) where
         record {
           row = lock_of walked.0;
           among = subst (λ rows. IsAmong (lock_of walked.0) (locks_of rows)) (sym is) (among-lock walked.0 w.rows walked.1);
-          behind = subst (λ k. IsBehindVersion walked.0.base k word) (sym kind) (subst (λ b. IsBehindVersion b n.kind word) (sym walked.2) behind);
+          behind = subst (λ k. IsBehindVersion walked.0.base k word) (sym kind)
+              (subst (λ b. IsBehindVersion b n.kind word) (sym walked.2) behind);
         }
 
     keys-own : (base : ℕ) (kind : Kind) (info was : ℕ) → KnowsScanRows (RowsOf shape) true (at (scan.Keys (held base kind info was)) w)
         → IsWalked (held base kind info was) w.rows → TouchesOwn c (OnScan low high (at (scan.Keys (held base kind info was)) w))
     keys-own base Four info was k r = LoadsHeld (keys_at base) None refl
-        (walked-word (scan.Keys (held base Four info was)) (held base Four info was) (keys_at base) refl r k.kept k.known.0 (omega arith, omega arith))
+        (walked-word (scan.Keys (held base Four info was)) (held base Four info was) (keys_at base) refl r k.kept k.known.0
+            (omega arith, omega arith))
     keys-own base Sixteen info was k r = LoadsHeld (count_at Sixteen base) None refl
         (walked-word (scan.Keys (held base Sixteen info was)) (held base Sixteen info was) (count_at Sixteen base) refl r k.kept k.known.0
         (omega arith, omega arith))
@@ -132,7 +139,8 @@ module _ (shape : Shape) (call : Call) (some : 1 ≤ shape.rows256) where
         (walked-word (scan.Keys (held base FortyEight info was)) (held base FortyEight info was) (keys_at base) refl r k.kept k.known.0
         (omega arith, omega arith))
     keys-own base Full info was k r = LoadsHeld (keys_at base) None refl
-        (walked-word (scan.Keys (held base Full info was)) (held base Full info was) (keys_at base) refl r k.kept k.known.0 (omega arith, omega arith))
+        (walked-word (scan.Keys (held base Full info was)) (held base Full info was) (keys_at base) refl r k.kept k.known.0
+            (omega arith, omega arith))
 
     scan-own : (step : ScanStep) → KnowsScanRows (RowsOf shape) true (at step w) → ReadsHeld (OnScan low high (at step w))
         → is_lock (OnScan low high (at step w)) ≡ false → TouchesOwn c (OnScan low high (at step w))
@@ -148,10 +156,12 @@ module _ (shape : Shape) (call : Call) (some : 1 ≤ shape.rows256) where
     scan-own (scan.FirstKeys n count) k r e = LoadsHeld (keys_at n.base) None refl
         (walked-word (scan.FirstKeys n count) n (keys_at n.base) refl r.0 k.kept k.known.0 (omega arith, omega (arith, seven-words n.kind)))
     scan-own (scan.SecondKeys n count first) k r e = LoadsHeld (more_keys_at n.base) None refl
-        (walked-word (scan.SecondKeys n count first) n (more_keys_at n.base) refl r.0 k.kept k.known.0 (omega arith, omega (arith, seven-words n.kind)))
+        (walked-word (scan.SecondKeys n count first) n (more_keys_at n.base) refl r.0 k.kept k.known.0
+            (omega arith, omega (arith, seven-words n.kind)))
     scan-own (scan.Index n index words) k r e = LoadsHeld (index_at n.base (8 * index)) None refl
         (walked-word (scan.Index n index words) n (index_at n.base (8 * index)) refl r.0 k.kept k.known.0
-        (subst (λ kind. IsBehindVersion n.base kind (index_at n.base (8 * index))) (sym k.fits.0) (omega (arith, k.fits.1), omega (arith, k.fits.1))))
+        (subst (λ kind. IsBehindVersion n.base kind (index_at n.base (8 * index))) (sym k.fits.0)
+            (omega (arith, k.fits.1), omega (arith, k.fits.1))))
     scan-own (scan.Child f slot) k r e = LoadsHeld slot None refl
         (walked-word (scan.Child f slot) f.row slot refl r.0 k.kept k.fits.0.0 (slot-behind f.row.base f.row.kind slot k.fits.1))
     scan-own (scan.Release n) k r e = ReleasesHeld (lock_of n) _ _ refl (inl refl) refl

@@ -19,10 +19,14 @@ use Rattle.art_stages.specs.declared.stage.PairWord.{PairWord}
 use Rattle.art_stages.specs.declared.stage.PairWord.TheVariants as pair_word
 use Rattle.art_stages.specs.declared.stage.Growing.{Growing}
 use Rattle.art_stages.specs.declared.stage.Stage.{Stage}
-use Rattle.art_stages.specs.declared.stage.Stage.TheVariants.{Lock, Exchange, Wait, Leave, Between, Info, Find, FindKeys, FindMore, FindCount, Slot}
-use Rattle.art_stages.specs.declared.stage.Stage.TheVariants.{Check, CheckLast, LetGo, Take, Write, ClaimPair, StorePair, PutLoad, PutStore, PutLeaf}
-use Rattle.art_stages.specs.declared.stage.Stage.TheVariants.{PutKeys, PutMore, PutCount, ClaimGrow, GrowInfo, GrowLoad, GrowStore, SpreadIndex}
-use Rattle.art_stages.specs.declared.stage.Stage.TheVariants.{SpreadLoad, SpreadStore, GrowLeaf, GrowKeys, GrowCount, Hang, Obsolete, Unlock, Over}
+use Rattle.art_stages.specs.declared.stage.Stage.TheVariants.{Lock, Exchange, Wait, Leave, Between, Info, Find, FindKeys, FindMore}
+use Rattle.art_stages.specs.declared.stage.Stage.TheVariants.{FindCount, Slot}
+use Rattle.art_stages.specs.declared.stage.Stage.TheVariants.{Check, CheckLast, LetGo, Take, Write, ClaimPair, StorePair, PutLoad, PutStore}
+use Rattle.art_stages.specs.declared.stage.Stage.TheVariants.{PutLeaf}
+use Rattle.art_stages.specs.declared.stage.Stage.TheVariants.{PutKeys, PutMore, PutCount, ClaimGrow, GrowInfo, GrowLoad, GrowStore}
+use Rattle.art_stages.specs.declared.stage.Stage.TheVariants.{SpreadIndex}
+use Rattle.art_stages.specs.declared.stage.Stage.TheVariants.{SpreadLoad, SpreadStore, GrowLeaf, GrowKeys, GrowCount, Hang, Obsolete}
+use Rattle.art_stages.specs.declared.stage.Stage.TheVariants.{Unlock, Over}
 use Rattle.art_stages.specs.Stages.{setting, place_in, keys_after}
 use Rattle.art_stages.specs.Automaton.{turn_at, pair_turn, put_keys_turn, grow_keys_turn, grow_leaf_turn, grow_count_turn, store_of}
 use Rattle.art_stages.specs.Calls.{CallAt, OnKey}
@@ -65,7 +69,8 @@ module _ (P : OfRows) (c : Setting) where
   pair-allowed h p base pair_word.Lesser = (refl, refl)
   pair-allowed h p base pair_word.Greater = (refl, refl)
 
-  keys-allowed : (kind : Kind) (stage : Stage) → IsStoring stage → (h : Hold) (keys : Keys) → IsAllowed c stage (put_keys_turn kind c h keys)
+  keys-allowed : (kind : Kind) (stage : Stage) → IsStoring stage → (h : Hold) (keys : Keys)
+      → IsAllowed c stage (put_keys_turn kind c h keys)
   keys-allowed Four stage ok h keys = ok
   keys-allowed Sixteen stage ok h keys = ok
   keys-allowed FortyEight stage ok h keys = ok
@@ -168,7 +173,8 @@ pub rows-do : (variant : Variant) → IsFull variant → (shape : Shape) (call :
     → Knows (RowsOf shape) (setting shape variant call) at → AccessDoes (RowsOf shape) (setting shape variant call) at
 rows-do variant full shape call some at k = does variant full shape call (RowsOf shape) (λ b k e. e) (root-row shape some) at k
 
-pub rows-known : (variant : Variant) (shape : Shape) (n : ℕ) (s : State) (p : ℕ) (call : Call) (q : Process) → IsSound variant shape n s → IsOpen s p call q
+pub rows-known : (variant : Variant) (shape : Shape) (n : ℕ) (s : State) (p : ℕ) (call : Call) (q : Process) → IsSound variant shape n s
+    → IsOpen s p call q
     → Knows (RowsOf shape) (setting shape variant call) (stage_of variant shape call q)
 rows-known variant shape n s p call q h o =
     knows-more (IsSettled variant shape s) (RowsOf shape) (setting shape variant call) (λ b k x. settled-row variant shape s b k x)

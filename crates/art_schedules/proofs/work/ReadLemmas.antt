@@ -29,14 +29,20 @@ use Rattle.art_stages.specs.declared.stage.Spread.{Spread}
 use Rattle.art_stages.specs.declared.stage.Outcome.{Outcome}
 use Rattle.art_stages.specs.declared.stage.Down.{Down}
 use Rattle.art_stages.specs.declared.stage.Stage.{Stage}
-use Rattle.art_stages.specs.declared.stage.Stage.TheVariants.{Lock, Exchange, Wait, Leave, Between, Info, Find, FindKeys, FindMore, FindCount, Slot}
-use Rattle.art_stages.specs.declared.stage.Stage.TheVariants.{Check, CheckLast, LetGo, Take, Write, ClaimPair, StorePair, PutLoad, PutStore, PutLeaf}
-use Rattle.art_stages.specs.declared.stage.Stage.TheVariants.{PutKeys, PutMore, PutCount, ClaimGrow, GrowInfo, GrowLoad, GrowStore, SpreadIndex}
-use Rattle.art_stages.specs.declared.stage.Stage.TheVariants.{SpreadLoad, SpreadStore, GrowLeaf, GrowKeys, GrowCount, Hang, Obsolete, Unlock, Over}
+use Rattle.art_stages.specs.declared.stage.Stage.TheVariants.{Lock, Exchange, Wait, Leave, Between, Info, Find, FindKeys, FindMore}
+use Rattle.art_stages.specs.declared.stage.Stage.TheVariants.{FindCount, Slot}
+use Rattle.art_stages.specs.declared.stage.Stage.TheVariants.{Check, CheckLast, LetGo, Take, Write, ClaimPair, StorePair, PutLoad, PutStore}
+use Rattle.art_stages.specs.declared.stage.Stage.TheVariants.{PutLeaf}
+use Rattle.art_stages.specs.declared.stage.Stage.TheVariants.{PutKeys, PutMore, PutCount, ClaimGrow, GrowInfo, GrowLoad, GrowStore}
+use Rattle.art_stages.specs.declared.stage.Stage.TheVariants.{SpreadIndex}
+use Rattle.art_stages.specs.declared.stage.Stage.TheVariants.{SpreadLoad, SpreadStore, GrowLeaf, GrowKeys, GrowCount, Hang, Obsolete}
+use Rattle.art_stages.specs.declared.stage.Stage.TheVariants.{Unlock, Over}
 use Rattle.art_stages.specs.Stages.{setting, held, row_at, count_in, byte_in}
 use Rattle.art_stages.specs.Automaton.{start_at, hold_alone, end_at, release_at, no_value, moves_at, put_at, work_at, taken_at, pair_work}
-use Rattle.art_stages.specs.Automaton.{overwrite_at, seek_coupled, insert_coupled, let_go_at, place_coupled, found_at, checked_at, among_at, keys_one}
-use Rattle.art_stages.specs.Automaton.{indexed_at, find_at, arrived_at, entered_at, below_at, pair_after, put_keys_after, copies_at, spreads_at, entries_at}
+use Rattle.art_stages.specs.Automaton.{overwrite_at, seek_coupled, insert_coupled, let_go_at, place_coupled, found_at, checked_at, among_at}
+use Rattle.art_stages.specs.Automaton.{keys_one}
+use Rattle.art_stages.specs.Automaton.{indexed_at, find_at, arrived_at, entered_at, below_at, pair_after, put_keys_after, copies_at}
+use Rattle.art_stages.specs.Automaton.{spreads_at, entries_at}
 use Rattle.art_stages.specs.Automaton.{fill_at}
 use Rattle.art_stages.specs.Automaton.{leaf_after, keys_at_after, after_with}
 use Rattle.art_stages.specs.Calls.{OnKey}
@@ -170,7 +176,8 @@ module _ (shape : Shape) (call : Call) where
 
   entries-good : (s : Spread) (i n : ℕ) → Good (entries_at s i n)
   entries-good s i zero = spreads-good s.growing (s.place + 1) s.left
-  entries-good s i (suc n) = pick (slice_index (entries_of s.word) i == 0) (entries_at s (i + 1) n) (SpreadLoad s i n) (entries-good s (i + 1) n) tt
+  entries-good s i (suc n) = pick (slice_index (entries_of s.word) i == 0) (entries_at s (i + 1) n) (SpreadLoad s i n)
+      (entries-good s (i + 1) n) tt
 
   fill-good : (kind : Kind) (g : Growing) → Good (fill_at kind g)
   fill-good Four g = copies-good g 0 _
@@ -209,7 +216,8 @@ module _ (shape : Shape) (call : Call) where
       pick (w == t.row.kept) (taken_at c t.held t.below t.work t.row) (release_at true t.held None) (taken-good t.held t.below t.work t.row)
       (release-good t.held None)
   key-reads i (Write h slot word reply) w = tt
-  key-reads i (ClaimPair h p) w = pick (nat_lt w (rows_of shape Four)) (StorePair h p (base_of shape Four w) pair_word.Info) (Unlock h _) tt tt
+  key-reads i (ClaimPair h p) w = pick (nat_lt w (rows_of shape Four)) (StorePair h p (base_of shape Four w) pair_word.Info)
+      (Unlock h _) tt tt
   key-reads i (StorePair h p base word) w = pair-good h p base word
   key-reads i (PutLoad h keys left) w = tt
   key-reads i (PutStore h keys left word) w = moves-good h keys left

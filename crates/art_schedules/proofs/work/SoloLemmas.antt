@@ -18,7 +18,8 @@ use Rattle.art_serial.specs.alone.Alone.{RunsAlone, ends, goes}
 use Rattle.art_serial.proofs.alone.AloneLemmas.{same-runs, load-same}
 use Rattle.art_serial.proofs.alone.DifferLemmas.{heads, tails}
 use Rattle.art_versions.proofs.versions.ByteLemmas.{no-head}
-use Rattle.art_schedules.specs.work.Solo.{Step, loads, stores, claims, Solo, here, further, number_in, numbers_of, made_of, words_alone, TellsSame, TellAll}
+use Rattle.art_schedules.specs.work.Solo.{Step, loads, stores, claims, Solo, here, further, number_in, numbers_of, made_of, words_alone}
+use Rattle.art_schedules.specs.work.Solo.{TellsSame, TellAll}
 use Rattle.art_schedules.specs.work.Solo.{Suits}
 
 -- ---- one step
@@ -42,14 +43,16 @@ step-once c e f (stores i r m h) (claims j q n k z) g = absurd (store-add (sym h
 step-once c e f (claims i r m h u) (loads j n k) g = absurd (load-add (sym (sym h ∙ (turns c e ∙ k))))
 step-once c e f (claims i r m h u) (stores j q n k) g = absurd (store-add (sym (sym h ∙ (turns c e ∙ k))))
 
-pub solos-one : (c : Setting) {at0 : CallAt} {w0 : List ℕ} {one two : CallAt} {words later : List ℕ} (s : Solo c at0 w0 one words) (t : Solo c at0 w0 two later)
+pub solos-one : (c : Setting) {at0 : CallAt} {w0 : List ℕ} {one two : CallAt} {words later : List ℕ} (s : Solo c at0 w0 one words)
+    (t : Solo c at0 w0 two later)
     → numbers_of s ≡ numbers_of t → (one ≡ two) × (words ≡ later)
 solos-one c here here e = (refl, refl)
 solos-one c here (further t step) e = absurd (no-head e)
 solos-one c (further s step) here e = absurd (no-head (sym e))
 solos-one c (further s one) (further t two) e = let before = solos-one c s t (tails e) in step-once c before.0 before.1 one two (heads e)
 
-pub solos-on : (c : Setting) {at0 : CallAt} {w0 : List ℕ} {one : CallAt} {words : List ℕ} {two : CallAt} {later : List ℕ} → Solo c at0 w0 one words
+pub solos-on : (c : Setting) {at0 : CallAt} {w0 : List ℕ} {one : CallAt} {words : List ℕ} {two : CallAt} {later : List ℕ}
+    → Solo c at0 w0 one words
     → Solo c one words two later → Solo c at0 w0 two later
 solos-on c s here = s
 solos-on c s (further t step) = further (solos-on c s t) step
@@ -63,7 +66,8 @@ solos-keep c I keeps (further {at} {next} {words} {later} s step) i = keeps at n
 
 -- ---- runs
 
-pub rests-on : (c : Setting) (at : CallAt) (w : ℕ) (rest : List ℕ) → Suits c at → rest_at c (call_after c at w) rest ≡ rest_at c at (w ∷ rest)
+pub rests-on : (c : Setting) (at : CallAt) (w : ℕ) (rest : List ℕ) → Suits c at
+    → rest_at c (call_after c at w) rest ≡ rest_at c at (w ∷ rest)
 rests-on c (OnKey stage) w rest s = goes_on c stage w rest s
 rests-on c (OnScan low high scan) w rest s = scan_goes_on c low high scan w rest s
 
@@ -80,7 +84,8 @@ run-behind {rest = rest} {words = words} {last = last} {reply = reply} a mark as
     subst (λ (x : Access). RunsAlone (λ more. rest (got_by x words ∷ more)) (words_after x words) last reply) (asks-same (sym h ∙ asks)) r
 
 -- an access, and what is left behind it
-module _ (c : Setting) (at : CallAt) (suits : Suits c at) (a : Access) (mark : Option Point) (asks : call_turn c at ≡ Asks a mark) (words : List ℕ) (got : ℕ)
+module _ (c : Setting) (at : CallAt) (suits : Suits c at) (a : Access) (mark : Option Point) (asks : call_turn c at ≡ Asks a mark)
+    (words : List ℕ) (got : ℕ)
     (later last : List ℕ) (reply : Reply) (told : got_by a words ≡ got) (left : words_after a words ≡ later) where
   next : rest_at c at [] ≡ Asks a mark
   next = call_next c at ∙ asks
@@ -97,10 +102,12 @@ module _ (c : Setting) (at : CallAt) (suits : Suits c at) (a : Access) (mark : O
 
 -- the same of a step
 abbrev Equals : (c : Setting) (at next : CallAt) (other : List ℕ) (later : List ℕ) → Type 0
-Equals c at next other later = (last : List ℕ) (reply : Reply) → (RunsAlone (rest_at c next) later last reply → RunsAlone (rest_at c at) other last reply)
+Equals c at next other later = (last : List ℕ) (reply : Reply)
+    → (RunsAlone (rest_at c next) later last reply → RunsAlone (rest_at c at) other last reply)
     × (RunsAlone (rest_at c at) other last reply → RunsAlone (rest_at c next) later last reply)
 
-pub step-runs : (c : Setting) {at next : CallAt} {words later : List ℕ} (s : Step c at words next later) (other : List ℕ) → Suits c at → TellsSame s other
+pub step-runs : (c : Setting) {at next : CallAt} {words later : List ℕ} (s : Step c at words next later) (other : List ℕ) → Suits c at
+    → TellsSame s other
     → Equals c at next other (made_of s other)
 step-runs c {at = at} {words = words} (loads word mark asks) other suits tells last reply = (
   runs-before c at suits (Load word) mark asks other (slice_index words word) other last reply tells (load-same word other),
@@ -111,9 +118,11 @@ step-runs c {at = at} (stores word value mark asks) other suits tells last reply
   runs-behind c at suits (Store word value) mark asks other 0 (slice_set other word value) last reply refl refl,
 )
 step-runs c {at = at} (claims kind number mark asks unused) other suits tells last reply = (
-  runs-before c at suits (Add (claims_of kind)) mark asks other number (slice_set other (claims_of kind) ((number + 1) % 2 ^ 64)) last reply tells
+  runs-before c at suits (Add (claims_of kind)) mark asks other number
+      (slice_set other (claims_of kind) ((number + 1) % 2 ^ 64)) last reply tells
       (counted tells),
-  runs-behind c at suits (Add (claims_of kind)) mark asks other number (slice_set other (claims_of kind) ((number + 1) % 2 ^ 64)) last reply tells
+  runs-behind c at suits (Add (claims_of kind)) mark asks other number
+      (slice_set other (claims_of kind) ((number + 1) % 2 ^ 64)) last reply tells
       (counted tells),
 )
   where
@@ -126,11 +135,13 @@ step-suits c {at = at} {words = words} (loads word mark asks) s = suits-on c at 
 step-suits c {at = at} (stores word value mark asks) s = suits-on c at 0 s
 step-suits c {at = at} (claims kind number mark asks unused) s = suits-on c at number s
 
-pub solo-suits : (c : Setting) {at0 : CallAt} {w0 : List ℕ} {at : CallAt} {words : List ℕ} → Solo c at0 w0 at words → Suits c at0 → Suits c at
+pub solo-suits : (c : Setting) {at0 : CallAt} {w0 : List ℕ} {at : CallAt} {words : List ℕ} → Solo c at0 w0 at words
+    → Suits c at0 → Suits c at
 solo-suits c here s = s
 solo-suits c (further t step) s = step-suits c step (solo-suits c t s)
 
-pub solo-runs : (c : Setting) {at0 : CallAt} {w0 : List ℕ} {at : CallAt} {words : List ℕ} (s : Solo c at0 w0 at words) (other : List ℕ) → Suits c at0
+pub solo-runs : (c : Setting) {at0 : CallAt} {w0 : List ℕ} {at : CallAt} {words : List ℕ} (s : Solo c at0 w0 at words)
+    (other : List ℕ) → Suits c at0
     → TellAll s other
     → Equals c at0 at other (words_alone s other)
 solo-runs c here other suits tells last reply = (λ r. r, λ r. r)

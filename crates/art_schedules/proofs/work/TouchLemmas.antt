@@ -17,10 +17,14 @@ use Rattle.art_schedules.proofs.work.WorkLemmas.{Next, at-work}
 use Rattle.art_steps.specs.Rows.{Setting, locks}
 use Rattle.art_stages.specs.declared.stage.Hold.{Hold}
 use Rattle.art_stages.specs.declared.stage.Stage.{Stage}
-use Rattle.art_stages.specs.declared.stage.Stage.TheVariants.{Lock, Exchange, Wait, Leave, Between, Info, Find, FindKeys, FindMore, FindCount, Slot}
-use Rattle.art_stages.specs.declared.stage.Stage.TheVariants.{Check, CheckLast, LetGo, Take, Write, ClaimPair, StorePair, PutLoad, PutStore, PutLeaf}
-use Rattle.art_stages.specs.declared.stage.Stage.TheVariants.{PutKeys, PutMore, PutCount, ClaimGrow, GrowInfo, GrowLoad, GrowStore, SpreadIndex}
-use Rattle.art_stages.specs.declared.stage.Stage.TheVariants.{SpreadLoad, SpreadStore, GrowLeaf, GrowKeys, GrowCount, Hang, Obsolete, Unlock, Over}
+use Rattle.art_stages.specs.declared.stage.Stage.TheVariants.{Lock, Exchange, Wait, Leave, Between, Info, Find, FindKeys, FindMore}
+use Rattle.art_stages.specs.declared.stage.Stage.TheVariants.{FindCount, Slot}
+use Rattle.art_stages.specs.declared.stage.Stage.TheVariants.{Check, CheckLast, LetGo, Take, Write, ClaimPair, StorePair, PutLoad, PutStore}
+use Rattle.art_stages.specs.declared.stage.Stage.TheVariants.{PutLeaf}
+use Rattle.art_stages.specs.declared.stage.Stage.TheVariants.{PutKeys, PutMore, PutCount, ClaimGrow, GrowInfo, GrowLoad, GrowStore}
+use Rattle.art_stages.specs.declared.stage.Stage.TheVariants.{SpreadIndex}
+use Rattle.art_stages.specs.declared.stage.Stage.TheVariants.{SpreadLoad, SpreadStore, GrowLeaf, GrowKeys, GrowCount, Hang, Obsolete}
+use Rattle.art_stages.specs.declared.stage.Stage.TheVariants.{Unlock, Over}
 use Rattle.art_stages.specs.Stages.{setting}
 use Rattle.art_stages.specs.Automaton.{turn_at, stage_after}
 use Rattle.art_stages.specs.Calls.{OnKey}
@@ -31,9 +35,11 @@ use Rattle.art_versions.proofs.versions.WithLemmas.{with-here}
 use Rattle.art_schedules.specs.work.Own.{TouchesOwn, LoadsHeld, StoresOwn, ClaimsRow, ReleasesHeld, Replies, is_claim, may_release, is_work}
 use Rattle.art_schedules.specs.work.Works.{RowsOf}
 use Rattle.art_schedules.proofs.work.OwnLemmas.{IsAllowed, allowed, is_over, rows-do}
-use Rattle.art_schedules.proofs.work.WorkLemmas.{AtWork, writes, pairs, put_loads, put_stores, put_leaf, put_keys, put_more, put_count, grow_info, grow_loads}
+use Rattle.art_schedules.proofs.work.WorkLemmas.{AtWork, writes, pairs, put_loads, put_stores, put_leaf, put_keys, put_more, put_count}
+use Rattle.art_schedules.proofs.work.WorkLemmas.{grow_info, grow_loads}
 use Rattle.art_schedules.proofs.work.WorkLemmas.{grow_stores}
-use Rattle.art_schedules.proofs.work.WorkLemmas.{spread_index, spread_loads, spread_stores, grow_leaf, grow_keys, grow_count, hangs, is_release, next-work}
+use Rattle.art_schedules.proofs.work.WorkLemmas.{spread_index, spread_loads, spread_stores, grow_leaf, grow_keys, grow_count, hangs}
+use Rattle.art_schedules.proofs.work.WorkLemmas.{is_release, next-work}
 use Rattle.art_schedules.proofs.work.WorkLemmas.{holds-work}
 use Rattle.art_schedules.proofs.work.WorkLemmas.{holds-next, with-length}
 
@@ -119,7 +125,8 @@ releases-at (GrowCount g) e = absurd (false≢true e)
 releases-at (Hang g) e = absurd (false≢true e)
 releases-at (Over outcome) e = absurd (false≢true e)
 
-released : (c : Setting) (stage : Stage) → is_work stage ≡ true → KnowsKey (RowsOf c.shape) c stage → (is_claim stage ≡ false) × (is_over stage ≡ false)
+released : (c : Setting) (stage : Stage) → is_work stage ≡ true → KnowsKey (RowsOf c.shape) c stage → (is_claim stage ≡ false)
+    × (is_over stage ≡ false)
     → length (holds c (OnKey stage)) ≡ length (holds c (OnKey (stage_after c stage 0))) + 1 → (b : Bool) → is_release stage ≡ b
     → may_release (OnKey stage) ≡ true
 released c stage w k a less true e = releases-at stage e
@@ -140,12 +147,14 @@ own-by c stage w k a (Ends b kind word value mark asks filled behind row good af
     StoresOwn word value mark asks (inr (record { base = b; kind = kind; filled = filled; behind = behind }))
 own-by c stage w k a (Releases h rest value mark asks with none is kept after) =
     ReleasesHeld h value mark asks (with-here h rest _ with)
-    (released c stage w k (subst (IsAllowed c stage) asks a) (with-length h rest _ with ∙ ap (λ xs. length xs + 1) (sym after.1)) (is_release stage) refl)
+    (released c stage w k (subst (IsAllowed c stage) asks a) (with-length h rest _ with ∙ ap (λ xs. length xs + 1) (sym after.1))
+        (is_release stage) refl)
 own-by c stage w k a (Takes h all mark asks with none kept after other) = absurd (subst (IsAllowed c stage) asks a)
 own-by c stage w k a (Claims kind mark asks none after other) = ClaimsRow kind mark asks (subst (IsAllowed c stage) asks a)
 own-by c stage w k a (Answered reply asks none) = Replies reply asks
 
-pub work-own : (variant : Variant) → IsFull variant → (shape : Shape) (call : Call) → 1 ≤ shape.rows256 → (stage : Stage) → is_work stage ≡ true
+pub work-own : (variant : Variant) → IsFull variant → (shape : Shape) (call : Call) → 1 ≤ shape.rows256 → (stage : Stage)
+    → is_work stage ≡ true
     → Knows (RowsOf shape) (setting shape variant call) (OnKey stage) → TouchesOwn (setting shape variant call) (OnKey stage)
 work-own variant full shape call some stage w k =
     let c = setting shape variant call in
@@ -192,31 +201,38 @@ claims-first c (Check p f) w k v = absurd (false≢true w)
 claims-first c (CheckLast m) w k v = absurd (false≢true w)
 claims-first c (LetGo above p f) w k v = absurd (false≢true w)
 claims-first c (Take t) w k v = absurd (false≢true w)
-claims-first c (Write h slot word reply) w k v = claims-after c (Write h slot word reply) (work-of (Write h slot word reply) refl refl refl refl) k v
-claims-first c (StorePair h p base word) w k v = claims-after c (StorePair h p base word) (work-of (StorePair h p base word) refl refl refl refl) k v
+claims-first c (Write h slot word reply) w k v =
+    claims-after c (Write h slot word reply) (work-of (Write h slot word reply) refl refl refl refl) k v
+claims-first c (StorePair h p base word) w k v =
+    claims-after c (StorePair h p base word) (work-of (StorePair h p base word) refl refl refl refl) k v
 claims-first c (PutLoad h keys left) w k v = claims-after c (PutLoad h keys left) (work-of (PutLoad h keys left) refl refl refl refl) k v
-claims-first c (PutStore h keys left word) w k v = claims-after c (PutStore h keys left word) (work-of (PutStore h keys left word) refl refl refl refl) k v
+claims-first c (PutStore h keys left word) w k v =
+    claims-after c (PutStore h keys left word) (work-of (PutStore h keys left word) refl refl refl refl) k v
 claims-first c (PutLeaf h keys) w k v = claims-after c (PutLeaf h keys) (work-of (PutLeaf h keys) refl refl refl refl) k v
 claims-first c (PutKeys h keys) w k v = claims-after c (PutKeys h keys) (work-of (PutKeys h keys) refl refl refl refl) k v
 claims-first c (PutMore h keys) w k v = claims-after c (PutMore h keys) (work-of (PutMore h keys) refl refl refl refl) k v
 claims-first c (PutCount h keys) w k v = claims-after c (PutCount h keys) (work-of (PutCount h keys) refl refl refl refl) k v
 claims-first c (GrowInfo g) w k v = claims-after c (GrowInfo g) (work-of (GrowInfo g) refl refl refl refl) k v
-claims-first c (GrowLoad g place left) w k v = claims-after c (GrowLoad g place left) (work-of (GrowLoad g place left) refl refl refl refl) k v
+claims-first c (GrowLoad g place left) w k v =
+    claims-after c (GrowLoad g place left) (work-of (GrowLoad g place left) refl refl refl refl) k v
 claims-first c (GrowStore g place left word) w k v = claims-after c (GrowStore g place left word) (work-of
     (GrowStore g place left word) refl refl refl refl) k v
 claims-first c (SpreadIndex g j left) w k v = claims-after c (SpreadIndex g j left) (work-of (SpreadIndex g j left) refl refl refl refl) k v
-claims-first c (SpreadLoad s entry left) w k v = claims-after c (SpreadLoad s entry left) (work-of (SpreadLoad s entry left) refl refl refl refl) k v
+claims-first c (SpreadLoad s entry left) w k v =
+    claims-after c (SpreadLoad s entry left) (work-of (SpreadLoad s entry left) refl refl refl refl) k v
 claims-first c (SpreadStore s entry left word) w k v = claims-after c (SpreadStore s entry left word) (work-of
     (SpreadStore s entry left word) refl refl refl refl) k v
 claims-first c (GrowLeaf g) w k v = claims-after c (GrowLeaf g) (work-of (GrowLeaf g) refl refl refl refl) k v
 claims-first c (GrowKeys g j left) w k v = claims-after c (GrowKeys g j left) (work-of (GrowKeys g j left) refl refl refl refl) k v
 claims-first c (GrowCount g) w k v = claims-after c (GrowCount g) (work-of (GrowCount g) refl refl refl refl) k v
 claims-first c (Hang g) w k v = claims-after c (Hang g) (work-of (Hang g) refl refl refl refl) k v
-claims-first c (ClaimPair h p) w k v = neither (nat_lt v (rows_of c.shape Four)) (StorePair h p (base_of c.shape Four v) pair_word.Info) (Unlock h
+claims-first c (ClaimPair h p) w k v = neither (nat_lt v (rows_of c.shape Four)) (StorePair h p (base_of c.shape Four v)
+    pair_word.Info) (Unlock h
     (Some Refused)) refl refl
 claims-first c (ClaimGrow h slot keys) w k v =
     neither (nat_lt v (rows_of c.shape (next_kind h.row.kind)))
-    (GrowInfo (record { hold = h; slot = slot; keys = keys; base = base_of c.shape (next_kind h.row.kind) v })) (Unlock h (Some Refused)) refl refl
+    (GrowInfo (record { hold = h; slot = slot; keys = keys; base = base_of c.shape (next_kind h.row.kind) v }))
+        (Unlock h (Some Refused)) refl refl
 claims-first c (Obsolete h) w k v = release-first (locks c.variant) h.above (Some no_value)
 claims-first c (Unlock h outcome) w k v = release-first (locks c.variant) h.above outcome
 claims-first c (Over outcome) w k v = refl

@@ -18,12 +18,14 @@ use Rattle.art_stages.specs.declared.stage.Entry.{Entry}
 use Rattle.art_stages.specs.declared.stage.Entry.TheVariants.{Root, Below}
 use Rattle.art_stages.specs.declared.stage.Frame.{Frame}
 use Rattle.art_stages.specs.declared.stage.ScanStep.{ScanStep}
-use Rattle.art_stages.specs.declared.stage.ScanStep.TheVariants.{Lock, Exchange, Wait, Info, Keys, FirstKeys, SecondKeys, Index, Child as LoadChild, Release}
+use Rattle.art_stages.specs.declared.stage.ScanStep.TheVariants.{Lock, Exchange, Wait, Info, Keys, FirstKeys, SecondKeys, Index}
+use Rattle.art_stages.specs.declared.stage.ScanStep.TheVariants.{Child as LoadChild, Release}
 use Rattle.art_stages.specs.declared.stage.ScanStep.TheVariants.{Over}
 use Rattle.art_stages.specs.Stages.{setting, row_at, held, keys_among}
 use Rattle.art_stages.specs.Automaton.{keys_one}
 use Rattle.art_stages.specs.Scans.{Walk, ScanAt, at, walked, on_way, lies, in_word, frame_of, keys16, release_rows, slot_at, bytes_at}
-use Rattle.art_stages.specs.Scans.{index_at_list, words_at, entry_slot, place_slot, child_from, word_test, frame_at, way_at, resume_at, with_frame}
+use Rattle.art_stages.specs.Scans.{index_at_list, words_at, entry_slot, place_slot, child_from, word_test, frame_at, way_at, resume_at}
+use Rattle.art_stages.specs.Scans.{with_frame}
 use Rattle.art_stages.specs.Scans.{row_begins, visit_list, visit_at, entry_at, child_after, keys_after_word, scan_start, step_after}
 use Rattle.art_stages.specs.Calls.{CallAt, OnKey, OnScan, call_after, begun_as, call_begun, after_all, call_behind}
 use Rattle.art_versions.specs.versions.Holding.{Each}
@@ -57,7 +59,8 @@ module _ (shape : Shape) (call : Call) (lo hi : ℕ) where
   slot-good w f x n None other here ways rest = rest
   slot-good w f x n (Some slot) other here ways rest = (here, ways)
 
-  bytes-good : (test : ℕ → Bool) (slot_of : ℕ → Option ℕ) (w : Walk) (f : Frame) (x n : ℕ) (other : ScanAt) → IsWalked f.row w.rows → Ways w → Good other
+  bytes-good : (test : ℕ → Bool) (slot_of : ℕ → Option ℕ) (w : Walk) (f : Frame) (x n : ℕ) (other : ScanAt) → IsWalked f.row w.rows
+      → Ways w → Good other
       → Good (bytes_at test slot_of (child_from w f) x n other)
   bytes-good test slot_of w f x zero other here ways rest = rest
   bytes-good test slot_of w f x (suc n) other here ways rest =
@@ -66,21 +69,26 @@ module _ (shape : Shape) (call : Call) (lo hi : ℕ) where
       (bytes_at test slot_of (child_from w f) (x + 1) n other)
       (slot-good w f (x + 1) n (slot_of x) (bytes_at test slot_of (child_from w f) (x + 1) n other) here ways later) later
 
-  list-good : (n : Held) (w : Walk) (j m : ℕ) (xs : List ℕ) (other : ScanAt) → IsWalked n w.rows → Ways w → Good other → Good (index_at_list n w j m xs other)
+  list-good : (n : Held) (w : Walk) (j m : ℕ) (xs : List ℕ) (other : ScanAt) → IsWalked n w.rows → Ways w → Good other
+      → Good (index_at_list n w j m xs other)
   list-good n w j m [] other here ways rest = rest
   list-good n w j m (x ∷ xs) other here ways rest = (here, ways)
 
-  words-good : (n : Held) (w : Walk) (j m : ℕ) (other : ScanAt) → IsWalked n w.rows → Ways w → Good other → Good (words_at lo hi n w j m other)
+  words-good : (n : Held) (w : Walk) (j m : ℕ) (other : ScanAt) → IsWalked n w.rows → Ways w → Good other
+      → Good (words_at lo hi n w j m other)
   words-good n w j zero other here ways rest = rest
   words-good n w j (suc m) other here ways rest =
       list-good n w j m (filter (in_word j) (bytes_of lo hi (row_at n))) (words_at lo hi n w (j + 1) m other) here ways
       (words-good n w (j + 1) m other here ways rest)
 
-  frame-good : (kind : Kind) (w : Walk) (f : Frame) (other : ScanAt) → IsWalked f.row w.rows → Ways w → Good other → Good (frame_at kind lo hi w f other)
+  frame-good : (kind : Kind) (w : Walk) (f : Frame) (other : ScanAt) → IsWalked f.row w.rows → Ways w → Good other
+      → Good (frame_at kind lo hi w f other)
   frame-good Four w f other here ways rest =
-      bytes-good (lies lo hi f) (λ x. place_slot f.row.kind f.row.base (place_of x (keys_among Four f.keys))) w f f.byte f.left other here ways rest
+      bytes-good (lies lo hi f) (λ x. place_slot f.row.kind f.row.base (place_of x (keys_among Four f.keys))) w f f.byte f.left
+          other here ways rest
   frame-good Sixteen w f other here ways rest =
-      bytes-good (lies lo hi f) (λ x. place_slot f.row.kind f.row.base (place_of x (keys_among Sixteen f.keys))) w f f.byte f.left other here ways rest
+      bytes-good (lies lo hi f) (λ x. place_slot f.row.kind f.row.base (place_of x (keys_among Sixteen f.keys))) w f f.byte f.left
+          other here ways rest
   frame-good FortyEight w f other here ways rest =
       bytes-good (word_test lo hi f) (entry_slot f) w f f.byte f.left (words_at lo hi f.row w (f.index + 1) f.words other) here ways
       (words-good f.row w (f.index + 1) f.words other here ways rest)
@@ -114,7 +122,8 @@ module _ (shape : Shape) (call : Call) (lo hi : ℕ) where
       more : Walk
       more = record { rows = w.rows ++ n ∷ []; pairs = w.pairs; way = w.way }
 
-      go : (b : Bool) → has_row n.base (map row_at w.rows) ≡ b → Good (visit_list c lo hi n (if b then w else more) (bytes_of lo hi (row_at n)))
+      go : (b : Bool) → has_row n.base (map row_at w.rows) ≡ b
+          → Good (visit_list c lo hi n (if b then w else more) (bytes_of lo hi (row_at n)))
       go true e = listed-good n w (bytes_of lo hi (row_at n)) (found-row n.base w.rows e) ways
       go false e = listed-good n more (bytes_of lo hi (row_at n)) (n, among-last n w.rows, refl)
           (each-weaker (λ (f : Frame). IsWalked f.row w.rows) (λ (f : Frame). IsWalked f.row (w.rows ++ n ∷ []))

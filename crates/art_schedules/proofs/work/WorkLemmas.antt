@@ -1,5 +1,6 @@
 -- The stages of work between its claim and its first release: what comes next, and what is touched there.
-use Rattle.std.proofs.Common.{◌≡◌, ℕ, zero, suc, ◌+◌, ◌<◌, ◌≤◌, List, [], ◌∷◌, length, refl, ap, sym, subst, ◌∙◌, Bool, true, false, inl, inr, arith}
+use Rattle.std.proofs.Common.{◌≡◌, ℕ, zero, suc, ◌+◌, ◌<◌, ◌≤◌, List, [], ◌∷◌, length, refl, ap, sym, subst, ◌∙◌, Bool, true, false, inl}
+use Rattle.std.proofs.Common.{inr, arith}
 use Rattle.std.specs.Prelude.{◌≢◌, ◌⊎◌, ◌==◌, slice_index, Option, Some, None, if◌then◌else◌}
 use Rattle.std.proofs.lemmas.Option.{none-some}
 use Rattle.std.proofs.lemmas.Bool.{cases_lt}
@@ -26,10 +27,13 @@ use Rattle.art_stages.specs.declared.stage.Spread.{Spread}
 use Rattle.art_stages.specs.declared.stage.Outcome.{Outcome}
 use Rattle.art_stages.specs.declared.stage.Outcome.TheVariants.{Value}
 use Rattle.art_stages.specs.declared.stage.Stage.{Stage}
-use Rattle.art_stages.specs.declared.stage.Stage.TheVariants.{Write, StorePair, PutLoad, PutStore, PutLeaf, PutKeys, PutMore, PutCount, GrowInfo, GrowLoad}
+use Rattle.art_stages.specs.declared.stage.Stage.TheVariants.{Write, StorePair, PutLoad, PutStore, PutLeaf, PutKeys, PutMore, PutCount}
+use Rattle.art_stages.specs.declared.stage.Stage.TheVariants.{GrowInfo, GrowLoad}
 use Rattle.art_stages.specs.declared.stage.Stage.TheVariants.{GrowStore}
-use Rattle.art_stages.specs.declared.stage.Stage.TheVariants.{SpreadIndex, SpreadLoad, SpreadStore, GrowLeaf, GrowKeys, GrowCount, Hang, Obsolete, Unlock}
-use Rattle.art_stages.specs.Automaton.{no_value, turn_at, stage_after, moves_at, pair_after, put_keys_after, copies_at, spreads_at, entries_at, fill_at}
+use Rattle.art_stages.specs.declared.stage.Stage.TheVariants.{SpreadIndex, SpreadLoad, SpreadStore, GrowLeaf, GrowKeys, GrowCount, Hang}
+use Rattle.art_stages.specs.declared.stage.Stage.TheVariants.{Obsolete, Unlock}
+use Rattle.art_stages.specs.Automaton.{no_value, turn_at, stage_after, moves_at, pair_after, put_keys_after, copies_at, spreads_at}
+use Rattle.art_stages.specs.Automaton.{entries_at, fill_at}
 use Rattle.art_stages.specs.Automaton.{leaf_after, keys_at_after}
 use Rattle.art_stages.specs.Calls.{OnKey}
 use Rattle.art_serial.specs.words.Stored.{IsStored}
@@ -111,7 +115,8 @@ is_release (Unlock h outcome) = true
 is_release (Obsolete h) = true
 is_release stage = false
 
-pub at-work : {h : Hold} {b : Bool} {stage : Stage} → AtWork h b stage → (is_work stage ≡ true) × (is_claim stage ≡ false) × (is_over stage ≡ false) ×
+pub at-work : {h : Hold} {b : Bool} {stage : Stage} → AtWork h b stage → (is_work stage ≡ true) × (is_claim stage ≡ false)
+    × (is_over stage ≡ false) ×
     (is_release stage ≡ false)
 at-work (writes slot word reply) = (refl, refl, refl, refl)
 at-work (pairs p base word) = (refl, refl, refl, refl)
@@ -210,7 +215,8 @@ module _ (h : Hold) where
       go true later = later
       go false later = spread_loads s i n is
 
-  pub next-work : (c : Setting) {b : Bool} {stage : Stage} → AtWork h b stage → KnowsKey (RowsOf c.shape) c stage → (w : ℕ) → Next h b (stage_after c stage w)
+  pub next-work : (c : Setting) {b : Bool} {stage : Stage} → AtWork h b stage → KnowsKey (RowsOf c.shape) c stage → (w : ℕ)
+      → Next h b (stage_after c stage w)
   next-work c (writes slot word reply) k w = inr (Value reply, refl)
   next-work c (pairs p base word) k w = inl (pair-next p base word)
   next-work c (put_loads keys left) k w = inl (put_stores keys left _)
@@ -269,7 +275,8 @@ module _ (c : Setting) (full : IsFull c.variant) (some : 1 ≤ c.shape.rows256) 
   acts-by {stage = stage} w k a (Reads word mark asks after) =
       let held : IsHeldWord c (OnKey stage) word = subst (IsAllowed c stage) asks a in
       let row = (held-is-kept (RowsOf s) c (OnKey stage) k held.row held.among).1 in
-      Loading word mark asks (behind-plain s held.row.base held.row.kind word row held.behind) (λ value. (after value (all-good s word value)).0)
+      Loading word mark asks (behind-plain s held.row.base held.row.kind word row held.behind)
+          (λ value. (after value (all-good s word value)).0)
   acts-by {stage = stage} w k a (Writes x word value mark asks among kept behind good after) =
       Storing word value mark asks (behind-plain s x.base x.kind word kept.1 behind) after.0
   acts-by {stage = stage} w k a (Fills base kind word value mark asks filled behind row good after) =

@@ -1,4 +1,5 @@
--- Where the calls of a run take effect: within the call, at a step of its process that changes the pairs, or at a moment at which they are as it found them.
+-- Where the calls of a run take effect: within the call, at a step of its process that changes the pairs, or at a moment at which they are
+-- as it found them.
 use Rattle.std.specs.Prelude.{◌≡◌, ℕ, ◌+◌, ◌<◌, Bool, true, false, List, length, slice_get, Some, None}
 use Rattle.events.specs.declared.event.Call.{Call}
 use Rattle.events.specs.declared.operation.Operation.{Operation}
@@ -41,7 +42,8 @@ pub data HasOwnEffect (schedule : List ℕ) (pairs : ℕ → Contents) (changes 
 abbrev pub IsInCallAt : Plan → State → List ℕ → ℕ → ℕ → Type 0
 IsInCallAt plan first schedule t p = (now : State) × (calls : ℕ) × (call : Call) × At plan first schedule t now × IsIn now p calls call
 
--- Every call of the schedule has its effect: `pairs t` is what the map holds before step t, from the starting pairs on, and `changes t` tells whether step t is
+-- Every call of the schedule has its effect: `pairs t` is what the map holds before step t, from the starting pairs on, and `changes t`
+-- tells whether step t is
 -- one that changes them, which none makes outside of a call.
 pub record HaveEffects (plan : Plan) (start : Contents) (first : State) (schedule : List ℕ) : Type 0 where
   pub pairs : ℕ → Contents

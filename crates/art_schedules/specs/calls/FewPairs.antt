@@ -18,9 +18,11 @@ pub record ChangesIn (plan : Plan) (first : State) (schedule : List ℕ) (change
   pub call : Call
   pub is_in : IsIn now p calls call
 
--- The pairs before each step, and whether the step changes them: from the starting pairs on, only steps of calls change them, each by one more pair at most,
+-- The pairs before each step, and whether the step changes them: from the starting pairs on, only steps of calls change them, each by one
+-- more pair at most,
 -- and no call at two steps.
-pub record GrowByCalls (plan : Plan) (start : Contents) (first : State) (schedule : List ℕ) (pairs : ℕ → Contents) (changes : ℕ → Bool) : Type 0 where
+pub record GrowByCalls (plan : Plan) (start : Contents) (first : State) (schedule : List ℕ) (pairs : ℕ → Contents)
+    (changes : ℕ → Bool) : Type 0 where
   pub begins : pairs 0 ≡ start
   pub stay : (t : ℕ) → t < length schedule → changes t ≡ false → pairs (t + 1) ≡ pairs t
   pub in_call : (t p : ℕ) → slice_get schedule t ≡ Some p → changes t ≡ true → IsInCallAt plan first schedule t p
@@ -30,10 +32,12 @@ pub record GrowByCalls (plan : Plan) (start : Contents) (first : State) (schedul
 -- Where pairs grow so they are few at each moment of a run,
 abbrev pub PairsStayFew : Type 0
 PairsStayFew = (plan : Plan) (start : Contents) (words schedule : List ℕ) (s : State) (pairs : ℕ → Contents) (changes : ℕ → Bool)
-    → IsRun plan start words schedule s → GrowByCalls plan start (opened_on plan words) schedule pairs changes → (t : ℕ) → t ≤ length schedule
+    → IsRun plan start words schedule s → GrowByCalls plan start (opened_on plan words) schedule pairs changes → (t : ℕ)
+    → t ≤ length schedule
     → length (pairs t) ≤ pair_limit
 
 -- and so they are where each call of a run has its effect.
 abbrev pub EffectsKeepFewPairs : Type 0
 EffectsKeepFewPairs = (plan : Plan) (start : Contents) (words schedule : List ℕ) (s : State) → IsRun plan start words schedule s
-    → (effects : HaveEffects plan start (opened_on plan words) schedule) → (t : ℕ) → t ≤ length schedule → length (effects.pairs t) ≤ pair_limit
+    → (effects : HaveEffects plan start (opened_on plan words) schedule) → (t : ℕ) → t ≤ length schedule
+    → length (effects.pairs t) ≤ pair_limit

@@ -22,12 +22,14 @@ EffectsGiveOrders = (plan : Plan) (start : Contents) (words schedule : List ℕ)
 -- by an order that leaves the pairs after the last step
 abbrev pub EffectsLeavePairs : Type 0
 EffectsLeavePairs = (plan : Plan) (start : Contents) (words schedule : List ℕ) (s : State) → IsRun plan start words schedule s
-    → (effects : HaveEffects plan start (opened_on plan words) schedule) → (order : List ℕ) × IsOrder start (operations (history_of s)) order
+    → (effects : HaveEffects plan start (opened_on plan words) schedule) → (order : List ℕ)
+    × IsOrder start (operations (history_of s)) order
     × (after_calls start (calls_at (operations (history_of s)) order) ≡ effects.pairs (length schedule))
 
 -- each moment of a run is the end of a run
 abbrev pub MomentsEndRuns : Type 0
-MomentsEndRuns = (plan : Plan) (start : Contents) (words schedule : List ℕ) (s : State) (t : ℕ) (now : State) → IsRun plan start words schedule s
+MomentsEndRuns = (plan : Plan) (start : Contents) (words schedule : List ℕ) (s : State) (t : ℕ) (now : State)
+    → IsRun plan start words schedule s
     → At plan (opened_on plan words) schedule t now → IsRun plan start words (take t schedule) now
 
 -- the moments of the first steps of a schedule are moments of the whole

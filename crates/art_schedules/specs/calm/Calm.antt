@@ -1,5 +1,6 @@
 -- Calm: beside the words of a table, a list in which each row that is locked or obsolete has the words that it had before.
-use Rattle.std.specs.Prelude.{◌≡◌, ◌⊎◌, ℕ, zero, suc, ◌+◌, ◌^◌, ◌<◌, Bool, true, false, ◌||◌, ◌&&◌, nat_lt, if◌then◌else◌, List, [], ◌∷◌, length, map}
+use Rattle.std.specs.Prelude.{◌≡◌, ◌⊎◌, ℕ, zero, suc, ◌+◌, ◌^◌, ◌<◌, Bool, true, false, ◌||◌, ◌&&◌, nat_lt, if◌then◌else◌, List, [], ◌∷◌}
+use Rattle.std.specs.Prelude.{length, map}
 use Rattle.std.specs.Prelude.{slice_index, All, Option, Some, None}
 use Rattle.events.specs.declared.event.Call.{Call}
 use Rattle.art_rows.specs.declared.table.Shape.{Shape}
@@ -75,7 +76,8 @@ pub record IsCalm (variant : Variant) (shape : Shape) (first : List ℕ) (s : St
   pub held : (p : ℕ)
       → EachHeld variant shape s p (λ h. (variant ≡ Optimistic) ⊎ (is_obsolete h.kept ≡ false) → slice_index calm h.base ≡ h.kept)
   -- a busy row was claimed, and nobody fills it
-  pub settled : (base : ℕ) (kind : Kind) → kind_at shape base ≡ Some kind → is_busy (slice_index s.words base) ≡ true → IsSettled variant shape s base kind
+  pub settled : (base : ℕ) (kind : Kind) → kind_at shape base ≡ Some kind → is_busy (slice_index s.words base) ≡ true
+      → IsSettled variant shape s base kind
   -- a row that was not claimed has only zeros
   pub fresh : AreZeroPastClaims shape calm
   -- a row that a child word names was claimed, and nobody fills it; so each row that is reached from the root

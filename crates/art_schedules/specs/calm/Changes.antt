@@ -51,32 +51,37 @@ pub record HoldsThen (variant : Variant) (shape : Shape) (later : State) (p : �
   pub is_open : IsOpen later p call process
   pub holds : held_by variant shape call process ≡ rows
 
--- What the step of process p changes in the words of rows: nothing, a word behind the version of a row that it holds or of the row that it fills, the version
+-- What the step of process p changes in the words of rows: nothing, a word behind the version of a row that it holds or of the row that it
+-- fills, the version
 -- by which it takes a row, or that by which it releases one.
 pub data RowChange (variant : Variant) (shape : Shape) (s : State) (p : ℕ) (later : State) : Type 0 where
   RowsStay : ((word : ℕ) → 5 ≤ word → slice_index later.words word ≡ slice_index s.words word) → RowChange variant shape s p later
   RowWritten : (word value : ℕ) → (asks : AsksFor variant shape s p (Store word value)) → (h : Held)
-      → IsAmong h (held_by variant shape asks.call asks.process) → IsKept (locks variant) (IsSettled variant shape s) h → IsBehindVersion h.base h.kind word
+      → IsAmong h (held_by variant shape asks.call asks.process) → IsKept (locks variant) (IsSettled variant shape s) h
+      → IsBehindVersion h.base h.kind word
       → slice_index later.words word ≡ value → ChangesOnly s later word → RowChange variant shape s p later
   RowFilled : (word value : ℕ) → (asks : AsksFor variant shape s p (Store word value)) → (base : ℕ) → (kind : Kind)
       → filled_by variant shape asks.call asks.process ≡ (base, kind) ∷ [] → kind_at shape base ≡ Some kind → IsBehindVersion base kind word
       → slice_index later.words word ≡ value → ChangesOnly s later word → RowChange variant shape s p later
   RowTaken : (h : Held) → (asks : AsksFor variant shape s p (Exchange h.base h.kept (locked_word h.kept))) → (rows : List Held)
       → IsWith h (held_by variant shape asks.call asks.process) rows → HoldsThen variant shape later p asks.call rows
-      → IsKept (locks variant) (IsSettled variant shape s) h → slice_index s.words h.base ≡ h.kept → slice_index later.words h.base ≡ h.kept + 2
+      → IsKept (locks variant) (IsSettled variant shape s) h → slice_index s.words h.base ≡ h.kept
+      → slice_index later.words h.base ≡ h.kept + 2
       → ChangesOnly s later h.base → RowChange variant shape s p later
   RowReleased : (h : Held) → (value : ℕ) → (asks : AsksFor variant shape s p (Store h.base value)) → (rest : List Held)
       → IsWith h rest (held_by variant shape asks.call asks.process) → HoldsThen variant shape later p asks.call rest
       → IsKept (locks variant) (IsSettled variant shape s) h → (value ≡ released_word h.kept) ⊎ (value ≡ obsolete_word h.kept)
       → slice_index later.words h.base ≡ value → ChangesOnly s later h.base → RowChange variant shape s p later
 
--- How calm changes in a step of process p: by no word of a row, by a word of the row that p fills, or by the words of one row, which p held and released,
+-- How calm changes in a step of process p: by no word of a row, by a word of the row that p fills, or by the words of one row, which p held
+-- and released,
 -- not as obsolete.
 pub data CalmChange (variant : Variant) (shape : Shape) (s : State) (p : ℕ) (later : State) (calm after : List ℕ) : Type 0 where
   CalmStays : ((word : ℕ) → 5 ≤ word → slice_index after word ≡ slice_index calm word) → CalmChange variant shape s p later calm after
   CalmFilled : (word value : ℕ) → (asks : AsksFor variant shape s p (Store word value)) → (base : ℕ) → (kind : Kind)
       → filled_by variant shape asks.call asks.process ≡ (base, kind) ∷ [] → IsBehindVersion base kind word → slice_index after word ≡ value
-      → ((other : ℕ) → 5 ≤ other → other ≢ word → slice_index after other ≡ slice_index calm other) → CalmChange variant shape s p later calm after
+      → ((other : ℕ) → 5 ≤ other → other ≢ word → slice_index after other ≡ slice_index calm other)
+      → CalmChange variant shape s p later calm after
   CalmReleased : (h : Held) → (asks : AsksFor variant shape s p (Store h.base (released_word h.kept))) → (rest : List Held)
       → IsWith h rest (held_by variant shape asks.call asks.process) → HoldsThen variant shape later p asks.call rest
       → IsKept (locks variant) (IsSettled variant shape s) h → is_obsolete h.kept ≡ false → SameWords later.words after h.base h.kind

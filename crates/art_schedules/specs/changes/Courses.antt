@@ -57,10 +57,12 @@ pub record IsSameRow (s : Shape) (words later : List ℕ) (base : ℕ) (kind : K
 
 -- A row that was reached, and leaves the tree by no change, is the same row later,
 abbrev pub RowsStay : Type 0
-RowsStay = (s : Shape) (calm : ℕ → List ℕ) (last : ℕ) (effects : ℕ → Option Effect) (t u base : ℕ) (kind : Kind) → IsCourse s calm last effects → t ≤ u
+RowsStay = (s : Shape) (calm : ℕ → List ℕ) (last : ℕ) (effects : ℕ → Option Effect) (t u base : ℕ) (kind : Kind)
+    → IsCourse s calm last effects → t ≤ u
     → u ≤ last → StaysIn effects t u base → Reached s (calm t) base kind → IsSameRow s (calm t) (calm u) base kind
 
 -- and a way that led to it leads to it still.
 abbrev pub WaysStay : Type 0
-WaysStay = (s : Shape) (calm : ℕ → List ℕ) (last : ℕ) (effects : ℕ → Option Effect) (t u key base : ℕ) (kind : Kind) (x : ℕ) → IsCourse s calm last effects
+WaysStay = (s : Shape) (calm : ℕ → List ℕ) (last : ℕ) (effects : ℕ → Option Effect) (t u key base : ℕ) (kind : Kind) (x : ℕ)
+    → IsCourse s calm last effects
     → t ≤ u → u ≤ last → StaysIn effects t u base → LeadsTo s (calm t) key base kind x → LeadsTo s (calm u) key base kind x

@@ -24,7 +24,8 @@ EffectsFollow = (s : Shape) (n claims : ℕ) (calm later : List ℕ) (m : Conten
 
 -- Where the rows of the tree say the same, the tree is the same, whatever the other words are.
 abbrev pub KeptTreesFollow : Type 0
-KeptTreesFollow = (s : Shape) (n claims : ℕ) (calm later : List ℕ) (m : Contents) → IsAtRest s n calm → Means s calm m → KeepsTree s calm later
+KeptTreesFollow = (s : Shape) (n claims : ℕ) (calm later : List ℕ) (m : Contents) → IsAtRest s n calm → Means s calm m
+    → KeepsTree s calm later
     → HasFewClaims claims later → Follows s claims calm later m (IsGoneBy None) (ComesInBy None)
 
 -- Where only the clock and counts of claims have changed, the rows of the tree say the same.
@@ -36,12 +37,14 @@ LowWordsKeep = (s : Shape) (n : ℕ) (calm later : List ℕ) → IsAtRest s n ca
 -- Words that are the same but for the words of a row and those before all rows differ in one row.
 abbrev pub RowsAreByWords : Type 0
 RowsAreByWords = (s : Shape) (calm later : List ℕ) (base : ℕ) (kind : Kind) → kind_at s base ≡ Some kind → length later ≡ length calm
-    → All (λ w. w < 2 ^ 64) later → ((k : Kind) → slice_index calm (claims_of k) ≤ slice_index later (claims_of k)) → SameOutside calm later base kind
+    → All (λ w. w < 2 ^ 64) later → ((k : Kind) → slice_index calm (claims_of k) ≤ slice_index later (claims_of k))
+    → SameOutside calm later base kind
     → is_locked (slice_index later base) ≡ false → is_obsolete (slice_index later base) ≡ false → OneRow s calm later base kind
 
 -- Where only the slot of a byte has changed of a row, the byte has the child that the slot's word says.
 abbrev pub SlotsAreChildren : Type 0
-SlotsAreChildren = (s : Shape) (n : ℕ) (calm later : List ℕ) (base : ℕ) (kind : Kind) (x slot : ℕ) → IsAtRest s n calm → Reached s calm base kind
+SlotsAreChildren = (s : Shape) (n : ℕ) (calm later : List ℕ) (base : ℕ) (kind : Kind) (x slot : ℕ) → IsAtRest s n calm
+    → Reached s calm base kind
     → OneRow s calm later base kind → x < 256 → slot_of calm base kind x ≡ Some slot
     → ((j : ℕ) → 1 ≤ j → j < row_words kind → base + j ≢ slot → slice_index later (base + j) ≡ slice_index calm (base + j))
     → HasNewChild s calm later base kind x (child_of s (slice_index later slot))
@@ -66,4 +69,5 @@ WaysArePaths = (s : Shape) (words : List ℕ) (key base : ℕ) (kind : Kind) →
 
 -- Rows whose words but the version are the same say the same.
 abbrev pub SameRowsSayTheSame : Type 0
-SameRowsSayTheSame = (s : Shape) (words later : List ℕ) (base : ℕ) (kind : Kind) → SameRow words later base kind → SaysTheSame s words later base kind
+SameRowsSayTheSame = (s : Shape) (words later : List ℕ) (base : ℕ) (kind : Kind) → SameRow words later base kind
+    → SaysTheSame s words later base kind

@@ -16,7 +16,8 @@ pub record OneRow (s : Shape) (calm later : List ℕ) (base : ℕ) (kind : Kind)
   pub long : length later ≡ length calm
   pub small : All (λ w. w < 2 ^ 64) later
   pub claims : (k : Kind) → slice_index calm (claims_of k) ≤ slice_index later (claims_of k)
-  pub others : (b : ℕ) (k : Kind) (j : ℕ) → kind_at s b ≡ Some k → b ≢ base → j < row_words k → slice_index later (b + j) ≡ slice_index calm (b + j)
+  pub others : (b : ℕ) (k : Kind) (j : ℕ) → kind_at s b ≡ Some k → b ≢ base → j < row_words k
+      → slice_index later (b + j) ≡ slice_index calm (b + j)
   pub unlocked : is_locked (slice_index later base) ≡ false
   pub live : is_obsolete (slice_index later base) ≡ false
 

@@ -28,13 +28,16 @@ StoredZerosRemove = (s : Shape) (n : ℕ) (calm later : List ℕ) (base : ℕ) (
 
 -- A leaf that was put beside the other children is put.
 abbrev pub WrittenLeavesArePut : Type 0
-WrittenLeavesArePut = (s : Shape) (calm later words written : List ℕ) (base : ℕ) (kind : Kind) (x key value : ℕ) → LeadsTo s calm key base kind x
-    → IsFree s calm key base kind x → HasPut s words written base kind x (Leaf key value) → SameRow words calm base kind → SameRow written later base kind
+WrittenLeavesArePut = (s : Shape) (calm later words written : List ℕ) (base : ℕ) (kind : Kind) (x key value : ℕ)
+    → LeadsTo s calm key base kind x
+    → IsFree s calm key base kind x → HasPut s words written base kind x (Leaf key value) → SameRow words calm base kind
+    → SameRow written later base kind
     → HasEffect s calm later (PutsLeaf base kind x key value)
 
 -- A pair that was written, and hung in the slot of the byte, is hung.
 abbrev pub WrittenPairsAreHung : Type 0
-WrittenPairsAreHung = (s : Shape) (n : ℕ) (calm later written : List ℕ) (base : ℕ) (kind : Kind) (x slot key value fresh d a : ℕ) → IsAtRest s n calm
+WrittenPairsAreHung = (s : Shape) (n : ℕ) (calm later written : List ℕ) (base : ℕ) (kind : Kind) (x slot key value fresh d a : ℕ)
+    → IsAtRest s n calm
     → OneRow s calm later base kind → LeadsTo s calm key base kind x → Parts calm key d a (child_on s calm base kind x)
     → HasWordAt calm later base kind x slot (row_word fresh)
     → IsPairRow s written fresh d (take d (key_bytes key)) (record { byte = a; child = child_on s calm base kind x })
@@ -44,10 +47,12 @@ WrittenPairsAreHung = (s : Shape) (n : ℕ) (calm later written : List ℕ) (bas
 
 -- A row that was copied from a full one, and hung in its slot, is hung.
 abbrev pub WrittenRowsAreHung : Type 0
-WrittenRowsAreHung = (s : Shape) (n : ℕ) (calm later words written : List ℕ) (base : ℕ) (kind : Kind) (x slot key value full : ℕ) (full_kind : Kind)
+WrittenRowsAreHung = (s : Shape) (n : ℕ) (calm later words written : List ℕ) (base : ℕ) (kind : Kind) (x slot key value full : ℕ)
+    (full_kind : Kind)
     (y fresh : ℕ) (larger : Kind) → IsAtRest s n calm → OneRow s calm later base kind → LeadsTo s calm key base kind x
     → child_on s calm base kind x ≡ Row full full_kind → LeadsTo s calm key full full_kind y → child_on s calm full full_kind y ≡ Empty
     → HasWordAt calm later base kind x slot (row_word fresh)
-    → IsCopy s words written full full_kind fresh larger (info_word larger (level_in calm full full_kind) (path_in calm full full_kind)) y (Leaf key value)
+    → IsCopy s words written full full_kind fresh larger (info_word larger (level_in calm full full_kind) (path_in calm full full_kind))
+        y (Leaf key value)
     → SameRow words calm full full_kind → SameRow written calm fresh larger → IsUnreached s calm fresh → IsFilled s calm later fresh larger
     → HasEffect s calm later (HangsGrown base kind x key value full full_kind y fresh larger)

@@ -1,4 +1,5 @@
--- What a call writes in rows that it holds or fills, as a change of a calm table. The words are those on which its work ran alone, the written ones those that
+-- What a call writes in rows that it holds or fills, as a change of a calm table. The words are those on which its work ran alone, the
+-- written ones those that
 -- it left; the calm words and the later ones say the same of these rows.
 use Rattle.std.specs.Prelude.{◌≡◌, ◌≢◌, ℕ, ◌+◌, ◌<◌, ◌≤◌, List, take, slice_index, slice_set, length, Some}
 use Rattle.art_rows.specs.declared.table.Shape.{Shape}
@@ -34,13 +35,16 @@ pub record IsHungIn (words written : List ℕ) (fresh : ℕ) (kind : Kind) (slot
 
 -- A word that was stored in the slot is the slot's,
 abbrev pub StoresAreSlots : Type 0
-StoresAreSlots = (words calm later : List ℕ) (base : ℕ) (kind : Kind) (x slot word : ℕ) → x < 256 → slot_of calm base kind x ≡ Some slot → slot < length words
+StoresAreSlots = (words calm later : List ℕ) (base : ℕ) (kind : Kind) (x slot word : ℕ) → x < 256 → slot_of calm base kind x ≡ Some slot
+    → slot < length words
     → SameRow words calm base kind → SameRow (slice_set words slot word) later base kind → HasWordAt calm later base kind x slot word
 
 -- and so is the word of a row that was hung there.
 abbrev pub HungRowsAreSlots : Type 0
-HungRowsAreSlots = (s : Shape) (n : ℕ) (words written calm later : List ℕ) (base : ℕ) (kind : Kind) (x slot fresh : ℕ) (larger : Kind) → IsAtRest s n calm
-    → Reached s calm base kind → x < 256 → slot_of calm base kind x ≡ Some slot → IsHungIn words written fresh larger slot → SameRow words calm base kind
+HungRowsAreSlots = (s : Shape) (n : ℕ) (words written calm later : List ℕ) (base : ℕ) (kind : Kind) (x slot fresh : ℕ) (larger : Kind)
+    → IsAtRest s n calm
+    → Reached s calm base kind → x < 256 → slot_of calm base kind x ≡ Some slot → IsHungIn words written fresh larger slot
+    → SameRow words calm base kind
     → SameRow written later base kind → IsClaimed s later fresh larger → IsUnreached s calm fresh
     → HasWordAt calm later base kind x slot (row_word fresh)
 
@@ -52,7 +56,8 @@ ChildrenAreOfRows = (s : Shape) (words written calm later : List ℕ) (base : �
 
 -- A child that was put on a byte is a new child there.
 abbrev pub PutsAreChildren : Type 0
-PutsAreChildren = (s : Shape) (words written : List ℕ) (base : ℕ) (kind : Kind) (x : ℕ) (child : Child) → HasPut s words written base kind x child
+PutsAreChildren = (s : Shape) (words written : List ℕ) (base : ℕ) (kind : Kind) (x : ℕ) (child : Child)
+    → HasPut s words written base kind x child
     → HasNewChild s words written base kind x child
 
 -- ---- a row that is filled
@@ -66,7 +71,8 @@ pub record IsPairRow (s : Shape) (written : List ℕ) (fresh level : ℕ) (path 
   pub others : (y : ℕ) → y < 256 → y ≢ a.byte → y ≢ b.byte → child_on s written fresh Four y ≡ Empty
 
 -- The row has the children of another and one child more, and this info.
-pub record IsCopy (s : Shape) (words written : List ℕ) (full : ℕ) (kind : Kind) (fresh : ℕ) (larger : Kind) (word_of_info y : ℕ) (child : Child)
+pub record IsCopy (s : Shape) (words written : List ℕ) (full : ℕ) (kind : Kind) (fresh : ℕ) (larger : Kind)
+    (word_of_info y : ℕ) (child : Child)
     : Type 0 where
   pub form : HasForm written fresh larger
   pub info : slice_index written (info_at fresh) ≡ word_of_info
@@ -85,7 +91,8 @@ PairsAreFresh = (s : Shape) (written calm : List ℕ) (key value fresh d a : ℕ
 abbrev pub CopiesAreFresh : Type 0
 CopiesAreFresh = (s : Shape) (words written calm : List ℕ) (key value full : ℕ) (kind : Kind) (y fresh : ℕ) (larger : Kind)
     → IsCopy s words written full kind fresh larger (info_word larger (level_in calm full kind) (path_in calm full kind)) y (Leaf key value)
-    → SameRow words calm full kind → SameRow written calm fresh larger → y < 256 → child_on s calm full kind y ≡ Empty → IsUnreached s calm fresh
+    → SameRow words calm full kind → SameRow written calm fresh larger → y < 256 → child_on s calm full kind y ≡ Empty
+    → IsUnreached s calm fresh
     → IsGrown s calm calm key value full kind fresh larger y
 
 -- What inserts that run alone write are such rows.
@@ -94,5 +101,7 @@ WrittenPairsAreRows = (s : Shape) (words written : List ℕ) (fresh slot level :
     → HasPair s words written fresh slot level path a b → IsPairRow s written fresh level path a b × IsHungIn words written fresh Four slot
 
 abbrev pub WrittenRowsAreCopies : Type 0
-WrittenRowsAreCopies = (s : Shape) (words written : List ℕ) (full : ℕ) (kind : Kind) (fresh : ℕ) (larger : Kind) (word_of_info y : ℕ) (child : Child)
-    → HasFresh s words written full kind fresh larger word_of_info y child → IsCopy s words written full kind fresh larger word_of_info y child
+WrittenRowsAreCopies = (s : Shape) (words written : List ℕ) (full : ℕ) (kind : Kind) (fresh : ℕ) (larger : Kind)
+    (word_of_info y : ℕ) (child : Child)
+    → HasFresh s words written full kind fresh larger word_of_info y child
+    → IsCopy s words written full kind fresh larger word_of_info y child

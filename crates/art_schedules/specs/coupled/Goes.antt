@@ -19,14 +19,16 @@ use Rattle.art_versions.specs.versions.Locking.{rows_of_hold}
 use Rattle.art_schedules.specs.coupled.Knows.{KnowsWay, IsHeldLive}
 use Rattle.art_schedules.specs.effects.Begins.{BeginsWork}
 
--- What the access gets: a load the word as it is; and where an exchange takes a row of the calm tree, that row is not obsolete, and behind its version the
+-- What the access gets: a load the word as it is; and where an exchange takes a row of the calm tree, that row is not obsolete, and behind
+-- its version the
 -- words are the calm ones.
 pub record Gets (c : Setting) (calm words : List ℕ) (stage : Stage) (w : ℕ) : Type 0 where
   pub loads : (word : ℕ) (mark : Option Point) → turn_at c stage ≡ Asks (Load word) mark → w ≡ slice_index words word
   pub takes : (word v : ℕ) (mark : Option Point) → turn_at c stage ≡ Asks (Swap word v (locked_word v)) mark → w ≡ v → (kind : Kind)
       → Reached c.shape calm word kind → SameRow calm words word kind × (is_obsolete v ≡ false)
 
--- It goes on its way, or its work begins, or it has found what it will answer: the reply is legal at these pairs, and leaves them as they are.
+-- It goes on its way, or its work begins, or it has found what it will answer: the reply is legal at these pairs, and leaves them as they
+-- are.
 pub data Goes (c : Setting) (calm words : List ℕ) (m : Contents) (next : Stage) : Type 0 where
   GoesOn : KnowsWay c calm words None next → Goes c calm words m next
   Works : (h : Hold) → (work : Work) → next ≡ work_at c h work → BeginsWork c calm h work → Each (IsHeldLive calm words) (rows_of_hold h)

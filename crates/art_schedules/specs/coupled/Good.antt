@@ -36,17 +36,20 @@ GoodOf shape s p calm = EachHeld Coupled shape s p (IsInTree shape calm)
 
 -- a row that the process takes in its step is one of the calm tree
 abbrev pub TakesReached : Shape → State → ℕ → List ℕ → Type 0
-TakesReached shape s p calm = (h : Held) → AsksFor Coupled shape s p (Swap h.base h.kept (locked_word h.kept)) → slice_index s.words h.base ≡ h.kept
+TakesReached shape s p calm = (h : Held) → AsksFor Coupled shape s p (Swap h.base h.kept (locked_word h.kept))
+    → slice_index s.words h.base ≡ h.kept
     → (kind : Kind) × Reached shape calm h.base kind
 
 -- A call on its way takes rows of the calm tree alone.
 abbrev pub WaysTakeReached : Type 0
-WaysTakeReached = (plan : Plan) (start : Contents) (words schedule : List ℕ) (p : ℕ) (s t : State) (claims : ℕ) (m : Contents) (call : Call) (stage : Stage)
+WaysTakeReached = (plan : Plan) (start : Contents) (words schedule : List ℕ) (p : ℕ) (s t : State) (claims : ℕ) (m : Contents)
+    (call : Call) (stage : Stage)
     (found : Option Reply) → IsCoupledStep plan start words schedule p s t claims m → IsAtStage Coupled plan.shape s p call (OnKey stage)
     → KnowsWay (setting plan.shape Coupled call) (calm_of plan words schedule) s.words found stage
     → TakesReached plan.shape s p (calm_of plan words schedule)
 
--- Where a process takes live rows of the calm tree alone, each row that it holds behind its step is one of the tree of then, and was live when it was taken.
+-- Where a process takes live rows of the calm tree alone, each row that it holds behind its step is one of the tree of then, and was live
+-- when it was taken.
 -- The calm tree changes by an effect, or by none; the row that leaves it, if one does, is obsolete then.
 abbrev pub GoodRowsStay : Type 0
 GoodRowsStay = (plan : Plan) (start : Contents) (words schedule : List ℕ) (p : ℕ) (s t : State) (claims : ℕ) (m pairs : Contents)

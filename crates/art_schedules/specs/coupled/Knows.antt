@@ -14,7 +14,8 @@ use Rattle.art_stages.specs.declared.stage.Target.{Target}
 use Rattle.art_stages.specs.declared.stage.Target.TheVariants.{Root, Below, Taken}
 use Rattle.art_stages.specs.declared.stage.Outcome.{Outcome}
 use Rattle.art_stages.specs.declared.stage.Stage.{Stage}
-use Rattle.art_stages.specs.declared.stage.Stage.TheVariants.{Lock, Exchange, Between, Info, Find, FindKeys, FindMore, FindCount, Slot, LetGo, Unlock, Over}
+use Rattle.art_stages.specs.declared.stage.Stage.TheVariants.{Lock, Exchange, Between, Info, Find, FindKeys, FindMore, FindCount, Slot}
+use Rattle.art_stages.specs.declared.stage.Stage.TheVariants.{LetGo, Unlock, Over}
 use Rattle.art_stages.specs.Stages.{byte_in, reply_for}
 use Rattle.art_core.specs.Meaning.{Reached}
 use Rattle.art_core.specs.Forms.{level_in, path_in}
@@ -23,7 +24,8 @@ use Rattle.art_versions.specs.versions.Holding.{Each}
 use Rattle.art_versions.specs.versions.Locking.{held_at_stage}
 use Rattle.art_schedules.specs.work.Ways.{slot_in, KnowsFinding, IsOnWay, IsSame, HangsOnWay}
 
--- A row that the call holds and has not written to: behind its version the words are the calm ones, and it was not obsolete when it was locked.
+-- A row that the call holds and has not written to: behind its version the words are the calm ones, and it was not obsolete when it was
+-- locked.
 pub record IsHeldLive (calm words : List ℕ) (n : Held) : Type 0 where
   pub same : IsSame calm words n
   pub live : is_obsolete n.kept ≡ false
@@ -50,7 +52,8 @@ KnowsPlace false c calm p = IsOnWay c calm p.row
 -- Once a get, a remove or a replace has let the row above go, the key's way leads to the row below, where the key may be;
 abbrev pub KnowsInfo : Bool → Setting → List ℕ → Down → Type 0
 KnowsInfo true c calm d = IsBelow c calm d
-KnowsInfo false c calm d = LeadsTo c.shape calm (key_of c.call) d.base d.kind (slice_index (key_bytes (key_of c.call)) (level_in calm d.base d.kind))
+KnowsInfo false c calm d = LeadsTo c.shape calm (key_of c.call) d.base d.kind (slice_index (key_bytes (key_of c.call))
+    (level_in calm d.base d.kind))
 
 -- or the path of that row differs from the key, which then was absent.
 abbrev pub IsPassed : Bool → Setting → List ℕ → Down → Type 0
@@ -65,11 +68,14 @@ KnowsStage i c calm (Exchange t v) = KnowsTarget c calm t
 KnowsStage i c calm (Between d kept) = IsBelow c calm d
 KnowsStage i c calm (Info d kept) = KnowsInfo i c calm d
 KnowsStage i c calm (Find p) = KnowsPlace i c calm p
-KnowsStage i c calm (FindKeys p count) = KnowsPlace i c calm p × (p.row.kind ≡ Sixteen) × (count ≡ slice_index calm (count_at Sixteen p.row.base))
+KnowsStage i c calm (FindKeys p count) = KnowsPlace i c calm p × (p.row.kind ≡ Sixteen)
+    × (count ≡ slice_index calm (count_at Sixteen p.row.base))
 KnowsStage i c calm (FindMore p count first) =
-    KnowsPlace i c calm p × (p.row.kind ≡ Sixteen) × (count ≡ slice_index calm (count_at Sixteen p.row.base)) × (first ≡ slice_index calm (keys_at p.row.base))
+    KnowsPlace i c calm p × (p.row.kind ≡ Sixteen) × (count ≡ slice_index calm (count_at Sixteen p.row.base))
+        × (first ≡ slice_index calm (keys_at p.row.base))
 KnowsStage i c calm (FindCount p index) =
-    KnowsPlace i c calm p × (p.row.kind ≡ FortyEight) × (index ≡ slice_index calm (index_at p.row.base (byte_in c p.row))) × (slot_in c calm p.row ≡ None)
+    KnowsPlace i c calm p × (p.row.kind ≡ FortyEight) × (index ≡ slice_index calm (index_at p.row.base (byte_in c p.row)))
+        × (slot_in c calm p.row ≡ None)
 KnowsStage i c calm (Slot p slot) = KnowsPlace i c calm p × (slot_in c calm p.row ≡ Some slot)
 KnowsStage i c calm (LetGo above p f) = IsOnWay c calm p.row × KnowsFinding i c calm p.row f × Reached c.shape calm above.base above.kind
 KnowsStage i c calm stage = ⊥
@@ -89,7 +95,8 @@ abbrev pub KnowsAt : Option Reply → Bool → Setting → List ℕ → Stage �
 KnowsAt None i c calm stage = KnowsStage i c calm stage
 KnowsAt (Some r) i c calm stage = KnowsReply r i c calm stage
 
--- What a call that has not begun its work knows: of calm by its stage, where `found` is the reply that it has found, if any, and of the rows that it holds.
+-- What a call that has not begun its work knows: of calm by its stage, where `found` is the reply that it has found, if any, and of the
+-- rows that it holds.
 pub record KnowsWay (c : Setting) (calm words : List ℕ) (found : Option Reply) (stage : Stage) : Type 0 where
   pub way : KnowsAt found (is_insert c.call) c calm stage
   pub rows : Each (IsHeldLive calm words) (held_at_stage true (is_insert c.call) stage)

@@ -47,11 +47,13 @@ FindingsStay = (shape : Shape) (call : Call) (n : ℕ) (calm words : List ℕ) (
 -- A call on a key begins at the lock of the root, where it knows nothing yet.
 abbrev pub CallsBegin : Type 0
 CallsBegin = (shape : Shape) (call : Call) (calm words : List ℕ) → is_scan call ≡ false
-    → (call_behind (setting shape Coupled call) [] ≡ OnKey (Lock Root true)) × KnowsWay (setting shape Coupled call) calm words None (Lock Root true)
+    → (call_behind (setting shape Coupled call) [] ≡ OnKey (Lock Root true))
+    × KnowsWay (setting shape Coupled call) calm words None (Lock Root true)
 
 -- In a run: a step of a call that knows its way.
 abbrev pub CallsGoOn : Type 0
-CallsGoOn = (plan : Plan) (start : Contents) (words schedule : List ℕ) (p : ℕ) (s t : State) (claims : ℕ) (m : Contents) (leaving : ℕ → Option ℕ) (call : Call)
+CallsGoOn = (plan : Plan) (start : Contents) (words schedule : List ℕ) (p : ℕ) (s t : State) (claims : ℕ) (m : Contents)
+    (leaving : ℕ → Option ℕ) (call : Call)
     (stage : Stage) → IsCoupledStep plan start words schedule p s t claims m
     → ObsoleteLeave plan.shape s (calm_of plan words schedule) leaving
     → is_tree_call call ≡ true → is_scan call ≡ false → IsAtStage Coupled plan.shape s p call (OnKey stage)
@@ -60,7 +62,8 @@ CallsGoOn = (plan : Plan) (start : Contents) (words schedule : List ℕ) (p : �
 
 -- A step of a call that has found its reply, other than the one that answers it.
 abbrev pub CallsStay : Type 0
-CallsStay = (plan : Plan) (start : Contents) (words schedule : List ℕ) (p : ℕ) (s t : State) (claims : ℕ) (m : Contents) (leaving : ℕ → Option ℕ) (call : Call)
+CallsStay = (plan : Plan) (start : Contents) (words schedule : List ℕ) (p : ℕ) (s t : State) (claims : ℕ) (m : Contents)
+    (leaving : ℕ → Option ℕ) (call : Call)
     (stage : Stage) (reply : Reply) (a : Access) (mark : Option Point) → IsCoupledStep plan start words schedule p s t claims m
     → ObsoleteLeave plan.shape s (calm_of plan words schedule) leaving → IsAtStage Coupled plan.shape s p call (OnKey stage)
     → KnowsWay (setting plan.shape Coupled call) (calm_of plan words schedule) s.words (Some reply) stage
@@ -70,11 +73,14 @@ CallsStay = (plan : Plan) (start : Contents) (words schedule : List ℕ) (p : �
 -- It is answered what it has found.
 abbrev pub FoundIsAnswered : Type 0
 FoundIsAnswered = (shape : Shape) (call : Call) (calm words : List ℕ) (stage : Stage) (reply answer : Reply)
-    → KnowsWay (setting shape Coupled call) calm words (Some reply) stage → turn_at (setting shape Coupled call) stage ≡ Answers answer → answer ≡ reply
+    → KnowsWay (setting shape Coupled call) calm words (Some reply) stage
+    → turn_at (setting shape Coupled call) stage ≡ Answers answer → answer ≡ reply
 
--- A step of another process, in which the calm tree changes by an effect, or by none. The row that leaves it, if one does, is obsolete then.
+-- A step of another process, in which the calm tree changes by an effect, or by none. The row that leaves it, if one does, is obsolete
+-- then.
 abbrev pub OthersLeaveWays : Type 0
-OthersLeaveWays = (plan : Plan) (start : Contents) (words schedule : List ℕ) (p : ℕ) (s t : State) (claims : ℕ) (m : Contents) (r : ℕ) (call : Call)
+OthersLeaveWays = (plan : Plan) (start : Contents) (words schedule : List ℕ) (p : ℕ) (s t : State) (claims : ℕ) (m : Contents)
+    (r : ℕ) (call : Call)
     (stage : Stage) (found : Option Reply) (pairs : Contents) (effect : Option Effect)
     → IsCoupledStep plan start words schedule p s t claims m → r ≢ p
     → IsAtStage Coupled plan.shape s r call (OnKey stage)
@@ -100,7 +106,8 @@ WaysTakeLive = (plan : Plan) (start : Contents) (words schedule : List ℕ) (p :
 
 -- A call at work takes no row.
 abbrev pub WorkTakesLive : Type 0
-WorkTakesLive = (plan : Plan) (start : Contents) (words schedule : List ℕ) (p : ℕ) (s t : State) (claims : ℕ) (m : Contents) (call : Call) (stage : Stage)
+WorkTakesLive = (plan : Plan) (start : Contents) (words schedule : List ℕ) (p : ℕ) (s t : State) (claims : ℕ) (m : Contents)
+    (call : Call) (stage : Stage)
     → IsCoupledStep plan start words schedule p s t claims m → IsAtStage Coupled plan.shape s p call (OnKey stage) → is_work stage ≡ true
     → TakesLive plan.shape s p
 
@@ -112,12 +119,15 @@ HeldRowsLive = (plan : Plan) (start : Contents) (words schedule : List ℕ) (p :
 
 -- A row of the calm tree that is obsolete is about to leave it, in each state.
 abbrev pub ObsoleteRowsLeave : Type 0
-ObsoleteRowsLeave = (plan : Plan) (start : Contents) (words schedule : List ℕ) (p : ℕ) (s t : State) (claims : ℕ) (m : Contents) (leaving next : ℕ → Option ℕ)
+ObsoleteRowsLeave = (plan : Plan) (start : Contents) (words schedule : List ℕ) (p : ℕ) (s t : State) (claims : ℕ) (m : Contents)
+    (leaving next : ℕ → Option ℕ)
     (pairs : Contents) (effect : Option Effect) → IsCoupledStep plan start words schedule p s t claims m
     → TreeGoesOn plan.shape t.words (calm_of plan words schedule) (calm_of plan words (schedule ++ p ∷ [])) pairs effect
     → HeldAreLive plan.shape s → LeavesBy plan.shape s t p (calm_of plan words schedule) effect leaving next
-    → ObsoleteLeave plan.shape s (calm_of plan words schedule) leaving → ObsoleteLeave plan.shape t (calm_of plan words (schedule ++ p ∷ [])) next
+    → ObsoleteLeave plan.shape s (calm_of plan words schedule) leaving
+    → ObsoleteLeave plan.shape t (calm_of plan words (schedule ++ p ∷ [])) next
 
 -- A tree at rest has no obsolete row.
 abbrev pub RestsHaveNone : Type 0
-RestsHaveNone = (shape : Shape) (claims : ℕ) (s : State) (leaving : ℕ → Option ℕ) → IsAtRest shape claims s.words → ObsoleteLeave shape s s.words leaving
+RestsHaveNone = (shape : Shape) (claims : ℕ) (s : State) (leaving : ℕ → Option ℕ) → IsAtRest shape claims s.words
+    → ObsoleteLeave shape s s.words leaving

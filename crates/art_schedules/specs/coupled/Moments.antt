@@ -50,13 +50,15 @@ pub record IsLeaving (shape : Shape) (s : State) (calm : List ℕ) (leaving : �
   pub reached : Reached shape calm hold.row.base hold.row.kind
   pub hangs : child_on shape calm hold.row.base hold.row.kind byte ≡ Row base kind
 
--- A row of the calm tree that is obsolete in the words is about to leave it: `leaving` names for a process the row that it has made obsolete, as long as it
+-- A row of the calm tree that is obsolete in the words is about to leave it: `leaving` names for a process the row that it has made
+-- obsolete, as long as it
 -- holds the row above.
 abbrev pub ObsoleteLeave : Shape → State → List ℕ → (ℕ → Option ℕ) → Type 0
 ObsoleteLeave shape s calm leaving = (base : ℕ) (kind : Kind) → Reached shape calm base kind → is_obsolete (slice_index s.words base) ≡ true
     → IsLeaving shape s calm leaving base kind
 
--- Behind its step the call is at the next stage, and the calm tree is as it was; it knows its way there, or its work begins, or it has found its reply.
+-- Behind its step the call is at the next stage, and the calm tree is as it was; it knows its way there, or its work begins, or it has
+-- found its reply.
 pub record GoesFrom (shape : Shape) (call : Call) (t : State) (p : ℕ) (calm after : List ℕ) (m : Contents) : Type 0 where
   pub next : Stage
   pub at : IsAtStage Coupled shape t p call (OnKey next)
@@ -85,9 +87,11 @@ TakesLive shape s p = (h : Held) → AsksFor Coupled shape s p (Swap h.base h.ke
 abbrev pub MakesLeave : Shape → List ℕ → Hold → Option ℕ → Type 0
 MakesLeave shape calm h named = HangsOnAbove shape calm h × (named ≡ Some h.row.base)
 
--- What a step of process p has to do with the rows that are obsolete: one that it makes obsolete is named, one that was named leaves the calm tree as p
+-- What a step of process p has to do with the rows that are obsolete: one that it makes obsolete is named, one that was named leaves the
+-- calm tree as p
 -- releases the row above; what comes into it is not obsolete behind the step.
-pub record LeavesBy (shape : Shape) (s t : State) (p : ℕ) (calm : List ℕ) (effect : Option Effect) (leaving next : ℕ → Option ℕ) : Type 0 where
+pub record LeavesBy (shape : Shape) (s t : State) (p : ℕ) (calm : List ℕ) (effect : Option Effect)
+    (leaving next : ℕ → Option ℕ) : Type 0 where
   pub others : (r : ℕ) → r ≢ p → next r ≡ leaving r
   pub makes : (call : Call) (h : Hold) → IsAtStage Coupled shape s p call (OnKey (Obsolete h)) → MakesLeave shape calm h (next p)
   pub leaves : (call : Call) (h : Hold) (outcome : Option Outcome) (base : ℕ) → IsAtStage Coupled shape s p call (OnKey (Unlock h outcome))

@@ -33,7 +33,8 @@ use Rattle.art_schedules.specs.work.Own.{IsWalked, ReadsHeld, is_lock}
 -- what was read of a row, in kind 48 the index word of this number
 abbrev pub KnowsWords : Kind → List ℕ → ℕ → KeyWords → ℕ → Type 0
 KnowsWords Four calm base keys index = keys.first ≡ slice_index calm (keys_at base)
-KnowsWords Sixteen calm base keys index = (keys.count ≡ slice_index calm (count_at Sixteen base)) × (keys.first ≡ slice_index calm (keys_at base))
+KnowsWords Sixteen calm base keys index = (keys.count ≡ slice_index calm (count_at Sixteen base))
+    × (keys.first ≡ slice_index calm (keys_at base))
     × (keys.second ≡ slice_index calm (more_keys_at base))
 KnowsWords FortyEight calm base keys index = keys.first ≡ slice_index calm (index_at base (8 * index))
 KnowsWords Full calm base keys index = Unit {0}
@@ -67,7 +68,8 @@ KnowsStep shape calm rows (scan.Keys n) = Reached shape calm n.base n.kind
 KnowsStep shape calm rows (scan.FirstKeys n count) =
     Reached shape calm n.base n.kind × (n.kind ≡ Sixteen) × (count ≡ slice_index calm (count_at Sixteen n.base))
 KnowsStep shape calm rows (scan.SecondKeys n count first) =
-    Reached shape calm n.base n.kind × (n.kind ≡ Sixteen) × (count ≡ slice_index calm (count_at Sixteen n.base)) × (first ≡ slice_index calm (keys_at n.base))
+    Reached shape calm n.base n.kind × (n.kind ≡ Sixteen) × (count ≡ slice_index calm (count_at Sixteen n.base))
+        × (first ≡ slice_index calm (keys_at n.base))
 KnowsStep shape calm rows (scan.Index n index words) = Reached shape calm n.base n.kind × (n.kind ≡ FortyEight) × (index < 32)
 KnowsStep shape calm rows (scan.Child f slot) =
     KnowsFrame shape calm f × ((byte : ℕ) × (byte < 256) × (slot_of calm f.row.base f.row.kind byte ≡ Some slot))
@@ -81,17 +83,21 @@ pub record KnowsTree (shape : Shape) (calm : List ℕ) (at : ScanAt) : Type 0 wh
 
 -- A scan that gets calm's words, but for the versions that it locks, goes on to where it knows the calm tree.
 abbrev pub ScansKnowTrees : Type 0
-ScansKnowTrees = (shape : Shape) (low high n : ℕ) (calm : List ℕ) (at : ScanAt) (word : ℕ) → IsAtRest shape n calm → ReadsHeld (OnScan low high at)
+ScansKnowTrees = (shape : Shape) (low high n : ℕ) (calm : List ℕ) (at : ScanAt) (word : ℕ) → IsAtRest shape n calm
+    → ReadsHeld (OnScan low high at)
     → KnowsTree shape calm at
-    → ((x : ℕ) (mark : Option Point) → is_lock (OnScan low high at) ≡ false → scan_turn (setting shape Coupled (Scan low high)) at ≡ Asks (Load x) mark
+    → ((x : ℕ) (mark : Option Point) → is_lock (OnScan low high at) ≡ false
+    → scan_turn (setting shape Coupled (Scan low high)) at ≡ Asks (Load x) mark
     → word ≡ slice_index calm x)
     → KnowsTree shape calm (scan_after (setting shape Coupled (Scan low high)) low high at word)
 
 -- a row of which the calm words behind the version stay, and which does not leave the calm tree
 abbrev pub StaysAt : Shape → List ℕ → List ℕ → Option Effect → ℕ → Type 0
-StaysAt shape calm after effect base = (kind : Kind) → kind_at shape base ≡ Some kind → SameRow calm after base kind × (IsGoneBy effect base → ⊥)
+StaysAt shape calm after effect base = (kind : Kind) → kind_at shape base ≡ Some kind → SameRow calm after base kind
+    × (IsGoneBy effect base → ⊥)
 
--- What a scan knows stays so where the calm tree changes by an effect, or by none, that leaves the rows which the scan has walked or locked.
+-- What a scan knows stays so where the calm tree changes by an effect, or by none, that leaves the rows which the scan has walked or
+-- locked.
 abbrev pub ScansKeepTrees : Type 0
 ScansKeepTrees = (shape : Shape) (low high claims n : ℕ) (calm after : List ℕ) (pairs : Contents) (effect : Option Effect) (at : ScanAt)
     → IsAtRest shape claims calm

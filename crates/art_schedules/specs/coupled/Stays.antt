@@ -17,7 +17,8 @@ use Rattle.art_schedules.specs.coupled.Knows.{KnowsWay}
 
 -- Where the calm tree changes by an effect, or by none, a call whose rows are still knows what it knew.
 abbrev pub WaysAreKept : Type 0
-WaysAreKept = (shape : Shape) (call : Call) (n : ℕ) (calm words after later : List ℕ) (pairs : Contents) (effect : Option Effect) (found : Option Reply)
+WaysAreKept = (shape : Shape) (call : Call) (n : ℕ) (calm words after later : List ℕ) (pairs : Contents) (effect : Option Effect)
+    (found : Option Reply)
     (stage : Stage) → Follows shape n calm after pairs (IsGoneBy effect) (ComesInBy effect)
     → Each (IsStill calm words after later effect) (held_at_stage true (is_insert call) stage)
     → KnowsWay (setting shape Coupled call) calm words found stage

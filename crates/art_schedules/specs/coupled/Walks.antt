@@ -1,4 +1,5 @@
--- A scan under lock coupling by itself: it touches only the rows that it holds at its end, so that it comes to the same stage on all words that have these
+-- A scan under lock coupling by itself: it touches only the rows that it holds at its end, so that it comes to the same stage on all words
+-- that have these
 -- rows.
 use Rattle.std.specs.Prelude.{◌≡◌, ℕ, ◌+◌, ◌<◌, ◌≤◌, List, length, slice_index, Option}
 use Rattle.events.specs.declared.event.Call.TheVariants.{Scan}
@@ -46,13 +47,17 @@ SameOn rows words later = (word : ℕ) → IsOfRows rows word → slice_index la
 
 -- A scan that comes to the end of its walk alone on a tree at rest has the pairs that the map has.
 abbrev pub WalksAreTheMaps : Type 0
-WalksAreTheMaps = (shape : Shape) (low high n : ℕ) (calm now : List ℕ) (m : Contents) (rows : List Held) (at : ScanAt) → IsAtRest shape n calm
+WalksAreTheMaps = (shape : Shape) (low high n : ℕ) (calm now : List ℕ) (m : Contents) (rows : List Held) (at : ScanAt)
+    → IsAtRest shape n calm
     → Means shape calm m
-    → length m ≤ pair_limit → Alone (setting shape Coupled (Scan low high)) rows (call_begun (setting shape Coupled (Scan low high))) calm (OnScan low high at)
+    → length m ≤ pair_limit → Alone (setting shape Coupled (Scan low high)) rows (call_begun (setting shape Coupled (Scan low high))) calm
+        (OnScan low high at)
     now
     → IsOver at.step → reply_to m (Scan low high) ≡ reply.Pairs at.walk.pairs
 
 -- It comes to the same stage on other words that are the same on these rows.
 abbrev pub WalksStay : Type 0
-WalksStay = (c : Setting) (rows : List Held) (at0 at : CallAt) (calm after now : List ℕ) → length after ≡ length calm → SameOn rows calm after
-    → Alone c rows at0 calm at now → (later : List ℕ) × Alone c rows at0 after at later × SameOn rows now later × (length later ≡ length now)
+WalksStay = (c : Setting) (rows : List Held) (at0 at : CallAt) (calm after now : List ℕ) → length after ≡ length calm
+    → SameOn rows calm after
+    → Alone c rows at0 calm at now → (later : List ℕ) × Alone c rows at0 after at later × SameOn rows now later
+    × (length later ≡ length now)

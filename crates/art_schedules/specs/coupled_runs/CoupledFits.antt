@@ -26,7 +26,8 @@ use Rattle.art_schedules.specs.stories.Fitting.{set_at}
 
 -- ---- what is so of the whole state
 
--- Beside a run: the fresh row of each process, from its claim to the end of its work, and the row that it has made obsolete in its last step.
+-- Beside a run: the fresh row of each process, from its claim to the end of its work, and the row that it has made obsolete in its last
+-- step.
 pub record Ghosts : Type 0 where
   pub fresh : ℕ → Option Named
   pub leaving : ℕ → Option ℕ
@@ -54,23 +55,30 @@ HasNone g p = (g.fresh p ≡ None) × (g.leaving p ≡ None)
 abbrev pub OfScans : Type 1
 OfScans = List ℕ → State → List ℕ → ℕ → Call → Process → Status → Type 0
 
--- What fits an open call: on its way; at work before its effect; behind the moment at which it found its reply; behind its effect; refused; or it scans, and
+-- What fits an open call: on its way; at work before its effect; behind the moment at which it found its reply; behind its effect; refused;
+-- or it scans, and
 -- what fits a scan fits it.
-pub data IsFit (shape : Shape) (Scans : OfScans) (g : Ghosts) (schedule : List ℕ) (s : State) (calm : List ℕ) (p : ℕ) (call : Call) (q : Process)
+pub data IsFit (shape : Shape) (Scans : OfScans) (g : Ghosts) (schedule : List ℕ) (s : State) (calm : List ℕ) (p : ℕ)
+    (call : Call) (q : Process)
     (status : Status) : Type 0 where
   Seeks : (stage : Stage) → is_scan call ≡ false → HasNone g p → stage_of Coupled shape call q ≡ OnKey stage
-      → KnowsWay (setting shape Coupled call) calm s.words None stage → status ≡ Before → IsFit shape Scans g schedule s calm p call q status
+      → KnowsWay (setting shape Coupled call) calm s.words None stage → status ≡ Before
+      → IsFit shape Scans g schedule s calm p call q status
   Works : (stage : Stage) → stage_of Coupled shape call q ≡ OnKey stage → IsWorking shape s.words calm call stage (g.fresh p) (g.leaving p)
       → status ≡ Before → IsFit shape Scans g schedule s calm p call q status
   Finds : (stage : Stage) → (reply : Reply) → HasNone g p → stage_of Coupled shape call q ≡ OnKey stage
-      → KnowsWay (setting shape Coupled call) calm s.words (Some reply) stage → status ≡ Found reply → IsFit shape Scans g schedule s calm p call q status
-  Ends : (stage : Stage) → (reply : Reply) → HasNone g p → stage_of Coupled shape call q ≡ OnKey stage
-      → AtEnd (setting shape Coupled call) s.words calm reply stage → (status ≡ Changed reply) ⊎ ((reply ≡ Refused) × (status ≡ Found Refused))
+      → KnowsWay (setting shape Coupled call) calm s.words (Some reply) stage → status ≡ Found reply
       → IsFit shape Scans g schedule s calm p call q status
-  Walks : (low high : ℕ) → (at : ScanAt) → HasNone g p → stage_of Coupled shape call q ≡ OnScan low high at → Scans schedule s calm p call q status
+  Ends : (stage : Stage) → (reply : Reply) → HasNone g p → stage_of Coupled shape call q ≡ OnKey stage
+      → AtEnd (setting shape Coupled call) s.words calm reply stage → (status ≡ Changed reply)
+      ⊎ ((reply ≡ Refused) × (status ≡ Found Refused))
+      → IsFit shape Scans g schedule s calm p call q status
+  Walks : (low high : ℕ) → (at : ScanAt) → HasNone g p → stage_of Coupled shape call q ≡ OnScan low high at
+      → Scans schedule s calm p call q status
       → IsFit shape Scans g schedule s calm p call q status
 
-pub record CoupledFits (shape : Shape) (Scans : OfScans) (g : Ghosts) (schedule : List ℕ) (s : State) (calm : List ℕ) (p : ℕ) (call : Call) (q : Process)
+pub record CoupledFits (shape : Shape) (Scans : OfScans) (g : Ghosts) (schedule : List ℕ) (s : State) (calm : List ℕ) (p : ℕ)
+    (call : Call) (q : Process)
     (status : Status) : Type 0 where
   pub tree : is_tree_call call ≡ true
   pub rows : HoldsGood shape calm call q

@@ -21,7 +21,8 @@ use Rattle.art_schedules.specs.stories.Fitting.{IsToldStep, Next, BeginsCall, Ma
 use Rattle.art_schedules.specs.coupled_runs.CoupledFits.{OfScans}
 
 -- What a step of a scan is to give: the status behind it, calm's tree as it was, and no row taken but live ones of calm's tree.
-pub record ScanStep (plan : Plan) (words schedule : List ℕ) (tale : Tale) (p : ℕ) (s t : State) (calm after : List ℕ) (call : Call) (q later : Process)
+pub record ScanStep (plan : Plan) (words schedule : List ℕ) (tale : Tale) (p : ℕ) (s t : State) (calm after : List ℕ) (call : Call)
+    (q later : Process)
     (status : Status) (Scans : OfScans) : Type 0 where
   pub low : ℕ
   pub high : ℕ
@@ -36,17 +37,24 @@ pub record ScanStep (plan : Plan) (words schedule : List ℕ) (tale : Tale) (p :
 
 -- What fits a scan is kept.
 pub record ScansAreKept (plan : Plan) (start : Contents) (words : List ℕ) (Scans : OfScans) : Type 0 where
-  pub begins : (schedule : List ℕ) (tale : Tale) (p : ℕ) (s t : State) (calm after : List ℕ) → IsToldStep plan start words schedule tale p s t calm after
-      → (low high : ℕ) (q later : Process) → BeginsCall plan s p t (Scan low high) q later → Scans (schedule ++ p ∷ []) t after p (Scan low high) later Before
+  pub begins : (schedule : List ℕ) (tale : Tale) (p : ℕ) (s t : State) (calm after : List ℕ)
+      → IsToldStep plan start words schedule tale p s t calm after
+      → (low high : ℕ) (q later : Process) → BeginsCall plan s p t (Scan low high) q later
+      → Scans (schedule ++ p ∷ []) t after p (Scan low high) later Before
   pub own : (schedule : List ℕ) (tale : Tale) (p : ℕ) (s t : State) (calm after : List ℕ) (leaving : ℕ → Option ℕ)
-      → IsToldStep plan start words schedule tale p s t calm after → ObsoleteLeave plan.shape s calm leaving → (call : Call) (q later : Process) (a : Access)
+      → IsToldStep plan start words schedule tale p s t calm after → ObsoleteLeave plan.shape s calm leaving
+      → (call : Call) (q later : Process) (a : Access)
       (status : Status) → MakesAccess plan s p t call q later a → HoldsGood plan.shape calm call q → (low high : ℕ) (at : ScanAt)
       → stage_of Coupled plan.shape call q ≡ OnScan low high at → Scans schedule s calm p call q status
       → ScanStep plan words schedule tale p s t calm after call q later status Scans
-  pub other : (schedule : List ℕ) (tale : Tale) (p : ℕ) (s t : State) (calm after : List ℕ) → IsToldStep plan start words schedule tale p s t calm after
+  pub other : (schedule : List ℕ) (tale : Tale) (p : ℕ) (s t : State) (calm after : List ℕ)
+      → IsToldStep plan start words schedule tale p s t calm after
       → (effect : Option Effect) → Makes Coupled plan.shape s p calm after (tale.pairs (length schedule)) effect
-      → (r : ℕ) (call : Call) (q : Process) (status : Status) → r ≢ p → IsOpen s r call q → IsOpen t r call q → HoldsGood plan.shape calm call q
+      → (r : ℕ) (call : Call) (q : Process) (status : Status) → r ≢ p → IsOpen s r call q → IsOpen t r call q
+      → HoldsGood plan.shape calm call q
       → Scans schedule s calm r call q status → Scans (schedule ++ p ∷ []) t after r call q status
-  pub answers : (schedule : List ℕ) (tale : Tale) (p : ℕ) (s t : State) (calm after : List ℕ) → IsToldStep plan start words schedule tale p s t calm after
-      → (call : Call) (q : Process) (status : Status) (reply : Reply) → AnswersCall plan s p t call q reply → Scans schedule s calm p call q status
+  pub answers : (schedule : List ℕ) (tale : Tale) (p : ℕ) (s t : State) (calm after : List ℕ)
+      → IsToldStep plan start words schedule tale p s t calm after
+      → (call : Call) (q : Process) (status : Status) (reply : Reply) → AnswersCall plan s p t call q reply
+      → Scans schedule s calm p call q status
       → HasItsReply plan words schedule tale p call q status reply

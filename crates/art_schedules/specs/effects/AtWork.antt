@@ -31,7 +31,8 @@ use Rattle.art_serial.specs.trees.Trees.{SameRow, LeadsTo, Parts, IsClaimed}
 use Rattle.art_versions.specs.versions.Locking.{rows_of_hold}
 use Rattle.art_versions.specs.versions.Holding.{Named, Each, Knows}
 use Rattle.art_schedules.specs.changes.Rows.{HasNewChild}
-use Rattle.art_schedules.specs.changes.Effects.{Effect, Keeps, Fills, PutsLeaf, RemovesLeaf, HangsPair, HangsGrown, base_of_effect, kind_of_effect, pairs_after}
+use Rattle.art_schedules.specs.changes.Effects.{Effect, Keeps, Fills, PutsLeaf, RemovesLeaf, HangsPair, HangsGrown, base_of_effect}
+use Rattle.art_schedules.specs.changes.Effects.{kind_of_effect, pairs_after}
 use Rattle.art_schedules.specs.changes.Effects.{IsGone}
 use Rattle.art_schedules.specs.changes.Written.{IsUnreached, IsPairRow, IsCopy, HasWordAt}
 use Rattle.art_schedules.specs.work.Solo.{Solo}
@@ -176,7 +177,8 @@ pub record HasStoredLeaf (calm real : List ℕ) (base : ℕ) (kind : Kind) (x ke
   pub slot : ℕ
   pub has : HasWordAt calm real base kind x slot (leaf_word key value)
 
--- What calm and the real words of the row say, so that its release has this effect on calm's tree: old is what the map has at the key before it.
+-- What calm and the real words of the row say, so that its release has this effect on calm's tree: old is what the map has at the key
+-- before it.
 abbrev pub IsPending : Setting → List ℕ → List ℕ → Effect → Option ℕ → Type 0
 IsPending c real calm (Keeps base kind) old = ⊥
 IsPending c real calm (Fills base kind) old = ⊥
@@ -194,7 +196,8 @@ IsPending c real calm (HangsGrown base kind x key value full full_kind y fresh l
     LeadsTo c.shape calm key base kind x × (old ≡ None) × (child_on c.shape calm base kind x ≡ Row full full_kind)
     × LeadsTo c.shape calm key full full_kind y × (child_on c.shape calm full full_kind y ≡ Empty)
     × ((slot : ℕ) × HasWordAt calm real base kind x slot (row_word fresh)) × HasFilledFresh c real calm fresh larger
-    × IsCopy c.shape calm calm full full_kind fresh larger (info_word larger (level_in calm full full_kind) (path_in calm full full_kind)) y (Leaf key value)
+    × IsCopy c.shape calm calm full full_kind fresh larger (info_word larger (level_in calm full full_kind) (path_in calm full full_kind))
+        y (Leaf key value)
 
 abbrev pub key_of_effect : Effect → ℕ
 key_of_effect (Keeps base kind) = 0
@@ -213,10 +216,12 @@ IsEffectOf (Replace key expected value) old e =
 IsEffectOf (Get key) old e = ⊥
 IsEffectOf (Scan low high) old e = ⊥
 
--- All rows that the call holds are unchanged but for the upper one. It releases that next, or another row before: unchanged, or as obsolete, where that row
+-- All rows that the call holds are unchanged but for the upper one. It releases that next, or another row before: unchanged, or as
+-- obsolete, where that row
 -- goes by the effect. A row that goes and is released is obsolete.
 pub data IsReleasing (c : Setting) (real calm : List ℕ) (row : Held) (e : Effect) (o : Outcome) (stage : Stage) : Type 0 where
-  Last : stage ≡ Unlock (hold_alone row) (Some o) → ((b : ℕ) → IsGone e b → is_obsolete (slice_index real b) ≡ true) → IsReleasing c real calm row e o stage
+  Last : stage ≡ Unlock (hold_alone row) (Some o) → ((b : ℕ) → IsGone e b → is_obsolete (slice_index real b) ≡ true)
+      → IsReleasing c real calm row e o stage
   Lower : (lower : Held) → stage ≡ Unlock (record { row = lower; above = Some row }) (Some o) → IsInTree c.shape calm lower
       → IsSame calm real lower
       → ((b : ℕ) → IsGone e b → ⊥) → IsReleasing c real calm row e o stage

@@ -48,7 +48,8 @@ WorkBegins = (c : Setting) (real calm : List ℕ) (h : Hold) (work : Work) → l
 
 -- The rows that a call at work holds are in calm's tree,
 abbrev pub WorkersHoldReached : Type 0
-WorkersHoldReached = (c : Setting) (real calm : List ℕ) (stage : Stage) (fresh : Option Named) → AtWork c real calm fresh stage → (row : Held)
+WorkersHoldReached = (c : Setting) (real calm : List ℕ) (stage : Stage) (fresh : Option Named)
+    → AtWork c real calm fresh stage → (row : Held)
     → IsAmong row (holds c (OnKey stage)) → Reached c.shape calm row.base row.kind
 
 -- and so are those that it only releases.
@@ -56,12 +57,15 @@ abbrev pub LeaversHoldReached : Type 0
 LeaversHoldReached = (c : Setting) (real calm : List ℕ) (stage : Stage) (reply : Reply) → AtEnd c real calm reply stage → (row : Held)
     → IsAmong row (holds c (OnKey stage)) → Reached c.shape calm row.base row.kind
 
--- A step of another process, which holds rows of calm's tree alone and brings no row into it that is this call's fresh one, keeps a call at work.
+-- A step of another process, which holds rows of calm's tree alone and brings no row into it that is this call's fresh one, keeps a call at
+-- work.
 abbrev pub OthersKeepWork : Type 0
-OthersKeepWork = (plan : Plan) (start : Contents) (words schedule : List ℕ) (p : ℕ) (s t : State) (n : ℕ) (m : Contents) (effect : Option Effect)
+OthersKeepWork = (plan : Plan) (start : Contents) (words schedule : List ℕ) (p : ℕ) (s t : State) (n : ℕ) (m : Contents)
+    (effect : Option Effect)
     → IsRunStep plan start words schedule p s t → IsAtRest plan.shape n (calm_of plan words schedule)
     → Makes plan.variant plan.shape s p (calm_of plan words schedule) (calm_of plan words (schedule ++ p ∷ [])) m effect
-    → HoldsReached plan.variant plan.shape s p (calm_of plan words schedule) → (r : ℕ) → r ≢ p → (call : Call) (stage : Stage) (fresh : Option Named)
+    → HoldsReached plan.variant plan.shape s p (calm_of plan words schedule) → (r : ℕ) → r ≢ p
+    → (call : Call) (stage : Stage) (fresh : Option Named)
     → IsAtStage plan.variant plan.shape s r call (OnKey stage) → IsOther effect fresh
     → AtWork (setting plan.shape plan.variant call) s.words (calm_of plan words schedule) fresh stage
     → IsAtStage plan.variant plan.shape t r call (OnKey stage)
@@ -69,16 +73,19 @@ OthersKeepWork = (plan : Plan) (start : Contents) (words schedule : List ℕ) (p
 
 -- So it keeps one at its end.
 abbrev pub OthersKeepEnds : Type 0
-OthersKeepEnds = (plan : Plan) (start : Contents) (words schedule : List ℕ) (p : ℕ) (s t : State) (n : ℕ) (m : Contents) (effect : Option Effect)
+OthersKeepEnds = (plan : Plan) (start : Contents) (words schedule : List ℕ) (p : ℕ) (s t : State) (n : ℕ) (m : Contents)
+    (effect : Option Effect)
     → IsRunStep plan start words schedule p s t → IsAtRest plan.shape n (calm_of plan words schedule)
     → Makes plan.variant plan.shape s p (calm_of plan words schedule) (calm_of plan words (schedule ++ p ∷ [])) m effect
-    → HoldsReached plan.variant plan.shape s p (calm_of plan words schedule) → (r : ℕ) → r ≢ p → (call : Call) (stage : Stage) (reply : Reply)
+    → HoldsReached plan.variant plan.shape s p (calm_of plan words schedule) → (r : ℕ) → r ≢ p
+    → (call : Call) (stage : Stage) (reply : Reply)
     → IsAtStage plan.variant plan.shape s r call (OnKey stage)
     → AtEnd (setting plan.shape plan.variant call) s.words (calm_of plan words schedule) reply stage
     → IsAtStage plan.variant plan.shape t r call (OnKey stage)
     × AtEnd (setting plan.shape plan.variant call) t.words (calm_of plan words (schedule ++ p ∷ [])) reply stage
 
--- A step of a call at work: it goes on and calm's tree stays, or it is refused and calm's tree stays, or this is the step at which it takes effect.
+-- A step of a call at work: it goes on and calm's tree stays, or it is refused and calm's tree stays, or this is the step at which it takes
+-- effect.
 abbrev pub WorkersStep : Type 0
 WorkersStep = (plan : Plan) (start : Contents) (words schedule : List ℕ) (p : ℕ) (s t : State) (n : ℕ) (m : Contents)
     → IsRunStep plan start words schedule p s t → IsAtRest plan.shape n (calm_of plan words schedule)
@@ -98,7 +105,8 @@ LeaversStep = (plan : Plan) (start : Contents) (words schedule : List ℕ) (p : 
 
 -- The fresh row of a call at work was claimed.
 abbrev pub FreshIsClaimed : Type 0
-FreshIsClaimed = (c : Setting) (real calm : List ℕ) (stage : Stage) (row : Named) → AtWork c real calm (Some row) stage → IsClaimed c.shape real row.0 row.1
+FreshIsClaimed = (c : Setting) (real calm : List ℕ) (stage : Stage) (row : Named) → AtWork c real calm (Some row) stage
+    → IsClaimed c.shape real row.0 row.1
 
 -- So two calls that have fresh rows have two, whichever of them steps,
 abbrev pub FreshRowsStayApart : Type 0
@@ -110,10 +118,12 @@ FreshRowsStayApart = (c : Setting) (s : State) (calm : List ℕ) (stage : Stage)
 abbrev pub EffectsBringTheirs : Type 0
 EffectsBringTheirs = (e : Effect) (other : Option Named) → AreTwoRows (fresh_of e) other → IsOther (Some e) other
 
--- Where a row is to go by the effect of a call, the call holds the row above it: so no call that holds a row of which calm has another row finds that one gone.
+-- Where a row is to go by the effect of a call, the call holds the row above it: so no call that holds a row of which calm has another row
+-- finds that one gone.
 abbrev pub HangersHoldAbove : Type 0
 HangersHoldAbove = (c : Setting) (real calm : List ℕ) (n : ℕ) (stage : Stage) (fresh : Option Named) → IsAtRest c.shape n calm
-    → (g : IsHanging c real calm fresh stage) → (b : ℕ) → IsGone g.effect b → (a y : ℕ) (above l : Kind) → Reached c.shape calm a above → y < 256
+    → (g : IsHanging c real calm fresh stage) → (b : ℕ) → IsGone g.effect b → (a y : ℕ) (above l : Kind)
+    → Reached c.shape calm a above → y < 256
     → child_on c.shape calm a above y ≡ Row b l → IsAmong (lock_of g.row) (holds c (OnKey stage)) × (g.row.base ≡ a)
 
 -- ---- rows that are made obsolete
@@ -129,13 +139,16 @@ WorkersGoOn = (plan : Plan) (start : Contents) (words schedule : List ℕ) (p : 
 
 -- A step of another process keeps a call at work with its mark.
 abbrev pub OthersKeepMarked : Type 0
-OthersKeepMarked = (plan : Plan) (start : Contents) (words schedule : List ℕ) (p : ℕ) (s t : State) (n : ℕ) (m : Contents) (effect : Option Effect)
+OthersKeepMarked = (plan : Plan) (start : Contents) (words schedule : List ℕ) (p : ℕ) (s t : State) (n : ℕ) (m : Contents)
+    (effect : Option Effect)
     → IsRunStep plan start words schedule p s t → IsAtRest plan.shape n (calm_of plan words schedule)
     → Makes plan.variant plan.shape s p (calm_of plan words schedule) (calm_of plan words (schedule ++ p ∷ [])) m effect
-    → HoldsReached plan.variant plan.shape s p (calm_of plan words schedule) → (r : ℕ) → r ≢ p → (call : Call) (stage : Stage) (fresh : Option Named)
+    → HoldsReached plan.variant plan.shape s p (calm_of plan words schedule) → (r : ℕ) → r ≢ p
+    → (call : Call) (stage : Stage) (fresh : Option Named)
     (left : Option ℕ) → IsAtStage plan.variant plan.shape s r call (OnKey stage) → IsOther effect fresh
     → (work : AtWork (setting plan.shape plan.variant call) s.words (calm_of plan words schedule) fresh stage) → IsMarked left work
-    → (later : AtWork (setting plan.shape plan.variant call) t.words (calm_of plan words (schedule ++ p ∷ [])) fresh stage) × IsMarked left later
+    → (later : AtWork (setting plan.shape plan.variant call) t.words (calm_of plan words (schedule ++ p ∷ [])) fresh stage)
+    × IsMarked left later
 
 -- A call at work may have no mark: so it begins.
 abbrev pub WorkersMayHaveNoMark : Type 0
@@ -150,7 +163,8 @@ ObsoleteRowsHang = (c : Setting) (n : ℕ) (real calm : List ℕ) (fresh : Optio
 -- A call at work takes no row and is not answered.
 abbrev pub WorkersOnlyWork : Type 0
 WorkersOnlyWork = (c : Setting) (real calm : List ℕ) (fresh : Option Named) (stage : Stage) → AtWork c real calm fresh stage
-    → ((word v w : ℕ) (mark : Option Point) → turn_at c stage ≡ Asks (Swap word v w) mark → ⊥) × ((reply : Reply) → turn_at c stage ≡ Answers reply → ⊥)
+    → ((word v w : ℕ) (mark : Option Point) → turn_at c stage ≡ Asks (Swap word v w) mark → ⊥)
+    × ((reply : Reply) → turn_at c stage ≡ Answers reply → ⊥)
 
 -- A step of a call at its end that does not answer it: it stays at its end, with the same reply, and calm's tree stays.
 abbrev pub EndersGoOn : Type 0

@@ -1,5 +1,7 @@
--- Marks: the row that a call at work made obsolete in its step before, and what a step of the call makes of it. Where a row is to be replaced by its larger
--- copy, the call releases it as obsolete, and takes it out of calm's tree by its next step, the release of the row above. Only between these two steps is a row
+-- Marks: the row that a call at work made obsolete in its step before, and what a step of the call makes of it. Where a row is to be
+-- replaced by its larger
+-- copy, the call releases it as obsolete, and takes it out of calm's tree by its next step, the release of the row above. Only between
+-- these two steps is a row
 -- of calm's tree obsolete: the marks of all calls name these rows.
 use Rattle.std.specs.Prelude.{◌≡◌, ℕ, ◌<◌, List, Option, Some, None}
 use Rattle.events.specs.declared.event.Call.{Call}
@@ -37,14 +39,18 @@ IsMarkedBy left (Lower lower is inside same none) = left ≡ None
 IsMarkedBy left (Gone lower is value inside goes only) = left ≡ None
 
 -- The call at work has this mark: the row that it made obsolete in its step before, or none.
-abbrev pub IsMarked : {c : Setting} {real calm : List ℕ} {fresh : Option Named} {stage : Stage} → Option ℕ → AtWork c real calm fresh stage → Type 0
+abbrev pub IsMarked : {c : Setting} {real calm : List ℕ} {fresh : Option Named} {stage : Stage} → Option ℕ
+    → AtWork c real calm fresh stage → Type 0
 IsMarked left (Claiming none x) = left ≡ None
 IsMarked left (Going x) = left ≡ None
 IsMarked left (Hanging x) = IsMarkedBy left x.at
 
--- What a step of a call at work makes of its mark. Where the call works on, it had none, and has from now on what this step made obsolete. Where it is refused,
--- it had none. Where it takes effect, the row that it had goes by the effect. A step behind which the call does not work makes no row obsolete.
-abbrev pub MarksGoOn : {variant : Variant} {shape : Shape} {s : State} {p : ℕ} {t : State} {calm after : List ℕ} {m : Contents} {call : Call}
+-- What a step of a call at work makes of its mark. Where the call works on, it had none, and has from now on what this step made obsolete.
+-- Where it is refused,
+-- it had none. Where it takes effect, the row that it had goes by the effect. A step behind which the call does not work makes no row
+-- obsolete.
+abbrev pub MarksGoOn : {variant : Variant} {shape : Shape} {s : State} {p : ℕ} {t : State} {calm after : List ℕ}
+    {m : Contents} {call : Call}
     {fresh : Option Named} → Option ℕ → Stage → WorkStep variant shape s p t calm after m call fresh → Type 0
 MarksGoOn left stage (Works next later at work goes makes) = (left ≡ None) × IsMarked (obsolete_by stage) work
 MarksGoOn left stage (IsRefused next at end makes) = (left ≡ None) × (obsolete_by stage ≡ None)
@@ -66,7 +72,8 @@ pub record HangsOnAbove (shape : Shape) (calm : List ℕ) (h : Hold) : Type 0 wh
   pub hangs : child_on shape calm above.base above.kind byte ≡ Row h.row.base h.row.kind
 
 -- What a step of a call at its end does that does not answer it: it releases a row, and calm's tree stays.
-pub record EnderStep (plan : Plan) (s : State) (p : ℕ) (t : State) (calm after : List ℕ) (m : Contents) (call : Call) (reply : Reply) : Type 0 where
+pub record EnderStep (plan : Plan) (s : State) (p : ℕ) (t : State) (calm after : List ℕ) (m : Contents) (call : Call)
+    (reply : Reply) : Type 0 where
   pub next : Stage
   pub at : IsAtStage plan.variant plan.shape t p call (OnKey next)
   pub ends : AtEnd (setting plan.shape plan.variant call) t.words after reply next

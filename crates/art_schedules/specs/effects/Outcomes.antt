@@ -33,7 +33,8 @@ IsEffectBy variant shape s p calm after None = Unit {0}
 IsEffectBy variant shape s p calm after (Some e) = IsEffect variant shape s p calm after e
 
 -- The step of process p has this effect on calm's tree, or none; a row that leaves it was obsolete before the step.
-pub record Makes (variant : Variant) (shape : Shape) (s : State) (p : ℕ) (calm after : List ℕ) (m : Contents) (effect : Option Effect) : Type 0 where
+pub record Makes (variant : Variant) (shape : Shape) (s : State) (p : ℕ) (calm after : List ℕ) (m : Contents)
+    (effect : Option Effect) : Type 0 where
   pub goes : TreeGoesOn shape s.words calm after m effect
   pub by : IsEffectBy variant shape s p calm after effect
 
@@ -42,9 +43,11 @@ abbrev pub FreshGoesOn : Shape → State → Option Named → Option Named → T
 FreshGoesOn shape s fresh later = (later ≡ fresh)
     ⊎ ((row : Named) × (later ≡ Some row) × ((kind : Kind) → IsClaimed shape s.words row.0 kind → ⊥))
 
--- What a step of a call at work does: it goes on and calm's tree stays; or it is refused, and calm's tree stays; or this is the step of its effect, and its
+-- What a step of a call at work does: it goes on and calm's tree stays; or it is refused, and calm's tree stays; or this is the step of its
+-- effect, and its
 -- reply is the map's, not a refusal; the row that comes is not obsolete.
-pub data WorkStep (variant : Variant) (shape : Shape) (s : State) (p : ℕ) (t : State) (calm after : List ℕ) (m : Contents) (call : Call) (fresh : Option Named)
+pub data WorkStep (variant : Variant) (shape : Shape) (s : State) (p : ℕ) (t : State) (calm after : List ℕ) (m : Contents) (call : Call)
+    (fresh : Option Named)
     : Type 0 where
   Works : (stage : Stage) → (later : Option Named) → IsAtStage variant shape t p call (OnKey stage)
       → AtWork (setting shape variant call) t.words after later stage
@@ -59,7 +62,8 @@ pub data WorkStep (variant : Variant) (shape : Shape) (s : State) (p : ℕ) (t :
       → WorkStep variant shape s p t calm after m call fresh
 
 -- What a step of a call at its end does: it releases a row, or it answers; calm's tree stays.
-pub data EndStep (variant : Variant) (shape : Shape) (s : State) (p : ℕ) (t : State) (calm after : List ℕ) (m : Contents) (call : Call) (reply : Reply)
+pub data EndStep (variant : Variant) (shape : Shape) (s : State) (p : ℕ) (t : State) (calm after : List ℕ) (m : Contents)
+    (call : Call) (reply : Reply)
     (stage : Stage) : Type 0 where
   Leaves : (next : Stage) → IsAtStage variant shape t p call (OnKey next) → AtEnd (setting shape variant call) t.words after reply next
       → Makes variant shape s p calm after m None → EndStep variant shape s p t calm after m call reply stage

@@ -36,7 +36,8 @@ ScansBegin = (shape : Shape) (low high : ℕ) (calm words : List ℕ) → length
 
 -- In a run: a step of a scan that has not come to the end of its walk, and that takes no row that is obsolete.
 abbrev pub ScansGoOn : Type 0
-ScansGoOn = (plan : Plan) (start : Contents) (words schedule : List ℕ) (p : ℕ) (s t : State) (claims : ℕ) (m : Contents) (low high : ℕ) (x : ScanAt)
+ScansGoOn = (plan : Plan) (start : Contents) (words schedule : List ℕ) (p : ℕ) (s t : State) (claims : ℕ) (m : Contents)
+    (low high : ℕ) (x : ScanAt)
     → IsCoupledStep plan start words schedule p s t claims m → TakesLive plan.shape s p
     → IsAtStage Coupled plan.shape s p (Scan low high) (OnScan low high x) → (IsOver x.step → ⊥)
     → HasWalked plan.shape low high (calm_of plan words schedule) s.words x
@@ -44,13 +45,15 @@ ScansGoOn = (plan : Plan) (start : Contents) (words schedule : List ℕ) (p : �
 
 -- At the end of its walk, before it has released a row, a scan has the pairs that the map of this moment has.
 abbrev pub WalkedScansFind : Type 0
-WalkedScansFind = (shape : Shape) (low high n : ℕ) (calm words : List ℕ) (m : Contents) (x : ScanAt) → IsAtRest shape n calm → Means shape calm m
+WalkedScansFind = (shape : Shape) (low high n : ℕ) (calm words : List ℕ) (m : Contents) (x : ScanAt) → IsAtRest shape n calm
+    → Means shape calm m
     → length m ≤ pair_limit → HasWalked shape low high calm words x → IsOver x.step
     → HasPairsFound shape low high calm words (reply_to m (Scan low high)) x
 
 -- A step of a scan that has found its reply, other than the one that answers it.
 abbrev pub FoundScansStay : Type 0
-FoundScansStay = (plan : Plan) (start : Contents) (words schedule : List ℕ) (p : ℕ) (s t : State) (claims : ℕ) (m : Contents) (low high : ℕ) (x : ScanAt)
+FoundScansStay = (plan : Plan) (start : Contents) (words schedule : List ℕ) (p : ℕ) (s t : State) (claims : ℕ) (m : Contents)
+    (low high : ℕ) (x : ScanAt)
     (r : Reply) (a : Access) (mark : Option Point) → IsCoupledStep plan start words schedule p s t claims m
     → IsAtStage Coupled plan.shape s p (Scan low high) (OnScan low high x)
     → HasPairsFound plan.shape low high (calm_of plan words schedule) s.words r x
@@ -70,7 +73,8 @@ WalkingScansAsk = (shape : Shape) (low high : ℕ) (x : ScanAt) (answer : Reply)
 
 -- A step of another process leaves a scan where it is, with what it has walked or found.
 abbrev pub OthersLeaveScans : Type 0
-OthersLeaveScans = (plan : Plan) (start : Contents) (words schedule : List ℕ) (p : ℕ) (s t : State) (claims : ℕ) (m : Contents) (r low high : ℕ) (x : ScanAt)
+OthersLeaveScans = (plan : Plan) (start : Contents) (words schedule : List ℕ) (p : ℕ) (s t : State) (claims : ℕ) (m : Contents)
+    (r low high : ℕ) (x : ScanAt)
     → IsCoupledStep plan start words schedule p s t claims m → r ≢ p → IsAtStage Coupled plan.shape s r (Scan low high) (OnScan low high x)
     → IsAtStage Coupled plan.shape t r (Scan low high) (OnScan low high x)
     × (HasWalked plan.shape low high (calm_of plan words schedule) s.words x
@@ -82,7 +86,8 @@ OthersLeaveScans = (plan : Plan) (start : Contents) (words schedule : List ℕ) 
 
 -- A scan that knows the calm tree up to the end of its walk takes no row that is obsolete,
 abbrev pub ScansTakeLive : Type 0
-ScansTakeLive = (plan : Plan) (start : Contents) (words schedule : List ℕ) (p : ℕ) (s t : State) (claims : ℕ) (m : Contents) (leaving : ℕ → Option ℕ)
+ScansTakeLive = (plan : Plan) (start : Contents) (words schedule : List ℕ) (p : ℕ) (s t : State) (claims : ℕ) (m : Contents)
+    (leaving : ℕ → Option ℕ)
     (low high : ℕ) (x : ScanAt) → IsCoupledStep plan start words schedule p s t claims m
     → ObsoleteLeave plan.shape s (calm_of plan words schedule) leaving
     → IsAtStage Coupled plan.shape s p (Scan low high) (OnScan low high x)
@@ -90,14 +95,16 @@ ScansTakeLive = (plan : Plan) (start : Contents) (words schedule : List ℕ) (p 
 
 -- and takes rows of the calm tree alone.
 abbrev pub ScansTakeReached : Type 0
-ScansTakeReached = (plan : Plan) (start : Contents) (words schedule : List ℕ) (p : ℕ) (s t : State) (claims : ℕ) (m : Contents) (low high : ℕ) (x : ScanAt)
+ScansTakeReached = (plan : Plan) (start : Contents) (words schedule : List ℕ) (p : ℕ) (s t : State) (claims : ℕ) (m : Contents)
+    (low high : ℕ) (x : ScanAt)
     → IsCoupledStep plan start words schedule p s t claims m → IsAtStage Coupled plan.shape s p (Scan low high) (OnScan low high x)
     → ((IsOver x.step → ⊥) → KnowsTree plan.shape (calm_of plan words schedule) x)
     → TakesReached plan.shape s p (calm_of plan words schedule)
 
 -- So its steps need no further premise, and it knows the calm tree behind them.
 abbrev pub ScansComeOn : Type 0
-ScansComeOn = (plan : Plan) (start : Contents) (words schedule : List ℕ) (p : ℕ) (s t : State) (claims : ℕ) (m : Contents) (leaving : ℕ → Option ℕ)
+ScansComeOn = (plan : Plan) (start : Contents) (words schedule : List ℕ) (p : ℕ) (s t : State) (claims : ℕ) (m : Contents)
+    (leaving : ℕ → Option ℕ)
     (low high : ℕ) (x : ScanAt) → IsCoupledStep plan start words schedule p s t claims m
     → ObsoleteLeave plan.shape s (calm_of plan words schedule) leaving
     → IsAtStage Coupled plan.shape s p (Scan low high) (OnScan low high x) → (IsOver x.step → ⊥)
@@ -107,7 +114,8 @@ ScansComeOn = (plan : Plan) (start : Contents) (words schedule : List ℕ) (p : 
 
 -- A step of another process, in which the calm tree changes by an effect, or by none: no row leaves it that the scan holds.
 abbrev pub OthersLeaveTrees : Type 0
-OthersLeaveTrees = (plan : Plan) (start : Contents) (words schedule : List ℕ) (p : ℕ) (s t : State) (claims : ℕ) (m : Contents) (r low high : ℕ) (x : ScanAt)
+OthersLeaveTrees = (plan : Plan) (start : Contents) (words schedule : List ℕ) (p : ℕ) (s t : State) (claims : ℕ) (m : Contents)
+    (r low high : ℕ) (x : ScanAt)
     (n : ℕ) (pairs : Contents) (effect : Option Effect) → IsCoupledStep plan start words schedule p s t claims m → r ≢ p
     → IsAtStage Coupled plan.shape s r (Scan low high) (OnScan low high x)
     → Follows plan.shape n (calm_of plan words schedule) (calm_of plan words (schedule ++ p ∷ [])) pairs (IsGoneBy effect)

@@ -32,7 +32,8 @@ pub record Agrees (shape : Shape) (words calm : List ℕ) : Type 0 where
 abbrev pub Gets : Setting → List ℕ → Stage → ℕ → Type 0
 Gets c words stage w = (a : Access) (mark : Option Point) → turn_at c stage ≡ Asks a mark → w ≡ got_by a words
 
--- It goes on its way, or starts again; or its work begins; or it has found what it will answer: the reply is legal at these pairs, and leaves them as they are.
+-- It goes on its way, or starts again; or its work begins; or it has found what it will answer: the reply is legal at these pairs, and
+-- leaves them as they are.
 pub data Goes (c : Setting) (calm words : List ℕ) (m : Contents) (next : Stage) : Type 0 where
   GoesOn : KnowsWay c calm words None next → Goes c calm words m next
   Works : (h : Hold) → (work : Work) → next ≡ work_at c h work → BeginsWork c calm h work

@@ -1,4 +1,5 @@
--- What a call on a key of the optimistic tree knows at each stage at which it is not at work. It holds no row on its way: all that it knows of a row is so
+-- What a call on a key of the optimistic tree knows at each stage at which it is not at work. It holds no row on its way: all that it knows
+-- of a row is so
 -- where the version that it has kept is still the row's.
 use Rattle.std.specs.Prelude.{◌≡◌, ℕ, ◌≤◌, Bool, true, false, List, slice_index, Option, Some, None}
 use Rattle.events.specs.declared.event.Reply.{Reply}
@@ -51,7 +52,8 @@ IsLed c calm words n = Stands words n → IsOnWay c calm n
 abbrev pub KnowsPlace : Setting → List ℕ → List ℕ → Position → Type 0
 KnowsPlace c calm words p = IsLed c calm words p.row × HangsBelow c calm words p.row p.slot p.above
 
--- Behind the check of the row above, the row below is reached, if it stands; where the call is no insert, its path differs nowhere from the key,
+-- Behind the check of the row above, the row below is reached, if it stands; where the call is no insert, its path differs nowhere from the
+-- key,
 abbrev pub PathFollows : Bool → Setting → List ℕ → Down → Type 0
 PathFollows true c words d = Unit {0}
 PathFollows false c words d = first_difference (path_in words d.base d.kind) (key_bytes (key_of c.call)) ≡ None
@@ -126,7 +128,8 @@ IsPast words n = n.kept ≤ slice_index words n.base
 abbrev pub IsHeldReached : Shape → List ℕ → List ℕ → Held → Type 0
 IsHeldReached s calm words n = IsSame calm words n × Reached s calm n.base n.kind
 
--- What a call that has not begun its work knows: of calm by its stage, where `found` is the reply that it has found, if any; of the versions that it has
+-- What a call that has not begun its work knows: of calm by its stage, where `found` is the reply that it has found, if any; of the
+-- versions that it has
 -- kept; and of the rows that it holds.
 pub record KnowsWay (c : Setting) (calm words : List ℕ) (found : Option Reply) (stage : Stage) : Type 0 where
   pub way : KnowsAt found (is_insert c.call) c calm words stage

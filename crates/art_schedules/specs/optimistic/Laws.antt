@@ -53,7 +53,8 @@ abbrev pub InfosStay : Shape → State → State → Type 0
 InfosStay shape s t = (base : ℕ) (kind : Kind) → IsSettled Optimistic shape s base kind
     → slice_index t.words (info_at base) ≡ slice_index s.words (info_at base)
 
--- In a step of any process, by which the calm tree changes by an effect or by none, a call knows what it knew: a row leaves the tree only where it is obsolete.
+-- In a step of any process, by which the calm tree changes by an effect or by none, a call knows what it knew: a row leaves the tree only
+-- where it is obsolete.
 abbrev pub WaysAreKept : Type 0
 WaysAreKept = (shape : Shape) (call : Call) (calm after : List ℕ) (pairs : Contents) (effect : Option Effect) (s t : State)
     (found : Option Reply)
@@ -71,5 +72,6 @@ InfosStayInRuns = (plan : Plan) (start : Contents) (words schedule : List ℕ) (
 
 -- In every state of a run calm agrees with the words.
 abbrev pub CalmAgrees : Type 0
-CalmAgrees = (plan : Plan) (start : Contents) (words schedule : List ℕ) (s : State) → IsRun plan start words schedule s → plan.variant ≡ Optimistic
+CalmAgrees = (plan : Plan) (start : Contents) (words schedule : List ℕ) (s : State) → IsRun plan start words schedule s
+    → plan.variant ≡ Optimistic
     → Agrees plan.shape s.words (calm_of plan words schedule)

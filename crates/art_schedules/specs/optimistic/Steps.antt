@@ -30,7 +30,8 @@ use Rattle.art_schedules.specs.optimistic.Knows.{KnowsWay}
 use Rattle.art_schedules.specs.optimistic.Goes.{Goes}
 use Rattle.art_schedules.specs.calm.Changes.{IsRunStep}
 
--- What the call knew before a step of another process it knows behind it, where the calm tree changes by an effect or by none, and a row leaves it only
+-- What the call knew before a step of another process it knows behind it, where the calm tree changes by an effect or by none, and a row
+-- leaves it only
 -- where it is obsolete.
 abbrev pub OtherStepsKeepWays : Type 0
 OtherStepsKeepWays = (plan : Plan) (start : Contents) (words schedule : List ℕ) (p : ℕ) (s t : State)
@@ -79,7 +80,8 @@ abbrev pub QuietStepsKeepTrees : Type 0
 QuietStepsKeepTrees = (plan : Plan) (start : Contents) (words schedule : List ℕ) (p : ℕ) (s t : State)
     → IsRunStep plan start words schedule p s t
     → IsQuiet plan.variant plan.shape s p → (n : ℕ)
-    → IsAtRest plan.shape n (calm_of plan words schedule) → KeepsTree plan.shape (calm_of plan words schedule) (calm_of plan words (schedule ++ p ∷ []))
+    → IsAtRest plan.shape n (calm_of plan words schedule)
+    → KeepsTree plan.shape (calm_of plan words schedule) (calm_of plan words (schedule ++ p ∷ []))
 
 -- A scan of the optimistic tree stores nothing.
 abbrev pub ScansStoreNothing : Type 0

@@ -38,7 +38,8 @@ pub record MeansAt (plan : Plan) (words schedule : List ℕ) (u : ℕ) (m : Cont
   pub few : length m ≤ pair_limit
 
 -- A step of a run of which something is told, with calm before and behind it.
-pub record IsToldStep (plan : Plan) (start : Contents) (words schedule : List ℕ) (tale : Tale) (p : ℕ) (s t : State) (calm after : List ℕ) : Type 0 where
+pub record IsToldStep (plan : Plan) (start : Contents) (words schedule : List ℕ) (tale : Tale) (p : ℕ) (s t : State)
+    (calm after : List ℕ) : Type 0 where
   pub step : IsRunStep plan start words schedule p s t
   pub calm_is : calm ≡ calm_of plan words schedule
   pub after_is : after ≡ calm_of plan words (schedule ++ p ∷ [])
@@ -51,14 +52,18 @@ pub record IsToldStep (plan : Plan) (start : Contents) (words schedule : List �
   pub few : length (tale.pairs (length schedule)) ≤ pair_limit
   pub earlier : (u : ℕ) → u ≤ length schedule → MeansAt plan words schedule u (tale.pairs u)
 
--- What becomes of the status in a step that keeps the pairs: it stays, or what was found is forgotten, or a reply is found, in the pairs as they are now or as
+-- What becomes of the status in a step that keeps the pairs: it stays, or what was found is forgotten, or a reply is found, in the pairs as
+-- they are now or as
 -- they were at an earlier moment within the call.
-pub data Next (plan : Plan) (first : State) (schedule : List ℕ) (tale : Tale) (p calls : ℕ) (call : Call) (status next : Status) : Type 0 where
+pub data Next (plan : Plan) (first : State) (schedule : List ℕ) (tale : Tale) (p calls : ℕ) (call : Call)
+    (status next : Status) : Type 0 where
   Stays : next ≡ status → Next plan first schedule tale p calls call status next
   Forgets : HasNotChanged status → next ≡ Before → Next plan first schedule tale p calls call status next
   FindsNow : (reply : Reply) → HasNotChanged status → next ≡ Found reply
-      → Does (tale.pairs (length schedule)) call reply (tale.pairs (length schedule)) → Next plan first schedule tale p calls call status next
-  FindsAt : (reply : Reply) → (u : ℕ) → HasNotChanged status → next ≡ Found reply → u ≤ length schedule → IsInCall plan first schedule u p calls call
+      → Does (tale.pairs (length schedule)) call reply (tale.pairs (length schedule))
+      → Next plan first schedule tale p calls call status next
+  FindsAt : (reply : Reply) → (u : ℕ) → HasNotChanged status → next ≡ Found reply → u ≤ length schedule
+      → IsInCall plan first schedule u p calls call
       → Does (tale.pairs u) call reply (tale.pairs u) → Next plan first schedule tale p calls call status next
 
 -- Where it is answered, its status is, or becomes, one that has the reply.
@@ -66,9 +71,11 @@ abbrev pub HasItsReply : Plan → List ℕ → List ℕ → Tale → ℕ → Cal
 HasItsReply plan words schedule tale p call q status reply =
     (next : Status) × Next plan (opened_on plan words) schedule tale p (length (begun q)) call status next × HasReply next reply
 
--- What an open call does in a step of its own: it keeps the pairs, or changes them as it does with this reply. `Behind` is what has to be so behind the step,
+-- What an open call does in a step of its own: it keeps the pairs, or changes them as it does with this reply. `Behind` is what has to be
+-- so behind the step,
 -- by its effect and the status then.
-pub data OwnStep (plan : Plan) (words schedule : List ℕ) (tale : Tale) (p : ℕ) (t : State) (calm after : List ℕ) (call : Call) (q : Process) (status : Status)
+pub data OwnStep (plan : Plan) (words schedule : List ℕ) (tale : Tale) (p : ℕ) (t : State) (calm after : List ℕ) (call : Call)
+    (q : Process) (status : Status)
     (Behind : Option Effect → Status → Type 0) : Type 0 where
   Keeps : (next : Status) → TreeGoesOn plan.shape t.words calm after (tale.pairs (length schedule)) None
       → Next plan (opened_on plan words) schedule tale p (length (begun q)) call status next → Behind None next
@@ -113,7 +120,8 @@ pub record AnswersCall (plan : Plan) (s : State) (p : ℕ) (t : State) (call : C
 
 -- each open call has a status that fits
 abbrev pub AllFit : (List ℕ → State → List ℕ → ℕ → Call → Process → Status → Type 0) → List ℕ → State → List ℕ → Type 0
-AllFit Fits schedule s calm = (p : ℕ) (call : Call) (q : Process) → IsOpen s p call q → (status : Status) × Fits schedule s calm p call q status
+AllFit Fits schedule s calm = (p : ℕ) (call : Call) (q : Process) → IsOpen s p call q → (status : Status)
+    × Fits schedule s calm p call q status
 
 -- ---- what fits all calls together: a ghost, which the steps change, something of the whole state, and of each call, with the ghost
 
@@ -138,9 +146,11 @@ pub record IsLedOn (Ghost : Type 0) (World : OfState Ghost) (Fits : OfCall Ghost
   pub others : (r : ℕ) (call : Call) (q : Process) (status : Status) → r ≢ p → IsOpen s r call q → IsOpen t r call q
       → Fits ghost schedule s calm r call q status → Fits next (schedule ++ p ∷ []) t after r call q status
 
--- All of it is so before the first step, and is led on by each step: that begins a call, that makes an access of it, and that answers it, with the reply of
+-- All of it is so before the first step, and is led on by each step: that begins a call, that makes an access of it, and that answers it,
+-- with the reply of
 -- its status.
-pub record AreLed (plan : Plan) (start : Contents) (words : List ℕ) (Ghost : Type 0) (World : OfState Ghost) (Fits : OfCall Ghost) : Type 0 where
+pub record AreLed (plan : Plan) (start : Contents) (words : List ℕ) (Ghost : Type 0) (World : OfState Ghost)
+    (Fits : OfCall Ghost) : Type 0 where
   pub first : IsRun plan start words [] (opened_on plan words) → IsAtRest plan.shape (length start + 1) words → Means plan.shape words start
       → (ghost : Ghost) × World ghost [] (opened_on plan words) words
   pub begins : (schedule : List ℕ) (tale : Tale) (p : ℕ) (s t : State) (calm after : List ℕ) (ghost : Ghost)
@@ -150,9 +160,11 @@ pub record AreLed (plan : Plan) (start : Contents) (words : List ℕ) (Ghost : T
       → IsLedOn Ghost World Fits ghost schedule p s t calm after (λ next. Fits next (schedule ++ p ∷ []) t after p call later Before)
   pub own : (schedule : List ℕ) (tale : Tale) (p : ℕ) (s t : State) (calm after : List ℕ) (ghost : Ghost)
       → IsToldStep plan start words schedule tale p s t calm after → World ghost schedule s calm → AllFit (Fits ghost) schedule s calm
-      → (call : Call) (q later : Process) (a : Access) (status : Status) → MakesAccess plan s p t call q later a → Fits ghost schedule s calm p call q status
+      → (call : Call) (q later : Process) (a : Access) (status : Status) → MakesAccess plan s p t call q later a
+      → Fits ghost schedule s calm p call q status
       → OwnStep plan words schedule tale p t calm after call q status
-      (λ effect now. IsLedOn Ghost World Fits ghost schedule p s t calm after (λ next. Fits next (schedule ++ p ∷ []) t after p call later now))
+      (λ effect now. IsLedOn Ghost World Fits ghost schedule p s t calm after
+          (λ next. Fits next (schedule ++ p ∷ []) t after p call later now))
   pub answers : (schedule : List ℕ) (tale : Tale) (p : ℕ) (s t : State) (calm after : List ℕ) (ghost : Ghost)
       → IsToldStep plan start words schedule tale p s t calm after → World ghost schedule s calm → AllFit (Fits ghost) schedule s calm
       → (call : Call) (q : Process) (status : Status) (reply : Reply) → AnswersCall plan s p t call q reply

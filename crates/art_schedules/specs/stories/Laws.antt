@@ -17,7 +17,8 @@ StartsAreAtRest = (plan : Plan) (start : Contents) (words schedule : List ℕ) (
 
 -- In a run with a story each call has its effect within itself;
 abbrev pub StoriesGiveEffects : Type 0
-StoriesGiveEffects = (plan : Plan) (start : Contents) (words schedule : List ℕ) (s : State) (tale : Tale) → IsRun plan start words schedule s
+StoriesGiveEffects = (plan : Plan) (start : Contents) (words schedule : List ℕ) (s : State) (tale : Tale)
+    → IsRun plan start words schedule s
     → IsStory plan start (opened_on plan words) schedule tale → HaveEffects plan start (opened_on plan words) schedule
 
 -- so such a run is linearizable.

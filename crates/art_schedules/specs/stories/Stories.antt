@@ -46,7 +46,8 @@ abbrev pub HasKept : Plan → State → List ℕ → Tale → ℕ → ℕ → �
 HasKept plan first schedule tale t p calls call = (u : ℕ) → u < t → IsOwnStep plan first schedule p calls call u → tale.changes u ≡ false
 
 -- None has, and at some moment within the call, up to t, the reply is legal and the call leaves the pairs as they are.
-pub record HasFound (plan : Plan) (first : State) (schedule : List ℕ) (tale : Tale) (t p calls : ℕ) (call : Call) (reply : Reply) : Type 0 where
+pub record HasFound (plan : Plan) (first : State) (schedule : List ℕ) (tale : Tale) (t p calls : ℕ) (call : Call)
+    (reply : Reply) : Type 0 where
   pub kept : HasKept plan first schedule tale t p calls call
   pub moment : ℕ
   pub until : moment ≤ t
@@ -54,7 +55,8 @@ pub record HasFound (plan : Plan) (first : State) (schedule : List ℕ) (tale : 
   pub finds : Does (tale.pairs moment) call reply (tale.pairs moment)
 
 -- One of its steps before moment t has changed the pairs, as the call does with this reply.
-pub record HasChanged (plan : Plan) (first : State) (schedule : List ℕ) (tale : Tale) (t p calls : ℕ) (call : Call) (reply : Reply) : Type 0 where
+pub record HasChanged (plan : Plan) (first : State) (schedule : List ℕ) (tale : Tale) (t p calls : ℕ) (call : Call)
+    (reply : Reply) : Type 0 where
   pub step : ℕ
   pub until : step < t
   pub own : IsOwnStep plan first schedule p calls call step
@@ -69,7 +71,8 @@ HasStatus plan first schedule tale t p calls call Before = HasKept plan first sc
 HasStatus plan first schedule tale t p calls call (Found reply) = HasFound plan first schedule tale t p calls call reply
 HasStatus plan first schedule tale t p calls call (Changed reply) = HasChanged plan first schedule tale t p calls call reply
 
--- The tale is a story of the run: other steps leave the pairs, and at each moment each open call has a status, which at the step that answers it has the reply.
+-- The tale is a story of the run: other steps leave the pairs, and at each moment each open call has a status, which at the step that
+-- answers it has the reply.
 pub record IsStory (plan : Plan) (start : Contents) (first : State) (schedule : List ℕ) (tale : Tale) : Type 0 where
   pub begins : tale.pairs 0 ≡ start
   pub stay : (t : ℕ) → t < length schedule → tale.changes t ≡ false → tale.pairs (t + 1) ≡ tale.pairs t

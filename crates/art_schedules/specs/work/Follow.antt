@@ -10,7 +10,8 @@ use Rattle.art_serial.specs.trees.Trees.{IsUnused}
 use Rattle.art_schedules.specs.work.Solo.{Solo}
 use Rattle.art_schedules.specs.work.Own.{IsHeldWord, IsFilledWord}
 
--- The words of a run are those that the call has by itself, on the rows that it holds, but for their versions, and on the row that it fills.
+-- The words of a run are those that the call has by itself, on the rows that it holds, but for their versions, and on the row that it
+-- fills.
 abbrev pub AgreesOn : Setting → CallAt → List ℕ → List ℕ → Type 0
 AgreesOn c at words real = (word : ℕ) → IsHeldWord c at word ⊎ IsFilledWord at word → slice_index real word ≡ slice_index words word
 
@@ -22,7 +23,8 @@ CanFollow c at words real (Exchange word from to) = ⊥
 CanFollow c at words real (Add word) = (kind : Kind) × (word ≡ claims_of kind) × IsUnused c.shape words kind (slice_index real word)
     × IsUnused c.shape real kind (slice_index real word)
 
--- The call by itself has come to the next stage too. The words agree on the rows that it held and filled before the access, and on those that it holds
+-- The call by itself has come to the next stage too. The words agree on the rows that it held and filled before the access, and on those
+-- that it holds
 -- and fills behind it.
 pub record Followed (c : Setting) (at0 : CallAt) (w0 : List ℕ) (at next : CallAt) (real : List ℕ) : Type 0 where
   pub words : List ℕ

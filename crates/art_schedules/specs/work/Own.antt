@@ -10,7 +10,8 @@ use Rattle.art_steps.specs.Steps.{Asks, Answers}
 use Rattle.art_steps.specs.Rows.{Setting}
 use Rattle.art_stages.specs.declared.stage.Held.{Held}
 use Rattle.art_stages.specs.declared.stage.Stage.{Stage}
-use Rattle.art_stages.specs.declared.stage.Stage.TheVariants.{Lock, Exchange, Wait, Leave, Between, Info, Find, FindKeys, FindMore, FindCount, Slot, Check}
+use Rattle.art_stages.specs.declared.stage.Stage.TheVariants.{Lock, Exchange, Wait, Leave, Between, Info, Find, FindKeys, FindMore}
+use Rattle.art_stages.specs.declared.stage.Stage.TheVariants.{FindCount, Slot, Check}
 use Rattle.art_stages.specs.declared.stage.Stage.TheVariants.{CheckLast, LetGo, Take, Obsolete, Unlock, ClaimPair, ClaimGrow}
 use Rattle.art_stages.specs.declared.stage.ScanStep.TheVariants as scan
 use Rattle.art_stages.specs.declared.stage.ScanStep.{ScanStep}
@@ -57,10 +58,13 @@ may_release (OnScan low high at) = is_releasing at.step
 -- The next access is a load of a held word, a store of one or of a filled one, a claim, or the release of a held row; or there is none.
 pub data TouchesOwn (c : Setting) (at : CallAt) : Type 0 where
   LoadsHeld : (word : ℕ) → (mark : Option Point) → call_turn c at ≡ Asks (Load word) mark → IsHeldWord c at word → TouchesOwn c at
-  StoresOwn : (word value : ℕ) → (mark : Option Point) → call_turn c at ≡ Asks (Store word value) mark → IsHeldWord c at word ⊎ IsFilledWord at word
+  StoresOwn : (word value : ℕ) → (mark : Option Point) → call_turn c at ≡ Asks (Store word value) mark → IsHeldWord c at word
+      ⊎ IsFilledWord at word
       → TouchesOwn c at
-  ClaimsRow : (kind : Kind) → (mark : Option Point) → call_turn c at ≡ Asks (Add (claims_of kind)) mark → may_claim at ≡ true → TouchesOwn c at
-  ReleasesHeld : (row : Held) → (value : ℕ) → (mark : Option Point) → call_turn c at ≡ Asks (Store row.base value) mark → IsAmong row (holds c at)
+  ClaimsRow : (kind : Kind) → (mark : Option Point) → call_turn c at ≡ Asks (Add (claims_of kind)) mark
+      → may_claim at ≡ true → TouchesOwn c at
+  ReleasesHeld : (row : Held) → (value : ℕ) → (mark : Option Point) → call_turn c at ≡ Asks (Store row.base value) mark
+      → IsAmong row (holds c at)
       → may_release at ≡ true → TouchesOwn c at
   Replies : (reply : Reply) → call_turn c at ≡ Answers reply → TouchesOwn c at
 
@@ -95,7 +99,8 @@ is_lock (OnKey (Exchange t v)) = true
 is_lock (OnKey stage) = false
 is_lock (OnScan low high at) = is_lock_step at.step
 
--- What a call that locks what it reads has besides: it counts the children of a row of kind 48 alone, and a scan holds each row that it reads, or that
+-- What a call that locks what it reads has besides: it counts the children of a row of kind 48 alone, and a scan holds each row that it
+-- reads, or that
 -- is on its way.
 abbrev pub IsWalked : Held → List Held → Type 0
 IsWalked n rows = (row : Held) × IsAmong row rows × (row.base ≡ n.base)

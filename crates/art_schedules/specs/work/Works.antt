@@ -50,7 +50,8 @@ pub record LacksByte (c : Setting) (n : Held) (seen : Keys) (words : List ℕ) :
 abbrev pub FitsWords : Setting → Hold → Work → List ℕ → Type 0
 FitsWords c h (work.Write slot word reply) words = Unit {0}
 FitsWords c h (work.Pair p) words =
-    IsInsert c.call × (child_of c.shape (slice_index words p.slot) ≡ p.child) × (p.child ≢ Empty) × (p.byte < 256) × (p.byte ≢ byte_at c p.level)
+    IsInsert c.call × (child_of c.shape (slice_index words p.slot) ≡ p.child) × (p.child ≢ Empty) × (p.byte < 256)
+        × (p.byte ≢ byte_at c p.level)
 FitsWords c h (work.Put keys) words = IsInsert c.call × LacksByte c h.row keys words × (count_in h.row.kind keys < capacity h.row.kind)
 FitsWords c h (work.Grow slot keys) words =
     IsInsert c.call × LacksByte c h.row keys words × (count_in h.row.kind keys ≡ capacity h.row.kind)
@@ -70,7 +71,8 @@ pub record PairHangs (s : Shape) (words later : List ℕ) (base slot level : ℕ
   pub hangs : slice_index later slot ≡ row_word base
 
 -- A fresh row of the next kind has the children of a full one and one child more, and hangs in a slot: no other word has changed.
-pub record GrownHangs (s : Shape) (words later : List ℕ) (old : ℕ) (kind : Kind) (base slot word_of_info x : ℕ) (child : Child) : Type 0 where
+pub record GrownHangs (s : Shape) (words later : List ℕ) (old : ℕ) (kind : Kind) (base slot word_of_info x : ℕ)
+    (child : Child) : Type 0 where
   pub long : length later ≡ length words
   pub outside : IsOutside base (next_kind kind) slot
   pub same : (word : ℕ) → word ≢ slot → IsOutside base (next_kind kind) word → slice_index later word ≡ slice_index words word
@@ -103,7 +105,8 @@ abbrev pub IsDoneBy : Setting → Hold → Work → ℕ → List ℕ → Stage �
 IsDoneBy c h (work.Write slot word reply) number words at later = (at ≡ Unlock h (Some (Value reply))) × (later ≡ slice_set words slot word)
 IsDoneBy c h (work.Pair p) number words at later =
     IsRefusal c h Four number words at later ⊎ ((number < rows_of c.shape Four) × (at ≡ Unlock h (Some no_value))
-    × PairHangs c.shape words later (base_of c.shape Four number) p.slot p.level (take p.level (key_bytes (key_of c.call))) (old_child p) (new_child c p))
+    × PairHangs c.shape words later (base_of c.shape Four number) p.slot p.level (take p.level (key_bytes (key_of c.call)))
+        (old_child p) (new_child c p))
 IsDoneBy c h (work.Put keys) number words at later =
     (at ≡ Unlock h (Some no_value)) × HasPut c.shape words later h.row.base h.row.kind (byte_in c h.row) (new_leaf c.call)
 IsDoneBy c h (work.Grow slot keys) number words at later =

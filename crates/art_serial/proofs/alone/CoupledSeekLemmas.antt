@@ -12,7 +12,8 @@ use Rattle.art_rows.specs.Words.{is_locked, is_obsolete, locked_word, released_w
 use Rattle.art_rows.proofs.KindLemmas.{two-words}
 use Rattle.art_rows.proofs.ByteLemmas.{key_byte-small}
 use Rattle.art_steps.specs.Steps.{Part, ◌>>=◌, ◌>>◌, give, load}
-use Rattle.art_steps.specs.Rows.{Setting, Row, key_of, byte_at, releases_early, row_of, root_row, path_differs_at, lock, unlock, find, Has, Lacks}
+use Rattle.art_steps.specs.Rows.{Setting, Row, key_of, byte_at, releases_early, row_of, root_row, path_differs_at, lock, unlock, find, Has}
+use Rattle.art_steps.specs.Rows.{Lacks}
 use Rattle.art_steps.specs.Updates.{overwriting}
 use Rattle.art_steps.specs.Coupled.{overwrite, seek_below, step_down, seek_at, seek_from, seek}
 use Rattle.art_steps.proofs.GuardLemmas.{seek_from-body}
@@ -21,7 +22,8 @@ use Rattle.art_core.specs.Forms.{level_in}
 use Rattle.art_serial.specs.trees.Trees.{IsAtRest, LeadsTo}
 use Rattle.art_serial.specs.alone.Alone.{Comes}
 use Rattle.art_serial.specs.alone.Finding.{keys_in_row, count_in_row, found_of_slot}
-use Rattle.art_serial.proofs.alone.AloneLemmas.{give-comes, bind-comes, then-comes, if_true-comes, if_false-comes, same-comes, load-comes, store-comes}
+use Rattle.art_serial.proofs.alone.AloneLemmas.{give-comes, bind-comes, then-comes, if_true-comes, if_false-comes, same-comes, load-comes}
+use Rattle.art_serial.proofs.alone.AloneLemmas.{store-comes}
 use Rattle.art_serial.proofs.alone.RowRunLemmas.{with_lock, lock-comes, unlock-comes}
 use Rattle.art_serial.proofs.alone.FindingLemmas.{find-comes}
 use Rattle.art_serial.proofs.alone.SlotLemmas.{slot-is, found-same}
@@ -49,10 +51,12 @@ module _ (c : Setting) (n : ℕ) (words : List ℕ) (rest : IsAtRest c.shape n w
   abbrev released : Row → List ℕ → List ℕ
   released r now = slice_set now r.base (released_word r.kept)
 
-  release : {target now : List ℕ} {kind : Kind} (r : Row) → is_locked r.kept ≡ false → is_obsolete r.kept ≡ false → Reached c.shape words r.base kind
+  release : {target now : List ℕ} {kind : Kind} (r : Row) → is_locked r.kept ≡ false → is_obsolete r.kept ≡ false
+      → Reached c.shape words r.base kind
       → Like c.shape words target now (λ w. w ≡ r.base) → Like c.shape words target (released r now) Nothing
   release r free live reached like =
-      like-version c.shape n words rest {held2 = Nothing} (released_word r.kept) like reached (released-small r.kept) (released-live r.kept live)
+      like-version c.shape n words rest {held2 = Nothing} (released_word r.kept) like reached (released-small r.kept)
+          (released-live r.kept live)
       (λ no_one. released-free r.kept free) (λ w h ne. ne h)
 
   -- the row is unlocked, and the key is not there
@@ -87,7 +91,8 @@ module _ (c : Setting) (n : ℕ) (words : List ℕ) (rest : IsAtRest c.shape n w
   overwrite-comes slot None now = give-comes tt now
   overwrite-comes slot (Some word) now = store-comes slot word now
 
-  writes : (r : Row) (now : List ℕ) (a : IsAt r now) (slot : ℕ) → slot_of words r.base r.kind (byte_at c r.level) ≡ Some slot → (o : Option ℕ)
+  writes : (r : Row) (now : List ℕ) (a : IsAt r now) (slot : ℕ)
+      → slot_of words r.base r.kind (byte_at c r.level) ≡ Some slot → (o : Option ℕ)
       → ((word : ℕ) → o ≡ Some word → word < 18446744073709551616)
       → Writes c.shape words (released r (overwritten o slot now)) r.base r.kind (byte_at c r.level) o
   unfolding overwritten
@@ -151,9 +156,11 @@ module _ (c : Setting) (n : ℕ) (words : List ℕ) (rest : IsAtRest c.shape n w
   info-comes {now} {held} {m} {k} v like reached =
       subst (λ (w : ℕ). Comes (load (info_at m) >>= λ info. give (row_of m k info v)) now (row_of m k w v) now)
       (like-row c.shape n words rest like reached 1 (omega arith) (two-words k))
-      (bind-comes {f = λ info. give (row_of m k info v)} (load-comes (info_at m) now) (give-comes (row_of m k (slice_index now (info_at m)) v) now))
+      (bind-comes {f = λ info. give (row_of m k info v)} (load-comes (info_at m) now)
+          (give-comes (row_of m k (slice_index now (info_at m)) v) now))
 
-  down : (r : Row) (now : List ℕ) (a : IsAt r now) (m : ℕ) (k : Kind) → child_on c.shape words r.base r.kind (byte_at c r.level) ≡ ChildRow m k
+  down : (r : Row) (now : List ℕ) (a : IsAt r now) (m : ℕ) (k : Kind)
+      → child_on c.shape words r.base r.kind (byte_at c r.level) ≡ ChildRow m k
       → Reached c.shape words m k → StepsDown r now m k
   unfolding step_down
   down r now a m k at reached = go (releases_early c.variant) refl
@@ -175,9 +182,11 @@ module _ (c : Setting) (n : ℕ) (words : List ℕ) (rest : IsAtRest c.shape n w
           record {
             version = v;
             later = with_lock (released r now) m;
-            comes = if_true-comes coupled e (then-comes {n = lock c.shape m >>= λ v. load (info_at m) >>= λ info. give (row_of m k info v)} (unlock-comes r now)
+            comes = if_true-comes coupled e (then-comes {n = lock c.shape m >>= λ v. load (info_at m) >>= λ info. give (row_of m k info v)}
+                (unlock-comes r now)
                 (bind-comes {f = λ v. load (info_at m) >>= λ info. give (row_of m k info v)}
-                (lock-comes c.shape m (released r now) (like-free c.shape n words rest free_now reached (λ h. h))) (info-comes v held reached)));
+                (lock-comes c.shape m (released r now) (like-free c.shape n words rest free_now reached (λ h. h)))
+                    (info-comes v held reached)));
             like = held;
             free = like-free c.shape n words rest free_now reached (λ h. h);
             live = like-live c.shape n words rest free_now reached;
@@ -193,7 +202,8 @@ module _ (c : Setting) (n : ℕ) (words : List ℕ) (rest : IsAtRest c.shape n w
             later = released r (with_lock now m);
             comes = if_false-comes early e (bind-comes {f = λ v. unlock r >> (load (info_at m) >>= λ info. give (row_of m k info v))}
                 (lock-comes c.shape m now (like-free c.shape n words rest a.like reached other))
-                (then-comes {n = load (info_at m) >>= λ info. give (row_of m k info v)} (unlock-comes r (with_lock now m)) (info-comes v one reached)));
+                (then-comes {n = load (info_at m) >>= λ info. give (row_of m k info v)} (unlock-comes r (with_lock now m))
+                    (info-comes v one reached)));
             like = one;
             free = like-free c.shape n words rest a.like reached other;
             live = like-live c.shape n words rest a.like reached;
@@ -263,7 +273,8 @@ module _ (c : Setting) (n : ℕ) (words : List ℕ) (rest : IsAtRest c.shape n w
   -- ---- the whole way
 
   child : (fuel : ℕ) → SeeksFrom fuel → (r : Row) (now : List ℕ) (a : IsAt r now) → 4 ≤ suc fuel + r.level → (slot : ℕ)
-      → slot_of words r.base r.kind (byte_at c r.level) ≡ Some slot → (child : Child) → child_on c.shape words r.base r.kind (byte_at c r.level) ≡ child
+      → slot_of words r.base r.kind (byte_at c r.level) ≡ Some slot → (child : Child)
+      → child_on c.shape words r.base r.kind (byte_at c r.level) ≡ child
       → Seeks c.shape words c.call (seek_at c (seek_from c) r (Has slot child)) now
   unfolding seek_at
   child fuel more r now a enough slot e Empty at = none r now a Empty at (λ like. (refl, like))
@@ -289,7 +300,8 @@ module _ (c : Setting) (n : ℕ) (words : List ℕ) (rest : IsAtRest c.shape n w
 
       finds : Comes (find c r) now (found_of_slot c.shape words keys count (slot_of words r.base r.kind x)) now
       finds = subst (λ f. Comes (find c r) now f now)
-          (found-same words now r.base c r.kind x (key_byte-small key r.level) (like-row c.shape n words rest a.like a.leads.reached)) (find-comes c r now)
+          (found-same words now r.base c r.kind x (key_byte-small key r.level) (like-row c.shape n words rest a.like a.leads.reached))
+              (find-comes c r now)
 
       lacks : slot_of words r.base r.kind x ≡ None → Seeks c.shape words c.call (unlock r >> give reply.None) now
       lacks e = none r now a Empty (ap (λ o. child_in c.shape words o) e) (λ like. (refl, like))
@@ -335,7 +347,8 @@ module _ (c : Setting) (n : ℕ) (words : List ℕ) (rest : IsAtRest c.shape n w
       unlocked : is_locked (slice_index words (root_base c.shape)) ≡ false
       unlocked = like-free c.shape n words rest {kind = Full} nothing root (λ h. h)
 
-      leads : (level_in words (root_base c.shape) Full ≡ 0) × LeadsTo c.shape words key (root_base c.shape) Full (slice_index (key_bytes key) 0)
+      leads : (level_in words (root_base c.shape) Full ≡ 0)
+          × LeadsTo c.shape words key (root_base c.shape) Full (slice_index (key_bytes key) 0)
       leads = leads-root c.shape n words rest key
 
       s : Seeks c.shape words c.call (seek_from c (root_row c v)) (with_lock words (root_base c.shape))

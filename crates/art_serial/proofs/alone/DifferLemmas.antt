@@ -25,6 +25,7 @@ keys-differ k key small little other = go (first_difference (key_bytes k) (key_b
         let d : key % 256 ≡ k % 256 = heads (tails (tails (tails e))) in
         omega (arith, a, b, c, d, small, little)
 
-    go : (o : Option ℕ) → first_difference (key_bytes k) (key_bytes key) ≡ o → first_difference (key_bytes k) (key_bytes key) ≡ Some (keys_differ_at k key)
+    go : (o : Option ℕ) → first_difference (key_bytes k) (key_bytes key) ≡ o
+        → first_difference (key_bytes k) (key_bytes key) ≡ Some (keys_differ_at k key)
     go None e = absurd (other (one (same-beginning (key_bytes k) (key_bytes key) e (omega arith))))
     go (Some d) e = e ∙ ap Some (sym (ap (λ o. unwrap_or o 0) e))

@@ -84,7 +84,8 @@ module _ (s : Shape) (n : ℕ) (words : List ℕ) (rest : IsAtRest s n words) wh
       go w false e = other w (eqb-false w base e) (like.word w)
 
   -- a word of a row that is reached, other than its version, is no version
-  pub behind : {target now : List ℕ} {held : ℕ → Type 0} {base : ℕ} {kind : Kind} → Like s words target now held → Reached s words base kind → (j : ℕ) → 1 ≤ j
+  pub behind : {target now : List ℕ} {held : ℕ → Type 0} {base : ℕ} {kind : Kind} → Like s words target now held
+      → Reached s words base kind → (j : ℕ) → 1 ≤ j
       → j < row_words kind → slice_index now (base + j) ≡ slice_index target (base + j)
   behind {target} {now} {held} {base} {kind} like reached j low high = go (like.word (base + j))
     where
@@ -97,7 +98,8 @@ module _ (s : Shape) (n : ℕ) (words : List ℕ) (rest : IsAtRest s n words) wh
           absurd (omega (arith, places, low))
 
   -- a child's word is set
-  pub like-slot : {now : List ℕ} {held : ℕ → Type 0} {base slot : ℕ} {kind : Kind} (value : ℕ) → Like s words words now held → Reached s words base kind
+  pub like-slot : {now : List ℕ} {held : ℕ → Type 0} {base slot : ℕ} {kind : Kind} (value : ℕ) → Like s words words now held
+      → Reached s words base kind
       → IsChildWord base kind slot → value < 18446744073709551616
       → Like s words (slice_set words slot value) (slice_set now slot value) held
   like-slot {now} {held} {base} {slot} {kind} value like reached at little = record {
@@ -110,19 +112,24 @@ module _ (s : Shape) (n : ℕ) (words : List ℕ) (rest : IsAtRest s n words) wh
       inside = omega (arith, (sits-inside s base at.place kind (sits reached) at.high).1, at.is)
 
       here : slice_index (slice_set now slot value) slot ≡ slice_index (slice_set words slot value) slot
-      here = get_or-set_same now slot value 0 (omega (arith, inside, like.long)) ∙ sym (get_or-set_same words slot value 0 (omega (arith, inside, rest.long)))
+      here = get_or-set_same now slot value 0 (omega (arith, inside, like.long))
+          ∙ sym (get_or-set_same words slot value 0 (omega (arith, inside, rest.long)))
 
       other : (w : ℕ) → (w ≡ slot → ⊥) → (slice_index now w ≡ slice_index words w) ⊎ IsVersion s words now held w
-          → (slice_index (slice_set now slot value) w ≡ slice_index (slice_set words slot value) w) ⊎ IsVersion s words (slice_set now slot value) held w
+          → (slice_index (slice_set now slot value) w ≡ slice_index (slice_set words slot value) w)
+          ⊎ IsVersion s words (slice_set now slot value) held w
       other w ne (inl e) = inl (get_or-set_other now slot w value 0 ne ∙ (e ∙ sym (get_or-set_other words slot w value 0 ne)))
       other w ne (inr v) =
           let same : slice_index (slice_set now slot value) w ≡ slice_index now w = get_or-set_other now slot w value 0 ne in
-          inr (record { kind = v.kind; reached = v.reached; live = ap is_obsolete same ∙ v.live; free = λ no_one. ap is_locked same ∙ v.free no_one })
+          inr (record { kind = v.kind; reached = v.reached; live = ap is_obsolete same ∙ v.live; free = λ no_one. ap is_locked same
+              ∙ v.free no_one })
 
       go : (w : ℕ) (b : Bool) → (w == slot) ≡ b
-          → (slice_index (slice_set now slot value) w ≡ slice_index (slice_set words slot value) w) ⊎ IsVersion s words (slice_set now slot value) held w
+          → (slice_index (slice_set now slot value) w ≡ slice_index (slice_set words slot value) w)
+          ⊎ IsVersion s words (slice_set now slot value) held w
       go w true e =
-          inl (subst (λ (w : ℕ). slice_index (slice_set now slot value) w ≡ slice_index (slice_set words slot value) w) (sym (eqb-true w slot e)) here)
+          inl (subst (λ (w : ℕ). slice_index (slice_set now slot value) w ≡ slice_index (slice_set words slot value) w)
+              (sym (eqb-true w slot e)) here)
       go w false e = other w (eqb-false w slot e) (like.word w)
 
   -- ---- what they say
@@ -131,7 +138,8 @@ module _ (s : Shape) (n : ℕ) (words : List ℕ) (rest : IsAtRest s n words) wh
       → SameRow words now base kind
   like-row like reached = λ j low high. behind like reached j low high
 
-  pub like-free : {now : List ℕ} {held : ℕ → Type 0} {base : ℕ} {kind : Kind} → Like s words words now held → Reached s words base kind → (held base → ⊥)
+  pub like-free : {now : List ℕ} {held : ℕ → Type 0} {base : ℕ} {kind : Kind} → Like s words words now held
+      → Reached s words base kind → (held base → ⊥)
       → is_locked (slice_index now base) ≡ false
   like-free {now} {held} {base} {kind} like reached no_one = go (like.word base)
     where
@@ -160,12 +168,14 @@ module _ (s : Shape) (n : ℕ) (words : List ℕ) (rest : IsAtRest s n words) wh
 
     elsewhere : {b : ℕ} {k : Kind} → Reached s words b k → (j : ℕ) → j < row_words k → b + j ≡ slot → (b ≡ base) × (j ≡ is-slot.place)
     elsewhere {b} {k} r j high e =
-        let (kinds, numbers, bases, places) = sits-part s b base j is-slot.place k kind (sits r) (sits reached) high is-slot.high (e ∙ is-slot.is) in
+        let (kinds, numbers, bases, places) = sits-part s b base j is-slot.place k kind (sits r) (sits reached) high is-slot.high
+            (e ∙ is-slot.is) in
         (bases, places)
 
     same-keys : SameKeys words later base kind
     same-keys j low high =
-        untouched reached j low (keys-within kind j high) λ e. omega (arith, (elsewhere reached j (keys-within kind j high) e).1, is-slot.low, high)
+        untouched reached j low (keys-within kind j high) λ e. omega
+            (arith, (elsewhere reached j (keys-within kind j high) e).1, is-slot.low, high)
 
     pub slot-changes : HasForm words base kind → (child : Child) → child_of s value ≡ child → ChangesAt s words later base kind x child
     slot-changes form child is = record {

@@ -52,7 +52,8 @@ module _ (c : Setting) (n : ℕ) (words : List ℕ) (rest : IsAtRest c.shape n w
 
   -- the key is not there
   none : (r : Row) (a : IsAt r) → (child : Child) → child_on c.shape words r.base r.kind (byte_at c r.level) ≡ child
-      → EndsAt c.shape words c.call reply.None words r.base r.kind (byte_at c r.level) child → Seeks c.shape words c.call (give reply.None) words
+      → EndsAt c.shape words c.call reply.None words r.base r.kind (byte_at c r.level) child
+      → Seeks c.shape words c.call (give reply.None) words
   none r a child at ended = record {
     reply = reply.None;
     later = words;
@@ -115,7 +116,8 @@ module _ (c : Setting) (n : ℕ) (words : List ℕ) (rest : IsAtRest c.shape n w
   leaf r a slot k value e at = go (k == key) refl
     where
       go : (b : Bool) → (k == key) ≡ b
-          → Seeks c.shape words c.call (if b then (overwrite c r slot (overwriting c.call value) >> give (reply.Some value)) else give reply.None) words
+          → Seeks c.shape words c.call (if b then (overwrite c r slot (overwriting c.call value) >> give
+              (reply.Some value)) else give reply.None) words
       go false other = none r a (Leaf k value) at (inr (eqb-false k key other, refl, nothing))
       go true same =
           let o = overwrites r a slot e (overwriting c.call value) (small value) in
@@ -141,7 +143,8 @@ module _ (c : Setting) (n : ℕ) (words : List ℕ) (rest : IsAtRest c.shape n w
       → Comes (step_down c r m k) words (row_of m k (slice_index words (info_at m)) (slice_index words m)) words
   unfolding step_down
   down-comes r m k kept reached =
-      bind-comes {f = λ v. check_of c r >> (load (info_at m) >>= λ info. give (row_of m k info v))} (wait-comes m words (free-at reached) (live-at reached))
+      bind-comes {f = λ v. check_of c r >> (load (info_at m) >>= λ info. give (row_of m k info v))}
+          (wait-comes m words (free-at reached) (live-at reached))
       (then-comes {n = load (info_at m) >>= λ info. give (row_of m k info (slice_index words m))} (check_of-comes c r words kept)
       (bind-comes {f = λ info. give (row_of m k info (slice_index words m))} (load-comes (info_at m) words)
       (give-comes (row_of m k (slice_index words (info_at m)) (slice_index words m)) words)))
@@ -176,7 +179,8 @@ module _ (c : Setting) (n : ℕ) (words : List ℕ) (rest : IsAtRest c.shape n w
 
       go : (o : Option ℕ) → path_differs_at c found ≡ o
           → Seeks c.shape words c.call (step_down c r m k >>= λ q. seek_below c (seek_from c) q (path_differs_at c q)) words
-      go None e = after None e (more found (record { level = refl; leads = leads-below c.shape n words rest a.leads byte at e; kept = refl })
+      go None e = after None e (more found (record { level = refl; leads = leads-below c.shape n words rest a.leads byte
+          at e; kept = refl })
           (omega (arith, enough, deeper)))
       go (Some i) e = after (Some i) e (record {
         reply = reply.None;
@@ -197,7 +201,8 @@ module _ (c : Setting) (n : ℕ) (words : List ℕ) (rest : IsAtRest c.shape n w
   -- ---- the whole way
 
   child : (fuel : ℕ) → SeeksFrom fuel → (r : Row) (a : IsAt r) → 4 ≤ suc fuel + r.level → (slot : ℕ)
-      → slot_of words r.base r.kind (byte_at c r.level) ≡ Some slot → (child : Child) → child_on c.shape words r.base r.kind (byte_at c r.level) ≡ child
+      → slot_of words r.base r.kind (byte_at c r.level) ≡ Some slot → (child : Child)
+      → child_on c.shape words r.base r.kind (byte_at c r.level) ≡ child
       → Seeks c.shape words c.call (seek_at c (seek_from c) r (Has slot child)) words
   unfolding seek_at
   child fuel more r a enough slot e Empty at = none r a Empty at (refl, nothing)
@@ -227,7 +232,8 @@ module _ (c : Setting) (n : ℕ) (words : List ℕ) (rest : IsAtRest c.shape n w
       after o e s = record {
         reply = s.reply;
         later = s.later;
-        comes = same-comes (seek_from_optimistic-body c r) (bind-comes {f = λ found. check_of c r >> seek_at c (seek_from c) r found} (find-comes c r words)
+        comes = same-comes (seek_from_optimistic-body c r)
+            (bind-comes {f = λ found. check_of c r >> seek_at c (seek_from c) r found} (find-comes c r words)
             (then-comes {n = seek_at c (seek_from c) r (found_of_slot c.shape words keys count (slot_of words r.base r.kind x))}
             (check_of-comes c r words a.kept)
             (subst (λ o. Comes (seek_at c (seek_from c) r (found_of_slot c.shape words keys count o)) words s.reply s.later) (sym e)
@@ -259,7 +265,8 @@ module _ (c : Setting) (n : ℕ) (words : List ℕ) (rest : IsAtRest c.shape n w
       v : ℕ
       v = slice_index words (root_base c.shape)
 
-      leads : (level_in words (root_base c.shape) Full ≡ 0) × LeadsTo c.shape words key (root_base c.shape) Full (slice_index (key_bytes key) 0)
+      leads : (level_in words (root_base c.shape) Full ≡ 0)
+          × LeadsTo c.shape words key (root_base c.shape) Full (slice_index (key_bytes key) 0)
       leads = leads-root c.shape n words rest key
 
       s : Seeks c.shape words c.call (seek_from c (root_row c v)) words

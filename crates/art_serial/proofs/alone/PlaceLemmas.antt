@@ -1,5 +1,6 @@
 -- Rows of a table lie apart from one another and from the words before them.
-use Rattle.std.proofs.Common.{◌≡◌, ℕ, ◌+◌, ◌-◌, ◌*◌, ◌/◌, ◌<◌, ◌≤◌, Option, Some, None, Bool, true, false, refl, sym, ap, ◌∙◌, subst, arith, if◌then◌else◌}
+use Rattle.std.proofs.Common.{◌≡◌, ℕ, ◌+◌, ◌-◌, ◌*◌, ◌/◌, ◌<◌, ◌≤◌, Option, Some, None, Bool, true, false, refl, sym, ap, ◌∙◌, subst, arith}
+use Rattle.std.proofs.Common.{if◌then◌else◌}
 use Rattle.art_rows.specs.declared.table.Shape.{Shape}
 use Rattle.art_rows.specs.declared.table.Kind.{Kind}
 use Rattle.art_rows.specs.declared.table.Kind.TheVariants.{Four, Sixteen, FortyEight, Full}
@@ -38,10 +39,12 @@ rows-part s Full Sixteen m n i j lm ln li lj e = absurd (omega (arith, lm, ln, l
 rows-part s Full FortyEight m n i j lm ln li lj e = absurd (omega (arith, lm, ln, li, lj, e))
 
 -- the same of rows that sit
-pub sits-part : (s : Shape) (a b i j : ℕ) (k l : Kind) → (x : Sits s a k) → (y : Sits s b l) → i < row_words k → j < row_words l → a + i ≡ b + j
+pub sits-part : (s : Shape) (a b i j : ℕ) (k l : Kind) → (x : Sits s a k) → (y : Sits s b l) → i < row_words k
+    → j < row_words l → a + i ≡ b + j
     → (k ≡ l) × (x.number ≡ y.number) × (a ≡ b) × (i ≡ j)
 sits-part s a b i j k l x y li lj e =
-    let (kinds, numbers, places) = rows-part s k l x.number y.number i j x.low y.low li lj (ap (λ n. n + i) (sym x.is) ∙ (e ∙ ap (λ n. n + j) y.is)) in
+    let (kinds, numbers, places) = rows-part s k l x.number y.number i j x.low y.low li lj (ap (λ n. n + i) (sym x.is)
+        ∙ (e ∙ ap (λ n. n + j) y.is)) in
     (kinds, numbers, x.is ∙ (ap (λ n. base_of s k n) numbers ∙ (ap (λ q. base_of s q y.number) kinds ∙ sym y.is)), places)
 
 -- ---- in the table, behind the counts of claims
@@ -83,13 +86,15 @@ kind_at-sits s base kind e = four (is_base_of s Four base) refl e
     forty_eight false t h = full (is_base_of s Full base) refl h
 
     sixteen : (b : Bool) → is_base_of s Sixteen base ≡ b
-        → (if b then Some Sixteen else if is_base_of s FortyEight base then Some FortyEight else if is_base_of s Full base then Some Full else None) ≡
+        → (if b then Some Sixteen else if is_base_of s FortyEight base then Some FortyEight else if is_base_of s Full
+            base then Some Full else None) ≡
         Some kind → Sits s base kind
     sixteen true t h = subst (λ k. Sits s base k) (some_same h) (is_base-sits s Sixteen base t)
     sixteen false t h = forty_eight (is_base_of s FortyEight base) refl h
 
     four : (b : Bool) → is_base_of s Four base ≡ b
-        → (if b then Some Four else if is_base_of s Sixteen base then Some Sixteen else if is_base_of s FortyEight base then Some FortyEight else if
+        → (if b then Some Four else if is_base_of s Sixteen base then Some Sixteen else if is_base_of s FortyEight base then Some
+            FortyEight else if
         is_base_of s Full base then Some Full else None) ≡ Some kind
         → Sits s base kind
     four true t h = subst (λ k. Sits s base k) (some_same h) (is_base-sits s Four base t)
@@ -101,7 +106,8 @@ pub sits-kind_at : (s : Shape) (base : ℕ) (kind : Kind) → Sits s base kind �
 sits-kind_at s base kind x = go kind x (ap (λ b. is_base_of s kind b) x.is ∙ is_base s kind x.number x.low)
   where
     other : (k l : Kind) → (k ≡ l → ⊥) → Sits s base l → (b : Bool) → is_base_of s k base ≡ b → is_base_of s k base ≡ false
-    other k l apart y true e = absurd (apart (sits-part s base base 0 0 k l (is_base-sits s k base e) y (some_words k) (some_words l) refl).0)
+    other k l apart y true e = absurd (apart (sits-part s base base 0 0 k l (is_base-sits s k base e) y (some_words k)
+        (some_words l) refl).0)
       where
         some_words : (q : Kind) → 0 < row_words q
         some_words Four = omega arith
@@ -129,9 +135,11 @@ sits-kind_at s base kind x = go kind x (ap (λ b. is_base_of s kind b) x.is ∙ 
     full_48 e = cc
 
     go : (k : Kind) → Sits s base k → is_base_of s k base ≡ true → kind_at s base ≡ Some k
-    go Four y e = ap (λ b. if b then Some Four else if is_base_of s Sixteen base then Some Sixteen else if is_base_of s FortyEight base then Some FortyEight
+    go Four y e = ap (λ b. if b then Some Four else if is_base_of s Sixteen base then Some Sixteen else if is_base_of s FortyEight
+        base then Some FortyEight
         else if is_base_of s Full base then Some Full else None) e
-    go Sixteen y e = ap (λ b. if b then Some Four else if is_base_of s Sixteen base then Some Sixteen else if is_base_of s FortyEight base then Some FortyEight
+    go Sixteen y e = ap (λ b. if b then Some Four else if is_base_of s Sixteen base then Some Sixteen else if is_base_of s FortyEight
+        base then Some FortyEight
         else if is_base_of s Full base then Some Full else None) (other Four Sixteen four_sixteen y (is_base_of s Four base) refl)
         ∙ ap (λ b. if b then Some Sixteen else if is_base_of s FortyEight base then Some FortyEight
         else if is_base_of s Full base then Some Full else None) e
@@ -141,7 +149,8 @@ sits-kind_at s base kind x = go kind x (ap (λ b. is_base_of s kind b) x.is ∙ 
         ∙ (ap (λ b. if b then Some Sixteen else if is_base_of s FortyEight base then Some FortyEight
         else if is_base_of s Full base then Some Full else None) (other Sixteen FortyEight sixteen_48 y (is_base_of s Sixteen base) refl)
         ∙ ap (λ b. if b then Some FortyEight else if is_base_of s Full base then Some Full else None) e)
-    go Full y e = ap (λ b. if b then Some Four else if is_base_of s Sixteen base then Some Sixteen else if is_base_of s FortyEight base then Some FortyEight
+    go Full y e = ap (λ b. if b then Some Four else if is_base_of s Sixteen base then Some Sixteen else if is_base_of s FortyEight
+        base then Some FortyEight
         else if is_base_of s Full base then Some Full else None) (other Four Full four_full y (is_base_of s Four base) refl)
         ∙ (ap (λ b. if b then Some Sixteen else if is_base_of s FortyEight base then Some FortyEight
         else if is_base_of s Full base then Some Full else None) (other Sixteen Full sixteen_full y (is_base_of s Sixteen base) refl)

@@ -1,7 +1,8 @@
 -- Words that differ from those at rest by versions of unlocked live rows and inside of rows are at rest again, if their rows are the same.
 use Rattle.std.proofs.Common.{length, All, Bool, true, ◌==◌, eqb-true}
 use Rattle.std.proofs.lemmas.Bool.{eqb-false}
-use Rattle.std.proofs.Common.{◌≡◌, ◌⊎◌, inl, inr, ℕ, ◌+◌, ◌-◌, ◌<◌, ◌≤◌, List, slice_index, slice_set, Some, false, refl, sym, ap, ◌∙◌, subst, arith}
+use Rattle.std.proofs.Common.{◌≡◌, ◌⊎◌, inl, inr, ℕ, ◌+◌, ◌-◌, ◌<◌, ◌≤◌, List, slice_index, slice_set, Some, false, refl, sym, ap, ◌∙◌}
+use Rattle.std.proofs.Common.{subst, arith}
 use Rattle.std.proofs.lemmas.List.{get_or-set_other}
 use Rattle.map_object.specs.MapObject.{Contents}
 use Rattle.art_rows.specs.declared.table.Shape.{Shape}
@@ -38,7 +39,8 @@ module _ (s : Shape) (n : ℕ) (words : List ℕ) (rest : IsAtRest s n words) wh
       low : (k : Kind) → 2 ≤ first_child k
       low k = grind arith
 
-      go : (b : Bool) → (w == slot) ≡ b → (slice_index later w ≡ slice_index (slice_set words slot value) w) ⊎ IsVersion s words later Nothing w
+      go : (b : Bool) → (w == slot) ≡ b → (slice_index later w ≡ slice_index (slice_set words slot value) w)
+          ⊎ IsVersion s words later Nothing w
           → Settles later w
       go b is (inr v) = inr (inl v)
       go true is (inl e) = inr (inr (base, kind, at.place, reached, omega (arith, at.low, low kind), at.high, eqb-true w slot is ∙ at.is))
@@ -67,7 +69,8 @@ module _ (s : Shape) (n : ℕ) (words : List ℕ) (rest : IsAtRest s n words) wh
     -- a row's base is not inside of a row
     base-out : (b : ℕ) (k : Kind) → Sits s b k → IsInside b → ⊥
     base-out b k x (c, l, j, r, low, high, is) =
-        let (kinds, numbers, bases, places) = sits-part s b c 0 j k l x (sits s n words rest r) (omega (arith, two-words k)) high (omega (arith, is)) in
+        let (kinds, numbers, bases, places) = sits-part s b c 0 j k l x (sits s n words rest r) (omega (arith, two-words k)) high
+            (omega (arith, is)) in
         omega (arith, places, low)
 
     behind-claims : (k l : Kind) (b : ℕ) → Reached s words b l → claims_of k < b
@@ -104,7 +107,8 @@ module _ (s : Shape) (n : ℕ) (words : List ℕ) (rest : IsAtRest s n words) wh
         offset : (a b : ℕ) → a ≤ b → (i : ℕ) × (b ≡ a + i)
         offset a b le = (b - a, omega (arith, le))
 
-        unlocked : (b : ℕ) (k : Kind) → kind_at s b ≡ Some k → (slice_index later b ≡ slice_index words b) ⊎ IsVersion s words later Nothing b
+        unlocked : (b : ℕ) (k : Kind) → kind_at s b ≡ Some k → (slice_index later b ≡ slice_index words b)
+            ⊎ IsVersion s words later Nothing b
             → is_locked (slice_index later b) ≡ false
         unlocked b k is (inl e) = ap is_locked e ∙ rest.unlocked b k is
         unlocked b k is (inr v) = v.free (λ h. h)

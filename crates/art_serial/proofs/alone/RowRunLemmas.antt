@@ -8,14 +8,17 @@ use Rattle.art_rows.specs.Table.{rows_of, claims_of, base_of}
 use Rattle.art_rows.specs.Words.{is_locked, is_obsolete, locked_word, released_word, obsolete_word}
 use Rattle.art_steps.specs.declared.access.Point.TheVariants as point
 use Rattle.art_steps.specs.Steps.{Part, ◌>>=◌, ◌>>◌, give, start_again, answer, exchange, first_at}
-use Rattle.art_steps.specs.Rows.{Setting, Row, leaves_out_check, takes_unchecked, lock_point, lock_again, lock, unlock, unlock_obsolete, unlock_all, wait}
+use Rattle.art_steps.specs.Rows.{Setting, Row, leaves_out_check, takes_unchecked, lock_point, lock_again, lock, unlock, unlock_obsolete}
+use Rattle.art_steps.specs.Rows.{unlock_all, wait}
 use Rattle.art_steps.specs.Rows.{check}
 use Rattle.art_steps.specs.Rows.{check_of, take_row, claim}
 use Rattle.art_steps.proofs.GuardLemmas.{lock_turn, lock_again-body, wait_turn, wait-body}
 use Rattle.art_serial.specs.alone.Alone.{Comes, Ends}
-use Rattle.art_serial.proofs.alone.AloneLemmas.{give-comes, answer-ends, bind-comes, bind-ends, then-ends, if_true-comes, if_false-comes, if_false-ends}
+use Rattle.art_serial.proofs.alone.AloneLemmas.{give-comes, answer-ends, bind-comes, bind-ends, then-ends, if_true-comes, if_false-comes}
+use Rattle.art_serial.proofs.alone.AloneLemmas.{if_false-ends}
 use Rattle.art_serial.proofs.alone.AloneLemmas.{same-comes}
-use Rattle.art_serial.proofs.alone.AloneLemmas.{load-comes, load_at-comes, store_at-comes, exchange-comes, add-comes, first_at-comes, each_none-comes}
+use Rattle.art_serial.proofs.alone.AloneLemmas.{load-comes, load_at-comes, store_at-comes, exchange-comes, add-comes, first_at-comes}
+use Rattle.art_serial.proofs.alone.AloneLemmas.{each_none-comes}
 use Rattle.art_serial.proofs.alone.AloneLemmas.{each-comes}
 
 -- ---- locks
@@ -31,7 +34,8 @@ lock_again-comes base words e =
     let v = slice_index words base in
     same-comes (lock_again-body base) (bind-comes {f = λ v. if is_locked v then lock_again base
     else (exchange base v (locked_word v) >>= λ was. if was == v then give v else lock_again base)} (load-comes base words)
-    (if_false-comes (lock_again base) e (bind-comes {f = λ was. if was == v then give v else lock_again base} (exchange-comes base v (locked_word v) words refl)
+    (if_false-comes (lock_again base) e (bind-comes {f = λ was. if was == v then give v else lock_again base}
+        (exchange-comes base v (locked_word v) words refl)
     (if_true-comes (lock_again base) (eq-eqb v v refl) (give-comes v (with_lock words base))))))
 
 unfoldable pub lock-comes : (s : Shape) (base : ℕ) (words : List ℕ) → is_locked (slice_index words base) ≡ false
@@ -40,7 +44,8 @@ unfolding lock
 lock-comes s base words e = first_at-comes (lock_point s base) (lock_again-comes base words e)
 
 -- a load and an exchange
-pub lock-steps : (s : Shape) (base : ℕ) (words : List ℕ) (e : is_locked (slice_index words base) ≡ false) → (lock-comes s base words e).steps ≡ 2
+pub lock-steps : (s : Shape) (base : ℕ) (words : List ℕ) (e : is_locked (slice_index words base) ≡ false)
+    → (lock-comes s base words e).steps ≡ 2
 unfolding lock-comes lock_again-comes first_at-comes same-comes bind-comes if_true-comes if_false-comes load-comes exchange-comes give-comes
 lock-steps s base words e = refl
 
@@ -65,7 +70,8 @@ unlock_all-comes (n ∷ rows) words =
 
 -- ---- versions
 
-unfoldable pub wait-comes : (base : ℕ) (words : List ℕ) → is_locked (slice_index words base) ≡ false → is_obsolete (slice_index words base) ≡ false
+unfoldable pub wait-comes : (base : ℕ) (words : List ℕ) → is_locked (slice_index words base) ≡ false
+    → is_obsolete (slice_index words base) ≡ false
     → Comes (wait base) words (slice_index words base) words
 unfolding wait_turn
 wait-comes base words e f =
@@ -74,7 +80,8 @@ wait-comes base words e f =
     (if_false-comes (wait base) e (if_false-comes start_again f (give-comes (slice_index words base) words))))
 
 -- a load
-pub wait-steps : (base : ℕ) (words : List ℕ) (e : is_locked (slice_index words base) ≡ false) (f : is_obsolete (slice_index words base) ≡ false)
+pub wait-steps : (base : ℕ) (words : List ℕ) (e : is_locked (slice_index words base) ≡ false)
+    (f : is_obsolete (slice_index words base) ≡ false)
     → (wait-comes base words e f).steps ≡ 1
 unfolding wait-comes same-comes bind-comes if_false-comes load-comes give-comes
 wait-steps base words e f = refl
@@ -94,7 +101,8 @@ check_of-comes c n words e = go (leaves_out_check c.variant c.call)
     go false = check-comes n words e
 
 -- a row whose version was kept, and which is not locked, is taken
-pub take_row-comes : (c : Setting) (held : List Row) (n : Row) (words : List ℕ) → slice_index words n.base ≡ n.kept → is_locked n.kept ≡ false
+pub take_row-comes : (c : Setting) (held : List Row) (n : Row) (words : List ℕ) → slice_index words n.base ≡ n.kept
+    → is_locked n.kept ≡ false
     → Comes (take_row c held n) words n (slice_set words n.base (locked_word n.kept))
 unfolding take_row
 take_row-comes c held n words e free = go (takes_unchecked c.variant)
@@ -113,7 +121,8 @@ take_row-comes c held n words e free = go (takes_unchecked c.variant)
     taken : Comes checked words n (slice_set words n.base (locked_word n.kept))
     taken = bind-comes {f = λ was. if was == n.kept then give n else (unlock_all held >> start_again)}
         (first_at-comes (lock_point c.shape n.base) (exchange-comes n.base n.kept (locked_word n.kept) words e))
-        (if_true-comes (unlock_all held >> start_again) (eq-eqb n.kept n.kept refl) (give-comes n (slice_set words n.base (locked_word n.kept))))
+        (if_true-comes (unlock_all held >> start_again) (eq-eqb n.kept n.kept refl)
+            (give-comes n (slice_set words n.base (locked_word n.kept))))
 
     go : (b : Bool) → Comes (if b then unchecked else checked) words n (slice_set words n.base (locked_word n.kept))
     go true = bind-comes {f = λ v. give (record n { kept = v })} locked (give-comes n (slice_set words n.base (locked_word n.kept)))
@@ -126,19 +135,23 @@ abbrev pub with_claim : List ℕ → Kind → List ℕ
 with_claim words kind = slice_set words (claims_of kind) ((slice_index words (claims_of kind) + 1) % 2 ^ 64)
 
 -- a claim below the capacity gives the row of its number;
-pub claim-comes : (c : Setting) (held : List Row) (kind : Kind) (words : List ℕ) → nat_lt (slice_index words (claims_of kind)) (rows_of c.shape kind) ≡ true
+pub claim-comes : (c : Setting) (held : List Row) (kind : Kind) (words : List ℕ)
+    → nat_lt (slice_index words (claims_of kind)) (rows_of c.shape kind) ≡ true
     → Comes (claim c held kind) words (base_of c.shape kind (slice_index words (claims_of kind))) (with_claim words kind)
 unfolding claim
 claim-comes c held kind words e =
-    bind-comes {f = λ number. if nat_lt number (rows_of c.shape kind) then give (base_of c.shape kind number) else (unlock_all held >> answer reply.Refused)}
+    bind-comes {f = λ number. if nat_lt number (rows_of c.shape kind) then give (base_of c.shape kind number) else (unlock_all held >>
+        answer reply.Refused)}
     (add-comes (claims_of kind) words) (if_true-comes (unlock_all held >> answer reply.Refused) e (give-comes _ _))
 
 -- where there is none, the held rows are unlocked and the call is refused.
-pub claim-ends : (c : Setting) (held : List Row) (kind : Kind) (words : List ℕ) → nat_lt (slice_index words (claims_of kind)) (rows_of c.shape kind) ≡ false
+pub claim-ends : (c : Setting) (held : List Row) (kind : Kind) (words : List ℕ)
+    → nat_lt (slice_index words (claims_of kind)) (rows_of c.shape kind) ≡ false
     → Ends (claim c held kind) words reply.Refused (with_unlocked held (with_claim words kind))
 unfolding claim
 claim-ends c held kind words e =
-    bind-ends {f = λ number. if nat_lt number (rows_of c.shape kind) then give (base_of c.shape kind number) else (unlock_all held >> answer reply.Refused)}
+    bind-ends {f = λ number. if nat_lt number (rows_of c.shape kind) then give (base_of c.shape kind number) else (unlock_all held >>
+        answer reply.Refused)}
     (add-comes (claims_of kind) words)
     (if_false-ends (give (base_of c.shape kind (slice_index words (claims_of kind)))) e
     (then-ends {n = answer reply.Refused} (unlock_all-comes held (with_claim words kind)) (answer-ends reply.Refused _)))

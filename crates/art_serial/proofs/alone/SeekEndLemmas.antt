@@ -14,7 +14,8 @@ use Rattle.art_rows.specs.Words.{child_of, leaf_word}
 use Rattle.art_steps.specs.Rows.{key_of}
 use Rattle.art_steps.specs.Updates.{overwriting}
 use Rattle.art_core.specs.Meaning.{Reached, child_on, slot_of, Means}
-use Rattle.art_serial.specs.trees.Trees.{IsAtRest, LeadsTo, ChangesAt, HasRows, SameTreesAreOne, WaysLeadToValues, LeavesArePut, LeavesAreRemoved}
+use Rattle.art_serial.specs.trees.Trees.{IsAtRest, LeadsTo, ChangesAt, HasRows, SameTreesAreOne, WaysLeadToValues, LeavesArePut}
+use Rattle.art_serial.specs.trees.Trees.{LeavesAreRemoved}
 use Rattle.art_serial.specs.alone.Laws.{is_seek}
 use Rattle.art_serial.proofs.alone.SlotLemmas.{slot-is}
 use Rattle.art_serial.proofs.alone.LikeLemmas.{Like, Nothing, like-row, slot-changes}
@@ -22,7 +23,8 @@ use Rattle.art_serial.proofs.alone.RestLemmas.{like-settles, slot-settles, at-re
 use Rattle.art_serial.proofs.alone.WayLemmas.{Writes, EndsAt, Arrives}
 use Rattle.art_serial.proofs.alone.SeekLemmas.{absent-after, seek-reply, leaf-read, Bounds}
 
-module _ (same : SameTreesAreOne) (ways : WaysLeadToValues) (puts : LeavesArePut) (removes : LeavesAreRemoved) (s : Shape) (n : ℕ) (words : List ℕ)
+module _ (same : SameTreesAreOne) (ways : WaysLeadToValues) (puts : LeavesArePut) (removes : LeavesAreRemoved) (s : Shape)
+    (n : ℕ) (words : List ℕ)
     (m : Contents) (rest : IsAtRest s n words) (means : Means s words m) where
   -- the reply is the map's, and the words are at rest and mean the map after the call
   pub record Does (call : Call) (r : Reply) (later : List ℕ) : Type 0 where
@@ -31,7 +33,8 @@ module _ (same : SameTreesAreOne) (ways : WaysLeadToValues) (puts : LeavesArePut
     pub meant : Means s later (after m call)
 
   -- nothing was written
-  kept : (call : Call) (r : Reply) (later : List ℕ) → r ≡ reply_to m call → after m call ≡ m → Like s words words later Nothing → Does call r later
+  kept : (call : Call) (r : Reply) (later : List ℕ) → r ≡ reply_to m call → after m call ≡ m → Like s words words later Nothing
+      → Does call r later
   kept call r later says stays like = record {
     says = says;
     rests = at-rest s n words rest later like.long like.small (like-settles s n words rest later like) m rows;
@@ -49,7 +52,8 @@ module _ (same : SameTreesAreOne) (ways : WaysLeadToValues) (puts : LeavesArePut
 
   module _ (r : Reply) (later : List ℕ) (base : ℕ) (kind : Kind) (x : ℕ) (byte : x < 256) where
     -- a word was written over the slot
-    pub wrote : (call : Call) (slot word : ℕ) (pairs : Contents) → r ≡ reply_to m call → Reached s words base kind → slot_of words base kind x ≡ Some slot
+    pub wrote : (call : Call) (slot word : ℕ) (pairs : Contents) → r ≡ reply_to m call → Reached s words base kind
+        → slot_of words base kind x ≡ Some slot
         → Like s words (slice_set words slot word) later Nothing → HasRows s words later pairs → after m call ≡ pairs → Does call r later
     wrote call slot word pairs says reached at like rows goes_on = record {
       says = says;
@@ -69,7 +73,8 @@ module _ (same : SameTreesAreOne) (ways : WaysLeadToValues) (puts : LeavesArePut
     present value is (Get key) b leads at has like = kept (Get key) r later (is ∙ ap value_reply (sym has)) refl like
     present value is (Remove key) b leads at has (slot, slot_at, like) =
         wrote (Remove key) slot 0 (below key m ++ above key m) (is ∙ ap value_reply (sym has)) leads.reached slot_at like
-        (removes s words later m key base kind x rest.tree means leads (inr (value, at)) (changes slot 0 Empty leads.reached slot_at like refl)) refl
+        (removes s words later m key base kind x rest.tree means leads (inr (value, at))
+            (changes slot 0 Empty leads.reached slot_at like refl)) refl
     present value is (Replace key expected new) b leads at has writes = go (value == expected) refl writes
       where
         says : r ≡ reply_to m (Replace key expected new)
@@ -89,11 +94,14 @@ module _ (same : SameTreesAreOne) (ways : WaysLeadToValues) (puts : LeavesArePut
     present value is (Scan low high) b leads at has writes = absurd b
 
   -- A call that arrived did what it does on the map.
-  pub arrived : (call : Call) (r : Reply) (later : List ℕ) → Bounds call → is_seek call ≡ true → Arrives s words call r later → Does call r later
+  pub arrived : (call : Call) (r : Reply) (later : List ℕ) → Bounds call → is_seek call ≡ true → Arrives s words call r later
+      → Does call r later
   arrived call r later b seek a = go a.child a.at a.ended
     where
-      go : (child : Child) → child_on s words a.base a.kind a.x ≡ child → EndsAt s words call r later a.base a.kind a.x child → Does call r later
-      go Empty at (is, like) = absent call r later seek ((ways s words m (key_of call) a.base a.kind a.x rest.tree means a.leads).0 at) is like
+      go : (child : Child) → child_on s words a.base a.kind a.x ≡ child → EndsAt s words call r later a.base a.kind a.x child
+          → Does call r later
+      go Empty at (is, like) = absent call r later seek ((ways s words m (key_of call) a.base a.kind a.x rest.tree means
+          a.leads).0 at) is like
       go (Leaf k value) at (inl (own, is, writes)) =
           present r later a.base a.kind a.x a.byte value is call b a.leads (at ∙ ap (λ i. Leaf i value) own)
           (((ways s words m (key_of call) a.base a.kind a.x rest.tree means a.leads).1 k value at).0 own) writes

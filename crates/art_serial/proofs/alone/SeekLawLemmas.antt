@@ -21,7 +21,8 @@ use Rattle.art_serial.proofs.alone.SeekEndLemmas.{arrived}
 
 module _ (c : Setting) (n : ℕ) (words : List ℕ) (rest : IsAtRest c.shape n words) (small : WritesWords c.call) where
   -- under the variant's way to go down
-  by_variant : (b : Bool) → locks c.variant ≡ b → Seeks c.shape words c.call (if locks c.variant then coupled.seek c else optimistic.seek c) words
+  by_variant : (b : Bool) → locks c.variant ≡ b
+      → Seeks c.shape words c.call (if locks c.variant then coupled.seek c else optimistic.seek c) words
   by_variant true e =
       let s = seeks-coupled c n words rest small in
       record { reply = s.reply; later = s.later; comes = if_true-comes (optimistic.seek c) e s.comes; arrives = s.arrives }

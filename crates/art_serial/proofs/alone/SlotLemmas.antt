@@ -31,7 +31,8 @@ placed : (base : ℕ) (kind : Kind) (o : Option ℕ) (slot : ℕ) → option_map
 placed base kind None slot e = absurd (none-some slot e)
 placed base kind (Some i) slot e = (i, refl, sym (same_Some (base + first_child kind + i) slot e))
 
-entry_placed : (base e slot : ℕ) (b : Bool) → (e == 0) ≡ b → e ≤ 48 → (if b then None else Some (child_at FortyEight base (e - 1))) ≡ Some slot
+entry_placed : (base e slot : ℕ) (b : Bool) → (e == 0) ≡ b → e ≤ 48
+    → (if b then None else Some (child_at FortyEight base (e - 1))) ≡ Some slot
     → IsChildWord base FortyEight slot
 entry_placed base e slot true is most h = absurd (none-some slot h)
 entry_placed base e slot false is most h =
@@ -84,7 +85,8 @@ row-keys words later base FortyEight same j low high = same j low (omega (arith,
 row-keys words later base Full same j low high = same j low (omega (arith, high))
 
 module _ (words later : List ℕ) (base : ℕ) where
-  index_same : (x : ℕ) → x < 256 → SameKeys words later base FortyEight → slice_index later (index_at base x) ≡ slice_index words (index_at base x)
+  index_same : (x : ℕ) → x < 256 → SameKeys words later base FortyEight
+      → slice_index later (index_at base x) ≡ slice_index words (index_at base x)
   index_same x byte same =
       let is : index_at base x ≡ base + (2 + x / 8) = omega arith in
       ap (λ n. slice_index later n) is ∙ (same (2 + x / 8) (omega arith) (omega (arith, byte)) ∙ ap (λ n. slice_index words n) (sym is))
@@ -94,8 +96,10 @@ module _ (words later : List ℕ) (base : ℕ) where
   keys-same Four x byte same = ap keys4_of (same 2 (omega arith) (omega arith))
   keys-same Sixteen x byte same =
       ap (λ w. keys16_of w (slice_index later (keys_at base)) (slice_index later (more_keys_at base))) (same 4 (omega arith) (omega arith))
-      ∙ (ap (λ w. keys16_of (slice_index words (count_at Sixteen base)) w (slice_index later (more_keys_at base))) (same 2 (omega arith) (omega arith))
-      ∙ ap (λ w. keys16_of (slice_index words (count_at Sixteen base)) (slice_index words (keys_at base)) w) (same 3 (omega arith) (omega arith)))
+      ∙ (ap (λ w. keys16_of (slice_index words (count_at Sixteen base)) w (slice_index later (more_keys_at base)))
+          (same 2 (omega arith) (omega arith))
+      ∙ ap (λ w. keys16_of (slice_index words (count_at Sixteen base)) (slice_index words (keys_at base)) w)
+          (same 3 (omega arith) (omega arith)))
   keys-same FortyEight x byte same = ap entries_of (index_same x byte same)
   keys-same Full x byte same = refl
 
@@ -125,7 +129,8 @@ module _ (words later : List ℕ) (base : ℕ) where
     small,
   )
   form-same FortyEight same (few, once, each, below) =
-      let count : slice_index later (count_at FortyEight base) ≡ slice_index words (count_at FortyEight base) = same 34 (omega arith) (omega arith) in
+      let count : slice_index later (count_at FortyEight base) ≡ slice_index words (count_at FortyEight base) =
+          same 34 (omega arith) (omega arith) in
       let slot = λ (x : ℕ) (byte : x < 256). slot-same FortyEight x byte same in (
         subst (λ n. n ≤ 48) (sym count) few,
         λ x y e byte other here there. once x y e byte other (sym (slot x byte) ∙ here) (sym (slot y other) ∙ there),
@@ -137,7 +142,8 @@ module _ (words later : List ℕ) (base : ℕ) where
   form-same Full same h = tt
 
   -- what is found of a byte
-  pub found-same : (c : Setting) (kind : Kind) (x : ℕ) → x < 256 → SameRow words later base kind → found_in c later base kind x ≡ found_in c words base kind x
+  pub found-same : (c : Setting) (kind : Kind) (x : ℕ) → x < 256 → SameRow words later base kind
+      → found_in c later base kind x ≡ found_in c words base kind x
   found-same c kind x byte same =
       let keys = row-keys words later base kind same in
       ap (λ o. found_of_slot c.shape later (keys_in_row later base kind x) (count_in_row c.call later base kind x) o)

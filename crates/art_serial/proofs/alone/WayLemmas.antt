@@ -1,5 +1,6 @@
 -- The way of a key down a tree at rest, and what a get, a remove or a replace does at its end.
-use Rattle.std.proofs.Common.{◌≡◌, ◌≢◌, ◌⊎◌, ℕ, suc, ◌+◌, ◌/◌, ◌%◌, ◌<◌, ◌≤◌, ◌==◌, List, [], ◌∷◌, length, take, slice_index, slice_set, Option, Some}
+use Rattle.std.proofs.Common.{◌≡◌, ◌≢◌, ◌⊎◌, ℕ, suc, ◌+◌, ◌/◌, ◌%◌, ◌<◌, ◌≤◌, ◌==◌, List, [], ◌∷◌, length, take, slice_index, slice_set}
+use Rattle.std.proofs.Common.{Option, Some}
 use Rattle.std.proofs.Common.{None, Bool, true, false, refl, sym, ap, ◌∙◌, arith, eqb-true, option_map, if◌then◌else◌}
 use Rattle.std.proofs.lemmas.Option.{none-some}
 use Rattle.events.specs.declared.event.Call.{Call}
@@ -57,7 +58,8 @@ same-beginning (x ∷ xs) (y ∷ ys) e h = go (x == y) refl (λ none. same-begin
 
 module _ (s : Shape) (n : ℕ) (words : List ℕ) (rest : IsAtRest s n words) where
   -- the way of each key begins at the root
-  pub leads-root : (key : ℕ) → (level_in words (root_base s) Full ≡ 0) × LeadsTo s words key (root_base s) Full (slice_index (key_bytes key) 0)
+  pub leads-root : (key : ℕ) → (level_in words (root_base s) Full ≡ 0)
+      × LeadsTo s words key (root_base s) Full (slice_index (key_bytes key) 0)
   leads-root key =
       let level : level_in words (root_base s) Full ≡ 0 = ap (λ w. (info_of Full w).level) rest.tree.root in
       let path : path_in words (root_base s) Full ≡ [] = ap (λ w. (info_of Full w).path) rest.tree.root in (
@@ -70,8 +72,10 @@ module _ (s : Shape) (n : ℕ) (words : List ℕ) (rest : IsAtRest s n words) wh
       )
 
   -- and goes on to a row whose path differs nowhere from the key
-  pub leads-below : {key base x m : ℕ} {kind k : Kind} → LeadsTo s words key base kind x → x < 256 → child_on s words base kind x ≡ ChildRow m k
-      → first_difference (path_in words m k) (key_bytes key) ≡ None → LeadsTo s words key m k (slice_index (key_bytes key) (level_in words m k))
+  pub leads-below : {key base x m : ℕ} {kind k : Kind} → LeadsTo s words key base kind x → x < 256
+      → child_on s words base kind x ≡ ChildRow m k
+      → first_difference (path_in words m k) (key_bytes key) ≡ None
+      → LeadsTo s words key m k (slice_index (key_bytes key) (level_in words m k))
   leads-below {key} {base} {x} {m} {kind} {k} leads byte e none =
       let reached : Reached s words m k = below leads.reached x byte e in
       let long : length (path_in words m k) ≡ level_in words m k = (rest.tree.info m k reached).0 in
@@ -83,7 +87,8 @@ module _ (s : Shape) (n : ℕ) (words : List ℕ) (rest : IsAtRest s n words) wh
       }
 
   -- the row below is another one
-  pub below-other : {base x m : ℕ} {kind k : Kind} → Reached s words base kind → x < 256 → child_on s words base kind x ≡ ChildRow m k → m ≡ base → ⊥
+  pub below-other : {base x m : ℕ} {kind k : Kind} → Reached s words base kind → x < 256
+      → child_on s words base kind x ≡ ChildRow m k → m ≡ base → ⊥
   below-other {base} {x} {m} {kind} {k} reached byte e is =
       let kinds : k ≡ kind = (sits-part s m base 0 0 k kind (sits s n words rest (below reached x byte e)) (sits s n words rest reached)
       (omega (arith, two-words k)) (omega (arith, two-words kind)) (ap (λ i. i + 0) is)).0 in
@@ -95,7 +100,8 @@ module _ (s : Shape) (n : ℕ) (words : List ℕ) (rest : IsAtRest s n words) wh
 -- what is written over the slot of the byte, or nothing
 abbrev pub Writes : Shape → List ℕ → List ℕ → ℕ → Kind → ℕ → Option ℕ → Type 0
 Writes s words later base kind x None = Like s words words later Nothing
-Writes s words later base kind x (Some word) = (slot : ℕ) × (slot_of words base kind x ≡ Some slot) × Like s words (slice_set words slot word) later Nothing
+Writes s words later base kind x (Some word) = (slot : ℕ) × (slot_of words base kind x ≡ Some slot)
+    × Like s words (slice_set words slot word) later Nothing
 
 -- what a call does with what hangs on the byte
 abbrev pub EndsAt : Shape → List ℕ → Call → Reply → List ℕ → ℕ → Kind → ℕ → Child → Type 0
@@ -104,7 +110,8 @@ EndsAt s words call r later base kind x (Leaf key value) =
     ((key ≡ key_of call) × (r ≡ reply.Some value) × Writes s words later base kind x (overwriting call value))
     ⊎ ((key ≢ key_of call) × (r ≡ reply.None) × Like s words words later Nothing)
 EndsAt s words call r later base kind x (ChildRow m k) =
-    (d : ℕ) × (first_difference (path_in words m k) (key_bytes (key_of call)) ≡ Some d) × (r ≡ reply.None) × Like s words words later Nothing
+    (d : ℕ) × (first_difference (path_in words m k) (key_bytes (key_of call)) ≡ Some d) × (r ≡ reply.None)
+        × Like s words words later Nothing
 
 -- The call's way ends at a byte of a row, where it has this reply and leaves these words.
 pub record Arrives (s : Shape) (words : List ℕ) (call : Call) (r : Reply) (later : List ℕ) : Type 0 where

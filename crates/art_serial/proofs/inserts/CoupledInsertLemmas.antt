@@ -1,5 +1,6 @@
 -- An insert under lock coupling, run alone on a table at rest, goes its key's way and does what it does on the map, or is refused.
-use Rattle.std.proofs.Common.{◌≡◌, ◌⊎◌, inl, inr, ℕ, zero, suc, ◌+◌, ◌*◌, ◌<◌, ◌≤◌, ◌==◌, List, [], ◌∷◌, length, slice_index, Option, Some, None}
+use Rattle.std.proofs.Common.{◌≡◌, ◌⊎◌, inl, inr, ℕ, zero, suc, ◌+◌, ◌*◌, ◌<◌, ◌≤◌, ◌==◌, List, [], ◌∷◌, length, slice_index, Option, Some}
+use Rattle.std.proofs.Common.{None}
 use Rattle.std.proofs.Common.{Bool, true, false, refl, sym, ap, ◌∙◌, subst, arith, eqb-true, if◌then◌else◌}
 use Rattle.std.proofs.lemmas.Bool.{eqb-false}
 use Rattle.events.specs.declared.event.Call.TheVariants.{Insert}
@@ -17,7 +18,8 @@ use Rattle.art_rows.proofs.KindLemmas.{two-words}
 use Rattle.art_rows.proofs.ByteLemmas.{key_byte-small}
 use Rattle.art_steps.specs.declared.variant.Variant.{Variant}
 use Rattle.art_steps.specs.Steps.{Part, ◌>>=◌, ◌>>◌, give, load}
-use Rattle.art_steps.specs.Rows.{Setting, Row, Place, byte_at, row_of, root_row, path_differs_at, lock, unlock, unlock_all, find, Has, Lacks}
+use Rattle.art_steps.specs.Rows.{Setting, Row, Place, byte_at, row_of, root_row, path_differs_at, lock, unlock, unlock_all, find, Has}
+use Rattle.art_steps.specs.Rows.{Lacks}
 use Rattle.art_steps.specs.Updates.{put, pair_in, grow, insert_in, insert_beside}
 use Rattle.art_steps.specs.Coupled.{insert_below, insert_at, insert_from, insert}
 use Rattle.art_steps.proofs.GuardLemmas.{insert_from-body}
@@ -40,7 +42,8 @@ use Rattle.art_serial.proofs.inserts.PutOutcomeLemmas.{put-outcome}
 use Rattle.art_serial.proofs.inserts.GrowOutcomeLemmas.{Grows, grows}
 use Rattle.art_serial.proofs.inserts.PairOutcomeLemmas.{Hangs, hangs-pair}
 use Rattle.art_serial.proofs.inserts.SmallLemmas.{path_byte-small, le-differs_lt}
-use Rattle.art_serial.proofs.inserts.ShortLemmas.{Short, short-comes, short-more, give-short, bind-short, then-short, load-short, unlock-short}
+use Rattle.art_serial.proofs.inserts.ShortLemmas.{Short, short-comes, short-more, give-short, bind-short, then-short, load-short}
+use Rattle.art_serial.proofs.inserts.ShortLemmas.{unlock-short}
 use Rattle.art_serial.proofs.inserts.ShortLemmas.{unlock_all-short}
 use Rattle.art_serial.proofs.inserts.ShortLemmas.{find-short, pair_in-short, put-short, grow-short, lock-few}
 use Rattle.art_serial.proofs.inserts.InsertEndLemmas.{Given, Inserts, ended, within, after-part, same-part, ends-in, first-differs}
@@ -59,11 +62,13 @@ module _ (g : Given) (s : Shape) (variant : Variant) (n : ℕ) (words : List ℕ
   abbrev Holding : List Row → List ℕ → Type 0
   Holding rows now = Near s n words rest Nothing (Among s n words rest rows) Nothing now
 
-  near-free : {held : ℕ → Type 0} {now : List ℕ} {b : ℕ} {k : Kind} → Near s n words rest Nothing held Nothing now → Reached s words b k → (held b → ⊥)
+  near-free : {held : ℕ → Type 0} {now : List ℕ} {b : ℕ} {k : Kind} → Near s n words rest Nothing held Nothing now
+      → Reached s words b k → (held b → ⊥)
       → is_locked (slice_index now b) ≡ false
   near-free {held} {now} {b} {k} near reached no_one = go (near.word b)
     where
-      go : (slice_index now b ≡ slice_index words b) ⊎ (Version s n words rest now held Nothing b ⊎ Nothing b) → is_locked (slice_index now b) ≡ false
+      go : (slice_index now b ≡ slice_index words b) ⊎ (Version s n words rest now held Nothing b ⊎ Nothing b)
+          → is_locked (slice_index now b) ≡ false
       go (inl e) = ap is_locked e ∙ rest.unlocked b k (sits-kind_at s b k (sits s n words rest reached))
       go (inr (inl v)) = v.free no_one
       go (inr (inr o)) = absurd o
@@ -102,7 +107,8 @@ module _ (g : Given) (s : Shape) (variant : Variant) (n : ℕ) (words : List ℕ
       → Holding (r ∷ []) (with_unlocked rows now)
   above-near [] r slot h now near = near
   above-near (a ∷ []) r slot h now near =
-      near-version s n words rest {held2 = Among s n words rest (r ∷ [])} {dead2 = Nothing} (released_word a.kept) near h.at-above.leads.reached
+      near-version s n words rest {held2 = Among s n words rest (r ∷ [])} {dead2 = Nothing} (released_word a.kept) near
+          h.at-above.leads.reached
       (released-small a.kept)
       (λ d. released-live a.kept h.at-above.held.live) (λ d. released-free a.kept h.at-above.held.free) keep (λ w d ne. d)
     where
@@ -126,7 +132,8 @@ module _ (g : Given) (s : Shape) (variant : Variant) (n : ℕ) (words : List ℕ
       let one = above-one rows r slot h in
       omega (arith, le, one)
 
-  leaf : (rows : List Row) (r : Row) (above : ℕ) → IsAbove rows r above → (a : IsAt r) (now : List ℕ) → Holding (r ∷ rows) now → (slot : ℕ) (child : Child)
+  leaf : (rows : List Row) (r : Row) (above : ℕ) → IsAbove rows r above → (a : IsAt r) (now : List ℕ) → Holding (r ∷ rows) now
+      → (slot : ℕ) (child : Child)
       → slot_of words r.base r.kind (byte_at c r.level) ≡ Some slot → child_on s words r.base r.kind (byte_at c r.level) ≡ child
       → ((b : ℕ) (k : Kind) → child ≡ ChildRow b k → ⊥)
       → Does 9 (unlock_all rows >> (insert_in c (r ∷ []) slot child >>= λ q. unlock r >> give q)) now
@@ -141,7 +148,8 @@ module _ (g : Given) (s : Shape) (variant : Variant) (n : ℕ) (words : List ℕ
   -- ---- a row that lacks the byte
 
   absent-at : (r : Row) → IsAt r → slot_of words r.base r.kind (byte_at c r.level) ≡ None → value_at m key ≡ None
-  absent-at r a none = (g.ways s words m key r.base r.kind (byte_at c r.level) rest.tree means a.leads).0 (ap (λ o. child_in s words o) none)
+  absent-at r a none = (g.ways s words m key r.base r.kind (byte_at c r.level) rest.tree means a.leads).0
+      (ap (λ o. child_in s words o) none)
 
   put-row : (rows : List Row) (r : Row) (above : ℕ) → IsAbove rows r above → (a : IsAt r) (now : List ℕ) → Holding (r ∷ rows) now
       → slot_of words r.base r.kind (byte_at c r.level) ≡ None → count-of r < capacity r.kind
@@ -153,19 +161,23 @@ module _ (g : Given) (s : Shape) (variant : Variant) (n : ℕ) (words : List ℕ
       (above-near rows r above h now near) (byte_at c r.level) a.leads (byte r) none room (absent-at r a none) in
       after-part g s variant n words rest few bounded m means key value key_small value_small {f = λ _. put c r (keys-of r) (count-of r) >>
       (unlock r >> give reply.None)}
-      (unlock_all-comes rows now) (unlock-few rows r above h now) (ended g s variant n words rest few bounded m means key value key_small value_small 41
+      (unlock_all-comes rows now) (unlock-few rows r above h now)
+          (ended g s variant n words rest few bounded m means key value key_small value_small 41
       (then-short (put-short c r (keys-of r) (count-of r) (omega (arith, room))) (then-short (unlock-short r) (give-short reply.None)))
       reply.None (with_unlocked (r ∷ []) last)
-      (inl (then-comes {n = unlock r >> give reply.None} comes (then-comes {n = give reply.None} (unlock-comes r last) (give-comes reply.None _)))) outcome)
+      (inl (then-comes {n = unlock r >> give reply.None} comes
+          (then-comes {n = give reply.None} (unlock-comes r last) (give-comes reply.None _)))) outcome)
 
   grow-row : (p r : Row) (slot : ℕ) (a : IsAt r) → Has-below p r slot → (now : List ℕ) → Holding (r ∷ p ∷ []) now
       → slot_of words r.base r.kind (byte_at c r.level) ≡ None → count-of r ≡ capacity r.kind
       → Does 600 (grow c (p ∷ []) slot r (keys-of r) (count-of r) >> give reply.None) now
   grow-row p r slot a h now near none all = go done.comes
     where
-      done : Grows g.trees g.grown g.row_written g.read g.versions g.sized s variant n words rest few bounded m means key value key_small value_small
+      done : Grows g.trees g.grown g.row_written g.read g.versions g.sized s variant n words rest few bounded m means key value
+          key_small value_small
           (grow c (p ∷ []) slot r (keys-of r) (count-of r)) now
-      done = grows g.trees g.grown g.row_written g.read g.versions g.sized s variant n words rest few bounded m means key value key_small value_small r p now
+      done = grows g.trees g.grown g.row_written g.read g.versions g.sized s variant n words rest few bounded m means key value key_small
+          value_small r p now
           a.held h.at-above.held near (byte_at c p.level) slot h.at-above.leads (byte p)
           h.slot-above h.hangs a.leads (byte r) a.level a.path none all (absent-at r a none)
 
@@ -193,13 +205,15 @@ module _ (g : Given) (s : Shape) (variant : Variant) (n : ℕ) (words : List ℕ
   beside : (r q : Row) (a : IsAt r) → IsHeld s n words rest q → (now : List ℕ) → Holding (q ∷ r ∷ []) now → (slot b : ℕ) (k : Kind) (d : ℕ)
       → slot_of words r.base r.kind (byte_at c r.level) ≡ Some slot → child_on s words r.base r.kind (byte_at c r.level) ≡ ChildRow b k
       → q.path ≡ path_in words b k → q.base ≡ b → q.kind ≡ k → first_difference (path_in words b k) (key_bytes key) ≡ Some d
-      → Does 10 ((pair_in c (q ∷ r ∷ []) slot d (record { byte = slice_index (path_in words b k) d; child = ChildRow b k }) >> give reply.None)
+      → Does 10 ((pair_in c (q ∷ r ∷ []) slot d (record { byte = slice_index (path_in words b k) d; child = ChildRow b k })
+          >> give reply.None)
       >>= λ x. unlock q >> (unlock r >> give x)) now
   beside r q a q_held now near slot b k d at on path base kind differ = go h.comes
     where
       h : Hangs g.trees g.pairs g.pair_written g.read g.sized s variant n words rest few bounded m means key value key_small value_small
           (pair_in c (q ∷ r ∷ []) slot d (record { byte = slice_index (path_in words b k) d; child = ChildRow b k })) (q ∷ r ∷ []) now
-      h = hangs-pair g.trees g.pairs g.pair_written g.read g.sized s variant n words rest few bounded m means key value key_small value_small (q ∷ r ∷ [])
+      h = hangs-pair g.trees g.pairs g.pair_written g.read g.sized s variant n words rest few bounded m means key value key_small
+          value_small (q ∷ r ∷ [])
           now (q_held, (a.held, tt)) near
           r.base r.kind (byte_at c r.level) slot d (slice_index (path_in words b k) d) (ChildRow b k) a.leads (byte r) at on (differ, refl)
           (sits-kind_at s b k (sits s n words rest (below a.leads.reached (byte_at c r.level) (byte r) on)))
@@ -207,20 +221,26 @@ module _ (g : Given) (s : Shape) (variant : Variant) (n : ℕ) (words : List ℕ
           (first-differs (path_in words b k) (key_bytes key) d differ)
           ((g.ways s words m key r.base r.kind (byte_at c r.level) rest.tree means a.leads).2 b d k on differ)
 
-      short_part : Short 10 ((pair_in c (q ∷ r ∷ []) slot d (record { byte = slice_index (path_in words b k) d; child = ChildRow b k }) >> give reply.None)
+      short_part : Short 10 ((pair_in c (q ∷ r ∷ []) slot d (record { byte = slice_index (path_in words b k) d; child = ChildRow b k })
+          >> give reply.None)
           >>= λ x. unlock q >> (unlock r >> give x))
       short_part =
-          short-more 10 (bind-short (then-short (pair_in-short c (q ∷ r ∷ []) slot d (record { byte = slice_index (path_in words b k) d; child = ChildRow b k }))
+          short-more 10
+              (bind-short (then-short (pair_in-short c (q ∷ r ∷ []) slot d (record { byte = slice_index (path_in words b k) d;
+              child = ChildRow b k }))
           (give-short reply.None)) (λ x. then-short (unlock-short q) (then-short (unlock-short r) (give-short x)))) (omega arith)
 
       go : (Comes (pair_in c (q ∷ r ∷ []) slot d (record { byte = slice_index (path_in words b k) d; child = ChildRow b k })) now tt h.after
           × Outcome s n words rest m means key value reply.None (with_unlocked (q ∷ r ∷ []) h.after))
-          ⊎ (Ends (pair_in c (q ∷ r ∷ []) slot d (record { byte = slice_index (path_in words b k) d; child = ChildRow b k })) now reply.Refused h.after
+          ⊎ (Ends (pair_in c (q ∷ r ∷ []) slot d (record { byte = slice_index (path_in words b k) d; child = ChildRow b k })) now
+              reply.Refused h.after
           × Outcome s n words rest m means key value reply.Refused h.after)
-          → Does 10 ((pair_in c (q ∷ r ∷ []) slot d (record { byte = slice_index (path_in words b k) d; child = ChildRow b k }) >> give reply.None)
+          → Does 10 ((pair_in c (q ∷ r ∷ []) slot d (record { byte = slice_index (path_in words b k) d; child = ChildRow b k })
+              >> give reply.None)
           >>= λ x. unlock q >> (unlock r >> give x)) now
       go (inl (e, o)) =
-          ended g s variant n words rest few bounded m means key value key_small value_small 10 short_part reply.None (with_unlocked (q ∷ r ∷ []) h.after)
+          ended g s variant n words rest few bounded m means key value key_small value_small 10 short_part reply.None
+              (with_unlocked (q ∷ r ∷ []) h.after)
           (inl (bind-comes {f = λ x. unlock q >> (unlock r >> give x)} (then-comes {n = give reply.None} e (give-comes reply.None h.after))
           (then-comes {n = unlock r >> give reply.None} (unlock-comes q h.after) (then-comes {n = give reply.None} (unlock-comes r _)
           (give-comes reply.None _))))) o
@@ -229,23 +249,28 @@ module _ (g : Given) (s : Shape) (variant : Variant) (n : ℕ) (words : List ℕ
           (inr (ends-bind {f = λ x. unlock q >> (unlock r >> give x)} (ends-then {n = give reply.None} e))) o
 
   abbrev DoesFrom : ℕ → Type 0
-  DoesFrom fuel = (p : Place) (now : List ℕ) → IsAt p.row → IsAbove p.above p.row p.slot → Holding (p.row ∷ p.above) now → 4 ≤ fuel + p.row.level
+  DoesFrom fuel = (p : Place) (now : List ℕ) → IsAt p.row → IsAbove p.above p.row p.slot → Holding (p.row ∷ p.above) now
+      → 4 ≤ fuel + p.row.level
       → Does (700 + 10 * fuel) (insert_from c p) now
 
-  row : (fuel : ℕ) → DoesFrom fuel → (rows : List Row) (r : Row) (above : ℕ) → IsAbove rows r above → (a : IsAt r) (now : List ℕ) → Holding (r ∷ rows) now
+  row : (fuel : ℕ) → DoesFrom fuel → (rows : List Row) (r : Row) (above : ℕ) → IsAbove rows r above → (a : IsAt r) (now : List ℕ)
+      → Holding (r ∷ rows) now
       → 4 ≤ suc fuel + r.level → (slot b : ℕ) (k : Kind)
       → slot_of words r.base r.kind (byte_at c r.level) ≡ Some slot
       → child_on s words r.base r.kind (byte_at c r.level) ≡ ChildRow b k
-      → Does (704 + 10 * fuel) (unlock_all rows >> (lock s b >>= λ v. load (info_at b) >>= λ info. insert_below c (insert_from c) r slot (row_of b k info v)
+      → Does (704 + 10 * fuel) (unlock_all rows >> (lock s b >>= λ v. load (info_at b) >>= λ info. insert_below c (insert_from c) r slot
+          (row_of b k info v)
       (path_differs_at c (row_of b k info v)))) now
   unfolding insert_beside
   row fuel more rows r above h a now near enough slot b k at on =
       within g s variant n words rest few bounded m means key value key_small value_small (704 + 10 * fuel)
-      (after-part g s variant n words rest few bounded m means key value key_small value_small {f = λ _. lock s b >>= λ v. load (info_at b) >>= λ info.
+      (after-part g s variant n words rest few bounded m means key value key_small value_small
+          {f = λ _. lock s b >>= λ v. load (info_at b) >>= λ info.
       insert_below c (insert_from c) r slot (row_of b k info v) (path_differs_at c (row_of b k info v))} (unlock_all-comes rows now)
       (unlock-few rows r above h now)
       (after-part g s variant n words rest few bounded m means key value key_small value_small {f = λ v. load (info_at b) >>= λ info.
-      insert_below c (insert_from c) r slot (row_of b k info v) (path_differs_at c (row_of b k info v))} (lock-comes s b (with_unlocked rows now) b_free)
+      insert_below c (insert_from c) r slot (row_of b k info v) (path_differs_at c (row_of b k info v))}
+          (lock-comes s b (with_unlocked rows now) b_free)
       (lock-few s b (with_unlocked rows now) b_free)
       (after-part g s variant n words rest few bounded m means key value key_small value_small {f = λ info.
       insert_below c (insert_from c) r slot (row_of b k info (slice_index (with_unlocked rows now) b))
@@ -277,19 +302,23 @@ module _ (g : Given) (s : Shape) (variant : Variant) (n : ℕ) (words : List ℕ
       two : Holding (found ∷ r ∷ []) (with_lock (with_unlocked rows now) b)
       two = near-version s n words rest {held2 = Among s n words rest (found ∷ r ∷ [])} {dead2 = Nothing}
           (locked_word (slice_index (with_unlocked rows now) b)) one reached (locked-small (slice_index (with_unlocked rows now) b))
-          (λ d. locked-live (slice_index (with_unlocked rows now) b) b_live) (λ no_one. absurd (no_one (inl refl))) (λ w d ne. inr d) (λ w d ne. d)
+          (λ d. locked-live (slice_index (with_unlocked rows now) b) b_live) (λ no_one. absurd (no_one (inl refl)))
+              (λ w d ne. inr d) (λ w d ne. d)
 
       found_held : IsHeld s n words rest found
       found_held = record { kind = k; reached = reached; free = b_free; live = b_live }
 
-      info-comes : Comes (load (info_at b)) (with_lock (with_unlocked rows now) b) (slice_index words (info_at b)) (with_lock (with_unlocked rows now) b)
+      info-comes : Comes (load (info_at b)) (with_lock (with_unlocked rows now) b) (slice_index words (info_at b))
+          (with_lock (with_unlocked rows now) b)
       info-comes = subst (λ w. Comes (load (info_at b)) (with_lock (with_unlocked rows now) b) w (with_lock (with_unlocked rows now) b))
-          (near-row s n words rest two reached 1 (omega arith) (two-words k)) (load-comes (info_at b) (with_lock (with_unlocked rows now) b))
+          (near-row s n words rest two reached 1 (omega arith) (two-words k))
+              (load-comes (info_at b) (with_lock (with_unlocked rows now) b))
 
       lower : level_in words r.base r.kind < level_in words b k
       lower = (rest.tree.row r.base b (byte_at c r.level) r.kind k a.leads.reached (byte r) on).0
 
-      by : (o : Option ℕ) → path_differs_at c found ≡ o → Does (700 + 10 * fuel) (insert_below c (insert_from c) r slot found o) (with_lock (with_unlocked rows now) b)
+      by : (o : Option ℕ) → path_differs_at c found ≡ o
+          → Does (700 + 10 * fuel) (insert_below c (insert_from c) r slot found o) (with_lock (with_unlocked rows now) b)
       by None e = more (record { row = found; above = r ∷ []; slot = slot }) (with_lock (with_unlocked rows now) b)
           (record { level = refl; path = refl; leads = leads-below s n words rest a.leads (byte r) on e; held = found_held })
           (record { at-above = a; slot-above = at; hangs = on }) two (omega (arith, enough, lower, a.level))
@@ -297,24 +326,29 @@ module _ (g : Given) (s : Shape) (variant : Variant) (n : ℕ) (words : List ℕ
           (beside r found a found_held (with_lock (with_unlocked rows now) b) two slot b k d at on refl refl refl e) (omega arith)
 
       go : (o : Option ℕ) → path_differs_at c found ≡ o
-          → Does (700 + 10 * fuel) (insert_below c (insert_from c) r slot found (path_differs_at c found)) (with_lock (with_unlocked rows now) b)
-      go o e = subst (λ o. Does (700 + 10 * fuel) (insert_below c (insert_from c) r slot found o) (with_lock (with_unlocked rows now) b)) (sym e) (by o e)
+          → Does (700 + 10 * fuel) (insert_below c (insert_from c) r slot found (path_differs_at c found))
+              (with_lock (with_unlocked rows now) b)
+      go o e = subst (λ o. Does (700 + 10 * fuel) (insert_below c (insert_from c) r slot found o) (with_lock (with_unlocked rows now)
+          b)) (sym e) (by o e)
 
   -- ---- the whole way
 
-  child : (fuel : ℕ) → DoesFrom fuel → (p : Place) (now : List ℕ) (a : IsAt p.row) → IsAbove p.above p.row p.slot → Holding (p.row ∷ p.above) now
+  child : (fuel : ℕ) → DoesFrom fuel → (p : Place) (now : List ℕ) (a : IsAt p.row) → IsAbove p.above p.row p.slot
+      → Holding (p.row ∷ p.above) now
       → 4 ≤ suc fuel + p.row.level → (slot : ℕ)
       → slot_of words p.row.base p.row.kind (byte_at c p.row.level) ≡ Some slot → (child : Child)
       → child_on s words p.row.base p.row.kind (byte_at c p.row.level) ≡ child
       → Does (704 + 10 * fuel) (insert_at c (insert_from c) p (Has slot child)) now
   unfolding insert_at
-  child fuel more p now a h near enough slot e Empty at = within g s variant n words rest few bounded m means key value key_small value_small (704 + 10 * fuel)
+  child fuel more p now a h near enough slot e Empty at =
+      within g s variant n words rest few bounded m means key value key_small value_small (704 + 10 * fuel)
       (leaf p.above p.row p.slot h a now near slot Empty e at (λ b k is. empty_row is)) (omega arith)
     where
       empty_row : {b : ℕ} {k : Kind} → Empty ≡ ChildRow b k → ⊥
       empty_row h = cc
   child fuel more p now a h near enough slot e (ChildRow b k) at = row fuel more p.above p.row p.slot h a now near enough slot b k e at
-  child fuel more p now a h near enough slot e (Leaf k old) at = within g s variant n words rest few bounded m means key value key_small value_small (704 + 10 * fuel)
+  child fuel more p now a h near enough slot e (Leaf k old) at =
+      within g s variant n words rest few bounded m means key value key_small value_small (704 + 10 * fuel)
       (leaf p.above p.row p.slot h a now near slot (Leaf k old) e at (λ b q is. leaf_row is)) (omega arith)
     where
       leaf_row : {b : ℕ} {q : Kind} → Leaf k old ≡ ChildRow b q → ⊥
@@ -342,7 +376,8 @@ module _ (g : Given) (s : Shape) (variant : Variant) (n : ℕ) (words : List ℕ
           then (grow c p.above p.slot p.row (keys-of p.row) (count-of p.row) >> give reply.None)
           else (unlock_all p.above >> (put c p.row (keys-of p.row) (count-of p.row) >> (unlock p.row >> give reply.None)))) now
       go true e = full p.above above near (eqb-true (count-of p.row) (capacity p.row.kind) e)
-      go false e = within g s variant n words rest few bounded m means key value key_small value_small 600 (put-row p.above p.row p.slot above a now near none
+      go false e = within g s variant n words rest few bounded m means key value key_small value_small 600 (put-row p.above p.row p.slot
+          above a now near none
           (le-differs_lt (count-of p.row) (capacity p.row.kind)
           (count-most (Insert key value) words p.row.base p.row.kind (byte_at c p.row.level))
           (eqb-false (count-of p.row) (capacity p.row.kind) e))) (omega arith)
@@ -362,13 +397,16 @@ module _ (g : Given) (s : Shape) (variant : Variant) (n : ℕ) (words : List ℕ
       after o e i =
           within g s variant n words rest few bounded m means key value key_small value_small (700 + 10 * suc fuel)
           (same-part g s variant n words rest few bounded m means key value key_small value_small (insert_from-body c p)
-          (after-part g s variant n words rest few bounded m means key value key_small value_small {f = insert_at c (insert_from c) p} finds (short-comes (find-short c p.row) finds)
+          (after-part g s variant n words rest few bounded m means key value key_small value_small {f = insert_at c (insert_from c) p}
+              finds (short-comes (find-short c p.row) finds)
           (subst (λ o. Does (704 + 10 * fuel) (insert_at c (insert_from c) p (found_of_slot s words (keys-of p.row) (count-of p.row) o))
           now) (sym e) i)))
           (omega arith)
 
-      found : (o : Option ℕ) → slot_of words p.row.base p.row.kind (byte_at c p.row.level) ≡ o → Does (700 + 10 * suc fuel) (insert_from c p) now
-      found None e = after None e (within g s variant n words rest few bounded m means key value key_small value_small (704 + 10 * fuel) (lack p now a above near e) (omega arith))
+      found : (o : Option ℕ) → slot_of words p.row.base p.row.kind (byte_at c p.row.level) ≡ o
+          → Does (700 + 10 * suc fuel) (insert_from c p) now
+      found None e = after None e (within g s variant n words rest few bounded m means key value key_small value_small (704 + 10 * fuel)
+          (lack p now a above near e) (omega arith))
       found (Some slot) e = after (Some slot) e
           (child fuel more p now a above near enough slot e (child_of s (slice_index words slot)) (ap (λ o. child_in s words o) e))
 
@@ -380,7 +418,8 @@ module _ (g : Given) (s : Shape) (variant : Variant) (n : ℕ) (words : List ℕ
   pub inserts-coupled : Inserts g s variant n words rest few bounded m means key value key_small value_small 1000 (insert c) words
   unfolding insert
   inserts-coupled =
-      within g s variant n words rest few bounded m means key value key_small value_small 1000 (after-part g s variant n words rest few bounded m means key value key_small value_small
+      within g s variant n words rest few bounded m means key value key_small value_small 1000
+          (after-part g s variant n words rest few bounded m means key value key_small value_small
       {f = λ v. insert_from c (record { row = root_row c v; above = []; slot = root_base s })} (lock-comes s (root_base s) words free)
       (lock-few s (root_base s) words free)
       (does-from 4 (record { row = root_row c v; above = []; slot = root_base s }) (with_lock words (root_base s))
@@ -391,7 +430,8 @@ module _ (g : Given) (s : Shape) (variant : Variant) (n : ℕ) (words : List ℕ
         held = record { kind = Full; reached = root; free = free; live = live };
       }) refl
       (near-version s n words rest {held2 = Among s n words rest (root_row c v ∷ [])} {dead2 = Nothing} {kind = Full} (locked_word v)
-      (near-like s n words rest (like-start s n words rest Nothing)) root (locked-small v) (λ d. locked-live v live) (λ no_one. absurd (no_one (inl refl)))
+      (near-like s n words rest (like-start s n words rest Nothing)) root (locked-small v) (λ d. locked-live v live)
+          (λ no_one. absurd (no_one (inl refl)))
       (λ w d ne. absurd d) (λ w d ne. d)) (omega arith))) (omega arith)
     where
       v : ℕ

@@ -1,4 +1,5 @@
--- GROW, of an insert that runs alone on words like those at rest: a row of the next kind is hung in the row's place, or the call is refused.
+-- GROW, of an insert that runs alone on words like those at rest: a row of the next kind is hung in the row's place, or the call is
+-- refused.
 use Rattle.std.proofs.Common.{◌≡◌, ◌≢◌, ◌⊎◌, inl, inr, ℕ, ◌+◌, ◌-◌, ◌%◌, ◌<◌, ◌≤◌}
 use Rattle.std.proofs.Common.{◌==◌, List, [], ◌∷◌, length, slice_index, slice_set, All, Bool, true, false, Some, None}
 use Rattle.std.proofs.Common.{refl, sym, ap, ◌∙◌, subst, arith, eqb-true, nat_lt}
@@ -27,13 +28,15 @@ use Rattle.art_serial.specs.writes.Laws.{RowsAreFilled}
 use Rattle.art_serial.specs.alone.Alone.{Comes, Ends}
 use Rattle.art_serial.specs.alone.Finding.{keys_in_row, count_in_row}
 use Rattle.art_serial.proofs.alone.AloneLemmas.{ends-bind, bind-comes, then-comes, store-comes}
-use Rattle.art_serial.proofs.alone.RowRunLemmas.{with_unlocked, with_claim, claim-ends, claim-comes, unlock_obsolete-comes, unlock_all-comes}
+use Rattle.art_serial.proofs.alone.RowRunLemmas.{with_unlocked, with_claim, claim-ends, claim-comes, unlock_obsolete-comes}
+use Rattle.art_serial.proofs.alone.RowRunLemmas.{unlock_all-comes}
 use Rattle.art_serial.proofs.alone.PlaceLemmas.{Sits, sits-part, sits-inside, sits-kind_at}
 use Rattle.art_serial.proofs.alone.SlotLemmas.{slot-is, form-same, row-keys, slot-same, keys-same, count-same, IsChildWord}
 use Rattle.art_serial.proofs.alone.LikeLemmas.{Nothing, sits}
 use Rattle.art_serial.proofs.alone.WayLemmas.{below-other, level-most}
 use Rattle.art_serial.specs.inserts.Settled.{IsInside, IsNew, IsNewRow}
-use Rattle.art_serial.proofs.inserts.NearLemmas.{Near, near-out, near-plain, near-live, near-behind, near-version, near-unlocked, Among, IsHeld, unlocked-other}
+use Rattle.art_serial.proofs.inserts.NearLemmas.{Near, near-out, near-plain, near-live, near-behind, near-version, near-unlocked, Among}
+use Rattle.art_serial.proofs.inserts.NearLemmas.{IsHeld, unlocked-other}
 use Rattle.art_serial.proofs.inserts.NearLemmas.{behind-plain}
 use Rattle.art_serial.proofs.inserts.OutcomeLemmas.{split, child-same, no-row, Claimed, settle-claimed, Outcome, refused}
 use Rattle.art_serial.proofs.inserts.HungLemmas.{word-changes}
@@ -50,7 +53,8 @@ some-more i h = grind (arith, h)
 
 module _ (trees : SameTreesAreOne) (hangs : GrownRowsAreHung) (written : RowsAreFilled) (read : WordsAreReadBack) (versions : VersionsSay)
     (sized : WordsAreSmall) (s : Shape)
-    (variant : Variant) (n : ℕ) (words : List ℕ) (rest : IsAtRest s n words) (few : n < 4611686018427387904) (bounded : table_words s < 2305843009213693952)
+    (variant : Variant) (n : ℕ) (words : List ℕ) (rest : IsAtRest s n words) (few : n < 4611686018427387904)
+        (bounded : table_words s < 2305843009213693952)
     (m : Contents) (means : Means s words m)
     (key value : ℕ) (key_small : key < 4294967296) (value_small : value < 1073741824) where
   abbrev c : Setting
@@ -66,7 +70,8 @@ module _ (trees : SameTreesAreOne) (hangs : GrownRowsAreHung) (written : RowsAre
       (near : Near s n words rest Nothing (Among s n words rest (r ∷ a ∷ [])) Nothing now)
       (y slot : ℕ) (above : LeadsTo s words key a.base a.kind y) (y_byte : y < 256) (at : slot_of words a.base a.kind y ≡ Some slot)
       (hanging : child_on s words a.base a.kind y ≡ ChildRow r.base r.kind)
-      (leads : LeadsTo s words key r.base r.kind (byte_at c r.level)) (byte : byte_at c r.level < 256) (level : r.level ≡ level_in words r.base r.kind)
+      (leads : LeadsTo s words key r.base r.kind (byte_at c r.level)) (byte : byte_at c r.level < 256)
+          (level : r.level ≡ level_in words r.base r.kind)
       (path : r.path ≡ path_in words r.base r.kind) (none : slot_of words r.base r.kind (byte_at c r.level) ≡ None)
       (all : count_in_row (Insert key value) words r.base r.kind (byte_at c r.level) ≡ capacity r.kind)
       (absent : value_at m key ≡ None) where
@@ -121,7 +126,8 @@ module _ (trees : SameTreesAreOne) (hangs : GrownRowsAreHung) (written : RowsAre
 
       slot-elsewhere : (b j : ℕ) (k : Kind) → Reached s words b k → j < row_words k → b + j ≡ slot → (b ≡ a.base) × (j ≡ is-slot.place)
       slot-elsewhere b j k q lj e =
-          let (kinds, numbers, bases, places) = sits-part s b a.base j is-slot.place k a.kind (sits s n words rest q) (sits s n words rest above.reached) lj
+          let (kinds, numbers, bases, places) =
+              sits-part s b a.base j is-slot.place k a.kind (sits s n words rest q) (sits s n words rest above.reached) lj
           is-slot.high (e ∙ is-slot.is) in
           (bases, places)
 
@@ -145,7 +151,8 @@ module _ (trees : SameTreesAreOne) (hangs : GrownRowsAreHung) (written : RowsAre
       base-plain b k q e = omega (arith, (slot-elsewhere b 0 k q (omega (arith, two-words k)) e).1, early)
 
       -- one of the words is set
-      set-changed : (v : List ℕ) (p q : ℕ) → Out p → (w : ℕ) → (b : Bool) → (w == p) ≡ b → (slice_index (slice_set v p q) w ≡ slice_index v w) ⊎ Out w
+      set-changed : (v : List ℕ) (p q : ℕ) → Out p → (w : ℕ) → (b : Bool) → (w == p) ≡ b
+          → (slice_index (slice_set v p q) w ≡ slice_index v w) ⊎ Out w
       set-changed v p q o w true e = inr (subst (λ i. Out i) (sym (eqb-true w p e)) o)
       set-changed v p q o w false e = inl (get_or-set_other v p w q 0 (eqb-false w p e))
 
@@ -164,8 +171,10 @@ module _ (trees : SameTreesAreOne) (hangs : GrownRowsAreHung) (written : RowsAre
       info-small : info < 18446744073709551616
       info-small =
           let long = (rest.tree.info r.base r.kind leads.reached).0 in
-          sized.info larger r.level r.path (omega (arith, level, level-most words r.base r.kind)) (ap (λ p. length p) path ∙ (long ∙ sym level))
-          (subst (λ p. All (λ x. x < 256) p) (sym path) (bytes-small (path_in words r.base r.kind) (λ i. path_byte-small words r.base r.kind i)))
+          sized.info larger r.level r.path (omega (arith, level, level-most words r.base r.kind))
+              (ap (λ p. length p) path ∙ (long ∙ sym level))
+          (subst (λ p. All (λ x. x < 256) p) (sym path)
+              (bytes-small (path_in words r.base r.kind) (λ i. path_byte-small words r.base r.kind i)))
 
       row-small : row < 2305843009213693952
       row-small = omega (arith, bounded, (sits-inside s row 0 larger row-sits (omega (arith, two-words larger))).1)
@@ -173,7 +182,8 @@ module _ (trees : SameTreesAreOne) (hangs : GrownRowsAreHung) (written : RowsAre
       near1 : Near s n words rest Out (Among s n words rest (r ∷ a ∷ [])) Nothing claimed
       near1 = near-out s n words rest near (length-set now (claims_of larger) ((number + 1) % 18446744073709551616))
           (All-set (λ w. w < 18446744073709551616) now (claims_of larger) ((number + 1) % 18446744073709551616) (omega arith) near.small)
-          (λ w. set-changed now (claims_of larger) ((number + 1) % 18446744073709551616) (inl refl) w (w == claims_of larger) refl) (λ w o. absurd o)
+          (λ w. set-changed now (claims_of larger) ((number + 1) % 18446744073709551616) (inl refl) w (w == claims_of larger)
+              refl) (λ w o. absurd o)
 
       near2 : Near s n words rest Out (Among s n words rest (r ∷ a ∷ [])) Nothing begun
       near2 = near-out s n words rest near1 (length-set claimed (info_at row) info)
@@ -181,7 +191,8 @@ module _ (trees : SameTreesAreOne) (hangs : GrownRowsAreHung) (written : RowsAre
           (λ w. set-changed claimed (info_at row) info info-out w (w == info_at row) refl) (λ w o. o)
 
       same : SameRow words begun r.base r.kind
-      same j low2 high = near-behind s n words rest near2 leads.reached j low2 high (not-written r.base r.kind leads.reached j high (slot-above j high))
+      same j low2 high = near-behind s n words rest near2 leads.reached j low2 high (not-written r.base r.kind leads.reached j high
+          (slot-above j high))
 
       row-ends : (k : ℕ) → 1 < k → ((j : ℕ) → j < k → row + j < table_words s) → row + k ≤ length begun
       row-ends k some h = let last = h (k - 1) (omega (arith, some)) in omega (arith, last, near2.long, some)
@@ -204,17 +215,20 @@ module _ (trees : SameTreesAreOne) (hangs : GrownRowsAreHung) (written : RowsAre
       rows-apart : IsApart r.base r.kind row larger
       rows-apart = go (split r.base row (row_words larger))
         where
-          below : r.base < row → (row < r.base) ⊎ ((r.base + row_words r.kind ≤ row) ⊎ ((j : ℕ) × (j < row_words r.kind) × (row ≡ r.base + j)))
+          below : r.base < row → (row < r.base)
+              ⊎ ((r.base + row_words r.kind ≤ row) ⊎ ((j : ℕ) × (j < row_words r.kind) × (row ≡ r.base + j)))
               → IsApart r.base r.kind row larger
           below lt (inl l) = absurd (omega (arith, l, lt))
           below lt (inr (inl l)) = inl l
-          below lt (inr (inr (j, lj, e))) = absurd (row-apart r.base j 0 r.kind leads.reached lj (omega (arith, two-words larger)) (omega (arith, e)))
+          below lt (inr (inr (j, lj, e))) = absurd (row-apart r.base j 0 r.kind leads.reached lj (omega (arith, two-words larger))
+              (omega (arith, e)))
 
           go : (r.base < row) ⊎ ((row + row_words larger ≤ r.base) ⊎ ((j : ℕ) × (j < row_words larger) × (r.base ≡ row + j)))
               → IsApart r.base r.kind row larger
           go (inl l) = below l (split row r.base (row_words r.kind))
           go (inr (inl l)) = inr l
-          go (inr (inr (j, lj, e))) = absurd (row-apart r.base 0 j r.kind leads.reached (omega (arith, two-words r.kind)) lj (omega (arith, e)))
+          go (inr (inr (j, lj, e))) = absurd (row-apart r.base 0 j r.kind leads.reached (omega (arith, two-words r.kind)) lj
+              (omega (arith, e)))
 
       run : (after : List ℕ)
           × Comes (fill r.kind c r row x (keys_in_row begun r.base r.kind x) (count_in_row (Insert key value) begun r.base r.kind x)) begun
@@ -248,7 +262,8 @@ module _ (trees : SameTreesAreOne) (hangs : GrownRowsAreHung) (written : RowsAre
       later = with_unlocked (a ∷ []) freed
 
       near3 : Near s n words rest Out (Among s n words rest (r ∷ a ∷ [])) Nothing filled
-      near3 = near-out s n words rest near2 has.long (has.small near2.small (key_small, value_small)) (λ w. go w (split w row (row_words larger))) (λ w o. o)
+      near3 = near-out s n words rest near2 has.long (has.small near2.small (key_small, value_small))
+          (λ w. go w (split w row (row_words larger))) (λ w o. o)
         where
           go : (w : ℕ) → (w < row) ⊎ ((row + row_words larger ≤ w) ⊎ ((j : ℕ) × (j < row_words larger) × (w ≡ row + j)))
               → (slice_index filled w ≡ slice_index begun w) ⊎ Out w
@@ -266,7 +281,8 @@ module _ (trees : SameTreesAreOne) (hangs : GrownRowsAreHung) (written : RowsAre
           (λ w. set-changed filled slot (row_word row) (inr (inl refl)) w (w == slot) refl) (λ w o. o)
 
       near5 : Near s n words rest Out (Among s n words rest (a ∷ [])) (λ w. w ≡ r.base) freed
-      near5 = near-version s n words rest {held2 = Among s n words rest (a ∷ [])} {dead2 = λ w. w ≡ r.base} (obsolete_word r.kept) near4 leads.reached
+      near5 = near-version s n words rest {held2 = Among s n words rest (a ∷ [])} {dead2 = λ w. w ≡ r.base} (obsolete_word r.kept)
+          near4 leads.reached
           (obsolete-small r.kept)
           (λ h. absurd (h refl)) (λ h. (versions.obsolete r.kept).0 ∙ r_held.free) keep (λ w o. absurd o)
         where
@@ -294,7 +310,8 @@ module _ (trees : SameTreesAreOne) (hangs : GrownRowsAreHung) (written : RowsAre
           (subst (λ w. Sits s w k) is-slot.is q)
 
       slot-inside : slot < length filled
-      slot-inside = omega (arith, (sits-inside s a.base is-slot.place a.kind (sits s n words rest above.reached) is-slot.high).1, is-slot.is, near3.long)
+      slot-inside = omega (arith, (sits-inside s a.base is-slot.place a.kind (sits s n words rest above.reached) is-slot.high).1,
+          is-slot.is, near3.long)
 
       slot-now : slice_index later slot ≡ row_word row
       slot-now =
@@ -351,10 +368,12 @@ module _ (trees : SameTreesAreOne) (hangs : GrownRowsAreHung) (written : RowsAre
       changes : ChangesAt s words later a.base a.kind y (ChildRow row larger)
       changes = word-changes s n words rest later a.base slot (row_word row) y a.kind above.reached y_byte at
           (λ b k q j one high ne. near-behind s n words rest near6 q j one high (not-written b k q j high ne)) slot-now
-          (rest.tree.form a.base a.kind above.reached) (ChildRow row larger) (read.child s (ChildRow row larger) (sits-kind_at s row larger row-sits))
+          (rest.tree.form a.base a.kind above.reached) (ChildRow row larger)
+              (read.child s (ChildRow row larger) (sits-kind_at s row larger row-sits))
 
       tree : IsTree s later × HasRowInPlace s words later r.base row larger × Means s later (put key value m)
-      tree = hangs s words later m key value a.base a.kind y r.base r.kind x row larger rest.tree means above hanging leads is-grown (record {
+      tree = hangs s words later m key value a.base a.kind y r.base r.kind x row larger rest.tree means above hanging leads
+          is-grown (record {
         others = λ b k q ne nb. changes.others b k q ne;
         info = changes.info;
         form = changes.form;
@@ -369,7 +388,8 @@ module _ (trees : SameTreesAreOne) (hangs : GrownRowsAreHung) (written : RowsAre
         near-live s n words rest near6 q ne
             (λ o. not-written b k q 0 (omega (arith, two-words k)) (base-plain b k q) (subst (λ w. Out w) (omega arith) o)),
       )
-      old-or-new b k (inr (is, kinds)) = inr (subst (λ b. IsNewRow s words later b k) (sym is) (subst (λ k. IsNewRow s words later row k) (sym kinds) new))
+      old-or-new b k (inr (is, kinds)) = inr (subst (λ b. IsNewRow s words later b k) (sym is)
+          (subst (λ k. IsNewRow s words later row k) (sym kinds) new))
 
       outcome : Outcome s n words rest m means key value reply.None later
       outcome = record {
@@ -386,7 +406,8 @@ module _ (trees : SameTreesAreOne) (hangs : GrownRowsAreHung) (written : RowsAre
         comes = inl (
           bind-comes {A = ℕ} {B = Unit {0}} {f = λ base. store (info_at base) info >> (fill r.kind c r base x keys count
               >> (store slot (row_word base) >> (unlock_obsolete r >> unlock_all (a ∷ []))))} (claim-comes c (r ∷ a ∷ []) larger now e)
-              (then-comes {n = fill r.kind c r row x keys count >> (store slot (row_word row) >> (unlock_obsolete r >> unlock_all (a ∷ [])))}
+              (then-comes {n = fill r.kind c r row x keys count >> (store slot (row_word row) >>
+                  (unlock_obsolete r >> unlock_all (a ∷ [])))}
               (store-comes (info_at row) info claimed)
               (then-comes {n = store slot (row_word row) >> (unlock_obsolete r >> unlock_all (a ∷ []))} fill-comes
               (then-comes {n = unlock_obsolete r >> unlock_all (a ∷ [])} (store-comes slot (row_word row) filled)

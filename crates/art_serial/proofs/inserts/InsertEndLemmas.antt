@@ -27,12 +27,14 @@ use Rattle.art_serial.specs.words.Laws.{WordsAreReadBack, VersionsSay, WordsAreS
 use Rattle.art_serial.specs.words.Stored.{IsStored, IsShort}
 use Rattle.art_serial.specs.writes.Laws as writes
 use Rattle.art_serial.specs.alone.Alone.{Comes, Ends}
-use Rattle.art_serial.proofs.alone.AloneLemmas.{give-comes, bind-comes, bind-ends, then-comes, store-comes, ends-bind, ends-then, same-comes, same-ends}
+use Rattle.art_serial.proofs.alone.AloneLemmas.{give-comes, bind-comes, bind-ends, then-comes, store-comes, ends-bind, ends-then}
+use Rattle.art_serial.proofs.alone.AloneLemmas.{same-comes, same-ends}
 use Rattle.art_serial.proofs.alone.RowRunLemmas.{with_unlocked, unlock-comes}
 use Rattle.art_serial.proofs.alone.LikeLemmas.{Nothing}
 use Rattle.art_serial.proofs.inserts.NearLemmas.{Near, Among, IsHeld}
 use Rattle.art_serial.proofs.inserts.OutcomeLemmas.{Outcome}
-use Rattle.art_serial.proofs.inserts.ShortLemmas.{Short, steps_of, short-few, short-more, give-short, bind-short, then-short, store-short, unlock-short}
+use Rattle.art_serial.proofs.inserts.ShortLemmas.{Short, steps_of, short-few, short-more, give-short, bind-short, then-short, store-short}
+use Rattle.art_serial.proofs.inserts.ShortLemmas.{unlock-short}
 use Rattle.art_serial.proofs.inserts.ShortLemmas.{pair_in-short, bind-few, bind-ends-few, same-steps, same-ends-steps}
 use Rattle.art_serial.proofs.inserts.PairOutcomeLemmas.{Hangs, hangs-pair}
 use Rattle.art_serial.proofs.inserts.PutOutcomeLemmas.{leaf-outcome}
@@ -102,15 +104,18 @@ module _ (g : Given) (s : Shape) (variant : Variant) (n : ℕ) (words : List ℕ
       record { reply = i.reply; later = i.later; comes = i.comes; brief = omega (arith, brief, le); outcome = i.outcome }
 
   -- a part before it
-  pub after-part : {A : Type 0} {p : Part A} {f : A → Part Reply} {now between : List ℕ} {a : A} {j k : ℕ} (h : Comes p now a between) → h.steps ≤ j
+  pub after-part : {A : Type 0} {p : Part A} {f : A → Part Reply} {now between : List ℕ} {a : A} {j k : ℕ}
+      (h : Comes p now a between) → h.steps ≤ j
       → Inserts k (f a) between → Inserts (j + k) (p >>= f) now
   after-part {A} {p} {f} {now} {between} {a} {j} {k} h le i = go i.comes i.brief
     where
       go : (o : Comes (f a) between i.reply i.later ⊎ Ends (f a) between i.reply i.later) → steps_of o ≤ k → Inserts (j + k) (p >>= f) now
       go (inl c) lc =
-          record { reply = i.reply; later = i.later; comes = inl (bind-comes {f = f} h c); brief = bind-few f h c le lc; outcome = i.outcome }
+          record { reply = i.reply; later = i.later; comes = inl (bind-comes {f = f} h c); brief =
+              bind-few f h c le lc; outcome = i.outcome }
       go (inr c) lc =
-          record { reply = i.reply; later = i.later; comes = inr (bind-ends {f = f} h c); brief = bind-ends-few f h c le lc; outcome = i.outcome }
+          record { reply = i.reply; later = i.later; comes = inr (bind-ends {f = f} h c); brief =
+              bind-ends-few f h c le lc; outcome = i.outcome }
 
   -- a part that is the same on each list of words
   pub same-part : {part other : Part Reply} {now : List ℕ} {k : ℕ} → ((again : Rest) (after : Reply → Rest) (got : List ℕ)
@@ -125,43 +130,53 @@ module _ (g : Given) (s : Shape) (variant : Variant) (n : ℕ) (words : List ℕ
           let as_many = same-ends-steps {m = part} e c in
           record { reply = i.reply; later = i.later; comes = inr (same-ends e c); brief = omega (arith, le, as_many); outcome = i.outcome }
 
-  module _ (r : Row) (now : List ℕ) (held : IsHeld s n words rest r) (near : Near s n words rest Nothing (Among s n words rest (r ∷ [])) Nothing now)
-      (x : ℕ) (leads : LeadsTo s words key r.base r.kind x) (byte : x < 256) (slot : ℕ) (at : slot_of words r.base r.kind x ≡ Some slot) where
+  module _ (r : Row) (now : List ℕ) (held : IsHeld s n words rest r)
+      (near : Near s n words rest Nothing (Among s n words rest (r ∷ [])) Nothing now)
+      (x : ℕ) (leads : LeadsTo s words key r.base r.kind x) (byte : x < 256) (slot : ℕ)
+          (at : slot_of words r.base r.kind x ≡ Some slot) where
     -- a pair in the slot of the held row, and the row is unlocked
-    pub pair-in : (d a : ℕ) (child : Child) → child_on s words r.base r.kind x ≡ child → Parts words key d a child → IsStored s child → IsShort child → a < 256
+    pub pair-in : (d a : ℕ) (child : Child) → child_on s words r.base r.kind x ≡ child → Parts words key d a child → IsStored s child
+        → IsShort child → a < 256
         → a ≢ slice_index (key_bytes key) d → value_at m key ≡ None
         → Inserts 8 ((pair_in c (r ∷ []) slot d (record { byte = a; child = child }) >> give reply.None) >>= λ q. unlock r >> give q) now
     pair-in d a child on parts stored short small apart absent = go h.comes
       where
         h : Hangs g.trees g.pairs g.pair_written g.read g.sized s variant n words rest few bounded m means key value key_small value_small
             (pair_in c (r ∷ []) slot d (record { byte = a; child = child })) (r ∷ []) now
-        h = hangs-pair g.trees g.pairs g.pair_written g.read g.sized s variant n words rest few bounded m means key value key_small value_small (r ∷ []) now
+        h = hangs-pair g.trees g.pairs g.pair_written g.read g.sized s variant n words rest few bounded m means key value key_small
+            value_small (r ∷ []) now
             (held, tt) near r.base r.kind x
             slot d a child leads byte at on parts stored short small apart absent
 
-        short_part : Short 8 ((pair_in c (r ∷ []) slot d (record { byte = a; child = child }) >> give reply.None) >>= λ q. unlock r >> give q)
+        short_part : Short 8 ((pair_in c (r ∷ []) slot d (record { byte = a; child = child }) >> give reply.None) >>= λ q.
+            unlock r >> give q)
         short_part =
-            short-more 8 (bind-short (then-short (pair_in-short c (r ∷ []) slot d (record { byte = a; child = child })) (give-short reply.None))
+            short-more 8 (bind-short (then-short (pair_in-short c (r ∷ []) slot d (record { byte = a; child = child }))
+                (give-short reply.None))
             (λ q. then-short (unlock-short r) (give-short q))) (omega arith)
 
         go : (Comes (pair_in c (r ∷ []) slot d (record { byte = a; child = child })) now tt h.after
             × Outcome s n words rest m means key value reply.None (with_unlocked (r ∷ []) h.after))
             ⊎ (Ends (pair_in c (r ∷ []) slot d (record { byte = a; child = child })) now reply.Refused h.after
             × Outcome s n words rest m means key value reply.Refused h.after)
-            → Inserts 8 ((pair_in c (r ∷ []) slot d (record { byte = a; child = child }) >> give reply.None) >>= λ q. unlock r >> give q) now
+            → Inserts 8 ((pair_in c (r ∷ []) slot d (record { byte = a; child = child }) >> give reply.None) >>= λ q.
+                unlock r >> give q) now
         go (inl (k, o)) = ended 8 short_part reply.None (with_unlocked (r ∷ []) h.after)
             (inl (bind-comes {f = λ q. unlock r >> give q} (then-comes {n = give reply.None} k (give-comes reply.None h.after))
             (then-comes {n = give reply.None} (unlock-comes r h.after) (give-comes reply.None (with_unlocked (r ∷ []) h.after))))) o
-        go (inr (k, o)) = ended 8 short_part reply.Refused h.after (inr (ends-bind {f = λ q. unlock r >> give q} (ends-then {n = give reply.None} k))) o
+        go (inr (k, o)) = ended 8 short_part reply.Refused h.after
+            (inr (ends-bind {f = λ q. unlock r >> give q} (ends-then {n = give reply.None} k))) o
 
     -- the leaf in the slot of the held row, and the row is unlocked
     leaf-in : (o : Option ℕ) (q : Reply) → value_at m key ≡ o
         → Outcome s n words rest m means key value q (with_unlocked (r ∷ []) (slice_set now slot (leaf_word key value)))
         → Inserts 8 ((store slot (leaf_word key value) >> give q) >>= λ q. unlock r >> give q) now
     leaf-in o q has out = ended 8
-        (short-more 8 (bind-short (then-short (store-short slot (leaf_word key value)) (give-short q)) (λ q. then-short (unlock-short r) (give-short q)))
+        (short-more 8 (bind-short (then-short (store-short slot (leaf_word key value)) (give-short q))
+            (λ q. then-short (unlock-short r) (give-short q)))
         (omega arith)) q (with_unlocked (r ∷ []) (slice_set now slot (leaf_word key value)))
-        (inl (bind-comes {f = λ q. unlock r >> give q} (then-comes {n = give q} (store-comes slot (leaf_word key value) now) (give-comes q _))
+        (inl (bind-comes {f = λ q. unlock r >> give q}
+            (then-comes {n = give q} (store-comes slot (leaf_word key value) now) (give-comes q _))
         (then-comes {n = give q} (unlock-comes r (slice_set now slot (leaf_word key value))) (give-comes q _)))) out
 
     -- An insert in a slot of the held row that has no row in it.
@@ -170,7 +185,8 @@ module _ (g : Given) (s : Shape) (variant : Variant) (n : ℕ) (words : List ℕ
     unfolding insert_in
     ends-in Empty on no_row =
         leaf-in None reply.None absent
-        (leaf-outcome g.puts g.put_written g.read s variant n words rest m means key value key_small value_small r now held near x leads byte slot at
+        (leaf-outcome g.puts g.put_written g.read s variant n words rest m means key value key_small value_small r now held near x
+            leads byte slot at
         (inl on) None absent)
       where
         absent : value_at m key ≡ None
@@ -179,7 +195,8 @@ module _ (g : Given) (s : Shape) (variant : Variant) (n : ℕ) (words : List ℕ
     ends-in (Leaf k old) on no_row = go (k == key) refl
       where
         go : (b : Bool) → (k == key) ≡ b → Inserts 8 ((if b then (store slot (leaf_word key value) >> give (reply.Some old))
-            else (pair_in c (r ∷ []) slot (keys_differ_at k key) (record { byte = slice_index (key_bytes k) (keys_differ_at k key); child = Leaf k old })
+            else (pair_in c (r ∷ []) slot (keys_differ_at k key)
+                (record { byte = slice_index (key_bytes k) (keys_differ_at k key); child = Leaf k old })
             >> give reply.None)) >>= λ q. unlock r >> give q) now
         go true e =
             let own : k ≡ key = eqb-true k key e in
@@ -193,6 +210,7 @@ module _ (g : Given) (s : Shape) (variant : Variant) (n : ℕ) (words : List ℕ
             let (i, is) = g.part k key k_small key_small other in
             let at_i : keys_differ_at k key ≡ i = ap (λ o. unwrap_or o 0) is in
             let differ = is ∙ ap Some (sym at_i) in
-            pair-in (keys_differ_at k key) (slice_index (key_bytes k) (keys_differ_at k key)) (Leaf k old) on (differ, refl) old_small (k_small, old_small)
+            pair-in (keys_differ_at k key) (slice_index (key_bytes k) (keys_differ_at k key)) (Leaf k old) on (differ, refl) old_small
+                (k_small, old_small)
             (key_byte-small k (keys_differ_at k key)) (first-differs (key_bytes k) (key_bytes key) (keys_differ_at k key) differ)
             (((g.ways s words m key r.base r.kind x rest.tree means leads).1 k old on).1 other)

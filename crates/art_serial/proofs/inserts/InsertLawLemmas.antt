@@ -52,7 +52,8 @@ module _ (g : Given) (s : Shape) (variant : Variant) (n : ℕ) (words : List ℕ
   does : DoesOrRefuses s variant n words m (Insert key value)
   does = go whole.comes whole.brief
     where
-      go : (o : Comes (procedure c (Insert key value)) words whole.reply whole.later ⊎ Ends (procedure c (Insert key value)) words whole.reply whole.later)
+      go : (o : Comes (procedure c (Insert key value)) words whole.reply whole.later
+          ⊎ Ends (procedure c (Insert key value)) words whole.reply whole.later)
           → steps_of o ≤ 1000 → DoesOrRefuses s variant n words m (Insert key value)
       go (inl k) few_steps =
           let as_many = act-comes-accesses s variant (Insert key value) k in

@@ -20,7 +20,8 @@ pub differ-behind : (k : ℕ) (xs ys : List ℕ) (d : ℕ) → take k xs ≡ tak
 differ-behind zero xs ys d same long e = omega arith
 differ-behind (suc k) [] ys d same long e = absurd (none-some d e)
 differ-behind (suc k) (x ∷ xs) [] d same long e = absurd (none-some d e)
-differ-behind (suc k) (x ∷ xs) (y ∷ ys) d same long e = go (x == y) refl (λ i f. differ-behind k xs ys i (tails same) (omega (arith, long)) f) e
+differ-behind (suc k) (x ∷ xs) (y ∷ ys) d same long e =
+    go (x == y) refl (λ i f. differ-behind k xs ys i (tails same) (omega (arith, long)) f) e
   where
     tails : x ∷ take k xs ≡ y ∷ take k ys → take k xs ≡ take k ys
     tails h = cc
@@ -28,7 +29,8 @@ differ-behind (suc k) (x ∷ xs) (y ∷ ys) d same long e = go (x == y) refl (λ
     heads : x ∷ take k xs ≡ y ∷ take k ys → x ≡ y
     heads h = cc
 
-    later : (o : Option ℕ) → first_difference xs ys ≡ o → ((i : ℕ) → first_difference xs ys ≡ Some i → k ≤ i) → option_map (λ i. i + 1) o ≡ Some d
+    later : (o : Option ℕ) → first_difference xs ys ≡ o → ((i : ℕ) → first_difference xs ys ≡ Some i → k ≤ i)
+        → option_map (λ i. i + 1) o ≡ Some d
         → suc k ≤ d
     later None f rest g = absurd (none-some d g)
     later (Some i) f rest g = omega (arith, rest i f, same_Some (i + 1) d g)

@@ -42,7 +42,8 @@ module _ (s : Shape) (n : ℕ) (words : List ℕ) (rest : IsAtRest s n words) wh
 
   -- other words were written
   pub near-out : {out out2 held dead : ℕ → Type 0} {now later : List ℕ} → Near out held dead now → length later ≡ length now
-      → All (λ w. w < 18446744073709551616) later → ((w : ℕ) → (slice_index later w ≡ slice_index now w) ⊎ out2 w) → ((w : ℕ) → out w → out2 w)
+      → All (λ w. w < 18446744073709551616) later → ((w : ℕ) → (slice_index later w ≡ slice_index now w) ⊎ out2 w)
+      → ((w : ℕ) → out w → out2 w)
       → Near out2 held dead later
   near-out {out} {out2} {held} {dead} {now} {later} near long small same more = record {
     long = long ∙ near.long;
@@ -50,7 +51,8 @@ module _ (s : Shape) (n : ℕ) (words : List ℕ) (rest : IsAtRest s n words) wh
     word = λ w. go w (same w) (near.word w);
   }
     where
-      go : (w : ℕ) → (slice_index later w ≡ slice_index now w) ⊎ out2 w → (slice_index now w ≡ slice_index words w) ⊎ (Version now held dead w ⊎ out w)
+      go : (w : ℕ) → (slice_index later w ≡ slice_index now w) ⊎ out2 w → (slice_index now w ≡ slice_index words w)
+          ⊎ (Version now held dead w ⊎ out w)
           → (slice_index later w ≡ slice_index words w) ⊎ (Version later held dead w ⊎ out2 w)
       go w (inr o) h = inr (inr o)
       go w (inl e) (inl f) = inl (e ∙ f)
@@ -64,8 +66,10 @@ module _ (s : Shape) (n : ℕ) (words : List ℕ) (rest : IsAtRest s n words) wh
 
   -- a row's version is set
   pub near-version : {out held held2 dead dead2 : ℕ → Type 0} {now : List ℕ} {base : ℕ} {kind : Kind} (new : ℕ) → Near out held dead now
-      → Reached s words base kind → new < 18446744073709551616 → ((dead2 base → ⊥) → is_obsolete new ≡ false) → ((held2 base → ⊥) → is_locked new ≡ false)
-      → ((w : ℕ) → held w → (w ≡ base → ⊥) → held2 w) → ((w : ℕ) → dead w → (w ≡ base → ⊥) → dead2 w) → Near out held2 dead2 (slice_set now base new)
+      → Reached s words base kind → new < 18446744073709551616 → ((dead2 base → ⊥) → is_obsolete new ≡ false)
+      → ((held2 base → ⊥) → is_locked new ≡ false)
+      → ((w : ℕ) → held w → (w ≡ base → ⊥) → held2 w) → ((w : ℕ) → dead w → (w ≡ base → ⊥) → dead2 w)
+      → Near out held2 dead2 (slice_set now base new)
   near-version {out} {held} {held2} {dead} {dead2} {now} {base} {kind} new near reached little live free keep keep_dead = record {
     long = length-set now base new ∙ near.long;
     small = All-set (λ w. w < 18446744073709551616) now base new little near.small;
@@ -101,7 +105,8 @@ module _ (s : Shape) (n : ℕ) (words : List ℕ) (rest : IsAtRest s n words) wh
       go w false e = other w (eqb-false w base e) (near.word w)
 
   -- a word of a row that is reached, other than its version, that was not written
-  pub near-behind : {out held dead : ℕ → Type 0} {now : List ℕ} {base : ℕ} {kind : Kind} → Near out held dead now → Reached s words base kind → (j : ℕ) → 1 ≤ j
+  pub near-behind : {out held dead : ℕ → Type 0} {now : List ℕ} {base : ℕ} {kind : Kind} → Near out held dead now
+      → Reached s words base kind → (j : ℕ) → 1 ≤ j
       → j < row_words kind → (out (base + j) → ⊥) → slice_index now (base + j) ≡ slice_index words (base + j)
   near-behind {out} {held} {dead} {now} {base} {kind} near reached j low high ne = go (near.word (base + j))
     where
@@ -110,7 +115,8 @@ module _ (s : Shape) (n : ℕ) (words : List ℕ) (rest : IsAtRest s n words) wh
       go (inl e) = e
       go (inr (inr o)) = absurd (ne o)
       go (inr (inl v)) =
-          let (kinds, numbers, bases, places) = sits-part s base (base + j) j 0 kind v.kind (sits s n words rest reached) (sits s n words rest v.reached) high
+          let (kinds, numbers, bases, places) =
+              sits-part s base (base + j) j 0 kind v.kind (sits s n words rest reached) (sits s n words rest v.reached) high
           (omega (arith, two-words v.kind)) (omega arith) in
           absurd (omega (arith, places, low))
 
@@ -119,7 +125,8 @@ module _ (s : Shape) (n : ℕ) (words : List ℕ) (rest : IsAtRest s n words) wh
   near-row near reached = λ j low high. near-behind near reached j low high (λ h. h)
 
   -- a word that is no row's base
-  pub near-plain : {out held dead : ℕ → Type 0} {now : List ℕ} (w : ℕ) → Near out held dead now → ((kind : Kind) → Sits s w kind → ⊥) → (out w → ⊥)
+  pub near-plain : {out held dead : ℕ → Type 0} {now : List ℕ} (w : ℕ) → Near out held dead now
+      → ((kind : Kind) → Sits s w kind → ⊥) → (out w → ⊥)
       → slice_index now w ≡ slice_index words w
   near-plain {out} {held} {dead} {now} w near plain ne = go (near.word w)
     where
@@ -129,11 +136,13 @@ module _ (s : Shape) (n : ℕ) (words : List ℕ) (rest : IsAtRest s n words) wh
       go (inr (inl v)) = absurd (plain v.kind (sits s n words rest v.reached))
 
   -- the version of a row that is reached and not dead is live
-  pub near-live : {out held dead : ℕ → Type 0} {now : List ℕ} {base : ℕ} {kind : Kind} → Near out held dead now → Reached s words base kind → (dead base → ⊥)
+  pub near-live : {out held dead : ℕ → Type 0} {now : List ℕ} {base : ℕ} {kind : Kind} → Near out held dead now
+      → Reached s words base kind → (dead base → ⊥)
       → (out base → ⊥) → is_obsolete (slice_index now base) ≡ false
   near-live {out} {held} {dead} {now} {base} {kind} near reached ne no_out = go (near.word base)
     where
-      go : (slice_index now base ≡ slice_index words base) ⊎ (Version now held dead base ⊎ out base) → is_obsolete (slice_index now base) ≡ false
+      go : (slice_index now base ≡ slice_index words base) ⊎ (Version now held dead base ⊎ out base)
+          → is_obsolete (slice_index now base) ≡ false
       go (inl e) = ap is_obsolete e ∙ rest.live base kind reached
       go (inr (inl v)) = v.live ne
       go (inr (inr o)) = absurd (no_out o)
@@ -161,7 +170,8 @@ module _ (s : Shape) (n : ℕ) (words : List ℕ) (rest : IsAtRest s n words) wh
       → Near out Nothing dead (with_unlocked rows now)
   near-unlocked [] held near = near
   near-unlocked {out} {dead} (r ∷ rows) {now} (h, held) near =
-      near-unlocked rows held (near-version {held2 = Among rows} {dead2 = dead} (released_word r.kept) near h.reached (released-small r.kept)
+      near-unlocked rows held (near-version {held2 = Among rows} {dead2 = dead} (released_word r.kept) near h.reached
+          (released-small r.kept)
       (λ no_one. released-live r.kept h.live) (λ no_one. released-free r.kept h.free) go (λ w d ne. d))
     where
       go : (w : ℕ) → (w ≡ r.base) ⊎ Among rows w → (w ≡ r.base → ⊥) → Among rows w

@@ -1,5 +1,7 @@
--- An insert under optimistic lock coupling, run alone on a table at rest, goes its key's way and does what it does on the map, or is refused.
-use Rattle.std.proofs.Common.{◌≡◌, ◌⊎◌, inl, inr, ℕ, zero, suc, ◌+◌, ◌*◌, ◌<◌, ◌≤◌, ◌==◌, List, [], ◌∷◌, ◌++◌, take, length, slice_index, slice_set}
+-- An insert under optimistic lock coupling, run alone on a table at rest, goes its key's way and does what it does on the map, or is
+-- refused.
+use Rattle.std.proofs.Common.{◌≡◌, ◌⊎◌, inl, inr, ℕ, zero, suc, ◌+◌, ◌*◌, ◌<◌, ◌≤◌, ◌==◌, List, [], ◌∷◌, ◌++◌, take, length, slice_index}
+use Rattle.std.proofs.Common.{slice_set}
 use Rattle.std.proofs.Common.{Option, Some, None}
 use Rattle.std.proofs.Common.{Bool, true, false, refl, sym, ap, ◌∙◌, subst, arith, eqb-true, if◌then◌else◌}
 use Rattle.std.specs.Prelude.{unwrap_or}
@@ -42,7 +44,8 @@ use Rattle.art_serial.proofs.inserts.OutcomeLemmas.{Outcome}
 use Rattle.art_serial.proofs.inserts.PutOutcomeLemmas.{put-outcome}
 use Rattle.art_serial.proofs.inserts.GrowOutcomeLemmas.{Grows, grows}
 use Rattle.art_serial.proofs.inserts.SmallLemmas.{path_byte-small, le-differs_lt}
-use Rattle.art_serial.proofs.inserts.ShortLemmas.{Short, short-comes, give-short, then-short, unlock-short, check_of-short, find-short, put-short, grow-short}
+use Rattle.art_serial.proofs.inserts.ShortLemmas.{Short, short-comes, give-short, then-short, unlock-short, check_of-short, find-short}
+use Rattle.art_serial.proofs.inserts.ShortLemmas.{put-short, grow-short}
 use Rattle.art_serial.proofs.inserts.ShortLemmas.{bind-few, as-few, wait-few, take_row-few}
 use Rattle.art_serial.proofs.inserts.InsertEndLemmas.{Given, Inserts, ended, within, after-part, same-part, pair-in, ends-in, first-differs}
 use Rattle.art_serial.proofs.inserts.LevelLemmas.{differ-behind, count-most}
@@ -102,7 +105,8 @@ module _ (g : Given) (s : Shape) (variant : Variant) (n : ℕ) (words : List ℕ
   take-near : (rows : List Row) (r : Row) (a : IsAt r) (now : List ℕ) → Near s n words rest Nothing (Among s n words rest rows) Nothing now
       → Near s n words rest Nothing (Among s n words rest (r ∷ rows)) Nothing (taken r now)
   take-near rows r a now near =
-      near-version s n words rest {held2 = Among s n words rest (r ∷ rows)} {dead2 = Nothing} (locked_word r.kept) near a.leads.reached (locked-small r.kept)
+      near-version s n words rest {held2 = Among s n words rest (r ∷ rows)} {dead2 = Nothing} (locked_word r.kept) near a.leads.reached
+          (locked-small r.kept)
       (λ h. locked-live r.kept (is-held r a).live) (λ no_one. absurd (no_one (inl refl))) (λ w h ne. inr h) (λ w d ne. d)
 
   none-near : Near s n words rest Nothing (Among s n words rest []) Nothing words
@@ -150,18 +154,22 @@ module _ (g : Given) (s : Shape) (variant : Variant) (n : ℕ) (words : List ℕ
       (count_in_row (Insert key value) words r.base r.kind (byte_at c r.level)) >> (unlock held >> give reply.None)) words
   unfolding put
   put-row r a none room =
-      let (last, comes, outcome) = put-outcome g.puts g.put_written g.read s variant n words rest m means key value key_small value_small r (taken r words)
+      let (last, comes, outcome) = put-outcome g.puts g.put_written g.read s variant n words rest m means key value key_small
+          value_small r (taken r words)
       (is-held r a)
       (one-near r a) (byte_at c r.level) a.leads (byte r) none room
       ((g.ways s words m key r.base r.kind (byte_at c r.level) rest.tree means a.leads).0 (ap (λ o. child_in s words o) none)) in
-      after-part g s variant n words rest few bounded m means key value key_small value_small (take-comes [] r a) (take-few [] r a (omega arith))
+      after-part g s variant n words rest few bounded m means key value key_small value_small (take-comes [] r a)
+          (take-few [] r a (omega arith))
       (ended g s variant n words rest few bounded m means key value key_small value_small 41
       (then-short (put-short c r (keys-of r) (count-of r) (omega (arith, room))) (then-short (unlock-short r) (give-short reply.None)))
       reply.None (with_unlocked (r ∷ []) last)
-      (inl (then-comes {n = unlock r >> give reply.None} comes (then-comes {n = give reply.None} (unlock-comes r last) (give-comes reply.None _)))) outcome)
+      (inl (then-comes {n = unlock r >> give reply.None} comes
+          (then-comes {n = give reply.None} (unlock-comes r last) (give-comes reply.None _)))) outcome)
 
   abbrev grow-part : Row → Row → ℕ → List ℕ → ℕ → Part Reply
-  grow-part p r slot keys count = take_above c (p ∷ []) >>= λ above. take_row c above r >>= λ held. grow c above slot held keys count >> give reply.None
+  grow-part p r slot keys count = take_above c (p ∷ []) >>= λ above. take_row c above r >>= λ held. grow c above slot held keys count
+      >> give reply.None
 
   grow-row : (p r : Row) (slot : ℕ) (a : IsAt r) → Has-below p r slot → slot_of words r.base r.kind (byte_at c r.level) ≡ None
       → count_in_row (Insert key value) words r.base r.kind (byte_at c r.level) ≡ capacity r.kind
@@ -169,7 +177,8 @@ module _ (g : Given) (s : Shape) (variant : Variant) (n : ℕ) (words : List ℕ
   grow-row p r slot a h none all =
       after-part g s variant n words rest few bounded m means key value key_small value_small {f = λ above. take_row c above r >>= λ held.
       grow c above slot held (keys-of r) (count-of r) >> give reply.None} above-comes above-few
-      (after-part g s variant n words rest few bounded m means key value key_small value_small {f = λ held. grow c (p ∷ []) slot held (keys-of r)
+      (after-part g s variant n words rest few bounded m means key value key_small value_small
+          {f = λ held. grow c (p ∷ []) slot held (keys-of r)
       (count-of r) >> give reply.None}
       row-comes row-few
       (go done.comes))
@@ -199,9 +208,11 @@ module _ (g : Given) (s : Shape) (variant : Variant) (n : ℕ) (words : List ℕ
       row-few : row-comes.steps ≤ 3
       row-few = let le = take_row-few c (p ∷ []) r (taken p words) row-kept (is-held r a).free row-comes in omega (arith, le)
 
-      done : Grows g.trees g.grown g.row_written g.read g.versions g.sized s variant n words rest few bounded m means key value key_small value_small
+      done : Grows g.trees g.grown g.row_written g.read g.versions g.sized s variant n words rest few bounded m means key value
+          key_small value_small
           (grow c (p ∷ []) slot r (keys-of r) (count-of r)) (taken r (taken p words))
-      done = grows g.trees g.grown g.row_written g.read g.versions g.sized s variant n words rest few bounded m means key value key_small value_small r p
+      done = grows g.trees g.grown g.row_written g.read g.versions g.sized s variant n words rest few bounded m means key value
+          key_small value_small r p
           (taken r (taken p words))
           (is-held r a) (is-held p h.at-above) (take-near (p ∷ []) r a (taken p words) (one-near p h.at-above))
           (byte_at c p.level) slot h.at-above.leads (byte p)
@@ -226,18 +237,21 @@ module _ (g : Given) (s : Shape) (variant : Variant) (n : ℕ) (words : List ℕ
   -- ---- levels
 
   -- the key begins as the keys below the row's byte
-  alike : (r : Row) → IsAt r → take (level_in words r.base r.kind + 1) (key_bytes key) ≡ path_in words r.base r.kind ++ byte_at c r.level ∷ []
+  alike : (r : Row) → IsAt r → take (level_in words r.base r.kind + 1) (key_bytes key) ≡ path_in words r.base
+      r.kind ++ byte_at c r.level ∷ []
   alike r a =
       one_more (level_in words r.base r.kind) (key_bytes key) (omega (arith, level-most words r.base r.kind))
       ∙ (ap (λ p. p ++ slice_index (key_bytes key) (level_in words r.base r.kind) ∷ []) a.leads.path
       ∙ ap (λ x. path_in words r.base r.kind ++ x ∷ []) (sym a.leads.byte))
 
   -- a part that is done below the row's level
-  below-part : (r : Row) (a : IsAt r) (d : ℕ) {k : ℕ} (part : Part Reply) (now : List ℕ) → level_in words r.base r.kind + 1 ≤ d → Does k part now
+  below-part : (r : Row) (a : IsAt r) (d : ℕ) {k : ℕ} (part : Part Reply) (now : List ℕ)
+      → level_in words r.base r.kind + 1 ≤ d → Does k part now
       → Does k (below_level r d part) now
   below-part r a d part now more i =
       same-part g s variant n words rest few bounded m means key value key_small value_small
-      (λ again after got. ap (λ (b : Bool). (if b then start_again else part) again after got) (not_less_equal d r.level (omega (arith, more, a.level)))) i
+      (λ again after got. ap (λ (b : Bool). (if b then start_again else part) again after got)
+          (not_less_equal d r.level (omega (arith, more, a.level)))) i
 
   -- ---- the row below
 
@@ -245,7 +259,8 @@ module _ (g : Given) (s : Shape) (variant : Variant) (n : ℕ) (words : List ℕ
       → Comes (step_down c r q k) words (row_of q k (slice_index words (info_at q)) (slice_index words q)) words
   unfolding step_down
   down-comes r q k kept reached =
-      bind-comes {f = λ v. check_of c r >> (load (info_at q) >>= λ info. give (row_of q k info v))} (wait-comes q words (free-at reached) (live-at reached))
+      bind-comes {f = λ v. check_of c r >> (load (info_at q) >>= λ info. give (row_of q k info v))}
+          (wait-comes q words (free-at reached) (live-at reached))
       (then-comes {n = load (info_at q) >>= λ info. give (row_of q k info (slice_index words q))} (check_of-comes c r words kept)
       (bind-comes {f = λ info. give (row_of q k info (slice_index words q))} (load-comes (info_at q) words)
       (give-comes (row_of q k (slice_index words (info_at q)) (slice_index words q)) words)))
@@ -289,7 +304,8 @@ module _ (g : Given) (s : Shape) (variant : Variant) (n : ℕ) (words : List ℕ
       → child_on s words r.base r.kind (byte_at c r.level) ≡ ChildRow b k
       → Does (704 + 10 * fuel) (step_down c r b k >>= λ q. insert_below c (insert_from c) r slot q (path_differs_at c q)) words
   row fuel more r a enough slot b k at on =
-      within g s variant n words rest few bounded m means key value key_small value_small (704 + 10 * fuel) (after-part g s variant n words rest few bounded m means key value key_small value_small
+      within g s variant n words rest few bounded m means key value key_small value_small (704 + 10 * fuel)
+          (after-part g s variant n words rest few bounded m means key value key_small value_small
       {f = λ q. insert_below c (insert_from c) r slot q (path_differs_at c q)}
       (down-comes r b k a.kept reached) (down-few r b k a.kept reached) (go (path_differs_at c found) refl)) (omega arith)
     where
@@ -307,12 +323,14 @@ module _ (g : Given) (s : Shape) (variant : Variant) (n : ℕ) (words : List ℕ
       by None e = more (record { row = found; above = r ∷ []; slot = slot })
           (record { level = refl; path = refl; leads = leads-below s n words rest a.leads (byte r) on e; kept = refl })
           (record { at-above = a; slot-above = at; hangs = on }) (omega (arith, enough, lower.0, a.level))
-      by (Some d) e = within g s variant n words rest few bounded m means key value key_small value_small (700 + 10 * fuel) (below-part r a d _ words
+      by (Some d) e = within g s variant n words rest few bounded m means key value key_small value_small (700 + 10 * fuel)
+          (below-part r a d _ words
           (differ-behind (level_in words r.base r.kind + 1) (path_in words b k) (key_bytes key) d (lower.1 ∙ sym (alike r a))
           (omega (arith, lower.0, (rest.tree.info b k reached).0)) e)
           (beside r a slot b k (slice_index words (info_at b)) (slice_index words b) d at on refl e)) (omega arith)
 
-      go : (o : Option ℕ) → path_differs_at c found ≡ o → Does (700 + 10 * fuel) (insert_below c (insert_from c) r slot found (path_differs_at c found)) words
+      go : (o : Option ℕ) → path_differs_at c found ≡ o
+          → Does (700 + 10 * fuel) (insert_below c (insert_from c) r slot found (path_differs_at c found)) words
       go o e = subst (λ o. Does (700 + 10 * fuel) (insert_below c (insert_from c) r slot found o) words) (sym e) (by o e)
 
   -- ---- the whole way
@@ -322,13 +340,15 @@ module _ (g : Given) (s : Shape) (variant : Variant) (n : ℕ) (words : List ℕ
       → child_on s words p.row.base p.row.kind (byte_at c p.row.level) ≡ child
       → Does (704 + 10 * fuel) (insert_at c (insert_from c) p (Has slot child)) words
   unfolding insert_at
-  child fuel more p a enough slot e Empty at = within g s variant n words rest few bounded m means key value key_small value_small (704 + 10 * fuel)
+  child fuel more p a enough slot e Empty at =
+      within g s variant n words rest few bounded m means key value key_small value_small (704 + 10 * fuel)
       (leaf p.row a slot Empty e at (λ b k is. empty_row is)) (omega arith)
     where
       empty_row : {b : ℕ} {k : Kind} → Empty ≡ ChildRow b k → ⊥
       empty_row h = cc
   child fuel more p a enough slot e (ChildRow b k) at = row fuel more p.row a enough slot b k e at
-  child fuel more p a enough slot e (Leaf k old) at = within g s variant n words rest few bounded m means key value key_small value_small (704 + 10 * fuel)
+  child fuel more p a enough slot e (Leaf k old) at =
+      within g s variant n words rest few bounded m means key value key_small value_small (704 + 10 * fuel)
       (go (k == key) refl) (omega arith)
     where
       leaf_row : {b : ℕ} {q : Kind} → Leaf k old ≡ ChildRow b q → ⊥
@@ -340,7 +360,8 @@ module _ (g : Given) (s : Shape) (variant : Variant) (n : ℕ) (words : List ℕ
       go false other =
           let (k_small, old_small) = g.leaves s words p.row.base p.row.kind (byte_at c p.row.level) k old rest.small at in
           let (i, is) = g.part k key k_small key_small (eqb-false k key other) in
-          let differ : first_difference (key_bytes k) (key_bytes key) ≡ Some (keys_differ_at k key) = is ∙ ap Some (sym (ap (λ o. unwrap_or o 0) is)) in
+          let differ : first_difference (key_bytes k) (key_bytes key) ≡ Some (keys_differ_at k key) = is
+              ∙ ap Some (sym (ap (λ o. unwrap_or o 0) is)) in
           below-part p.row a (keys_differ_at k key) (insert_leaf c p.row slot (Leaf k old)) words
           (differ-behind (level_in words p.row.base p.row.kind + 1) (key_bytes k) (key_bytes key) (keys_differ_at k key)
           (rest.tree.leaf p.row.base (byte_at c p.row.level) k old p.row.kind a.leads.reached (byte p.row) at ∙ sym (alike p.row a))
@@ -395,8 +416,10 @@ module _ (g : Given) (s : Shape) (variant : Variant) (n : ℕ) (words : List ℕ
           words) (sym e) i))))
           (omega arith)
 
-      found : (o : Option ℕ) → slot_of words p.row.base p.row.kind (byte_at c p.row.level) ≡ o → Does (700 + 10 * suc fuel) (insert_from c p) words
-      found None e = after None e (within g s variant n words rest few bounded m means key value key_small value_small (704 + 10 * fuel) (lack p a above e) (omega arith))
+      found : (o : Option ℕ) → slot_of words p.row.base p.row.kind (byte_at c p.row.level) ≡ o
+          → Does (700 + 10 * suc fuel) (insert_from c p) words
+      found None e = after None e (within g s variant n words rest few bounded m means key value key_small value_small (704 + 10 * fuel)
+          (lack p a above e) (omega arith))
       found (Some slot) e = after (Some slot) e
           (child fuel more p a enough slot e (child_of s (slice_index words slot)) (ap (λ o. child_in s words o) e))
 
@@ -408,7 +431,8 @@ module _ (g : Given) (s : Shape) (variant : Variant) (n : ℕ) (words : List ℕ
   pub inserts-optimistic : Inserts g s variant n words rest few bounded m means key value key_small value_small 1000 (insert c) words
   unfolding insert
   inserts-optimistic =
-      within g s variant n words rest few bounded m means key value key_small value_small 1000 (after-part g s variant n words rest few bounded m means key value key_small value_small
+      within g s variant n words rest few bounded m means key value key_small value_small 1000
+          (after-part g s variant n words rest few bounded m means key value key_small value_small
       {f = λ v. insert_from c (record { row = root_row c v; above = []; slot = root_base s })}
       (wait-comes (root_base s) words (free-at {kind = Full} root) (live-at {kind = Full} root))
       (wait-few (root_base s) words (free-at {kind = Full} root) (live-at {kind = Full} root))

@@ -1,5 +1,6 @@
 -- How words after an insert come to be settled, and what an insert comes to.
-use Rattle.std.proofs.Common.{◌≡◌, ◌⊎◌, inl, inr, ℕ, ◌+◌, ◌-◌, ◌%◌, ◌<◌, ◌≤◌, ◌==◌, List, length, slice_index, Bool, true, false, Option, Some, None}
+use Rattle.std.proofs.Common.{◌≡◌, ◌⊎◌, inl, inr, ℕ, ◌+◌, ◌-◌, ◌%◌, ◌<◌, ◌≤◌, ◌==◌, List, length, slice_index, Bool, true, false, Option}
+use Rattle.std.proofs.Common.{Some, None}
 use Rattle.std.proofs.Common.{refl, sym, ap, ◌∙◌, arith, eqb-true}
 use Rattle.std.proofs.lemmas.Bool.{eqb-false, cases_order}
 use Rattle.std.proofs.lemmas.List.Elements.{All-set}
@@ -21,7 +22,8 @@ use Rattle.art_serial.proofs.alone.SlotLemmas.{slot-is, slot-same, row-keys}
 use Rattle.art_serial.proofs.alone.LikeLemmas.{Nothing, sits}
 use Rattle.art_serial.proofs.alone.RowRunLemmas.{with_unlocked, with_claim}
 use Rattle.art_serial.specs.inserts.Settled.{IsInside, IsNew, IsReleased, IsAfterInsert}
-use Rattle.art_serial.proofs.inserts.NearLemmas.{Near, Version, near-out, near-plain, near-live, near-behind, near-unlocked, Among, AreHeld, unlocked-other}
+use Rattle.art_serial.proofs.inserts.NearLemmas.{Near, Version, near-out, near-plain, near-live, near-behind, near-unlocked, Among, AreHeld}
+use Rattle.art_serial.proofs.inserts.NearLemmas.{unlocked-other}
 use Rattle.art_serial.proofs.inserts.SettledLemmas.{settled-words-rest}
 
 -- ---- words and rows
@@ -30,7 +32,8 @@ use Rattle.art_serial.proofs.inserts.SettledLemmas.{settled-words-rest}
 pub split : (w base len : ℕ) → (w < base) ⊎ ((base + len ≤ w) ⊎ ((j : ℕ) × (j < len) × (w ≡ base + j)))
 split w base len = below (cases_order w base)
   where
-    above : base ≤ w → (w ≡ base + len) ⊎ ((w < base + len) ⊎ (base + len < w)) → (w < base) ⊎ ((base + len ≤ w) ⊎ ((j : ℕ) × (j < len) × (w ≡ base + j)))
+    above : base ≤ w → (w ≡ base + len) ⊎ ((w < base + len) ⊎ (base + len < w)) → (w < base)
+        ⊎ ((base + len ≤ w) ⊎ ((j : ℕ) × (j < len) × (w ≡ base + j)))
     above le (inl e) = inr (inl (omega (arith, e)))
     above le (inr (inl lt)) = inr (inr (w - base, omega (arith, lt, le), omega (arith, le)))
     above le (inr (inr gt)) = inr (inl (omega (arith, gt)))
@@ -44,7 +47,8 @@ split w base len = below (cases_order w base)
 pub child-same : (s : Shape) (words later : List ℕ) (base : ℕ) (kind : Kind) (x : ℕ) → x < 256 → SameRow words later base kind
     → child_on s later base kind x ≡ child_on s words base kind x
 child-same s words later base kind x byte same =
-    ap (λ o. child_in s later o) (slot-same words later base kind x byte (row-keys words later base kind same)) ∙ go (slot_of words base kind x) refl
+    ap (λ o. child_in s later o) (slot-same words later base kind x byte (row-keys words later base kind same))
+        ∙ go (slot_of words base kind x) refl
   where
     early : (k : Kind) (j : ℕ) → 2 ≤ j → 1 ≤ j
     early k j h = omega (arith, h)
@@ -53,7 +57,8 @@ child-same s words later base kind x byte same =
     go None e = refl
     go (Some slot) e =
         let at = slot-is words base kind x slot byte e in
-        ap (λ w. child_of s w) (ap (λ n. slice_index later n) at.is ∙ (same at.place (early kind at.place (omega (arith, first kind, at.low))) at.high
+        ap (λ w. child_of s w) (ap (λ n. slice_index later n) at.is
+            ∙ (same at.place (early kind at.place (omega (arith, first kind, at.low))) at.high
         ∙ ap (λ n. slice_index words n) (sym at.is)))
       where
         first : (k : Kind) → 2 ≤ first_child k
@@ -97,7 +102,8 @@ module _ (s : Shape) (n : ℕ) (words : List ℕ) (rest : IsAtRest s n words) wh
       go w (inr (inr e)) = inr (inr (inl (within w e)))
 
   -- one more claim was made, and words inside of rows and of a row that was claimed were written
-  pub settle-claimed : {extra dead : ℕ → Type 0} (kind : Kind) (later : List ℕ) → Near s n words rest (Claimed kind extra) Nothing dead later
+  pub settle-claimed : {extra dead : ℕ → Type 0} (kind : Kind) (later : List ℕ)
+      → Near s n words rest (Claimed kind extra) Nothing dead later
       → slice_index later (claims_of kind) ≡ slice_index words (claims_of kind) + 1
       → ((w : ℕ) → extra w → IsInside s words w ⊎ IsNew s words later w) → IsAfterInsert s words later
   settle-claimed {extra} {dead} kind later near more within = record {
@@ -117,7 +123,8 @@ module _ (s : Shape) (n : ℕ) (words : List ℕ) (rest : IsAtRest s n words) wh
       refuse k ne (inr e) = omega (arith, late (claims_of k) (within (claims_of k) e), claims-few k)
 
       bounds : (k : Kind) (b : Bool) → (claims_of k == claims_of kind) ≡ b
-          → (slice_index words (claims_of k) ≤ slice_index later (claims_of k)) × (slice_index later (claims_of k) ≤ slice_index words (claims_of k) + 1)
+          → (slice_index words (claims_of k) ≤ slice_index later (claims_of k))
+          × (slice_index later (claims_of k) ≤ slice_index words (claims_of k) + 1)
       bounds k true e =
           let is : claims_of k ≡ claims_of kind = eqb-true (claims_of k) (claims_of kind) e in
           let count : slice_index later (claims_of k) ≡ slice_index words (claims_of k) + 1
@@ -129,7 +136,8 @@ module _ (s : Shape) (n : ℕ) (words : List ℕ) (rest : IsAtRest s n words) wh
           (refuse k (eqb-false (claims_of k) (claims_of kind) e)) in
           (omega (arith, count), omega (arith, count))
 
-      go : (w : ℕ) → 5 ≤ w → (slice_index later w ≡ slice_index words w) ⊎ (Version s n words rest later Nothing dead w ⊎ Claimed kind extra w)
+      go : (w : ℕ) → 5 ≤ w → (slice_index later w ≡ slice_index words w)
+          ⊎ (Version s n words rest later Nothing dead w ⊎ Claimed kind extra w)
           → (slice_index later w ≡ slice_index words w) ⊎ (IsReleased s words later w ⊎ (IsInside s words w ⊎ IsNew s words later w))
       go w high (inl e) = inl e
       go w high (inr (inl v)) = inr (inl (v.kind, v.reached, v.free (λ h. h)))
@@ -145,11 +153,13 @@ module _ (s : Shape) (n : ℕ) (words : List ℕ) (rest : IsAtRest s n words) wh
 
     -- A claim found no row: the rows that were held are unlocked.
     pub refused : SameTreesAreOne → n < 4611686018427387904 → (kind : Kind) (rows : List Row) (now : List ℕ) → AreHeld s n words rest rows
-        → Near s n words rest Nothing (Among s n words rest rows) Nothing now → Outcome reply.Refused (with_unlocked rows (with_claim now kind))
+        → Near s n words rest Nothing (Among s n words rest rows) Nothing now
+        → Outcome reply.Refused (with_unlocked rows (with_claim now kind))
     refused trees few kind rows now held near = record {
       legal = inl refl;
       rests = settled-words-rest s n words later rest (settle-claimed kind later near3 count (λ w e. absurd e)) hung.tree
-          (λ b k r. inl ((hung.rows b k).0 r, near-live s n words rest near3 ((hung.rows b k).0 r) (λ h. h) (λ o. out-base b k ((hung.rows b k).0 r) o)));
+          (λ b k r. inl ((hung.rows b k).0 r, near-live s n words rest near3 ((hung.rows b k).0 r) (λ h. h)
+              (λ o. out-base b k ((hung.rows b k).0 r) o)));
       meant = hung.means;
     }
       where
@@ -159,13 +169,15 @@ module _ (s : Shape) (n : ℕ) (words : List ℕ) (rest : IsAtRest s n words) wh
         new : ℕ
         new = (slice_index now (claims_of kind) + 1) % 18446744073709551616
 
-        set : (w : ℕ) (b : Bool) → (w == claims_of kind) ≡ b → (slice_index (with_claim now kind) w ≡ slice_index now w) ⊎ Claimed kind Nothing w
+        set : (w : ℕ) (b : Bool) → (w == claims_of kind) ≡ b → (slice_index (with_claim now kind) w ≡ slice_index now w)
+            ⊎ Claimed kind Nothing w
         set w true e = inr (inl (eqb-true w (claims_of kind) e))
         set w false e = inl (get_or-set_other now (claims_of kind) w new 0 (eqb-false w (claims_of kind) e))
 
         near2 : Near s n words rest (Claimed kind Nothing) (Among s n words rest rows) Nothing (with_claim now kind)
         near2 = near-out s n words rest near (length-set now (claims_of kind) new)
-            (All-set (λ w. w < 18446744073709551616) now (claims_of kind) new (omega arith) near.small) (λ w. set w (w == claims_of kind) refl)
+            (All-set (λ w. w < 18446744073709551616) now (claims_of kind) new (omega arith) near.small)
+                (λ w. set w (w == claims_of kind) refl)
             (λ w o. absurd o)
 
         near3 : Near s n words rest (Claimed kind Nothing) Nothing Nothing later

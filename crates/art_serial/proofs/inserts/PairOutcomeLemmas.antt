@@ -42,9 +42,11 @@ use Rattle.art_serial.proofs.inserts.SettledLemmas.{settled-words-rest}
 use Rattle.art_serial.proofs.words.KeyLemmas.{is_less}
 use Rattle.art_serial.proofs.words.ByteLemmas.{key_bytes-small}
 
-module _ (trees : SameTreesAreOne) (hangs : PairsAreHung) (written : writes.PairsAreWritten) (read : WordsAreReadBack) (sized : WordsAreSmall) (s : Shape)
+module _ (trees : SameTreesAreOne) (hangs : PairsAreHung) (written : writes.PairsAreWritten) (read : WordsAreReadBack)
+    (sized : WordsAreSmall) (s : Shape)
     (variant : Variant)
-    (n : ℕ) (words : List ℕ) (rest : IsAtRest s n words) (few : n < 4611686018427387904) (bounded : table_words s < 2305843009213693952) (m : Contents)
+    (n : ℕ) (words : List ℕ) (rest : IsAtRest s n words) (few : n < 4611686018427387904)
+        (bounded : table_words s < 2305843009213693952) (m : Contents)
     (means : Means s words m) (key value : ℕ)
     (key_small : key < 4294967296) (value_small : value < 1073741824) where
   abbrev c : Setting
@@ -60,7 +62,8 @@ module _ (trees : SameTreesAreOne) (hangs : PairsAreHung) (written : writes.Pair
       (near : Near s n words rest Nothing (Among s n words rest rows) Nothing now)
       (base : ℕ) (kind : Kind) (x slot d a : ℕ) (child : Child) (leads : LeadsTo s words key base kind x) (byte : x < 256)
       (at : slot_of words base kind x ≡ Some slot) (hanging : child_on s words base kind x ≡ child) (parts : Parts words key d a child)
-      (stored : IsStored s child) (short : IsShort child) (a_byte : a < 256) (apart : a ≢ slice_index (key_bytes key) d) (absent : value_at m key ≡ None) where
+      (stored : IsStored s child) (short : IsShort child) (a_byte : a < 256) (apart : a ≢ slice_index (key_bytes key) d)
+          (absent : value_at m key ≡ None) where
     abbrev old : Under
     old = record { byte = a; child = child }
 
@@ -77,7 +80,8 @@ module _ (trees : SameTreesAreOne) (hangs : PairsAreHung) (written : writes.Pair
     full e = record {
       after = with_unlocked rows (with_claim now Four);
       comes = inr (
-        ends-bind {A = ℕ} {B = Unit {0}} {f = λ word. store slot word} (pair-ends (record { byte = byte_at c d; child = Leaf key value }) e),
+        ends-bind {A = ℕ} {B = Unit {0}} {f = λ word. store slot word}
+            (pair-ends (record { byte = byte_at c d; child = Leaf key value }) e),
         refused s n words rest m means key value trees few Four rows now held near,
       );
     }
@@ -120,14 +124,16 @@ module _ (trees : SameTreesAreOne) (hangs : PairsAreHung) (written : writes.Pair
           go (inr (inr (j, lj, e))) = absurd (row-apart base is-slot.place j kind leads.reached is-slot.high lj (sym is-slot.is ∙ e))
 
       run : (after : List ℕ) × Comes (pair_in c rows slot d old) now tt after
-          × HasPair s now after row slot d (take d (key_bytes key)) old (record { byte = slice_index (key_bytes key) d; child = Leaf key value })
+          × HasPair s now after row slot d (take d (key_bytes key)) old
+              (record { byte = slice_index (key_bytes key) d; child = Leaf key value })
       run = written c rows slot d old now key value refl value_small stored a_byte apart low (omega (arith, near.long)) inside.0
           (omega (arith, inside.1, near.long)) slot-outside
 
       abbrev after : List ℕ
       after = run.0
 
-      has : HasPair s now after row slot d (take d (key_bytes key)) old (record { byte = slice_index (key_bytes key) d; child = Leaf key value })
+      has : HasPair s now after row slot d (take d (key_bytes key)) old
+          (record { byte = slice_index (key_bytes key) d; child = Leaf key value })
       has = run.2
 
       abbrev later : List ℕ
@@ -167,7 +173,8 @@ module _ (trees : SameTreesAreOne) (hangs : PairsAreHung) (written : writes.Pair
       near2 : Near s n words rest (Claimed s n words rest Four Extra) (Among s n words rest rows) Nothing after
       near2 = near-out s n words rest near has.long
           (has.small near.small short (key_small, value_small) (omega (arith, bounded, (sits-inside s row 0 Four row-sits (omega arith)).1))
-          (sized.info Four d (take d (key_bytes key)) (parts-level words key d a child parts) (taken-long d key (parts-level words key d a child parts))
+          (sized.info Four d (take d (key_bytes key)) (parts-level words key d a child parts)
+              (taken-long d key (parts-level words key d a child parts))
           (All-take (λ x. x < 256) d (key_bytes key) (key_bytes-small key)))) changed (λ w o. absurd o)
 
       near3 : Near s n words rest (Claimed s n words rest Four Extra) Nothing Nothing later
@@ -196,7 +203,8 @@ module _ (trees : SameTreesAreOne) (hangs : PairsAreHung) (written : writes.Pair
 
       base-plain : (b : ℕ) (k : Kind) → Reached s words b k → b + 0 ≡ slot → ⊥
       base-plain b k r e =
-          let (kinds, numbers, bases, places) = sits-part s b base 0 is-slot.place k kind (sits s n words rest r) (sits s n words rest leads.reached)
+          let (kinds, numbers, bases, places) =
+              sits-part s b base 0 is-slot.place k kind (sits s n words rest r) (sits s n words rest leads.reached)
           (omega (arith, two-words k)) is-slot.high (e ∙ is-slot.is) in
           omega (arith, places, early)
 
@@ -226,7 +234,8 @@ module _ (trees : SameTreesAreOne) (hangs : PairsAreHung) (written : writes.Pair
           (subst (λ q. Parts words key d a q) (sym hanging) parts) is-pair
           (word-changes s n words rest later base slot (row_word row) x kind leads.reached byte at
           (λ b k r j one high ne. near-behind s n words rest near3 r j one high (not-written b k r j high ne))
-          (unlocked-other s n words rest rows after held slot slot-plain ∙ has.hangs) (rest.tree.form base kind leads.reached) (ChildRow row Four)
+          (unlocked-other s n words rest rows after held slot slot-plain ∙ has.hangs) (rest.tree.form base kind leads.reached)
+              (ChildRow row Four)
           (read.child s (ChildRow row Four) (sits-kind_at s row Four row-sits)))
 
       old-or-new : (b : ℕ) (k : Kind) → Reached s words b k ⊎ ((b ≡ row) × (k ≡ Four))
@@ -234,9 +243,11 @@ module _ (trees : SameTreesAreOne) (hangs : PairsAreHung) (written : writes.Pair
       old-or-new b k (inl r) = inl (
         r,
         near-live s n words rest near3 r (λ h. h)
-            (λ o. not-written b k r 0 (omega (arith, two-words k)) (base-plain b k r) (subst (λ w. Claimed s n words rest Four Extra w) (omega arith) o)),
+            (λ o. not-written b k r 0 (omega (arith, two-words k)) (base-plain b k r)
+                (subst (λ w. Claimed s n words rest Four Extra w) (omega arith) o)),
       )
-      old-or-new b k (inr (is, kinds)) = inr (subst (λ b. IsNewRow s words later b k) (sym is) (subst (λ k. IsNewRow s words later row k) (sym kinds) new))
+      old-or-new b k (inr (is, kinds)) = inr (subst (λ b. IsNewRow s words later b k) (sym is)
+          (subst (λ k. IsNewRow s words later row k) (sym kinds) new))
 
       hung : Hangs (pair_in c rows slot d old) rows now
       hung = record {

@@ -36,32 +36,38 @@ use Rattle.art_serial.proofs.inserts.HungLemmas.{word-changes}
 use Rattle.art_serial.proofs.inserts.SettledLemmas.{settled-words-rest}
 
 module _ (puts : LeavesArePut) (written : writes.PutsWriteLeaves) (read : WordsAreReadBack) (s : Shape) (variant : Variant)
-    (n : ℕ) (words : List ℕ) (rest : IsAtRest s n words) (m : Contents) (means : Means s words m) (key value : ℕ) (key_small : key < 4294967296)
+    (n : ℕ) (words : List ℕ) (rest : IsAtRest s n words) (m : Contents) (means : Means s words m) (key value : ℕ)
+        (key_small : key < 4294967296)
     (value_small : value < 1073741824) where
   abbrev c : Setting
   c = record { shape = s; variant = variant; call = Insert key value }
 
   -- words inside of rows were written, and the map has the value at the key
-  finished : {extra : ℕ → Type 0} (later : List ℕ) → Near s n words rest extra Nothing Nothing later → ((w : ℕ) → extra w → IsInside s words w)
-      → HasRows s words later (put key value m) → (old : Option ℕ) → value_at m key ≡ old → Outcome s n words rest m means key value (value_reply old) later
+  finished : {extra : ℕ → Type 0} (later : List ℕ) → Near s n words rest extra Nothing Nothing later
+      → ((w : ℕ) → extra w → IsInside s words w)
+      → HasRows s words later (put key value m) → (old : Option ℕ) → value_at m key ≡ old
+      → Outcome s n words rest m means key value (value_reply old) later
   finished {extra} later near within hung old has = go old has
     where
       plain : (b : ℕ) (k : Kind) → Reached s words b k → extra b → ⊥
       plain b k r e =
           let (b2, l, j, r2, low, high, is) = within b e in
-          let (kinds, numbers, bases, places) = sits-part s b b2 0 j k l (sits s n words rest r) (sits s n words rest r2) (omega (arith, two-words k)) high
+          let (kinds, numbers, bases, places) =
+              sits-part s b b2 0 j k l (sits s n words rest r) (sits s n words rest r2) (omega (arith, two-words k)) high
           (omega (arith, is)) in
           omega (arith, places, low)
 
       rests : IsAtRest s (n + 1) later
       rests = settled-words-rest s n words later rest (settle-plain s n words rest later near within) hung.tree
-          (λ b k r. inl ((hung.rows b k).0 r, near-live s n words rest near ((hung.rows b k).0 r) (λ h. h) (plain b k ((hung.rows b k).0 r))))
+          (λ b k r. inl ((hung.rows b k).0 r, near-live s n words rest near ((hung.rows b k).0 r) (λ h. h)
+              (plain b k ((hung.rows b k).0 r))))
 
       go : (o : Option ℕ) → value_at m key ≡ o → Outcome s n words rest m means key value (value_reply o) later
       go None e = record { legal = inr (ap value_reply (sym e)); rests = rests; meant = hung.means }
       go (Some v) e = record { legal = inr (ap value_reply (sym e)); rests = rests; meant = hung.means }
 
-  module _ (r : Row) (now : List ℕ) (held : IsHeld s n words rest r) (near : Near s n words rest Nothing (Among s n words rest (r ∷ [])) Nothing now)
+  module _ (r : Row) (now : List ℕ) (held : IsHeld s n words rest r)
+      (near : Near s n words rest Nothing (Among s n words rest (r ∷ [])) Nothing now)
       (x : ℕ) (leads : LeadsTo s words key r.base r.kind x) (byte : x < 256) where
     module _ (slot : ℕ) (at : slot_of words r.base r.kind x ≡ Some slot) (free : IsFree s words key r.base r.kind x) (old : Option ℕ)
         (has : value_at m key ≡ old) where
@@ -92,13 +98,15 @@ module _ (puts : LeavesArePut) (written : writes.PutsWriteLeaves) (read : WordsA
           (subst (λ w. Sits s w k) is-slot.is y)
 
       inside : slot < length now
-      inside = omega (arith, (sits-inside s r.base is-slot.place r.kind (sits s n words rest leads.reached) is-slot.high).1, is-slot.is, near.long)
+      inside = omega (arith, (sits-inside s r.base is-slot.place r.kind (sits s n words rest leads.reached) is-slot.high).1,
+          is-slot.is, near.long)
 
       leaf-hung : HasRows s words leaf_later (put key value m)
       leaf-hung = puts s words leaf_later m key value r.base r.kind x rest.tree means leads free
           (word-changes s n words rest leaf_later r.base slot (leaf_word key value) x r.kind leads.reached byte at
           (λ b k q j one high ne. near-behind s n words rest leaf-near q j one high ne)
-          (unlocked-other s n words rest (r ∷ []) stored (held, tt) slot slot-plain ∙ get_or-set_same now slot (leaf_word key value) 0 inside)
+          (unlocked-other s n words rest (r ∷ []) stored (held, tt) slot slot-plain
+              ∙ get_or-set_same now slot (leaf_word key value) 0 inside)
           (rest.tree.form r.base r.kind leads.reached) (Leaf key value) (read.child s (Leaf key value) value_small))
 
       -- The leaf is stored in the slot, and the row is unlocked.
@@ -149,7 +157,8 @@ module _ (puts : LeavesArePut) (written : writes.PutsWriteLeaves) (read : WordsA
       changed : (w : ℕ) → (slice_index after w ≡ slice_index now w) ⊎ Extra w
       changed w = go (split w r.base (row_words r.kind))
         where
-          place : (j : ℕ) → j < row_words r.kind → w ≡ r.base + j → (j ≡ 1) ⊎ ((j < 1) ⊎ (1 < j)) → (slice_index after w ≡ slice_index now w) ⊎ Extra w
+          place : (j : ℕ) → j < row_words r.kind → w ≡ r.base + j → (j ≡ 1) ⊎ ((j < 1) ⊎ (1 < j))
+              → (slice_index after w ≡ slice_index now w) ⊎ Extra w
           place j lj e (inl one) = inl (has-put.beside w (inl (omega (arith, e, one))))
           place j lj e (inr (inl less)) = inl (has-put.beside w (inl (omega (arith, e, less))))
           place j lj e (inr (inr more)) = inr (j, more, lj, e)
@@ -170,8 +179,10 @@ module _ (puts : LeavesArePut) (written : writes.PutsWriteLeaves) (read : WordsA
       put-changes : ChangesAt s words put_later r.base r.kind x (Leaf key value)
       put-changes = record {
         others = λ b k q ne j low high. near-behind s n words rest put-near q j low high
-            (λ (i, two, li, e). ne (sits-part s b r.base j i k r.kind (sits s n words rest q) (sits s n words rest leads.reached) high li e).2);
-        info = near-behind s n words rest put-near leads.reached 1 (omega arith) (two-words r.kind) (λ (i, two, li, e). omega (arith, two, e));
+            (λ (i, two, li, e). ne (sits-part s b r.base j i k r.kind (sits s n words rest q)
+                (sits s n words rest leads.reached) high li e).2);
+        info = near-behind s n words rest put-near leads.reached 1 (omega arith) (two-words r.kind)
+            (λ (i, two, li, e). omega (arith, two, e));
         form = form-same after put_later r.base r.kind (row-keys after put_later r.base r.kind same-after) has-put.form;
         other_bytes = λ y yb ne. child-same s after put_later r.base r.kind y yb same-after ∙ (has-put.others y yb ne
             ∙ child-same s words now r.base r.kind y yb same);
@@ -179,7 +190,8 @@ module _ (puts : LeavesArePut) (written : writes.PutsWriteLeaves) (read : WordsA
       }
 
       put-hung : HasRows s words put_later (put key value m)
-      put-hung = puts s words put_later m key value r.base r.kind x rest.tree means leads (inl (ap (λ o. child_in s words o) none)) put-changes
+      put-hung = puts s words put_later m key value r.base r.kind x rest.tree means leads
+          (inl (ap (λ o. child_in s words o) none)) put-changes
 
       -- The leaf is put in the row, and the row is unlocked.
       pub put-outcome : (last : List ℕ) × Comes (put_in r.kind c r x (keys_in_row words r.base r.kind x) (count_in_row
@@ -189,5 +201,6 @@ module _ (puts : LeavesArePut) (written : writes.PutsWriteLeaves) (read : WordsA
         after,
         subst (λ k. Comes (put_in r.kind c r x (keys_in_row words r.base r.kind x) k) now tt after) count
             (subst (λ ks. Comes (put_in r.kind c r x ks (count_in_row (Insert key value) now r.base r.kind x)) now tt after) keys run.1),
-        finished put_later put-near (λ w (j, two, lj, e). (r.base, r.kind, j, leads.reached, omega (arith, two), lj, e)) put-hung None absent,
+        finished put_later put-near (λ w (j, two, lj, e). (r.base, r.kind, j, leads.reached, omega (arith, two), lj, e))
+            put-hung None absent,
       )

@@ -50,7 +50,8 @@ module _ (s : Shape) (n : ℕ) (words later : List ℕ) (rest : IsAtRest s n wor
       go (inr (l, r, free)) = free
 
   -- a row that was reached is none whose number was not claimed
-  apart : (k l : Kind) (number b i j : ℕ) → slice_index words (claims_of k) ≤ number → number < rows_of s k → i < row_words k → Reached s words b l
+  apart : (k l : Kind) (number b i j : ℕ) → slice_index words (claims_of k) ≤ number → number < rows_of s k → i < row_words k
+      → Reached s words b l
       → j < row_words l → base_of s k number + i ≡ b + j → ⊥
   apart k l number b i j above low inside r high e =
       let its = rest.claimed b l r in

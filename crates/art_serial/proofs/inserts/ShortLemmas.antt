@@ -1,5 +1,6 @@
 -- Parts that make few accesses, whatever words they get.
-use Rattle.std.proofs.Common.{◌≡◌, ◌⊎◌, inl, inr, ℕ, zero, suc, ◌+◌, ◌-◌, ◌*◌, ◌≤◌, ◌==◌, nat_lt, List, [], ◌∷◌, ◌++◌, length, slice_index, Bool, true}
+use Rattle.std.proofs.Common.{◌≡◌, ◌⊎◌, inl, inr, ℕ, zero, suc, ◌+◌, ◌-◌, ◌*◌, ◌≤◌, ◌==◌, nat_lt, List, [], ◌∷◌, ◌++◌, length, slice_index}
+use Rattle.std.proofs.Common.{Bool, true}
 use Rattle.std.proofs.Common.{false}
 use Rattle.std.proofs.Common.{Option, Some, None, if◌then◌else◌, refl, ap, ◌∙◌, subst, arith}
 use Rattle.events.specs.declared.event.Reply.{Reply}
@@ -11,12 +12,15 @@ use Rattle.art_rows.specs.declared.table.Shape.{Shape}
 use Rattle.art_rows.specs.Words.{is_locked, is_obsolete, locked_word, entries_of}
 use Rattle.art_steps.specs.declared.access.Access.{Access}
 use Rattle.art_steps.specs.declared.access.Point.{Point}
-use Rattle.art_steps.specs.Steps.{Turn, Asks, Answers, Rest, Part, ◌>>=◌, ◌>>◌, give, start_again, answer, access, load, load_at, store, store_at}
+use Rattle.art_steps.specs.Steps.{Turn, Asks, Answers, Rest, Part, ◌>>=◌, ◌>>◌, give, start_again, answer, access, load, load_at, store}
+use Rattle.art_steps.specs.Steps.{store_at}
 use Rattle.art_steps.specs.Steps.{exchange, add, marked, first_at, each, numbers, numbers_down}
-use Rattle.art_steps.specs.Rows.{Setting, Row, is_insert, leaves_out_check, takes_unchecked, lock_point, lock, take_row, load_child, find_child}
+use Rattle.art_steps.specs.Rows.{Setting, Row, is_insert, leaves_out_check, takes_unchecked, lock_point, lock, take_row, load_child}
+use Rattle.art_steps.specs.Rows.{find_child}
 use Rattle.art_steps.specs.Rows.{find_among, find_indexed, find_in, find}
 use Rattle.art_steps.specs.Rows.{unlock, unlock_obsolete, unlock_all, check, check_of, claim}
-use Rattle.art_steps.specs.Updates.{Under, pair, pair_in, copy_child, make_room, put_in, put, store_index, spread_entry, spread_index, fill, grow}
+use Rattle.art_steps.specs.Updates.{Under, pair, pair_in, copy_child, make_room, put_in, put, store_index, spread_entry, spread_index, fill}
+use Rattle.art_steps.specs.Updates.{grow}
 use Rattle.art_core.specs.Accesses.{got_by}
 use Rattle.art_serial.specs.alone.Alone.{RunsAlone, ends, goes, accesses, Comes, Ends}
 use Rattle.art_serial.proofs.alone.AloneLemmas.{bind-comes, bind-ends, same-comes, same-ends, give-comes, steps-once}
@@ -35,7 +39,8 @@ from-more h le = record { at = λ got long. h.at got (omega (arith, le, long)) }
 
 -- Where what comes after it answers after some words, the part does after so many more. Where it starts again is left out.
 pub record Short {A : Type 0} (k : ℕ) (m : Part A) : Type 0 where
-  rest : (n : ℕ) (again : Rest) (after : A → Rest) → AnswersFrom 0 again → ((a : A) → AnswersFrom n (after a)) → AnswersFrom (k + n) (m again after)
+  rest : (n : ℕ) (again : Rest) (after : A → Rest) → AnswersFrom 0 again → ((a : A) → AnswersFrom n (after a))
+      → AnswersFrom (k + n) (m again after)
 
 -- ---- what it comes to
 
@@ -55,7 +60,8 @@ stops = record { at = λ got long. tt }
 
 pub short-comes : {A : Type 0} {k : ℕ} {m : Part A} {words later : List ℕ} {a : A} → Short k m → (h : Comes m words a later) → h.steps ≤ k
 short-comes {k = k} {m = m} {later = later} s h =
-    let some = few (m stop (λ a. stop)) (k + 0) (s.rest 0 stop (λ a. stop) stops (λ a. stops)) (h.runs stop (λ a. stop) later reply.None (ends refl)) in
+    let some = few (m stop (λ a. stop)) (k + 0) (s.rest 0 stop (λ a. stop) stops (λ a. stops))
+        (h.runs stop (λ a. stop) later reply.None (ends refl)) in
     let all = h.long stop (λ a. stop) later reply.None (ends refl) in
     omega (arith, some, all)
 
@@ -66,7 +72,8 @@ short-ends {k = k} {m = m} s h =
     omega (arith, some, all)
 
 -- the accesses of a part that comes to a value or answers
-abbrev pub steps_of : {A : Type 0} {m : Part A} {words later : List ℕ} {a : A} {r : Reply} → Comes m words a later ⊎ Ends m words r later → ℕ
+abbrev pub steps_of : {A : Type 0} {m : Part A} {words later : List ℕ} {a : A} {r : Reply} → Comes m words a later
+    ⊎ Ends m words r later → ℕ
 steps_of (inl h) = h.steps
 steps_of (inr h) = h.steps
 
@@ -104,7 +111,8 @@ if-short : {A : Type 0} {m p : Part A} {j k : ℕ} (b : Bool) → Short j m → 
 if-short {j = j} {k = k} true s l = short-more (j + k) s (omega arith)
 if-short {j = j} {k = k} false s l = short-more (j + k) l (omega arith)
 
-access-short : (a : Access) (p : Option Point) (n : ℕ) (after : ℕ → Rest) → ((w : ℕ) → AnswersFrom n (after w)) → (got : List ℕ) → 1 + n ≤ length got
+access-short : (a : Access) (p : Option Point) (n : ℕ) (after : ℕ → Rest) → ((w : ℕ) → AnswersFrom n (after w)) → (got : List ℕ)
+    → 1 + n ≤ length got
     → IsAnswered (access a p after got)
 access-short a p n after t [] h = absurd (omega (arith, h))
 access-short a p n after t (w ∷ got) h = (t w).at got (omega (arith, h))
@@ -205,12 +213,14 @@ claim-short c held kind =
 
 -- ---- locks
 
-pub bind-few : {A B : Type 0} {m : Part A} (f : A → Part B) {words between later : List ℕ} {a : A} {b : B} {j k : ℕ} (h : Comes m words a between)
+pub bind-few : {A B : Type 0} {m : Part A} (f : A → Part B) {words between later : List ℕ} {a : A} {b : B} {j k : ℕ}
+    (h : Comes m words a between)
     (c : Comes (f a) between b later) → h.steps ≤ j → c.steps ≤ k → (bind-comes {f = f} h c).steps ≤ j + k
 unfolding bind-comes
 bind-few f h c le lc = omega (arith, le, lc)
 
-pub bind-ends-few : {A B : Type 0} {m : Part A} (f : A → Part B) {words between later : List ℕ} {a : A} {r : Reply} {j k : ℕ} (h : Comes m words a between)
+pub bind-ends-few : {A B : Type 0} {m : Part A} (f : A → Part B) {words between later : List ℕ} {a : A} {r : Reply} {j k : ℕ}
+    (h : Comes m words a between)
     (c : Ends (f a) between r later) → h.steps ≤ j → c.steps ≤ k → (bind-ends {f = f} h c).steps ≤ j + k
 unfolding bind-ends
 bind-ends-few f h c le lc = omega (arith, le, lc)
@@ -226,14 +236,17 @@ unfolding same-ends
 same-ends-steps e h = refl
 
 -- as few as it is shown in another way
-pub as-few : {A : Type 0} {m : Part A} {words later later2 : List ℕ} {a a2 : A} {n : ℕ} (h : Comes m words a later) (k : Comes m words a2 later2)
+pub as-few : {A : Type 0} {m : Part A} {words later later2 : List ℕ} {a a2 : A} {n : ℕ} (h : Comes m words a later)
+    (k : Comes m words a2 later2)
     → k.steps ≤ n → h.steps ≤ n
 as-few h k le = let e = steps-once h k in omega (arith, e, le)
 
-pub lock-few : (s : Shape) (base : ℕ) (words : List ℕ) (e : is_locked (slice_index words base) ≡ false) → (lock-comes s base words e).steps ≤ 2
+pub lock-few : (s : Shape) (base : ℕ) (words : List ℕ) (e : is_locked (slice_index words base) ≡ false)
+    → (lock-comes s base words e).steps ≤ 2
 lock-few s base words e = let two = lock-steps s base words e in omega (arith, two)
 
-pub wait-few : (base : ℕ) (words : List ℕ) (e : is_locked (slice_index words base) ≡ false) (f : is_obsolete (slice_index words base) ≡ false)
+pub wait-few : (base : ℕ) (words : List ℕ) (e : is_locked (slice_index words base) ≡ false)
+    (f : is_obsolete (slice_index words base) ≡ false)
     → (wait-comes base words e f).steps ≤ 1
 wait-few base words e f = let one = wait-steps base words e f in omega (arith, one)
 
@@ -251,7 +264,8 @@ take_row-few c held n words e free h = go (takes_unchecked c.variant) h
         let locks = lock-comes c.shape n.base words unlocked in
         let gives = give-comes (record n { kept = slice_index words n.base }) (with_lock words n.base) in
         let le = as-few h (bind-comes {f = λ v. give (record n { kept = v })} locks gives)
-        (bind-few (λ v. give (record n { kept = v })) locks gives (lock-few c.shape n.base words unlocked) (short-comes (give-short _) gives)) in
+        (bind-few (λ v. give (record n { kept = v })) locks gives (lock-few c.shape n.base words unlocked)
+            (short-comes (give-short _) gives)) in
         omega (arith, le)
     go false h = let le = short-comes (exchange_row-short (lock_point c.shape n.base) held n (locked_word n.kept)) h in omega (arith, le)
 
@@ -273,7 +287,8 @@ find_among-short c n keys (Some i) = find_child-short c _
 find_indexed-short : (c : Setting) (n : Row) (entries : List ℕ) (e : ℕ) → Short 2 (find_indexed c n entries e)
 unfolding find_indexed
 find_indexed-short c n entries e =
-    if-short (e == 0) (if-short (is_insert c.call) (bind-short (load-short _) (λ count. give-short _)) (give-short _)) (find_child-short c _)
+    if-short (e == 0) (if-short (is_insert c.call) (bind-short (load-short _) (λ count. give-short _)) (give-short _))
+        (find_child-short c _)
 
 find_in-short : (kind : Kind) (c : Setting) (n : Row) (x : ℕ) → Short 4 (find_in kind c n x)
 unfolding find_in
@@ -297,7 +312,8 @@ pair-short c held d a b =
 
 pub pair_in-short : (c : Setting) (held : List Row) (slot d : ℕ) (old : Under) → Short (6 + length held) (pair_in c held slot d old)
 unfolding pair_in
-pair_in-short c held slot d old = short-more (6 + length held) (bind-short (pair-short c held d old _) (λ word. store-short slot word)) (omega arith)
+pair_in-short c held slot d old = short-more (6 + length held) (bind-short (pair-short c held d old _) (λ word. store-short slot
+    word)) (omega arith)
 
 copy_child-short : (c : Setting) (from to : ℕ) → Short 2 (copy_child c from to)
 unfolding copy_child
@@ -316,7 +332,8 @@ unfolding put_in
 put_in-short Four c n x keys count le =
     short-more 40 (then-short (make_room-short c n _ count) (then-short (store-short _ _) (store-short _ _))) (omega (arith, le))
 put_in-short Sixteen c n x keys count le =
-    short-more 40 (then-short (make_room-short c n _ count) (then-short (store-short _ _) (then-short (store-short _ _) (then-short (store-short _ _)
+    short-more 40 (then-short (make_room-short c n _ count) (then-short (store-short _ _) (then-short (store-short _ _)
+        (then-short (store-short _ _)
     (store-short _ _))))) (omega (arith, le))
 put_in-short FortyEight c n x keys count le =
     short-more 40 (then-short (store-short _ _) (then-short (store-short _ _) (store-short _ _))) (omega arith)
@@ -337,7 +354,8 @@ spread_entry-short c n base j entries i = if-short (slice_index entries i == 0) 
 spread_index-short : (c : Setting) (n : Row) (base j : ℕ) → Short 17 (spread_index c n base j)
 unfolding spread_index
 spread_index-short c n base j =
-    bind-short (load-short _) (λ w. each-short (spread_entry c n base j (entries_of w)) (spread_entry-short c n base j (entries_of w)) (numbers 0 8))
+    bind-short (load-short _) (λ w. each-short (spread_entry c n base j (entries_of w)) (spread_entry-short c n base j
+        (entries_of w)) (numbers 0 8))
 
 fill-short : (kind : Kind) (c : Setting) (n : Row) (base x : ℕ) (keys : List ℕ) (count : ℕ) → count ≤ capacity kind
     → Short 560 (fill kind c n base x keys count)
@@ -345,16 +363,19 @@ unfolding fill
 fill-short Four c n base x keys count le =
     let e = total-numbers 2 0 count in
     let f = times-two count in
-    short-more 560 (then-short (each-short _ (λ i. copy_child-short c _ _) (numbers 0 count)) (then-short (store-short _ _) (then-short (store-short _ _)
+    short-more 560 (then-short (each-short _ (λ i. copy_child-short c _ _) (numbers 0 count)) (then-short (store-short _ _)
+        (then-short (store-short _ _)
     (then-short (store-short _ _) (store-short _ _))))) (omega (arith, e, f, le))
 fill-short Sixteen c n base x keys count le =
     let e = total-numbers 2 0 count in
     let f = times-two count in
     short-more 560 (then-short (each-short _ (λ i. copy_child-short c _ _) (numbers 0 count)) (then-short (store-short _ _)
-    (then-short (each-short (store_index base (keys ++ x ∷ [])) (store_index-short base (keys ++ x ∷ [])) (numbers 0 32)) (store-short _ _))))
+    (then-short (each-short (store_index base (keys ++ x ∷ [])) (store_index-short base (keys ++ x ∷ [])) (numbers 0 32))
+        (store-short _ _))))
     (omega (arith, e, f, le))
 fill-short FortyEight c n base x keys count le =
-    short-more 560 (then-short (each-short (spread_index c n base) (spread_index-short c n base) (numbers 0 32)) (store-short _ _)) (omega arith)
+    short-more 560 (then-short (each-short (spread_index c n base) (spread_index-short c n base) (numbers 0 32))
+        (store-short _ _)) (omega arith)
 fill-short Full c n base x keys count le = short-more 560 (give-short tt) (omega arith)
 
 -- a row of the next kind, where one row is held above
@@ -362,5 +383,6 @@ pub grow-short : (c : Setting) (p : Row) (slot : ℕ) (n : Row) (keys : List ℕ
     → Short 600 (grow c (p ∷ []) slot n keys count)
 unfolding grow
 grow-short c p slot n keys count le =
-    short-more 600 (bind-short (claim-short c (n ∷ p ∷ []) _) (λ base. then-short (store-short _ _) (then-short (fill-short n.kind c n base _ keys count le)
+    short-more 600 (bind-short (claim-short c (n ∷ p ∷ []) _) (λ base. then-short (store-short _ _)
+        (then-short (fill-short n.kind c n base _ keys count le)
     (then-short (store-short _ _) (then-short (unlock_obsolete-short n) (unlock_all-short (p ∷ []))))))) (omega arith)

@@ -21,7 +21,8 @@ use Rattle.art_serial.proofs.serial.StartKeptLemmas.{serial-run-keeps}
 use Rattle.art_serial.proofs.maps.LengthLemmas.{after_reply-few}
 use Rattle.art_serial.proofs.maps.ClockLemmas.{rest-more, set-rows, set-rests}
 
--- After so many calls the table is at rest and means a map of no more pairs. One claim of kind 256 was made where it was opened, and each call makes at most
+-- After so many calls the table is at rest and means a map of no more pairs. One claim of kind 256 was made where it was opened, and each
+-- call makes at most
 -- one of a kind.
 pub record IsMap (s : Shape) (n : ℕ) (words : List ℕ) (m : Contents) : Type 0 where
   pub rest : IsAtRest s (n + 1) words
@@ -49,7 +50,8 @@ module _ (same : SameTreesAreOne) (s : Shape) where
       record { rest = set-rests s (n + 1) words h.rest value m rows small; means = rows.means; few = h.few }
 
   -- a call that does what it does on the map
-  done : (variant : Variant) (n : ℕ) (words : List ℕ) (m : Contents) (call : Call) → IsMap s n words m → DoesAlone s variant (n + 1) words m call
+  done : (variant : Variant) (n : ℕ) (words : List ℕ) (m : Contents) (call : Call) → IsMap s n words m
+      → DoesAlone s variant (n + 1) words m call
       → MayRunAlone s variant (IsMap s) n words m call
   done variant n words m call h does = record {
     last = does.later;
@@ -64,14 +66,16 @@ module _ (same : SameTreesAreOne) (s : Shape) where
   }
 
   module _ (within : IsWithinLimits s) (seeks : SeeksAreTheMaps) (scans : ScansAreTheMaps) (inserts : InsertsAreTheMaps) where
-    each : (variant : Variant) (n : ℕ) (words : List ℕ) (m : Contents) (call : Call) → IsTrue (is_tree_call call) → n < call_limit → IsMap s n words m
+    each : (variant : Variant) (n : ℕ) (words : List ℕ) (m : Contents) (call : Call) → IsTrue (is_tree_call call) → n < call_limit
+        → IsMap s n words m
         → MayRunAlone s variant (IsMap s) n words m call
     each variant n words m (Get key) tree few h =
         done variant n words m (Get key) h (seeks s variant (n + 1) words m (Get key) tree refl h.rest h.means)
     each variant n words m (Remove key) tree few h =
         done variant n words m (Remove key) h (seeks s variant (n + 1) words m (Remove key) tree refl h.rest h.means)
     each variant n words m (Replace key expected value) tree few h =
-        done variant n words m (Replace key expected value) h (seeks s variant (n + 1) words m (Replace key expected value) tree refl h.rest h.means)
+        done variant n words m (Replace key expected value) h
+            (seeks s variant (n + 1) words m (Replace key expected value) tree refl h.rest h.means)
     each variant n words m (Scan low high) tree few h =
         done variant n words m (Scan low high) h (scans s variant (n + 1) words m low high (omega (arith, h.few, few)) h.rest h.means)
     each variant n words m (Insert key value) tree few h =
@@ -86,7 +90,8 @@ module _ (same : SameTreesAreOne) (s : Shape) where
 
     pub is-kept : (variant : Variant) → IsKept s variant (IsMap s)
     is-kept variant = record {
-      stamps = λ n words m h. clock-set n words m ((slice_index words clock + 1) % 18446744073709551616) (mod-lt (slice_index words clock + 1) (omega arith)) h;
+      stamps = λ n words m h. clock-set n words m ((slice_index words clock + 1) % 18446744073709551616)
+          (mod-lt (slice_index words clock + 1) (omega arith)) h;
       resets = λ n words m h. clock-set n words m 0 (omega arith) h;
       calls = each variant;
     }
@@ -95,6 +100,7 @@ pub serial-is-map : TablesOpenAtRest → SameTreesAreOne → SeeksAreTheMaps →
 serial-is-map opens same seeks scans inserts plan start words schedule s run full serial =
     let within = run.within.shape in
     let opened = opens plan.shape within.root in
-    let k = serial-run-keeps plan start words schedule s (IsMap plan.shape) run serial (is-kept same plan.shape within seeks scans inserts plan.variant)
+    let k = serial-run-keeps plan start words schedule s (IsMap plan.shape) run serial
+        (is-kept same plan.shape within seeks scans inserts plan.variant)
     (record { rest = opened.0; means = opened.1; few = omega arith }) in
     (k.0, k.1.rest.unlocked, k.1.means)

@@ -35,7 +35,8 @@ module _ (opens : TablesOpenAtRest) (same : SameTreesAreOne) (seeks : SeeksAreTh
       let most = i.few in
       omega (arith, same, most)
 
-  briefs : (pairs : Contents) → All (λ call. IsTrue (is_tree_call call)) (inserts pairs) → All (IsBrief shape variant (IsMap shape)) (inserts pairs)
+  briefs : (pairs : Contents) → All (λ call. IsTrue (is_tree_call call)) (inserts pairs)
+      → All (IsBrief shape variant (IsMap shape)) (inserts pairs)
   briefs [] tree = All-nil (IsBrief shape variant (IsMap shape))
   briefs (pair ∷ pairs) tree =
       All-cons (IsBrief shape variant (IsMap shape)) (Insert pair.0 pair.1) (inserts pairs)
@@ -48,7 +49,8 @@ module _ (opens : TablesOpenAtRest) (same : SameTreesAreOne) (seeks : SeeksAreTh
   end : ComesToEnd shape variant (inserts start) (1002 * length (inserts start)) (opening shape) idle
   end =
       let (rests, means) = opens shape within.shape.root in
-      ends-script shape variant (inserts start) (IsMap shape) (is-kept same shape within.shape seeks scans puts variant) (inserts start) (opening shape) []
+      ends-script shape variant (inserts start) (IsMap shape) (is-kept same shape within.shape seeks scans puts variant) (inserts start)
+          (opening shape) []
       idle refl refl tree (briefs start tree)
       (let few = within.few_calls in omega (arith, few)) (record { rest = rests; means = means; few = omega arith })
 

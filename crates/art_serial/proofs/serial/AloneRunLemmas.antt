@@ -16,9 +16,11 @@ left_after rest got = λ later. rest (got ++ later)
 
 -- From the first words the call has come to these, alone, and it got these words.
 abbrev pub HasCome : Rest → List ℕ → List ℕ → List ℕ → Type 0
-HasCome rest first got words = (last : List ℕ) (reply : Reply) → RunsAlone (left_after rest got) words last reply → RunsAlone rest first last reply
+HasCome rest first got words = (last : List ℕ) (reply : Reply) → RunsAlone (left_after rest got) words last reply
+    → RunsAlone rest first last reply
 
-pub comes-further : (rest : Rest) (first got words : List ℕ) (a : Access) (p : Option Point) → HasCome rest first got words → rest got ≡ Asks a p
+pub comes-further : (rest : Rest) (first got words : List ℕ) (a : Access) (p : Option Point) → HasCome rest first got words
+    → rest got ≡ Asks a p
     → HasCome rest first (got ++ got_by a words ∷ []) (words_after a words)
 comes-further rest first got words a p come asks last reply r =
     come last reply (goes a p (ap rest (append-nil got) ∙ asks)

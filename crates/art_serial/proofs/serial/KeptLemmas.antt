@@ -29,7 +29,8 @@ abbrev pub Said : Type 1
 Said = ℕ → List ℕ → Contents → Type 0
 
 -- From these words the call may run alone to a legal reply, and it is said of what that leaves.
-pub record MayRunAlone (shape : Shape) (variant : Variant) (claim : Said) (n : ℕ) (words : List ℕ) (m : Contents) (call : Call) : Type 0 where
+pub record MayRunAlone (shape : Shape) (variant : Variant) (claim : Said) (n : ℕ) (words : List ℕ) (m : Contents)
+    (call : Call) : Type 0 where
   pub last : List ℕ
   pub reply : Reply
   pub runs : RunsAlone (act shape variant call) words last reply
@@ -55,7 +56,8 @@ abbrev pub AreLegal : Contents → List (Call × Reply) → Type 0
 AreLegal m [] = Unit {0}
 AreLegal m (c ∷ done) = IsLegalReply m c.0 c.1 × AreLegal (after_reply m c.0 c.1) done
 
-after-push : (m : Contents) (done : List (Call × Reply)) (c : Call × Reply) → after_done m (done ++ c ∷ []) ≡ after_reply (after_done m done) c.0 c.1
+after-push : (m : Contents) (done : List (Call × Reply)) (c : Call × Reply)
+    → after_done m (done ++ c ∷ []) ≡ after_reply (after_done m done) c.0 c.1
 after-push m [] c = refl
 after-push m (d ∷ done) c = after-push (after_reply m d.0 d.1) done c
 
@@ -80,13 +82,16 @@ legal-same m a c h legal = go a.response h.1
     go None k = absurd k
     go (Some response) k = subst (λ call. IsLegalReply m call response.reply) (sym h.0) (subst (IsLegalReply m c.0) (sym k) legal)
 
-all-after : (m : Contents) (calls : List Operation) (done : List (Call × Reply)) → AllZip IsDone calls done → after_calls m calls ≡ after_done m done
+all-after : (m : Contents) (calls : List Operation) (done : List (Call × Reply)) → AllZip IsDone calls done
+    → after_calls m calls ≡ after_done m done
 all-after m [] [] h = refl
 all-after m [] (c ∷ done) h = absurd h
 all-after m (a ∷ calls) [] h = absurd h
-all-after m (a ∷ calls) (c ∷ done) h = ap (λ n. after_calls n calls) (after-same m a c h.0) ∙ all-after (after_reply m c.0 c.1) calls done h.1
+all-after m (a ∷ calls) (c ∷ done) h = ap (λ n. after_calls n calls) (after-same m a c h.0)
+    ∙ all-after (after_reply m c.0 c.1) calls done h.1
 
-all-legal : (m : Contents) (calls : List Operation) (done : List (Call × Reply)) → AllZip IsDone calls done → AreLegal m done → IsLegal m calls
+all-legal : (m : Contents) (calls : List Operation) (done : List (Call × Reply)) → AllZip IsDone calls done
+    → AreLegal m done → IsLegal m calls
 all-legal m [] [] h legal = tt
 all-legal m [] (c ∷ done) h legal = absurd h
 all-legal m (a ∷ calls) [] h legal = absurd h
@@ -103,7 +108,8 @@ as-long (a ∷ calls) (c ∷ done) h = ap suc (as-long calls done h.1)
 
 -- Each call of a serial run in turn.
 
-module _ (shape : Shape) (variant : Variant) (claim : Said) (kept : IsKept shape variant claim) (made : ℕ) (first : List ℕ) (start : Contents)
+module _ (shape : Shape) (variant : Variant) (claim : Said) (kept : IsKept shape variant claim) (made : ℕ) (first : List ℕ)
+    (start : Contents)
     (said : claim made first start) where
   -- what is so of calls that have run alone
   pub record Kept (done : List (Call × Reply)) (words : List ℕ) : Type 0 where
@@ -115,7 +121,8 @@ module _ (shape : Shape) (variant : Variant) (claim : Said) (kept : IsKept shape
   run-keeps done words none calls few = record { legal = tt; is_said = subst (λ n. claim n first start) (omega arith) said }
   run-keeps done words (more {done = before} {words = earlier} {last = last} call reply run alone) calls few =
       let longer = length-append before ((call, reply) ∷ []) in
-      let ih = run-keeps before earlier run (All-front (λ call. IsTrue (is_tree_call call.0)) before ((call, reply) ∷ []) calls) (omega arith) in
+      let ih = run-keeps before earlier run (All-front (λ call. IsTrue (is_tree_call call.0)) before ((call, reply) ∷ [])
+          calls) (omega arith) in
       let m = after_done start before in
       let tree = All-at (λ call. IsTrue (is_tree_call call.0)) ((call, reply) ∷ []) 0 (call, reply)
       (All-back (λ call. IsTrue (is_tree_call call.0)) before ((call, reply) ∷ []) calls) refl in
@@ -134,15 +141,19 @@ module _ (shape : Shape) (variant : Variant) (claim : Said) (kept : IsKept shape
       }
 
 -- The history of a serial schedule is legal, and what is said stays so.
-pub serial-keeps : (plan : Plan) (first schedule : List ℕ) (s : State) (claim : Said) (made : ℕ) (start : Contents) → IsRunOn plan first schedule s
+pub serial-keeps : (plan : Plan) (first schedule : List ℕ) (s : State) (claim : Said) (made : ℕ) (start : Contents)
+    → IsRunOn plan first schedule s
     → IsSerial (history_of s) → made + calls_in plan ≤ call_limit → IsKept plan.shape plan.variant claim → claim made first start
-    → IsLegal start (operations (history_of s)) × claim (made + length (operations (history_of s))) s.words (after_calls start (operations (history_of s)))
+    → IsLegal start (operations (history_of s))
+    × claim (made + length (operations (history_of s))) s.words (after_calls start (operations (history_of s)))
 serial-keeps plan first schedule s claim made start run serial room kept said =
     let alone = serial-runs-alone plan first schedule s run serial in
     let done = alone.0 in
     let h = alone.1 in
-    let k = run-keeps plan.shape plan.variant claim kept made first start said done s.words h.run h.calls (let few = h.few in omega arith) in (
+    let k = run-keeps plan.shape plan.variant claim kept made first start said done s.words h.run h.calls
+        (let few = h.few in omega arith) in (
       all-legal start (operations (history_of s)) done h.operations k.legal,
-      subst (λ n. claim (made + n) s.words (after_calls start (operations (history_of s)))) (sym (as-long (operations (history_of s)) done h.operations))
+      subst (λ n. claim (made + n) s.words (after_calls start (operations (history_of s))))
+          (sym (as-long (operations (history_of s)) done h.operations))
           (subst (claim (made + length done) s.words) (sym (all-after start (operations (history_of s)) done h.operations)) k.is_said),
     )

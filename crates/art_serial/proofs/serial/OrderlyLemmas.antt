@@ -26,7 +26,8 @@ use Rattle.art_core.proofs.HistoryLemmas.{IsLogged, logged, map-same, changed-at
 use Rattle.art_core.proofs.HistoryLemmas.{no-logs, all-idle}
 use Rattle.art_serial.specs.serial.Serial.{ticked, SerialRun, none, more}
 use Rattle.art_serial.proofs.serial.AloneRunLemmas.{HasCome, comes-further, comes-to-end}
-use Rattle.art_serial.proofs.serial.SerialHistoryLemmas.{IsSerialSoFar, calls_of, so-far-front, one-open, with_call, more-serial, more-calls}
+use Rattle.art_serial.proofs.serial.SerialHistoryLemmas.{IsSerialSoFar, calls_of, so-far-front, one-open, with_call, more-serial}
+use Rattle.art_serial.proofs.serial.SerialHistoryLemmas.{more-calls}
 
 abbrev pub AreTreeCalls : List (Call × Reply) → Type 0
 AreTreeCalls done = All (λ call. IsTrue (is_tree_call call.0)) done
@@ -67,7 +68,8 @@ set-here [] p x y h = absurd (none-some x h)
 set-here (z ∷ zs) zero x y h = refl
 set-here (z ∷ zs) (suc p) x y h = set-here zs p x y h
 
-next-of-tree : (plan : Plan) → IsPlan plan → (p : ℕ) (q : Process) (call : Call) → next_call plan p q ≡ Some call → IsTrue (is_tree_call call)
+next-of-tree : (plan : Plan) → IsPlan plan → (p : ℕ) (q : Process) (call : Call) → next_call plan p q ≡ Some call
+    → IsTrue (is_tree_call call)
 next-of-tree plan within p q call h = go (slice_get plan.scripts p) refl h
   where
     go : (o : Option (List Call)) → slice_get plan.scripts p ≡ o → next_in o (length (begun q)) ≡ Some call → IsTrue (is_tree_call call)
@@ -81,13 +83,15 @@ module _ (plan : Plan) (first : List ℕ) (within : IsPlan plan) (s : State) (p 
   now = slice_index s.words 0
 
   -- a stamp appends its event to the history
-  pub pushed : (e : Event) (q' : Process) → q'.log ≡ q.log ++ (now, e) ∷ [] → logged (slice_set s.processes p q') ≡ logged s.processes ++ e ∷ []
+  pub pushed : (e : Event) (q' : Process) → q'.log ≡ q.log ++ (now, e) ∷ []
+      → logged (slice_set s.processes p q') ≡ logged s.processes ++ e ∷ []
   pushed e q' log =
       let its-log = slice_get-map (λ q. q.log) s.processes p ∙ ap (λ o. option_map (λ q. q.log) o) here in
       ap history_of_logs (map-set (λ q. q.log) s.processes p q' ∙ ap (λ log. slice_set (map (λ q. q.log) s.processes) p log) log)
       ∙ history-push (map (λ q. q.log) s.processes) p q.log (now, e) its-log logs.stamps
 
-  begins : (call : Call) → q.call ≡ None → IsTrue (is_tree_call call) → IsOrderly plan first s → IsOrderly plan first (moved s p q (Invokes call))
+  begins : (call : Call) → q.call ≡ None → IsTrue (is_tree_call call) → IsOrderly plan first s
+      → IsOrderly plan first (moved s p q (Invokes call))
   begins call free tree orderly so = elim (orderly (so-far-front (logged s.processes) (Invoke p call) so')) [
     | inl r ↦ inr (
       p,
@@ -110,7 +114,8 @@ module _ (plan : Plan) (first : List ℕ) (within : IsPlan plan) (s : State) (p 
         of_tree = tree;
       },
     )
-    | inr o ↦ absurd (one-open o.3.before o.0 o.2 p call o.3.serial (subst (λ es. IsSerialSoFar (es ++ Invoke p call ∷ [])) o.3.history so'))
+    | inr o ↦ absurd (one-open o.3.before o.0 o.2 p call o.3.serial
+        (subst (λ es. IsSerialSoFar (es ++ Invoke p call ∷ [])) o.3.history so'))
   ]
     where
       grown : logged (slice_set s.processes p (after_move p (Invokes call) now q)) ≡ logged s.processes ++ Invoke p call ∷ []
@@ -185,21 +190,26 @@ module _ (plan : Plan) (first : List ℕ) (within : IsPlan plan) (s : State) (p 
           ];
           calls = subst AreTreeCalls (sym done)
               (All-append (λ call. IsTrue (is_tree_call call.0)) (calls_of c.before) ((call, reply) ∷ []) c.calls
-              (All-cons (λ call. IsTrue (is_tree_call call.0)) (call, reply) [] c.of_tree (All-nil (λ call. IsTrue (is_tree_call call.0)))));
+              (All-cons (λ call. IsTrue (is_tree_call call.0)) (call, reply) [] c.of_tree
+                  (All-nil (λ call. IsTrue (is_tree_call call.0)))));
         })
 
-  pub one-more : (o : Option Call) (m : Move) → q.call ≡ o → move_from plan p q o ≡ Some m → IsOrderly plan first s → IsOrderly plan first (moved s p q m)
+  pub one-more : (o : Option Call) (m : Move) → q.call ≡ o → move_from plan p q o ≡ Some m → IsOrderly plan first s
+      → IsOrderly plan first (moved s p q m)
   one-more None m e k orderly = go (next_call plan p q) refl k
     where
       go : (o : Option Call) → next_call plan p q ≡ o → invocation o ≡ Some m → IsOrderly plan first (moved s p q m)
       go None f l = absurd (none-some m l)
       go (Some call) f l =
-          subst (λ m. IsOrderly plan first (moved s p q m)) (same_Some (Invokes call) m l) (begins call e (next-of-tree plan within p q call f) orderly)
+          subst (λ m. IsOrderly plan first (moved s p q m)) (same_Some (Invokes call) m l)
+              (begins call e (next-of-tree plan within p q call f) orderly)
   one-more (Some call) m e k orderly = go (act plan.shape plan.variant call q.got) refl k
     where
-      go : (t : Turn) → act plan.shape plan.variant call q.got ≡ t → ◌≡◌ {A = Option Move} (Some (move_of t)) (Some m) → IsOrderly plan first (moved s p q m)
+      go : (t : Turn) → act plan.shape plan.variant call q.got ≡ t → ◌≡◌ {A = Option Move} (Some (move_of t)) (Some m)
+          → IsOrderly plan first (moved s p q m)
       go (Asks a point) f l = subst (λ m. IsOrderly plan first (moved s p q m)) (same_Some (Makes a) m l) (goes-on call e a point f orderly)
-      go (Answers reply) f l = subst (λ m. IsOrderly plan first (moved s p q m)) (same_Some (Responds reply) m l) (is-answered call e reply f orderly)
+      go (Answers reply) f l = subst (λ m. IsOrderly plan first (moved s p q m)) (same_Some (Responds reply) m l)
+          (is-answered call e reply f orderly)
 
 pub opened-orderly : (plan : Plan) (first : List ℕ) → IsOrderly plan first (opened_on plan first)
 opened-orderly plan first so = inl (record {

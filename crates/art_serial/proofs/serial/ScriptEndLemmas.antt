@@ -1,5 +1,6 @@
 -- A script of one process, each call of which may run alone, comes to its end.
-use Rattle.std.proofs.Common.{◌≡◌, ℕ, ◌+◌, ◌*◌, ◌<◌, ◌≤◌, IsTrue, List, [], ◌∷◌, ◌++◌, length, arith, refl, sym, ap, subst, ◌∙◌, append_assoc}
+use Rattle.std.proofs.Common.{◌≡◌, ℕ, ◌+◌, ◌*◌, ◌<◌, ◌≤◌, IsTrue, List, [], ◌∷◌, ◌++◌, length, arith, refl, sym, ap, subst, ◌∙◌}
+use Rattle.std.proofs.Common.{append_assoc}
 use Rattle.std.specs.Prelude.{Option, Some, None, All, slice_get, slice_index, slice_set}
 use Rattle.std.proofs.lemmas.List.{append-nil, length-append}
 use Rattle.std.proofs.lemmas.List.Elements.{All-head, All-tail}
@@ -17,7 +18,8 @@ use Rattle.art_steps.specs.Fits.{word_of}
 use Rattle.art_steps.specs.TreeCalls.{is_tree_call}
 use Rattle.art_core.specs.declared.process.Process.{Process}
 use Rattle.art_core.specs.Accesses.{got_by}
-use Rattle.art_core.specs.Core.{Plan, State, Move, Invokes, Makes, Responds, begun, word_of_move, new_word, after_move, move_of, moved_by, move_from, next_move}
+use Rattle.art_core.specs.Core.{Plan, State, Move, Invokes, Makes, Responds, begun, word_of_move, new_word, after_move, move_of, moved_by}
+use Rattle.art_core.specs.Core.{move_from, next_move}
 use Rattle.art_core.specs.Core.{step, invocation}
 use Rattle.art_core.specs.Runs.{run_on}
 use Rattle.art_core.proofs.RunLemmas.{run-on-append, begun-more}
@@ -28,7 +30,8 @@ use Rattle.art_serial.proofs.serial.KeptLemmas.{Said, IsKept}
 
 -- Where this is said, the call, run alone, makes at most 1,000 accesses.
 abbrev pub IsBrief : Shape → Variant → Said → Call → Type 0
-IsBrief shape variant claim call = (n : ℕ) (words : List ℕ) (m : Contents) → n < call_limit → claim n words m → (last : List ℕ) (reply : Reply)
+IsBrief shape variant claim call = (n : ℕ) (words : List ℕ) (m : Contents) → n < call_limit → claim n words m
+    → (last : List ℕ) (reply : Reply)
     (r : RunsAlone (act shape variant call) words last reply) → accesses r ≤ 1000
 
 call-at : (before later : List Call) (call : Call) → slice_get (before ++ call ∷ later) (length before) ≡ Some call
@@ -57,10 +60,13 @@ module _ (plan : Plan) where
       go None e l = absurd (nowhere plan earlier t l)
       go (Some next) e l = absurd (none-some next (sym over ∙ (sym (ap (λ u. step plan u 0) (same_Some first s h))
           ∙ (ap (step plan first) (sym (own-step first q next one e)) ∙ e))))
-  no-longer (p ∷ schedule) (q ∷ earlier) first s t one h k over = go (step plan first p) (step plan first q) refl refl h k (λ next one l m. no-longer schedule earlier next s t one l m over)
+  no-longer (p ∷ schedule) (q ∷ earlier) first s t one h k over =
+      go (step plan first p) (step plan first q) refl refl h k (λ next one l m. no-longer schedule earlier next s t one l m over)
     where
-      go : (o u : Option State) → step plan first p ≡ o → step plan first q ≡ u → run_on plan o schedule ≡ Some s → run_on plan u earlier ≡ Some t
-          → ((next : State) → length next.processes ≡ 1 → run_on plan (Some next) schedule ≡ Some s → run_on plan (Some next) earlier ≡ Some t
+      go : (o u : Option State) → step plan first p ≡ o → step plan first q ≡ u → run_on plan o schedule ≡ Some s
+          → run_on plan u earlier ≡ Some t
+          → ((next : State) → length next.processes ≡ 1 → run_on plan (Some next) schedule ≡ Some s
+          → run_on plan (Some next) earlier ≡ Some t
           → length earlier ≤ length schedule) → length (q ∷ earlier) ≤ length (p ∷ schedule)
       go None u e f l m later = absurd (nowhere plan schedule s l)
       go (Some next) None e f l m later = absurd (nowhere plan earlier t m)
@@ -135,19 +141,22 @@ module _ (shape : Shape) (variant : Variant) (script : List Call) where
     free : to.call ≡ None
     begins : begun to ≡ begun q ++ call ∷ []
 
-  does : (words : List ℕ) (q : Process) (call : Call) {last : List ℕ} {reply : Reply} → q.call ≡ None → slice_get script (length (begun q)) ≡ Some call
+  does : (words : List ℕ) (q : Process) (call : Call) {last : List ℕ} {reply : Reply} → q.call ≡ None
+      → slice_get script (length (begun q)) ≡ Some call
       → (r : RunsAlone (act shape variant call) (ticked words) last reply) → IsDone (1 + (accesses r + 1)) words q call last
   does words q call {last} {reply} free at r =
       let asks = after_move 0 (Invokes call) (slice_index words 0) q in
       let next : next_move plan 0 q ≡ Some (Invokes call) = ap (move_from plan 0 q) free ∙ ap invocation at in
       let run = replies call asks (act shape variant call) refl (λ more. refl) r in
-      let answer : next_move plan 0 run.to ≡ Some (Responds reply) = ap (move_from plan 0 run.to) run.asked ∙ ap (λ t. Some (move_of t)) run.replied in
+      let answer : next_move plan 0 run.to ≡ Some (Responds reply) = ap (move_from plan 0 run.to) run.asked
+          ∙ ap (λ t. Some (move_of t)) run.replied in
       record {
         to = after_move 0 (Responds reply) (slice_index last 0) run.to;
         leads = on (moves words q (Invokes call) next) (on run.leads (moves last run.to (Responds reply) answer));
         free = refl;
         begins = begun-more run.to (slice_index last 0, Answer 0 reply)
-            ∙ (append-nil (begun run.to) ∙ (ap (λ log. begun (record run.to { log = log })) run.log ∙ begun-more q (slice_index words 0, Invoke 0 call)));
+            ∙ (append-nil (begun run.to) ∙ (ap (λ log. begun (record run.to { log = log })) run.log ∙ begun-more q
+                (slice_index words 0, Invoke 0 call)));
       }
 
   -- A state in which nothing is left to do, after so many steps at most.
@@ -161,7 +170,8 @@ module _ (shape : Shape) (variant : Variant) (script : List Call) where
 
   module _ (claim : Said) (kept : IsKept shape variant claim) where
     pub ends-script : (left : List Call) (words : List ℕ) (m : Contents) (q : Process) → q.call ≡ None → script ≡ begun q ++ left
-        → All (λ call. IsTrue (is_tree_call call)) left → All (IsBrief shape variant claim) left → length (begun q) + length left ≤ call_limit
+        → All (λ call. IsTrue (is_tree_call call)) left → All (IsBrief shape variant claim) left
+        → length (begun q) + length left ≤ call_limit
         → claim (length (begun q)) words m → ComesToEnd (1002 * length left) words q
     ends-script [] words m q free all tree briefs few said = record {
       steps = 0;
@@ -174,15 +184,18 @@ module _ (shape : Shape) (variant : Variant) (script : List Call) where
     }
     ends-script (call ∷ left) words m q free all tree briefs few said =
         let at = ap (λ calls. slice_get calls (length (begun q))) all ∙ call-at (begun q) left call in
-        let may = kept.calls (length (begun q)) (ticked words) m call (All-head (λ call. IsTrue (is_tree_call call)) call left tree) (omega (arith, few))
+        let may = kept.calls (length (begun q)) (ticked words) m call (All-head (λ call. IsTrue (is_tree_call call)) call left tree)
+            (omega (arith, few))
         (kept.stamps (length (begun q)) words m said) in
         let brief = All-head (IsBrief shape variant claim) call left briefs (length (begun q)) (ticked words) m (omega (arith, few))
         (kept.stamps (length (begun q)) words m said) may.last may.reply may.runs in
         let one = does words q call free at may.runs in
-        let more : length (begun one.to) ≡ length (begun q) + 1 = ap (λ calls. length calls) one.begins ∙ length-append (begun q) (call ∷ []) in
+        let more : length (begun one.to) ≡ length (begun q) + 1 = ap (λ calls. length calls) one.begins
+            ∙ length-append (begun q) (call ∷ []) in
         let rest = ends-script left (ticked may.last) (after_reply m call may.reply) one.to one.free
         (all ∙ (sym (append_assoc (begun q) (call ∷ []) left) ∙ ap (λ calls. calls ++ left) (sym one.begins)))
-        (All-tail (λ call. IsTrue (is_tree_call call)) call left tree) (All-tail (IsBrief shape variant claim) call left briefs) (omega (arith, few, more))
+        (All-tail (λ call. IsTrue (is_tree_call call)) call left tree) (All-tail (IsBrief shape variant claim) call left briefs)
+            (omega (arith, few, more))
         (subst (λ n. claim n (ticked may.last) (after_reply m call may.reply)) (sym more)
         (kept.stamps (length (begun q) + 1) may.last (after_reply m call may.reply) may.keeps)) in
         let later = rest.few in

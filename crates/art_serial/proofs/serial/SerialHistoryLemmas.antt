@@ -42,7 +42,8 @@ so-far-front (Invoke p call ∷ Invoke q d ∷ es) e h = absurd h
 so-far-front (Invoke p call ∷ Answer q reply ∷ es) e h = (h.0, so-far-front es e h.1)
 
 -- while a call is open no other is invoked
-pub one-open : (es : List Event) (p : ℕ) (call : Call) (q : ℕ) (d : Call) → IsSerial es → IsSerialSoFar ((es ++ Invoke p call ∷ []) ++ Invoke q d ∷ []) → ⊥
+pub one-open : (es : List Event) (p : ℕ) (call : Call) (q : ℕ) (d : Call) → IsSerial es
+    → IsSerialSoFar ((es ++ Invoke p call ∷ []) ++ Invoke q d ∷ []) → ⊥
 one-open [] p call q d h k = k
 one-open (Answer i reply ∷ es) p call q d h k = absurd h
 one-open (Invoke i c ∷ []) p call q d h k = absurd h
@@ -82,7 +83,8 @@ calls-counted (Invoke i c ∷ []) h = absurd h
 calls-counted (Invoke i c ∷ Invoke j b ∷ es) h = absurd h
 calls-counted (Invoke i c ∷ Answer j r ∷ es) h =
     let rest = calls-counted es h.1 in
-    omega (arith, sum_by-cons (λ e. cond (is_invocation e) 1 0) (Invoke i c) (Answer j r ∷ es), sum_by-cons (λ e. cond (is_invocation e) 1 0) (Answer j r) es)
+    omega (arith, sum_by-cons (λ e. cond (is_invocation e) 1 0) (Invoke i c) (Answer j r ∷ es), sum_by-cons
+        (λ e. cond (is_invocation e) 1 0) (Answer j r) es)
 
 -- they are the history's, in its order
 pub calls-are-done : (i : ℕ) (es : List Event) → IsSerial es → AllZip IsDone (operations_from i es) (calls_of es)
@@ -119,6 +121,7 @@ replies-answered (Invoke i c ∷ Invoke j b ∷ es) h = absurd h
 replies-answered (Invoke i c ∷ Answer j r ∷ es) h = ap (λ l. r ∷ l) (replies-answered es h.1)
 
 -- Events of a log without their stamps.
-pub filter_map-events : {A : Type 0} (f : Event → Option A) (log : List Stamped) → filter_map (λ e. f e.1) log ≡ filter_map f (map (λ e. e.1) log)
+pub filter_map-events : {A : Type 0} (f : Event → Option A) (log : List Stamped)
+    → filter_map (λ e. f e.1) log ≡ filter_map f (map (λ e. e.1) log)
 filter_map-events f [] = refl
 filter_map-events f (e ∷ log) = ap (cons_option (f e.1)) (filter_map-events f log)

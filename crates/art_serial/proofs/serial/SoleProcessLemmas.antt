@@ -14,7 +14,8 @@ use Rattle.art_steps.specs.Act.{act}
 use Rattle.art_steps.specs.Fits.{word_of}
 use Rattle.art_steps.specs.Steps.{Turn, Asks, Answers}
 use Rattle.art_core.specs.declared.process.Process.{Process}
-use Rattle.art_core.specs.Core.{Plan, State, Move, Invokes, Makes, Responds, begun, invoked, answered, moved, word_of_move, after_move, idle}
+use Rattle.art_core.specs.Core.{Plan, State, Move, Invokes, Makes, Responds, begun, invoked, answered, moved, word_of_move, after_move}
+use Rattle.art_core.specs.Core.{idle}
 use Rattle.art_core.specs.Core.{opened_on, history_of, move_of}
 use Rattle.art_core.specs.Core.{next_in, next_call, next_move, move_from, invocation, step}
 use Rattle.art_core.specs.Runs.{HasFewSteps}
@@ -23,7 +24,8 @@ use Rattle.art_core.proofs.RunLemmas.{begun-more}
 use Rattle.art_core.proofs.HistoryLemmas.{IsLogged, opened-logged, logged, is-moved}
 use Rattle.art_serial.specs.serial.Serial.{sole_plan}
 use Rattle.art_serial.specs.serial.Laws.{SoleProcessRunsScript}
-use Rattle.art_serial.proofs.serial.SerialHistoryLemmas.{IsSerialSoFar, calls_of, so-far, with_call, more-serial, so-far-more, calls-invoked, replies-answered}
+use Rattle.art_serial.proofs.serial.SerialHistoryLemmas.{IsSerialSoFar, calls_of, so-far, with_call, more-serial, so-far-more}
+use Rattle.art_serial.proofs.serial.SerialHistoryLemmas.{calls-invoked, replies-answered}
 use Rattle.art_serial.proofs.serial.SerialHistoryLemmas.{filter_map-events}
 use Rattle.art_serial.proofs.serial.OrderlyLemmas.{IsAtRest, HasOneInCall, IsOrderly, pushed, busy, now, opened-orderly}
 use Rattle.art_serial.proofs.serial.SerialScheduleLemmas.{along, orderly-step, runs-alone}
@@ -54,7 +56,8 @@ module _ (shape : Shape) (variant : Variant) (script : List Call) (first : List 
   abbrev plan : Plan
   plan = sole_plan shape variant script
 
-  module _ (s : State) (p : ℕ) (q : Process) (logs : IsLogged plan s) (orderly : IsOrderly plan first s) (here : slice_get s.processes p ≡ Some q)
+  module _ (s : State) (p : ℕ) (q : Process) (logs : IsLogged plan s) (orderly : IsOrderly plan first s)
+      (here : slice_get s.processes p ≡ Some q)
       (sole : IsSole script s q) where
     is-zero : p ≡ 0
     is-zero = (sole-at q p q (ap (λ ps. slice_get ps p) (sym sole.processes) ∙ here)).0
@@ -82,14 +85,16 @@ module _ (shape : Shape) (variant : Variant) (script : List Call) (first : List 
         → IsSole script (moved s p q (Invokes call)) (after_move p (Invokes call) (slice_index s.words 0) q)
     begins-call call free next =
         let q' = after_move p (Invokes call) (slice_index s.words 0) q in
-        let at : slice_get script (length (begun q)) ≡ Some call = ap (λ i. next_in (slice_get (script ∷ []) i) (length (begun q))) (sym is-zero) ∙ next in
+        let at : slice_get script (length (begun q)) ≡ Some call =
+            ap (λ i. next_in (slice_get (script ∷ []) i) (length (begun q))) (sym is-zero) ∙ next in
         let later = rest-at (begun q) sole.left call (ap (λ l. slice_get l (length (begun q))) (sym sole.begins) ∙ at) in
         record {
           processes = set-sole q';
           log = longer-log (Invoke p call) q' refl;
           left = later.0;
           begins = sole.begins ∙ (ap (λ l. begun q ++ l) later.1
-              ∙ (sym (append_assoc (begun q) (call ∷ []) later.0) ∙ ap (λ l. l ++ later.0) (sym (begun-more q (slice_index s.words 0, Invoke p call)))));
+              ∙ (sym (append_assoc (begun q) (call ∷ []) later.0)
+              ∙ ap (λ l. l ++ later.0) (sym (begun-more q (slice_index s.words 0, Invoke p call)))));
           serial = subst IsSerialSoFar (sym (pushed plan first within s p q logs here (Invoke p call) q' refl))
               (so-far-more (logged s.processes) p call (rests free));
         }
@@ -129,13 +134,15 @@ module _ (shape : Shape) (variant : Variant) (script : List Call) (first : List 
         go : (o : Option Call) → next_call plan p q ≡ o → invocation o ≡ Some m
             → IsSole script (moved s p q m) (after_move p m (slice_index s.words (word_of_move m)) q)
         go None f l = absurd (none-some m l)
-        go (Some call) f l = subst (λ m. IsSole script (moved s p q m) (after_move p m (slice_index s.words (word_of_move m)) q)) (same_Some (Invokes call) m l)
+        go (Some call) f l = subst (λ m. IsSole script (moved s p q m) (after_move p m (slice_index s.words (word_of_move m)) q))
+            (same_Some (Invokes call) m l)
             (begins-call call e f)
     one-move-more (Some call) m e k = go (act shape variant call q.got) refl k
       where
         go : (t : Turn) → act shape variant call q.got ≡ t → ◌≡◌ {A = Option Move} (Some (move_of t)) (Some m)
             → IsSole script (moved s p q m) (after_move p m (slice_index s.words (word_of_move m)) q)
-        go (Asks a point) f l = subst (λ m. IsSole script (moved s p q m) (after_move p m (slice_index s.words (word_of_move m)) q)) (same_Some (Makes a) m l)
+        go (Asks a point) f l = subst (λ m. IsSole script (moved s p q m) (after_move p m (slice_index s.words (word_of_move m)) q))
+            (same_Some (Makes a) m l)
             (makes-access a)
         go (Answers reply) f l = subst (λ m. IsSole script (moved s p q m) (after_move p m (slice_index s.words (word_of_move m)) q))
             (same_Some (Responds reply) m l) (answers-call call reply e)
@@ -182,12 +189,15 @@ pub sole-runs-script : SoleProcessRunsScript
 unfolding history_of
 sole-runs-script shape variant script first schedule s q run here end =
     let plan = sole_plan shape variant script in
-    let h = along plan (HasSole shape variant script first run.within) (sole-step shape variant script first run.within) schedule (opened_on plan first) s
+    let h = along plan (HasSole shape variant script first run.within) (sole-step shape variant script first run.within) schedule
+        (opened_on plan first) s
     run.gives run.few_steps
-    ((opened-logged plan first run.table run.clock_zero, opened-orderly plan first), (idle, opened-sole shape variant script first run.within)) in
+    ((opened-logged plan first run.table run.clock_zero, opened-orderly plan first),
+        (idle, opened-sole shape variant script first run.within)) in
     let same : h.1.0 ≡ q = same_Some h.1.0 q (ap (λ ps. slice_get ps 0) (sym h.1.1.processes) ∙ here) in
     let sole = subst (IsSole script s) same h.1.1 in
-    let serial = rests shape variant script first run.within s 0 q h.0.0 h.0.1 here sole (free-at-end shape variant script first run.within q end) in
+    let serial = rests shape variant script first run.within s 0 q h.0.0 h.0.1 here sole (free-at-end shape variant script first
+        run.within q end) in
     let at-end = all-begun shape variant script first run.within q end in
     let none-left = no-rest (begun q) sole.left (ap (λ l. slice_get l (length (begun q))) (sym sole.begins) ∙ at-end) in (
       calls_of (logged s.processes),
@@ -197,6 +207,7 @@ sole-runs-script shape variant script first schedule s q run here end =
         calls = calls-invoked (logged s.processes) serial
             ∙ (ap (filter_map invoked) sole.log
             ∙ (sym (filter_map-events invoked q.log) ∙ sym (sole.begins ∙ (ap (λ l. begun q ++ l) none-left ∙ append-nil (begun q)))));
-        replies = replies-answered (logged s.processes) serial ∙ (ap (filter_map answered) sole.log ∙ sym (filter_map-events answered q.log));
+        replies = replies-answered (logged s.processes) serial
+            ∙ (ap (filter_map answered) sole.log ∙ sym (filter_map-events answered q.log));
       },
     )

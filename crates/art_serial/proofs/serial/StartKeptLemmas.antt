@@ -1,5 +1,6 @@
 -- What stamps and calls that run alone keep, runs from starting pairs keep: the pairs were inserted by one process alone.
-use Rattle.std.proofs.Common.{◌≡◌, ◌≢◌, ℕ, ◌+◌, ◌<◌, ◌≤◌, IsTrue, List, [], ◌∷◌, ◌++◌, length, map, arith, sym, ap, subst, ◌∙◌, append_assoc}
+use Rattle.std.proofs.Common.{◌≡◌, ◌≢◌, ℕ, ◌+◌, ◌<◌, ◌≤◌, IsTrue, List, [], ◌∷◌, ◌++◌, length, map, arith, sym, ap, subst, ◌∙◌}
+use Rattle.std.proofs.Common.{append_assoc}
 use Rattle.std.specs.Prelude.{All}
 use Rattle.std.proofs.lemmas.List.{append-nil, length-map}
 use Rattle.std.proofs.lemmas.List.Elements.{All-nil, All-cons, All-head, All-tail, All-contains}
@@ -42,7 +43,8 @@ some-call : {c : Call} {cs : List Call} → [] ≡ c ∷ cs → ⊥
 some-call e = cc
 
 -- a key above all others is inserted behind them
-put-last : (m : Contents) (key value : ℕ) (start : Contents) → IsRising (m ++ (key, value) ∷ start) → put key value m ≡ m ++ (key, value) ∷ []
+put-last : (m : Contents) (key value : ℕ) (start : Contents) → IsRising (m ++ (key, value) ∷ start)
+    → put key value m ≡ m ++ (key, value) ∷ []
 put-last m key value start rising =
     let none = All-nil (λ (pair : ℕ × ℕ). key < pair.0) in
     let below-is : below key m ≡ m = ap (below key) (sym (append-nil m)) ∙ below_gap key m [] lower none in
@@ -71,7 +73,8 @@ after-inserts m ((key, value) ∷ start) (c ∷ done) calls accepted rising =
     ∙ same)
 
 -- The plan of the inserts is within the limits.
-start-within : (shape : Shape) (variant : Variant) (start : Contents) → IsWithinLimits shape → All (λ call. IsTrue (is_tree_call call)) (inserts start)
+start-within : (shape : Shape) (variant : Variant) (start : Contents) → IsWithinLimits shape
+    → All (λ call. IsTrue (is_tree_call call)) (inserts start)
     → length start ≤ call_limit → IsPlan (start_plan shape variant start)
 start-within shape variant start within calls few = record {
   shape = within;
@@ -84,7 +87,8 @@ start-within shape variant start within calls few = record {
 
 module _ (claim : Said) where
   -- what is said of an empty table is said of one with the starting pairs
-  pub start-keeps : (shape : Shape) (variant : Variant) (start : Contents) (words : List ℕ) → IsPlan (start_plan shape variant start) → IsRising start
+  pub start-keeps : (shape : Shape) (variant : Variant) (start : Contents) (words : List ℕ)
+      → IsPlan (start_plan shape variant start) → IsRising start
       → StartsOn shape variant start words → IsKept shape variant claim → claim 0 (opening shape) [] → claim (length start) words start
   start-keeps shape variant start words within rising starts kept said =
       let plan = start_plan shape variant start in
@@ -96,20 +100,24 @@ module _ (claim : Said) where
         gives = i.gives;
         few_steps = i.few_steps;
       } in
-      let sole = sole-runs-script shape variant (inserts start) (opening shape) i.schedule starts.state starts.process run i.is_process starts.all in
+      let sole = sole-runs-script shape variant (inserts start) (opening shape) i.schedule starts.state starts.process run
+          i.is_process starts.all in
       let done = sole.0 in
       let h = sole.1 in
       let as-many : length done ≡ length start = sym (length-map done (λ c. c.0))
       ∙ (ap (λ l. length l) h.calls ∙ length-map start (λ pair. Insert pair.0 pair.1)) in
       let few : 0 + length done ≤ call_limit = omega (arith, h.alone.few, within.few_calls) in
       let k = run-keeps shape variant claim kept 0 (opening shape) [] said done starts.state.words h.alone.run h.alone.calls few in
-      let pairs = after-inserts [] start done h.calls (subst (All (λ reply. reply ≢ replies.Refused)) (sym h.replies) starts.accepted) rising in
+      let pairs = after-inserts [] start done h.calls
+          (subst (All (λ reply. reply ≢ replies.Refused)) (sym h.replies) starts.accepted) rising in
       let at-end : claim (length start) starts.state.words start =
-      subst (λ n. claim n starts.state.words start) (omega (arith, as-many)) (subst (claim (0 + length done) starts.state.words) pairs k.is_said) in
+      subst (λ n. claim n starts.state.words start) (omega (arith, as-many))
+          (subst (claim (0 + length done) starts.state.words) pairs k.is_said) in
       subst (λ w. claim (length start) w start) (sym starts.leaves) (kept.resets (length start) starts.state.words start at-end)
 
 -- The history of a serial run from starting pairs is legal, and what is said of an empty table stays so.
-pub serial-run-keeps : (plan : Plan) (start : Contents) (words schedule : List ℕ) (s : State) (claim : Said) → IsRun plan start words schedule s
+pub serial-run-keeps : (plan : Plan) (start : Contents) (words schedule : List ℕ) (s : State) (claim : Said)
+    → IsRun plan start words schedule s
     → IsSerial (history_of s) → IsKept plan.shape plan.variant claim → claim 0 (opening plan.shape) []
     → IsLegal start (operations (history_of s))
     × claim (length start + length (operations (history_of s))) s.words (after_calls start (operations (history_of s)))

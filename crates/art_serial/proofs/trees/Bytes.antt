@@ -24,7 +24,8 @@ last_of (b ∷ bytes) (p ∷ path) x low h =
     (ap (λ z. z ∷ path) (sym first) ∙ ap (λ zs. b ∷ zs) rest, last)
 
 -- a path and a byte that begin a list of bytes
-pub path_and_byte : (bytes path : List ℕ) (level x : ℕ) → length path ≡ level → level < length bytes → take (level + 1) bytes ≡ path ++ x ∷ []
+pub path_and_byte : (bytes path : List ℕ) (level x : ℕ) → length path ≡ level → level < length bytes
+    → take (level + 1) bytes ≡ path ++ x ∷ []
     → (path ≡ take level bytes) × (x ≡ slice_index bytes level)
 path_and_byte bytes path level x long low h =
     subst (λ n. (path ≡ take n bytes) × (x ≡ slice_index bytes n)) long
@@ -33,13 +34,15 @@ path_and_byte bytes path level x long low h =
     more : suc (length path) ≡ level + 1
     more = omega (arith, long)
 
-pub next_of : (level : ℕ) (bytes : List ℕ) → level < length bytes → take (suc level) bytes ≡ take level bytes ++ slice_index bytes level ∷ []
+pub next_of : (level : ℕ) (bytes : List ℕ) → level < length bytes
+    → take (suc level) bytes ≡ take level bytes ++ slice_index bytes level ∷ []
 next_of level [] low = absurd (omega arith)
 next_of zero (b ∷ bytes) low = refl
 next_of (suc level) (b ∷ bytes) low = ap (λ zs. b ∷ zs) (next_of level bytes (omega arith))
 
 -- the beginning that is one byte longer
-pub one_more : (level : ℕ) (bytes : List ℕ) → level < length bytes → take (level + 1) bytes ≡ take level bytes ++ slice_index bytes level ∷ []
+pub one_more : (level : ℕ) (bytes : List ℕ) → level < length bytes
+    → take (level + 1) bytes ≡ take level bytes ++ slice_index bytes level ∷ []
 one_more level bytes low = ap (λ n. take n bytes) more ∙ next_of level bytes low
   where
     more : level + 1 ≡ suc level
@@ -84,7 +87,8 @@ parts_at [] ys d h = absurd (none-some d h)
 parts_at (x ∷ xs) [] d h = absurd (none-some d h)
 parts_at (x ∷ xs) (y ∷ ys) d h = go (x == y) refl (λ k is. parts_at xs ys k is) h
   where
-    later : (o : Option ℕ) → ((k : ℕ) → o ≡ Some k → PartsAt xs ys k) → x ≡ y → option_map (λ k. k + 1) o ≡ Some d → PartsAt (x ∷ xs) (y ∷ ys) d
+    later : (o : Option ℕ) → ((k : ℕ) → o ≡ Some k → PartsAt xs ys k) → x ≡ y → option_map (λ k. k + 1) o ≡ Some d
+        → PartsAt (x ∷ xs) (y ∷ ys) d
     later None rest same e = absurd (none-some d e)
     later (Some k) rest same e = subst (λ n. PartsAt (x ∷ xs) (y ∷ ys) n) at (record {
       first = omega (arith, (rest k refl).first);
@@ -112,7 +116,8 @@ parts_at (x ∷ xs) (y ∷ ys) d h = go (x == y) refl (λ k is. parts_at xs ys k
 -- lists that begin alike part behind that
 pub deeper : (xs ys : List ℕ) (level d : ℕ) → PartsAt xs ys d → take (level + 1) xs ≡ take (level + 1) ys → level < d
 deeper xs ys level d parts alike = ⊎_elim
-    (λ low. absurd (parts.apart (sym (byte_less d (level + 1) xs low) ∙ (ap (λ zs. slice_index zs d) alike ∙ byte_less d (level + 1) ys low))))
+    (λ low. absurd (parts.apart (sym (byte_less d (level + 1) xs low) ∙ (ap (λ zs. slice_index zs d) alike ∙ byte_less d
+        (level + 1) ys low))))
     (λ high. omega (arith, high)) (cases_lt d (level + 1))
 
 -- the byte at which they part, behind what they have alike

@@ -1,5 +1,6 @@
 -- What stays where one byte of one row has another child.
-use Rattle.std.proofs.Common.{◌≡◌, ℕ, ◌+◌, ◌*◌, ◌<◌, List, [], ◌∷◌, ◌++◌, take, slice_index, refl, sym, ap, ap₂, subst, subst₂, ◌∙◌, arith, ⊎_elim, inl, inr}
+use Rattle.std.proofs.Common.{◌≡◌, ℕ, ◌+◌, ◌*◌, ◌<◌, List, [], ◌∷◌, ◌++◌, take, slice_index, refl, sym, ap, ap₂, subst, subst₂, ◌∙◌, arith}
+use Rattle.std.proofs.Common.{⊎_elim, inl, inr}
 use Rattle.std.specs.Prelude.{◌⊎◌}
 use Rattle.std.proofs.lemmas.Bool.{cases_eq}
 use Rattle.art_rows.specs.declared.table.Shape.{Shape}
@@ -53,7 +54,8 @@ way_leaf s words key base kind x leads =
     ∙ ap₂ (λ path y. path ++ y ∷ []) leads.path (sym leads.byte)
 
 -- the way leads to a row that is reached with the same info
-pub way_later : (s : Shape) (words later : List ℕ) (key base : ℕ) (kind : Kind) (x : ℕ) → LeadsTo s words key base kind x → Reached s later base kind
+pub way_later : (s : Shape) (words later : List ℕ) (key base : ℕ) (kind : Kind) (x : ℕ) → LeadsTo s words key base kind x
+    → Reached s later base kind
     → slice_index later (info_at base) ≡ slice_index words (info_at base) → LeadsTo s later key base kind x
 way_later s words later key base kind x leads reached same = record {
   reached = reached;
@@ -70,7 +72,8 @@ pub child_there : (s : Shape) (words : List ℕ) (base : ℕ) (kind : Kind) (x b
 child_there s words base kind x b k y (here, same, byte) =
     ap₂ (λ b k. child_on s words b k y) here same ∙ ap (λ y. child_on s words base kind y) byte
 
-module _ (s : Shape) (words later : List ℕ) (base : ℕ) (kind : Kind) (x : ℕ) (child : Child) (tree : IsTree s words) (reached : Reached s words base kind)
+module _ (s : Shape) (words later : List ℕ) (base : ℕ) (kind : Kind) (x : ℕ) (child : Child) (tree : IsTree s words)
+    (reached : Reached s words base kind)
     (change : ChangesAt s words later base kind x child) where
   -- each other child is the same
   pub elsewhere : (b : ℕ) (k : Kind) (y : ℕ) → Reached s words b k → y < 256

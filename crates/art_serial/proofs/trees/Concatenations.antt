@@ -8,7 +8,8 @@ use Rattle.art_steps.specs.Steps.{numbers}
 
 module _ (f : ℕ → Contents) where
   -- what is found is found at one of the numbers,
-  pub found_from : (first n : ℕ) (p : ℕ × ℕ) → Contains (flat_map f (numbers first n)) p → (x : ℕ) × (first ≤ x) × (x < first + n) × Contains (f x) p
+  pub found_from : (first n : ℕ) (p : ℕ × ℕ) → Contains (flat_map f (numbers first n)) p → (x : ℕ) × (first ≤ x) × (x < first + n)
+      × Contains (f x) p
   found_from first zero p h = absurd (Contains-nil p h)
   found_from first (suc n) p h = ⊎_elim
       (λ here. (first, omega arith, omega arith, here))

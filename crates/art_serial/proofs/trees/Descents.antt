@@ -1,6 +1,7 @@
 -- The way of a key from row to row, and where it ends at a leaf.
 use Rattle.std.proofs.Common.{◌≡◌, ℕ, ◌+◌, ◌/◌, ◌%◌, ◌^◌, ◌<◌, ◌≤◌, ◌==◌, Bool, true, false, List, [], ◌∷◌}
-use Rattle.std.proofs.Common.{length, take, slice_index, All, Option, Some, None, option_map, refl, sym, ap, subst, ◌∙◌, arith, ⊎_elim, if◌then◌else◌}
+use Rattle.std.proofs.Common.{length, take, slice_index, All, Option, Some, None, option_map, refl, sym, ap, subst, ◌∙◌, arith, ⊎_elim}
+use Rattle.std.proofs.Common.{if◌then◌else◌}
 use Rattle.std.proofs.lemmas.Bool.{cases_lt, eqb-true}
 use Rattle.std.proofs.lemmas.List.{get_or_past}
 use Rattle.std.proofs.lemmas.Option.{none-some}
@@ -29,7 +30,8 @@ same_beginning (x ∷ xs) (y ∷ ys) long h = go (x == y) refl (λ e. same_begin
 
     go : (b : Bool) → (x == y) ≡ b → (first_difference xs ys ≡ None → take (length xs) ys ≡ xs)
         → (if b then option_map (λ d. d + 1) (first_difference xs ys) else Some 0) ≡ None → y ∷ take (length xs) ys ≡ x ∷ xs
-    go true same later e = ap (λ z. z ∷ take (length xs) ys) (sym (eqb-true x y same)) ∙ ap (λ zs. x ∷ zs) (later (rest (first_difference xs ys) e))
+    go true same later e = ap (λ z. z ∷ take (length xs) ys) (sym (eqb-true x y same))
+        ∙ ap (λ zs. x ∷ zs) (later (rest (first_difference xs ys) e))
     go false same later e = absurd (none-some 0 (sym e))
 
 pub ways-go-down : WaysGoDown
@@ -53,7 +55,8 @@ ways-go-down s words key tree = (
 -- a word of the table
 pub small_at : (words : List ℕ) (i : ℕ) → All (λ w. w < 2 ^ 64) words → slice_index words i < 2 ^ 64
 small_at words i small = ⊎_elim
-    (λ within. small i 0 within) (λ past. subst (λ w. w < 2 ^ 64) (sym (get_or_past words i 0 past)) (omega arith)) (cases_lt i (length words))
+    (λ within. small i 0 within) (λ past. subst (λ w. w < 2 ^ 64) (sym (get_or_past words i 0 past)) (omega arith))
+        (cases_lt i (length words))
 
 leaf_small : (s : Shape) (w key value : ℕ) → w < 2 ^ 64 → child_of s w ≡ Leaf key value → (key < 2 ^ 32) × (value < 2 ^ 30)
 leaf_small s w key value small h = go (w % 4 == 1) (w % 4 == 2) h

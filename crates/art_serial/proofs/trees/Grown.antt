@@ -1,5 +1,6 @@
 -- A grown row is hung in the place of another.
-use Rattle.std.proofs.Common.{◌≡◌, ℕ, ◌+◌, ◌<◌, List, [], ◌∷◌, ◌++◌, length, take, slice_index, refl, sym, ap, ap₂, subst, subst₂, ◌∙◌, arith}
+use Rattle.std.proofs.Common.{◌≡◌, ℕ, ◌+◌, ◌<◌, List, [], ◌∷◌, ◌++◌, length, take, slice_index, refl, sym, ap, ap₂, subst, subst₂, ◌∙◌}
+use Rattle.std.proofs.Common.{arith}
 use Rattle.std.proofs.Common.{⊎_elim, inl, inr}
 use Rattle.std.specs.Prelude.{◌≢◌, ◌⊎◌}
 use Rattle.std.proofs.lemmas.Bool.{cases_eq}
@@ -20,7 +21,8 @@ use Rattle.art_serial.proofs.trees.Changes.{child_there, one_kind, way_byte, way
 use Rattle.art_serial.proofs.trees.NewMaps.{HasOtherLeaves, means_put}
 
 module _ (s : Shape) (words : List ℕ) (tree : IsTree s words) where
-  level_same : (b : ℕ) (k : Kind) (c : ℕ) (j : Kind) → Reached s words b k → Reached s words c j → b ≡ c → level_in words b k ≡ level_in words c j
+  level_same : (b : ℕ) (k : Kind) (c : ℕ) (j : Kind) → Reached s words b k → Reached s words c j → b ≡ c
+      → level_in words b k ≡ level_in words c j
   level_same b k c j r t same =
       ap₂ (λ b k. level_in words b k) same (one_kind s words tree c k j (subst (λ b. Reached s words b k) same r) t)
 
@@ -87,16 +89,19 @@ module _ (s : Shape) (words later : List ℕ) (key value high : ℕ) (above : Ki
       (λ other. inr (sym (grown.rest z small other) ∙ on)) (cases_eq z x)
 
   -- the row that was grown is the only one on its byte
-  its_place : (m : ℕ) (n : Kind) (z c : ℕ) (j : Kind) → Reached s words m n → z < 256 → child_on s words m n z ≡ Row c j → c ≡ base → IsPlace high above y m n z
+  its_place : (m : ℕ) (n : Kind) (z c : ℕ) (j : Kind) → Reached s words m n → z < 256 → child_on s words m n z ≡ Row c j → c ≡ base
+      → IsPlace high above y m n z
   its_place m n z c j r small on same =
       let kinds = one_kind s words tree base j kind (subst (λ c. Reached s words c j) same (below r z small on)) leads.reached in
-      let (here, byte) = tree.once m high z y base n above kind r down.reached small y_small (on ∙ ap₂ (λ c j. Row c j) same kinds) on_high in
+      let (here, byte) = tree.once m high z y base n above kind r down.reached small y_small (on ∙ ap₂ (λ c j. Row c j)
+          same kinds) on_high in
       (here, one_kind s words tree high n above (subst (λ m. Reached s words m n) here r) down.reached, byte)
 
   not_row : (m : ℕ) (n : Kind) (z c : ℕ) (j : Kind) → Reached s words m n → z < 256 → child_on s words m n z ≡ Row c j → c ≢ row
   not_row m n z c j r small on same = grown.new j (subst (λ c. Reached s words c j) same (below r z small on))
 
-  not_base : (m : ℕ) (n : Kind) (z c : ℕ) (j : Kind) → Reached s words m n → z < 256 → child_on s words m n z ≡ Row c j → child_on s later m n z ≡ Row c j
+  not_base : (m : ℕ) (n : Kind) (z c : ℕ) (j : Kind) → Reached s words m n → z < 256 → child_on s words m n z ≡ Row c j
+      → child_on s later m n z ≡ Row c j
       → c ≢ base
   not_base m n z c j r small on there same =
       not_row m n z c j r small on
@@ -160,9 +165,11 @@ module _ (s : Shape) (words later : List ℕ) (key value high : ℕ) (above : Ki
   row_hangs : MayHang above (slice_index words (info_at high)) y larger word
   row_hangs =
       let (lower, begins) = tree.row high base y above kind down.reached y_small on_high in
-      (subst (λ n. level_in words high above < n) (sym row_level) lower, ap (λ zs. take (level_in words high above + 1) zs) row_path ∙ begins)
+      (subst (λ n. level_in words high above < n) (sym row_level) lower, ap (λ zs. take (level_in words high above + 1) zs)
+          row_path ∙ begins)
 
-  child_hangs : (z c : ℕ) (j : Kind) → z < 256 → child_on s words base kind z ≡ Row c j → MayHang larger word z j (slice_index words (info_at c))
+  child_hangs : (z c : ℕ) (j : Kind) → z < 256 → child_on s words base kind z ≡ Row c j
+      → MayHang larger word z j (slice_index words (info_at c))
   child_hangs z c j small on =
       subst₂ (λ l p. (l < level_in words c j) × (take (l + 1) (path_in words c j) ≡ p ++ z ∷ [])) (sym row_level) (sym row_path)
       (tree.row base c z kind j leads.reached small on)
@@ -179,7 +186,8 @@ module _ (s : Shape) (words later : List ℕ) (key value high : ℕ) (above : Ki
       (λ same.
       let before = sym same ∙ on in
       let stays = same_info c j (below old.0 z small before) (not_base m n z c j old.0 small before on) in
-      subst₂ (λ w v. MayHang n w z j v) (sym (same_info m n old.0 old.1)) (sym stays) (tree.row m c z n j old.0 small before)) (spot m n z old.0 old.1 small))
+      subst₂ (λ w v. MayHang n w z j v) (sym (same_info m n old.0 old.1)) (sym stays) (tree.row m c z n j old.0 small before))
+          (spot m n z old.0 old.1 small))
       (λ (new : (m ≡ row) × (n ≡ larger)).
       let before = row_on z c j small (sym (ap₂ (λ m n. child_on s later m n z) new.0 new.1) ∙ on) in
       let stays = same_info c j (below leads.reached z small before) (not_itself s words tree base kind z c j leads.reached small before) in
@@ -224,7 +232,8 @@ module _ (s : Shape) (words later : List ℕ) (key value high : ℕ) (above : Ki
       (λ (new : (m ≡ row) × (n ≡ larger)).
       inr (inr (new.0, row_on z c j small (sym (ap₂ (λ m n. child_on s later m n z) new.0 new.1) ∙ on)))) (reached_before m n r)
 
-  hang_once : (m p z t c : ℕ) (n q j : Kind) → Reached s later m n → Reached s later p q → z < 256 → t < 256 → child_on s later m n z ≡ Row c j
+  hang_once : (m p z t c : ℕ) (n q j : Kind) → Reached s later m n → Reached s later p q → z < 256 → t < 256
+      → child_on s later m n z ≡ Row c j
       → child_on s later p q t ≡ Row c j → (m ≡ p) × (z ≡ t)
   hang_once m p z t c n q j r u small other on there = go (hung m n z c j r small on) (hung p q t c j u other there)
     where
@@ -313,7 +322,8 @@ module _ (s : Shape) (words later : List ℕ) (key value high : ℕ) (above : Ki
             byte = h.byte;
             is_byte = h.is_byte;
             leaf = ⊎_elim
-                (λ at. absurd (row-leaf base kind k v (sym on_high ∙ (sym (child_there s words high above y h.base h.kind h.byte at) ∙ h.leaf))))
+                (λ at. absurd
+                    (row-leaf base kind k v (sym on_high ∙ (sym (child_there s words high above y h.base h.kind h.byte at) ∙ h.leaf))))
                 (λ same. same ∙ h.leaf) (spot h.base h.kind h.byte h.reached apart h.is_byte);
           }) (cases_eq h.base base)
 

@@ -9,7 +9,8 @@ IsInfo k w = (length (info_of k w).path ≡ (info_of k w).level) × (w ≡ info_
 
 -- a row with the second info may hang on the byte of a row with the first
 abbrev pub MayHang : Kind → ℕ → ℕ → Kind → ℕ → Type 0
-MayHang k w x m v = ((info_of k w).level < (info_of m v).level) × (take ((info_of k w).level + 1) (info_of m v).path ≡ (info_of k w).path ++ x ∷ [])
+MayHang k w x m v = ((info_of k w).level < (info_of m v).level)
+    × (take ((info_of k w).level + 1) (info_of m v).path ≡ (info_of k w).path ++ x ∷ [])
 
 -- and so a leaf
 abbrev pub LeafMayHang : Kind → ℕ → ℕ → ℕ → Type 0

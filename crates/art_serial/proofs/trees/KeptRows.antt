@@ -1,4 +1,5 @@
--- Tables whose reached rows have the same infos and the same rows on their bytes: the same rows are reached, and the words are a tree again.
+-- Tables whose reached rows have the same infos and the same rows on their bytes: the same rows are reached, and the words are a tree
+-- again.
 use Rattle.std.proofs.Common.{◌≡◌, ℕ, ◌<◌, List, slice_index, sym, ◌∙◌, subst}
 use Rattle.art_rows.specs.declared.table.Shape.{Shape}
 use Rattle.art_rows.specs.declared.table.Kind.{Kind}
@@ -13,8 +14,10 @@ use Rattle.art_serial.proofs.trees.Infos.{IsInfo, MayHang, LeafMayHang}
 pub record KeepsRows (s : Shape) (words later : List ℕ) : Type 0 where
   pub formed : (b : ℕ) (k : Kind) → Reached s words b k → HasForm later b k
   pub same : (b : ℕ) (k : Kind) → Reached s words b k → slice_index later (info_at b) ≡ slice_index words (info_at b)
-  pub earlier : (b : ℕ) (k : Kind) (x c : ℕ) (j : Kind) → Reached s words b k → x < 256 → child_on s later b k x ≡ Row c j → child_on s words b k x ≡ Row c j
-  pub stays : (b : ℕ) (k : Kind) (x c : ℕ) (j : Kind) → Reached s words b k → x < 256 → child_on s words b k x ≡ Row c j → child_on s later b k x ≡ Row c j
+  pub earlier : (b : ℕ) (k : Kind) (x c : ℕ) (j : Kind) → Reached s words b k → x < 256 → child_on s later b k x ≡ Row c j
+      → child_on s words b k x ≡ Row c j
+  pub stays : (b : ℕ) (k : Kind) (x c : ℕ) (j : Kind) → Reached s words b k → x < 256 → child_on s words b k x ≡ Row c j
+      → child_on s later b k x ≡ Row c j
   pub leaves : (b : ℕ) (k : Kind) (x key value : ℕ) → Reached s words b k → x < 256 → child_on s later b k x ≡ Leaf key value
       → LeafMayHang k (slice_index words (info_at b)) x key
 
@@ -35,7 +38,8 @@ module _ (s : Shape) (words later : List ℕ) (tree : IsTree s words) (keeps : K
       let old = reached_before b k r in
       let there = keeps.earlier b k x m j old byte on in
       subst (λ w. MayHang k w x j (slice_index later (info_at m))) (sym (keeps.same b k old))
-      (subst (λ v. MayHang k (slice_index words (info_at b)) x j v) (sym (keeps.same m j (below old x byte there))) (tree.row b m x k j old byte there))
+      (subst (λ v. MayHang k (slice_index words (info_at b)) x j v) (sym (keeps.same m j (below old x byte there)))
+          (tree.row b m x k j old byte there))
 
   pub kept_tree : IsTree s later
   kept_tree = record {
@@ -51,5 +55,6 @@ module _ (s : Shape) (words later : List ℕ) (tree : IsTree s words) (keeps : K
     once = λ a b x y m ka kb j ra rb byte other here there.
         let old = reached_before a ka ra in
         let beside = reached_before b kb rb in
-        tree.once a b x y m ka kb j old beside byte other (keeps.earlier a ka x m j old byte here) (keeps.earlier b kb y m j beside other there);
+        tree.once a b x y m ka kb j old beside byte other (keeps.earlier a ka x m j old byte here)
+            (keeps.earlier b kb y m j beside other there);
   }

@@ -26,7 +26,8 @@ own_leaf : (key value : ℕ) (child : Child) → child ≡ Leaf key value → Is
 own_leaf key value child is = (λ c j row. row-leaf c j key value (sym row ∙ is), λ k v leaf. same_key k v key value (sym leaf ∙ is))
 
 module _ (s : Shape) (words later : List ℕ) (key base : ℕ) (kind : Kind) (x : ℕ) (child : Child) (tree : IsTree s words)
-    (leads : LeadsTo s words key base kind x) (free : IsOwn key (child_on s words base kind x)) (change : ChangesAt s words later base kind x child)
+    (leads : LeadsTo s words key base kind x) (free : IsOwn key (child_on s words base kind x))
+        (change : ChangesAt s words later base kind x child)
     (own : IsOwn key child) where
   rows_kept : KeepsRows s words later
   rows_kept = record {
@@ -40,7 +41,8 @@ module _ (s : Shape) (words later : List ℕ) (key base : ℕ) (kind : Kind) (x 
         (λ same. same ∙ on) (elsewhere s words later base kind x child tree leads.reached change b k y r byte);
     leaves = λ b k y other v r byte on. ⊎_elim
         (λ at. leaf_there b k y at other (own.1 other v (sym change.here ∙ (sym (child_there s later base kind x b k y at) ∙ on))))
-        (λ same. tree.leaf b y other v k r byte (sym same ∙ on)) (elsewhere s words later base kind x child tree leads.reached change b k y r byte);
+        (λ same. tree.leaf b y other v k r byte (sym same ∙ on))
+            (elsewhere s words later base kind x child tree leads.reached change b k y r byte);
   }
     where
       leaf_there : (b : ℕ) (k : Kind) (y : ℕ) → (b ≡ base) × (k ≡ kind) × (y ≡ x) → (other : ℕ) → other ≡ key
@@ -49,7 +51,8 @@ module _ (s : Shape) (words later : List ℕ) (key base : ℕ) (kind : Kind) (x 
           subst (λ b. LeafMayHang k (slice_index words (info_at b)) y other) (sym here)
           (subst (λ k. LeafMayHang k (slice_index words (info_at base)) y other) (sym kinds)
           (subst (λ y. LeafMayHang kind (slice_index words (info_at base)) y other) (sym byte)
-          (subst (λ other. LeafMayHang kind (slice_index words (info_at base)) x other) (sym same) (way_leaf s words key base kind x leads))))
+          (subst (λ other. LeafMayHang kind (slice_index words (info_at base)) x other) (sym same)
+              (way_leaf s words key base kind x leads))))
 
   other_leaves : HasOtherLeaves s words later key
   other_leaves k v other = (before, after)
@@ -64,8 +67,10 @@ module _ (s : Shape) (words later : List ℕ) (key base : ℕ) (kind : Kind) (x 
             byte = h.byte;
             is_byte = h.is_byte;
             leaf = ⊎_elim
-                (λ at. absurd (other (own.1 k v (sym change.here ∙ (sym (child_there s later base kind x h.base h.kind h.byte at) ∙ h.leaf)))))
-                (λ same. sym same ∙ h.leaf) (elsewhere s words later base kind x child tree leads.reached change h.base h.kind h.byte old h.is_byte);
+                (λ at. absurd
+                    (other (own.1 k v (sym change.here ∙ (sym (child_there s later base kind x h.base h.kind h.byte at) ∙ h.leaf)))))
+                (λ same. sym same ∙ h.leaf) (elsewhere s words later base kind x child tree leads.reached change h.base h.kind
+                    h.byte old h.is_byte);
           }
 
       after : Hangs s words k v → Hangs s later k v
@@ -77,7 +82,8 @@ module _ (s : Shape) (words later : List ℕ) (key base : ℕ) (kind : Kind) (x 
         is_byte = h.is_byte;
         leaf = ⊎_elim
             (λ at. absurd (other (free.1 k v (sym (child_there s words base kind x h.base h.kind h.byte at) ∙ h.leaf))))
-            (λ same. same ∙ h.leaf) (elsewhere s words later base kind x child tree leads.reached change h.base h.kind h.byte h.reached h.is_byte);
+            (λ same. same ∙ h.leaf) (elsewhere s words later base kind x child tree leads.reached change h.base h.kind h.byte
+                h.reached h.is_byte);
       }
 
   later_tree : IsTree s later
@@ -87,7 +93,8 @@ module _ (s : Shape) (words later : List ℕ) (key base : ℕ) (kind : Kind) (x 
   same_rows b k = (reached_before s words later tree rows_kept b k, reached_after s words later tree rows_kept b k)
 
 -- a free byte has no row and no leaf of another key
-free_own : (s : Shape) (words : List ℕ) (key base : ℕ) (kind : Kind) (x : ℕ) → IsFree s words key base kind x → IsOwn key (child_on s words base kind x)
+free_own : (s : Shape) (words : List ℕ) (key base : ℕ) (kind : Kind) (x : ℕ) → IsFree s words key base kind x
+    → IsOwn key (child_on s words base kind x)
 free_own s words key base kind x free = ⊎_elim
     (λ empty. own_empty key (child_on s words base kind x) empty) (λ leaf. own_leaf key leaf.0 (child_on s words base kind x) leaf.1) free
 
@@ -100,7 +107,8 @@ leaves-are-put s words later m key value base kind x tree means leads free chang
     record {
       tree = after;
       rows = rows;
-      means = means_put s words later m key means (other_leaves s words later key base kind x (Leaf key value) tree leads own change leaf) value after (record {
+      means = means_put s words later m key means (other_leaves s words later key base kind x (Leaf key value) tree leads own change leaf)
+          value after (record {
         base = base;
         kind = kind;
         reached = (rows base kind).1 leads.reached;

@@ -1,5 +1,6 @@
 -- The value at a key, and maps with a value put or a key removed, by the pairs that they contain.
-use Rattle.std.proofs.Common.{◌≡◌, ℕ, ◌<◌, ◌≤◌, true, if◌then◌else◌, [], ◌∷◌, ◌++◌, None, Some, refl, sym, ap, ◌∙◌, subst, ⊎_elim, inl, inr, arith, nat_lt}
+use Rattle.std.proofs.Common.{◌≡◌, ℕ, ◌<◌, ◌≤◌, true, if◌then◌else◌, [], ◌∷◌, ◌++◌, None, Some, refl, sym, ap, ◌∙◌, subst, ⊎_elim, inl, inr}
+use Rattle.std.proofs.Common.{arith, nat_lt}
 use Rattle.std.proofs.Common.{All, Contains, eq-eqb, ne_eqb, ltb-true}
 use Rattle.std.specs.Prelude.{◌≢◌, ◌⊎◌}
 use Rattle.std.proofs.lemmas.Bool.{cases_lt}
@@ -16,7 +17,8 @@ pub no_value : (m : Contents) (key : ℕ) → ((value : ℕ) → Contains m (key
 no_value [] key none = refl
 no_value ((k, v) ∷ m) key none =
     let other : k ≢ key = λ same. none v (subst (λ j. Contains ((k, v) ∷ m) (j, v)) same (Contains-first (k, v) m)) in
-    ap (λ t. if t then Some v else value_at m key) (ne_eqb k key other) ∙ no_value m key (λ value is. none value (Contains-later (k, v) m (key, value) is))
+    ap (λ t. if t then Some v else value_at m key) (ne_eqb k key other)
+        ∙ no_value m key (λ value is. none value (Contains-later (k, v) m (key, value) is))
 
 -- the value of a pair of a map
 pub value_of : (m : Contents) (key value : ℕ) → IsRising m → Contains m (key, value) → value_at m key ≡ Some value
@@ -25,7 +27,8 @@ value_of ((k, v) ∷ m) key value rising is = ⊎_elim
     (λ (same : (k, v) ≡ (key, value)).
     ap (λ t. if t then Some v else value_at m key) (eq-eqb k key (ap (λ (p : ℕ × ℕ). p.0) same)) ∙ ap (λ (p : ℕ × ℕ). Some p.1) same)
     (λ later.
-    let low : k < key = All-contains (λ (b : ℕ × ℕ). k < b.0) m (key, value) (AllPairs-head (λ (a : ℕ × ℕ) (b : ℕ × ℕ). a.0 < b.0) (k, v) m rising) later in
+    let low : k < key = All-contains (λ (b : ℕ × ℕ). k < b.0) m (key, value) (AllPairs-head (λ (a : ℕ × ℕ) (b : ℕ × ℕ). a.0 < b.0) (k, v)
+        m rising) later in
     let other : k ≢ key = λ same. omega (arith, same, low) in
     ap (λ t. if t then Some v else value_at m key) (ne_eqb k key other)
     ∙ value_of m key value (AllPairs-tail (λ (a : ℕ × ℕ) (b : ℕ × ℕ). a.0 < b.0) (k, v) m rising) later)
@@ -87,7 +90,8 @@ module _ (m : Contents) (key : ℕ) where
   pub put_other : (value k v : ℕ) → k ≢ key → Contains m (k, v) → Contains (put key value m) (k, v)
   put_other value k v other is = ⊎_elim
       (λ low. Contains-append_left (below key m) ((key, value) ∷ above key m) (k, v) low)
-      (λ high. Contains-append_right (below key m) ((key, value) ∷ above key m) (k, v) (Contains-later (key, value) (above key m) (k, v) high))
+      (λ high. Contains-append_right (below key m) ((key, value) ∷ above key m) (k, v)
+          (Contains-later (key, value) (above key m) (k, v) high))
       (others k v other is)
 
   pub rising_with : (value : ℕ) → IsRising m → IsRising (put key value m)

@@ -14,7 +14,8 @@ use Rattle.art_serial.proofs.trees.Ways.{one_leaf}
 abbrev pub HasOtherLeaves : Shape → List ℕ → List ℕ → ℕ → Type 0
 HasOtherLeaves s words later key = (k v : ℕ) → k ≢ key → Hangs s later k v ↔ Hangs s words k v
 
-module _ (s : Shape) (words later : List ℕ) (m : Contents) (key : ℕ) (means : Means s words m) (others : HasOtherLeaves s words later key) where
+module _ (s : Shape) (words later : List ℕ) (m : Contents) (key : ℕ) (means : Means s words m)
+    (others : HasOtherLeaves s words later key) where
   -- the key has a leaf,
   pub means_put : (value : ℕ) → IsTree s later → Hangs s later key value → Means s later (put key value m)
   means_put value tree here = record {

@@ -9,9 +9,11 @@ use Rattle.art_serial.specs.trees.Trees.{MapsAreOne}
 abbrev Less : ℕ × ℕ → ℕ × ℕ → Type 0
 Less a b = a.0 < b.0
 
-same_first : (x : ℕ × ℕ) (xs : Contents) (y : ℕ × ℕ) (ys : Contents) → All (Less x) xs → All (Less y) ys → Contains (y ∷ ys) x → Contains (x ∷ xs) y → x ≡ y
+same_first : (x : ℕ × ℕ) (xs : Contents) (y : ℕ × ℕ) (ys : Contents) → All (Less x) xs → All (Less y) ys → Contains (y ∷ ys) x
+    → Contains (x ∷ xs) y → x ≡ y
 same_first x xs y ys low_x low_y in_ys in_xs =
-    ⊎_elim (λ is. sym is) (λ later. ⊎_elim (λ is. is) (λ back. clash later back) (Contains-cases x xs y in_xs)) (Contains-cases y ys x in_ys)
+    ⊎_elim (λ is. sym is) (λ later. ⊎_elim (λ is. is) (λ back. clash later back) (Contains-cases x xs y in_xs))
+        (Contains-cases y ys x in_ys)
   where
     clash : Contains ys x → Contains xs y → x ≡ y
     clash later back = absurd (omega (arith, All-contains (Less y) ys x low_y later, All-contains (Less x) xs y low_x back))
@@ -22,7 +24,8 @@ members_after x xs ys low same p h = ⊎_elim
     (λ is. absurd (omega (arith, subst (λ q. x.0 < q.0) (sym is) (All-contains (Less x) xs p low h))))
     (λ later. later) (Contains-cases x ys p (same p (Contains-later x xs p h)))
 
-same_map : (xs ys : Contents) → IsRising xs → IsRising ys → ((p : ℕ × ℕ) → Contains xs p → Contains ys p) → ((p : ℕ × ℕ) → Contains ys p → Contains xs p)
+same_map : (xs ys : Contents) → IsRising xs → IsRising ys → ((p : ℕ × ℕ) → Contains xs p → Contains ys p)
+    → ((p : ℕ × ℕ) → Contains ys p → Contains xs p)
     → xs ≡ ys
 same_map [] [] up_x up_y to from = refl
 same_map [] (y ∷ ys) up_x up_y to from = absurd (Contains-nil y (from y (Contains-first y ys)))

@@ -1,6 +1,8 @@
 -- The table as it is opened.
-use Rattle.std.proofs.Common.{◌≡◌, ℕ, zero, suc, ◌+◌, ◌-◌, ◌/◌, ◌%◌, ◌^◌, ◌<◌, ◌≤◌, ◌==◌, ◌&&◌, nat_le, nat_lt, Bool, true, false, Some, None}
-use Rattle.std.proofs.Common.{List, [], length, replicate, slice_index, slice_set, refl, sym, ap, ap₂, subst, subst₂, ◌∙◌, arith, if◌then◌else◌}
+use Rattle.std.proofs.Common.{◌≡◌, ℕ, zero, suc, ◌+◌, ◌-◌, ◌/◌, ◌%◌, ◌^◌, ◌<◌, ◌≤◌, ◌==◌, ◌&&◌, nat_le, nat_lt, Bool, true, false, Some}
+use Rattle.std.proofs.Common.{None}
+use Rattle.std.proofs.Common.{List, [], length, replicate, slice_index, slice_set, refl, sym, ap, ap₂, subst, subst₂, ◌∙◌, arith}
+use Rattle.std.proofs.Common.{if◌then◌else◌}
 use Rattle.std.specs.Prelude.{◌≢◌}
 use Rattle.std.proofs.lemmas.Bool.{and_parts}
 use Rattle.std.proofs.lemmas.Bool.Decides.{nat_tests}
@@ -29,7 +31,8 @@ only-zeros (suc n) (suc i) = only-zeros n i
 module _ (s : Shape) (base : ℕ) where
   -- what a base of the kind is
   base_parts : (kind : Kind) → is_base_of s kind base ≡ true
-      → (first_base s kind ≤ base) × ((base - first_base s kind) % row_words kind ≡ 0) × ((base - first_base s kind) / row_words kind < rows_of s kind)
+      → (first_base s kind ≤ base) × ((base - first_base s kind) % row_words kind ≡ 0)
+      × ((base - first_base s kind) / row_words kind < rows_of s kind)
   base_parts kind h =
       let outer = and_parts (nat_le (first_base s kind) base && ((base - first_base s kind) % row_words kind == 0))
       (nat_lt ((base - first_base s kind) / row_words kind) (rows_of s kind)) h in
@@ -38,15 +41,19 @@ module _ (s : Shape) (base : ℕ) where
 
   is_apart : (kind : Kind) → is_base_of s kind base ≡ true → (base ≢ 4) × (base ≢ info_at (root_base s))
   is_apart Four h = let (low, even, few) = base_parts Four h in (λ is. omega (arith, is, low), λ is. omega (arith, is, low, even, few))
-  is_apart Sixteen h = let (low, even, few) = base_parts Sixteen h in (λ is. omega (arith, is, low), λ is. omega (arith, is, low, even, few))
-  is_apart FortyEight h = let (low, even, few) = base_parts FortyEight h in (λ is. omega (arith, is, low), λ is. omega (arith, is, low, even, few))
+  is_apart Sixteen h = let (low, even, few) = base_parts Sixteen h in (λ is. omega (arith, is, low), λ is. omega
+      (arith, is, low, even, few))
+  is_apart FortyEight h = let (low, even, few) =
+      base_parts FortyEight h in (λ is. omega (arith, is, low), λ is. omega (arith, is, low, even, few))
   is_apart Full h = let (low, even, few) = base_parts Full h in (λ is. omega (arith, is, low), λ is. omega (arith, is, low, even, few))
 
   base_apart : (kind : Kind) → kind_at s base ≡ Some kind → (base ≢ 4) × (base ≢ info_at (root_base s))
   base_apart kind h =
-      first (is_base_of s Four base) (is_base_of s Sixteen base) (is_base_of s FortyEight base) (is_base_of s Full base) refl refl refl refl h
+      first (is_base_of s Four base) (is_base_of s Sixteen base) (is_base_of s FortyEight base) (is_base_of s Full base)
+          refl refl refl refl h
     where
-      first : (a b c d : Bool) → is_base_of s Four base ≡ a → is_base_of s Sixteen base ≡ b → is_base_of s FortyEight base ≡ c → is_base_of s Full base ≡ d
+      first : (a b c d : Bool) → is_base_of s Four base ≡ a → is_base_of s Sixteen base ≡ b → is_base_of s FortyEight base ≡ c
+          → is_base_of s Full base ≡ d
           → (if a then Some Four else if b then Some Sixteen else if c then Some FortyEight else if d then Some Full else None) ≡ Some kind
           → (base ≢ 4) × (base ≢ info_at (root_base s))
       first true b c d p q r t h = is_apart Four p

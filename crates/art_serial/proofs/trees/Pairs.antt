@@ -1,5 +1,6 @@
 -- A pair is hung in the place of a child whose keys part from the key.
-use Rattle.std.proofs.Common.{◌≡◌, ℕ, ◌+◌, ◌<◌, List, [], ◌∷◌, ◌++◌, length, take, slice_index, refl, sym, ap, ap₂, subst, subst₂, ◌∙◌, arith}
+use Rattle.std.proofs.Common.{◌≡◌, ℕ, ◌+◌, ◌<◌, List, [], ◌∷◌, ◌++◌, length, take, slice_index, refl, sym, ap, ap₂, subst, subst₂, ◌∙◌}
+use Rattle.std.proofs.Common.{arith}
 use Rattle.std.proofs.Common.{⊎_elim, inl, inr}
 use Rattle.std.specs.Prelude.{◌≢◌, ◌⊎◌}
 use Rattle.std.proofs.lemmas.Bool.{cases_eq}
@@ -31,9 +32,11 @@ record IsBehind (level d a b : ℕ) : Type 0 where
   small : a < 256
   apart : a ≢ b
 
-module _ (s : Shape) (words : List ℕ) (key base : ℕ) (kind : Kind) (x d a b : ℕ) (tree : IsTree s words) (leads : LeadsTo s words key base kind x)
+module _ (s : Shape) (words : List ℕ) (key base : ℕ) (kind : Kind) (x d a b : ℕ) (tree : IsTree s words)
+    (leads : LeadsTo s words key base kind x)
     (byte : b ≡ slice_index (key_bytes key) d) where
-  behind_list : (zs : List ℕ) → PartsAt zs (key_bytes key) d → take (level_in words base kind + 1) zs ≡ path_in words base kind ++ x ∷ [] → a ≡ slice_index zs d
+  behind_list : (zs : List ℕ) → PartsAt zs (key_bytes key) d → take (level_in words base kind + 1) zs ≡ path_in words base kind ++ x ∷ []
+      → a ≡ slice_index zs d
       → a < 256 → IsBehind (level_in words base kind) d a b
   behind_list zs parts begins here small = record {
     few = parts.second;
@@ -56,7 +59,8 @@ module _ (s : Shape) (words : List ℕ) (key base : ℕ) (kind : Kind) (x d a b 
 
 module _ (s : Shape) (words later : List ℕ) (key value base : ℕ) (kind : Kind) (x row d a b : ℕ) (tree : IsTree s words)
     (leads : LeadsTo s words key base kind x) (parts : Parts words key d a (child_on s words base kind x))
-    (pair : IsPair s words later key value row d a b (child_on s words base kind x)) (change : ChangesAt s words later base kind x (Row row Four)) where
+    (pair : IsPair s words later key value row d a b (child_on s words base kind x))
+        (change : ChangesAt s words later base kind x (Row row Four)) where
   abbrev child : Child
   child = child_on s words base kind x
 
@@ -69,7 +73,8 @@ module _ (s : Shape) (words later : List ℕ) (key value base : ℕ) (kind : Kin
   b_small : b < 256
   b_small = subst (λ z. z < 256) (sym pair.byte) (key_byte-small key d)
 
-  spot : (c : ℕ) (j : Kind) (y : ℕ) → Reached s words c j → y < 256 → IsPlace base kind x c j y ⊎ (child_on s later c j y ≡ child_on s words c j y)
+  spot : (c : ℕ) (j : Kind) (y : ℕ) → Reached s words c j → y < 256 → IsPlace base kind x c j y
+      ⊎ (child_on s later c j y ≡ child_on s words c j y)
   spot = elsewhere s words later base kind x (Row row Four) tree leads.reached change
 
   same_info : (c : ℕ) (j : Kind) → Reached s words c j → slice_index later (info_at c) ≡ slice_index words (info_at c)
@@ -110,7 +115,8 @@ module _ (s : Shape) (words later : List ℕ) (key value base : ℕ) (kind : Kin
   reached_after c j (below {base = m} {kind = n} r y small on) =
       let up = reached_after m n r in
       ⊎_elim
-      (λ at. below (below up y small (at_place m n y at)) a where_parted.small (pair.old ∙ (sym (child_there s words base kind x m n y at) ∙ on)))
+      (λ at. below (below up y small (at_place m n y at)) a where_parted.small
+          (pair.old ∙ (sym (child_there s words base kind x m n y at) ∙ on)))
       (λ same. below up y small (same ∙ on)) (spot m n y r small)
 
   row_reached : Reached s later row Four
@@ -167,7 +173,8 @@ module _ (s : Shape) (words later : List ℕ) (key value base : ℕ) (kind : Kin
       under_row (key_bytes k) a (parted_byte (key_bytes k) (key_bytes key) d a (parts_at (key_bytes k) (key_bytes key) d differ) byte)
 
   own_leaf : LeafMayHang Four word b key
-  own_leaf = under_row (key_bytes key) b (one_more d (key_bytes key) where_parted.few ∙ ap (λ z. take d (key_bytes key) ++ z ∷ []) (sym pair.byte))
+  own_leaf = under_row (key_bytes key) b (one_more d (key_bytes key) where_parted.few ∙ ap
+      (λ z. take d (key_bytes key) ++ z ∷ []) (sym pair.byte))
 
   -- the later tree
   rows_hang : (m c y : ℕ) (n j : Kind) → Reached s later m n → y < 256 → child_on s later m n y ≡ Row c j
@@ -177,12 +184,15 @@ module _ (s : Shape) (words later : List ℕ) (key value base : ℕ) (kind : Kin
       (λ at. new_hangs at (sym on ∙ at_place m n y at) old)
       (λ same.
       let before = sym same ∙ on in
-      subst₂ (λ w v. MayHang n w y j v) (sym (same_info m n old)) (sym (same_info c j (below old y small before))) (tree.row m c y n j old small before))
+      subst₂ (λ w v. MayHang n w y j v) (sym (same_info m n old)) (sym (same_info c j (below old y small before)))
+          (tree.row m c y n j old small before))
       (spot m n y old small))
       (λ (new : (m ≡ row) × (n ≡ Four)).
       let (at, before) = row_on y c j small (sym (ap₂ (λ m n. child_on s later m n y) new.0 new.1) ∙ on) in
-      let hangs = subst₂ (λ y v. MayHang Four word y j v) (sym at) (sym (same_info c j (below leads.reached x way_small before))) (child_hangs c j before) in
-      subst₂ (λ m n. MayHang n (slice_index later (info_at m)) y j (slice_index later (info_at c))) (sym new.0) (sym new.1) hangs) (reached_before m n r)
+      let hangs = subst₂ (λ y v. MayHang Four word y j v) (sym at) (sym (same_info c j (below leads.reached x way_small before)))
+          (child_hangs c j before) in
+      subst₂ (λ m n. MayHang n (slice_index later (info_at m)) y j (slice_index later (info_at c))) (sym new.0) (sym new.1) hangs)
+          (reached_before m n r)
     where
       new_hangs : IsPlace base kind x m n y → Row c j ≡ Row row Four → Reached s words m n
           → MayHang n (slice_index later (info_at m)) y j (slice_index later (info_at c))
@@ -198,7 +208,8 @@ module _ (s : Shape) (words later : List ℕ) (key value base : ℕ) (kind : Kin
   leaves_hang m y k v n r small on = ⊎_elim
       (λ old. ⊎_elim
       (λ at. absurd (row-leaf row Four k v (sym (at_place m n y at) ∙ on)))
-      (λ same. subst (λ w. LeafMayHang n w y k) (sym (same_info m n old)) (tree.leaf m y k v n old small (sym same ∙ on))) (spot m n y old small))
+      (λ same. subst (λ w. LeafMayHang n w y k) (sym (same_info m n old)) (tree.leaf m y k v n old small (sym same ∙ on)))
+          (spot m n y old small))
       (λ (new : (m ≡ row) × (n ≡ Four)). subst₂ (λ m n. LeafMayHang n (slice_index later (info_at m)) y k) (sym new.0) (sym new.1)
       (⊎_elim
       (λ (at : (y ≡ a) × (child ≡ Leaf k v)). subst (λ y. LeafMayHang Four word y k) (sym at.0) (child_leaf k v at.1))
@@ -230,7 +241,8 @@ module _ (s : Shape) (words later : List ℕ) (key value base : ℕ) (kind : Kin
       let kinds = one_kind s words tree base n kind (subst (λ m. Reached s words m n) here r) leads.reached in
       other (same_base c row j Four (sym there ∙ at_place m n y (here, kinds, byte)))
 
-  hang_once : (m p y z c : ℕ) (n q j : Kind) → Reached s later m n → Reached s later p q → y < 256 → z < 256 → child_on s later m n y ≡ Row c j
+  hang_once : (m p y z c : ℕ) (n q j : Kind) → Reached s later m n → Reached s later p q → y < 256 → z < 256
+      → child_on s later m n y ≡ Row c j
       → child_on s later p q z ≡ Row c j → (m ≡ p) × (y ≡ z)
   hang_once m p y z c n q j r t small other on there = go (hung m n y c j r small on) (hung p q z c j t other there)
     where
@@ -242,7 +254,8 @@ module _ (s : Shape) (words later : List ℕ) (key value base : ℕ) (kind : Kin
       go (inr (inl (old, before, not))) (inr (inl (old2, before2, not2))) = tree.once m p y z c n q j old old2 small other before before2
       go (inr (inl (old, before, not))) (inr (inr (row_is, byte, before2))) = absurd (moved m n y c j small old before before2 on not)
       go (inr (inr (row_is, byte, before))) (inl (beside, also)) = absurd (not_new base kind x c j leads.reached way_small before also)
-      go (inr (inr (row_is, byte, before))) (inr (inl (old2, before2, not2))) = absurd (moved p q z c j other old2 before2 before there not2)
+      go (inr (inr (row_is, byte, before))) (inr (inl (old2, before2, not2))) =
+          absurd (moved p q z c j other old2 before2 before there not2)
       go (inr (inr (row_is, byte, before))) (inr (inr (row_is2, byte2, before2))) = (row_is ∙ sym row_is2, byte ∙ sym byte2)
 
   later_tree : IsTree s later
@@ -279,9 +292,11 @@ module _ (s : Shape) (words later : List ℕ) (key value base : ℕ) (kind : Kin
                 (λ same. sym same ∙ h.leaf) (spot h.base h.kind h.byte old h.is_byte);
           })
           (λ (new : (h.base ≡ row) × (h.kind ≡ Four)). ⊎_elim
-          (λ (at : (h.byte ≡ a) × (child ≡ Leaf k v)). record { base = base; kind = kind; reached = leads.reached; byte = x; is_byte = way_small; leaf = at.1 })
+          (λ (at : (h.byte ≡ a) × (child ≡ Leaf k v)). record
+              { base = base; kind = kind; reached = leads.reached; byte = x; is_byte = way_small; leaf = at.1 })
           (λ (at : (h.byte ≡ b) × (k ≡ key)). absurd (other at.1))
-          (leaf_on h.byte k v h.is_byte (sym (ap₂ (λ m n. child_on s later m n h.byte) new.0 new.1) ∙ h.leaf))) (reached_before h.base h.kind h.reached)
+          (leaf_on h.byte k v h.is_byte (sym (ap₂ (λ m n. child_on s later m n h.byte) new.0 new.1) ∙ h.leaf)))
+              (reached_before h.base h.kind h.reached)
 
       after : Hangs s words k v → Hangs s later k v
       after h = ⊎_elim

@@ -1,6 +1,7 @@
 -- A byte is put in among rising keys.
 use Rattle.std.proofs.Common.{◌≡◌, ℕ, zero, suc, ◌+◌, ◌<◌, true, false, if◌then◌else◌, nat_lt, List, [], ◌∷◌, ◌++◌, take, drop}
-use Rattle.std.proofs.Common.{All, AllPairs, Option, Some, None, option_map, refl, sym, ap, subst, ◌∙◌, arith, ⊎_elim, inl, inr, eq-eqb, ne_eqb}
+use Rattle.std.proofs.Common.{All, AllPairs, Option, Some, None, option_map, refl, sym, ap, subst, ◌∙◌, arith, ⊎_elim, inl, inr, eq-eqb}
+use Rattle.std.proofs.Common.{ne_eqb}
 use Rattle.std.specs.Prelude.{◌≢◌, ◌⊎◌}
 use Rattle.std.proofs.lemmas.Bool.{cases_lt, cases_eq}
 use Rattle.std.proofs.lemmas.List.Elements.{All-head, All-tail, All-cons, All-nil}
@@ -50,7 +51,8 @@ absent_first x y ys h = (
   λ same. none-some 0 (sym h ∙ ap (λ b. if b then Some 0 else option_map (λ i. i + 1) (place_of x ys)) (eq-eqb y x same)),
   ⊎_elim
       (λ same. absurd (none-some 0 (sym h ∙ ap (λ b. if b then Some 0 else option_map (λ i. i + 1) (place_of x ys)) (eq-eqb y x same))))
-      (λ apart. rest (place_of x ys) (sym (ap (λ b. if b then Some 0 else option_map (λ i. i + 1) (place_of x ys)) (ne_eqb y x apart)) ∙ h)) (cases_eq y x),
+      (λ apart. rest (place_of x ys) (sym (ap (λ b. if b then Some 0 else option_map (λ i. i + 1) (place_of x ys)) (ne_eqb y x apart))
+          ∙ h)) (cases_eq y x),
 )
   where
     rest : (o : Option ℕ) → option_map (λ i. i + 1) o ≡ None → o ≡ None
@@ -76,7 +78,8 @@ module _ (x : ℕ) where
       let (apart, none_later) = absent_first x y ys none in
       let later = rises ys rest none_later in
       ⊎_elim
-      (λ (before : (y < x) × (new_place x (y ∷ ys) ≡ suc (new_place x ys))). subst (λ p. AllPairs (λ a b. a < b) (put_at x p (y ∷ ys))) (sym before.1)
+      (λ (before : (y < x) × (new_place x (y ∷ ys) ≡ suc (new_place x ys))). subst
+          (λ p. AllPairs (λ a b. a < b) (put_at x p (y ∷ ys))) (sym before.1)
       (AllPairs-cons (λ a b. a < b) y (with_key x ys) (all_with (λ b. y < b) x (new_place x ys) ys before.0 low) later))
       (λ (behind : (x < y) × (new_place x (y ∷ ys) ≡ 0)). subst (λ p. AllPairs (λ a b. a < b) (put_at x p (y ∷ ys))) (sym behind.1)
       (AllPairs-cons (λ a b. a < b) x (y ∷ ys) (All-cons (λ b. x < b) y ys behind.0 (λ k d within.
@@ -92,7 +95,8 @@ module _ (x : ℕ) where
       (λ (before : (y < x) × (new_place x (y ∷ ys) ≡ suc (new_place x ys))).
       subst (λ p. place_of x (put_at x p (y ∷ ys)) ≡ Some p) (sym before.1)
       (place_later x y (with_key x ys) apart ∙ (ap (λ o. option_map (λ i. i + 1) o) later ∙ ap Some (one_more (new_place x ys)))))
-      (λ (behind : (x < y) × (new_place x (y ∷ ys) ≡ 0)). subst (λ p. place_of x (put_at x p (y ∷ ys)) ≡ Some p) (sym behind.1) (place_first x (y ∷ ys)))
+      (λ (behind : (x < y) × (new_place x (y ∷ ys) ≡ 0)). subst (λ p. place_of x (put_at x p (y ∷ ys)) ≡ Some p) (sym behind.1)
+          (place_first x (y ∷ ys)))
       (first_of x y ys (AllPairs-head (λ a b. a < b) y ys up) apart)
     where
       one_more : (n : ℕ) → n + 1 ≡ suc n
@@ -126,8 +130,10 @@ module _ (x : ℕ) where
       (λ (before : (z < x) × (new_place x (z ∷ ys) ≡ suc (new_place x ys))).
       subst (λ p. place_of y (put_at x p (z ∷ ys)) ≡ moved_place p (place_of y (z ∷ ys))) (sym before.1)
       (⊎_elim
-      (λ same. at_first z (with_key x ys) same ∙ (first_stays (new_place x ys) ∙ sym (ap (λ o. moved_place (suc (new_place x ys)) o) (at_first z ys same))))
-      (λ differ. place_later y z (with_key x ys) differ ∙ (ap (λ o. option_map (λ i. i + 1) o) later ∙ (moved_more (new_place x ys) (place_of y ys)
+      (λ same. at_first z (with_key x ys) same
+          ∙ (first_stays (new_place x ys) ∙ sym (ap (λ o. moved_place (suc (new_place x ys)) o) (at_first z ys same))))
+      (λ differ. place_later y z (with_key x ys) differ
+          ∙ (ap (λ o. option_map (λ i. i + 1) o) later ∙ (moved_more (new_place x ys) (place_of y ys)
       ∙ sym (ap (λ o. moved_place (suc (new_place x ys)) o) (place_later y z ys differ))))) (cases_eq z y)))
       (λ (behind : (x < z) × (new_place x (z ∷ ys) ≡ 0)).
       subst (λ p. place_of y (put_at x p (z ∷ ys)) ≡ moved_place p (place_of y (z ∷ ys))) (sym behind.1)

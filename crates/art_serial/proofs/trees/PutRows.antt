@@ -1,5 +1,6 @@
 -- A row of kind 4 or 16 takes one child more.
-use Rattle.std.proofs.Common.{◌≡◌, ℕ, ◌+◌, ◌<◌, ◌≤◌, Bool, true, false, nat_lt, List, length, slice_index, All, Option, Some, None, option_map}
+use Rattle.std.proofs.Common.{◌≡◌, ℕ, ◌+◌, ◌<◌, ◌≤◌, Bool, true, false, nat_lt, List, length, slice_index, All, Option, Some, None}
+use Rattle.std.proofs.Common.{option_map}
 use Rattle.std.proofs.Common.{refl, sym, ap, subst, ◌∙◌, arith, if◌then◌else◌}
 use Rattle.std.specs.Prelude.{◌≢◌}
 use Rattle.std.specs.List.Sorted.{IsStrictlyIncreasing}
@@ -33,7 +34,8 @@ module _ (s : Shape) (words later : List ℕ) (base : ℕ) (kind : Kind) (x : �
   kept i few = go (nat_lt i (new_place x keys)) refl
     where
       go : (b : Bool) → nat_lt i (new_place x keys) ≡ b
-          → child_of s (slice_index later (child_at kind base (if b then i else i + 1))) ≡ child_of s (slice_index words (child_at kind base i))
+          → child_of s (slice_index later (child_at kind base (if b then i else i + 1))) ≡ child_of s
+              (slice_index words (child_at kind base i))
       go true e = room.before i (grind (arith, e))
       go false e = room.behind i (grind (arith, e)) few
 

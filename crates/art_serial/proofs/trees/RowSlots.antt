@@ -1,5 +1,6 @@
 -- Where the slot of a byte stands in its row, and that two bytes have two.
-use Rattle.std.proofs.Common.{◌≡◌, ℕ, suc, ◌+◌, ◌-◌, ◌%◌, ◌<◌, ◌≤◌, ◌==◌, List, [], ◌∷◌, length, slice_index, Option, Some, None, option_map}
+use Rattle.std.proofs.Common.{◌≡◌, ℕ, suc, ◌+◌, ◌-◌, ◌%◌, ◌<◌, ◌≤◌, ◌==◌, List, [], ◌∷◌, length, slice_index, Option, Some, None}
+use Rattle.std.proofs.Common.{option_map}
 use Rattle.std.proofs.Common.{Bool, true, false, refl, sym, ap, ◌∙◌, subst, arith, if◌then◌else◌}
 use Rattle.std.proofs.lemmas.Option.{none-some, same_Some}
 use Rattle.art_rows.specs.declared.table.Kind.{Kind}
@@ -18,7 +19,8 @@ abbrev pub IsWithin : ℕ → Kind → ℕ → Type 0
 IsWithin base kind slot = (j : ℕ) × (slot ≡ base + j) × (1 ≤ j) × (j < row_words kind)
 
 -- a slot among so many children
-slot_within : (base : ℕ) (kind : Kind) (first n : ℕ) (o : Option ℕ) (slot : ℕ) → 1 ≤ first → first + n ≤ row_words kind → ((i : ℕ) → o ≡ Some i → i < n)
+slot_within : (base : ℕ) (kind : Kind) (first n : ℕ) (o : Option ℕ) (slot : ℕ) → 1 ≤ first → first + n ≤ row_words kind
+    → ((i : ℕ) → o ≡ Some i → i < n)
     → option_map (λ i. base + first + i) o ≡ Some slot → IsWithin base kind slot
 slot_within base kind first n None slot low high within e = absurd (none-some slot e)
 slot_within base kind first n (Some i) slot low high within e =
@@ -26,7 +28,8 @@ slot_within base kind first n (Some i) slot low high within e =
     let is = same_Some (base + first + i) slot e in
     (first + i, omega (arith, is), omega (arith, low), omega (arith, few, high))
 
-entry_within : (base e slot : ℕ) (b : Bool) → (e == 0) ≡ b → e ≤ 48 → (if b then None else Some (child_at FortyEight base (e - 1))) ≡ Some slot
+entry_within : (base e slot : ℕ) (b : Bool) → (e == 0) ≡ b → e ≤ 48
+    → (if b then None else Some (child_at FortyEight base (e - 1))) ≡ Some slot
     → IsWithin base FortyEight slot
 entry_within base e slot true is most h = absurd (none-some slot h)
 entry_within base e slot false is most h =
@@ -34,7 +37,8 @@ entry_within base e slot false is most h =
     (35 + (e - 1), omega (arith, same), omega arith, omega (arith, most))
 
 -- the slot of a byte is a word of the row
-pub slot_inside : (words : List ℕ) (base : ℕ) (kind : Kind) (x slot : ℕ) → x < 256 → slot_of words base kind x ≡ Some slot → IsWithin base kind slot
+pub slot_inside : (words : List ℕ) (base : ℕ) (kind : Kind) (x slot : ℕ) → x < 256 → slot_of words base kind x ≡ Some slot
+    → IsWithin base kind slot
 slot_inside words base Four x slot byte h =
     slot_within base Four 3 4 (place_of x (keys4_of (slice_index words (keys_at base)))) slot (omega arith) (omega arith)
     (λ i is. omega (arith, (place-within x (keys4_of (slice_index words (keys_at base))) i is).0, few (slice_index words (keys_at base)))) h
@@ -76,7 +80,8 @@ one_byte : (x y first : ℕ) (ys : List ℕ) (slot : ℕ) → option_map (λ i. 
     → option_map (λ i. first + i) (place_of y ys) ≡ Some slot → x ≡ y
 one_byte x y first ys slot here there = go (place_of x ys) (place_of y ys) refl refl here there
   where
-    go : (o p : Option ℕ) → place_of x ys ≡ o → place_of y ys ≡ p → option_map (λ i. first + i) o ≡ Some slot → option_map (λ i. first + i) p ≡ Some slot
+    go : (o p : Option ℕ) → place_of x ys ≡ o → place_of y ys ≡ p → option_map (λ i. first + i) o ≡ Some slot
+        → option_map (λ i. first + i) p ≡ Some slot
         → x ≡ y
     go None p a b h k = absurd (none-some slot h)
     go (Some i) None a b h k = absurd (none-some slot k)
@@ -84,12 +89,15 @@ one_byte x y first ys slot here there = go (place_of x ys) (place_of y ys) refl 
         let same : i ≡ j = omega (arith, same_Some (first + i) slot h, same_Some (first + j) slot k) in
         sym (byte_of_place x ys i a) ∙ (ap (λ n. slice_index ys n) same ∙ byte_of_place y ys j b)
 
-pub one_slot : (words : List ℕ) (base : ℕ) (kind : Kind) (x y slot : ℕ) → HasForm words base kind → x < 256 → y < 256 → slot_of words base kind x ≡ Some slot
+pub one_slot : (words : List ℕ) (base : ℕ) (kind : Kind) (x y slot : ℕ) → HasForm words base kind → x < 256 → y < 256
+    → slot_of words base kind x ≡ Some slot
     → slot_of words base kind y ≡ Some slot → x ≡ y
-one_slot words base Four x y slot form low high here there = one_byte x y (base + 3) (keys4_of (slice_index words (keys_at base))) slot here there
+one_slot words base Four x y slot form low high here there =
+    one_byte x y (base + 3) (keys4_of (slice_index words (keys_at base))) slot here there
 one_slot words base Sixteen x y slot form low high here there =
     one_byte x y (base + 5)
-    (keys16_of (slice_index words (count_at Sixteen base)) (slice_index words (keys_at base)) (slice_index words (more_keys_at base))) slot here there
+    (keys16_of (slice_index words (count_at Sixteen base)) (slice_index words (keys_at base))
+        (slice_index words (more_keys_at base))) slot here there
 one_slot words base FortyEight x y slot form low high here there = form.1 x y slot low high here there
 one_slot words base Full x y slot form low high here there =
     omega (arith, same_Some (child_at Full base x) slot here, same_Some (child_at Full base y) slot there)
@@ -98,7 +106,8 @@ one_slot words base Full x y slot form low high here there =
 abbrev pub IsChild : ℕ → Kind → ℕ → Type 0
 IsChild base kind slot = (i : ℕ) × (slot ≡ base + first_child kind + i)
 
-shifted : (base : ℕ) (kind : Kind) (first : ℕ) (o : Option ℕ) (slot : ℕ) → first ≡ first_child kind → option_map (λ i. base + first + i) o ≡ Some slot
+shifted : (base : ℕ) (kind : Kind) (first : ℕ) (o : Option ℕ) (slot : ℕ) → first ≡ first_child kind
+    → option_map (λ i. base + first + i) o ≡ Some slot
     → IsChild base kind slot
 shifted base kind first None slot e h = absurd (none-some slot h)
 shifted base kind first (Some i) slot e h = (i, sym (same_Some (base + first + i) slot h) ∙ ap (λ f. base + f + i) e)
@@ -107,9 +116,11 @@ pub child_slot : (words : List ℕ) (base : ℕ) (kind : Kind) (x slot : ℕ) �
 child_slot words base Four x slot h = shifted base Four 3 (place_of x (keys4_of (slice_index words (keys_at base)))) slot refl h
 child_slot words base Sixteen x slot h =
     shifted base Sixteen 5
-    (place_of x (keys16_of (slice_index words (count_at Sixteen base)) (slice_index words (keys_at base)) (slice_index words (more_keys_at base)))) slot refl h
+    (place_of x (keys16_of (slice_index words (count_at Sixteen base)) (slice_index words (keys_at base))
+        (slice_index words (more_keys_at base)))) slot refl h
 child_slot words base FortyEight x slot h =
-    go (slice_index (entries_of (slice_index words (index_at base x))) (x % 8) == 0) (slice_index (entries_of (slice_index words (index_at base x))) (x % 8)) h
+    go (slice_index (entries_of (slice_index words (index_at base x))) (x % 8) == 0)
+        (slice_index (entries_of (slice_index words (index_at base x))) (x % 8)) h
   where
     go : (b : Bool) (e : ℕ) → (if b then None else Some (child_at FortyEight base (e - 1))) ≡ Some slot → IsChild base FortyEight slot
     go true e k = absurd (none-some slot k)

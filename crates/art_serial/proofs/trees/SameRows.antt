@@ -21,7 +21,8 @@ module _ (words later : List ℕ) (base : ℕ) where
   info_same kind same = head_info words later base kind (head_of kind same)
 
   -- what hangs on a byte
-  pub child_same : (s : Shape) (kind : Kind) (x : ℕ) → x < 256 → SameRow words later base kind → child_on s later base kind x ≡ child_on s words base kind x
+  pub child_same : (s : Shape) (kind : Kind) (x : ℕ) → x < 256 → SameRow words later base kind
+      → child_on s later base kind x ≡ child_on s words base kind x
   child_same s kind x byte same =
       ap (λ o. child_in s later o) (head_slot words later base kind x byte (head_of kind same)) ∙ go (slot_of words base kind x) refl
     where

@@ -14,7 +14,8 @@ use Rattle.art_serial.proofs.trees.RowsApart.{words_apart}
 use Rattle.art_serial.proofs.trees.RowSlots.{IsWithin, slot_inside, one_slot, child_slot}
 use Rattle.art_serial.proofs.trees.RowHeads.{head_info, head_slot, head_form}
 
-module _ (s : Shape) (n : ℕ) (words later : List ℕ) (base : ℕ) (kind : Kind) (x slot w : ℕ) (rest : IsAtRest s n words) (reached : Reached s words base kind)
+module _ (s : Shape) (n : ℕ) (words later : List ℕ) (base : ℕ) (kind : Kind) (x slot w : ℕ) (rest : IsAtRest s n words)
+    (reached : Reached s words base kind)
     (byte : x < 256) (has_slot : slot_of words base kind x ≡ Some slot) (one : HasOneWord s words later slot w) where
   inside : IsWithin base kind slot
   inside = slot_inside words base kind x slot byte has_slot
@@ -36,7 +37,8 @@ module _ (s : Shape) (n : ℕ) (words later : List ℕ) (base : ℕ) (kind : Kin
 
   -- and its other slots
   other_child : (y : ℕ) → y < 256 → y ≢ x → child_on s later base kind y ≡ child_on s words base kind y
-  other_child y small apart = ap (λ o. child_in s later o) (head_slot words later base kind y small head_same) ∙ go (slot_of words base kind y) refl
+  other_child y small apart = ap (λ o. child_in s later o) (head_slot words later base kind y small head_same)
+      ∙ go (slot_of words base kind y) refl
     where
       go : (o : Option ℕ) → slot_of words base kind y ≡ o → child_in s later o ≡ child_in s words o
       go None e = refl
@@ -54,7 +56,8 @@ pub slots-are-stored : SlotsAreStored
 slots-are-stored s n words later base kind x slot w rest reached byte has_slot one = record {
   others = other_row s n words later base kind x slot w rest reached byte has_slot one;
   info = head_info words later base kind (head_same s n words later base kind x slot w rest reached byte has_slot one);
-  form = head_form words later base kind (head_same s n words later base kind x slot w rest reached byte has_slot one) (rest.tree.form base kind reached);
+  form = head_form words later base kind (head_same s n words later base kind x slot w rest reached byte has_slot one)
+      (rest.tree.form base kind reached);
   other_bytes = other_child s n words later base kind x slot w rest reached byte has_slot one;
   here = child_here s n words later base kind x slot w rest reached byte has_slot one;
 }

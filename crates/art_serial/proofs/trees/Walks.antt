@@ -1,5 +1,6 @@
 -- A walk down from the root, by rising bytes, finds what the words mean.
-use Rattle.std.proofs.Common.{◌≡◌, ℕ, zero, suc, ◌+◌, ◌/◌, ◌%◌, ◌^◌, ◌<◌, ◌≤◌, List, [], ◌∷◌, ◌++◌, take, slice_index, All, Contains, flat_map}
+use Rattle.std.proofs.Common.{◌≡◌, ℕ, zero, suc, ◌+◌, ◌/◌, ◌%◌, ◌^◌, ◌<◌, ◌≤◌, List, [], ◌∷◌, ◌++◌, take, slice_index, All, Contains}
+use Rattle.std.proofs.Common.{flat_map}
 use Rattle.std.proofs.Common.{refl, sym, ap, subst, ◌∙◌, arith, ⊎_elim}
 use Rattle.list_laws.proofs.Lists.{AllPairs-nil, Contains-first, Contains-nil, Contains-cases}
 use Rattle.art_rows.specs.declared.table.Shape.{Shape}
@@ -51,11 +52,13 @@ module _ (s : Shape) (words : List ℕ) (tree : IsTree s words) (small : All (λ
   IsIn b k key value = Hangs s words key value × (path_in words b k ≡ take (level_in words b k) (key_bytes key))
 
   found_child : (n b : ℕ) (k : Kind) (x key value : ℕ)
-      → ((c : ℕ) (j : Kind) → Reached s words c j → Contains (pairs_below n s words c j) (key, value) → IsIn c j key value) → Reached s words b k → x < 256
+      → ((c : ℕ) (j : Kind) → Reached s words c j → Contains (pairs_below n s words c j) (key, value) → IsIn c j key value)
+      → Reached s words b k → x < 256
       → Contains (pairs_in (pairs_below n s words) (child_on s words b k x)) (key, value) → IsUnder b k x key value
   found_child n b k x key value rows r byte h = go (child_on s words b k x) refl h
     where
-      go : (child : Child) → child_on s words b k x ≡ child → Contains (pairs_in (pairs_below n s words) child) (key, value) → IsUnder b k x key value
+      go : (child : Child) → child_on s words b k x ≡ child → Contains (pairs_in (pairs_below n s words) child) (key, value)
+          → IsUnder b k x key value
       go Empty on is = absurd (Contains-nil (key, value) is)
       go (Row c j) on is =
           let (hangs, begins) = rows c j (below r x byte on) is in
@@ -70,7 +73,8 @@ module _ (s : Shape) (words : List ℕ) (tree : IsTree s words) (small : All (λ
           (record { base = b; kind = k; reached = r; byte = x; is_byte = byte; leaf = leaf }, tree.leaf b x key value k r byte leaf))
           (λ later. absurd (Contains-nil (key, value) later)) (Contains-cases (l, v) [] (key, value) is)
 
-  found_row : (n b : ℕ) (k : Kind) (key value : ℕ) → Reached s words b k → Contains (pairs_below n s words b k) (key, value) → IsIn b k key value
+  found_row : (n b : ℕ) (k : Kind) (key value : ℕ) → Reached s words b k → Contains (pairs_below n s words b k) (key, value)
+      → IsIn b k key value
   found_row zero b k key value r h = absurd (Contains-nil (key, value) h)
   found_row (suc n) b k key value r h =
       let (x, low, high, is) = found_from (λ x. pairs_in (pairs_below n s words) (child_on s words b k x)) 0 256 (key, value)
@@ -85,7 +89,8 @@ module _ (s : Shape) (words : List ℕ) (tree : IsTree s words) (small : All (λ
   key_small key value h = (leaves-are-small s words h.base h.kind h.byte key value small h.leaf).0
 
   -- what is found under a byte has lower keys than what is found under a greater one
-  under_rising : (b : ℕ) (k : Kind) (x y key value other v : ℕ) → Reached s words b k → x < y → IsUnder b k x key value → IsUnder b k y other v → key < other
+  under_rising : (b : ℕ) (k : Kind) (x y key value other v : ℕ) → Reached s words b k → x < y → IsUnder b k x key value
+      → IsUnder b k y other v → key < other
   under_rising b k x y key value other v r less here there =
       let level = level_in words b k in
       let few = level_small k (slice_index words (info_at b)) in
@@ -129,7 +134,8 @@ module _ (s : Shape) (words : List ℕ) (tree : IsTree s words) (small : All (λ
       (child_more n m (child_on s words b k x) p (λ c j t. walk_more n m c j p (omega (arith, most)) t) is))
 
   -- what is found on the way of a row is found from the root
-  walk_from : (top b : ℕ) (k : Kind) → Reached s words b k → (n : ℕ) (p : ℕ × ℕ) → n + level_in words b k ≤ top → Contains (pairs_below n s words b k) p
+  walk_from : (top b : ℕ) (k : Kind) → Reached s words b k → (n : ℕ) (p : ℕ × ℕ) → n + level_in words b k ≤ top
+      → Contains (pairs_below n s words b k) p
       → Contains (pairs_below top s words (root_base s) Full) p
   walk_from top b k root n p few h = walk_more n top (root_base s) Full p (omega (arith, few)) h
   walk_from top b k (below {base = c} {kind = j} r x byte on) n p few h =
@@ -141,7 +147,8 @@ module _ (s : Shape) (words : List ℕ) (tree : IsTree s words) (small : All (λ
   found_leaf : (key value : ℕ) (h : Hangs s words key value) → Contains (pairs_below 1 s words h.base h.kind) (key, value)
   found_leaf key value h =
       subst (λ ps. Contains ps (key, value)) (sym (row_more 0 s words h.base h.kind))
-      (found_at (λ x. pairs_in (pairs_below 0 s words) (child_on s words h.base h.kind x)) 0 256 h.byte (key, value) (omega arith) (omega (arith, h.is_byte))
+      (found_at (λ x. pairs_in (pairs_below 0 s words) (child_on s words h.base h.kind x)) 0 256 h.byte (key, value) (omega arith)
+          (omega (arith, h.is_byte))
       (subst (λ child. Contains (pairs_in (pairs_below 0 s words) child) (key, value)) (sym h.leaf) (Contains-first (key, value) [])))
 
   walk_means : (top : ℕ) → 4 ≤ top → Means s words (pairs_below top s words (root_base s) Full)

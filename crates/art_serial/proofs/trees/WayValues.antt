@@ -13,7 +13,8 @@ use Rattle.art_serial.proofs.trees.Ways.{found_at, empty-leaf, empty-row, row-le
 
 pub ways-lead-to-values : WaysLeadToValues
 ways-lead-to-values s words m key base kind x tree means leads =
-    let absent = λ (none : (value : ℕ) → Hangs s words key value → ⊥). no_value m key (λ value is. none value ((means.all key value).0 is)) in
+    let absent = λ (none : (value : ℕ) → Hangs s words key value → ⊥). no_value m key
+        (λ value is. none value ((means.all key value).0 is)) in
     let found = λ (value : ℕ) (h : Hangs s words key value). found_at s words tree key value base kind x leads h in (
       λ empty. absent (λ value h. ⊎_elim
           (λ leaf. empty-leaf key value (sym empty ∙ leaf)) (λ row. empty-row row.0 row.1 (sym empty ∙ row.2)) (found value h)),
@@ -27,7 +28,8 @@ ways-lead-to-values s words m key base kind x tree means leads =
           leaf = leaf ∙ ap (λ j. Leaf j value) same;
         })),
         λ other. absent (λ v h. ⊎_elim
-            (λ here. other (same_key k value key v (sym leaf ∙ here))) (λ row. row-leaf row.0 row.1 k value (sym row.2 ∙ leaf)) (found v h)),
+            (λ here. other (same_key k value key v (sym leaf ∙ here)))
+                (λ row. row-leaf row.0 row.1 k value (sym row.2 ∙ leaf)) (found v h)),
       ),
       λ b d k row parts. absent (λ value h. ⊎_elim
           (λ leaf. row-leaf b k key value (sym row ∙ leaf))
@@ -35,7 +37,8 @@ ways-lead-to-values s words m key base kind x tree means leads =
     )
   where
     -- a row whose path begins the key is not parted from it
-    parted : (b : ℕ) (k : Kind) (c : ℕ) (j : Kind) (d : ℕ) → Row b k ≡ Row c j → path_in words c j ≡ take (level_in words c j) (key_bytes key)
+    parted : (b : ℕ) (k : Kind) (c : ℕ) (j : Kind) (d : ℕ) → Row b k ≡ Row c j
+        → path_in words c j ≡ take (level_in words c j) (key_bytes key)
         → first_difference (path_in words b k) (key_bytes key) ≡ Some d → ⊥
     parted b k c j d rows begins =
         let path = ap₂ (λ c j. path_in words c j) (same_base b c k j rows) (same_kind b c k j rows) in

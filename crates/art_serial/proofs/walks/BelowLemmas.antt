@@ -1,5 +1,6 @@
 -- The pairs below a row: whose keys they have, how they rise, and that all that hangs is among them.
-use Rattle.std.proofs.Common.{◌≡◌, ℕ, zero, suc, ◌+◌, ◌/◌, ◌%◌, ◌^◌, ◌<◌, ◌≤◌, List, [], ◌∷◌, ◌++◌, refl, sym, ap, ◌∙◌, subst, arith, ⊎_elim, take-take, Bool}
+use Rattle.std.proofs.Common.{◌≡◌, ℕ, zero, suc, ◌+◌, ◌/◌, ◌%◌, ◌^◌, ◌<◌, ◌≤◌, List, [], ◌∷◌, ◌++◌, refl, sym, ap, ◌∙◌, subst, arith}
+use Rattle.std.proofs.Common.{⊎_elim, take-take, Bool}
 use Rattle.std.proofs.Common.{true, false}
 use Rattle.std.specs.Prelude.{◌==◌, Option, Some, None, All, Contains, length, take, slice_index, if◌then◌else◌}
 use Rattle.map_object.specs.MapObject.{Contents}
@@ -39,7 +40,8 @@ leaf_of-small s w k v small e = go (w % 4 == 1) (w % 4 == 2) (kind_at s (w / 4))
     go false true kind e = let is : w / 2 ^ 32 ≡ k = ap leaf_key e in omega (arith, small, is)
     go false false kind e = absurd (false≢true (ap is_leaf e))
 
-leaf-small : (s : Shape) (words : List ℕ) → All (λ w. w < 2 ^ 64) words → (base : ℕ) (kind : Kind) (x k v : ℕ) → child_on s words base kind x ≡ Leaf k v
+leaf-small : (s : Shape) (words : List ℕ) → All (λ w. w < 2 ^ 64) words → (base : ℕ) (kind : Kind) (x k v : ℕ)
+    → child_on s words base kind x ≡ Leaf k v
     → k < 2 ^ 32
 leaf-small s words small base kind x k v e = go (slot_of words base kind x) e
   where
@@ -58,7 +60,8 @@ module _ (s : Shape) (words : List ℕ) (tree : IsTree s words) where
       → (y : ℕ) × BeginsWith (path_in words base kind) y pair.0
 
   -- Every key under byte x of a row begins with the row's path and x.
-  pub under-begins : (walk : ℕ → Kind → Contents) (base : ℕ) (kind : Kind) (x : ℕ) (pair : ℕ × ℕ) → Begins walk → Reached s words base kind → x < 256
+  pub under-begins : (walk : ℕ → Kind → Contents) (base : ℕ) (kind : Kind) (x : ℕ) (pair : ℕ × ℕ) → Begins walk
+      → Reached s words base kind → x < 256
       → Contains (pairs_under walk base kind x) pair → BeginsWith (path_in words base kind) x pair.0
   under-begins walk base kind x pair begins reached small h = go (child_on s words base kind x) refl h
     where
@@ -77,9 +80,11 @@ module _ (s : Shape) (words : List ℕ) (tree : IsTree s words) where
       go : (child : Child) → child_on s words base kind x ≡ child → Contains (pairs_in walk child) pair → BeginsWith path x pair.0
       go Empty e h = absurd (Contains-nil pair h)
       go (Leaf k v) e h =
-          let is : k ≡ pair.0 = ⊎_elim (λ same. ap (λ p. p.0) same) (λ none. absurd (Contains-nil pair none)) (Contains-cases (k, v) [] pair h) in
+          let is : k ≡ pair.0 = ⊎_elim (λ same. ap (λ p. p.0) same) (λ none. absurd (Contains-nil pair none))
+              (Contains-cases (k, v) [] pair h) in
           let one : level_in words base kind + 1 ≡ suc (length path) = omega (arith, long) in
-          subst (λ z. BeginsWith path x z) is (subst (λ n. take n (key_bytes k) ≡ path ++ x ∷ []) one (tree.leaf base x k v kind reached small e))
+          subst (λ z. BeginsWith path x z) is (subst (λ n. take n (key_bytes k) ≡ path ++ x ∷ []) one
+              (tree.leaf base x k v kind reached small e))
       go (Row b k) e h =
           let next = begins b k pair (below reached x small e) h in
           let row = tree.row base b x kind k reached small e in
@@ -92,21 +97,24 @@ module _ (s : Shape) (words : List ℕ) (tree : IsTree s words) where
   below-begins zero base kind pair reached h = absurd (Contains-nil pair h)
   below-begins (suc n) base kind pair reached h =
       let from = Contains-from_flat_map (pairs_under (pairs_below n s words) base kind) (numbers 0 256) pair h in
-      (from.0, under-begins (pairs_below n s words) base kind from.0 pair (below-begins n) reached ((Contains-from_numbers 0 256 from.0 from.1).1) from.2)
+      (from.0, under-begins (pairs_below n s words) base kind from.0 pair (below-begins n) reached
+          ((Contains-from_numbers 0 256 from.0 from.1).1) from.2)
 
   -- all keys that the walk lists are those of a tree
   abbrev pub AreSmall : (ℕ → Kind → Contents) → Type 0
   AreSmall walk = (base : ℕ) (kind : Kind) (pair : ℕ × ℕ) → Contains (walk base kind) pair → pair.0 < 2 ^ 32
 
   module _ (small_words : All (λ w. w < 2 ^ 64) words) where
-    pub under-small : (walk : ℕ → Kind → Contents) (base : ℕ) (kind : Kind) (x : ℕ) (pair : ℕ × ℕ) → AreSmall walk → Contains (pairs_under walk base kind x) pair
+    pub under-small : (walk : ℕ → Kind → Contents) (base : ℕ) (kind : Kind) (x : ℕ) (pair : ℕ × ℕ) → AreSmall walk
+        → Contains (pairs_under walk base kind x) pair
         → pair.0 < 2 ^ 32
     under-small walk base kind x pair small h = go (child_on s words base kind x) refl h
       where
         go : (child : Child) → child_on s words base kind x ≡ child → Contains (pairs_in walk child) pair → pair.0 < 2 ^ 32
         go Empty e h = absurd (Contains-nil pair h)
         go (Leaf k v) e h =
-            ⊎_elim (λ same. subst (λ p. p.0 < 2 ^ 32) same (leaf-small s words small_words base kind x k v e)) (λ none. absurd (Contains-nil pair none))
+            ⊎_elim (λ same. subst (λ p. p.0 < 2 ^ 32) same (leaf-small s words small_words base kind x k v e))
+                (λ none. absurd (Contains-nil pair none))
             (Contains-cases (k, v) [] pair h)
         go (Row b k) e h = small b k pair h
 

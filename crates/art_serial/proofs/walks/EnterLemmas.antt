@@ -60,7 +60,8 @@ module _ (c : Setting) (n : ℕ) (words : List ℕ) (rest : IsAtRest c.shape n w
 
   -- the row that is entered stands
   stands-new : (locking : Bool) (now : List ℕ) (base : ℕ) (kind : Kind) (v : ℕ) (r : Row) → r.base ≡ base → r.kind ≡ kind → r.kept ≡ v
-      → Reached c.shape words base kind → is_locked v ≡ false → is_obsolete v ≡ false → (locking ≡ false → slice_index now base ≡ v) → Stands locking now r
+      → Reached c.shape words base kind → is_locked v ≡ false → is_obsolete v ≡ false → (locking ≡ false → slice_index now base ≡ v)
+      → Stands locking now r
   stands-new locking now base kind v r rb rk rv reached free live same = record {
     reached = subst (λ k. Reached c.shape words r.base k) (sym rk) (subst (λ b. Reached c.shape words b kind) (sym rb) reached);
     free = ap is_locked rv ∙ free;
@@ -71,7 +72,8 @@ module _ (c : Setting) (n : ℕ) (words : List ℕ) (rest : IsAtRest c.shape n w
   stands-locked : (now later : List ℕ) (r : Row) → Stands true now r → Stands true later r
   stands-locked now later r h = record { reached = h.reached; free = h.free; live = h.live; same = λ none. absurd (false≢true (sym none)) }
 
-  pub enters : (locking : Bool) (now : List ℕ) (rows : List Row) (base : ℕ) (kind : Kind) → locks c.variant ≡ locking → Walking locking now rows
+  pub enters : (locking : Bool) (now : List ℕ) (rows : List Row) (base : ℕ) (kind : Kind) → locks c.variant ≡ locking
+      → Walking locking now rows
       → Reached c.shape words base kind → has_row base rows ≡ false → Enters locking now rows base kind
   enters true now rows base kind e w reached new =
       let v = slice_index now base in
@@ -82,10 +84,13 @@ module _ (c : Setting) (n : ℕ) (words : List ℕ) (rest : IsAtRest c.shape n w
         later = with_lock now base;
         comes = if_true-comes (wait base) e (lock-comes c.shape base now free);
         walking = λ r rb rk rv. record {
-          like = like-version c.shape n words rest {held2 = HeldIn true (rows ++ r ∷ [])} (locked_word v) w.like reached (locked-small v) (locked-live v live)
-              (λ no_one. absurd (no_one (subst (λ b. has_row b (rows ++ r ∷ []) ≡ true) rb (has_row-last rows r)))) (λ b h ne. has_row-front b rows r h);
+          like = like-version c.shape n words rest {held2 = HeldIn true (rows ++ r ∷ [])} (locked_word v) w.like reached (locked-small v)
+              (locked-live v live)
+              (λ no_one. absurd (no_one (subst (λ b. has_row b (rows ++ r ∷ []) ≡ true) rb (has_row-last rows r))))
+                  (λ b h ne. has_row-front b rows r h);
           stand = All-push (Stands true (with_lock now base)) rows r
-              (All-weaker (Stands true now) (Stands true (with_lock now base)) (λ q h. stands-locked now (with_lock now base) q h) rows w.stand)
+              (All-weaker (Stands true now) (Stands true (with_lock now base))
+                  (λ q h. stands-locked now (with_lock now base) q h) rows w.stand)
               (stands-new true (with_lock now base) base kind v r rb rk rv reached free live (λ none. absurd (false≢true (sym none))));
         };
       }
@@ -128,12 +133,15 @@ module _ (c : Setting) (n : ℕ) (words : List ℕ) (rest : IsAtRest c.shape n w
       let own = All-head (Stands true now) r rows w.stand in
       let next = slice_set now r.base (released_word r.kept) in
       unlocked-like rows next (record {
-        like = like-version c.shape n words rest {held2 = HeldIn true rows} (released_word r.kept) w.like own.reached (released-small r.kept)
+        like = like-version c.shape n words rest {held2 = HeldIn true rows} (released_word r.kept) w.like own.reached
+            (released-small r.kept)
             (released-live r.kept own.live) (λ no_one. released-free r.kept own.free) (λ b h ne. rest-held b (r.base == b) refl h ne);
-        stand = All-weaker (Stands true now) (Stands true next) (λ q h. stands-locked now next q h) rows (All-tail (Stands true now) r rows w.stand);
+        stand = All-weaker (Stands true now) (Stands true next) (λ q h. stands-locked now next q h) rows
+            (All-tail (Stands true now) r rows w.stand);
       })
     where
-      rest-held : (b : ℕ) (t : Bool) → (r.base == b) ≡ t → (if t then true else has_row b rows) ≡ true → (b ≡ r.base → ⊥) → has_row b rows ≡ true
+      rest-held : (b : ℕ) (t : Bool) → (r.base == b) ≡ t → (if t then true else has_row b rows) ≡ true → (b ≡ r.base → ⊥)
+          → has_row b rows ≡ true
       rest-held b true e h ne = absurd (ne (sym (eqb-true r.base b e)))
       rest-held b false e h ne = h
 

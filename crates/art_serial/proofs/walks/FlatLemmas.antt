@@ -3,16 +3,19 @@ use Rattle.std.proofs.Common.{List, [], ◌∷◌, sym, subst, ⊎_elim}
 use Rattle.std.specs.Prelude.{All, AllPairs, Contains, flat_map}
 use Rattle.std.proofs.lemmas.List.Concat.{flat_map-cons}
 use Rattle.std.proofs.lemmas.List.Elements.{Contains-append_left, Contains-append_right, Contains-append_cases, All-contains}
-use Rattle.list_laws.proofs.Lists.{AllPairs-nil, AllPairs-append, AllPairs-head, AllPairs-tail, Contains-first, Contains-later, Contains-nil, Contains-cases, All-from_contains}
+use Rattle.list_laws.proofs.Lists.{AllPairs-nil, AllPairs-append, AllPairs-head, AllPairs-tail, Contains-first, Contains-later}
+use Rattle.list_laws.proofs.Lists.{Contains-nil, Contains-cases, All-from_contains}
 
-pub Contains-flat_map : {X A : Type 0} (f : X → List A) (xs : List X) (x : X) (a : A) → Contains xs x → Contains (f x) a → Contains (flat_map f xs) a
+pub Contains-flat_map : {X A : Type 0} (f : X → List A) (xs : List X) (x : X) (a : A) → Contains xs x → Contains (f x) a
+    → Contains (flat_map f xs) a
 Contains-flat_map f [] x a h k = absurd (Contains-nil x h)
 Contains-flat_map f (y ∷ xs) x a h k =
     subst (λ l. Contains l a) (sym (flat_map-cons f y xs))
     (⊎_elim (λ is. Contains-append_left (f y) (flat_map f xs) a (subst (λ z. Contains (f z) a) (sym is) k))
     (λ later. Contains-append_right (f y) (flat_map f xs) a (Contains-flat_map f xs x a later k)) (Contains-cases y xs x h))
 
-pub Contains-from_flat_map : {X A : Type 0} (f : X → List A) (xs : List X) (a : A) → Contains (flat_map f xs) a → (x : X) × Contains xs x × Contains (f x) a
+pub Contains-from_flat_map : {X A : Type 0} (f : X → List A) (xs : List X) (a : A) → Contains (flat_map f xs) a → (x : X) × Contains xs x
+    × Contains (f x) a
 Contains-from_flat_map f [] a h = absurd (Contains-nil a h)
 Contains-from_flat_map {X} f (y ∷ xs) a h =
     ⊎_elim (λ here. (y, Contains-first y xs, here)) (λ later. go (Contains-from_flat_map f xs a later))
@@ -24,7 +27,8 @@ Contains-from_flat_map {X} f (y ∷ xs) a h =
 -- Each list is in order, and so are elements of two lists of which the one is for an earlier element.
 pub AllPairs-flat_map : {X A : Type 0} (Q : X → X → Type 0) (R : A → A → Type 0) (f : X → List A) (xs : List X) → AllPairs Q xs
     → ((x : X) → Contains xs x → AllPairs R (f x))
-    → ((x y : X) (a b : A) → Contains xs x → Contains xs y → Q x y → Contains (f x) a → Contains (f y) b → R a b) → AllPairs R (flat_map f xs)
+    → ((x y : X) (a b : A) → Contains xs x → Contains xs y → Q x y → Contains (f x) a → Contains (f y) b → R a b)
+    → AllPairs R (flat_map f xs)
 AllPairs-flat_map Q R f [] up each across = AllPairs-nil R
 AllPairs-flat_map Q R f (y ∷ xs) up each across =
     subst (AllPairs R) (sym (flat_map-cons f y xs))

@@ -14,7 +14,8 @@ use Rattle.art_serial.proofs.walks.NumberLemmas.{Contains-numbers, numbers-rise}
 abbrev pub group : List ℕ → ℕ → List ℕ
 group xs j = filter (λ x. x / 8 == j) xs
 
-flat-flat : {X Y A : Type 0} (f : Y → List A) (g : X → List Y) (xs : List X) → flat_map f (flat_map g xs) ≡ flat_map (λ x. flat_map f (g x)) xs
+flat-flat : {X Y A : Type 0} (f : Y → List A) (g : X → List Y) (xs : List X)
+    → flat_map f (flat_map g xs) ≡ flat_map (λ x. flat_map f (g x)) xs
 flat-flat f g [] = refl
 flat-flat f g (x ∷ xs) =
     ap (flat_map f) (flat_map-cons g x xs)
@@ -32,7 +33,8 @@ groups-all xs rising small =
       eqb-true (a / 8) i (Contains-from_filter (λ x. x / 8 == i) xs a at_a).1,
       eqb-true (b / 8) j (Contains-from_filter (λ x. x / 8 == j) xs b at_b).1,
     ))) rising
-    (λ x h. (let from = Contains-from_flat_map (group xs) (numbers 0 32) x h in (Contains-from_filter (λ z. z / 8 == from.0) xs x from.2).0))
+    (λ x h. (let from = Contains-from_flat_map (group xs) (numbers 0 32) x h in (Contains-from_filter
+        (λ z. z / 8 == from.0) xs x from.2).0))
     (λ x h. Contains-flat_map (group xs) (numbers 0 32) (x / 8) x (Contains-numbers 0 32 (x / 8) (omega arith) (omega (arith, small x h)))
     (Contains-filter (λ z. z / 8 == x / 8) xs x h (eq-eqb (x / 8) (x / 8) refl)))
 

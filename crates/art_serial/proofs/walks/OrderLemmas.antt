@@ -10,16 +10,19 @@ module _ {X : Type 0} (R : X → X → Type 0) (asymmetric : (x y : X) → R x y
   same_first : (x : X) (xs : List X) (y : X) (ys : List X) → All (R x) xs → All (R y) ys → Contains (y ∷ ys) x → Contains (x ∷ xs) y → x ≡ y
   same_first x xs y ys low_x low_y in_ys in_xs =
       ⊎_elim (λ is. sym is)
-      (λ later. ⊎_elim (λ is. is) (λ back. absurd (asymmetric y x (All-contains (R y) ys x low_y later) (All-contains (R x) xs y low_x back)))
+      (λ later. ⊎_elim (λ is. is) (λ back. absurd (asymmetric y x (All-contains (R y) ys x low_y later)
+          (All-contains (R x) xs y low_x back)))
       (Contains-cases x xs y in_xs)) (Contains-cases y ys x in_ys)
 
   -- the members of such a list after its first are those of another with the same first
-  members_after : (x : X) (xs ys : List X) → All (R x) xs → ((z : X) → Contains (x ∷ xs) z → Contains (x ∷ ys) z) → (z : X) → Contains xs z → Contains ys z
+  members_after : (x : X) (xs ys : List X) → All (R x) xs → ((z : X) → Contains (x ∷ xs) z → Contains (x ∷ ys) z) → (z : X)
+      → Contains xs z → Contains ys z
   members_after x xs ys low same z h =
       ⊎_elim (λ is. (let own = subst (R x) (sym is) (All-contains (R x) xs z low h) in absurd (asymmetric x x own own))) (λ later. later)
       (Contains-cases x ys z (same z (Contains-later x xs z h)))
 
-  pub same_members-same : (xs ys : List X) → AllPairs R xs → AllPairs R ys → ((z : X) → Contains xs z → Contains ys z) → ((z : X) → Contains ys z → Contains xs z)
+  pub same_members-same : (xs ys : List X) → AllPairs R xs → AllPairs R ys → ((z : X) → Contains xs z → Contains ys z)
+      → ((z : X) → Contains ys z → Contains xs z)
       → xs ≡ ys
   same_members-same [] [] up_x up_y to from = refl
   same_members-same [] (y ∷ ys) up_x up_y to from = absurd (Contains-nil y (from y (Contains-first y ys)))

@@ -1,5 +1,6 @@
 -- The pairs of a row within a range: those under the bytes under which a key of the range can lie.
-use Rattle.std.proofs.Common.{◌≡◌, ℕ, ◌+◌, ◌-◌, ◌*◌, ◌/◌, ◌^◌, ◌<◌, ◌≤◌, List, [], ◌∷◌, ◌++◌, refl, sym, ap, ◌∙◌, subst, arith, Bool, true, false}
+use Rattle.std.proofs.Common.{◌≡◌, ℕ, ◌+◌, ◌-◌, ◌*◌, ◌/◌, ◌^◌, ◌<◌, ◌≤◌, List, [], ◌∷◌, ◌++◌, refl, sym, ap, ◌∙◌, subst, arith, Bool, true}
+use Rattle.std.proofs.Common.{false}
 use Rattle.std.specs.Prelude.{◌&&◌, nat_lt, nat_le, Contains, length, filter, flat_map, slice_index}
 use Rattle.map_object.specs.MapObject.{Contents, within}
 use Rattle.art_rows.specs.Words.{big_endian}
@@ -16,7 +17,8 @@ use Rattle.art_serial.proofs.walks.KeyLemmas.{BeginsWith}
 use Rattle.art_serial.proofs.words.ByteLemmas.{less_equal}
 
 -- the number of the bytes that a key begins with
-pub begins-number : (path : List ℕ) (x key : ℕ) → key < 2 ^ 32 → BeginsWith path x key → key / 256 ^ (3 - length path) ≡ big_endian (big_endian 0 path) (x ∷ [])
+pub begins-number : (path : List ℕ) (x key : ℕ) → key < 2 ^ 32 → BeginsWith path x key
+    → key / 256 ^ (3 - length path) ≡ big_endian (big_endian 0 path) (x ∷ [])
 begins-number [] x key small h = omega (arith, small, ap (λ l. slice_index l 0) h)
 begins-number (a ∷ []) x key small h = omega (arith, small, ap (λ l. slice_index l 0) h, ap (λ l. slice_index l 1) h)
 begins-number (a ∷ b ∷ []) x key small h =
@@ -27,8 +29,10 @@ begins-number (a ∷ b ∷ c ∷ d ∷ path) x key small h = absurd (omega (arit
 
 -- a key of the range can lie under the byte that it has
 bounds : (path : List ℕ) (x key low high : ℕ) → key < 2 ^ 32 → BeginsWith path x key → low ≤ key → key ≤ high
-    → (big_endian (big_endian 0 path) (x ∷ []) * 256 ^ (3 - length path) ≤ high) × (low < (big_endian (big_endian 0 path) (x ∷ []) + 1) * 256 ^ (3 - length path))
-bounds [] x key low high small h le le2 = let is = begins-number [] x key small h in (omega (arith, is, le, le2), omega (arith, is, le, le2))
+    → (big_endian (big_endian 0 path) (x ∷ []) * 256 ^ (3 - length path) ≤ high)
+    × (low < (big_endian (big_endian 0 path) (x ∷ []) + 1) * 256 ^ (3 - length path))
+bounds [] x key low high small h le le2 = let is =
+    begins-number [] x key small h in (omega (arith, is, le, le2), omega (arith, is, le, le2))
 bounds (a ∷ []) x key low high small h le le2 =
     let is = begins-number (a ∷ []) x key small h in (omega (arith, is, le, le2), omega (arith, is, le, le2))
 bounds (a ∷ b ∷ []) x key low high small h le le2 =
@@ -48,7 +52,8 @@ tests-pass : (low high number power : ℕ) → number * power ≤ high → low <
     → (nat_le (number * power) high && nat_lt low ((number + 1) * power)) ≡ true
 tests-pass low high number power le less = rw (less_equal (number * power) high le, tested-lt low ((number + 1) * power) less) refl
 
-lies : (low high : ℕ) (n : Row) (x key : ℕ) → key < 2 ^ 32 → n.level ≡ length n.path → BeginsWith n.path x key → in_range low high key ≡ true
+lies : (low high : ℕ) (n : Row) (x key : ℕ) → key < 2 ^ 32 → n.level ≡ length n.path → BeginsWith n.path x key
+    → in_range low high key ≡ true
     → can_lie low high n x ≡ true
 lies low high n x key small level h inside =
     let both = bounds n.path x key low high small h (grind (arith, nat_tests, inside)) (grind (arith, nat_tests, inside)) in
@@ -56,7 +61,8 @@ lies low high n x key small level h inside =
     tests-pass low high number (256 ^ (3 - n.level)) (subst (λ k. number * 256 ^ (3 - k) ≤ high) (sym level) both.0)
     (subst (λ k. low < (number + 1) * 256 ^ (3 - k)) (sym level) both.1)
 
-pub not-in-range : (low high : ℕ) (n : Row) (x key : ℕ) → key < 2 ^ 32 → n.level ≡ length n.path → BeginsWith n.path x key → can_lie low high n x ≡ false
+pub not-in-range : (low high : ℕ) (n : Row) (x key : ℕ) → key < 2 ^ 32 → n.level ≡ length n.path → BeginsWith n.path x key
+    → can_lie low high n x ≡ false
     → in_range low high key ≡ false
 not-in-range low high n x key small level h out =
     false_from_ne_true (in_range low high key) (λ inside. absurd (false≢true (sym out ∙ lies low high n x key small level h inside)))
@@ -67,7 +73,8 @@ filter_no p x xs h = rw h refl
 
 -- The pairs of a range are those under the bytes where its keys can lie.
 pub within-flat : (low high : ℕ) (n : Row) (f : ℕ → Contents) (xs : List ℕ)
-    → ((x : ℕ) (pair : ℕ × ℕ) → Contains xs x → Contains (f x) pair → (pair.0 < 2 ^ 32) × BeginsWith n.path x pair.0) → n.level ≡ length n.path
+    → ((x : ℕ) (pair : ℕ × ℕ) → Contains xs x → Contains (f x) pair → (pair.0 < 2 ^ 32) × BeginsWith n.path x pair.0)
+    → n.level ≡ length n.path
     → within low high (flat_map f xs) ≡ flat_map (λ x. within low high (f x)) (filter (can_lie low high n) xs)
 within-flat low high n f [] begins level = refl
 within-flat low high n f (x ∷ xs) begins level =

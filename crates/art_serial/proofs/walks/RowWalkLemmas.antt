@@ -1,5 +1,6 @@
 -- A scan that runs alone walks a row, by its kind.
-use Rattle.std.proofs.Common.{◌≡◌, ℕ, suc, ◌+◌, ◌-◌, ◌*◌, ◌/◌, ◌%◌, ◌<◌, ◌≤◌, ◌==◌, List, [], ◌∷◌, ◌++◌, length, slice_index, AllPairs, refl, sym, ap, ◌∙◌}
+use Rattle.std.proofs.Common.{◌≡◌, ℕ, suc, ◌+◌, ◌-◌, ◌*◌, ◌/◌, ◌%◌, ◌<◌, ◌≤◌, ◌==◌, List, [], ◌∷◌, ◌++◌, length, slice_index, AllPairs}
+use Rattle.std.proofs.Common.{refl, sym, ap, ◌∙◌}
 use Rattle.std.proofs.Common.{subst, arith}
 use Rattle.std.proofs.Common.{Bool, true, false, if◌then◌else◌, Option, Some, None, eqb-true}
 use Rattle.std.specs.Prelude.{Contains, flat_map, option_map}
@@ -35,9 +36,11 @@ behind-version Sixteen place le = omega (arith, le)
 behind-version FortyEight place le = omega (arith, le)
 behind-version Full place le = omega (arith, le)
 
-module _ (c : Setting) (n : ℕ) (words : List ℕ) (rest : IsAtRest c.shape n words) (low high : ℕ) (locking : Bool) (e : locks c.variant ≡ locking)
+module _ (c : Setting) (n : ℕ) (words : List ℕ) (rest : IsAtRest c.shape n words) (low high : ℕ) (locking : Bool)
+    (e : locks c.variant ≡ locking)
     (walk : Row → Walked → Part Walked) (depth : ℕ) (walks : WalksRows c n words rest low high locking depth walk) (r : Row)
-    (reached : Reached c.shape words r.base r.kind) (level : r.level ≡ level_in words r.base r.kind) (path : r.path ≡ path_in words r.base r.kind)
+    (reached : Reached c.shape words r.base r.kind) (level : r.level ≡ level_in words r.base r.kind)
+        (path : r.path ≡ path_in words r.base r.kind)
     (deep : 4 ≤ suc depth + r.level) where
   -- the pairs of the range under a byte
   abbrev pairs_at : ℕ → Contents
@@ -48,11 +51,13 @@ module _ (c : Setting) (n : ℕ) (words : List ℕ) (rest : IsAtRest c.shape n w
   WalksByte part now w x =
       Walks c n words rest low high locking part now w (pairs_at x) (λ q. GoesBy c n words rest low high r.path x q.base q.kind)
 
-  slot-word : (now : List ℕ) (x slot : ℕ) → x < 256 → slot_of words r.base r.kind x ≡ Some slot → {held : ℕ → Type 0} → Like c.shape words words now held
+  slot-word : (now : List ℕ) (x slot : ℕ) → x < 256 → slot_of words r.base r.kind x ≡ Some slot → {held : ℕ → Type 0}
+      → Like c.shape words words now held
       → slice_index now slot ≡ slice_index words slot
   slot-word now x slot small at like =
       let its = slot-is words r.base r.kind x slot small at in
-      ap (slice_index now) its.is ∙ (like-row c.shape n words rest like reached its.place (behind-version r.kind its.place its.low) its.high ∙ ap (slice_index words) (sym its.is))
+      ap (slice_index now) its.is ∙ (like-row c.shape n words rest like reached its.place (behind-version r.kind its.place its.low)
+          its.high ∙ ap (slice_index words) (sym its.is))
 
   pub walks-slot : (now : List ℕ) (w : Walked) (x slot : ℕ) → x < 256 → slot_of words r.base r.kind x ≡ Some slot
       → Walking c n words rest locking now w.rows → FreeOf c n words rest low high r.path x w.rows → length (w.pairs ++ pairs_at x) ≤ 4096
@@ -61,14 +66,16 @@ module _ (c : Setting) (n : ℕ) (words : List ℕ) (rest : IsAtRest c.shape n w
   walks-slot now w x slot small at walking free few =
       let child = child_of c.shape (slice_index words slot) in
       let is : child_on c.shape words r.base r.kind x ≡ child = ap (child_in c.shape words) at in
-      let inner = walks-child c n words rest low high locking walk depth now w r x child e walks reached level path deep small is walking free
+      let inner = walks-child c n words rest low high locking walk depth now w r x child e walks reached level path deep
+          small is walking free
       (subst (λ p. length (w.pairs ++ within low high (pairs_in (pairs_below depth c.shape words) p)) ≤ 4096) is few) in
       let said : child_of c.shape (slice_index now slot) ≡ child = ap (child_of c.shape) (slot-word now x slot small at walking.like) in
       record {
         walked = inner.walked;
         later = inner.later;
         comes = bind-comes {f = λ p. walk_child c low high walk p w}
-            (bind-comes {f = λ v. give (child_of c.shape v)} (load-comes slot now) (give-comes (child_of c.shape (slice_index now slot)) now))
+            (bind-comes {f = λ v. give (child_of c.shape v)} (load-comes slot now)
+                (give-comes (child_of c.shape (slice_index now slot)) now))
             (subst (λ p. Comes (walk_child c low high walk p w) now inner.walked inner.later) (sym said) inner.comes);
         walking = inner.walking;
         pairs_are = inner.pairs_are ∙ ap (λ p. w.pairs ++ within low high (pairs_in (pairs_below depth c.shape words) p)) (sym is);
@@ -119,7 +126,8 @@ module _ (c : Setting) (n : ℕ) (words : List ℕ) (rest : IsAtRest c.shape n w
 
   -- ---- by kind
 
-  apart : (x y : ℕ) → x < y → (q : Row) → GoesBy c n words rest low high r.path x q.base q.kind → GoesBy c n words rest low high r.path y q.base q.kind → ⊥
+  apart : (x y : ℕ) → x < y → (q : Row) → GoesBy c n words rest low high r.path x q.base q.kind
+      → GoesBy c n words rest low high r.path y q.base q.kind → ⊥
   apart x y less q one two = absurd (omega (arith, less, other-byte r.path x y (sym one ∙ two)))
 
   -- the part walks what is under these bytes
@@ -154,18 +162,21 @@ module _ (c : Setting) (n : ℕ) (words : List ℕ) (rest : IsAtRest c.shape n w
   }
 
   -- a word of the row is as it was at rest
-  row-word : (now : List ℕ) {held : ℕ → Type 0} (k : Kind) (j : ℕ) → r.kind ≡ k → 1 ≤ j → j < row_words k → Like c.shape words words now held
+  row-word : (now : List ℕ) {held : ℕ → Type 0} (k : Kind) (j : ℕ) → r.kind ≡ k → 1 ≤ j → j < row_words k
+      → Like c.shape words words now held
       → slice_index now (r.base + j) ≡ slice_index words (r.base + j)
   row-word now k j is low high like = like-row c.shape n words rest like reached j low (subst (λ q. j < row_words q) (sym is) high)
 
-  pub walks-four : r.kind ≡ Four → (xs : List ℕ) (w : Walked) (now : List ℕ) → ((x : ℕ) → Contains xs x → x < 256) → AllPairs (λ a b. a < b) xs
+  pub walks-four : r.kind ≡ Four → (xs : List ℕ) (w : Walked) (now : List ℕ) → ((x : ℕ) → Contains xs x → x < 256)
+      → AllPairs (λ a b. a < b) xs
       → Walking c n words rest locking now w.rows → ((x : ℕ) → FreeOf c n words rest low high r.path x w.rows)
       → length (w.pairs ++ flat_map pairs_at xs) ≤ 4096 → WalksAll (walk_in c low high walk Four r xs w) now w xs
   unfolding walk_in
   walks-four is xs w now small rising walking free few =
       let word = slice_index words (keys_at r.base) in
       let inner = walks-keys (keys4_of word) xs w now small
-      (λ x. subst (λ k. option_map (child_at k r.base) (place_of x (keys4_of word)) ≡ slot_of words r.base k x) (sym is) refl) rising walking free few in
+      (λ x. subst (λ k. option_map (child_at k r.base) (place_of x (keys4_of word)) ≡ slot_of words r.base k x) (sym is) refl) rising
+          walking free few in
       record {
         walked = inner.walked;
         later = inner.later;
@@ -179,29 +190,37 @@ module _ (c : Setting) (n : ℕ) (words : List ℕ) (rest : IsAtRest c.shape n w
         below = inner.below;
       }
 
-  pub walks-sixteen : r.kind ≡ Sixteen → (xs : List ℕ) (w : Walked) (now : List ℕ) → ((x : ℕ) → Contains xs x → x < 256) → AllPairs (λ a b. a < b) xs
+  pub walks-sixteen : r.kind ≡ Sixteen → (xs : List ℕ) (w : Walked) (now : List ℕ) → ((x : ℕ) → Contains xs x → x < 256)
+      → AllPairs (λ a b. a < b) xs
       → Walking c n words rest locking now w.rows → ((x : ℕ) → FreeOf c n words rest low high r.path x w.rows)
       → length (w.pairs ++ flat_map pairs_at xs) ≤ 4096 → WalksAll (walk_in c low high walk Sixteen r xs w) now w xs
   unfolding walk_in
   walks-sixteen is xs w now small rising walking free few =
-      let keys = keys16_of (slice_index words (count_at Sixteen r.base)) (slice_index words (keys_at r.base)) (slice_index words (more_keys_at r.base)) in
+      let keys = keys16_of (slice_index words (count_at Sixteen r.base)) (slice_index words (keys_at r.base))
+          (slice_index words (more_keys_at r.base)) in
       let inner = walks-keys keys xs w now small
-      (λ x. subst (λ k. option_map (child_at k r.base) (place_of x keys) ≡ slot_of words r.base k x) (sym is) refl) rising walking free few in
+      (λ x. subst (λ k. option_map (child_at k r.base) (place_of x keys) ≡ slot_of words r.base k x) (sym is) refl) rising
+          walking free few in
       let count = row-word now Sixteen 4 is (omega arith) (omega arith) walking.like in
       let first = row-word now Sixteen 2 is (omega arith) (omega arith) walking.like in
       let second = row-word now Sixteen 3 is (omega arith) (omega arith) walking.like in
-      let said : keys16_of (slice_index now (count_at Sixteen r.base)) (slice_index now (keys_at r.base)) (slice_index now (more_keys_at r.base)) ≡ keys =
+      let said : keys16_of (slice_index now (count_at Sixteen r.base)) (slice_index now (keys_at r.base))
+          (slice_index now (more_keys_at r.base)) ≡ keys =
       rw (count, first, second) refl in
       record {
         walked = inner.walked;
         later = inner.later;
-        comes = bind-comes {f = λ k. load (keys_at r.base) >>= λ f. load (more_keys_at r.base) >>= λ s. walk_keys c low high walk r (keys16_of k f s) xs w}
+        comes = bind-comes {f = λ k. load (keys_at r.base) >>= λ f. load (more_keys_at r.base) >>= λ s. walk_keys c low high walk r
+            (keys16_of k f s) xs w}
             (load-comes (count_at Sixteen r.base) now)
-            (bind-comes {f = λ f. load (more_keys_at r.base) >>= λ s. walk_keys c low high walk r (keys16_of (slice_index now (count_at Sixteen r.base)) f s) xs w}
+            (bind-comes {f = λ f. load (more_keys_at r.base) >>= λ s. walk_keys c low high walk r
+                (keys16_of (slice_index now (count_at Sixteen r.base)) f s) xs w}
             (load-comes (keys_at r.base) now)
-            (bind-comes {f = λ s. walk_keys c low high walk r (keys16_of (slice_index now (count_at Sixteen r.base)) (slice_index now (keys_at r.base)) s) xs w}
+            (bind-comes {f = λ s. walk_keys c low high walk r (keys16_of (slice_index now (count_at Sixteen r.base))
+                (slice_index now (keys_at r.base)) s) xs w}
             (load-comes (more_keys_at r.base) now)
-            (subst (λ (keys : List ℕ). Comes (walk_keys c low high walk r keys xs w) now inner.walked inner.later) (sym said) inner.comes)));
+            (subst (λ (keys : List ℕ). Comes (walk_keys c low high walk r keys xs w) now inner.walked inner.later)
+                (sym said) inner.comes)));
         walking = inner.walking;
         pairs_are = inner.pairs_are;
         more = inner.more;
@@ -209,7 +228,8 @@ module _ (c : Setting) (n : ℕ) (words : List ℕ) (rest : IsAtRest c.shape n w
         below = inner.below;
       }
 
-  pub walks-full : r.kind ≡ Full → (xs : List ℕ) (w : Walked) (now : List ℕ) → ((x : ℕ) → Contains xs x → x < 256) → AllPairs (λ a b. a < b) xs
+  pub walks-full : r.kind ≡ Full → (xs : List ℕ) (w : Walked) (now : List ℕ) → ((x : ℕ) → Contains xs x → x < 256)
+      → AllPairs (λ a b. a < b) xs
       → Walking c n words rest locking now w.rows → ((x : ℕ) → FreeOf c n words rest low high r.path x w.rows)
       → length (w.pairs ++ flat_map pairs_at xs) ≤ 4096 → WalksAll (walk_in c low high walk Full r xs w) now w xs
   unfolding walk_in
@@ -217,7 +237,8 @@ module _ (c : Setting) (n : ℕ) (words : List ℕ) (rest : IsAtRest c.shape n w
       walks-over c n words rest low high (λ x q. GoesBy c n words rest low high r.path x q.base q.kind) apart locking
       (λ x. walk_slot c low high walk (child_at Full r.base x)) pairs_at xs w now
       (λ x v at h walking free few. walks-slot at v x (child_at Full r.base x) (small x h)
-      (subst (λ k. slot_of words r.base k x ≡ Some (child_at Full r.base x)) (sym is) refl) walking free few) rising walking (λ x h. free x) few
+      (subst (λ k. slot_of words r.base k x ≡ Some (child_at Full r.base x)) (sym is) refl) walking free few) rising walking
+          (λ x h. free x) few
 
   -- ---- kind 48: the index words one after another
 
@@ -234,10 +255,12 @@ module _ (c : Setting) (n : ℕ) (words : List ℕ) (rest : IsAtRest c.shape n w
   WalksGroup j part now w xs = Walks c n words rest low high locking part now w (flat_map pairs_at xs) (InGroup j)
 
   -- bytes of index word j are walked by its entries
-  walks-entries : r.kind ≡ FortyEight → (j : ℕ) (xs : List ℕ) (w : Walked) (now : List ℕ) → ((x : ℕ) → Contains xs x → (x < 256) × (x / 8 ≡ j))
+  walks-entries : r.kind ≡ FortyEight → (j : ℕ) (xs : List ℕ) (w : Walked) (now : List ℕ)
+      → ((x : ℕ) → Contains xs x → (x < 256) × (x / 8 ≡ j))
       → AllPairs (λ a b. a < b) xs → Walking c n words rest locking now w.rows
       → ((x : ℕ) → x / 8 ≡ j → FreeOf c n words rest low high r.path x w.rows) → length (w.pairs ++ flat_map pairs_at xs) ≤ 4096
-      → WalksGroup j (over xs (λ y. walk_entry c low high walk r (slice_index (entries_of (slice_index words (index_at r.base (8 * j)))) (y % 8))) w) now w xs
+      → WalksGroup j (over xs (λ y. walk_entry c low high walk r (slice_index (entries_of (slice_index words (index_at r.base (8 * j))))
+          (y % 8))) w) now w xs
   walks-entries is j xs w now small rising walking free few =
       walks-as refl (λ q h. (h.0, h.1.0, h.1.1))
       (walks-over c n words rest low high InByte (λ x y less q one two. apart x y less q one.1 two.1) locking
@@ -246,20 +269,24 @@ module _ (c : Setting) (n : ℕ) (words : List ℕ) (rest : IsAtRest c.shape n w
       (walks-entry (slice_index (entries_of (slice_index words (index_at r.base (8 * j)))) (x % 8)) x v at ((small x h).0)
       (slot x ((small x h).1)) walking (All-weaker (λ q. InByte x q → ⊥) (λ q. GoesBy c n words rest low high r.path x q.base q.kind → ⊥)
       (λ q none goes. none ((small x h).1, goes)) v.rows free) few)) rising walking
-      (λ x h. All-weaker (λ q. GoesBy c n words rest low high r.path x q.base q.kind → ⊥) (λ q. InByte x q → ⊥) (λ q none goes. none goes.1) w.rows
+      (λ x h. All-weaker (λ q. GoesBy c n words rest low high r.path x q.base q.kind → ⊥) (λ q. InByte x q → ⊥)
+          (λ q none goes. none goes.1) w.rows
       (free x ((small x h).1))) few)
     where
       InByte : ℕ → Row → Type 0
       InByte x q = (x / 8 ≡ j) × GoesBy c n words rest low high r.path x q.base q.kind
 
       slot : (x : ℕ) → x / 8 ≡ j
-          → entry_slot r.base (slice_index (entries_of (slice_index words (index_at r.base (8 * j)))) (x % 8)) ≡ slot_of words r.base r.kind x
+          → entry_slot r.base (slice_index (entries_of (slice_index words (index_at r.base (8 * j)))) (x % 8)) ≡ slot_of
+              words r.base r.kind x
       slot x its =
           let word : index_at r.base (8 * j) ≡ index_at r.base x = omega (arith, its) in
-          subst (λ k. entry_slot r.base (slice_index (entries_of (slice_index words (index_at r.base (8 * j)))) (x % 8)) ≡ slot_of words r.base k x) (sym is)
+          subst (λ k. entry_slot r.base (slice_index (entries_of (slice_index words (index_at r.base (8 * j)))) (x % 8)) ≡ slot_of words
+              r.base k x) (sym is)
           (ap (λ i. entry_slot r.base (slice_index (entries_of (slice_index words i)) (x % 8))) word)
 
-  walks-index : r.kind ≡ FortyEight → (j : ℕ) (xs : List ℕ) (w : Walked) (now : List ℕ) → j < 32 → ((x : ℕ) → Contains xs x → (x < 256) × (x / 8 ≡ j))
+  walks-index : r.kind ≡ FortyEight → (j : ℕ) (xs : List ℕ) (w : Walked) (now : List ℕ) → j < 32
+      → ((x : ℕ) → Contains xs x → (x < 256) × (x / 8 ≡ j))
       → AllPairs (λ a b. a < b) xs → Walking c n words rest locking now w.rows
       → ((x : ℕ) → x / 8 ≡ j → FreeOf c n words rest low high r.path x w.rows) → length (w.pairs ++ flat_map pairs_at xs) ≤ 4096
       → WalksGroup j (walk_index c low high walk r j xs w) now w xs
@@ -277,7 +304,8 @@ module _ (c : Setting) (n : ℕ) (words : List ℕ) (rest : IsAtRest c.shape n w
         later = inner.later;
         comes = bind-comes {f = λ v. over (x ∷ xs) (λ y. walk_entry c low high walk r (slice_index (entries_of v) (y % 8))) w}
             (load-comes (index_at r.base (8 * j)) now)
-            (subst (λ (v : ℕ). Comes (over (x ∷ xs) (λ y. walk_entry c low high walk r (slice_index (entries_of v) (y % 8))) w) now inner.walked inner.later)
+            (subst (λ (v : ℕ). Comes (over (x ∷ xs) (λ y. walk_entry c low high walk r (slice_index (entries_of v) (y % 8))) w) now
+                inner.walked inner.later)
             (sym said) inner.comes);
         walking = inner.walking;
         pairs_are = inner.pairs_are;
@@ -286,19 +314,23 @@ module _ (c : Setting) (n : ℕ) (words : List ℕ) (rest : IsAtRest c.shape n w
         below = inner.below;
       }
 
-  pub walks-forty_eight : r.kind ≡ FortyEight → (xs : List ℕ) (w : Walked) (now : List ℕ) → ((x : ℕ) → Contains xs x → x < 256) → AllPairs (λ a b. a < b) xs
+  pub walks-forty_eight : r.kind ≡ FortyEight → (xs : List ℕ) (w : Walked) (now : List ℕ) → ((x : ℕ) → Contains xs x → x < 256)
+      → AllPairs (λ a b. a < b) xs
       → Walking c n words rest locking now w.rows → ((x : ℕ) → FreeOf c n words rest low high r.path x w.rows)
       → length (w.pairs ++ flat_map pairs_at xs) ≤ 4096 → WalksAll (walk_in c low high walk FortyEight r xs w) now w xs
   unfolding walk_in
   walks-forty_eight is xs w now small rising walking free few =
       let all = grouped pairs_at xs rising small in
       walks-as all (λ q h. (h.1.0, h.1.2))
-      (walks-over c n words rest low high InGroup apart-groups locking (λ j. walk_index c low high walk r j (group xs j)) (λ j. flat_map pairs_at (group xs j))
+      (walks-over c n words rest low high InGroup apart-groups locking (λ j. walk_index c low high walk r j (group xs j))
+          (λ j. flat_map pairs_at (group xs j))
       (numbers 0 32) w now
       (λ j v at h walking free few. walks-index is j (group xs j) v at ((Contains-from_numbers 0 32 j h).1)
       (λ x k. (let its = Contains-from_filter (λ z. z / 8 == j) xs x k in (small x its.0, eqb-true (x / 8) j its.1)))
       (AllPairs-filter (λ a b. a < b) (λ z. z / 8 == j) xs rising) walking
-      (λ x its. All-weaker (λ q. InGroup j q → ⊥) (λ q. GoesBy c n words rest low high r.path x q.base q.kind → ⊥) (λ q none goes. none (x, its, goes)) v.rows free)
+      (λ x its. All-weaker (λ q. InGroup j q → ⊥) (λ q. GoesBy c n words rest low high r.path x q.base q.kind → ⊥)
+          (λ q none goes. none (x, its, goes)) v.rows free)
       few) (numbers-rise 0 32) walking
-      (λ j h. All-from_contains (λ q. InGroup j q → ⊥) w.rows (λ q k goes. All-contains (λ q. GoesBy c n words rest low high r.path goes.0 q.base q.kind → ⊥) w.rows q
+      (λ j h. All-from_contains (λ q. InGroup j q → ⊥) w.rows
+          (λ q k goes. All-contains (λ q. GoesBy c n words rest low high r.path goes.0 q.base q.kind → ⊥) w.rows q
       (free goes.0) k goes.2)) (subst (λ p. length (w.pairs ++ p) ≤ 4096) (sym all) few))

@@ -1,5 +1,6 @@
 -- A scan that runs alone walks a tree at rest.
-use Rattle.std.proofs.Common.{◌≡◌, ℕ, zero, suc, ◌+◌, ◌<◌, ◌≤◌, List, [], ◌∷◌, ◌++◌, length, AllPairs, refl, sym, ap, ◌∙◌, subst, arith, Bool}
+use Rattle.std.proofs.Common.{◌≡◌, ℕ, zero, suc, ◌+◌, ◌<◌, ◌≤◌, List, [], ◌∷◌, ◌++◌, length, AllPairs, refl, sym, ap, ◌∙◌, subst, arith}
+use Rattle.std.proofs.Common.{Bool}
 use Rattle.std.specs.Prelude.{Contains, flat_map}
 use Rattle.std.proofs.lemmas.List.Kept.{AllPairs-filter}
 use Rattle.list_laws.proofs.FilterLemmas.{Contains-from_filter}
@@ -23,7 +24,8 @@ use Rattle.art_serial.proofs.walks.EnterLemmas.{Walking}
 use Rattle.art_serial.proofs.walks.VisitLemmas.{GoesBy, FreeOf, Walks, WalksRows, under, walks-nothing}
 use Rattle.art_serial.proofs.walks.RowWalkLemmas.{walks-four, walks-sixteen, walks-forty_eight, walks-full}
 
-module _ (c : Setting) (n : ℕ) (words : List ℕ) (rest : IsAtRest c.shape n words) (low high : ℕ) (locking : Bool) (e : locks c.variant ≡ locking) where
+module _ (c : Setting) (n : ℕ) (words : List ℕ) (rest : IsAtRest c.shape n words) (low high : ℕ) (locking : Bool)
+    (e : locks c.variant ≡ locking) where
   -- the walk from a row on
   abbrev pub walk_on : Row → Walked → Part Walked
   walk_on m w = walk_from c low high (record { row = m; walked = w })
@@ -35,7 +37,8 @@ module _ (c : Setting) (n : ℕ) (words : List ℕ) (rest : IsAtRest c.shape n w
   bytes-rise r = AllPairs-filter (λ a b. a < b) (can_lie low high r) (numbers 0 256) (numbers-rise 0 256)
 
   module _ (depth : ℕ) (walks : WalksRows c n words rest low high locking depth walk_on) (r : Row)
-      (reached : Reached c.shape words r.base r.kind) (level : r.level ≡ level_in words r.base r.kind) (path : r.path ≡ path_in words r.base r.kind)
+      (reached : Reached c.shape words r.base r.kind) (level : r.level ≡ level_in words r.base r.kind)
+          (path : r.path ≡ path_in words r.base r.kind)
       (deep : 4 ≤ suc depth + r.level) where
     abbrev pairs_at : ℕ → Contents
     pairs_at x = within low high (under c n words rest low high depth r.base r.kind x)
@@ -44,7 +47,8 @@ module _ (c : Setting) (n : ℕ) (words : List ℕ) (rest : IsAtRest c.shape n w
     WalksThem part now w xs = Walks c n words rest low high locking part now w (flat_map pairs_at xs)
         (λ q. (y : ℕ) × GoesBy c n words rest low high r.path y q.base q.kind)
 
-    walks-in : (kind : Kind) → r.kind ≡ kind → (xs : List ℕ) (w : Walked) (now : List ℕ) → ((x : ℕ) → Contains xs x → x < 256) → AllPairs (λ a b. a < b) xs
+    walks-in : (kind : Kind) → r.kind ≡ kind → (xs : List ℕ) (w : Walked) (now : List ℕ) → ((x : ℕ) → Contains xs x → x < 256)
+        → AllPairs (λ a b. a < b) xs
         → Walking c n words rest locking now w.rows → ((x : ℕ) → FreeOf c n words rest low high r.path x w.rows)
         → length (w.pairs ++ flat_map pairs_at xs) ≤ 4096 → WalksThem (walk_in c low high walk_on kind r xs w) now w xs
     walks-in Four is = walks-four c n words rest low high locking e walk_on depth walks r reached level path deep is
@@ -68,7 +72,8 @@ module _ (c : Setting) (n : ℕ) (words : List ℕ) (rest : IsAtRest c.shape n w
           under-small c.shape words rest.tree rest.small (pairs_below depth c.shape words) r.base r.kind x pair
               (below-small c.shape words rest.tree rest.small depth) k,
           subst (λ p. BeginsWith p x pair.0) (sym path)
-              (under-begins c.shape words rest.tree (pairs_below depth c.shape words) r.base r.kind x pair (below-begins c.shape words rest.tree depth) reached
+              (under-begins c.shape words rest.tree (pairs_below depth c.shape words) r.base r.kind x pair
+                  (below-begins c.shape words rest.tree depth) reached
               ((Contains-from_numbers 0 256 x h).1) k),
         )) (level ∙ sym (ap (λ p. length p) path ∙ (rest.tree.info r.base r.kind reached).0))
 
@@ -76,7 +81,8 @@ module _ (c : Setting) (n : ℕ) (words : List ℕ) (rest : IsAtRest c.shape n w
   walks-rows zero r w now reached level path deep walking free few = absurd (omega (arith, deep, level, level-most words r.base r.kind))
   walks-rows (suc depth) r w now reached level path deep walking free few =
       let is = listed depth (walks-rows depth) r reached level path deep in
-      let inner = walks-bytes depth (walks-rows depth) r reached level path deep (bytes_of low high r) w now (bytes-small r) (bytes-rise r) walking free
+      let inner = walks-bytes depth (walks-rows depth) r reached level path deep (bytes_of low high r) w now (bytes-small r)
+          (bytes-rise r) walking free
       (subst (λ p. length (w.pairs ++ p) ≤ 4096) is few) in
       record {
         walked = inner.walked;

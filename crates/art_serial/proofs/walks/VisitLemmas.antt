@@ -1,5 +1,6 @@
 -- A scan that runs alone walks the child of a byte.
-use Rattle.std.proofs.Common.{◌≡◌, ℕ, suc, ◌+◌, ◌<◌, ◌≤◌, ◌==◌, List, [], ◌∷◌, ◌++◌, length, take, slice_index, All, refl, sym, ap, ◌∙◌, subst, arith}
+use Rattle.std.proofs.Common.{◌≡◌, ℕ, suc, ◌+◌, ◌<◌, ◌≤◌, ◌==◌, List, [], ◌∷◌, ◌++◌, length, take, slice_index, All, refl, sym, ap, ◌∙◌}
+use Rattle.std.proofs.Common.{subst, arith}
 use Rattle.std.proofs.Common.{Bool, true, false, eqb-true, take-take, if◌then◌else◌}
 use Rattle.std.specs.Prelude.{◌&&◌, nat_le, nat_lt}
 use Rattle.std.proofs.lemmas.Option.{same_Some}
@@ -36,7 +37,8 @@ module _ (c : Setting) (n : ℕ) (words : List ℕ) (rest : IsAtRest c.shape n w
   FreeOf path x rows = All (λ q. GoesBy path x q.base q.kind → ⊥) rows
 
   -- the part walks: it lists these pairs more, and reads these rows more
-  pub record Walks (locking : Bool) (part : Part Walked) (now : List ℕ) (w : Walked) (pairs : Contents) (IsBelow : Row → Type 0) : Type 0 where
+  pub record Walks (locking : Bool) (part : Part Walked) (now : List ℕ) (w : Walked) (pairs : Contents)
+      (IsBelow : Row → Type 0) : Type 0 where
     pub walked : Walked
     pub later : List ℕ
     pub comes : Comes part now walked later
@@ -48,7 +50,8 @@ module _ (c : Setting) (n : ℕ) (words : List ℕ) (rest : IsAtRest c.shape n w
 
   -- what a walk does of each row that is reached and of which no row below was read
   abbrev pub WalksRows : Bool → ℕ → (Row → Walked → Part Walked) → Type 0
-  WalksRows locking depth walk = (r : Row) (w : Walked) (now : List ℕ) → Reached c.shape words r.base r.kind → r.level ≡ level_in words r.base r.kind
+  WalksRows locking depth walk = (r : Row) (w : Walked) (now : List ℕ) → Reached c.shape words r.base r.kind
+      → r.level ≡ level_in words r.base r.kind
       → r.path ≡ path_in words r.base r.kind → 4 ≤ depth + r.level → Walking c n words rest locking now w.rows
       → ((y : ℕ) → FreeOf r.path y w.rows)
       → length (w.pairs ++ within low high (pairs_below depth c.shape words r.base r.kind)) ≤ 4096
@@ -56,7 +59,8 @@ module _ (c : Setting) (n : ℕ) (words : List ℕ) (rest : IsAtRest c.shape n w
       (λ q. (y : ℕ) × GoesBy r.path y q.base q.kind)
 
   -- a row by which no row was read was not read
-  not-read : (locking : Bool) (now : List ℕ) (rows : List Row) (path : List ℕ) (x m : ℕ) (k : Kind) → All (Stands c n words rest locking now) rows
+  not-read : (locking : Bool) (now : List ℕ) (rows : List Row) (path : List ℕ) (x m : ℕ) (k : Kind)
+      → All (Stands c n words rest locking now) rows
       → FreeOf path x rows → Reached c.shape words m k → GoesBy path x m k → has_row m rows ≡ false
   not-read locking now [] path x m k stand free reached goes = refl
   not-read locking now (q ∷ rows) path x m k stand free reached goes =
@@ -95,16 +99,19 @@ module _ (c : Setting) (n : ℕ) (words : List ℕ) (rest : IsAtRest c.shape n w
     below = All-nil IsBelow;
   }
 
-  walks-leaf : (locking : Bool) (now : List ℕ) (w : Walked) (IsBelow : Row → Type 0) (key value : ℕ) → Walking c n words rest locking now w.rows
+  walks-leaf : (locking : Bool) (now : List ℕ) (w : Walked) (IsBelow : Row → Type 0) (key value : ℕ)
+      → Walking c n words rest locking now w.rows
       → length (w.pairs ++ within low high ((key, value) ∷ [])) ≤ 4096
       → Walks locking (give (with_leaf low high key value w)) now w (within low high ((key, value) ∷ [])) IsBelow
   walks-leaf locking now w IsBelow key value walking few = go (nat_le low key) (nat_le key high) few
     where
       room : length (w.pairs ++ (key, value) ∷ []) ≤ 4096 → nat_lt (length w.pairs) 4096 ≡ true
-      room few = let less : length w.pairs < 4096 = omega (arith, few, length-append w.pairs ((key, value) ∷ [])) in grind (arith, nat_tests, less)
+      room few = let less : length w.pairs < 4096 =
+          omega (arith, few, length-append w.pairs ((key, value) ∷ [])) in grind (arith, nat_tests, less)
 
       counted : (t : Bool) → t ≡ true
-          → Walks locking (give (if t then record { rows = w.rows; pairs = w.pairs ++ (key, value) ∷ [] } else w)) now w ((key, value) ∷ []) IsBelow
+          → Walks locking (give (if t then record { rows = w.rows; pairs = w.pairs ++ (key, value) ∷ [] } else w)) now w
+              ((key, value) ∷ []) IsBelow
       counted false e = absurd (false≢true e)
       counted true e = record {
         walked = record { rows = w.rows; pairs = w.pairs ++ (key, value) ∷ [] };
@@ -118,7 +125,8 @@ module _ (c : Setting) (n : ℕ) (words : List ℕ) (rest : IsAtRest c.shape n w
       }
 
       go : (a b : Bool) → length (w.pairs ++ (if a && b then (key, value) ∷ [] else [])) ≤ 4096
-          → Walks locking (give (if a && b && nat_lt (length w.pairs) pair_limit then record { rows = w.rows; pairs = w.pairs ++ (key, value) ∷ [] } else w)) now w
+          → Walks locking (give (if a && b && nat_lt (length w.pairs) pair_limit then record
+              { rows = w.rows; pairs = w.pairs ++ (key, value) ∷ [] } else w)) now w
           (if a && b then (key, value) ∷ [] else []) IsBelow
       go true true few = counted (nat_lt (length w.pairs) pair_limit) (room few)
       go true false few = walks-nothing locking now w IsBelow walking
@@ -141,7 +149,8 @@ module _ (c : Setting) (n : ℕ) (words : List ℕ) (rest : IsAtRest c.shape n w
 
   -- a row below, entered by byte x of the row
   walks-row : (locking : Bool) (walk : Row → Walked → Part Walked) (depth : ℕ) (now : List ℕ) (w : Walked) (r : Row) (x m : ℕ) (k : Kind)
-      → locks c.variant ≡ locking → WalksRows locking depth walk → Reached c.shape words r.base r.kind → r.level ≡ level_in words r.base r.kind
+      → locks c.variant ≡ locking → WalksRows locking depth walk → Reached c.shape words r.base r.kind
+      → r.level ≡ level_in words r.base r.kind
       → r.path ≡ path_in words r.base r.kind → 4 ≤ suc depth + r.level → x < 256 → child_on c.shape words r.base r.kind x ≡ ChildRow m k
       → Walking c n words rest locking now w.rows → FreeOf r.path x w.rows
       → length (w.pairs ++ within low high (pairs_below depth c.shape words m k)) ≤ 4096
@@ -170,13 +179,16 @@ module _ (c : Setting) (n : ℕ) (words : List ℕ) (rest : IsAtRest c.shape n w
       let next = walks row w2 entered.later its refl refl (omega (arith, deep, level, deeper.0)) walking2 frees few in
       let inner : Comes (walk row (with_row row w)) entered.later next.walked next.later =
       subst (λ (b : Bool). Comes (walk row (if b then w else w2)) entered.later next.walked next.later) (sym new) next.comes in
-      let said : slice_index entered.later (info_at m) ≡ info = like-row c.shape n words rest walking2.like its 1 (omega arith) (two-words k) in
+      let said : slice_index entered.later (info_at m) ≡ info =
+          like-row c.shape n words rest walking2.like its 1 (omega arith) (two-words k) in
       record {
         walked = next.walked;
         later = next.later;
         comes = bind-comes {f = λ v. load (info_at m) >>= λ i. walk (row_of m k i v) (with_row (row_of m k i v) w)} entered.comes
-            (bind-comes {f = λ i. walk (row_of m k i entered.version) (with_row (row_of m k i entered.version) w)} (load-comes (info_at m) entered.later)
-            (subst (λ (i : ℕ). Comes (walk (row_of m k i entered.version) (with_row (row_of m k i entered.version) w)) entered.later next.walked next.later)
+            (bind-comes {f = λ i. walk (row_of m k i entered.version) (with_row (row_of m k i entered.version) w)}
+                (load-comes (info_at m) entered.later)
+            (subst (λ (i : ℕ). Comes (walk (row_of m k i entered.version) (with_row (row_of m k i entered.version) w)) entered.later
+                next.walked next.later)
             (sym said) inner));
         walking = next.walking;
         pairs_are = next.pairs_are;
@@ -192,8 +204,10 @@ module _ (c : Setting) (n : ℕ) (words : List ℕ) (rest : IsAtRest c.shape n w
   under depth base kind x = pairs_in (pairs_below depth c.shape words) (child_on c.shape words base kind x)
 
   -- the child of a byte of a row is walked
-  pub walks-child : (locking : Bool) (walk : Row → Walked → Part Walked) (depth : ℕ) (now : List ℕ) (w : Walked) (r : Row) (x : ℕ) (child : Child)
-      → locks c.variant ≡ locking → WalksRows locking depth walk → Reached c.shape words r.base r.kind → r.level ≡ level_in words r.base r.kind
+  pub walks-child : (locking : Bool) (walk : Row → Walked → Part Walked) (depth : ℕ) (now : List ℕ) (w : Walked) (r : Row)
+      (x : ℕ) (child : Child)
+      → locks c.variant ≡ locking → WalksRows locking depth walk → Reached c.shape words r.base r.kind
+      → r.level ≡ level_in words r.base r.kind
       → r.path ≡ path_in words r.base r.kind → 4 ≤ suc depth + r.level → x < 256 → child_on c.shape words r.base r.kind x ≡ child
       → Walking c n words rest locking now w.rows → FreeOf r.path x w.rows
       → length (w.pairs ++ within low high (pairs_in (pairs_below depth c.shape words) child)) ≤ 4096

@@ -89,11 +89,13 @@ bytes_back keys few h = ⊎_elim many some (cases_lt 8 (length keys))
         else low_bytes 8 (keys16_word keys) ++ low_bytes (length keys - 8) (more_keys16_word keys)) (not_less_equal (length keys) 8 l)
         ∙ ap (λ xs. xs ++ low_bytes (length keys - 8) (more_keys16_word keys))
         (low_of 8 (take 8 keys) (All-take (λ x. x < 256) 8 keys h) (length-take 8 keys ∙ omega (arith, l)))
-        ∙ ap (λ xs. take 8 keys ++ low_bytes (length keys - 8) (packed xs)) (take_whole 8 (drop 8 keys) (omega (arith, length-drop 8 keys, few)))
+        ∙ ap (λ xs. take 8 keys ++ low_bytes (length keys - 8) (packed xs))
+            (take_whole 8 (drop 8 keys) (omega (arith, length-drop 8 keys, few)))
         ∙ ap (λ xs. take 8 keys ++ xs) (low_of (length keys - 8) (drop 8 keys) (All-drop (λ x. x < 256) 8 keys h) (length-drop 8 keys))
         ∙ take-append-drop 8 keys
 
-pub keys16_back : (keys : List ℕ) → length keys ≤ 16 → AreBytes keys → keys16_of (length keys) (keys16_word keys) (more_keys16_word keys) ≡ keys
+pub keys16_back : (keys : List ℕ) → length keys ≤ 16 → AreBytes keys
+    → keys16_of (length keys) (keys16_word keys) (more_keys16_word keys) ≡ keys
 keys16_back keys few h =
     take_bytes (count_of 16 (length keys)) (keys16_word keys) (more_keys16_word keys) (most_of (length keys))
     ∙ ap (λ b. bytes_of (if b then length keys else 0) (keys16_word keys) (more_keys16_word keys)) (less_equal (length keys) 16 few)

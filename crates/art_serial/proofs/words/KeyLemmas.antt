@@ -122,7 +122,8 @@ rising_with x (y ∷ ys) up absent =
         subst Rising (sym e) (AllPairs-cons (λ a b. a < b) x (y ∷ ys) (All-cons (λ z. x < z) y ys low
         (All-weaker (λ z. y < z) (λ z. x < z) (λ z h. omega (arith, h, low)) ys (AllPairs-head (λ a b. a < b) y ys up))) up)
 
-pub increasing-with_key : (x : ℕ) (keys : List ℕ) → IsStrictlyIncreasing keys → place_of x keys ≡ None → IsStrictlyIncreasing (with_key x keys)
+pub increasing-with_key : (x : ℕ) (keys : List ℕ) → IsStrictlyIncreasing keys → place_of x keys ≡ None
+    → IsStrictlyIncreasing (with_key x keys)
 increasing-with_key x keys up absent k l =
     rising_with x keys (AllPairs-from_increasing keys up) absent k (k + 1) 0 (omega arith) l
 
@@ -148,7 +149,8 @@ place_new x (y ∷ ys) up absent =
         ∙ ap (λ b. if b then Some 0 else option_map (λ i. i + 1) (place_of x (y ∷ ys))) (same_number x)
         ∙ ap Some (sym p)
 
-pub place_of-new : (x : ℕ) (keys : List ℕ) → IsStrictlyIncreasing keys → place_of x keys ≡ None → place_of x (with_key x keys) ≡ Some (new_place x keys)
+pub place_of-new : (x : ℕ) (keys : List ℕ) → IsStrictlyIncreasing keys → place_of x keys ≡ None
+    → place_of x (with_key x keys) ≡ Some (new_place x keys)
 place_of-new x keys up absent = place_new x keys (AllPairs-from_increasing keys up) absent
 
 place_old : (x y : ℕ) (keys : List ℕ) → Rising keys → y ≢ x

@@ -28,7 +28,8 @@ pub kind_at-base_of : (s : Shape) (kind : Kind) (number : ℕ) → number < rows
 kind_at-base_of s Four number h = rw (is_base s Four number h)
 kind_at-base_of s Sixteen number h = rw (behind s Four (base_of s Sixteen number) (omega arith), is_base s Sixteen number h)
 kind_at-base_of s FortyEight number h =
-    rw (behind s Four (base_of s FortyEight number) (omega arith), behind s Sixteen (base_of s FortyEight number) (omega arith), is_base s FortyEight number h)
+    rw (behind s Four (base_of s FortyEight number) (omega arith), behind s Sixteen (base_of s FortyEight number) (omega arith), is_base s
+        FortyEight number h)
 kind_at-base_of s Full number h =
     rw (
       behind s Four (base_of s Full number) (omega arith),
@@ -145,11 +146,13 @@ same_kind s Full Sixteen word h k = absurd (omega (arith, h.0, h.1, k.0, k.1))
 same_kind s Full FortyEight word h k = absurd (omega (arith, h.0, h.1, k.0, k.1))
 same_kind s Full Full word h k = refl
 
-same_row : (s : Shape) (a b : ℕ) (kind : Kind) (word : ℕ) → IsNumbered s a kind → IsNumbered s b kind → IsIn a kind word → IsIn b kind word → a ≡ b
+same_row : (s : Shape) (a b : ℕ) (kind : Kind) (word : ℕ) → IsNumbered s a kind → IsNumbered s b kind → IsIn a kind word
+    → IsIn b kind word → a ≡ b
 same_row s a b kind word m n h k =
     let hm = subst (λ x. IsIn x kind word) m.is h in
     let hn = subst (λ x. IsIn x kind word) n.is k in
-    m.is ∙ ap (base_of s kind) (same_numbers (row_words kind) (first_base s kind) m.number n.number word (some-words kind) hm.0 hm.1 hn.0 hn.1) ∙ sym n.is
+    m.is ∙ ap (base_of s kind) (same_numbers (row_words kind) (first_base s kind) m.number n.number word (some-words kind) hm.0 hm.1
+        hn.0 hn.1) ∙ sym n.is
 
 -- the row that has a word
 pub rows_apart : (s : Shape) (a b : ℕ) (ka kb : Kind) (word : ℕ) → kind_at s a ≡ Some ka → kind_at s b ≡ Some kb
@@ -161,7 +164,8 @@ rows_apart s a b ka kb word ea eb la ha lb hb =
     (same_row s a b kb word (subst (IsNumbered s a) kinds na) nb (subst (λ k. IsIn a k word) kinds (la, ha)) (lb, hb), kinds)
 
 -- a base has one number
-pub base_of-once : (s : Shape) (ka kb : Kind) (m n : ℕ) → m < rows_of s ka → n < rows_of s kb → base_of s ka m ≡ base_of s kb n → (ka ≡ kb) × (m ≡ n)
+pub base_of-once : (s : Shape) (ka kb : Kind) (m n : ℕ) → m < rows_of s ka → n < rows_of s kb → base_of s ka m ≡ base_of s kb n
+    → (ka ≡ kb) × (m ≡ n)
 base_of-once s ka kb m n hm hn e =
     let same = rows_apart s (base_of s ka m) (base_of s kb n) ka kb (base_of s ka m) (kind_at-base_of s ka m hm) (kind_at-base_of s kb n hn)
     (omega arith) (omega (arith, some-words ka)) (omega (arith, e)) (omega (arith, e, some-words kb)) in

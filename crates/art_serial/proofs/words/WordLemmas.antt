@@ -8,7 +8,8 @@ use Rattle.art_rows.specs.declared.table.Kind.{Kind}
 use Rattle.art_rows.specs.declared.table.Child.{Child}
 use Rattle.art_rows.specs.declared.table.Child.TheVariants.{Empty, Row, Leaf}
 use Rattle.art_rows.specs.Table.{kind_at}
-use Rattle.art_rows.specs.Words.{packed, low_bytes, Info, kind_code, info_word, info_of, entry_of, entries_of, entries_word, row_child, child_of, child_word}
+use Rattle.art_rows.specs.Words.{packed, low_bytes, Info, kind_code, info_word, info_of, entry_of, entries_of, entries_word, row_child}
+use Rattle.art_rows.specs.Words.{child_of, child_word}
 use Rattle.art_rows.proofs.KindLemmas.{code-few}
 use Rattle.art_serial.specs.words.Stored.{IsStored, IsShort}
 use Rattle.art_serial.proofs.words.ByteLemmas.{AreBytes, low_bytes-packed, packed-most}
@@ -18,7 +19,8 @@ use Rattle.art_serial.proofs.words.KeyLemmas.{same_number}
 entries_small : (es : List ℕ) → All (λ e. e ≤ 48) es → map entry_of es ≡ es
 entries_small [] h = refl
 entries_small (e ∷ es) h =
-    ap (λ d. d ∷ map entry_of es) (entry_small e (All-head (λ e. e ≤ 48) e es h)) ∙ ap (λ ds. e ∷ ds) (entries_small es (All-tail (λ e. e ≤ 48) e es h))
+    ap (λ d. d ∷ map entry_of es) (entry_small e (All-head (λ e. e ≤ 48) e es h))
+        ∙ ap (λ ds. e ∷ ds) (entries_small es (All-tail (λ e. e ≤ 48) e es h))
   where
     within : (e : ℕ) → e ≤ 48 → nat_le e 48 ≡ true
     within e l = grind (arith, l)
@@ -38,7 +40,8 @@ entries_below es long h = packed-most 8 es (entries_bytes es h) (omega (arith, l
 
 -- infos
 info_as : (code level r : ℕ) → code < 4 → level ≤ 3
-    → ((code + 4 * level + 256 * r) % 4 ≡ code) × (((code + 4 * level + 256 * r) / 4) % 4 ≡ level) × ((code + 4 * level + 256 * r) / 256 ≡ r)
+    → ((code + 4 * level + 256 * r) % 4 ≡ code) × (((code + 4 * level + 256 * r) / 4) % 4 ≡ level)
+    × ((code + 4 * level + 256 * r) / 256 ≡ r)
 info_as code level r lc ll = (omega (arith, lc, ll), omega (arith, lc, ll), omega (arith, lc, ll))
 
 abbrev info_with : ℕ → List ℕ → Info
@@ -48,13 +51,15 @@ pub info_back : (kind : Kind) (level : ℕ) (path : List ℕ) → level ≤ 3 �
     → info_of kind (info_word kind level path) ≡ record { level = level; path = path }
 info_back kind level path few long h =
     let parts = info_as (kind_code kind) level (packed path) (code-few kind) few in
-    ap (λ b. if b then info_with ((info_word kind level path / 4) % 4) (low_bytes ((info_word kind level path / 4) % 4) (info_word kind level path / 256))
+    ap (λ b. if b then info_with ((info_word kind level path / 4) % 4)
+        (low_bytes ((info_word kind level path / 4) % 4) (info_word kind level path / 256))
     else info_with 0 []) (ap (λ n. n == kind_code kind) parts.0 ∙ same_number (kind_code kind))
     ∙ ap (λ n. info_with n (low_bytes n (info_word kind level path / 256))) parts.1
     ∙ ap (λ w. info_with level (low_bytes level w)) parts.2
     ∙ ap (info_with level) (ap (λ n. low_bytes n (packed path)) (sym long) ∙ low_bytes-packed path h)
 
-pub info_below : (kind : Kind) (level : ℕ) (path : List ℕ) → level ≤ 3 → length path ≡ level → AreBytes path → info_word kind level path < 2 ^ 64
+pub info_below : (kind : Kind) (level : ℕ) (path : List ℕ) → level ≤ 3 → length path ≡ level → AreBytes path
+    → info_word kind level path < 2 ^ 64
 info_below kind level path few long h =
     let code : kind_code kind < 4 = code-few kind in
     let r : packed path < 256 ^ 3 = packed-most 3 path h (omega (arith, few, long)) in
@@ -84,7 +89,8 @@ child_back s (Leaf key value) h = leaf_back s key value h (key * 2 ^ 32 + value 
     leaf_back : (s : Shape) (key value : ℕ) → value < 2 ^ 30 → (w : ℕ)
         → (w % 4 ≡ 2) × (w / 2 ^ 32 ≡ key) × ((w % 2 ^ 32) / 4 ≡ value) → child_of s w ≡ Leaf key value
     leaf_back s key value h w parts =
-        ap (λ n. if n == 1 then row_child (w / 4) (kind_at s (w / 4)) else (if n == 2 then Leaf (w / 2 ^ 32) ((w % 2 ^ 32) / 4) else Empty)) parts.0
+        ap (λ n. if n == 1 then row_child (w / 4)
+            (kind_at s (w / 4)) else (if n == 2 then Leaf (w / 2 ^ 32) ((w % 2 ^ 32) / 4) else Empty)) parts.0
         ∙ ap (λ k. Leaf k ((w % 2 ^ 32) / 4)) parts.1
         ∙ ap (Leaf key) parts.2
 
@@ -108,7 +114,8 @@ child_of-stored s w = one (w % 4 == 1)
     two false = tt
 
     one : (b : Bool)
-        → IsStored s (if b then row_child (w / 4) (kind_at s (w / 4)) else (if w % 4 == 2 then Leaf (w / 2 ^ 32) ((w % 2 ^ 32) / 4) else Empty))
+        → IsStored s (if b then row_child (w / 4) (kind_at s (w / 4)) else (if w % 4 == 2 then Leaf (w / 2 ^ 32)
+            ((w % 2 ^ 32) / 4) else Empty))
     one true = row_child-stored s (w / 4) (kind_at s (w / 4)) refl
     one false = two (w % 4 == 2)
 
@@ -132,6 +139,7 @@ again_below s w h = one (w % 4 == 1) refl
     two false e = omega arith
 
     one : (b : Bool) → (w % 4 == 1) ≡ b
-        → child_word (if b then row_child (w / 4) (kind_at s (w / 4)) else (if w % 4 == 2 then Leaf (w / 2 ^ 32) ((w % 2 ^ 32) / 4) else Empty)) < 2 ^ 64
+        → child_word (if b then row_child (w / 4) (kind_at s (w / 4)) else (if w % 4 == 2 then Leaf (w / 2 ^ 32)
+            ((w % 2 ^ 32) / 4) else Empty)) < 2 ^ 64
     one true e = row (kind_at s (w / 4)) (is (w % 4) 1 e)
     one false e = two (w % 4 == 2) refl

@@ -41,7 +41,8 @@ pub record IsClear (from : ℕ) (to : ℕ → ℕ) (n long : ℕ) : Type 0 where
   pub once : (k j : ℕ) → k < j → j < n → to k ≢ to j
   pub inside : (k : ℕ) → k < n → to k < long
 
-pub copies-copied : (s : Shape) (from : ℕ) (to : ℕ → ℕ) (i n whole : ℕ) (words : List ℕ) → IsClear from to whole (length words) → i + n ≤ whole
+pub copies-copied : (s : Shape) (from : ℕ) (to : ℕ → ℕ) (i n whole : ℕ) (words : List ℕ)
+    → IsClear from to whole (length words) → i + n ≤ whole
     → (k : ℕ) → i ≤ k → k < i + n
     → child_of s (slice_index (with_copies s from to i n words) (to k)) ≡ child_of s (slice_index words (from + k))
 copies-copied s from to i zero whole words clear fits k low high = absurd (omega (arith, low, high))
@@ -60,7 +61,8 @@ copies-copied s from to i (suc n) whole words clear fits k low high =
         (λ j l m. clear.once i j (omega (arith, l)) (omega (arith, m, fits))))
         ∙ child-copied s words (from + i) (to i) (clear.inside i (omega (arith, fits))))
 
-pub copies-small : (s : Shape) (from : ℕ) (to : ℕ → ℕ) (i n : ℕ) (words : List ℕ) → AreSmall words → AreSmall (with_copies s from to i n words)
+pub copies-small : (s : Shape) (from : ℕ) (to : ℕ → ℕ) (i n : ℕ) (words : List ℕ) → AreSmall words
+    → AreSmall (with_copies s from to i n words)
 copies-small s from to i zero words h = h
 copies-small s from to i (suc n) words h =
     copies-small s from to (i + 1) n (with_copy s words (from + i) (to i)) (small-copy s words (from + i) (to i) h)

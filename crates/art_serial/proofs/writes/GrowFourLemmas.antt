@@ -6,7 +6,8 @@ use Rattle.std.specs.List.Sorted.{IsStrictlyIncreasing}
 use Rattle.art_rows.specs.declared.table.Shape.{Shape}
 use Rattle.art_rows.specs.declared.table.Kind.TheVariants.{Four, Sixteen}
 use Rattle.art_rows.specs.declared.table.Child.{Child}
-use Rattle.art_rows.specs.Words.{child_of, child_word, keys4_word, keys4_of, keys16_word, more_keys16_word, keys16_of, place_of, new_place, with_key}
+use Rattle.art_rows.specs.Words.{child_of, child_word, keys4_word, keys4_of, keys16_word, more_keys16_word, keys16_of, place_of, new_place}
+use Rattle.art_rows.specs.Words.{with_key}
 use Rattle.art_rows.proofs.WriterLemmas.{new_place-most}
 use Rattle.art_rows.proofs.ByteLemmas.{place-within}
 use Rattle.art_steps.specs.Steps.{◌>>◌, store}
@@ -20,7 +21,8 @@ use Rattle.art_serial.proofs.words.ByteLemmas.{keys16_below, AreBytes, keys4_bac
 use Rattle.art_serial.proofs.words.KeyLemmas.{All-with_key, length-with_key, increasing-with_key, place_of-new, place_of-old, moved-before}
 use Rattle.art_serial.proofs.words.KeyLemmas.{moved-behind}
 use Rattle.art_serial.specs.writes.Writes.{IsBeside, HasGrown}
-use Rattle.art_serial.proofs.writes.StoreLemmas.{small-stored, small-child, stored-at, stored-other, stored-long, with_child, child-stored, store_child-comes}
+use Rattle.art_serial.proofs.writes.StoreLemmas.{small-stored, small-child, stored-at, stored-other, stored-long, with_child, child-stored}
+use Rattle.art_serial.proofs.writes.StoreLemmas.{store_child-comes}
 use Rattle.art_serial.proofs.writes.CopyLemmas.{copies-small, with_copies, copies-come, copies-long, copies-other, copies-copied, IsClear}
 use Rattle.art_serial.proofs.writes.ListedLemmas.{HaveMoved, moved-in, moved-stored, moved-new}
 
@@ -44,7 +46,8 @@ new_slot-rises base p i j l = ⊎_elim
     (λ h. ⊎_elim (λ k. absurd (omega (arith, h.1, k.1, l))) (λ k. omega (arith, h.0, k.0, l)) (new_slot-is base p j))
     (new_slot-is base p i)
 
-module _ (s : Shape) (old base : ℕ) (words keys : List ℕ) (x : ℕ) (child : Child) (stored : IsStored s child) (fits : base + 21 ≤ length words)
+module _ (s : Shape) (old base : ℕ) (words keys : List ℕ) (x : ℕ) (child : Child) (stored : IsStored s child)
+    (fits : base + 21 ≤ length words)
     (apart : (old + 7 ≤ base) ⊎ (base + 21 ≤ old)) (is : slice_index words (old + 2) ≡ keys4_word keys) (few : length keys ≤ 4)
     (up : IsStrictlyIncreasing keys) (bytes : AreBytes keys) (absent : place_of x keys ≡ None) (small : x < 256) where
   abbrev p : ℕ
@@ -89,7 +92,8 @@ module _ (s : Shape) (old base : ℕ) (words keys : List ℕ) (x : ℕ) (child :
   clear : IsClear (old + 3) (new_slot base p) (length keys) (length words)
   clear =
       record {
-        reads = λ k j l m e. ⊎_elim (λ h. omega (arith, h, e, new_slot-low base p j, l, few)) (λ h. omega (arith, h, e, new_slot-high base p j, m, few)) apart;
+        reads = λ k j l m e. ⊎_elim (λ h. omega (arith, h, e, new_slot-low base p j, l, few))
+            (λ h. omega (arith, h, e, new_slot-high base p j, m, few)) apart;
         once = λ k j l m e. omega (arith, e, new_slot-rises base p k j l);
         inside = λ k l. omega (arith, new_slot-high base p k, fits, l, few);
       }
@@ -107,7 +111,8 @@ module _ (s : Shape) (old base : ℕ) (words keys : List ℕ) (x : ℕ) (child :
 
   moves : HaveMoved s words after_grow4 (old + 3) (base + 5) p (length keys)
   moves =
-      moved-stored (moved-stored (moved-stored (moved-new moves0 (child_word child)) (base + 2) (keys16_word (with_key x keys)) (omega arith))
+      moved-stored (moved-stored (moved-stored (moved-new moves0 (child_word child)) (base + 2)
+          (keys16_word (with_key x keys)) (omega arith))
       (base + 3) (more_keys16_word (with_key x keys)) (omega arith)) (base + 4) (length keys + 1) (omega arith)
 
   first_now : slice_index after_grow4 (base + 2) ≡ keys16_word (with_key x keys)
@@ -150,9 +155,12 @@ module _ (s : Shape) (old base : ℕ) (words keys : List ℕ) (x : ℕ) (child :
   beside_now : (word : ℕ) → IsBeside base Sixteen word → slice_index after_grow4 word ≡ slice_index words word
   beside_now word h =
       stored-other put3 (base + 4) word (length keys + 1) (⊎_elim (λ l e. omega (arith, l, e)) (λ l e. omega (arith, l, e)) h)
-      ∙ stored-other put2 (base + 3) word (more_keys16_word (with_key x keys)) (⊎_elim (λ l e. omega (arith, l, e)) (λ l e. omega (arith, l, e)) h)
-      ∙ stored-other put1 (base + 2) word (keys16_word (with_key x keys)) (⊎_elim (λ l e. omega (arith, l, e)) (λ l e. omega (arith, l, e)) h)
-      ∙ stored-other put0 (base + 5 + p) word (child_word child) (⊎_elim (λ l e. omega (arith, l, e)) (λ l e. omega (arith, l, e, low, few)) h)
+      ∙ stored-other put2 (base + 3) word (more_keys16_word (with_key x keys))
+          (⊎_elim (λ l e. omega (arith, l, e)) (λ l e. omega (arith, l, e)) h)
+      ∙ stored-other put1 (base + 2) word (keys16_word (with_key x keys))
+          (⊎_elim (λ l e. omega (arith, l, e)) (λ l e. omega (arith, l, e)) h)
+      ∙ stored-other put0 (base + 5 + p) word (child_word child)
+          (⊎_elim (λ l e. omega (arith, l, e)) (λ l e. omega (arith, l, e, low, few)) h)
       ∙ copies-other s (old + 3) (new_slot base p) 0 (length keys) words word
       (λ j a b e. ⊎_elim (λ l. omega (arith, l, e, new_slot-low base p j)) (λ l. omega (arith, l, e, new_slot-high base p j, b, few)) h)
 
@@ -179,7 +187,8 @@ module _ (s : Shape) (old base : ℕ) (words keys : List ℕ) (x : ℕ) (child :
 pub grow4-comes : (c : Setting) (old level kept base : ℕ) (path words keys : List ℕ) (x : ℕ)
     → Comes (fill Four c (record { base = old; kind = Four; level = level; path = path; kept = kept }) base x keys (length keys)) words tt
     (slice_set (slice_set (slice_set (with_child (with_copies c.shape (old + 3) (new_slot base (new_place x keys)) 0 (length keys) words)
-    (base + 5 + new_place x keys) (new_leaf c.call)) (base + 2) (keys16_word (with_key x keys))) (base + 3) (more_keys16_word (with_key x keys)))
+    (base + 5 + new_place x keys) (new_leaf c.call)) (base + 2) (keys16_word (with_key x keys))) (base + 3)
+        (more_keys16_word (with_key x keys)))
     (base + 4) (length keys + 1))
 unfolding fill
 grow4-comes c old level kept base path words keys x =

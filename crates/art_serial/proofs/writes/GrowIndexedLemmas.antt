@@ -1,5 +1,6 @@
 -- GROW from kind 16 to kind 48: the fresh row.
-use Rattle.std.proofs.Common.{◌≡◌, ℕ, ◌+◌, ◌/◌, ◌%◌, ◌<◌, ◌≤◌, List, [], ◌∷◌, ◌++◌, length, get_or, refl, ap, sym, subst, ◌∙◌, ⊎_elim, inl, inr}
+use Rattle.std.proofs.Common.{◌≡◌, ℕ, ◌+◌, ◌/◌, ◌%◌, ◌<◌, ◌≤◌, List, [], ◌∷◌, ◌++◌, length, get_or, refl, ap, sym, subst, ◌∙◌, ⊎_elim, inl}
+use Rattle.std.proofs.Common.{inr}
 use Rattle.std.proofs.Common.{arith}
 use Rattle.std.specs.Prelude.{◌≢◌, ◌⊎◌, slice_index, slice_set, AllPairs, Option, Some, None, option_map, if◌then◌else◌}
 use Rattle.std.proofs.lemmas.Option.{same_Some, none-some}
@@ -25,15 +26,19 @@ use Rattle.art_serial.specs.words.Stored.{IsStored}
 use Rattle.art_serial.proofs.words.ByteLemmas.{AreBytes}
 use Rattle.art_serial.proofs.words.KeyLemmas.{other_number, same_number}
 use Rattle.art_serial.specs.writes.Writes.{IsBeside, HasGrown}
-use Rattle.art_serial.proofs.writes.StoreLemmas.{small-stored, small-child, stored-at, stored-other, stored-long, with_child, child-stored, store_child-comes}
+use Rattle.art_serial.proofs.writes.StoreLemmas.{small-stored, small-child, stored-at, stored-other, stored-long, with_child, child-stored}
+use Rattle.art_serial.proofs.writes.StoreLemmas.{store_child-comes}
 use Rattle.art_serial.proofs.writes.CopyLemmas.{copies-small, with_copies, copies-come, copies-long, copies-other, copies-copied, IsClear}
 use Rattle.art_serial.proofs.writes.IndexLemmas.{entry_in, slot-entry, entry-named}
-use Rattle.art_serial.proofs.writes.GrowSixteenLemmas.{index-small, entry-some, entry-absent, with_index, index-comes, index-long, index-other, index-stored}
+use Rattle.art_serial.proofs.writes.GrowSixteenLemmas.{index-small, entry-some, entry-absent, with_index, index-comes, index-long}
+use Rattle.art_serial.proofs.writes.GrowSixteenLemmas.{index-other, index-stored}
 use Rattle.art_serial.proofs.writes.GrowSixteenLemmas.{index-read, place-of_at}
 
-module _ (s : Shape) (old base : ℕ) (words keys : List ℕ) (x : ℕ) (child : Child) (stored : IsStored s child) (fits : base + 83 ≤ length words)
+module _ (s : Shape) (old base : ℕ) (words keys : List ℕ) (x : ℕ) (child : Child) (stored : IsStored s child)
+    (fits : base + 83 ≤ length words)
     (apart : (old + 21 ≤ base) ⊎ (base + 83 ≤ old))
-    (read : keys16_of (slice_index words (old + 4)) (slice_index words (old + 2)) (slice_index words (old + 3)) ≡ keys) (full : length keys ≡ 16)
+    (read : keys16_of (slice_index words (old + 4)) (slice_index words (old + 2)) (slice_index words (old + 3)) ≡ keys)
+        (full : length keys ≡ 16)
     (up : IsStrictlyIncreasing keys) (bytes : AreBytes keys) (absent : place_of x keys ≡ None) (small : x < 256) where
   abbrev ks : List ℕ
   ks = keys ++ x ∷ []
@@ -133,20 +138,24 @@ module _ (s : Shape) (old base : ℕ) (words keys : List ℕ) (x : ℕ) (child :
       }
 
   behind_index : (word : ℕ) → base + 35 ≤ word → slice_index after_grow16 word ≡ slice_index put1 word
-  behind_index word h = stored-other put2 (base + 34) word 17 (λ e. omega (arith, e, h)) ∙ index-other base ks 0 32 put1 word (inr (omega (arith, h)))
+  behind_index word h = stored-other put2 (base + 34) word 17 (λ e. omega (arith, e, h))
+      ∙ index-other base ks 0 32 put1 word (inr (omega (arith, h)))
 
   copied : (i : ℕ) → i < 16 → child_of s (slice_index after_grow16 (base + 35 + i)) ≡ child_of s (slice_index words (old + 5 + i))
   copied i l =
       ap (child_of s) (behind_index (base + 35 + i) (omega arith)
       ∙ stored-other put0 (base + 35 + 16) (base + 35 + i) (child_word child) (λ e. omega (arith, e, l)))
-      ∙ copies-copied s (old + 5) (λ j. base + 35 + j) 0 (length keys) (length keys) words clear (omega arith) i (omega arith) (omega (arith, l, full))
+      ∙ copies-copied s (old + 5) (λ j. base + 35 + j) 0 (length keys) (length keys) words clear (omega arith) i (omega arith)
+          (omega (arith, l, full))
 
   new_child : child_of s (slice_index after_grow16 (base + 35 + 16)) ≡ child
   new_child =
-      ap (child_of s) (behind_index (base + 35 + 16) (omega arith)) ∙ child-stored s put0 (base + 35 + 16) child (omega (arith, fits, long0)) stored
+      ap (child_of s) (behind_index (base + 35 + 16) (omega arith))
+          ∙ child-stored s put0 (base + 35 + 16) child (omega (arith, fits, long0)) stored
 
   -- the form of the fresh row
-  once : (y z slot : ℕ) → y < 256 → z < 256 → slot_of after_grow16 base FortyEight y ≡ Some slot → slot_of after_grow16 base FortyEight z ≡ Some slot → y ≡ z
+  once : (y z slot : ℕ) → y < 256 → z < 256 → slot_of after_grow16 base FortyEight y ≡ Some slot
+      → slot_of after_grow16 base FortyEight z ≡ Some slot → y ≡ z
   once y z slot b d h k =
       let named = entry-named base (entry_in after_grow16 base y) slot h in
       let first = (place-within y ks named.place (place_from y named.place b (h ∙ ap Some named.is))).1 in
@@ -191,15 +200,18 @@ module _ (s : Shape) (old base : ℕ) (words keys : List ℕ) (x : ℕ) (child :
         beside = beside_now;
         form = form_now;
         others = λ y b other.
-            other_child y b other (place_of y keys) refl ∙ ap (λ ks. child_in s words (option_map (λ i. old + 5 + i) (place_of y ks))) (sym read);
+            other_child y b other (place_of y keys) refl
+                ∙ ap (λ ks. child_in s words (option_map (λ i. old + 5 + i) (place_of y ks))) (sym read);
         put = ap (child_in s after_grow16) (slot_some x 16 small place_new) ∙ new_child;
         small = λ h short.
             small-stored put2 (base + 34) 17 (index-small base ks 0 32 put1 (omega (arith, long_keys))
-            (small-child put0 (base + 35 + 16) child (copies-small s (old + 5) (λ j. base + 35 + j) 0 (length keys) words h) short)) (omega arith);
+            (small-child put0 (base + 35 + 16) child (copies-small s (old + 5) (λ j. base + 35 + j) 0 (length keys) words h)
+                short)) (omega arith);
       }
 
 pub grow16-comes : (c : Setting) (old level kept base : ℕ) (path words keys : List ℕ) (x : ℕ)
-    → Comes (fill Sixteen c (record { base = old; kind = Sixteen; level = level; path = path; kept = kept }) base x keys (length keys)) words tt
+    → Comes (fill Sixteen c (record { base = old; kind = Sixteen; level = level; path = path; kept = kept }) base x keys
+        (length keys)) words tt
     (slice_set (with_index base (keys ++ x ∷ []) 0 32 (with_child (with_copies c.shape (old + 5) (λ j. base + 35 + j) 0 (length keys) words)
     (base + 35 + 16) (new_leaf c.call))) (base + 34) 17)
 unfolding fill
@@ -207,7 +219,8 @@ grow16-comes c old level kept base path words keys x =
     let put0 : List ℕ = with_copies c.shape (old + 5) (λ j. base + 35 + j) 0 (length keys) words in
     let put1 : List ℕ = with_child put0 (base + 35 + 16) (new_leaf c.call) in
     let put2 : List ℕ = with_index base (keys ++ x ∷ []) 0 32 put1 in
-    then-comes {n = store_child (base + 35 + 16) (new_leaf c.call) >> (each (numbers 0 32) (store_index base (keys ++ x ∷ [])) >> store (base + 34) 17)}
+    then-comes {n = store_child (base + 35 + 16) (new_leaf c.call) >> (each (numbers 0 32) (store_index base (keys ++ x ∷ [])) >>
+        store (base + 34) 17)}
     (copies-come c (old + 5) (λ j. base + 35 + j) 0 (length keys) words)
     (then-comes {n = each (numbers 0 32) (store_index base (keys ++ x ∷ [])) >> store (base + 34) 17}
     (store_child-comes (base + 35 + 16) (new_leaf c.call) put0)

@@ -28,7 +28,8 @@ Fills kind c old level kept path base words x keys count =
     × Comes (fill kind c (record { base = old; kind = kind; level = level; path = path; kept = kept }) base x keys count) words tt later
     × HasGrown c.shape words later old kind base (next_kind kind) x (new_leaf c.call)
 
-pub fills : (kind : Kind) (c : Setting) (old level kept : ℕ) (path : List ℕ) (base : ℕ) (words : List ℕ) (x : ℕ) → IsStored c.shape (new_leaf c.call)
+pub fills : (kind : Kind) (c : Setting) (old level kept : ℕ) (path : List ℕ) (base : ℕ) (words : List ℕ) (x : ℕ)
+    → IsStored c.shape (new_leaf c.call)
     → base + row_words (next_kind kind) ≤ length words → IsApart old kind base (next_kind kind)
     → ((word : ℕ) → base + 2 ≤ word → word < base + row_words (next_kind kind) → slice_index words word ≡ 0)
     → HasForm words old kind → x < 256 → slot_of words old kind x ≡ None → count_in_row c.call words old kind x ≡ capacity kind

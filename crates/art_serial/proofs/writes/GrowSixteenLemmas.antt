@@ -1,5 +1,6 @@
 -- GROW from kind 16 to kind 48.
-use Rattle.std.proofs.Common.{◌≡◌, ℕ, zero, suc, ◌+◌, ◌*◌, ◌/◌, ◌%◌, ◌<◌, ◌≤◌, List, [], ◌∷◌, length, map, refl, ap, subst, ◌∙◌, ⊎_elim, inl, inr}
+use Rattle.std.proofs.Common.{◌≡◌, ℕ, zero, suc, ◌+◌, ◌*◌, ◌/◌, ◌%◌, ◌<◌, ◌≤◌, List, [], ◌∷◌, length, map, refl, ap, subst, ◌∙◌, ⊎_elim}
+use Rattle.std.proofs.Common.{inl, inr}
 use Rattle.std.proofs.Common.{arith}
 use Rattle.std.specs.Prelude.{◌≢◌, ◌⊎◌, slice_index, slice_set, All, AllPairs, Option, Some, None, option_map, if◌then◌else◌}
 use Rattle.std.proofs.lemmas.Bool.{cases_lt}
@@ -72,7 +73,8 @@ index-comes base keys j (suc n) words =
 pub index-long : (base : ℕ) (keys : List ℕ) (j n : ℕ) (words : List ℕ) → length (with_index base keys j n words) ≡ length words
 index-long base keys j zero words = refl
 index-long base keys j (suc n) words =
-    index-long base keys (j + 1) n (slice_set words (base + 2 + j) (index_word keys j)) ∙ stored-long words (base + 2 + j) (index_word keys j)
+    index-long base keys (j + 1) n (slice_set words (base + 2 + j) (index_word keys j))
+        ∙ stored-long words (base + 2 + j) (index_word keys j)
 
 pub index-other : (base : ℕ) (keys : List ℕ) (j n : ℕ) (words : List ℕ) (word : ℕ) → (word < base + 2 + j) ⊎ (base + 2 + (j + n) ≤ word)
     → slice_index (with_index base keys j n words) word ≡ slice_index words word
@@ -113,14 +115,16 @@ index-eight keys j = length-map (numbers (8 * j) 8) (new_entry keys) ∙ length-
 pub index-read : (keys : List ℕ) (y : ℕ) → length keys ≤ 48 → slice_index (entries_of (index_word keys (y / 8))) (y % 8) ≡ new_entry keys y
 index-read keys y few =
     ap (λ es. slice_index es (y % 8))
-    (entries_back (map (new_entry keys) (numbers (8 * (y / 8)) 8)) (index-eight keys (y / 8)) (index-most keys (numbers (8 * (y / 8)) 8) few))
+    (entries_back (map (new_entry keys) (numbers (8 * (y / 8)) 8)) (index-eight keys (y / 8))
+        (index-most keys (numbers (8 * (y / 8)) 8) few))
     ∙ entry-at (new_entry keys) (8 * (y / 8)) 8 (y % 8) (omega arith)
     ∙ ap (new_entry keys) whole
   where
     whole : 8 * (y / 8) + y % 8 ≡ y
     whole = omega arith
 
-pub index-small : (base : ℕ) (keys : List ℕ) (j n : ℕ) (words : List ℕ) → length keys ≤ 48 → AreSmall words → AreSmall (with_index base keys j n words)
+pub index-small : (base : ℕ) (keys : List ℕ) (j n : ℕ) (words : List ℕ) → length keys ≤ 48 → AreSmall words
+    → AreSmall (with_index base keys j n words)
 index-small base keys j zero words few h = h
 index-small base keys j (suc n) words few h =
     index-small base keys (j + 1) n (slice_set words (base + 2 + j) (index_word keys j)) few

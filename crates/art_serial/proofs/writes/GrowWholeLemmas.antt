@@ -32,7 +32,8 @@ unlocked-same [] words = refl
 unlocked-same (n ∷ rows) words = unlocked-same rows (slice_set words n.base (released_word n.kept))
 
 -- the rows of a kind are before those of the next one
-before_next : (s : Shape) (kind : Kind) (old number : ℕ) → kind ≢ Full → IsNumbered s old kind → old + row_words kind ≤ base_of s (next_kind kind) number
+before_next : (s : Shape) (kind : Kind) (old number : ℕ) → kind ≢ Full → IsNumbered s old kind
+    → old + row_words kind ≤ base_of s (next_kind kind) number
 before_next s Four old number h n = omega (arith, n.is, n.below)
 before_next s Sixteen old number h n = omega (arith, n.is, n.below)
 before_next s FortyEight old number h n = omega (arith, n.is, n.below)
@@ -42,8 +43,10 @@ not_full : (words : List ℕ) (base : ℕ) (kind : Kind) (x : ℕ) → slot_of w
 not_full words base kind x absent e =
     none-some (base + 2 + x) (sym (subst (λ k. slot_of words base k x ≡ None) e absent))
 
-module _ (c : Setting) (above : List Row) (slot : ℕ) (n : Row) (words : List ℕ) (key value : ℕ) (call : c.call ≡ Insert key value) (small : value < 2 ^ 30)
-    (room : slice_index words (claims_of (next_kind n.kind)) < rows_of c.shape (next_kind n.kind)) (fits : table_words c.shape ≤ length words)
+module _ (c : Setting) (above : List Row) (slot : ℕ) (n : Row) (words : List ℕ) (key value : ℕ) (call : c.call ≡ Insert key value)
+    (small : value < 2 ^ 30)
+    (room : slice_index words (claims_of (next_kind n.kind)) < rows_of c.shape (next_kind n.kind))
+        (fits : table_words c.shape ≤ length words)
     (at : kind_at c.shape n.base ≡ Some n.kind)
     (zeros : (word : ℕ) → fresh_base c.shape words (next_kind n.kind) ≤ word
     → word < fresh_base c.shape words (next_kind n.kind) + row_words (next_kind n.kind) → slice_index words word ≡ 0)
@@ -77,11 +80,13 @@ module _ (c : Setting) (above : List Row) (slot : ℕ) (n : Row) (words : List �
   fresh_ends = omega (arith, row_ends c.shape base next (kind_at-base_of c.shape next (slice_index words (claims_of next)) room), fits)
 
   apart : n.base + row_words n.kind ≤ base
-  apart = before_next c.shape n.kind n.base (slice_index words (claims_of next)) (not_full words n.base n.kind x absent) (numbered c.shape n.base n.kind at)
+  apart = before_next c.shape n.kind n.base (slice_index words (claims_of next)) (not_full words n.base n.kind x absent)
+      (numbered c.shape n.base n.kind at)
 
   stays : (word : ℕ) → word ≢ claims_of next → word ≢ base + 1 → slice_index w1 word ≡ slice_index words word
   stays word a b =
-      stored-other w0 (base + 1) word info b ∙ stored-other words (claims_of next) word ((slice_index words (claims_of next) + 1) % 2 ^ 64) a
+      stored-other w0 (base + 1) word info b ∙ stored-other words (claims_of next) word
+          ((slice_index words (claims_of next) + 1) % 2 ^ 64) a
 
   same_row : HasSameFields words w1 n.base n.kind
   same_row word low high =
@@ -113,7 +118,8 @@ module _ (c : Setting) (above : List Row) (slot : ℕ) (n : Row) (words : List �
             ∙ stored-at words (claims_of next) ((slice_index words (claims_of next) + 1) % 2 ^ 64)
             (omega (arith, claims-few next, fresh_begins, fresh_ends));
         version =
-            filled.2.beside base (inl (omega arith)) ∙ stays base (λ e. omega (arith, e, claims-few next, fresh_begins)) (λ e. omega (arith, e));
+            filled.2.beside base (inl (omega arith))
+                ∙ stays base (λ e. omega (arith, e, claims-few next, fresh_begins)) (λ e. omega (arith, e));
         info =
             filled.2.beside (base + 1) (inl (omega arith))
             ∙ stored-at w0 (base + 1) info (omega (

@@ -19,7 +19,8 @@ use Rattle.art_serial.proofs.alone.AloneLemmas.{then-comes, store-comes}
 use Rattle.art_serial.specs.words.Stored.{IsStored}
 use Rattle.art_serial.proofs.words.WordLemmas.{entries_back, entries_below}
 use Rattle.art_serial.specs.writes.Writes.{HasPut}
-use Rattle.art_serial.proofs.writes.StoreLemmas.{small-stored, small-child, stored-at, stored-other, stored-long, with_child, child-stored, store_child-comes}
+use Rattle.art_serial.proofs.writes.StoreLemmas.{small-stored, small-child, stored-at, stored-other, stored-long, with_child, child-stored}
+use Rattle.art_serial.proofs.writes.StoreLemmas.{store_child-comes}
 use Rattle.art_serial.proofs.writes.IndexLemmas.{length-entries, entries-most, entry_in, slot-entry, entry-named}
 
 module _ (s : Shape) (base : ℕ) (words : List ℕ) (n x : ℕ) (child : Child) (stored : IsStored s child) (fits : base + 83 ≤ length words)
@@ -47,7 +48,8 @@ module _ (s : Shape) (base : ℕ) (words : List ℕ) (n x : ℕ) (child : Child)
   long2 = stored-long put1 (base + 2 + x / 8) (entries_word news) ∙ long1
 
   -- the words that stay
-  stays : (word : ℕ) → word ≢ base + 34 → word ≢ base + 2 + x / 8 → word ≢ base + 35 + n → slice_index after_put48 word ≡ slice_index words word
+  stays : (word : ℕ) → word ≢ base + 34 → word ≢ base + 2 + x / 8 → word ≢ base + 35 + n
+      → slice_index after_put48 word ≡ slice_index words word
   stays word a b c =
       stored-other put2 (base + 34) word (n + 1) a ∙ stored-other put1 (base + 2 + x / 8) word (entries_word news) b
       ∙ stored-other words (base + 35 + n) word (child_word child) c
@@ -101,9 +103,11 @@ module _ (s : Shape) (base : ℕ) (words : List ℕ) (n x : ℕ) (child : Child)
   below : (y i : ℕ) → y < 256 → slot_of words base FortyEight y ≡ Some (base + 35 + i) → i < n
   below y i b e = subst (λ k. i < k) counted (form.3 y i b e)
 
-  once : (y z slot : ℕ) → y < 256 → z < 256 → slot_of after_put48 base FortyEight y ≡ Some slot → slot_of after_put48 base FortyEight z ≡ Some slot → y ≡ z
+  once : (y z slot : ℕ) → y < 256 → z < 256 → slot_of after_put48 base FortyEight y ≡ Some slot
+      → slot_of after_put48 base FortyEight z ≡ Some slot → y ≡ z
   once y z slot b d h k = ⊎_elim (λ e. ⊎_elim (λ f. e ∙ sym f) (λ f. absurd (clash y z b d e f h k)) (cases_eq z x))
-      (λ e. ⊎_elim (λ f. absurd (clash z y d b f e k h)) (λ f. form.1 y z slot b d (sym (slot_old y b e) ∙ h) (sym (slot_old z d f) ∙ k)) (cases_eq z x))
+      (λ e. ⊎_elim (λ f. absurd (clash z y d b f e k h))
+          (λ f. form.1 y z slot b d (sym (slot_old y b e) ∙ h) (sym (slot_old z d f) ∙ k)) (cases_eq z x))
       (cases_eq y x)
     where
       clash : (y z : ℕ) → y < 256 → z < 256 → y ≡ x → z ≢ x → slot_of after_put48 base FortyEight y ≡ Some slot
@@ -151,7 +155,8 @@ module _ (s : Shape) (base : ℕ) (words : List ℕ) (n x : ℕ) (child : Child)
   child_stays y b (Some slot) e =
       let named = entry-named base (entry_in words base y) slot e in
       let l : named.place < n = below y named.place b (e ∙ ap Some named.is) in
-      ap (child_of s) (stays slot (λ h. omega (arith, h, named.is)) (λ h. omega (arith, h, named.is, small)) (λ h. omega (arith, h, named.is, l)))
+      ap (child_of s) (stays slot (λ h. omega (arith, h, named.is)) (λ h. omega (arith, h, named.is, small))
+          (λ h. omega (arith, h, named.is, l)))
 
   pub put48 : HasPut s words after_put48 base FortyEight x child
   put48 =
@@ -166,7 +171,8 @@ module _ (s : Shape) (base : ℕ) (words : List ℕ) (n x : ℕ) (child : Child)
             ap (child_in s after_put48) (slot_old y b other) ∙ child_stays y b (slot_of words base FortyEight y) refl;
         put = ap (child_in s after_put48) slot_new ∙ new_child;
         small = λ h short.
-            small-stored put2 (base + 34) (n + 1) (small-stored put1 (base + 2 + x / 8) (entries_word news) (small-child words (base + 35 + n) child h short)
+            small-stored put2 (base + 34) (n + 1)
+                (small-stored put1 (base + 2 + x / 8) (entries_word news) (small-child words (base + 35 + n) child h short)
             (entries_below news (length-set es (x % 8) (n + 1) ∙ length-entries (slice_index words (base + 2 + x / 8)))
             (All-set (λ e. e ≤ 48) es (x % 8) (n + 1) (omega (arith, few)) (entries-most (slice_index words (base + 2 + x / 8))))))
             (omega (arith, few));
@@ -174,7 +180,8 @@ module _ (s : Shape) (base : ℕ) (words : List ℕ) (n x : ℕ) (child : Child)
 
 pub put48-comes : (c : Setting) (base level kept : ℕ) (path words entries : List ℕ) (x n : ℕ)
     → Comes (put_in FortyEight c (record { base = base; kind = FortyEight; level = level; path = path; kept = kept }) x entries n) words tt
-    (slice_set (slice_set (with_child words (base + 35 + n) (new_leaf c.call)) (base + 2 + x / 8) (entries_word (set entries (x % 8) (n + 1))))
+    (slice_set (slice_set (with_child words (base + 35 + n) (new_leaf c.call)) (base + 2 + x / 8)
+        (entries_word (set entries (x % 8) (n + 1))))
     (base + 34) (n + 1))
 unfolding put_in
 put48-comes c base level kept path words entries x n =

@@ -56,7 +56,8 @@ Puts kind c base level kept path words x keys count =
     × Comes (put_in kind c (record { base = base; kind = kind; level = level; path = path; kept = kept }) x keys count) words tt later
     × HasPut c.shape words later base kind x (new_leaf c.call)
 
-pub puts : (kind : Kind) (c : Setting) (base level kept : ℕ) (path words : List ℕ) (x : ℕ) → is_insert c.call ≡ true → IsStored c.shape (new_leaf c.call)
+pub puts : (kind : Kind) (c : Setting) (base level kept : ℕ) (path words : List ℕ) (x : ℕ) → is_insert c.call ≡ true
+    → IsStored c.shape (new_leaf c.call)
     → base + row_words kind ≤ length words → HasForm words base kind → x < 256 → slot_of words base kind x ≡ None
     → count_in_row c.call words base kind x < capacity kind
     → Puts kind c base level kept path words x (keys_in_row words base kind x) (count_in_row c.call words base kind x)

@@ -5,7 +5,8 @@ use Rattle.std.specs.List.Sorted.{IsStrictlyIncreasing}
 use Rattle.art_rows.specs.declared.table.Shape.{Shape}
 use Rattle.art_rows.specs.declared.table.Kind.TheVariants.{Four, Sixteen}
 use Rattle.art_rows.specs.declared.table.Child.{Child}
-use Rattle.art_rows.specs.Words.{child_of, child_word, keys4_word, keys4_of, keys16_word, more_keys16_word, keys16_of, place_of, new_place, with_key}
+use Rattle.art_rows.specs.Words.{child_of, child_word, keys4_word, keys4_of, keys16_word, more_keys16_word, keys16_of, place_of, new_place}
+use Rattle.art_rows.specs.Words.{with_key}
 use Rattle.art_rows.proofs.WriterLemmas.{new_place-most}
 use Rattle.art_rows.proofs.ByteLemmas.{place-within}
 use Rattle.art_steps.specs.Steps.{◌>>◌, store}
@@ -18,7 +19,8 @@ use Rattle.art_serial.specs.words.Stored.{IsStored, IsShort}
 use Rattle.art_serial.proofs.words.ByteLemmas.{keys4_below, keys16_below, AreBytes, keys4_back, keys16_back}
 use Rattle.art_serial.proofs.words.KeyLemmas.{All-with_key, length-with_key, increasing-with_key, place_of-new, place_of-old}
 use Rattle.art_serial.specs.writes.Writes.{AreSmall, IsBeside, HasPut}
-use Rattle.art_serial.proofs.writes.StoreLemmas.{small-stored, small-child, stored-at, stored-other, stored-long, with_child, child-stored, store_child-comes}
+use Rattle.art_serial.proofs.writes.StoreLemmas.{small-stored, small-child, stored-at, stored-other, stored-long, with_child, child-stored}
+use Rattle.art_serial.proofs.writes.StoreLemmas.{store_child-comes}
 use Rattle.art_serial.proofs.writes.MoveLemmas.{room-small, with_room, room-comes, room-long, room-other}
 use Rattle.art_serial.proofs.writes.ListedLemmas.{HaveMoved, moved-in, moved-stored, moved-new, room-moves}
 
@@ -27,7 +29,8 @@ abbrev pub with_put : Shape → ℕ → ℕ → ℕ → List ℕ → Child → L
 with_put s first p n words child = with_child (with_room s first p (n - p) words) (first + p) child
 
 pub put-long : (s : Shape) (first p n : ℕ) (words : List ℕ) (child : Child) → length (with_put s first p n words child) ≡ length words
-put-long s first p n words child = stored-long (with_room s first p (n - p) words) (first + p) (child_word child) ∙ room-long s first p (n - p) words
+put-long s first p n words child = stored-long (with_room s first p (n - p) words) (first + p) (child_word child)
+    ∙ room-long s first p (n - p) words
 
 pub put-other : (s : Shape) (first p n : ℕ) (words : List ℕ) (child : Child) → p ≤ n → (word : ℕ) → (word < first) ⊎ (first + n < word)
     → slice_index (with_put s first p n words child) word ≡ slice_index words word
@@ -45,7 +48,8 @@ pub put-new : (s : Shape) (first p n : ℕ) (words : List ℕ) (child : Child) �
 put-new s first p n words child low fits h =
     child-stored s (with_room s first p (n - p) words) (first + p) child (omega (arith, low, fits, room-long s first p (n - p) words)) h
 
-pub put-small : (s : Shape) (first p n : ℕ) (words : List ℕ) (child : Child) → AreSmall words → IsShort child → AreSmall (with_put s first p n words child)
+pub put-small : (s : Shape) (first p n : ℕ) (words : List ℕ) (child : Child) → AreSmall words → IsShort child
+    → AreSmall (with_put s first p n words child)
 put-small s first p n words child h short =
     small-child (with_room s first p (n - p) words) (first + p) child (room-small s first p (n - p) words h) short
 
@@ -77,7 +81,8 @@ module _ (s : Shape) (base : ℕ) (words keys : List ℕ) (x : ℕ) (child : Chi
 
   new_child : child_of s (slice_index after_put4 (base + 3 + new_place x keys)) ≡ child
   new_child =
-      ap (child_of s) (stored-other (with_put s (base + 3) (new_place x keys) (length keys) words child) (base + 2) (base + 3 + new_place x keys)
+      ap (child_of s) (stored-other (with_put s (base + 3) (new_place x keys) (length keys) words child) (base + 2)
+          (base + 3 + new_place x keys)
       (keys4_word (with_key x keys)) (λ e. omega (arith, e)))
       ∙ put-new s (base + 3) (new_place x keys) (length keys) words child low (omega (arith, fits, few)) stored
 
@@ -114,7 +119,8 @@ module _ (s : Shape) (base : ℕ) (words keys : List ℕ) (x : ℕ) (child : Chi
 
 pub put4-comes : (c : Setting) (base level kept : ℕ) (path words keys : List ℕ) (x : ℕ)
     → Comes (put_in Four c (record { base = base; kind = Four; level = level; path = path; kept = kept }) x keys (length keys)) words tt
-    (slice_set (with_put c.shape (base + 3) (new_place x keys) (length keys) words (new_leaf c.call)) (base + 2) (keys4_word (with_key x keys)))
+    (slice_set (with_put c.shape (base + 3) (new_place x keys) (length keys) words (new_leaf c.call)) (base + 2)
+        (keys4_word (with_key x keys)))
 unfolding put_in make_room
 put4-comes c base level kept path words keys x =
     then-comes {n = store_child (base + 3 + new_place x keys) (new_leaf c.call) >> store (base + 2) (keys4_word (with_key x keys))}
@@ -213,9 +219,12 @@ module _ (s : Shape) (base : ℕ) (words keys : List ℕ) (x : ℕ) (child : Chi
   beside16 : (word : ℕ) → IsBeside base Sixteen word → slice_index after_put16 word ≡ slice_index words word
   beside16 word h =
       stored-other put3 (base + 4) word (length keys + 1) (⊎_elim (λ l e. omega (arith, l, e)) (λ l e. omega (arith, l, e)) h)
-      ∙ stored-other put2 (base + 3) word (more_keys16_word (with_key x keys)) (⊎_elim (λ l e. omega (arith, l, e)) (λ l e. omega (arith, l, e)) h)
-      ∙ stored-other put1 (base + 2) word (keys16_word (with_key x keys)) (⊎_elim (λ l e. omega (arith, l, e)) (λ l e. omega (arith, l, e)) h)
-      ∙ put-other s (base + 5) p (length keys) words child low16 word (⊎_elim (λ l. inl (omega (arith, l))) (λ l. inr (omega (arith, l, few))) h)
+      ∙ stored-other put2 (base + 3) word (more_keys16_word (with_key x keys))
+          (⊎_elim (λ l e. omega (arith, l, e)) (λ l e. omega (arith, l, e)) h)
+      ∙ stored-other put1 (base + 2) word (keys16_word (with_key x keys))
+          (⊎_elim (λ l e. omega (arith, l, e)) (λ l e. omega (arith, l, e)) h)
+      ∙ put-other s (base + 5) p (length keys) words child low16 word
+          (⊎_elim (λ l. inl (omega (arith, l))) (λ l. inr (omega (arith, l, few))) h)
 
   pub put16 : HasPut s words after_put16 base Sixteen x child
   put16 =
@@ -228,7 +237,8 @@ module _ (s : Shape) (base : ℕ) (words keys : List ℕ) (x : ℕ) (child : Chi
             ∙ ap (hangs16 after_put16) (place_of-old x y keys up other)
             ∙ moved-in moves16 (place_of y keys) (λ i e. (place-within y keys i e).0)
             ∙ ap (λ ks. hangs16 words (place_of y ks)) (sym read16_before);
-        put = ap (λ ks. hangs16 after_put16 (place_of x ks)) read16_now ∙ ap (hangs16 after_put16) (place_of-new x keys up absent) ∙ new_child16;
+        put = ap (λ ks. hangs16 after_put16 (place_of x ks)) read16_now
+            ∙ ap (hangs16 after_put16) (place_of-new x keys up absent) ∙ new_child16;
         small = λ h short.
             small-stored put3 (base + 4) (length keys + 1)
             (small-stored put2 (base + 3) (more_keys16_word (with_key x keys))
@@ -237,7 +247,8 @@ module _ (s : Shape) (base : ℕ) (words keys : List ℕ) (x : ℕ) (child : Chi
       }
 
 pub put16-comes : (c : Setting) (base level kept : ℕ) (path words keys : List ℕ) (x : ℕ)
-    → Comes (put_in Sixteen c (record { base = base; kind = Sixteen; level = level; path = path; kept = kept }) x keys (length keys)) words tt
+    → Comes (put_in Sixteen c (record { base = base; kind = Sixteen; level = level; path = path; kept = kept }) x keys
+        (length keys)) words tt
     (slice_set (slice_set (slice_set (with_put c.shape (base + 5) (new_place x keys) (length keys) words (new_leaf c.call))
     (base + 2) (keys16_word (with_key x keys))) (base + 3) (more_keys16_word (with_key x keys))) (base + 4) (length keys + 1))
 unfolding put_in make_room

@@ -38,7 +38,8 @@ count-same call words later base Full x same small = refl
 
 pub slot-same : (words later : List ℕ) (base : ℕ) (kind : Kind) (x : ℕ) → HasSameFields words later base kind → x < 256
     → slot_of later base kind x ≡ slot_of words base kind x
-slot-same words later base Four x same small = ap (λ ks. option_map (child_at Four base) (place_of x ks)) (keys-same words later base Four x same small)
+slot-same words later base Four x same small =
+    ap (λ ks. option_map (child_at Four base) (place_of x ks)) (keys-same words later base Four x same small)
 slot-same words later base Sixteen x same small =
     ap (λ ks. option_map (child_at Sixteen base) (place_of x ks)) (keys-same words later base Sixteen x same small)
 slot-same words later base FortyEight x same small =
@@ -46,7 +47,8 @@ slot-same words later base FortyEight x same small =
 slot-same words later base Full x same small = refl
 
 -- a slot is a word of its row
-slot_within : (words : List ℕ) (base : ℕ) (kind : Kind) (x slot : ℕ) → HasForm words base kind → x < 256 → slot_of words base kind x ≡ Some slot
+slot_within : (words : List ℕ) (base : ℕ) (kind : Kind) (x slot : ℕ) → HasForm words base kind → x < 256
+    → slot_of words base kind x ≡ Some slot
     → (base + 2 ≤ slot) × (slot < base + row_words kind)
 slot_within words base Four x slot form small e =
     listed (place_of x (keys_in_row words base Four x)) e
@@ -55,7 +57,8 @@ slot_within words base Four x slot form small e =
     few : length (keys_in_row words base Four x) ≤ 4
     few = omega (arith, ap length (keys_of-four words form.0 base x form refl), form.2)
 
-    listed : (o : Option ℕ) → option_map (λ i. base + 3 + i) o ≡ Some slot → ((i : ℕ) → o ≡ Some i → i < 4) → (base + 2 ≤ slot) × (slot < base + 7)
+    listed : (o : Option ℕ) → option_map (λ i. base + 3 + i) o ≡ Some slot → ((i : ℕ) → o ≡ Some i → i < 4) → (base + 2 ≤ slot)
+        × (slot < base + 7)
     listed None h l = absurd (none-some slot h)
     listed (Some i) h l =
         let is : base + 3 + i ≡ slot = same_Some (base + 3 + i) slot h in (omega (arith, is), omega (arith, is, l i refl))
@@ -66,7 +69,8 @@ slot_within words base Sixteen x slot form small e =
     few : length (keys_in_row words base Sixteen x) ≤ 16
     few = omega (arith, ap length (keys_of-sixteen words form.0 base x form refl), form.4)
 
-    listed : (o : Option ℕ) → option_map (λ i. base + 5 + i) o ≡ Some slot → ((i : ℕ) → o ≡ Some i → i < 16) → (base + 2 ≤ slot) × (slot < base + 21)
+    listed : (o : Option ℕ) → option_map (λ i. base + 5 + i) o ≡ Some slot → ((i : ℕ) → o ≡ Some i → i < 16) → (base + 2 ≤ slot)
+        × (slot < base + 21)
     listed None h l = absurd (none-some slot h)
     listed (Some i) h l =
         let is : base + 5 + i ≡ slot = same_Some (base + 5 + i) slot h in (omega (arith, is), omega (arith, is, l i refl))
@@ -78,7 +82,8 @@ slot_within words base FortyEight x slot form small e =
 slot_within words base Full x slot form small e =
     let is : base + 2 + x ≡ slot = same_Some (base + 2 + x) slot e in (omega (arith, is), omega (arith, is, small))
 
-pub child-same : (s : Shape) (words later : List ℕ) (base : ℕ) (kind : Kind) (x : ℕ) → HasForm words base kind → HasSameFields words later base kind → x < 256
+pub child-same : (s : Shape) (words later : List ℕ) (base : ℕ) (kind : Kind) (x : ℕ) → HasForm words base kind
+    → HasSameFields words later base kind → x < 256
     → child_on s later base kind x ≡ child_on s words base kind x
 child-same s words later base kind x form same small =
     ap (child_in s later) (slot-same words later base kind x same small) ∙ go (slot_of words base kind x) refl
@@ -87,7 +92,8 @@ child-same s words later base kind x form same small =
     go None e = refl
     go (Some slot) e = let l = slot_within words base kind x slot form small e in ap (child_of s) (same slot l.0 l.1)
 
-pub form-same : (words later : List ℕ) (base : ℕ) (kind : Kind) → HasSameFields words later base kind → HasForm words base kind → HasForm later base kind
+pub form-same : (words later : List ℕ) (base : ℕ) (kind : Kind) → HasSameFields words later base kind → HasForm words base kind
+    → HasForm later base kind
 form-same words later base Four same form = (form.0, same (base + 2) (omega arith) (omega arith) ∙ form.1, form.2, form.3, form.4)
 form-same words later base Sixteen same form = (
   form.0,

@@ -1,5 +1,6 @@
 -- GROW from kind 48 to kind 256: each child goes to its byte.
-use Rattle.std.proofs.Common.{◌≡◌, ℕ, zero, suc, ◌+◌, ◌-◌, ◌*◌, ◌/◌, ◌%◌, ◌<◌, ◌≤◌, List, length, refl, ap, sym, subst, ◌∙◌, ⊎_elim, inl, inr}
+use Rattle.std.proofs.Common.{◌≡◌, ℕ, zero, suc, ◌+◌, ◌-◌, ◌*◌, ◌/◌, ◌%◌, ◌<◌, ◌≤◌, List, length, refl, ap, sym, subst, ◌∙◌, ⊎_elim, inl}
+use Rattle.std.proofs.Common.{inr}
 use Rattle.std.proofs.Common.{Bool, true, false, arith}
 use Rattle.std.specs.Prelude.{◌⊎◌, ◌==◌, if◌then◌else◌, slice_index, Some, None}
 use Rattle.std.proofs.lemmas.Bool.{cases_lt}
@@ -20,7 +21,8 @@ use Rattle.art_serial.proofs.writes.StoreLemmas.{small-copy, small-child, stored
 use Rattle.art_serial.proofs.writes.StoreLemmas.{child-stored, store_child-comes, with_copy, child-copied, copy_child-comes}
 use Rattle.art_serial.proofs.writes.IndexLemmas.{length-entries, entries-most, entry_in}
 
-module _ (c : Setting) (n : Row) (base : ℕ) (words : List ℕ) (fits : base + 258 ≤ length words) (apart : (n.base + 83 ≤ base) ⊎ (base + 258 ≤ n.base))
+module _ (c : Setting) (n : Row) (base : ℕ) (words : List ℕ) (fits : base + 258 ≤ length words)
+    (apart : (n.base + 83 ≤ base) ⊎ (base + 258 ≤ n.base))
     (zeros : (z : ℕ) → z < 256 → slice_index words (base + 2 + z) ≡ 0) where
   -- the children of the bytes below y have been spread
   pub record IsSpread (now : List ℕ) (y : ℕ) : Type 0 where
@@ -34,7 +36,8 @@ module _ (c : Setting) (n : Row) (base : ℕ) (words : List ℕ) (fits : base + 
   abbrev pub Spreads : Part (Unit {0}) → List ℕ → ℕ → Type 0
   Spreads part now y = (later : List ℕ) × Comes part now tt later × IsSpread later y
 
-  old_stays : (now : List ℕ) (y word : ℕ) → IsSpread now y → n.base ≤ word → word < n.base + 83 → slice_index now word ≡ slice_index words word
+  old_stays : (now : List ℕ) (y word : ℕ) → IsSpread now y → n.base ≤ word → word < n.base + 83
+      → slice_index now word ≡ slice_index words word
   old_stays now y word h low high = h.beside word (⊎_elim (λ l. inl (omega (arith, l, high))) (λ l. inr (omega (arith, l, low))) apart)
 
   is_absent : (y e : ℕ) → entry_in words n.base y ≡ e → (e == 0) ≡ true → (now : List ℕ) → IsSpread now y → y < 256 → IsSpread now (y + 1)
@@ -50,7 +53,8 @@ module _ (c : Setting) (n : Row) (base : ℕ) (words : List ℕ) (fits : base + 
       at : child_of c.shape (slice_index now (base + 2 + y)) ≡ child_on c.shape words n.base FortyEight y
       at =
           ap (child_of c.shape) (h.todo y (omega arith) small)
-          ∙ sym (ap (λ b. child_in c.shape words (if b then None else Some (n.base + 35 + (entry_in words n.base y - 1)))) (ap (λ k. k == 0) is ∙ none))
+          ∙ sym (ap (λ b. child_in c.shape words (if b then None else Some (n.base + 35 + (entry_in words n.base y - 1))))
+              (ap (λ k. k == 0) is ∙ none))
 
       here : (z : ℕ) → z ≡ y → child_of c.shape (slice_index now (base + 2 + z)) ≡ child_on c.shape words n.base FortyEight z
       here z e = subst (λ z. child_of c.shape (slice_index now (base + 2 + z)) ≡ child_on c.shape words n.base FortyEight z) (sym e) at
@@ -61,7 +65,8 @@ module _ (c : Setting) (n : Row) (base : ℕ) (words : List ℕ) (fits : base + 
       record {
         long = stored-long now (base + 2 + y) _ ∙ h.long;
         beside = λ word b.
-            stored-other now (base + 2 + y) word _ (⊎_elim (λ l e. omega (arith, l, e)) (λ l e. omega (arith, l, e, small)) b) ∙ h.beside word b;
+            stored-other now (base + 2 + y) word _ (⊎_elim (λ l e. omega (arith, l, e)) (λ l e. omega (arith, l, e, small)) b)
+                ∙ h.beside word b;
         done = λ z l. ⊎_elim
             (λ m. ap (child_of c.shape) (stored-other now (base + 2 + y) (base + 2 + z) _ (λ e. omega (arith, e, m))) ∙ h.done z m)
             (λ m. here z (omega (arith, l, m))) (cases_lt z y);
@@ -74,7 +79,8 @@ module _ (c : Setting) (n : Row) (base : ℕ) (words : List ℕ) (fits : base + 
       at =
           child-copied c.shape now (n.base + 35 + (e - 1)) (base + 2 + y) (omega (arith, fits, small, h.long))
           ∙ ap (child_of c.shape) (old_stays now y (n.base + 35 + (e - 1)) h (omega arith) (omega (arith, most, number_is_not e 0 some)))
-          ∙ sym (ap (λ b. child_in c.shape words (if b then None else Some (n.base + 35 + (entry_in words n.base y - 1)))) (ap (λ k. k == 0) is ∙ some)
+          ∙ sym (ap (λ b. child_in c.shape words (if b then None else Some (n.base + 35 + (entry_in words n.base y - 1))))
+              (ap (λ k. k == 0) is ∙ some)
           ∙ ap (λ k. child_of c.shape (slice_index words (n.base + 35 + (k - 1)))) is)
 
       here : (z : ℕ) → z ≡ y
@@ -85,7 +91,8 @@ module _ (c : Setting) (n : Row) (base : ℕ) (words : List ℕ) (fits : base + 
           ≡ child_on c.shape words n.base FortyEight z) (sym e') at
 
   -- one entry
-  spread_one : (j i : ℕ) (es : List ℕ) → es ≡ entries_of (slice_index words (n.base + 2 + j)) → j < 32 → i < 8 → (now : List ℕ) → IsSpread now (8 * j + i)
+  spread_one : (j i : ℕ) (es : List ℕ) → es ≡ entries_of (slice_index words (n.base + 2 + j)) → j < 32 → i < 8 → (now : List ℕ)
+      → IsSpread now (8 * j + i)
       → Spreads (spread_entry c n base j es i) now (8 * j + i + 1)
   unfolding spread_entry
   spread_one j i es is few less now h = go (slice_index es i == 0) refl
@@ -108,7 +115,8 @@ module _ (c : Setting) (n : Row) (base : ℕ) (words : List ℕ) (fits : base + 
           (omega (arith, less, length-entries (slice_index words (n.base + 2 + j)))) (entries-most (slice_index words (n.base + 2 + j))))
 
       go : (b : Bool) → (slice_index es i == 0) ≡ b
-          → Spreads (if b then give tt else copy_child c (n.base + 35 + (slice_index es i - 1)) (base + 2 + (8 * j + i))) now (8 * j + i + 1)
+          → Spreads (if b then give tt else copy_child c (n.base + 35 + (slice_index es i - 1)) (base + 2 + (8 * j + i)))
+              now (8 * j + i + 1)
       go true e =
           (now, give-comes tt now, is_absent (8 * j + i) (slice_index es i) entry e now h (omega (arith, few, less)))
       go false e = (
@@ -137,7 +145,8 @@ module _ (c : Setting) (n : Row) (base : ℕ) (words : List ℕ) (fits : base + 
       same = omega arith
 
   -- the index words
-  spread_words : (j m : ℕ) → j + m ≤ 32 → (now : List ℕ) → IsSpread now (8 * j) → Spreads (each (numbers j m) (spread_index c n base)) now (8 * (j + m))
+  spread_words : (j m : ℕ) → j + m ≤ 32 → (now : List ℕ) → IsSpread now (8 * j)
+      → Spreads (each (numbers j m) (spread_index c n base)) now (8 * (j + m))
   unfolding spread_index
   spread_words j zero less now h = (now, each_none-comes (spread_index c n base) now, subst (IsSpread now) same h)
     where
@@ -151,7 +160,8 @@ module _ (c : Setting) (n : Row) (base : ℕ) (words : List ℕ) (fits : base + 
       let rest = spread_words (j + 1) m (omega (arith, less)) word.0 (subst (IsSpread word.0) next word.2) in (
         rest.0,
         each-comes j (numbers (j + 1) m) (spread_index c n base) {later = rest.0}
-            (bind-comes {f = λ w. each (numbers 0 8) (spread_entry c n base j (entries_of w))} (load-comes (index_at n.base (8 * j)) now) word.1) rest.1,
+            (bind-comes {f = λ w. each (numbers 0 8) (spread_entry c n base j (entries_of w))}
+                (load-comes (index_at n.base (8 * j)) now) word.1) rest.1,
         subst (IsSpread rest.0) same rest.2,
       )
     where
@@ -169,7 +179,8 @@ module _ (c : Setting) (n : Row) (base : ℕ) (words : List ℕ) (fits : base + 
 
   -- none is spread at first
   none_spread : IsSpread words (8 * 0)
-  none_spread = record { long = refl; beside = λ word b. refl; done = λ z l. absurd (omega (arith, l)); todo = λ z l m. zeros z m; small = λ k. k }
+  none_spread = record { long = refl; beside = λ word b. refl; done = λ z l. absurd (omega (arith, l)); todo = λ z l m. zeros z
+      m; small = λ k. k }
 
   pub all_spread : Spreads (each (numbers 0 32) (spread_index c n base)) words (8 * (0 + 32))
   all_spread = spread_words 0 32 (omega arith) words none_spread
@@ -190,7 +201,8 @@ grow48 c n base words x keys count fits apart zeros small stored =
       record {
         long = stored-long now (base + 2 + x) (child_word leaf) ∙ spread.2.long;
         beside = λ word b.
-            stored-other now (base + 2 + x) word (child_word leaf) (⊎_elim (λ l e. omega (arith, l, e)) (λ l e. omega (arith, l, e, small)) b)
+            stored-other now (base + 2 + x) word (child_word leaf)
+                (⊎_elim (λ l e. omega (arith, l, e)) (λ l e. omega (arith, l, e, small)) b)
             ∙ spread.2.beside word b;
         form = tt;
         others = λ y b other.

@@ -19,7 +19,8 @@ use Rattle.art_serial.proofs.trees.Descents.{small_at}
 pub stored-at : (words : List ℕ) (word value : ℕ) → word < length words → slice_index (slice_set words word value) word ≡ value
 stored-at words word value h = get_or-set_same words word value 0 h
 
-pub stored-other : (words : List ℕ) (word other value : ℕ) → other ≢ word → slice_index (slice_set words word value) other ≡ slice_index words other
+pub stored-other : (words : List ℕ) (word other value : ℕ) → other ≢ word
+    → slice_index (slice_set words word value) other ≡ slice_index words other
 stored-other words word other value h = get_or-set_other words word other value 0 h
 
 pub stored-long : (words : List ℕ) (word value : ℕ) → length (slice_set words word value) ≡ length words
@@ -45,7 +46,8 @@ pub child-copied : (s : Shape) (words : List ℕ) (from to : ℕ) → to < lengt
 child-copied s words from to h =
     ap (child_of s) (stored-at words to (child_word (child_of s (slice_index words from))) h) ∙ child_again s (slice_index words from)
 
-pub copy_child-comes : (c : Setting) (from to : ℕ) (words : List ℕ) → Comes (copy_child c from to) words tt (with_copy c.shape words from to)
+pub copy_child-comes : (c : Setting) (from to : ℕ) (words : List ℕ)
+    → Comes (copy_child c from to) words tt (with_copy c.shape words from to)
 unfolding copy_child load_child
 copy_child-comes c from to words =
     bind-comes {m = load_child c from} {f = λ child. store_child to child}
@@ -62,4 +64,5 @@ small-child words slot child h short = small-stored words slot (child_word child
 
 pub small-copy : (s : Shape) (words : List ℕ) (from to : ℕ) → AreSmall words → AreSmall (with_copy s words from to)
 small-copy s words from to h =
-    small-stored words to (child_word (child_of s (slice_index words from))) h (again_below s (slice_index words from) (small_at words from h))
+    small-stored words to (child_word (child_of s (slice_index words from))) h
+        (again_below s (slice_index words from) (small_at words from h))

@@ -15,7 +15,8 @@ use Rattle.art_serial.specs.alone.Alone.{RunsAlone}
 
 -- A call that runs alone comes to one end only.
 abbrev pub EndsOnce : Type 0
-EndsOnce = (rest : Rest) (words last last2 : List ℕ) (reply reply2 : Reply) → RunsAlone rest words last reply → RunsAlone rest words last2 reply2
+EndsOnce = (rest : Rest) (words last last2 : List ℕ) (reply reply2 : Reply) → RunsAlone rest words last reply
+    → RunsAlone rest words last2 reply2
     → (last ≡ last2) × (reply ≡ reply2)
 
 -- The call runs alone to the reply that the map has for it, and leaves a table at rest that means the map after the call.
@@ -35,5 +36,6 @@ is_seek (Replace key expected value) = true
 
 -- In every variant a get, a remove or a replace, alone on a table at rest, does what it does on the map.
 abbrev pub SeeksAreTheMaps : Type 0
-SeeksAreTheMaps = (s : Shape) (variant : Variant) (n : ℕ) (words : List ℕ) (m : Contents) (call : Call) → is_tree_call call ≡ true → is_seek call ≡ true
+SeeksAreTheMaps = (s : Shape) (variant : Variant) (n : ℕ) (words : List ℕ) (m : Contents) (call : Call) → is_tree_call call ≡ true
+    → is_seek call ≡ true
     → IsAtRest s n words → Means s words m → DoesAlone s variant n words m call

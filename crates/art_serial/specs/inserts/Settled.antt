@@ -17,20 +17,23 @@ IsNewRow s words later base kind = (x : IsClaimed s later base kind) × (slice_i
 
 -- a word of such a row, other than its version
 abbrev pub IsNew : Shape → List ℕ → List ℕ → ℕ → Type 0
-IsNew s words later w = (base : ℕ) × (kind : Kind) × (j : ℕ) × IsNewRow s words later base kind × (1 ≤ j) × (j < row_words kind) × (w ≡ base + j)
+IsNew s words later w = (base : ℕ) × (kind : Kind) × (j : ℕ) × IsNewRow s words later base kind × (1 ≤ j)
+    × (j < row_words kind) × (w ≡ base + j)
 
 -- the version of a row that is reached, which is not locked
 abbrev pub IsReleased : Shape → List ℕ → List ℕ → ℕ → Type 0
 IsReleased s words later w = (kind : Kind) × Reached s words w kind × (is_locked (slice_index later w) ≡ false)
 
--- At most one claim of each kind was made since, and each word that is not the clock or a count of claims is as it was, or the version of a row that is
+-- At most one claim of each kind was made since, and each word that is not the clock or a count of claims is as it was, or the version of a
+-- row that is
 -- reached and not locked, or a word inside of a row that is reached or was claimed since.
 pub record IsAfterInsert (s : Shape) (words later : List ℕ) : Type 0 where
   pub long : length later ≡ table_words s
   pub small : All (λ w. w < 2 ^ 64) later
   pub low : (kind : Kind) → slice_index words (claims_of kind) ≤ slice_index later (claims_of kind)
   pub high : (kind : Kind) → slice_index later (claims_of kind) ≤ slice_index words (claims_of kind) + 1
-  pub word : (w : ℕ) → 5 ≤ w → (slice_index later w ≡ slice_index words w) ⊎ (IsReleased s words later w ⊎ (IsInside s words w ⊎ IsNew s words later w))
+  pub word : (w : ℕ) → 5 ≤ w → (slice_index later w ≡ slice_index words w)
+      ⊎ (IsReleased s words later w ⊎ (IsInside s words w ⊎ IsNew s words later w))
 
 -- each row that is reached was reached before and is not obsolete, or was claimed since
 abbrev pub HasOldOrNewRows : Shape → List ℕ → List ℕ → Type 0

@@ -8,7 +8,9 @@ use Rattle.art_core.specs.Runs.{Gives}
 use Rattle.art_core.specs.Starts.{start_plan}
 use Rattle.art_core.specs.Plans.{IsPlan}
 
--- In every variant no schedule of the inserts has more than 1,002 steps a pair: an insert is called, makes at most 1,000 accesses, and is answered.
+-- In every variant no schedule of the inserts has more than 1,002 steps a pair: an insert is called, makes at most 1,000 accesses, and is
+-- answered.
 abbrev pub StartsEnd : Type 0
-StartsEnd = (shape : Shape) (variant : Variant) (start : Contents) → IsPlan (start_plan shape variant start) → (schedule : List ℕ) (s : State)
+StartsEnd = (shape : Shape) (variant : Variant) (start : Contents) → IsPlan (start_plan shape variant start)
+    → (schedule : List ℕ) (s : State)
     → Gives (start_plan shape variant start) (opened (start_plan shape variant start)) schedule s → length schedule ≤ 1002 * length start

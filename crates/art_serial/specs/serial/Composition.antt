@@ -12,11 +12,13 @@ use Rattle.art_steps.specs.TreeCalls.{is_tree_call}
 use Rattle.art_serial.specs.alone.Alone.{RunsAlone}
 use Rattle.art_serial.specs.serial.Serial.{ticked}
 
--- From so many calls made, these words and these pairs, stamps and calls of a tree that run alone to a legal reply come to so many calls, those words and
+-- From so many calls made, these words and these pairs, stamps and calls of a tree that run alone to a legal reply come to so many calls,
+-- those words and
 -- those pairs. The clock may be set back to 0, as it is before a schedule that starts with pairs.
 pub data ComesTo (shape : Shape) (variant : Variant) (made : ℕ) (first : List ℕ) (start : Contents) : ℕ → List ℕ → Contents → Type 0 where
   here : ComesTo shape variant made first start made first start
-  stamp : {n : ℕ} {words : List ℕ} {m : Contents} → ComesTo shape variant made first start n words m → ComesTo shape variant made first start n (ticked words) m
+  stamp : {n : ℕ} {words : List ℕ} {m : Contents} → ComesTo shape variant made first start n words m
+      → ComesTo shape variant made first start n (ticked words) m
   reset : {n : ℕ} {words : List ℕ} {m : Contents} → ComesTo shape variant made first start n words m
       → ComesTo shape variant made first start n (slice_set words clock 0) m
   call : {n : ℕ} {words last : List ℕ} {m : Contents} → (c : Call) → (reply : Reply) → IsTrue (is_tree_call c) → n < call_limit
@@ -25,9 +27,11 @@ pub data ComesTo (shape : Shape) (variant : Variant) (made : ℕ) (first : List 
 
 -- the call may run alone from these words to a reply that is legal where the map has these pairs
 abbrev pub MayBeAnswered : Shape → Variant → List ℕ → Contents → Call → Type 0
-MayBeAnswered shape variant words m c = (last : List ℕ) × (reply : Reply) × RunsAlone (act shape variant c) words last reply × IsLegalReply m c reply
+MayBeAnswered shape variant words m c = (last : List ℕ) × (reply : Reply) × RunsAlone (act shape variant c) words last reply
+    × IsLegalReply m c reply
 
 -- each call of a tree may be answered so, from all that stamps and such calls come to
 abbrev pub EachMayBeAnswered : Shape → Variant → ℕ → List ℕ → Contents → Type 0
-EachMayBeAnswered shape variant made first start = (n : ℕ) (words : List ℕ) (m : Contents) (c : Call) → IsTrue (is_tree_call c) → n < call_limit
+EachMayBeAnswered shape variant made first start = (n : ℕ) (words : List ℕ) (m : Contents) (c : Call)
+    → IsTrue (is_tree_call c) → n < call_limit
     → ComesTo shape variant made first start n words m → MayBeAnswered shape variant words m c

@@ -21,17 +21,20 @@ SerialSchedulesRunAlone =
     (plan : Plan) (first schedule : List ℕ) (s : State) → IsRunOn plan first schedule s → IsSerial (history_of s)
     → (done : List (Call × Reply)) × HasRunAlone plan first s done
 
--- Where each call of a tree may run alone to a legal reply, from all that stamps and such calls come to, the history of a serial schedule is legal, and they
+-- Where each call of a tree may run alone to a legal reply, from all that stamps and such calls come to, the history of a serial schedule
+-- is legal, and they
 -- come to the state's words and the pairs after its history. Some calls may have been made before the schedule.
 abbrev pub SerialSchedulesCompose : Type 0
 SerialSchedulesCompose = (plan : Plan) (first schedule : List ℕ) (s : State) (made : ℕ) (start : Contents) → IsRunOn plan first schedule s
     → IsSerial (history_of s) → made + calls_in plan ≤ call_limit → EachMayBeAnswered plan.shape plan.variant made first start
     → IsLegal start (operations (history_of s))
-    × ComesTo plan.shape plan.variant made first start (made + length (operations (history_of s))) s.words (after_calls start (operations (history_of s)))
+    × ComesTo plan.shape plan.variant made first start (made + length (operations (history_of s))) s.words
+        (after_calls start (operations (history_of s)))
 
 -- The same from starting pairs on: an empty table comes to all of it, through the inserts of these pairs.
 abbrev pub SerialRunsCompose : Type 0
-SerialRunsCompose = (plan : Plan) (start : Contents) (words schedule : List ℕ) (s : State) → IsRun plan start words schedule s → IsSerial (history_of s)
+SerialRunsCompose = (plan : Plan) (start : Contents) (words schedule : List ℕ) (s : State) → IsRun plan start words schedule s
+    → IsSerial (history_of s)
     → EachMayBeAnswered plan.shape plan.variant 0 (opening plan.shape) []
     → IsLegal start (operations (history_of s))
     × ComesTo plan.shape plan.variant 0 (opening plan.shape) [] (length start + length (operations (history_of s))) s.words
@@ -40,5 +43,6 @@ SerialRunsCompose = (plan : Plan) (start : Contents) (words schedule : List ℕ)
 -- One process alone, with nothing left to do, has run its script serially.
 abbrev pub SoleProcessRunsScript : Type 0
 SoleProcessRunsScript = (shape : Shape) (variant : Variant) (script : List Call) (first schedule : List ℕ) (s : State) (q : Process)
-    → IsRunOn (sole_plan shape variant script) first schedule s → slice_get s.processes 0 ≡ Some q → next_move (sole_plan shape variant script) 0 q ≡ None
+    → IsRunOn (sole_plan shape variant script) first schedule s → slice_get s.processes 0 ≡ Some q
+    → next_move (sole_plan shape variant script) 0 q ≡ None
     → (done : List (Call × Reply)) × HasRunScript (sole_plan shape variant script) script first s q done

@@ -15,7 +15,8 @@ KeysOfFourAreRead = (words : List ℕ) (base x : ℕ) (keys : List ℕ) → leng
 abbrev pub KeysOfSixteenAreRead : Type 0
 KeysOfSixteenAreRead = (words : List ℕ) (base x : ℕ) (keys : List ℕ) → length keys ≤ 16 → All (λ y. y < 256) keys
     → slice_index words (keys_at base) ≡ keys16_word keys → slice_index words (more_keys_at base) ≡ more_keys16_word keys
-    → slice_index words (count_at Sixteen base) ≡ length keys → slot_of words base Sixteen x ≡ option_map (child_at Sixteen base) (place_of x keys)
+    → slice_index words (count_at Sixteen base) ≡ length keys
+    → slot_of words base Sixteen x ≡ option_map (child_at Sixteen base) (place_of x keys)
 
 -- keys that rise, with a byte put in that they have not: they rise, the byte is at its place, and those from there on have moved by one
 pub record IsPutIn (x : ℕ) (keys : List ℕ) : Type 0 where
@@ -23,7 +24,8 @@ pub record IsPutIn (x : ℕ) (keys : List ℕ) : Type 0 where
   pub small : All (λ y. y < 256) (with_key x keys)
   pub long : length (with_key x keys) ≡ length keys + 1
   pub here : place_of x (with_key x keys) ≡ Some (new_place x keys)
-  pub others : (y i : ℕ) → y ≢ x → place_of y keys ≡ Some i → place_of y (with_key x keys) ≡ Some (if nat_lt i (new_place x keys) then i else i + 1)
+  pub others : (y i : ℕ) → y ≢ x → place_of y keys ≡ Some i
+      → place_of y (with_key x keys) ≡ Some (if nat_lt i (new_place x keys) then i else i + 1)
   pub absent : (y : ℕ) → y ≢ x → place_of y keys ≡ None → place_of y (with_key x keys) ≡ None
 
 abbrev pub KeysArePutIn : Type 0

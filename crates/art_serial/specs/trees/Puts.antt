@@ -10,7 +10,8 @@ use Rattle.art_core.specs.Meaning.{Reached}
 use Rattle.art_core.specs.Forms.{IsTree}
 use Rattle.art_serial.specs.trees.Trees.{SameRow, ChangesAt}
 
--- The other rows are the same, and the row's info; its children below the byte's place stand as before, then comes the child, and the others have moved by one.
+-- The other rows are the same, and the row's info; its children below the byte's place stand as before, then comes the child, and the
+-- others have moved by one.
 pub record HasRoomFor (s : Shape) (words later : List ℕ) (base : ℕ) (kind : Kind) (x : ℕ) (keys : List ℕ) (child : Child) : Type 0 where
   pub others : (b : ℕ) (k : Kind) → Reached s words b k → b ≢ base → SameRow words later b k
   pub info : slice_index later (info_at base) ≡ slice_index words (info_at base)
@@ -22,14 +23,19 @@ pub record HasRoomFor (s : Shape) (words later : List ℕ) (base : ℕ) (kind : 
 
 -- Where the key word has the byte too, the byte has the child, and nothing else has changed: in a row of kind 4
 abbrev pub FourTakesOneMore : Type 0
-FourTakesOneMore = (s : Shape) (words later : List ℕ) (base x : ℕ) (keys : List ℕ) (child : Child) → IsTree s words → Reached s words base Four → x < 256
-    → keys ≡ keys4_of (slice_index words (keys_at base)) → place_of x keys ≡ None → length keys < 4 → HasRoomFor s words later base Four x keys child
+FourTakesOneMore = (s : Shape) (words later : List ℕ) (base x : ℕ) (keys : List ℕ) (child : Child) → IsTree s words
+    → Reached s words base Four → x < 256
+    → keys ≡ keys4_of (slice_index words (keys_at base)) → place_of x keys ≡ None → length keys < 4
+    → HasRoomFor s words later base Four x keys child
     → slice_index later (keys_at base) ≡ keys4_word (with_key x keys) → ChangesAt s words later base Four x child
 
 -- and of kind 16, whose count is one more.
 abbrev pub SixteenTakesOneMore : Type 0
-SixteenTakesOneMore = (s : Shape) (words later : List ℕ) (base x : ℕ) (keys : List ℕ) (child : Child) → IsTree s words → Reached s words base Sixteen
-    → x < 256 → keys ≡ keys16_of (slice_index words (count_at Sixteen base)) (slice_index words (keys_at base)) (slice_index words (more_keys_at base))
+SixteenTakesOneMore = (s : Shape) (words later : List ℕ) (base x : ℕ) (keys : List ℕ) (child : Child) → IsTree s words
+    → Reached s words base Sixteen
+    → x < 256 → keys ≡ keys16_of (slice_index words (count_at Sixteen base)) (slice_index words (keys_at base))
+        (slice_index words (more_keys_at base))
     → place_of x keys ≡ None → length keys < 16 → HasRoomFor s words later base Sixteen x keys child
-    → slice_index later (keys_at base) ≡ keys16_word (with_key x keys) → slice_index later (more_keys_at base) ≡ more_keys16_word (with_key x keys)
+    → slice_index later (keys_at base) ≡ keys16_word (with_key x keys)
+    → slice_index later (more_keys_at base) ≡ more_keys16_word (with_key x keys)
     → slice_index later (count_at Sixteen base) ≡ length keys + 1 → ChangesAt s words later base Sixteen x child

@@ -15,5 +15,6 @@ pub record HasOneWord (s : Shape) (words later : List ℕ) (slot w : ℕ) : Type
 
 -- Where a word is stored into the slot of a byte, the byte has the child that the word says, and nothing else has changed.
 abbrev pub SlotsAreStored : Type 0
-SlotsAreStored = (s : Shape) (n : ℕ) (words later : List ℕ) (base : ℕ) (kind : Kind) (x slot w : ℕ) → IsAtRest s n words → Reached s words base kind → x < 256
+SlotsAreStored = (s : Shape) (n : ℕ) (words later : List ℕ) (base : ℕ) (kind : Kind) (x slot w : ℕ) → IsAtRest s n words
+    → Reached s words base kind → x < 256
     → slot_of words base kind x ≡ Some slot → HasOneWord s words later slot w → ChangesAt s words later base kind x (child_of s w)

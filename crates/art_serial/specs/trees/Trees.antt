@@ -28,7 +28,8 @@ IsUnused s words kind number = number < rows_of s kind → (word : ℕ) → base
 abbrev pub AreZeroPastClaims : Shape → List ℕ → Type 0
 AreZeroPastClaims s words = (kind : Kind) (number : ℕ) → slice_index words (claims_of kind) ≤ number → IsUnused s words kind number
 
--- A table between calls where nobody else runs: no row is locked, the words are a tree, no row of it is obsolete, each row of it was claimed, at most n claims
+-- A table between calls where nobody else runs: no row is locked, the words are a tree, no row of it is obsolete, each row of it was
+-- claimed, at most n claims
 -- of each kind were made, and a row that was not claimed has only zeros.
 pub record IsAtRest (s : Shape) (n : ℕ) (words : List ℕ) : Type 0 where
   pub long : length words ≡ table_words s
@@ -76,14 +77,16 @@ TablesOpenAtRest = (s : Shape) → 1 ≤ s.rows256 → IsAtRest s 1 (opening s) 
 
 -- Tables that say the same of each row that is reached are the same tree.
 abbrev pub SameTreesAreOne : Type 0
-SameTreesAreOne = (s : Shape) (words later : List ℕ) (m : Contents) → IsTree s words → Means s words m → SameTree s words later → HasRows s words later m
+SameTreesAreOne = (s : Shape) (words later : List ℕ) (m : Contents) → IsTree s words → Means s words m → SameTree s words later
+    → HasRows s words later m
 
 -- A key's way leads to the root, and on from a row to the row on its byte there, if that row's path does not differ from the key.
 abbrev pub WaysGoDown : Type 0
 WaysGoDown = (s : Shape) (words : List ℕ) (key : ℕ) → IsTree s words
     → LeadsTo s words key (root_base s) Full (slice_index (key_bytes key) 0)
     × ((base : ℕ) (kind : Kind) (x b : ℕ) (k : Kind) → LeadsTo s words key base kind x → child_on s words base kind x ≡ Row b k
-    → first_difference (path_in words b k) (key_bytes key) ≡ None → LeadsTo s words key b k (slice_index (key_bytes key) (level_in words b k)))
+    → first_difference (path_in words b k) (key_bytes key) ≡ None
+    → LeadsTo s words key b k (slice_index (key_bytes key) (level_in words b k)))
 
 -- Leaves have keys and values that a tree can hold, and two keys part at a byte.
 abbrev pub LeavesAreSmall : Type 0
@@ -98,8 +101,10 @@ abbrev pub WaysLeadToValues : Type 0
 WaysLeadToValues = (s : Shape) (words : List ℕ) (m : Contents) (key base : ℕ) (kind : Kind) (x : ℕ) → IsTree s words → Means s words m
     → LeadsTo s words key base kind x
     → (child_on s words base kind x ≡ Empty → value_at m key ≡ None)
-    × ((k value : ℕ) → child_on s words base kind x ≡ Leaf k value → (k ≡ key → value_at m key ≡ Some value) × (k ≢ key → value_at m key ≡ None))
-    × ((b d : ℕ) (k : Kind) → child_on s words base kind x ≡ Row b k → first_difference (path_in words b k) (key_bytes key) ≡ Some d → value_at m key ≡ None)
+    × ((k value : ℕ) → child_on s words base kind x ≡ Leaf k value → (k ≡ key → value_at m key ≡ Some value)
+    × (k ≢ key → value_at m key ≡ None))
+    × ((b d : ℕ) (k : Kind) → child_on s words base kind x ≡ Row b k → first_difference (path_in words b k) (key_bytes key) ≡ Some d
+    → value_at m key ≡ None)
 
 -- the byte's child is empty, or the key's leaf
 abbrev pub IsFree : Shape → List ℕ → ℕ → ℕ → Kind → ℕ → Type 0
@@ -107,7 +112,8 @@ IsFree s words key base kind x = (child_on s words base kind x ≡ Empty) ⊎ ((
 
 -- Where the key's leaf is put on its byte, the map has the value at the key;
 abbrev pub LeavesArePut : Type 0
-LeavesArePut = (s : Shape) (words later : List ℕ) (m : Contents) (key value base : ℕ) (kind : Kind) (x : ℕ) → IsTree s words → Means s words m
+LeavesArePut = (s : Shape) (words later : List ℕ) (m : Contents) (key value base : ℕ) (kind : Kind) (x : ℕ)
+    → IsTree s words → Means s words m
     → LeadsTo s words key base kind x → IsFree s words key base kind x → ChangesAt s words later base kind x (Leaf key value)
     → HasRows s words later (put key value m)
 
@@ -127,11 +133,13 @@ pub record IsPair (s : Shape) (words later : List ℕ) (key value row d a b : �
   pub leaf : child_on s later row Four b ≡ Leaf key value
   pub rest : (y : ℕ) → y < 256 → y ≢ a → y ≢ b → child_on s later row Four y ≡ Empty
 
--- The child's keys part from the key at byte d, where they have byte a: another key's leaf, or a row whose path is not the beginning of the key.
+-- The child's keys part from the key at byte d, where they have byte a: another key's leaf, or a row whose path is not the beginning of the
+-- key.
 abbrev pub Parts : List ℕ → ℕ → ℕ → ℕ → Child → Type 0
 Parts words key d a Empty = ⊥
 Parts words key d a (Leaf k value) = (first_difference (key_bytes k) (key_bytes key) ≡ Some d) × (a ≡ slice_index (key_bytes k) d)
-Parts words key d a (Row b kind) = (first_difference (path_in words b kind) (key_bytes key) ≡ Some d) × (a ≡ slice_index (path_in words b kind) d)
+Parts words key d a (Row b kind) = (first_difference (path_in words b kind) (key_bytes key) ≡ Some d)
+    × (a ≡ slice_index (path_in words b kind) d)
 
 -- the rows are those that were reached, and this one
 abbrev pub HasRowMore : Shape → List ℕ → List ℕ → ℕ → Kind → Type 0
@@ -141,7 +149,8 @@ HasRowMore s words later row kind =
 -- Where a pair is hung in the place of a child whose keys part from the key, the map has the value at the key.
 abbrev pub PairsAreHung : Type 0
 PairsAreHung =
-    (s : Shape) (words later : List ℕ) (m : Contents) (key value base : ℕ) (kind : Kind) (x row d a b : ℕ) → IsTree s words → Means s words m
+    (s : Shape) (words later : List ℕ) (m : Contents) (key value base : ℕ) (kind : Kind) (x row d a b : ℕ)
+        → IsTree s words → Means s words m
     → LeadsTo s words key base kind x → Parts words key d a (child_on s words base kind x)
     → IsPair s words later key value row d a b (child_on s words base kind x) → ChangesAt s words later base kind x (Row row Four)
     → IsTree s later × HasRowMore s words later row Four × Means s later (put key value m)
@@ -170,7 +179,8 @@ pub record ChangesAtBut (s : Shape) (words later : List ℕ) (base : ℕ) (kind 
 
 -- Where a grown row is hung in the place of the row, in the row above it, the map has the value at the key.
 abbrev pub GrownRowsAreHung : Type 0
-GrownRowsAreHung = (s : Shape) (words later : List ℕ) (m : Contents) (key value above_base : ℕ) (above_kind : Kind) (y base : ℕ) (kind : Kind) (x row : ℕ)
+GrownRowsAreHung = (s : Shape) (words later : List ℕ) (m : Contents) (key value above_base : ℕ) (above_kind : Kind) (y base : ℕ)
+    (kind : Kind) (x row : ℕ)
     (larger : Kind) → IsTree s words → Means s words m → LeadsTo s words key above_base above_kind y
     → child_on s words above_base above_kind y ≡ Row base kind → LeadsTo s words key base kind x
     → IsGrown s words later key value base kind row larger x → ChangesAtBut s words later above_base above_kind y base (Row row larger)

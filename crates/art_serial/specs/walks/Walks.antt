@@ -11,5 +11,6 @@ use Rattle.art_serial.specs.alone.Laws.{DoesAlone}
 
 -- In every variant a scan, alone on a table at rest, does what it does on the map, where the map has no more pairs than a scan may answer.
 abbrev pub ScansAreTheMaps : Type 0
-ScansAreTheMaps = (s : Shape) (variant : Variant) (n : ℕ) (words : List ℕ) (m : Contents) (low high : ℕ) → length m ≤ pair_limit → IsAtRest s n words
+ScansAreTheMaps = (s : Shape) (variant : Variant) (n : ℕ) (words : List ℕ) (m : Contents) (low high : ℕ) → length m ≤ pair_limit
+    → IsAtRest s n words
     → Means s words m → DoesAlone s variant n words m (Scan low high)

@@ -5,7 +5,8 @@ use Rattle.art_rows.specs.declared.table.Shape.{Shape}
 use Rattle.art_rows.specs.declared.table.Kind.{Kind}
 use Rattle.art_rows.specs.declared.table.Child.{Child}
 use Rattle.art_rows.specs.Table.{row_words, rows_of, table_words, base_of, kind_at}
-use Rattle.art_rows.specs.Words.{info_word, info_of, keys4_of, keys4_word, keys16_of, keys16_word, more_keys16_word, entries_of, entries_word}
+use Rattle.art_rows.specs.Words.{info_word, info_of, keys4_of, keys4_word, keys16_of, keys16_word, more_keys16_word, entries_of}
+use Rattle.art_rows.specs.Words.{entries_word}
 use Rattle.art_rows.specs.Words.{child_of, child_word, is_locked, is_obsolete, locked_word, released_word, obsolete_word}
 use Rattle.art_rows.specs.Words.{place_of, new_place, with_key}
 use Rattle.art_serial.specs.words.Stored.{IsStored, IsShort}
@@ -28,7 +29,8 @@ pub record WordsAreSmall : Type 0 where
   pub keys4 : (keys : List ℕ) → length keys ≤ 4 → All (λ x. x < 256) keys → keys4_word keys < 2 ^ 64
   pub keys16 : (keys : List ℕ) → All (λ x. x < 256) keys → (keys16_word keys < 2 ^ 64) × (more_keys16_word keys < 2 ^ 64)
   pub entries : (es : List ℕ) → length es ≡ 8 → All (λ e. e ≤ 48) es → entries_word es < 2 ^ 64
-  pub info : (kind : Kind) (level : ℕ) (path : List ℕ) → level ≤ 3 → length path ≡ level → All (λ x. x < 256) path → info_word kind level path < 2 ^ 64
+  pub info : (kind : Kind) (level : ℕ) (path : List ℕ) → level ≤ 3 → length path ≡ level → All (λ x. x < 256) path
+      → info_word kind level path < 2 ^ 64
   pub child : (c : Child) → IsShort c → child_word c < 2 ^ 64
   pub again : (s : Shape) (w : ℕ) → w < 2 ^ 64 → child_word (child_of s w) < 2 ^ 64
 
@@ -43,7 +45,8 @@ pub record RowsAreApart : Type 0 where
   pub at : (s : Shape) (kind : Kind) (number : ℕ) → number < rows_of s kind → kind_at s (base_of s kind number) ≡ Some kind
   pub number : (s : Shape) (base : ℕ) (kind : Kind) → kind_at s base ≡ Some kind
       → (number : ℕ) × (number < rows_of s kind) × (base ≡ base_of s kind number)
-  pub once : (s : Shape) (ka kb : Kind) (m n : ℕ) → m < rows_of s ka → n < rows_of s kb → base_of s ka m ≡ base_of s kb n → (ka ≡ kb) × (m ≡ n)
+  pub once : (s : Shape) (ka kb : Kind) (m n : ℕ) → m < rows_of s ka → n < rows_of s kb → base_of s ka m ≡ base_of s kb n
+      → (ka ≡ kb) × (m ≡ n)
   pub begins : (s : Shape) (base : ℕ) (kind : Kind) → kind_at s base ≡ Some kind → 5 ≤ base
   pub ends : (s : Shape) (base : ℕ) (kind : Kind) → kind_at s base ≡ Some kind → base + row_words kind ≤ table_words s
   pub apart : (s : Shape) (a b : ℕ) (ka kb : Kind) (word : ℕ) → kind_at s a ≡ Some ka → kind_at s b ≡ Some kb
@@ -55,6 +58,7 @@ pub record KeysAreKept : Type 0 where
   pub rising : (x : ℕ) (keys : List ℕ) → IsStrictlyIncreasing keys → place_of x keys ≡ None → IsStrictlyIncreasing (with_key x keys)
   pub more : (x : ℕ) (keys : List ℕ) → length (with_key x keys) ≡ length keys + 1
   pub within : (x : ℕ) (keys : List ℕ) → new_place x keys ≤ length keys
-  pub new : (x : ℕ) (keys : List ℕ) → IsStrictlyIncreasing keys → place_of x keys ≡ None → place_of x (with_key x keys) ≡ Some (new_place x keys)
+  pub new : (x : ℕ) (keys : List ℕ) → IsStrictlyIncreasing keys → place_of x keys ≡ None
+      → place_of x (with_key x keys) ≡ Some (new_place x keys)
   pub old : (x y : ℕ) (keys : List ℕ) → IsStrictlyIncreasing keys → y ≢ x
       → place_of y (with_key x keys) ≡ option_map (place_moved (new_place x keys)) (place_of y keys)

@@ -14,11 +14,13 @@ use Rattle.art_core.specs.Forms.{HasForm}
 use Rattle.art_serial.specs.words.Stored.{IsStored}
 use Rattle.art_serial.specs.alone.Alone.{Comes}
 use Rattle.art_serial.specs.alone.Finding.{keys_in_row, count_in_row}
-use Rattle.art_serial.specs.writes.Writes.{HasSameFields, HasPut, fresh_base, IsOutside, HasPair, IsApart, HasGrown, HasFresh, unlocked_rows}
+use Rattle.art_serial.specs.writes.Writes.{HasSameFields, HasPut, fresh_base, IsOutside, HasPair, IsApart, HasGrown, HasFresh}
+use Rattle.art_serial.specs.writes.Writes.{unlocked_rows}
 
 -- A row whose keys and children are the same words has form, and has the same on each byte.
 abbrev pub RowsAreTheirFields : Type 0
-RowsAreTheirFields = (s : Shape) (words later : List ℕ) (base : ℕ) (kind : Kind) → HasForm words base kind → HasSameFields words later base kind
+RowsAreTheirFields = (s : Shape) (words later : List ℕ) (base : ℕ) (kind : Kind) → HasForm words base kind
+    → HasSameFields words later base kind
     → HasForm later base kind × ((x : ℕ) → x < 256 → child_on s later base kind x ≡ child_on s words base kind x)
 
 -- PUT, of an insert that runs alone, in a row of the table that has form, lacks the byte and is not full.
@@ -32,11 +34,13 @@ PutsWriteLeaves = (c : Setting) (n : Row) (words : List ℕ) (x key value : ℕ)
 
 -- PAIR, of an insert that runs alone, where a claim finds a row: it has the child that was in the slot, and the new leaf.
 abbrev pub PairsAreWritten : Type 0
-PairsAreWritten = (c : Setting) (held : List Row) (slot d : ℕ) (old : Under) (words : List ℕ) (key value : ℕ) → c.call ≡ Insert key value → value < 2 ^ 30
+PairsAreWritten = (c : Setting) (held : List Row) (slot d : ℕ) (old : Under) (words : List ℕ) (key value : ℕ)
+    → c.call ≡ Insert key value → value < 2 ^ 30
     → IsStored c.shape old.child → old.byte < 256 → old.byte ≢ byte_at c d → slice_index words (claims_of Four) < rows_of c.shape Four
     → table_words c.shape ≤ length words → 5 ≤ slot → slot < length words → IsOutside (fresh_base c.shape words Four) Four slot
     → (later : List ℕ) × Comes (pair_in c held slot d old) words tt later
-    × HasPair c.shape words later (fresh_base c.shape words Four) slot d (take d (key_bytes key)) old (record { byte = byte_at c d; child = Leaf key value })
+    × HasPair c.shape words later (fresh_base c.shape words Four) slot d (take d (key_bytes key)) old
+        (record { byte = byte_at c d; child = Leaf key value })
 
 -- What GROW copies, of an insert that runs alone: from a full row that has form and lacks the byte to a row of the next kind
 -- whose words behind its info are 0.
@@ -53,7 +57,8 @@ RowsAreFilled = (c : Setting) (n : Row) (base : ℕ) (words : List ℕ) (x key v
 -- GROW, of an insert that runs alone, where a claim finds a row: the fresh row with the children and the new leaf hangs in the slot, the
 -- full row is released as obsolete, and the rows above are unlocked.
 abbrev pub GrownRowsAreWritten : Type 0
-GrownRowsAreWritten = (c : Setting) (above : List Row) (slot : ℕ) (n : Row) (words : List ℕ) (key value : ℕ) → c.call ≡ Insert key value → value < 2 ^ 30
+GrownRowsAreWritten = (c : Setting) (above : List Row) (slot : ℕ) (n : Row) (words : List ℕ) (key value : ℕ)
+    → c.call ≡ Insert key value → value < 2 ^ 30
     → slice_index words (claims_of (next_kind n.kind)) < rows_of c.shape (next_kind n.kind) → table_words c.shape ≤ length words
     → kind_at c.shape n.base ≡ Some n.kind
     → ((word : ℕ) → fresh_base c.shape words (next_kind n.kind) ≤ word
@@ -63,6 +68,7 @@ GrownRowsAreWritten = (c : Setting) (above : List Row) (slot : ℕ) (n : Row) (w
     → (filled : List ℕ)
     × Comes (grow c above slot n (keys_in_row words n.base n.kind (byte_at c n.level))
     (count_in_row c.call words n.base n.kind (byte_at c n.level))) words tt
-    (unlocked_rows above (slice_set (slice_set filled slot (row_word (fresh_base c.shape words (next_kind n.kind)))) n.base (obsolete_word n.kept)))
+    (unlocked_rows above (slice_set (slice_set filled slot (row_word (fresh_base c.shape words (next_kind n.kind)))) n.base
+        (obsolete_word n.kept)))
     × HasFresh c.shape words filled n.base n.kind (fresh_base c.shape words (next_kind n.kind)) (next_kind n.kind)
     (info_word (next_kind n.kind) n.level n.path) (byte_at c n.level) (Leaf key value)

@@ -23,7 +23,8 @@ IsBeside base kind word = (word < base + 2) ⊎ (base + row_words kind ≤ word)
 
 -- a row's keys and children are the same words in both tables
 abbrev pub HasSameFields : List ℕ → List ℕ → ℕ → Kind → Type 0
-HasSameFields words later base kind = (word : ℕ) → base + 2 ≤ word → word < base + row_words kind → slice_index later word ≡ slice_index words word
+HasSameFields words later base kind = (word : ℕ) → base + 2 ≤ word → word < base + row_words kind
+    → slice_index later word ≡ slice_index words word
 
 -- A child was put on a byte of a row: it hangs there, the other bytes have what they had, and no other word has changed.
 pub record HasPut (s : Shape) (words later : List ℕ) (base : ℕ) (kind : Kind) (x : ℕ) (child : Child) : Type 0 where
@@ -63,7 +64,8 @@ IsApart old kind base next = (old + row_words kind ≤ base) ⊎ (base + row_wor
 
 -- A row was copied to a fresh one of another kind, with one child more: the fresh row has form, its version and its info stand,
 -- and no word outside it has changed.
-pub record HasGrown (s : Shape) (words later : List ℕ) (old : ℕ) (kind : Kind) (base : ℕ) (next : Kind) (x : ℕ) (child : Child) : Type 0 where
+pub record HasGrown (s : Shape) (words later : List ℕ) (old : ℕ) (kind : Kind) (base : ℕ) (next : Kind) (x : ℕ)
+    (child : Child) : Type 0 where
   pub long : length later ≡ length words
   pub beside : (word : ℕ) → IsBeside base next word → slice_index later word ≡ slice_index words word
   pub form : HasForm later base next
@@ -73,7 +75,8 @@ pub record HasGrown (s : Shape) (words later : List ℕ) (old : ℕ) (kind : Kin
 
 -- A fresh row was claimed and got the children of another one, with one child more: it has this info, and nothing else has changed
 -- but that one more claim is made.
-pub record HasFresh (s : Shape) (words later : List ℕ) (old : ℕ) (kind : Kind) (base : ℕ) (next : Kind) (word_of_info x : ℕ) (child : Child) : Type 0 where
+pub record HasFresh (s : Shape) (words later : List ℕ) (old : ℕ) (kind : Kind) (base : ℕ) (next : Kind) (word_of_info x : ℕ)
+    (child : Child) : Type 0 where
   pub long : length later ≡ length words
   pub same : (word : ℕ) → word ≢ claims_of next → IsOutside base next word → slice_index later word ≡ slice_index words word
   pub claimed : slice_index later (claims_of next) ≡ (slice_index words (claims_of next) + 1) % 2 ^ 64

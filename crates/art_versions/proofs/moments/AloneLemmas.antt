@@ -1,5 +1,6 @@
 -- A scan that runs alone on the words of its moment goes through the stages of the attempt that answers.
-use Rattle.std.proofs.Common.{◌≡◌, ℕ, zero, suc, ◌+◌, ◌*◌, ◌<◌, ◌≤◌, List, [], ◌∷◌, ◌++◌, length, take, refl, ap, sym, ◌∙◌, Bool, true, false}
+use Rattle.std.proofs.Common.{◌≡◌, ℕ, zero, suc, ◌+◌, ◌*◌, ◌<◌, ◌≤◌, List, [], ◌∷◌, ◌++◌, length, take, refl, ap, sym, ◌∙◌, Bool, true}
+use Rattle.std.proofs.Common.{false}
 use Rattle.std.proofs.Common.{inl, inr, arith}
 use Rattle.std.specs.Prelude.{◌==◌, slice_index, Option, Some, None, if◌then◌else◌}
 use Rattle.std.proofs.lemmas.Bool.{false≢true}
@@ -23,7 +24,8 @@ use Rattle.art_steps.specs.Rows.{Setting}
 use Rattle.art_steps.specs.Act.{act}
 use Rattle.art_stages.specs.declared.stage.Held.{Held}
 use Rattle.art_stages.specs.declared.stage.ScanStep.{ScanStep}
-use Rattle.art_stages.specs.declared.stage.ScanStep.TheVariants.{Lock, Exchange, Wait, Info, Keys, FirstKeys, SecondKeys, Index, Child as LoadChild, Release}
+use Rattle.art_stages.specs.declared.stage.ScanStep.TheVariants.{Lock, Exchange, Wait, Info, Keys, FirstKeys, SecondKeys, Index}
+use Rattle.art_stages.specs.declared.stage.ScanStep.TheVariants.{Child as LoadChild, Release}
 use Rattle.art_stages.specs.declared.stage.ScanStep.TheVariants.{Over}
 use Rattle.art_stages.specs.Stages.{held}
 use Rattle.art_stages.specs.Scans.{Walk, ScanAt, at, entry_base, close_at, scan_start, scan_after, step_after, scan_turn}
@@ -42,11 +44,13 @@ module _ (s : Shape) (some : 1 ≤ s.rows256) (lo hi : ℕ) where
 
   -- What a word does at a stage: it is the word of a row that the scan loads, no locked version; or the scan stays, or starts again.
   data Does (step : ScanStep) (w : Walk) (v : ℕ) : Type 0 where
-    Loads : (word : ℕ) → (mark : Option Point) → scan_turn c (at step w) ≡ Asks (Load word) mark → IsSettledWord s lo hi word v → Does step w v
+    Loads : (word : ℕ) → (mark : Option Point) → scan_turn c (at step w) ≡ Asks (Load word) mark
+        → IsSettledWord s lo hi word v → Does step w v
     Stays : step_after c lo hi step w v ≡ at step w → Does step w v
     Restarts : step_after c lo hi step w v ≡ scan_start c → Does step w v
 
-  its-row : (a : List ℕ) (rows : List Held) (base : ℕ) (kind : Kind) → Walking s lo hi a rows → InRows s lo hi rows base kind → kind_at s base ≡ Some kind
+  its-row : (a : List ℕ) (rows : List Held) (base : ℕ) (kind : Kind) → Walking s lo hi a rows → InRows s lo hi rows base kind
+      → kind_at s base ≡ Some kind
   its-row a rows base kind h p = ap (kind_at s) (sym p.2) ∙ ((h.entered p.0 p.1).1.row ∙ ap Some p.3)
 
   some-more : (kind : Kind) → 7 ≤ row_words kind
@@ -55,12 +59,16 @@ module _ (s : Shape) (some : 1 ≤ s.rows256) (lo hi : ℕ) where
   some-more FortyEight = omega arith
   some-more Full = omega arith
 
-  keys-do : (base : ℕ) (kind : Kind) (info kept : ℕ) (w : Walk) (v : ℕ) → kind_at s base ≡ Some kind → Does (Keys (held base kind info kept)) w v
-  keys-do base Four info kept w v row = Loads (keys_at base) None refl (inl (row-within s base (keys_at base) Four row (omega arith) (omega arith)))
+  keys-do : (base : ℕ) (kind : Kind) (info kept : ℕ) (w : Walk) (v : ℕ) → kind_at s base ≡ Some kind
+      → Does (Keys (held base kind info kept)) w v
+  keys-do base Four info kept w v row = Loads (keys_at base) None refl
+      (inl (row-within s base (keys_at base) Four row (omega arith) (omega arith)))
   keys-do base Sixteen info kept w v row =
       Loads (count_at Sixteen base) None refl (inl (row-within s base (count_at Sixteen base) Sixteen row (omega arith) (omega arith)))
-  keys-do base FortyEight info kept w v row = Loads (keys_at base) None refl (inl (row-within s base (keys_at base) FortyEight row (omega arith) (omega arith)))
-  keys-do base Full info kept w v row = Loads (keys_at base) None refl (inl (row-within s base (keys_at base) Full row (omega arith) (omega arith)))
+  keys-do base FortyEight info kept w v row = Loads (keys_at base) None refl (inl (row-within s base (keys_at base) FortyEight row
+      (omega arith) (omega arith)))
+  keys-do base Full info kept w v row = Loads (keys_at base) None refl
+      (inl (row-within s base (keys_at base) Full row (omega arith) (omega arith)))
 
   wait-does : (step : ScanStep) (w : Walk) (v word : ℕ) (other : ScanAt) → scan_turn c (at step w) ≡ Asks (Load word) None
       → step_after c lo hi step w v ≡ (if is_locked v then at step w else other) → Does step w v
@@ -94,16 +102,20 @@ module _ (s : Shape) (some : 1 ≤ s.rows256) (lo hi : ℕ) where
   does a (Keys n) w v h = keys-do n.base n.kind n.info n.kept w v (its-row a w.rows n.base n.kind h.0 h.2)
   does a (FirstKeys n count) w v h =
       Loads (keys_at n.base) None refl
-      (inl (row-within s n.base (keys_at n.base) n.kind (its-row a w.rows n.base n.kind h.0 h.2) (omega arith) (omega (arith, some-more n.kind))))
+      (inl (row-within s n.base (keys_at n.base) n.kind (its-row a w.rows n.base n.kind h.0 h.2) (omega arith)
+          (omega (arith, some-more n.kind))))
   does a (SecondKeys n count first) w v h =
       Loads (more_keys_at n.base) None refl
-      (inl (row-within s n.base (more_keys_at n.base) n.kind (its-row a w.rows n.base n.kind h.0 h.2) (omega arith) (omega (arith, some-more n.kind))))
+      (inl (row-within s n.base (more_keys_at n.base) n.kind (its-row a w.rows n.base n.kind h.0 h.2) (omega arith)
+          (omega (arith, some-more n.kind))))
   does a (Index n j m) w v h =
       Loads (index_at n.base (8 * j)) None refl
-      (inl (row-within s n.base (index_at n.base (8 * j)) n.kind (its-row a w.rows n.base n.kind h.0 h.2) (omega arith) (index-in n.base j n.kind h.3 h.4)))
+      (inl (row-within s n.base (index_at n.base (8 * j)) n.kind (its-row a w.rows n.base n.kind h.0 h.2) (omega arith)
+          (index-in n.base j n.kind h.3 h.4)))
     where
       index-in : (base j : ℕ) (kind : Kind) → kind ≡ FortyEight → j < 32 → index_at base (8 * j) < base + row_words kind
-      index-in base j kind e less = Rattle.std.proofs.Common.subst (λ k. index_at base (8 * j) < base + row_words k) (sym e) (omega (arith, less))
+      index-in base j kind e less = Rattle.std.proofs.Common.subst (λ k. index_at base (8 * j) < base + row_words k) (sym e)
+          (omega (arith, less))
   does a (LoadChild f slot) w v h =
       let behind = slot-behind f.row.base f.row.kind slot h.3 in
       Loads slot None refl
@@ -132,7 +144,8 @@ module _ (plan : Plan) (lo hi : ℕ) (v : plan.variant ≡ Optimistic) (some : 1
 
   comes : (i : ℕ) → i ≤ length attempt → Comes i
   comes zero most = (zero, refl)
-  comes (suc i) most = go (comes i (omega (arith, most))) (does plan.shape some lo hi (take i attempt) here.step here.walk got (stands i (omega (arith, most))))
+  comes (suc i) most = go (comes i (omega (arith, most))) (does plan.shape some lo hi (take i attempt) here.step here.walk got
+      (stands i (omega (arith, most))))
     where
       here : ScanAt
       here = stage-at (take i attempt)

@@ -45,7 +45,8 @@ module _ (s : Shape) (lo hi : ℕ) where
   abbrev pub IsSettledWord : ℕ → ℕ → Type 0
   IsSettledWord word value = (kind_at s word ≡ None) ⊎ (is_locked value ≡ false)
 
-  pub loads-more : (attempt : List ℕ) (w i word : ℕ) (mark : Option Point) → Loads attempt i word mark → Loads (attempt ++ w ∷ []) i word mark
+  pub loads-more : (attempt : List ℕ) (w i word : ℕ) (mark : Option Point) → Loads attempt i word mark
+      → Loads (attempt ++ w ∷ []) i word mark
   loads-more attempt w i word mark h = record {
     made = omega (arith, h.made, length-append attempt (w ∷ []));
     turn = ap (λ l. scan_turn c (stage l)) (take-more i attempt w (omega (arith, h.made))) ∙ h.turn;
@@ -55,7 +56,8 @@ module _ (s : Shape) (lo hi : ℕ) where
   pub loads-cases : (attempt : List ℕ) (w i word : ℕ) (mark : Option Point) → Loads (attempt ++ w ∷ []) i word mark
       → (Loads attempt i word mark) ⊎ ((i ≡ length attempt) × (scan_turn c (stage attempt) ≡ Asks (Load word) mark))
   loads-cases attempt w i word mark h = elim (cases_lt i (length attempt)) [
-    | inl less ↦ inl (record { made = less; turn = ap (λ l. scan_turn c (stage l)) (sym (take-more i attempt w (omega (arith, less)))) ∙ h.turn })
+    | inl less ↦ inl (record { made = less; turn = ap (λ l. scan_turn c (stage l))
+        (sym (take-more i attempt w (omega (arith, less)))) ∙ h.turn })
     | inr more ↦
         let is : i ≡ length attempt = omega (arith, more, h.made, length-append attempt (w ∷ [])) in
         inr (
@@ -100,7 +102,8 @@ module _ (s : Shape) (lo hi : ℕ) where
   abbrev pub InRows : List Held → OfRows
   InRows rows base kind = (n : Held) × IsAmong n rows × (n.base ≡ base) × (n.kind ≡ kind)
 
-  pub covers-more : (attempt : List ℕ) (w : ℕ) (rows : List Held) (i word : ℕ) → Covers attempt rows i word → Covers (attempt ++ w ∷ []) rows i word
+  pub covers-more : (attempt : List ℕ) (w : ℕ) (rows : List Held) (i word : ℕ) → Covers attempt rows i word
+      → Covers (attempt ++ w ∷ []) rows i word
   covers-more attempt w rows i word h = record {
     row = h.row;
     among = h.among;
@@ -126,7 +129,8 @@ module _ (s : Shape) (lo hi : ℕ) where
           let k = h.covers i word mark old (subst (IsSettledWord word) (index-more i attempt w old.made) settled) in
           (k.0, covers-more attempt w rows i word k.1)
       | inr last ↦
-          let r = reads word mark last.1 (subst (IsSettledWord word) (ap (slice_index (attempt ++ w ∷ [])) last.0 ∙ index-last attempt w) settled) in
+          let r = reads word mark last.1 (subst (IsSettledWord word) (ap (slice_index (attempt ++ w ∷ [])) last.0 ∙ index-last
+              attempt w) settled) in
           let n = r.1 in
           let e = h.entered n.0 n.1 in (
             r.0,

@@ -25,7 +25,8 @@ use Rattle.art_core.specs.Core.{Plan}
 use Rattle.art_core.specs.Moments.{BeginsAttempt, Reads, Enters}
 use Rattle.art_versions.specs.moments.Gets.{IsCheckedGet, AnsweredGetsAreChecked, GoesBy, HasRead}
 use Rattle.art_versions.proofs.moments.RowLemmas.{row-within}
-use Rattle.art_versions.proofs.moments.SeekLemmas.{stage, Loads, Entered, InfoOf, Agrees, AllSeek, all-fold, all-append, at-end, attempted, answered}
+use Rattle.art_versions.proofs.moments.SeekLemmas.{stage, Loads, Entered, InfoOf, Agrees, AllSeek, all-fold, all-append, at-end, attempted}
+use Rattle.art_versions.proofs.moments.SeekLemmas.{answered}
 
 module _ (plan : Plan) (key : ℕ) (v : plan.variant ≡ Optimistic) (some : 1 ≤ plan.shape.rows256) where
   abbrev call : Call
@@ -45,7 +46,8 @@ module _ (plan : Plan) (key : ℕ) (v : plan.variant ≡ Optimistic) (some : 1 �
   begins-anew : (earlier : List ℕ) → call_behind c earlier ≡ OnKey (Wait Root) → BeginsAttempt plan call earlier
   begins-anew earlier e more =
       turn-behind (earlier ++ more)
-      ∙ (ap (call_turn c) (all-append plan.shape some key (call_begun c) earlier more ∙ ap (λ x. after_all c x more) e) ∙ sym (turn-behind more))
+      ∙ (ap (call_turn c) (all-append plan.shape some key (call_begun c) earlier more ∙ ap (λ x. after_all c x more) e)
+      ∙ sym (turn-behind more))
 
   module _ (attempt : List ℕ) where
     pub to-load : (i word : ℕ) (r : Reads plan call attempt i word) → Loads plan.shape some key attempt i word r.mark
@@ -76,11 +78,13 @@ module _ (plan : Plan) (key : ℕ) (v : plan.variant ≡ Optimistic) (some : 1 �
       to-goes info (inr h) = inr (
         h.0,
         h.1,
-        from-load h.0 (info_at base) None h.2 (inl (row-within plan.shape base (info_at base) kind row (omega arith) (omega (arith, seven-words kind)))),
+        from-load h.0 (info_at base) None h.2 (inl (row-within plan.shape base (info_at base) kind row (omega arith)
+            (omega (arith, seven-words kind)))),
         h.3,
       )
 
-      to-agrees : (words : List ℕ) → HasRead plan call attempt entry base kind words → Agrees plan.shape some key attempt entry base kind words
+      to-agrees : (words : List ℕ) → HasRead plan call attempt entry base kind words
+          → Agrees plan.shape some key attempt entry base kind words
       to-agrees words h i word mark l late low high =
           h i word (from-load i word mark l (inl (row-within plan.shape base word kind row low high))) late low high
 

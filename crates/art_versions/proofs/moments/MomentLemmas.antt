@@ -1,5 +1,6 @@
 -- Where an answered scan was validated, its words are those of one moment; so are those that an answered get read of its last row.
-use Rattle.std.proofs.Common.{◌≡◌, ℕ, zero, suc, ◌+◌, ◌-◌, ◌^◌, ◌<◌, ◌≤◌, List, [], ◌∷◌, ◌++◌, length, take, refl, ap, sym, subst, ◌∙◌, inl, inr, arith, false}
+use Rattle.std.proofs.Common.{◌≡◌, ℕ, zero, suc, ◌+◌, ◌-◌, ◌^◌, ◌<◌, ◌≤◌, List, [], ◌∷◌, ◌++◌, length, take, refl, ap, sym, subst, ◌∙◌, inl}
+use Rattle.std.proofs.Common.{inr, arith, false}
 use Rattle.std.specs.Prelude.{slice_get, slice_index, Some}
 use Rattle.std.proofs.lemmas.Bool.{cases_lt}
 use Rattle.std.proofs.lemmas.List.{length-append, length-take}
@@ -67,7 +68,8 @@ pub answers-of : (t : Turn) (r : Reply) → reply_of t ≡ Some r → t ≡ Answ
 answers-of (Asks a m) r e = absurd (none-some r e)
 answers-of (Answers x) r e = ap (λ y. Answers y) (same_Some x r e)
 
-module _ (plan : Plan) (start : Contents) (words schedule : List ℕ) (s : State) (run : IsRun plan start words schedule s) (v : plan.variant ≡ Optimistic) where
+module _ (plan : Plan) (start : Contents) (words schedule : List ℕ) (s : State) (run : IsRun plan start words schedule s)
+    (v : plan.variant ≡ Optimistic) where
   abbrev first : State
   first = opened_on plan words
 
@@ -77,22 +79,28 @@ module _ (plan : Plan) (start : Contents) (words schedule : List ℕ) (s : State
   few : begun-sound.steps + length schedule < 2 ^ 62
   few = omega (arith, begun-sound.few, run-steps plan schedule first s run.gives, run.few_steps)
 
-  pub sound-time : (t : ℕ) → t ≤ length schedule → (a : State) → At plan first schedule t a → IsSound Optimistic plan.shape (begun-sound.steps + t) a
-  sound-time zero l a h = subst (λ n. IsSound Optimistic plan.shape n a) (omega arith) (subst (IsSound Optimistic plan.shape begun-sound.steps) (same_Some first a h) begun-sound.sound)
+  pub sound-time : (t : ℕ) → t ≤ length schedule → (a : State) → At plan first schedule t a
+      → IsSound Optimistic plan.shape (begun-sound.steps + t) a
+  sound-time zero l a h = subst (λ n. IsSound Optimistic plan.shape n a) (omega arith)
+      (subst (IsSound Optimistic plan.shape begun-sound.steps) (same_Some first a h) begun-sound.sound)
   sound-time (suc t) l a h =
       let b = at-before plan first schedule t a (omega (arith, l)) h in
-      subst (λ n. IsSound Optimistic plan.shape n a) (omega arith) (one-step Optimistic (inr refl) plan v run.within.shape.root (begun-sound.steps + t) (omega (arith, few, l)) b.state
+      subst (λ n. IsSound Optimistic plan.shape n a) (omega arith)
+          (one-step Optimistic (inr refl) plan v run.within.shape.root (begun-sound.steps + t) (omega (arith, few, l)) b.state
       (sound-time t (omega (arith, l)) b.state b.at) b.turn a b.is).0
 
-  steady-time : (d t : ℕ) → t + d ≤ length schedule → (a b : State) → At plan first schedule t a → At plan first schedule (t + d) b → IsSteady Optimistic plan.shape a b
+  steady-time : (d t : ℕ) → t + d ≤ length schedule → (a b : State) → At plan first schedule t a → At plan first schedule (t + d) b
+      → IsSteady Optimistic plan.shape a b
   steady-time zero t l a b ha hb =
-      subst (IsSteady Optimistic plan.shape a) (same_Some a b (sym ha ∙ subst (λ k. run_on plan (Some first) (take k schedule) ≡ Some b) (zero-more t) hb))
+      subst (IsSteady Optimistic plan.shape a)
+          (same_Some a b (sym ha ∙ subst (λ k. run_on plan (Some first) (take k schedule) ≡ Some b) (zero-more t) hb))
       (steady-refl Optimistic plan.shape a)
     where
       zero-more : (n : ℕ) → n + zero ≡ n
       zero-more n = omega arith
   steady-time (suc d) t l a b ha hb =
-      let m = at-before plan first schedule (t + d) b (omega (arith, l)) (subst (λ k. run_on plan (Some first) (take k schedule) ≡ Some b) (more t) hb) in
+      let m = at-before plan first schedule (t + d) b (omega (arith, l))
+          (subst (λ k. run_on plan (Some first) (take k schedule) ≡ Some b) (more t) hb) in
       steady-trans Optimistic plan.shape a m.state b (steady-time d t (omega (arith, l)) a m.state ha m.at)
       (one-step Optimistic (inr refl) plan v run.within.shape.root (begun-sound.steps + (t + d)) (omega (arith, few, l)) m.state
       (sound-time (t + d) (omega (arith, l)) m.state m.at) m.turn b m.is).1
@@ -101,9 +109,11 @@ module _ (plan : Plan) (start : Contents) (words schedule : List ℕ) (s : State
       more n = omega arith
 
   -- from each moment to a later one
-  pub steady-at : (t u : ℕ) → t ≤ u → u ≤ length schedule → (a b : State) → At plan first schedule t a → At plan first schedule u b → IsSteady Optimistic plan.shape a b
+  pub steady-at : (t u : ℕ) → t ≤ u → u ≤ length schedule → (a b : State) → At plan first schedule t a → At plan first schedule u b
+      → IsSteady Optimistic plan.shape a b
   steady-at t u le l a b ha hb =
-      steady-time (u - t) t (omega (arith, le, l)) a b ha (subst (λ k. run_on plan (Some first) (take k schedule) ≡ Some b) (rest t u le) hb)
+      steady-time (u - t) t (omega (arith, le, l)) a b ha
+          (subst (λ k. run_on plan (Some first) (take k schedule) ≡ Some b) (rest t u le) hb)
     where
       rest : (t u : ℕ) → t ≤ u → u ≡ t + (u - t)
       rest t u le = omega (arith, le)
@@ -124,7 +134,8 @@ module _ (plan : Plan) (start : Contents) (words schedule : List ℕ) (s : State
 
     -- when the i-th word of the attempt was got
     got-at : (i : ℕ) → i < length attempt → GotAt plan first schedule (length schedule) p q call (le + i)
-    got-at i less = was-got plan words schedule p (length schedule) (omega arith) s (ap (run_on plan (Some first)) (take-length schedule) ∙ run.gives) q its.own call
+    got-at i less = was-got plan words schedule p (length schedule) (omega arith) s (ap (run_on plan (Some first)) (take-length schedule)
+        ∙ run.gives) q its.own call
         its.is_open (le + i) (omega (arith, long, less))
 
     words-of : (i : ℕ) → take (le + i) q.got ≡ earlier ++ take i attempt
@@ -153,7 +164,8 @@ module _ (plan : Plan) (start : Contents) (words schedule : List ℕ) (s : State
         }
 
     -- who has more words of the call is later
-    later-is : (n m u w : ℕ) (a b : State) → u ≤ length schedule → w ≤ length schedule → At plan first schedule u a → At plan first schedule w b
+    later-is : (n m u w : ℕ) (a b : State) → u ≤ length schedule → w ≤ length schedule → At plan first schedule u a
+        → At plan first schedule w b
         → HasGot (length (begun q)) n a p → HasGot (length (begun q)) m b p → m < n → w < u
     later-is n m u w a b = ordered plan first schedule p (length (begun q)) n m u w a b
 
@@ -165,7 +177,8 @@ module _ (plan : Plan) (start : Contents) (words schedule : List ℕ) (s : State
 
     -- A row that was settled when it was entered, up to a check that found the same version.
     module _ (i j base : ℕ) (kind : Kind) (e : Enters plan call attempt i base kind) (k : Checks plan call attempt j base)
-        (same : slice_index attempt j ≡ slice_index attempt i) (settled : IsSettled Optimistic plan.shape (got-at i e.reads.made).state base kind) where
+        (same : slice_index attempt j ≡ slice_index attempt i)
+            (settled : IsSettled Optimistic plan.shape (got-at i e.reads.made).state base kind) where
       abbrev entry : GotAt plan first schedule (length schedule) p q call (le + i)
       entry = got-at i e.reads.made
 
@@ -201,10 +214,13 @@ module _ (plan : Plan) (start : Contents) (words schedule : List ℕ) (s : State
             long = (sound-time entry.u (omega (arith, entry.before)) entry.state entry.at).long ∙ sym (sound-time t l now at).long;
           }
 
-      stays : (t n : ℕ) (now : State) → t ≤ length schedule → At plan first schedule t now → HasGot (length (begun q)) (le + n) now p → i < n → n ≤ j → Stays t now
+      stays : (t n : ℕ) (now : State) → t ≤ length schedule → At plan first schedule t now → HasGot (length (begun q)) (le + n) now p
+          → i < n → n ≤ j → Stays t now
       stays t n now l at within more most =
-          let e-t = later-is (le + n) (le + i) t entry.u now entry.state l (omega (arith, entry.before)) at entry.at within (has-got i e.reads.made) (omega (arith, more)) in
-          let t-g = later-is (suc (le + j)) (le + n) (suc check.u) t check.after now (omega (arith, check.before)) l check.at_after at check.got_it within (omega (arith, most)) in
+          let e-t = later-is (le + n) (le + i) t entry.u now entry.state l (omega (arith, entry.before)) at entry.at within
+              (has-got i e.reads.made) (omega (arith, more)) in
+          let t-g = later-is (suc (le + j)) (le + n) (suc check.u) t check.after now (omega (arith, check.before)) l check.at_after at
+              check.got_it within (omega (arith, most)) in
           stays-at t now (omega (arith, e-t)) (omega (arith, t-g)) at
 
       row-stays : (t u : ℕ) (a b : State) → Stays t a → Stays u b → row_in b.words base kind ≡ row_in a.words base kind
@@ -212,21 +228,25 @@ module _ (plan : Plan) (start : Contents) (words schedule : List ℕ) (s : State
           (λ word low high. hb.same_row word low high ∙ sym (ha.same_row word low high))
 
       -- so what was read of it then is present
-      present : (t n : ℕ) (now : State) → t ≤ length schedule → At plan first schedule t now → HasGot (length (begun q)) (le + n) now p → i < n → n ≤ j
+      present : (t n : ℕ) (now : State) → t ≤ length schedule → At plan first schedule t now
+          → HasGot (length (begun q)) (le + n) now p → i < n → n ≤ j
           → (m word : ℕ) → Reads plan call attempt m word → i ≤ m → m ≤ j → base ≤ word → word < base + row_words kind
           → slice_index now.words word ≡ slice_index attempt m
       present t n now l at within more most m word r late soon low high =
           let g = got-at m r.made in
-          let e-g = later-is (suc (le + m)) (le + i) (suc g.u) entry.u g.after entry.state (omega (arith, g.before)) (omega (arith, entry.before)) g.at_after entry.at
+          let e-g = later-is (suc (le + m)) (le + i) (suc g.u) entry.u g.after entry.state (omega (arith, g.before))
+              (omega (arith, entry.before)) g.at_after entry.at
           g.got_it (has-got i e.reads.made) (omega (arith, late)) in
-          let g-j = later-is (suc (le + j)) (le + m) (suc check.u) g.u check.after g.state (omega (arith, check.before)) (omega (arith, g.before)) check.at_after g.at
+          let g-j = later-is (suc (le + j)) (le + m) (suc check.u) g.u check.after g.state (omega (arith, check.before))
+              (omega (arith, g.before)) check.at_after g.at
           check.got_it (has-got m r.made) (omega (arith, soon)) in
           let back = stays-at g.u g.state (omega (arith, e-g)) (omega (arith, g-j)) g.at in
           let here = stays t n now l at within more most in
           here.same_row word low high ∙ (sym (back.same_row word low high) ∙ value-of m word r)
 
       -- and it stands still all the while
-      still : (t n : ℕ) (now : State) → t ≤ length schedule → At plan first schedule t now → HasGot (length (begun q)) (le + n) now p → i < n → n ≤ j
+      still : (t n : ℕ) (now : State) → t ≤ length schedule → At plan first schedule t now
+          → HasGot (length (begun q)) (le + n) now p → i < n → n ≤ j
           → StandsFrom plan first schedule p (length (begun q)) le i j base kind (row_in now.words base kind)
       still t n now l at within more most u m a at-u there some-more some-most =
           let bound = taken-within u schedule in
@@ -237,7 +257,8 @@ module _ (plan : Plan) (start : Contents) (words schedule : List ℕ) (s : State
 
   -- Scans.
 
-  module _ (p lo hi : ℕ) (q : Process) (own : slice_get s.processes p ≡ Some q) (is-open : q.call ≡ Some (Scan lo hi)) (x : IsValidated plan (Scan lo hi) q.got)
+  module _ (p lo hi : ℕ) (q : Process) (own : slice_get s.processes p ≡ Some q) (is-open : q.call ≡ Some (Scan lo hi))
+      (x : IsValidated plan (Scan lo hi) q.got)
       (stands : AllStand plan.shape run.within.shape.root lo hi x.attempt) (reply : Reply)
       (answers : act plan.shape plan.variant (Scan lo hi) q.got ≡ Answers reply) where
     abbrev scan : Call
@@ -250,7 +271,8 @@ module _ (plan : Plan) (start : Contents) (words schedule : List ℕ) (s : State
     scanned i less = got-at p q scan x.earlier x.attempt in-scan i less
 
     -- the row that an entry loads the version of is settled then
-    scan-settled : (i base : ℕ) (kind : Kind) (e : Enters plan scan x.attempt i base kind) → IsSettled Optimistic plan.shape (scanned i e.reads.made).state base kind
+    scan-settled : (i base : ℕ) (kind : Kind) (e : Enters plan scan x.attempt i base kind)
+        → IsSettled Optimistic plan.shape (scanned i e.reads.made).state base kind
     scan-settled i base kind e =
         let g = scanned i e.reads.made in
         let sound = sound-time g.u (omega (arith, g.before)) g.state g.at in
@@ -262,17 +284,22 @@ module _ (plan : Plan) (start : Contents) (words schedule : List ℕ) (s : State
         ∙ (ap (λ y. act plan.shape y scan g.process.got) (sym v)
         ∙ (ap (act plan.shape plan.variant scan) (g.got ∙ words-of p q scan x.earlier x.attempt in-scan i)
         ∙ (x.begins (take i x.attempt) ∙ e.reads.load)))) in
-        let in-it = loads-known plan.shape scan (IsSettled Optimistic plan.shape g.state) sound.root (stage plan.shape lo hi g.process.got) knows base e.reads.mark turn
+        let in-it = loads-known plan.shape scan (IsSettled Optimistic plan.shape g.state) sound.root (stage plan.shape lo hi g.process.got)
+            knows base e.reads.mark turn
         e.no_check in
-        let same = rows_apart plan.shape in-it.base base in-it.kind kind base (settled-row Optimistic plan.shape g.state in-it.base in-it.kind in-it.known) e.row in-it.from
+        let same = rows_apart plan.shape in-it.base base in-it.kind kind base
+            (settled-row Optimistic plan.shape g.state in-it.base in-it.kind in-it.known) e.row in-it.from
         in-it.below (omega arith) (omega (arith, some-words kind)) in
-        subst (λ k. IsSettled Optimistic plan.shape g.state base k) same.1 (subst (λ b. IsSettled Optimistic plan.shape g.state b in-it.kind) same.0 in-it.known)
+        subst (λ k. IsSettled Optimistic plan.shape g.state base k) same.1
+            (subst (λ b. IsSettled Optimistic plan.shape g.state b in-it.kind) same.0 in-it.known)
 
     -- the row that has the word at which an attempt enters one is that row
-    entered-row : (i base : ℕ) (kind : Kind) (e : Enters plan scan x.attempt i base kind) → ((x.reads i base e.reads).base ≡ base) × ((x.reads i base e.reads).kind ≡ kind)
+    entered-row : (i base : ℕ) (kind : Kind) (e : Enters plan scan x.attempt i base kind) → ((x.reads i base e.reads).base ≡ base)
+        × ((x.reads i base e.reads).kind ≡ kind)
     entered-row i base kind e =
         let row = x.reads i base e.reads in
-        rows_apart plan.shape row.base base row.kind kind base row.enters.row e.row row.from row.below (omega arith) (omega (arith, some-words kind))
+        rows_apart plan.shape row.base base row.kind kind base row.enters.row e.row row.from row.below (omega arith)
+            (omega (arith, some-words kind))
 
     has-check : (i base : ℕ) (kind : Kind) → Enters plan scan x.attempt i base kind → (j : ℕ) × Checks plan scan x.attempt j base
     has-check i base kind e =
@@ -282,7 +309,8 @@ module _ (plan : Plan) (start : Contents) (words schedule : List ℕ) (s : State
     has-entry : (i word : ℕ) → Reads plan scan x.attempt i word → IsOfEnteredRow plan scan x.attempt i word
     has-entry i word r =
         let row = x.reads i word r in
-        record { base = row.base; kind = row.kind; entry = row.entry; enters = row.enters; by_then = row.by_then; from = row.from; below = row.below }
+        record { base = row.base; kind = row.kind; entry = row.entry; enters = row.enters; by_then = row.by_then; from =
+            row.from; below = row.below }
 
     before-checks : (i base : ℕ) (kind : Kind) → Enters plan scan x.attempt i base kind → i < x.m
     before-checks i base kind e = elim (x.parts i base e.reads) [
@@ -313,7 +341,8 @@ module _ (plan : Plan) (start : Contents) (words schedule : List ℕ) (s : State
           })
     ]
       where
-        moment : (t : ℕ) (now : State) → t ≤ length schedule → At plan first schedule t now → HasGot (length (begun q)) (length x.earlier + x.m) now p
+        moment : (t : ℕ) (now : State) → t ≤ length schedule → At plan first schedule t now
+            → HasGot (length (begun q)) (length x.earlier + x.m) now p
             → HasMoment plan first schedule p (length (begun q)) scan q.got reply
         moment t now l at within = record {
           earlier = x.earlier;
@@ -337,17 +366,20 @@ module _ (plan : Plan) (start : Contents) (words schedule : List ℕ) (s : State
             holds i word r =
                 let row = x.reads i word r in
                 present p q scan x.earlier x.attempt in-scan row.entry row.check row.base row.kind row.enters row.checks row.same
-                (scan-settled row.entry row.base row.kind row.enters) t x.m now l at within row.before row.behind i word r row.by_then row.no_sooner row.from row.below
+                (scan-settled row.entry row.base row.kind row.enters) t x.m now l at within row.before row.behind i word r row.by_then
+                    row.no_sooner row.from row.below
 
             stands-still : (i j base : ℕ) (kind : Kind) → Enters plan scan x.attempt i base kind → Checks plan scan x.attempt j base
-                → (i < x.m) × (x.m ≤ j) × StandsFrom plan first schedule p (length (begun q)) (length x.earlier) i j base kind (row_in now.words base kind)
+                → (i < x.m) × (x.m ≤ j) × StandsFrom plan first schedule p (length (begun q)) (length x.earlier) i j base kind
+                    (row_in now.words base kind)
             stands-still i j base kind e k =
                 let same : slice_index x.attempt j ≡ slice_index x.attempt i = sym (holds j base k.reads) ∙ holds i base e.reads in
                 let early = before-checks i base kind e in
                 let late = behind-walk j base k in (
                   early,
                   late,
-                  still p q scan x.earlier x.attempt in-scan i j base kind e k same (scan-settled i base kind e) t x.m now l at within early late,
+                  still p q scan x.earlier x.attempt in-scan i j base kind e k same (scan-settled i base kind e) t x.m now l at
+                      within early late,
                 )
 
   -- Gets.
@@ -366,15 +398,19 @@ module _ (plan : Plan) (start : Contents) (words schedule : List ℕ) (s : State
     abbrev gotten : (i : ℕ) → i < length x.attempt → GotAt plan first schedule (length schedule) p q get (length x.earlier + i)
     gotten i less = got-at p q get x.earlier x.attempt in-get i less
 
-    get-settled : (i base : ℕ) (kind : Kind) (e : Enters plan get x.attempt i base kind) → IsSettled Optimistic plan.shape (gotten i e.reads.made).state base kind
+    get-settled : (i base : ℕ) (kind : Kind) (e : Enters plan get x.attempt i base kind)
+        → IsSettled Optimistic plan.shape (gotten i e.reads.made).state base kind
     get-settled i base kind e =
         let g = gotten i e.reads.made in
         let sound = sound-time g.u (omega (arith, g.before)) g.state g.at in
         let known = sound.knows p get g.process (record { own = g.own; is_open = g.is_open }) in
-        let here = ap (call_behind (optimistic plan.shape get)) (g.got ∙ words-of p q get x.earlier x.attempt in-get i) ∙ h.stages (take i x.attempt) in
-        entering plan.shape run.within.shape.root key (take i x.attempt) (get-stage plan.shape run.within.shape.root key (take i x.attempt)) base kind e.reads.mark
+        let here = ap (call_behind (optimistic plan.shape get)) (g.got ∙ words-of p q get x.earlier x.attempt in-get i)
+            ∙ h.stages (take i x.attempt) in
+        entering plan.shape run.within.shape.root key (take i x.attempt)
+            (get-stage plan.shape run.within.shape.root key (take i x.attempt)) base kind e.reads.mark
         (h.seeks i (omega (arith, e.reads.made))) (to-load plan key v run.within.shape.root x.attempt i base e.reads).turn e.no_check e.row
-        (IsSettled Optimistic plan.shape g.state) sound.root (subst (Knows (IsSettled Optimistic plan.shape g.state) (optimistic plan.shape get)) here known)
+        (IsSettled Optimistic plan.shape g.state) sound.root
+            (subst (Knows (IsSettled Optimistic plan.shape g.state) (optimistic plan.shape get)) here known)
 
     -- when its last row is checked
     moment-of-get : HasMomentOfLastRow plan first schedule p (length (begun q)) key q.got reply
@@ -387,7 +423,8 @@ module _ (plan : Plan) (start : Contents) (words schedule : List ℕ) (s : State
         let holds : (i word : ℕ) → Reads plan get x.attempt i word → x.entry ≤ i → x.base ≤ word → word < x.base + row_words x.kind
         → slice_index g.state.words word ≡ slice_index x.attempt i =
         λ i word r late low high.
-        present p q get x.earlier x.attempt in-get x.entry x.check x.base x.kind x.enters x.checks x.same settled g.u x.check g.state l g.at within x.behind (omega arith)
+        present p q get x.earlier x.attempt in-get x.entry x.check x.base x.kind x.enters x.checks x.same settled g.u x.check g.state l
+            g.at within x.behind (omega arith)
         i word r late (x.final i word r) low high in
         record {
           earlier = x.earlier;
@@ -410,7 +447,8 @@ module _ (plan : Plan) (start : Contents) (words schedule : List ℕ) (s : State
           entered = x.behind;
           unchecked = omega arith;
           holds = holds;
-          still = still p q get x.earlier x.attempt in-get x.entry x.check x.base x.kind x.enters x.checks x.same settled g.u x.check g.state l g.at within x.behind
+          still = still p q get x.earlier x.attempt in-get x.entry x.check x.base x.kind x.enters x.checks x.same settled g.u x.check
+              g.state l g.at within x.behind
               (omega arith);
           info = x.info;
           goes_by = x.goes_by;

@@ -14,7 +14,8 @@ taken-few (suc t) [] = omega arith
 taken-few (suc t) (x ∷ xs) = omega (arith, taken-few t xs)
 
 -- the first steps of a schedule are a run
-earlier-run : (plan : Plan) (start : Contents) (first schedule : List ℕ) (s : State) → IsRun plan start first schedule s → (t : ℕ) (past : State)
+earlier-run : (plan : Plan) (start : Contents) (first schedule : List ℕ) (s : State) → IsRun plan start first schedule s
+    → (t : ℕ) (past : State)
     → At plan (opened_on plan first) schedule t past → IsRun plan start first (take t schedule) past
 earlier-run plan start first schedule s run t past at =
     let all = run-steps plan schedule (opened_on plan first) s run.gives in

@@ -10,7 +10,8 @@ use Rattle.art_rows.specs.Table.{row_words, kind_at}
 use Rattle.art_rows.proofs.KindLemmas.{some-words}
 use Rattle.art_rows.proofs.WriterLemmas.{take_whole}
 
-take-same : (n : ℕ) (xs ys : List ℕ) → length xs ≡ length ys → ((k : ℕ) → k < n → slice_index xs k ≡ slice_index ys k) → take n xs ≡ take n ys
+take-same : (n : ℕ) (xs ys : List ℕ) → length xs ≡ length ys → ((k : ℕ) → k < n → slice_index xs k ≡ slice_index ys k)
+    → take n xs ≡ take n ys
 take-same zero xs ys long same = refl
 take-same (suc n) [] [] long same = refl
 take-same (suc n) [] (y ∷ ys) long same = absurd (omega (arith, long))
@@ -36,10 +37,12 @@ pub record Within (n : ℕ) (xs : List ℕ) : Type 0 where
 pub taken-within : (n : ℕ) (xs : List ℕ) → Within n xs
 taken-within n xs = elim (cases_lt n (length xs)) [
   | inl less ↦ record { length' = n; most = omega (arith, less); same = refl }
-  | inr more ↦ record { length' = length xs; most = omega arith; same = take_whole n xs more ∙ Rattle.std.proofs.Common.sym (take-length xs) }
+  | inr more ↦ record { length' = length xs; most = omega arith; same = take_whole n xs more ∙ Rattle.std.proofs.Common.sym
+      (take-length xs) }
 ]
 
-pub row-within : (s : Shape) (base word : ℕ) (kind : Kind) → kind_at s base ≡ Some kind → base < word → word < base + row_words kind → kind_at s word ≡ None
+pub row-within : (s : Shape) (base word : ℕ) (kind : Kind) → kind_at s base ≡ Some kind → base < word → word < base + row_words kind
+    → kind_at s word ≡ None
 row-within s base word kind row low high = go (kind_at s word) refl
   where
     go : (o : Option Kind) → kind_at s word ≡ o → o ≡ None

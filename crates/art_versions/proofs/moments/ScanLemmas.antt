@@ -1,5 +1,6 @@
 -- The attempt of a scan that answers: all rows that it read were checked at its end.
-use Rattle.std.proofs.Common.{◌≡◌, ℕ, zero, suc, ◌+◌, ◌*◌, ◌/◌, ◌%◌, ◌<◌, ◌≤◌, List, [], ◌∷◌, ◌++◌, length, take, refl, ap, sym, subst, ◌∙◌, Bool, true, false}
+use Rattle.std.proofs.Common.{◌≡◌, ℕ, zero, suc, ◌+◌, ◌*◌, ◌/◌, ◌%◌, ◌<◌, ◌≤◌, List, [], ◌∷◌, ◌++◌, length, take, refl, ap, sym, subst, ◌∙◌}
+use Rattle.std.proofs.Common.{Bool, true, false}
 use Rattle.std.proofs.Common.{inl, inr, arith, append_assoc}
 use Rattle.std.specs.Prelude.{◌⊎◌, ◌==◌, Option, Some, None, if◌then◌else◌}
 use Rattle.std.proofs.lemmas.List.{length-append, append-nil}
@@ -24,7 +25,8 @@ use Rattle.art_steps.proofs.TurnLemmas.{answers-asks}
 use Rattle.art_stages.specs.declared.stage.Held.{Held}
 use Rattle.art_stages.specs.declared.stage.Entry.TheVariants.{Root, Below}
 use Rattle.art_stages.specs.declared.stage.ScanStep.{ScanStep}
-use Rattle.art_stages.specs.declared.stage.ScanStep.TheVariants.{Lock, Exchange, Wait, Info, Keys, FirstKeys, SecondKeys, Index, Child as LoadChild, Release}
+use Rattle.art_stages.specs.declared.stage.ScanStep.TheVariants.{Lock, Exchange, Wait, Info, Keys, FirstKeys, SecondKeys, Index}
+use Rattle.art_stages.specs.declared.stage.ScanStep.TheVariants.{Child as LoadChild, Release}
 use Rattle.art_stages.specs.declared.stage.ScanStep.TheVariants.{Over}
 use Rattle.art_stages.specs.Stages.{held}
 use Rattle.art_stages.specs.Automaton.{keys_one}
@@ -34,9 +36,11 @@ use Rattle.art_stages.specs.Calls.{CallAt, OnScan, after_all, call_begun, call_b
 use Rattle.art_versions.specs.versions.Holding.{OfRows, Each, FitsFrame}
 use Rattle.art_versions.proofs.versions.KeyLemmas.{slot-behind}
 use Rattle.art_versions.proofs.moments.TimeLemmas.{take-more, index-more}
-use Rattle.art_versions.proofs.moments.AttemptLemmas.{stage, fold, fold-more, IsSettledWord, loads-more, loads-cases, entered-more, covers-more, Walking}
+use Rattle.art_versions.proofs.moments.AttemptLemmas.{stage, fold, fold-more, IsSettledWord, loads-more, loads-cases, entered-more}
+use Rattle.art_versions.proofs.moments.AttemptLemmas.{covers-more, Walking}
 use Rattle.art_versions.proofs.moments.AttemptLemmas.{InRows}
-use Rattle.art_versions.proofs.moments.StandsLemmas.{Releasing, Stands, StandsAt, Next, waits-root, waits-below, visits, checks, reads-on, resumes, released}
+use Rattle.art_versions.proofs.moments.StandsLemmas.{Releasing, Stands, StandsAt, Next, waits-root, waits-below, visits, checks, reads-on}
+use Rattle.art_versions.proofs.moments.StandsLemmas.{resumes, released}
 
 module _ (s : Shape) (some : 1 ≤ s.rows256) (lo hi : ℕ) where
   abbrev pub c : Setting
@@ -50,7 +54,8 @@ module _ (s : Shape) (some : 1 ≤ s.rows256) (lo hi : ℕ) where
 
   -- a row's keys, an index word, a child
   keys-go : (a : List ℕ) (base : ℕ) (kind : Kind) (info kept : ℕ) (w : Walk) (word : ℕ)
-      → scan_turn c (stage s lo hi a) ≡ scan_turn c (at (Keys (held base kind info kept)) w) → Stands s some lo hi a (Keys (held base kind info kept)) w
+      → scan_turn c (stage s lo hi a) ≡ scan_turn c (at (Keys (held base kind info kept)) w)
+      → Stands s some lo hi a (Keys (held base kind info kept)) w
       → Goes a (Keys (held base kind info kept)) w word
   keys-go a base Four info kept w word turn h =
       let more = reads-on s some lo hi a word w.rows base Four (keys_at base) h.0 h.2 turn (omega arith) (omega arith) in
@@ -60,7 +65,8 @@ module _ (s : Shape) (some : 1 ≤ s.rows256) (lo hi : ℕ) where
       inl (reads-on s some lo hi a word w.rows base Sixteen (count_at Sixteen base) h.0 h.2 turn (omega arith) (omega arith), h.1, h.2)
   keys-go a base FortyEight info kept w word turn h =
       let more = reads-on s some lo hi a word w.rows base FortyEight (keys_at base) h.0 h.2 turn (omega arith) (omega arith) in
-      inl (resumes s some lo hi (a ++ word ∷ []) w.rows more (with_frame w (frame_of (held base FortyEight info kept) (keys_one word) 0 0)) refl
+      inl (resumes s some lo hi (a ++ word ∷ []) w.rows more
+          (with_frame w (frame_of (held base FortyEight info kept) (keys_one word) 0 0)) refl
       ((h.2, omega arith), h.1))
   keys-go a base Full info kept w word turn h =
       let more = reads-on s some lo hi a word w.rows base Full (keys_at base) h.0 h.2 turn (omega arith) (omega arith) in
@@ -77,7 +83,8 @@ module _ (s : Shape) (some : 1 ≤ s.rows256) (lo hi : ℕ) where
   index-in base j kind e less = subst (λ k. index_at base (8 * j) < base + row_words k) (sym e) (omega (arith, less))
 
   child-go : (a : List ℕ) (w : Walk) (child : Child) → Walking s lo hi a w.rows → Each (FitsFrame (In w.rows)) w.way
-      → ((base : ℕ) (kind : Kind) → child ≡ ChildRow base kind → kind_at s base ≡ Some kind) → StandsAt s some lo hi a (child_after c lo hi w child)
+      → ((base : ℕ) (kind : Kind) → child ≡ ChildRow base kind → kind_at s base ≡ Some kind)
+      → StandsAt s some lo hi a (child_after c lo hi w child)
   child-go a w Empty h way row = resumes s some lo hi a w.rows h w refl way
   child-go a w (Leaf key value) h way row =
       resumes s some lo hi a w.rows h (record { rows = w.rows; pairs = (with_leaf lo hi key value (walked w)).pairs; way = w.way }) refl way
@@ -95,7 +102,8 @@ module _ (s : Shape) (some : 1 ≤ s.rows256) (lo hi : ℕ) where
   pub child-is-row : (word base : ℕ) (kind : Kind) → child_of s word ≡ ChildRow base kind → kind_at s base ≡ Some kind
   child-is-row word base kind h = one (word % 4 == 1) h
     where
-      two : (b : Bool) → (if b then Leaf (word / 4294967296) (word % 4294967296 / 4) else Empty) ≡ ChildRow base kind → kind_at s base ≡ Some kind
+      two : (b : Bool) → (if b then Leaf (word / 4294967296) (word % 4294967296 / 4) else Empty) ≡ ChildRow base kind
+          → kind_at s base ≡ Some kind
       two true e = absurd (leaf-row e)
       two false e = absurd (empty-row e)
 
@@ -104,7 +112,8 @@ module _ (s : Shape) (some : 1 ≤ s.rows256) (lo hi : ℕ) where
       at-base (Some k) f e = let same = row-same e in ap (kind_at s) (sym same.0) ∙ (f ∙ ap Some same.1)
 
       one : (b : Bool) → (if b then row_child (word / 4) (kind_at s (word / 4)) else
-          (if word % 4 == 2 then Leaf (word / 4294967296) (word % 4294967296 / 4) else Empty)) ≡ ChildRow base kind → kind_at s base ≡ Some kind
+          (if word % 4 == 2 then Leaf (word / 4294967296) (word % 4294967296 / 4) else Empty)) ≡ ChildRow base kind
+              → kind_at s base ≡ Some kind
       one true e = at-base (kind_at s (word / 4)) refl e
       one false e = two (word % 4 == 2) e
 
@@ -125,11 +134,13 @@ module _ (s : Shape) (some : 1 ≤ s.rows256) (lo hi : ℕ) where
     ];
     checked = λ x among. elim (h.checked x among) [
       | inl none ↦ absurd none
-      | inr done ↦ inr (done.0, done.1, loads-more s lo hi a word done.0 x.base (Some point.Check) done.2, index-more done.0 a word done.2.made ∙ done.3)
+      | inr done ↦ inr (done.0, done.1, loads-more s lo hi a word done.0 x.base (Some point.Check) done.2, index-more done.0 a word
+          done.2.made ∙ done.3)
     ];
   }
 
-  goes : (a : List ℕ) (step : ScanStep) (w : Walk) (word : ℕ) → scan_turn c (stage s lo hi a) ≡ scan_turn c (at step w) → Stands s some lo hi a step w
+  goes : (a : List ℕ) (step : ScanStep) (w : Walk) (word : ℕ) → scan_turn c (stage s lo hi a) ≡ scan_turn c (at step w)
+      → Stands s some lo hi a step w
       → Goes a step w word
   goes a (Lock entry first) w word turn h = absurd h
   goes a (Exchange entry v) w word turn h = absurd h
@@ -138,12 +149,16 @@ module _ (s : Shape) (some : 1 ≤ s.rows256) (lo hi : ℕ) where
   goes a (Info base kind kept) w word turn h = visits s some lo hi a w base kind kept word turn h
   goes a (Keys n) w word turn h = keys-go a n.base n.kind n.info n.kept w word turn h
   goes a (FirstKeys n count) w word turn h =
-      inl (reads-on s some lo hi a word w.rows n.base n.kind (keys_at n.base) h.0 h.2 turn (omega arith) (omega (arith, some-more n.kind)), h.1, h.2)
+      inl (reads-on s some lo hi a word w.rows n.base n.kind (keys_at n.base) h.0 h.2 turn (omega arith)
+          (omega (arith, some-more n.kind)), h.1, h.2)
   goes a (SecondKeys n count first) w word turn h =
-      let more = reads-on s some lo hi a word w.rows n.base n.kind (more_keys_at n.base) h.0 h.2 turn (omega arith) (omega (arith, some-more n.kind)) in
-      inl (resumes s some lo hi (a ++ word ∷ []) w.rows more (with_frame w (frame_of n (keys16 count first word) 0 0)) refl ((h.2, omega arith), h.1))
+      let more = reads-on s some lo hi a word w.rows n.base n.kind (more_keys_at n.base) h.0 h.2 turn (omega arith)
+          (omega (arith, some-more n.kind)) in
+      inl (resumes s some lo hi (a ++ word ∷ []) w.rows more (with_frame w (frame_of n (keys16 count first word) 0 0)) refl
+          ((h.2, omega arith), h.1))
   goes a (Index n j m) w word turn h =
-      let more = reads-on s some lo hi a word w.rows n.base n.kind (index_at n.base (8 * j)) h.0 h.2 turn (omega arith) (index-in n.base j n.kind h.3 h.4) in
+      let more = reads-on s some lo hi a word w.rows n.base n.kind (index_at n.base (8 * j)) h.0 h.2 turn (omega arith)
+          (index-in n.base j n.kind h.3 h.4) in
       inl (resumes s some lo hi (a ++ word ∷ []) w.rows more (with_frame w (frame_of n (keys_one word) j m)) refl ((h.2, omega arith), h.1))
   goes a (LoadChild f slot) w word turn h =
       let behind = slot-behind f.row.base f.row.kind slot h.3 in
@@ -152,9 +167,11 @@ module _ (s : Shape) (some : 1 ≤ s.rows256) (lo hi : ℕ) where
   goes a (Release n) w word turn h = go (word == n.kept) refl
     where
       go : (b : Bool) → (word == n.kept) ≡ b
-          → (StandsAt s some lo hi (a ++ word ∷ []) (if b then close_at c w else scan_start c)) ⊎ ((if b then close_at c w else scan_start c) ≡ scan_start c)
+          → (StandsAt s some lo hi (a ++ word ∷ []) (if b then close_at c w else scan_start c))
+          ⊎ ((if b then close_at c w else scan_start c) ≡ scan_start c)
       go true e = inl (released s some lo hi (a ++ word ∷ []) w.rows w.pairs
-          (subst (λ v. Releasing s some lo hi (a ++ v ∷ []) w.rows) (sym (number_is word n.kept e)) (checks s some lo hi a n w.rows turn h)))
+          (subst (λ v. Releasing s some lo hi (a ++ v ∷ []) w.rows) (sym (number_is word n.kept e))
+              (checks s some lo hi a n w.rows turn h)))
       go false e = inr refl
   goes a Over w word turn h = inl (over-goes a w word turn h)
 
@@ -180,7 +197,8 @@ module _ (s : Shape) (some : 1 ≤ s.rows256) (lo hi : ℕ) where
   one-more attempt w h now i most = elim (cases_lt (length attempt) i) [
     | inl last ↦
         let all : i ≡ length (attempt ++ w ∷ []) = omega (arith, last, most, length-append attempt (w ∷ [])) in
-        subst (λ l. StandsAt s some lo hi l (stage s lo hi l)) (sym (ap (λ k. take k (attempt ++ w ∷ [])) all ∙ take-length (attempt ++ w ∷ []))) now
+        subst (λ l. StandsAt s some lo hi l (stage s lo hi l))
+            (sym (ap (λ k. take k (attempt ++ w ∷ [])) all ∙ take-length (attempt ++ w ∷ []))) now
     | inr old ↦ subst (λ l. StandsAt s some lo hi l (stage s lo hi l)) (sym (take-more i attempt w old)) (h i old)
   ]
 
@@ -204,11 +222,14 @@ module _ (s : Shape) (some : 1 ≤ s.rows256) (lo hi : ℕ) where
       → Attempted (earlier ++ (attempt ++ rest))
   attempts earlier attempt [] begins stands =
       record { earlier = earlier; attempt = attempt; all = ap (λ l. earlier ++ l) (append-nil attempt); begins = begins; stands = stands }
-  attempts earlier attempt (w ∷ rest) begins stands = elim (goes attempt (stage s lo hi attempt).step (stage s lo hi attempt).walk w refl (at-end attempt stands)) [
+  attempts earlier attempt (w ∷ rest) begins stands =
+      elim (goes attempt (stage s lo hi attempt).step (stage s lo hi attempt).walk w refl (at-end attempt stands)) [
     | inl on ↦ subst Attempted (ap (λ l. earlier ++ l) (append_assoc attempt (w ∷ []) rest))
         (attempts earlier (attempt ++ w ∷ []) rest begins
-        (one-more attempt w stands (subst (StandsAt s some lo hi (attempt ++ w ∷ [])) (sym (fold-more s lo hi (scan_start c) attempt w)) on)))
-    | inr again ↦ subst Attempted (append_assoc earlier (attempt ++ w ∷ []) rest ∙ ap (λ l. earlier ++ l) (append_assoc attempt (w ∷ []) rest))
+        (one-more attempt w stands (subst (StandsAt s some lo hi (attempt ++ w ∷ []))
+            (sym (fold-more s lo hi (scan_start c) attempt w)) on)))
+    | inr again ↦ subst Attempted (append_assoc earlier (attempt ++ w ∷ []) rest ∙ ap (λ l. earlier ++ l)
+        (append_assoc attempt (w ∷ []) rest))
         (attempts (earlier ++ (attempt ++ w ∷ [])) [] rest
         (all-append (call_begun c) earlier (attempt ++ w ∷ []) ∙ (ap (λ x. after_all c x (attempt ++ w ∷ [])) begins
         ∙ (all-fold (scan_start c) (attempt ++ w ∷ []) ∙ ap (OnScan lo hi) (fold-more s lo hi (scan_start c) attempt w ∙ again)))) none-yet)
@@ -231,7 +252,8 @@ module _ (s : Shape) (some : 1 ≤ s.rows256) (lo hi : ℕ) where
       keys-ask FortyEight n e = asks-no-reply e
       keys-ask Full n e = asks-no-reply e
 
-      go : (step : ScanStep) (w : Walk) → scan_turn c (at step w) ≡ Answers reply → Stands s some lo hi attempt step w → Releasing s some lo hi attempt []
+      go : (step : ScanStep) (w : Walk) → scan_turn c (at step w) ≡ Answers reply → Stands s some lo hi attempt step w
+          → Releasing s some lo hi attempt []
       go (Lock entry first) w e h = absurd h
       go (Exchange entry v) w e h = absurd h
       go (Wait entry) w e h = absurd (asks-no-reply e)

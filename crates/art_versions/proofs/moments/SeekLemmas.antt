@@ -1,5 +1,7 @@
--- The attempt of a get that answers: the row that it entered last was checked with the version with which it was entered, and the reply is what its words say.
-use Rattle.std.proofs.Common.{◌≡◌, ◌≢◌, ℕ, zero, suc, ◌+◌, ◌-◌, ◌%◌, ◌<◌, ◌≤◌, List, [], ◌∷◌, ◌++◌, length, take, refl, ap, sym, subst, ◌∙◌, Bool, true, false}
+-- The attempt of a get that answers: the row that it entered last was checked with the version with which it was entered, and the reply is
+-- what its words say.
+use Rattle.std.proofs.Common.{◌≡◌, ◌≢◌, ℕ, zero, suc, ◌+◌, ◌-◌, ◌%◌, ◌<◌, ◌≤◌, List, [], ◌∷◌, ◌++◌, length, take, refl, ap, sym, subst, ◌∙◌}
+use Rattle.std.proofs.Common.{Bool, true, false}
 use Rattle.std.proofs.Common.{inl, inr, arith, append_assoc}
 use Rattle.std.specs.Prelude.{◌⊎◌, ◌==◌, slice_index, Option, Some, None, option_map, if◌then◌else◌}
 use Rattle.std.proofs.lemmas.List.{length-append, append-nil}
@@ -38,7 +40,8 @@ use Rattle.art_stages.specs.declared.stage.Target.TheVariants.{Root, Below}
 use Rattle.art_stages.specs.declared.stage.Stage.{Stage}
 use Rattle.art_stages.specs.declared.stage.Stage.TheVariants.{Wait, Between, Info, Find, FindKeys, FindMore, Slot, Check, CheckLast, Over}
 use Rattle.art_stages.specs.Stages.{row_at, held, root_place, keys_among, byte_in, reply_for}
-use Rattle.art_stages.specs.Automaton.{stage_after, turn_at, find_turn, find_at, words_at, among_at, keys_one, no_value, seek_unlocked, below_at}
+use Rattle.art_stages.specs.Automaton.{stage_after, turn_at, find_turn, find_at, words_at, among_at, keys_one, no_value, seek_unlocked}
+use Rattle.art_stages.specs.Automaton.{below_at}
 use Rattle.art_stages.specs.Calls.{CallAt, OnKey, call_after, after_all, call_begun, call_behind}
 use Rattle.art_core.specs.Meaning.{slot_of, entry_slot, child_in, child_on}
 use Rattle.art_versions.specs.versions.Holding.{optimistic, IsSlot, OfRows, KnowsKey}
@@ -86,7 +89,8 @@ module _ (s : Shape) (some : 1 ≤ s.rows256) (key : ℕ) where
   loads-cases : (attempt : List ℕ) (w i word : ℕ) (mark : Option Point) → Loads (attempt ++ w ∷ []) i word mark
       → (Loads attempt i word mark) ⊎ ((i ≡ length attempt) × (turn_at c (stage attempt) ≡ Asks (Load word) mark))
   loads-cases attempt w i word mark h = elim (cases_lt i (length attempt)) [
-    | inl less ↦ inl (record { made = less; turn = ap (λ l. turn_at c (stage l)) (sym (take-more i attempt w (omega (arith, less)))) ∙ h.turn })
+    | inl less ↦ inl (record { made = less; turn = ap (λ l. turn_at c (stage l))
+        (sym (take-more i attempt w (omega (arith, less)))) ∙ h.turn })
     | inr more ↦
         let is : i ≡ length attempt = omega (arith, more, h.made, length-append attempt (w ∷ [])) in
         inr (is, ap (λ l. turn_at c (stage l)) (sym (ap (λ k. take k (attempt ++ w ∷ [])) is ∙ take-front attempt w)) ∙ h.turn)
@@ -136,7 +140,8 @@ module _ (s : Shape) (some : 1 ≤ s.rows256) (key : ℕ) where
     pub last : (i b : ℕ) (k : Kind) → Entered attempt i b k → i ≤ entry
 
   last-more : (a : List ℕ) (w base : ℕ) (kind : Kind) (kept entry : ℕ) → Last a base kind kept entry
-      → ((b : ℕ) (k : Kind) (mark : Option Point) → kind_at s b ≡ Some k → turn_at c (stage a) ≡ Asks (Load b) mark → mark ≢ Some point.Check → ⊥)
+      → ((b : ℕ) (k : Kind) (mark : Option Point) → kind_at s b ≡ Some k → turn_at c (stage a) ≡ Asks (Load b) mark
+      → mark ≢ Some point.Check → ⊥)
       → Last (a ++ w ∷ []) base kind kept entry
   last-more a w base kind kept entry h none = record {
     entered = entered-more a w entry base kind h.entered;
@@ -162,25 +167,30 @@ module _ (s : Shape) (some : 1 ≤ s.rows256) (key : ℕ) where
   abbrev NoneYet : List ℕ → Type 0
   NoneYet a = (i b : ℕ) (k : Kind) → Entered a i b k → ⊥
 
-  enters : (a : List ℕ) (w base : ℕ) (kind : Kind) → kind_at s base ≡ Some kind → is_locked w ≡ false → turn_at c (stage a) ≡ Asks (Load base) None
+  enters : (a : List ℕ) (w base : ℕ) (kind : Kind) → kind_at s base ≡ Some kind → is_locked w ≡ false
+      → turn_at c (stage a) ≡ Asks (Load base) None
       → Last (a ++ w ∷ []) base kind w (length a)
   enters a w base kind row free turn = record {
-    entered = record { row = row; mark = None; loads = last-loads a w base None turn; no_check = no-check; free = ap is_locked (index-last a w) ∙ free };
+    entered = record { row = row; mark = None; loads = last-loads a w base None turn; no_check = no-check; free = ap is_locked
+        (index-last a w) ∙ free };
     version = index-last a w;
     last = λ i b k e. omega (arith, e.loads.made, length-append a (w ∷ []));
   }
 
   -- these words have what was read of the row behind its entry
   abbrev pub Agrees : List ℕ → ℕ → ℕ → Kind → List ℕ → Type 0
-  Agrees a entry base kind words = (i word : ℕ) (mark : Option Point) → Loads a i word mark → entry ≤ i → base < word → word < base + row_words kind
+  Agrees a entry base kind words = (i word : ℕ) (mark : Option Point) → Loads a i word mark → entry ≤ i → base < word
+      → word < base + row_words kind
       → slice_index words word ≡ slice_index a i
 
-  agrees-less : (a : List ℕ) (w entry base : ℕ) (kind : Kind) (words : List ℕ) → Agrees (a ++ w ∷ []) entry base kind words → Agrees a entry base kind words
+  agrees-less : (a : List ℕ) (w entry base : ℕ) (kind : Kind) (words : List ℕ) → Agrees (a ++ w ∷ []) entry base kind words
+      → Agrees a entry base kind words
   agrees-less a w entry base kind words h i word mark l late low high =
       h i word mark (loads-more a w i word mark l) late low high ∙ index-more i a w l.made
 
   -- the word that is read now
-  agrees-now : (a : List ℕ) (w entry base : ℕ) (kind : Kind) (x : ℕ) (m : Option Point) → turn_at c (stage a) ≡ Asks (Load x) m → entry ≤ length a → base < x
+  agrees-now : (a : List ℕ) (w entry base : ℕ) (kind : Kind) (x : ℕ) (m : Option Point) → turn_at c (stage a) ≡ Asks (Load x) m
+      → entry ≤ length a → base < x
       → x < base + row_words kind → (words : List ℕ) → Agrees (a ++ w ∷ []) entry base kind words → slice_index words x ≡ w
   agrees-now a w entry base kind x m turn late low high words h = h (length a) x m (last-loads a w x m turn) late low high ∙ index-last a w
 
@@ -213,7 +223,8 @@ module _ (s : Shape) (some : 1 ≤ s.rows256) (key : ℕ) where
   earlier : (a : List ℕ) (n : Held) (entry : ℕ) → Reading a n entry → entry ≤ length a
   earlier a n entry h = omega (arith, h.last.entered.loads.made)
 
-  reading-more : (a : List ℕ) (w : ℕ) (n : Held) (entry x : ℕ) (m : Option Point) → Reading a n entry → turn_at c (stage a) ≡ Asks (Load x) m
+  reading-more : (a : List ℕ) (w : ℕ) (n : Held) (entry x : ℕ) (m : Option Point) → Reading a n entry
+      → turn_at c (stage a) ≡ Asks (Load x) m
       → n.base < x → x < n.base + row_words n.kind → Reading (a ++ w ∷ []) n entry
   reading-more a w n entry x m h turn low high = record {
     last = reads-in a w n.base n.kind n.kept entry x m h.last turn low high;
@@ -309,11 +320,14 @@ module _ (s : Shape) (some : 1 ≤ s.rows256) (key : ℕ) where
     between : (d : Down) → (kept entry : ℕ) → Last a d.base d.kind kept entry → Seeks a (Between d kept)
     at_info : (d : Down) → (kept entry : ℕ) → Last a d.base d.kind kept entry → Seeks a (Info d kept)
     finds : (p : Position) → (entry : ℕ) → Reading a p.row entry → Seeks a (Find p)
-    finds_keys : (p : Position) → (count entry : ℕ) → Reading a p.row entry → p.row.kind ≡ Sixteen → IsWord a entry p.row (count_at Sixteen p.row.base) count
+    finds_keys : (p : Position) → (count entry : ℕ) → Reading a p.row entry → p.row.kind ≡ Sixteen
+        → IsWord a entry p.row (count_at Sixteen p.row.base) count
         → Seeks a (FindKeys p count)
-    finds_more : (p : Position) → (count first entry : ℕ) → Reading a p.row entry → p.row.kind ≡ Sixteen → IsWord a entry p.row (count_at Sixteen p.row.base) count
+    finds_more : (p : Position) → (count first entry : ℕ) → Reading a p.row entry → p.row.kind ≡ Sixteen
+        → IsWord a entry p.row (count_at Sixteen p.row.base) count
         → IsWord a entry p.row (keys_at p.row.base) first → Seeks a (FindMore p count first)
-    at_slot : (p : Position) → (slot entry : ℕ) → Reading a p.row entry → IsSlot p.row.base p.row.kind slot → IsSlotOf a entry p.row (Some slot)
+    at_slot : (p : Position) → (slot entry : ℕ) → Reading a p.row entry → IsSlot p.row.base p.row.kind slot
+        → IsSlotOf a entry p.row (Some slot)
         → Seeks a (Slot p slot)
     checks : (p : Position) → (f : Finding) → (entry : ℕ) → Reading a p.row entry → IsFinding f → Sees a entry p.row f → Seeks a (Check p f)
     checks_last : (n : Held) → (place entry : ℕ) → Last a n.base n.kind n.kept entry → InfoOf a entry n.base n.info
@@ -370,9 +384,11 @@ module _ (s : Shape) (some : 1 ≤ s.rows256) (key : ℕ) where
 
       is-slot : IsSlotOf (a ++ w ∷ []) entry n (entry_slot base place)
       is-slot words g = ap (λ v. entry_slot base (slice_index (entries_of v) (byte_in c n % 8)))
-          (agrees-now a w entry base FortyEight (index_at base (byte_in c n)) None turn (earlier a n entry h) (omega (arith, small)) (omega (arith, small)) words g)
+          (agrees-now a w entry base FortyEight (index_at base (byte_in c n)) None turn (earlier a n entry h) (omega (arith, small))
+              (omega (arith, small)) words g)
 
-      go : (b : Bool) → (place == 0) ≡ b → Seeks (a ++ w ∷ []) (if b then Check p (Lacks (keys_one w)) else Slot p (child_at FortyEight base (place - 1)))
+      go : (b : Bool) → (place == 0) ≡ b → Seeks (a ++ w ∷ []) (if b then Check p (Lacks (keys_one w)) else Slot p
+          (child_at FortyEight base (place - 1)))
       go true e = checks p (Lacks (keys_one w)) entry more tt
           (λ words g. ap (child_in s words) (is-slot words g ∙ ap (λ b. if b then None else Some (child_at FortyEight base (place - 1))) e))
       go false e = at_slot p _ entry more (place - 1, entry-fits w (byte_in c n % 8), refl)
@@ -384,7 +400,8 @@ module _ (s : Shape) (some : 1 ≤ s.rows256) (key : ℕ) where
       (reading-more a w n entry (child_at Full base (byte_in c n)) None h turn (omega (arith, small)) (omega (arith, small)))
       (λ b k e. is-row w b k e)
       (λ words g. ap (child_of s)
-      (agrees-now a w entry base Full (child_at Full base (byte_in c n)) None turn (earlier a n entry h) (omega (arith, small)) (omega (arith, small)) words g))
+      (agrees-now a w entry base Full (child_at Full base (byte_in c n)) None turn (earlier a n entry h) (omega (arith, small))
+          (omega (arith, small)) words g))
 
   -- each word leads on, or the get starts again
   abbrev Next : List ℕ → Stage → ℕ → Type 0
@@ -393,7 +410,8 @@ module _ (s : Shape) (some : 1 ≤ s.rows256) (key : ℕ) where
   -- the row was checked behind FIND
   module _ (a : List ℕ) (n : Held) (entry : ℕ) (h : Checked a n.base n.kind entry) (info : InfoOf a entry n.base n.info)
       (fits : first_difference (path_of n) (key_bytes key) ≡ None) where
-    answers : (child : Child) (reply : Reply) → ((words : List ℕ) → Agreed a entry n words → child_on s words n.base n.kind (byte_in c n) ≡ child)
+    answers : (child : Child) (reply : Reply) → ((words : List ℕ) → Agreed a entry n words → child_on s words n.base n.kind
+        (byte_in c n) ≡ child)
         → reply_of_child key child ≡ Some reply → Done a reply
     answers child reply is replies = record {
       base = n.base;
@@ -412,7 +430,8 @@ module _ (s : Shape) (some : 1 ≤ s.rows256) (key : ℕ) where
     seek-go (Has slot (Leaf k value)) is sees = go (k == key) refl
       where
         go : (b : Bool) → (k == key) ≡ b → Seeks a (if b then Over (Value (Some value)) else Over no_value)
-        go true e = over _ (answers (Leaf k value) (replies.Some value) sees (ap (λ b. Some (if b then replies.Some value else replies.None)) e))
+        go true e = over _ (answers (Leaf k value) (replies.Some value) sees
+            (ap (λ b. Some (if b then replies.Some value else replies.None)) e))
         go false e = over _ (answers (Leaf k value) replies.None sees (ap (λ b. Some (if b then replies.Some value else replies.None)) e))
     seek-go (Has slot (ChildRow base kind)) is sees = at_row _ (is base kind refl)
 
@@ -473,19 +492,22 @@ module _ (s : Shape) (some : 1 ≤ s.rows256) (key : ℕ) where
       inl (finds_more p count w entry
       (reading-more a w p.row entry (keys_at p.row.base) None h turn (omega arith) (omega (arith, seven-words p.row.kind))) is
       (λ words g. counts words (agrees-less a w entry p.row.base p.row.kind words g))
-      (agrees-now a w entry p.row.base p.row.kind (keys_at p.row.base) None turn (earlier a p.row entry h) (omega arith) (omega (arith, seven-words p.row.kind))))
+      (agrees-now a w entry p.row.base p.row.kind (keys_at p.row.base) None turn (earlier a p.row entry h) (omega arith)
+          (omega (arith, seven-words p.row.kind))))
   goes a st w turn (finds_more p count first entry h is counts firsts) =
       inl (words-go (a ++ w ∷ []) p (record { first = first; second = w; count = count }) entry
       (reading-more a w p.row entry (more_keys_at p.row.base) None h turn (omega arith) (omega (arith, seven-words p.row.kind)))
       (λ words g. sixteen p.row.kind is words
       (counts words (agrees-less a w entry p.row.base p.row.kind words g))
       (firsts words (agrees-less a w entry p.row.base p.row.kind words g))
-      (agrees-now a w entry p.row.base p.row.kind (more_keys_at p.row.base) None turn (earlier a p.row entry h) (omega arith) (omega (arith, seven-words p.row.kind)) words g)))
+      (agrees-now a w entry p.row.base p.row.kind (more_keys_at p.row.base) None turn (earlier a p.row entry h) (omega arith)
+          (omega (arith, seven-words p.row.kind)) words g)))
     where
       sixteen : (kind : Kind) → kind ≡ Sixteen → (words : List ℕ) → slice_index words (count_at Sixteen p.row.base) ≡ count
           → slice_index words (keys_at p.row.base) ≡ first → slice_index words (more_keys_at p.row.base) ≡ w
           → slot_of words p.row.base kind (byte_in c p.row)
-          ≡ option_map (child_at kind p.row.base) (place_of (byte_in c p.row) (keys_among kind (record { first = first; second = w; count = count })))
+          ≡ option_map (child_at kind p.row.base)
+              (place_of (byte_in c p.row) (keys_among kind (record { first = first; second = w; count = count })))
       sixteen Four e words x y z = absurd cc
       sixteen FortyEight e words x y z = absurd cc
       sixteen Full e words x y z = absurd cc
@@ -494,18 +516,21 @@ module _ (s : Shape) (some : 1 ≤ s.rows256) (key : ℕ) where
           (slice_index words (keys_at p.row.base)) (slice_index words (more_keys_at p.row.base))))) x
           ∙ (ap (λ v. option_map (child_at Sixteen p.row.base) (place_of (byte_in c p.row) (Rattle.art_rows.specs.Words.keys16_of count v
           (slice_index words (more_keys_at p.row.base))))) y
-          ∙ ap (λ v. option_map (child_at Sixteen p.row.base) (place_of (byte_in c p.row) (Rattle.art_rows.specs.Words.keys16_of count first v))) z)
+          ∙ ap (λ v. option_map (child_at Sixteen p.row.base)
+              (place_of (byte_in c p.row) (Rattle.art_rows.specs.Words.keys16_of count first v))) z)
   goes a st w turn (at_slot p slot entry h is slots) =
       let behind = slot-behind p.row.base p.row.kind slot is in
       inl (checks p (Has slot (child_of s w)) entry
       (reading-more a w p.row entry slot (Some point.Child) h turn (omega (arith, behind.0)) behind.1)
       (λ b k e. is-row w b k e)
       (λ words g. ap (child_in s words) (slots words (agrees-less a w entry p.row.base p.row.kind words g))
-      ∙ ap (child_of s) (agrees-now a w entry p.row.base p.row.kind slot (Some point.Child) turn (earlier a p.row entry h) (omega (arith, behind.0)) behind.1 words g)))
+      ∙ ap (child_of s) (agrees-now a w entry p.row.base p.row.kind slot (Some point.Child) turn (earlier a p.row entry h)
+          (omega (arith, behind.0)) behind.1 words g)))
   goes a st w turn (checks p f entry h is sees) = go (w == p.row.kept) refl
     where
       go : (b : Bool) → (w == p.row.kept) ≡ b
-          → Seeks (a ++ w ∷ []) (if b then seek_unlocked c p.row f else Wait Root) ⊎ ((if b then seek_unlocked c p.row f else Wait Root) ≡ Wait Root)
+          → Seeks (a ++ w ∷ []) (if b then seek_unlocked c p.row f else Wait Root)
+          ⊎ ((if b then seek_unlocked c p.row f else Wait Root) ≡ Wait Root)
       go true e = inl (seek-go (a ++ w ∷ []) p.row entry
           (checked-now a w p.row.base p.row.kind p.row.kept entry h.last turn (number_is w p.row.kept e))
           (info-more a w entry p.row.base p.row.info (earlier a p.row entry h) h.info) h.fits f is
@@ -529,7 +554,8 @@ module _ (s : Shape) (some : 1 ≤ s.rows256) (key : ℕ) where
   goes a st w turn (over outcome h) = inl (over outcome (over-more a w _ _ h turn))
 
   -- A row that is entered is the root or the one that was waited for.
-  pub entering : (a : List ℕ) (st : Stage) (base : ℕ) (kind : Kind) (mark : Option Point) → Seeks a st → turn_at c st ≡ Asks (Load base) mark
+  pub entering : (a : List ℕ) (st : Stage) (base : ℕ) (kind : Kind) (mark : Option Point) → Seeks a st
+      → turn_at c st ≡ Asks (Load base) mark
       → mark ≢ Some point.Check → kind_at s base ≡ Some kind → (P : OfRows) → P (root_base s) Full → KnowsKey P c st → P base kind
   entering a st base kind mark seeks turn unchecked row P root knows = go st seeks turn knows
     where
@@ -557,9 +583,11 @@ module _ (s : Shape) (some : 1 ≤ s.rows256) (key : ℕ) where
           within d.base (info_at d.base) d.kind h.entered.row (loads-same e).0 (omega arith) (omega (arith, seven-words d.kind))
       go st (finds p entry h) e k = find p.row.kind p.row h.last.entered.row e
       go st (finds_keys p count entry h is counts) e k =
-          within p.row.base (keys_at p.row.base) p.row.kind h.last.entered.row (loads-same e).0 (omega arith) (omega (arith, seven-words p.row.kind))
+          within p.row.base (keys_at p.row.base) p.row.kind h.last.entered.row (loads-same e).0 (omega arith)
+              (omega (arith, seven-words p.row.kind))
       go st (finds_more p count first entry h is counts firsts) e k =
-          within p.row.base (more_keys_at p.row.base) p.row.kind h.last.entered.row (loads-same e).0 (omega arith) (omega (arith, seven-words p.row.kind))
+          within p.row.base (more_keys_at p.row.base) p.row.kind h.last.entered.row (loads-same e).0 (omega arith)
+              (omega (arith, seven-words p.row.kind))
       go st (at_slot p slot entry h is slots) e k =
           let behind = slot-behind p.row.base p.row.kind slot is in
           within p.row.base slot p.row.kind h.last.entered.row (loads-same e).0 (omega (arith, behind.0)) behind.1
@@ -575,7 +603,8 @@ module _ (s : Shape) (some : 1 ≤ s.rows256) (key : ℕ) where
   pub at-end : (attempt : List ℕ) → AllSeek attempt → Seeks attempt (stage attempt)
   at-end attempt h = subst (λ l. Seeks l (stage l)) (take-length attempt) (h (length attempt) (omega arith))
 
-  one-more : (attempt : List ℕ) (w : ℕ) → AllSeek attempt → Seeks (attempt ++ w ∷ []) (stage (attempt ++ w ∷ [])) → AllSeek (attempt ++ w ∷ [])
+  one-more : (attempt : List ℕ) (w : ℕ) → AllSeek attempt → Seeks (attempt ++ w ∷ []) (stage (attempt ++ w ∷ []))
+      → AllSeek (attempt ++ w ∷ [])
   one-more attempt w h now i most = elim (cases_lt (length attempt) i) [
     | inl last ↦
         let all : i ≡ length (attempt ++ w ∷ []) = omega (arith, last, most, length-append attempt (w ∷ [])) in
@@ -605,14 +634,16 @@ module _ (s : Shape) (some : 1 ≤ s.rows256) (key : ℕ) where
     pub begins : call_behind c earlier ≡ OnKey (Wait Root)
     pub seeks : AllSeek attempt
 
-  attempts : (earlier attempt rest : List ℕ) → call_behind c earlier ≡ OnKey (Wait Root) → AllSeek attempt → Attempted (earlier ++ (attempt ++ rest))
+  attempts : (earlier attempt rest : List ℕ) → call_behind c earlier ≡ OnKey (Wait Root) → AllSeek attempt
+      → Attempted (earlier ++ (attempt ++ rest))
   attempts earlier attempt [] begins seeks =
       record { earlier = earlier; attempt = attempt; all = ap (λ l. earlier ++ l) (append-nil attempt); begins = begins; seeks = seeks }
   attempts earlier attempt (w ∷ rest) begins seeks = elim (goes attempt (stage attempt) w refl (at-end attempt seeks)) [
     | inl on ↦ subst Attempted (ap (λ l. earlier ++ l) (append_assoc attempt (w ∷ []) rest))
         (attempts earlier (attempt ++ w ∷ []) rest begins
         (one-more attempt w seeks (subst (Seeks (attempt ++ w ∷ [])) (sym (fold-more (Wait Root) attempt w)) on)))
-    | inr again ↦ subst Attempted (append_assoc earlier (attempt ++ w ∷ []) rest ∙ ap (λ l. earlier ++ l) (append_assoc attempt (w ∷ []) rest))
+    | inr again ↦ subst Attempted (append_assoc earlier (attempt ++ w ∷ []) rest ∙ ap (λ l. earlier ++ l)
+        (append_assoc attempt (w ∷ []) rest))
         (attempts (earlier ++ (attempt ++ w ∷ [])) [] rest
         (all-append (call_begun c) earlier (attempt ++ w ∷ []) ∙ (ap (λ x. after_all c x (attempt ++ w ∷ [])) begins
         ∙ (all-fold (Wait Root) (attempt ++ w ∷ []) ∙ ap OnKey (fold-more (Wait Root) attempt w ∙ again)))) none-yet)
@@ -622,7 +653,8 @@ module _ (s : Shape) (some : 1 ≤ s.rows256) (key : ℕ) where
   attempted got = attempts [] [] got refl none-yet
 
   -- one that answers has checked the row that it entered last, and its reply is what the row's words say
-  pub answered : (attempt : List ℕ) (reply : Reply) → turn_at c (stage attempt) ≡ Answers reply → Seeks attempt (stage attempt) → Done attempt reply
+  pub answered : (attempt : List ℕ) (reply : Reply) → turn_at c (stage attempt) ≡ Answers reply → Seeks attempt (stage attempt)
+      → Done attempt reply
   answered attempt reply turn seeks = go (stage attempt) turn seeks
     where
       find-asks : (kind : Kind) (n : Held) → find_turn kind c n ≡ Answers reply → ⊥

@@ -1,5 +1,6 @@
 -- What is so of an attempt of a scan at each of its stages.
-use Rattle.std.proofs.Common.{◌≡◌, ◌≢◌, ℕ, ◌+◌, ◌%◌, ◌<◌, ◌≤◌, List, [], ◌∷◌, ◌++◌, length, take, refl, ap, sym, subst, ◌∙◌, Bool, true, false}
+use Rattle.std.proofs.Common.{◌≡◌, ◌≢◌, ℕ, ◌+◌, ◌%◌, ◌<◌, ◌≤◌, List, [], ◌∷◌, ◌++◌, length, take, refl, ap, sym, subst, ◌∙◌, Bool, true}
+use Rattle.std.proofs.Common.{false}
 use Rattle.std.proofs.Common.{inl, inr, arith}
 use Rattle.std.specs.Prelude.{◌⊎◌, slice_index, map, Option, Some, None, if◌then◌else◌}
 use Rattle.std.proofs.lemmas.List.{length-append}
@@ -23,7 +24,8 @@ use Rattle.art_stages.specs.declared.stage.Held.{Held}
 use Rattle.art_stages.specs.declared.stage.Entry.TheVariants.{Root, Below}
 use Rattle.art_stages.specs.declared.stage.Frame.{Frame}
 use Rattle.art_stages.specs.declared.stage.ScanStep.{ScanStep}
-use Rattle.art_stages.specs.declared.stage.ScanStep.TheVariants.{Lock, Exchange, Wait, Info, Keys, FirstKeys, SecondKeys, Index, Child as LoadChild, Release}
+use Rattle.art_stages.specs.declared.stage.ScanStep.TheVariants.{Lock, Exchange, Wait, Info, Keys, FirstKeys, SecondKeys, Index}
+use Rattle.art_stages.specs.declared.stage.ScanStep.TheVariants.{Child as LoadChild, Release}
 use Rattle.art_stages.specs.declared.stage.ScanStep.TheVariants.{Over}
 use Rattle.art_stages.specs.Stages.{row_at, held}
 use Rattle.art_stages.specs.Scans.{Walk, ScanAt, at, release_rows, resume_at, visit_list}
@@ -33,7 +35,8 @@ use Rattle.art_versions.specs.versions.Effects.{IsAmong}
 use Rattle.art_versions.proofs.versions.WordFacts.{free-version}
 use Rattle.art_versions.proofs.versions.KeyLemmas.{each-weaker}
 use Rattle.art_versions.proofs.moments.TimeLemmas.{index-more, index-last}
-use Rattle.art_versions.proofs.moments.AttemptLemmas.{stage, Loads, IsSettledWord, loads-more, loads-cases, Entered, entered-more, Covers, Walking, InRows}
+use Rattle.art_versions.proofs.moments.AttemptLemmas.{stage, Loads, IsSettledWord, loads-more, loads-cases, Entered, entered-more, Covers}
+use Rattle.art_versions.proofs.moments.AttemptLemmas.{Walking, InRows}
 use Rattle.art_versions.proofs.moments.AttemptLemmas.{covers-more}
 use Rattle.art_versions.proofs.moments.AttemptLemmas.{walks-on, no-check}
 use Rattle.art_versions.proofs.moments.WalkLemmas.{resumed, listed}
@@ -79,7 +82,8 @@ module _ (s : Shape) (some : 1 ≤ s.rows256) (lo hi : ℕ) where
   Stands a (Exchange entry v) w = ⊥
   Stands a (Wait Root) w = Reading a [] × (w.rows ≡ []) × (w.way ≡ [])
   Stands a (Wait (Below base kind)) w = Reading a w.rows × Frames w.rows w.way × (kind_at s base ≡ Some kind)
-  Stands a (Info base kind kept) w = (prev : List ℕ) × (a ≡ prev ++ kept ∷ []) × Reading prev w.rows × Frames w.rows w.way × (kind_at s base ≡ Some kind)
+  Stands a (Info base kind kept) w = (prev : List ℕ) × (a ≡ prev ++ kept ∷ []) × Reading prev w.rows × Frames w.rows w.way
+      × (kind_at s base ≡ Some kind)
       × (kept % 4 ≡ 0) × (scan_turn c (stage s lo hi prev) ≡ Asks (Load base) None)
   Stands a (Keys n) w = Reading a w.rows × Frames w.rows w.way × In w.rows n.base n.kind
   Stands a (FirstKeys n count) w = Reading a w.rows × Frames w.rows w.way × In w.rows n.base n.kind
@@ -115,11 +119,14 @@ module _ (s : Shape) (some : 1 ≤ s.rows256) (lo hi : ℕ) where
     goes-child f slot w r fits is way =
         subst (λ l. Reading a l × Frames l w.way × FitsFrame (In l) f × IsSlot f.row.base f.row.kind slot) (sym r) (h, way, fits, is)
 
-    goes-index : (n : Held) (j m : ℕ) (w : Walk) → j < 32 → w.rows ≡ rows → n.kind ≡ FortyEight → In rows n.base n.kind → Each (FitsFrame (In rows)) w.way
+    goes-index : (n : Held) (j m : ℕ) (w : Walk) → j < 32 → w.rows ≡ rows → n.kind ≡ FortyEight → In rows n.base n.kind
+        → Each (FitsFrame (In rows)) w.way
         → StandsAt a (at (Index n j m) w)
-    goes-index n j m w less r is p way = subst (λ l. Reading a l × Frames l w.way × In l n.base n.kind × (n.kind ≡ FortyEight) × (j < 32)) (sym r) (h, way, p, is, less)
+    goes-index n j m w less r is p way = subst (λ l. Reading a l × Frames l w.way × In l n.base n.kind × (n.kind ≡ FortyEight) × (j < 32))
+        (sym r) (h, way, p, is, less)
 
-    goes-keys : (n : Held) (w : Walk) → w.rows ≡ rows → In rows n.base n.kind → Each (FitsFrame (In rows)) w.way → StandsAt a (at (Keys n) w)
+    goes-keys : (n : Held) (w : Walk) → w.rows ≡ rows → In rows n.base n.kind → Each (FitsFrame (In rows)) w.way
+        → StandsAt a (at (Keys n) w)
     goes-keys n w r p way = subst (λ l. Reading a l × Frames l w.way × In l n.base n.kind) (sym r) (h, way, p)
 
     goes-over : (pairs : List (ℕ × ℕ)) → StandsAt a (release_rows rows pairs)
@@ -128,7 +135,8 @@ module _ (s : Shape) (some : 1 ≤ s.rows256) (lo hi : ℕ) where
     pub resumes : (w : Walk) → w.rows ≡ rows → Frames rows w.way → StandsAt a (resume_at c lo hi w)
     resumes w r way = resumed s lo hi rows (In rows) (StandsAt a) goes-child goes-index goes-keys goes-over w r way
 
-    lists : (n : Held) (w : Walk) (xs : List ℕ) → w.rows ≡ rows → In rows n.base n.kind → Frames rows w.way → StandsAt a (visit_list c lo hi n w xs)
+    lists : (n : Held) (w : Walk) (xs : List ℕ) → w.rows ≡ rows → In rows n.base n.kind → Frames rows w.way
+        → StandsAt a (visit_list c lo hi n w xs)
     lists n w xs r p way = listed s lo hi rows (In rows) (StandsAt a) goes-child goes-index goes-keys goes-over n w xs r p way
 
   -- one word more, of a row that is among them
@@ -141,7 +149,8 @@ module _ (s : Shape) (some : 1 ≤ s.rows256) (lo hi : ℕ) where
       ))
 
   -- a locked version is read again
-  waits-on : (a : List ℕ) (w : ℕ) (rows : List Held) (base : ℕ) (kind : Kind) → Reading a rows → kind_at s base ≡ Some kind → is_locked w ≡ true
+  waits-on : (a : List ℕ) (w : ℕ) (rows : List Held) (base : ℕ) (kind : Kind) → Reading a rows → kind_at s base ≡ Some kind
+      → is_locked w ≡ true
       → scan_turn c (stage s lo hi a) ≡ Asks (Load base) None → Reading (a ++ w ∷ []) rows
   waits-on a w rows base kind h row locked turn = walks-on s lo hi a w rows h (λ word mark e settled.
       absurd (elim settled [
@@ -218,7 +227,8 @@ module _ (s : Shape) (some : 1 ≤ s.rows256) (lo hi : ℕ) where
   no-frames : (P : OfRows) (way : List Frame) → way ≡ [] → Each (FitsFrame P) way
   no-frames P way e = subst (Each (FitsFrame P)) (sym e) tt
 
-  pub waits-root : (a : List ℕ) (w : Walk) (word : ℕ) → scan_turn c (stage s lo hi a) ≡ Asks (Load (root_base s)) None → Stands a (Wait Root) w
+  pub waits-root : (a : List ℕ) (w : Walk) (word : ℕ) → scan_turn c (stage s lo hi a) ≡ Asks (Load (root_base s)) None
+      → Stands a (Wait Root) w
       → Next a (Wait Root) w word
   waits-root a w word turn h = go (is_locked word) (is_obsolete word) refl refl
     where
@@ -234,9 +244,11 @@ module _ (s : Shape) (some : 1 ≤ s.rows256) (lo hi : ℕ) where
           let free = free-version word e f in
           let more = joins a [] root h.0 root-row free turn in
           let in-it : In (root ∷ []) (root_base s) Full = (root, inl refl, refl, refl) in
-          inl (subst (λ b. StandsAt (a ++ word ∷ []) (visit_list c lo hi root (if b then w else record { rows = w.rows ++ root ∷ []; pairs = w.pairs; way = w.way })
+          inl (subst (λ b. StandsAt (a ++ word ∷ [])
+              (visit_list c lo hi root (if b then w else record { rows = w.rows ++ root ∷ []; pairs = w.pairs; way = w.way })
           (bytes_of lo hi (row_at root)))) (sym (ap (λ l. has_row (root_base s) (map row_at l)) h.1))
-          (lists (a ++ word ∷ []) (root ∷ []) more root (record { rows = w.rows ++ root ∷ []; pairs = w.pairs; way = w.way }) (bytes_of lo hi (row_at root))
+          (lists (a ++ word ∷ []) (root ∷ []) more root (record { rows = w.rows ++ root ∷ []; pairs = w.pairs; way = w.way })
+              (bytes_of lo hi (row_at root))
           (ap (λ l. l ++ root ∷ []) h.1) in-it (no-frames (In (root ∷ [])) w.way h.2)))
 
   pub waits-below : (a : List ℕ) (w : Walk) (base : ℕ) (kind : Kind) (word : ℕ) → scan_turn c (stage s lo hi a) ≡ Asks (Load base) None
@@ -244,13 +256,15 @@ module _ (s : Shape) (some : 1 ≤ s.rows256) (lo hi : ℕ) where
   waits-below a w base kind word turn h = go (is_locked word) (is_obsolete word) refl refl
     where
       go : (b d : Bool) → is_locked word ≡ b → is_obsolete word ≡ d
-          → (StandsAt (a ++ word ∷ []) (if b then at (Wait (Below base kind)) w else if d then scan_start c else at (Info base kind word) w))
+          → (StandsAt (a ++ word ∷ []) (if b then at (Wait (Below base kind)) w else if d then scan_start c else at
+              (Info base kind word) w))
           ⊎ ((if b then at (Wait (Below base kind)) w else if d then scan_start c else at (Info base kind word) w) ≡ scan_start c)
       go true d e f = inl (waits-on a word w.rows base kind h.0 h.2 e turn, h.1, h.2)
       go false true e f = inr refl
       go false false e f = inl (a, refl, h.0, h.1, h.2, free-version word e f, turn)
 
-  pub visits : (a : List ℕ) (w : Walk) (base : ℕ) (kind : Kind) (kept word : ℕ) → scan_turn c (stage s lo hi a) ≡ Asks (Load (info_at base)) None
+  pub visits : (a : List ℕ) (w : Walk) (base : ℕ) (kind : Kind) (kept word : ℕ)
+      → scan_turn c (stage s lo hi a) ≡ Asks (Load (info_at base)) None
       → Stands a (Info base kind kept) w → Next a (Info base kind kept) w word
   visits a w base kind kept word turn (prev, is, h, way, row, free, waited) = inl (go (has_row base (map row_at w.rows)) refl)
     where
@@ -274,16 +288,19 @@ module _ (s : Shape) (some : 1 ≤ s.rows256) (lo hi : ℕ) where
           let in-it : In w.rows base kind = (m.0, m.1, m.2, kinds) in
           let one = reads-on prev kept w.rows base kind base h in-it waited (omega arith) (omega (arith, seven-words kind)) in
           let two = reads-on (prev ++ kept ∷ []) word w.rows base kind (info_at base) one in-it same-turn (omega arith) info-in in
-          lists (a ++ word ∷ []) w.rows (subst (λ l. Reading (l ++ word ∷ []) w.rows) (sym is) two) n w (bytes_of lo hi (row_at n)) refl in-it way
+          lists (a ++ word ∷ []) w.rows (subst (λ l. Reading (l ++ word ∷ []) w.rows) (sym is) two) n w
+              (bytes_of lo hi (row_at n)) refl in-it way
       go false e =
           let in-it : In (w.rows ++ n ∷ []) base kind = (n, among-last n w.rows, refl, refl) in
           let one = joins prev w.rows n h row free waited in
-          let two = reads-on (prev ++ kept ∷ []) word (w.rows ++ n ∷ []) base kind (info_at base) one in-it same-turn (omega arith) info-in in
+          let two = reads-on (prev ++ kept ∷ []) word (w.rows ++ n ∷ []) base kind (info_at base) one in-it same-turn
+              (omega arith) info-in in
           lists (a ++ word ∷ []) (w.rows ++ n ∷ []) (subst (λ l. Reading (l ++ word ∷ []) (w.rows ++ n ∷ [])) (sym is) two) n wider
           (bytes_of lo hi (row_at n)) refl in-it (more-frames w.rows n w.way way)
 
   -- a row is checked, and its version is the one that was kept
-  pub checks : (a : List ℕ) (n : Held) (left : List Held) → scan_turn c (stage s lo hi a) ≡ Asks (Load n.base) (Some point.Check) → Releasing a (n ∷ left)
+  pub checks : (a : List ℕ) (n : Held) (left : List Held) → scan_turn c (stage s lo hi a) ≡ Asks (Load n.base) (Some point.Check)
+      → Releasing a (n ∷ left)
       → Releasing (a ++ n.kept ∷ []) left
   checks a n left turn h = record {
     rows = h.rows;
@@ -318,7 +335,8 @@ module _ (s : Shape) (some : 1 ≤ s.rows256) (lo hi : ℕ) where
         index-last a n.kept ∙ ap (λ y. y.kept) (sym is),
       )
       | inl (inr later) ↦ inl later
-      | inr done ↦ inr (done.0, done.1, loads-more s lo hi a n.kept done.0 x.base (Some point.Check) done.2, index-more done.0 a n.kept done.2.made ∙ done.3)
+      | inr done ↦ inr (done.0, done.1, loads-more s lo hi a n.kept done.0 x.base (Some point.Check) done.2, index-more done.0 a n.kept
+          done.2.made ∙ done.3)
     ];
   }
     where

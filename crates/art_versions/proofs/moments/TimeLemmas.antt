@@ -1,5 +1,6 @@
 -- Each word got was got at a moment; and how a process goes on.
-use Rattle.std.proofs.Common.{◌≡◌, ℕ, zero, suc, ◌+◌, ◌-◌, ◌<◌, ◌≤◌, List, [], ◌∷◌, ◌++◌, length, take, refl, ap, sym, subst, ◌∙◌, inl, inr, arith}
+use Rattle.std.proofs.Common.{◌≡◌, ℕ, zero, suc, ◌+◌, ◌-◌, ◌<◌, ◌≤◌, List, [], ◌∷◌, ◌++◌, length, take, refl, ap, sym, subst, ◌∙◌, inl, inr}
+use Rattle.std.proofs.Common.{arith}
 use Rattle.std.specs.Prelude.{◌⊎◌, slice_get, slice_index, Option, Some, None}
 use Rattle.std.proofs.lemmas.List.{length-append}
 use Rattle.std.proofs.lemmas.Bool.{cases_lt}
@@ -30,7 +31,8 @@ pub record Before (plan : Plan) (first : State) (schedule : List ℕ) (t : ℕ) 
   pub turn : ℕ
   pub is : step plan state turn ≡ Some b
 
-pub at-before : (plan : Plan) (first : State) (schedule : List ℕ) (t : ℕ) (b : State) → t < length schedule → At plan first schedule (suc t) b
+pub at-before : (plan : Plan) (first : State) (schedule : List ℕ) (t : ℕ) (b : State) → t < length schedule
+    → At plan first schedule (suc t) b
     → Before plan first schedule t b
 at-before plan first [] t b l h = absurd (omega (arith, l))
 at-before plan first (x ∷ schedule) zero b l h = record { state = first; at = refl; turn = x; is = one (step plan first x) refl h }
@@ -38,7 +40,8 @@ at-before plan first (x ∷ schedule) zero b l h = record { state = first; at = 
     one : (o : Option State) → step plan first x ≡ o → run_on plan o [] ≡ Some b → o ≡ Some b
     one None e k = absurd (none-some b k)
     one (Some s) e k = k
-at-before plan first (x ∷ schedule) (suc t) b l h = go (step plan first x) refl (λ next. at-before plan next schedule t b (omega (arith, l))) h
+at-before plan first (x ∷ schedule) (suc t) b l h =
+    go (step plan first x) refl (λ next. at-before plan next schedule t b (omega (arith, l))) h
   where
     go : (o : Option State) → step plan first x ≡ o → ((next : State) → At plan next schedule (suc t) b → Before plan next schedule t b)
         → run_on plan o (take (suc t) schedule) ≡ Some b → Before plan first (x ∷ schedule) (suc t) b
@@ -66,7 +69,8 @@ pub data Goes (plan : Plan) (s : State) (w q : Process) : Type 0 where
   Same : q ≡ w → Goes plan s w q
   Begins : (call : Call) → w.call ≡ None → length (begun q) ≡ suc (length (begun w)) → q.got ≡ [] → q.call ≡ Some call → Goes plan s w q
   Gets : (call : Call) → (a : Access) → (mark : Option Point) → w.call ≡ Some call → q.call ≡ Some call → begun q ≡ begun w
-      → act plan.shape plan.variant call w.got ≡ Asks a mark → q.got ≡ w.got ++ told a (slice_index s.words (word_of a)) ∷ [] → Goes plan s w q
+      → act plan.shape plan.variant call w.got ≡ Asks a mark
+      → q.got ≡ w.got ++ told a (slice_index s.words (word_of a)) ∷ [] → Goes plan s w q
   Ends : q.call ≡ None → length (begun q) ≡ length (begun w) → Goes plan s w q
 
 pub record Went (plan : Plan) (s : State) (p : ℕ) (q : Process) : Type 0 where
@@ -74,7 +78,8 @@ pub record Went (plan : Plan) (s : State) (p : ℕ) (q : Process) : Type 0 where
   pub own : slice_get s.processes p ≡ Some process
   pub goes : Goes plan s process q
 
-pub went : (plan : Plan) (s b : State) (turn p : ℕ) (q : Process) → step plan s turn ≡ Some b → slice_get b.processes p ≡ Some q → Went plan s p q
+pub went : (plan : Plan) (s b : State) (turn p : ℕ) (q : Process) → step plan s turn ≡ Some b
+    → slice_get b.processes p ≡ Some q → Went plan s p q
 went plan s b turn p q e own =
     let m = is-moved plan s turn b e in
     let after = after_move turn m.move (slice_index s.words (word_of_move m.move)) m.process in
@@ -99,15 +104,18 @@ went plan s b turn p q e own =
       where
         begins : (o : Option Call) → invocation o ≡ Some m → Goes plan s w (after_move turn m (slice_index s.words (word_of_move m)) w)
         begins None f = absurd (none-some m f)
-        begins (Some call) f = subst (λ m. Goes plan s w (after_move turn m (slice_index s.words (word_of_move m)) w)) (same_Some (Invokes call) m f)
+        begins (Some call) f = subst (λ m. Goes plan s w (after_move turn m (slice_index s.words (word_of_move m)) w))
+            (same_Some (Invokes call) m f)
             (Begins call is (one-more turn _ w call) refl refl)
     does turn w (Some call) m is k = goes (act plan.shape plan.variant call w.got) refl k
       where
         goes : (t : Turn) → act plan.shape plan.variant call w.got ≡ t → ◌≡◌ {A = Option Move} (Some (move_of t)) (Some m)
             → Goes plan s w (after_move turn m (slice_index s.words (word_of_move m)) w)
-        goes (Asks a mark) f l = subst (λ m. Goes plan s w (after_move turn m (slice_index s.words (word_of_move m)) w)) (same_Some (Makes a) m l)
+        goes (Asks a mark) f l = subst (λ m. Goes plan s w (after_move turn m (slice_index s.words (word_of_move m)) w))
+            (same_Some (Makes a) m l)
             (Gets call a mark is is refl f refl)
-        goes (Answers r) f l = subst (λ m. Goes plan s w (after_move turn m (slice_index s.words (word_of_move m)) w)) (same_Some (Responds r) m l)
+        goes (Answers r) f l = subst (λ m. Goes plan s w (after_move turn m (slice_index s.words (word_of_move m)) w))
+            (same_Some (Responds r) m l)
             (Ends refl (no-more turn _ w r))
 
 module _ (plan : Plan) (words schedule : List ℕ) (p : ℕ) where
@@ -148,7 +156,8 @@ module _ (plan : Plan) (words schedule : List ℕ) (p : ℕ) where
       go : (b : Before plan first schedule t s) (w : Process) → slice_get b.state.processes p ≡ Some w → Goes plan b.state w q
           → ((call : Call) → w.call ≡ Some call → (i : ℕ) → i < length w.got → GotAt plan first schedule t p w call i)
           → GotAt plan first schedule (suc t) p q call i
-      go b w here (Same e) ih = later w (ih call (ap (λ x. x.call) (sym e) ∙ is) i (subst (λ x. i < length x.got) e less)) (ap (λ x. length (begun x)) (sym e))
+      go b w here (Same e) ih = later w (ih call (ap (λ x. x.call) (sym e) ∙ is) i (subst (λ x. i < length x.got) e less))
+          (ap (λ x. length (begun x)) (sym e))
           (ap (λ x. take i x.got) e) (ap (λ x. slice_index x.got i) e)
       go b w here (Begins c none more empty open-now) ih = absurd (omega (arith, less, ap (λ l. length l) empty))
       go b w here (Ends none same) ih = absurd (none-some call (sym none ∙ is))
@@ -175,7 +184,8 @@ module _ (plan : Plan) (words schedule : List ℕ) (p : ℕ) where
                   got = sym words-before;
                   access = a;
                   mark = mark;
-                  asks = ap (act plan.shape plan.variant call) words-before ∙ subst (λ c. act plan.shape plan.variant c w.got ≡ Asks a mark) one asks;
+                  asks = ap (act plan.shape plan.variant call) words-before
+                      ∙ subst (λ c. act plan.shape plan.variant c w.got ≡ Asks a mark) one asks;
                   is = ap (λ l. slice_index l i) got ∙ (ap (slice_index (w.got ++ _ ∷ [])) at-end ∙ index-last w.got _);
                   after = s;
                   at_after = at;
@@ -185,7 +195,8 @@ module _ (plan : Plan) (words schedule : List ℕ) (p : ℕ) where
 
 -- What becomes of a process in a call: it is in the same call with as many words or more, or it has left it.
 abbrev pub HasGone : Process → Process → Type 0
-HasGone w q = (length (begun w) < length (begun q)) ⊎ ((length (begun w) ≡ length (begun q)) × ((q.call ≡ None) ⊎ (length w.got ≤ length q.got)))
+HasGone w q = (length (begun w) < length (begun q))
+    ⊎ ((length (begun w) ≡ length (begun q)) × ((q.call ≡ None) ⊎ (length w.got ≤ length q.got)))
 
 goes-on : (plan : Plan) (s : State) (w x q : Process) → HasGone w x → Goes plan s x q → HasGone w q
 goes-on plan s w x q h (Same e) = subst (HasGone w) (sym e) h
@@ -202,27 +213,32 @@ goes-on plan s w x q (inr h) (Gets c a mark was now same asks got) = inr (
   ]),
 )
 
-at-place : (plan : Plan) (first : State) (schedule : List ℕ) (t u : ℕ) (s : State) → t ≡ u → At plan first schedule t s → At plan first schedule u s
+at-place : (plan : Plan) (first : State) (schedule : List ℕ) (t u : ℕ) (s : State) → t ≡ u → At plan first schedule t s
+    → At plan first schedule u s
 at-place plan first schedule t u s e h = subst (λ k. At plan first schedule k s) e h
 
 module _ (plan : Plan) (first : State) (schedule : List ℕ) (p : ℕ) where
-  gone : (d t : ℕ) → t + d ≤ length schedule → (a b : State) → At plan first schedule t a → At plan first schedule (t + d) b → (w q : Process)
+  gone : (d t : ℕ) → t + d ≤ length schedule → (a b : State) → At plan first schedule t a
+      → At plan first schedule (t + d) b → (w q : Process)
       → slice_get a.processes p ≡ Some w → slice_get b.processes p ≡ Some q → HasGone w q
   gone zero t l a b ha hb w q ow oq =
       let same : a ≡ b = same_Some a b (sym ha ∙ at-place plan first schedule (t + zero) t b (omega arith) hb) in
       let one : w ≡ q = same_Some w q (sym ow ∙ (ap (λ s. slice_get s.processes p) same ∙ oq)) in
       inr (ap (λ x. length (begun x)) one, inr (subst (λ x. length w.got ≤ length x.got) one (omega arith)))
   gone (suc d) t l a b ha hb w q ow oq =
-      let m = at-before plan first schedule (t + d) b (omega (arith, l)) (at-place plan first schedule (t + suc d) (suc (t + d)) b (omega arith) hb) in
+      let m = at-before plan first schedule (t + d) b (omega (arith, l))
+          (at-place plan first schedule (t + suc d) (suc (t + d)) b (omega arith) hb) in
       let x = went plan m.state b m.turn p q m.is oq in
       goes-on plan m.state w x.process q (gone d t (omega (arith, l)) a m.state ha m.at w x.process ow x.own) x.goes
 
   -- who has more words of a call is later
-  pub ordered : (calls n m t u : ℕ) (a b : State) → t ≤ length schedule → u ≤ length schedule → At plan first schedule t a → At plan first schedule u b
+  pub ordered : (calls n m t u : ℕ) (a b : State) → t ≤ length schedule → u ≤ length schedule → At plan first schedule t a
+      → At plan first schedule u b
       → HasGot calls n a p → HasGot calls m b p → m < n → u < t
   ordered calls n m t u a b lt lu ha hb ga gb less = elim (cases_lt u t) [
     | inl h ↦ h
-    | inr later ↦ absurd (impossible (gone (u - t) t (omega (arith, later, lu)) a b ha (at-place plan first schedule u (t + (u - t)) b (omega (arith, later)) hb)
+    | inr later ↦ absurd (impossible (gone (u - t) t (omega (arith, later, lu)) a b ha (at-place plan first schedule u (t + (u - t)) b
+        (omega (arith, later)) hb)
         ga.process gb.process ga.own gb.own))
   ]
     where
@@ -235,5 +251,6 @@ module _ (plan : Plan) (first : State) (schedule : List ℕ) (p : ℕ) where
 
 pub words-were-got : WordsWereGot
 words-were-got plan words schedule s p q call i gives own is less =
-    was-got plan words schedule p (length schedule) (omega arith) s (ap (run_on plan (Some (opened_on plan words))) (take-length schedule) ∙ gives) q own call is i
+    was-got plan words schedule p (length schedule) (omega arith) s
+        (ap (run_on plan (Some (opened_on plan words))) (take-length schedule) ∙ gives) q own call is i
     less

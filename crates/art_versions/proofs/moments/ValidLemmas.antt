@@ -47,7 +47,8 @@ module _ (plan : Plan) (lo hi : ℕ) (v : plan.variant ≡ Optimistic) (some : 1
   begins-anew : (earlier : List ℕ) → call_behind c earlier ≡ OnScan lo hi (scan_start c) → BeginsAttempt plan call earlier
   begins-anew earlier e more =
       turn-behind (earlier ++ more)
-      ∙ (ap (call_turn c) (all-append plan.shape some lo hi (call_begun c) earlier more ∙ ap (λ x. after_all c x more) e) ∙ sym (turn-behind more))
+      ∙ (ap (call_turn c) (all-append plan.shape some lo hi (call_begun c) earlier more ∙ ap (λ x. after_all c x more) e)
+      ∙ sym (turn-behind more))
 
   module _ (attempt : List ℕ) where
     abbrev L : ℕ → ℕ → Option Point → Type 0
@@ -69,7 +70,8 @@ module _ (plan : Plan) (lo hi : ℕ) (v : plan.variant ≡ Optimistic) (some : 1
 
     module _ (h : Releasing plan.shape some lo hi attempt []) where
       checked-row : (n : Held) (i word entry : ℕ) → Entered plan.shape lo hi attempt n entry → entry ≤ i → entry < h.m
-          → n.base ≤ word → word < n.base + row_words n.kind → (j : ℕ) → h.m ≤ j → i ≤ j → L j n.base (Some point.Check) → slice_index attempt j ≡ n.kept
+          → n.base ≤ word → word < n.base + row_words n.kind → (j : ℕ) → h.m ≤ j → i ≤ j → L j n.base (Some point.Check)
+          → slice_index attempt j ≡ n.kept
           → IsOfCheckedRow plan call attempt h.m i word
       checked-row n i word entry e no-later early low high j behind no-sooner loads is = record {
         base = n.base;
@@ -82,7 +84,8 @@ module _ (plan : Plan) (lo hi : ℕ) (v : plan.variant ≡ Optimistic) (some : 1
         from = low;
         below = high;
         check = j;
-        checks = record { reads = from-load j n.base (Some point.Check) loads (inr (ap is_locked is ∙ free-unlocked n.kept e.free)); check = refl };
+        checks = record { reads = from-load j n.base (Some point.Check) loads
+            (inr (ap is_locked is ∙ free-unlocked n.kept e.free)); check = refl };
         behind = behind;
         no_sooner = no-sooner;
         same = is ∙ sym e.kept;
@@ -97,12 +100,14 @@ module _ (plan : Plan) (lo hi : ℕ) (v : plan.variant ≡ Optimistic) (some : 1
         ]
         | inr x ↦
             let e = h.entered x.2 x.3 in
-            let here : L i x.2.base (Some point.Check) = subst (λ m. L i x.2.base m) x.1 (subst (λ y. L i y r.mark) x.4 (to-load i word r)) in
+            let here : L i x.2.base (Some point.Check) =
+                subst (λ m. L i x.2.base m) x.1 (subst (λ y. L i y r.mark) x.4 (to-load i word r)) in
             checked-row x.2 i word e.0 e.1 (omega (arith, e.2, x.0)) e.2 (omega (arith, x.4)) (omega (arith, x.4, some-words x.2.kind))
             i x.0 (omega arith) here x.5
       ]
 
-      its-part : (i word : ℕ) (r : Reads plan call attempt i word) → ((i < h.m) × (r.mark ≢ Some point.Check)) ⊎ ((h.m ≤ i) × (r.mark ≡ Some point.Check))
+      its-part : (i word : ℕ) (r : Reads plan call attempt i word) → ((i < h.m) × (r.mark ≢ Some point.Check))
+          ⊎ ((h.m ≤ i) × (r.mark ≡ Some point.Check))
       its-part i word r = elim (h.reads i word r.mark (to-load i word r) r.settled) [
         | inl x ↦ inl (x.0, x.1)
         | inr x ↦ inr (x.0, x.1)

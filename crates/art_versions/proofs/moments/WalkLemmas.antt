@@ -24,9 +24,11 @@ use Rattle.art_versions.proofs.versions.WordFacts.{place-fits, entry-fits}
 
 -- Where a walk resumes: whatever is so of the stages that can come is so.
 module _ (s : Shape) (lo hi : ℕ) (rows : List Held) (P : OfRows) (G : ScanAt → Type 0)
-    (child : (f : Frame) (slot : ℕ) (w : Walk) → w.rows ≡ rows → FitsFrame P f → IsSlot f.row.base f.row.kind slot → Each (FitsFrame P) w.way
+    (child : (f : Frame) (slot : ℕ) (w : Walk) → w.rows ≡ rows → FitsFrame P f → IsSlot f.row.base f.row.kind slot
+        → Each (FitsFrame P) w.way
     → G (at (LoadChild f slot) w))
-    (index : (n : Held) (j m : ℕ) (w : Walk) → j < 32 → w.rows ≡ rows → n.kind ≡ FortyEight → P n.base n.kind → Each (FitsFrame P) w.way → G (at (Index n j m) w))
+    (index : (n : Held) (j m : ℕ) (w : Walk) → j < 32 → w.rows ≡ rows → n.kind ≡ FortyEight → P n.base n.kind → Each (FitsFrame P) w.way
+        → G (at (Index n j m) w))
     (keys : (n : Held) (w : Walk) → w.rows ≡ rows → P n.base n.kind → Each (FitsFrame P) w.way → G (at (Keys n) w))
     (done : (pairs : List (ℕ × ℕ)) → G (release_rows rows pairs)) where
   abbrev c : Setting
@@ -48,20 +50,24 @@ module _ (s : Shape) (lo hi : ℕ) (rows : List Held) (P : OfRows) (G : ScanAt �
       go : (b : Bool) → G (bytes_at test slot_of (child_from w f) (x + 1) n other)
           → G (if b then slot_at (slot_of x) (child_from w f (x + 1) n) (bytes_at test slot_of (child_from w f) (x + 1) n other)
           else bytes_at test slot_of (child_from w f) (x + 1) n other)
-      go true later = slot-good w f (x + 1) n (slot_of x) _ r (λ slot e. slots x slot (omega (arith, few)) e) p (omega (arith, few)) way later
+      go true later = slot-good w f (x + 1) n (slot_of x) _ r (λ slot e. slots x slot (omega (arith, few)) e) p
+          (omega (arith, few)) way later
       go false later = later
 
-  words-good : (n : Held) (w : Walk) (j m : ℕ) (other : ScanAt) → w.rows ≡ rows → n.kind ≡ FortyEight → P n.base n.kind → Each (FitsFrame P) w.way → G other
+  words-good : (n : Held) (w : Walk) (j m : ℕ) (other : ScanAt) → w.rows ≡ rows → n.kind ≡ FortyEight → P n.base n.kind
+      → Each (FitsFrame P) w.way → G other
       → G (words_at lo hi n w j m other)
   words-good n w j zero other r is p way rest = rest
-  words-good n w j (suc m) other r is p way rest = go (filter (in_word j) (bytes_of lo hi (row_at n))) refl (words-good n w (j + 1) m other r is p way rest)
+  words-good n w j (suc m) other r is p way rest =
+      go (filter (in_word j) (bytes_of lo hi (row_at n))) refl (words-good n w (j + 1) m other r is p way rest)
     where
       go : (xs : List ℕ) → filter (in_word j) (bytes_of lo hi (row_at n)) ≡ xs → G (words_at lo hi n w (j + 1) m other)
           → G (index_at_list n w j m xs (words_at lo hi n w (j + 1) m other))
       go [] e later = later
       go (x ∷ xs) e later = index n j m w (index-small lo hi (row_at n) j x xs e) r is p way
 
-  place-good : (kind : Kind) (base : ℕ) (k : KeyWords) (y slot : ℕ) → place_slot kind base (place_of y (keys_among kind k)) ≡ Some slot → IsSlot base kind slot
+  place-good : (kind : Kind) (base : ℕ) (k : KeyWords) (y slot : ℕ) → place_slot kind base (place_of y (keys_among kind k)) ≡ Some slot
+      → IsSlot base kind slot
   place-good kind base k y slot h = go (place_of y (keys_among kind k)) refl h
     where
       go : (o : Option ℕ) → place_of y (keys_among kind k) ≡ o → place_slot kind base o ≡ Some slot → IsSlot base kind slot
@@ -81,17 +87,20 @@ module _ (s : Shape) (lo hi : ℕ) (rows : List Held) (P : OfRows) (G : ScanAt �
   frame base kind info kept k byte left index words =
       record { row = held base kind info kept; keys = k; byte = byte; left = left; index = index; words = words }
 
-  frame-good : (w : Walk) (base : ℕ) (kind : Kind) (info kept : ℕ) (k : KeyWords) (byte left index words : ℕ) (other : ScanAt) → w.rows ≡ rows
+  frame-good : (w : Walk) (base : ℕ) (kind : Kind) (info kept : ℕ) (k : KeyWords) (byte left index words : ℕ)
+      (other : ScanAt) → w.rows ≡ rows
       → P base kind → byte + left ≤ 256 → Each (FitsFrame P) w.way → G other
       → G (frame_at kind lo hi w (frame base kind info kept k byte left index words) other)
   frame-good w base Four info kept k byte left index words other r p few way rest =
-      bytes-good _ _ w (frame base Four info kept k byte left index words) byte left other r (λ y slot l e. place-good Four base k y slot e) p few way rest
+      bytes-good _ _ w (frame base Four info kept k byte left index words) byte left other r
+          (λ y slot l e. place-good Four base k y slot e) p few way rest
   frame-good w base Sixteen info kept k byte left index words other r p few way rest =
       bytes-good _ _ w (frame base Sixteen info kept k byte left index words) byte left other r
       (λ y slot l e. place-good Sixteen base k y slot e) p few way rest
   frame-good w base FortyEight info kept k byte left index words other r p few way rest =
       bytes-good _ _ w (frame base FortyEight info kept k byte left index words) byte left _ r
-      (λ y slot l e. entry-good base k.first y slot e) p few way (words-good (held base FortyEight info kept) w (index + 1) words other r refl p way rest)
+      (λ y slot l e. entry-good base k.first y slot e) p few way
+          (words-good (held base FortyEight info kept) w (index + 1) words other r refl p way rest)
   frame-good w base Full info kept k byte left index words other r p few way rest =
       bytes-good _ _ w (frame base Full info kept k byte left index words) byte left other r
       (λ y slot l e. (y, l, sym (same_Some (child_at Full base y) slot e))) p few way rest
@@ -99,7 +108,8 @@ module _ (s : Shape) (lo hi : ℕ) (rows : List Held) (P : OfRows) (G : ScanAt �
   way-good : (w : Walk) (fs : List Frame) → w.rows ≡ rows → Each (FitsFrame P) fs → G (way_at c lo hi w fs)
   way-good w [] r h = subst (λ l. G (release_rows l w.pairs)) (sym r) (done w.pairs)
   way-good w (f ∷ fs) r h =
-      frame-good (on_way w fs) f.row.base f.row.kind f.row.info f.row.kept f.keys f.byte f.left f.index f.words (way_at c lo hi w fs) r h.0.0 h.0.1 h.1
+      frame-good (on_way w fs) f.row.base f.row.kind f.row.info f.row.kept f.keys f.byte f.left f.index f.words
+          (way_at c lo hi w fs) r h.0.0 h.0.1 h.1
       (way-good w fs r h.1)
 
   pub resumed : (w : Walk) → w.rows ≡ rows → Each (FitsFrame P) w.way → G (resume_at c lo hi w)
@@ -112,6 +122,7 @@ module _ (s : Shape) (lo hi : ℕ) (rows : List Held) (P : OfRows) (G : ScanAt �
   begins base FortyEight info kept w r p way = words-good (held base FortyEight info kept) w 0 32 _ r refl p way (resumed w r way)
   begins base Full info kept w r p way = frame-good w base Full info kept (keys_one 0) 0 256 0 0 _ r p (omega arith) way (resumed w r way)
 
-  pub listed : (n : Held) (w : Walk) (xs : List ℕ) → w.rows ≡ rows → P n.base n.kind → Each (FitsFrame P) w.way → G (visit_list c lo hi n w xs)
+  pub listed : (n : Held) (w : Walk) (xs : List ℕ) → w.rows ≡ rows → P n.base n.kind → Each (FitsFrame P) w.way
+      → G (visit_list c lo hi n w xs)
   listed n w [] r p way = resumed w r way
   listed n w (x ∷ xs) r p way = begins n.base n.kind n.info n.kept w r p way

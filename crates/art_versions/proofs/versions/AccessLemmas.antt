@@ -34,7 +34,8 @@ use Rattle.art_versions.proofs.versions.ChangeLemmas.{written, good-more, index-
 use Rattle.art_versions.proofs.versions.MoveLemmas.{settled-row, true-false, differ}
 use Rattle.art_versions.proofs.versions.MoveLemmas as m
 
-module _ (variant : Variant) (shape : Shape) (n : ℕ) (s : State) (h : IsSound variant shape n s) (few : n < 2 ^ 62) (p : ℕ) (q : Process) (here : slice_get s.processes p ≡ Some q)
+module _ (variant : Variant) (shape : Shape) (n : ℕ) (s : State) (h : IsSound variant shape n s) (few : n < 2 ^ 62) (p : ℕ) (q : Process)
+    (here : slice_get s.processes p ≡ Some q)
     (call : Call) (is-open : q.call ≡ Some call) where
   abbrev c : Setting
   c = setting shape variant call
@@ -51,7 +52,8 @@ module _ (variant : Variant) (shape : Shape) (n : ℕ) (s : State) (h : IsSound 
   opens : IsOpen s p call q
   opens = record { own = here; is_open = is-open }
 
-  lift : (Q : OfRows) (x : CallAt) (hs : List Held) (fs : List Named) → ((b : ℕ) (k : Kind) → P b k → Q b k) → Has P c x hs fs → Has Q c x hs fs
+  lift : (Q : OfRows) (x : CallAt) (hs : List Held) (fs : List Named) → ((b : ℕ) (k : Kind) → P b k → Q b k)
+      → Has P c x hs fs → Has Q c x hs fs
   lift Q x hs fs more has = (knows-more P Q c more x has.0, has.1, has.2)
 
   module _ (word value : ℕ) (q' : Process) (its : q'.call ≡ Some call) (within : word < length s.words) where
@@ -70,9 +72,12 @@ module _ (variant : Variant) (shape : Shape) (n : ℕ) (s : State) (h : IsSound 
     -- no word changes
     pub keeps-words : value ≡ slice_index s.words word → Has P c here-now (holds c place) (fills place) → Kept
     keeps-words same has =
-        let all : (x : ℕ) → now x ≡ slice_index s.words x = λ x. m.stays variant shape n s h few p q here call is-open word value q' its x (λ e. same) within in
-        let cl = m.claims-stay variant shape n s h few p q here call is-open word value q' its (fills place) has.2 (inl refl) (λ kind. all (claims_of kind)) in
-        let more : (b : ℕ) (k : Kind) → P b k → IsSettled variant shape later b k = λ b k x. m.settles variant shape n s h few p q here call is-open word value q' its cl b k x in (
+        let all : (x : ℕ) → now x ≡ slice_index s.words x =
+            λ x. m.stays variant shape n s h few p q here call is-open word value q' its x (λ e. same) within in
+        let cl = m.claims-stay variant shape n s h few p q here call is-open word value q' its (fills place) has.2 (inl refl)
+            (λ kind. all (claims_of kind)) in
+        let more : (b : ℕ) (k : Kind) → P b k → IsSettled variant shape later b k =
+            λ b k x. m.settles variant shape n s h few p q here call is-open word value q' its cl b k x in (
           m.rows-stay variant shape n s h few p q here call is-open word value q' its cl (fills place)
               (lift (IsSettled variant shape later) here-now (holds c place) (fills place) more has) within
               (λ base kind e. omega (arith, all base, h.versions base kind e))
@@ -97,13 +102,15 @@ module _ (variant : Variant) (shape : Shape) (n : ℕ) (s : State) (h : IsSound 
 
       claims : (kind : Kind) → now (claims_of kind) ≡ slice_index s.words (claims_of kind)
       claims kind = index-other s.words word value (claims_of kind)
-          (m.no-claim variant shape n s h few p q here call is-open word value q' its (omega (arith, row_begins shape b k row, behind.0)) kind)
+          (m.no-claim variant shape n s h few p q here call is-open word value q' its
+              (omega (arith, row_begins shape b k row, behind.0)) kind)
 
       stands : (base : ℕ) (kind : Kind) → P base kind → is_locked (slice_index s.words base) ≡ false
           → SameWords s.words (slice_set s.words word value) base kind
       stands base kind x free y low high = elim (cases_eq y word) [
         | inl e ↦
-            let one = rows_apart shape base b kind k word (settled-row variant shape s base kind x) row (omega (arith, low, e)) (omega (arith, high, e))
+            let one = rows_apart shape base b kind k word (settled-row variant shape s base kind x) row (omega (arith, low, e))
+                (omega (arith, high, e))
             (omega (arith, behind.0)) behind.1 in
             absurd (private kind (subst (λ z. P z kind) one.0 x) (subst (λ z. is_locked (slice_index s.words z) ≡ false) one.0 free))
         | inr e ↦ index-other s.words word value y e
@@ -118,11 +125,13 @@ module _ (variant : Variant) (shape : Shape) (n : ℕ) (s : State) (h : IsSound 
       }
 
       pub keeps-versions : IsGoodAt P shape word value → (filled : List Named) → (filled ≡ fills place) ⊎ (filled ≡ [])
-          → (Q : OfRows) → (((base : ℕ) (kind : Kind) → P base kind → IsSettled variant shape later base kind) → (base : ℕ) (kind : Kind) → Q base kind
+          → (Q : OfRows) → (((base : ℕ) (kind : Kind) → P base kind → IsSettled variant shape later base kind) → (base : ℕ)
+              (kind : Kind) → Q base kind
           → IsSettled variant shape later base kind) → Has Q c here-now (holds c place) filled → Kept
       keeps-versions good filled same Q settles has =
           let cl = m.claims-stay variant shape n s h few p q here call is-open word value q' its filled has.2 same claims in
-          let more : (b : ℕ) (k : Kind) → P b k → IsSettled variant shape later b k = λ b k x. m.settles variant shape n s h few p q here call is-open word value q' its cl b k x in (
+          let more : (b : ℕ) (k : Kind) → P b k → IsSettled variant shape later b k =
+              λ b k x. m.settles variant shape n s h few p q here call is-open word value q' its cl b k x in (
             m.rows-stay variant shape n s h few p q here call is-open word value q' its cl filled
                 (knows-more Q (IsSettled variant shape later) c (settles more) here-now has.0, has.1, has.2) within
                 (λ base kind e. omega (arith, bases base kind e, h.versions base kind e))
@@ -147,7 +156,8 @@ module _ (variant : Variant) (shape : Shape) (n : ℕ) (s : State) (h : IsSound 
   version-small x k = h.versions x.base x.kind (settled-row variant shape s x.base x.kind k.1)
 
   -- a row's version rises
-  module _ (x : Held) (k : IsKept l P x) (value : ℕ) (q' : Process) (its : q'.call ≡ Some call) (more-than : slice_index s.words x.base < value)
+  module _ (x : Held) (k : IsKept l P x) (value : ℕ) (q' : Process) (its : q'.call ≡ Some call)
+      (more-than : slice_index s.words x.base < value)
       (at-most : value ≤ slice_index s.words x.base + 3) where
     abbrev after : State
     after = record { words = slice_set s.words x.base value; processes = slice_set s.processes p q' }
@@ -168,7 +178,8 @@ module _ (variant : Variant) (shape : Shape) (n : ℕ) (s : State) (h : IsSound 
     elsewhere y e = index-other s.words x.base value y e
 
     claims-same : (kind : Kind) → then-at (claims_of kind) ≡ slice_index s.words (claims_of kind)
-    claims-same kind = elsewhere (claims_of kind) (differ (claims_of kind) x.base (omega (arith, row_begins shape x.base x.kind row, claims-few kind)))
+    claims-same kind = elsewhere (claims_of kind) (differ (claims_of kind) x.base (omega (arith, row_begins shape x.base x.kind row,
+        claims-few kind)))
 
     versions-few : (base : ℕ) (kind : Kind) → kind_at shape base ≡ Some kind → then-at base ≤ 3 * (n + 1)
     versions-few base kind e = elim (cases_eq base x.base) [
@@ -182,7 +193,8 @@ module _ (variant : Variant) (shape : Shape) (n : ℕ) (s : State) (h : IsSound 
         go : (kind : Kind) → kind_at shape base ≡ Some kind → IsSlot base kind x.base → ⊥
         go kind e slot =
             let behind = slot-behind base kind x.base slot in
-            let one = rows_apart shape base x.base kind x.kind x.base e row (omega (arith, behind.0)) behind.1 (omega arith) (omega (arith, some-words x.kind)) in
+            let one = rows_apart shape base x.base kind x.kind x.base e row (omega (arith, behind.0)) behind.1 (omega arith)
+                (omega (arith, some-words x.kind)) in
             omega (arith, one.0, behind.0)
 
     rising : ((base : ℕ) (kind : Kind) → P base kind → IsSettled variant shape after base kind) → IsSteady variant shape s after
@@ -201,18 +213,22 @@ module _ (variant : Variant) (shape : Shape) (n : ℕ) (s : State) (h : IsSound 
       where
         apart : (base : ℕ) (kind : Kind) → P base kind → base ≢ x.base → (w : ℕ) → base ≤ w → w < base + row_words kind → w ≢ x.base
         apart base kind y other w low high e =
-            let one = rows_apart shape base x.base kind x.kind x.base (settled-row variant shape s base kind y) row (omega (arith, low, e)) (omega (arith, high, e))
+            let one = rows_apart shape base x.base kind x.kind x.base (settled-row variant shape s base kind y) row (omega (arith, low, e))
+                (omega (arith, high, e))
             (omega arith) (omega (arith, some-words x.kind)) in
             other one.0
 
     -- it holds these rows then, whose versions are as they were kept
     pub keeps-rising : (rows : List Held) → fills place ≡ [] → Has P c (stage_of variant shape call q') rows []
         → ((y : Held) → IsAmong y rows → then-at y.base ≡ y.kept + 2)
-        → ((y : Held) → IsAmong y (holds c place) → y.base ≢ x.base → IsAmong y rows) → (is_locked value ≡ true → IsAmong x rows) → AreDistinct rows
+        → ((y : Held) → IsAmong y (holds c place) → y.base ≢ x.base → IsAmong y rows) → (is_locked value ≡ true → IsAmong x rows)
+        → AreDistinct rows
         → MayWrite variant shape s p after x.base x.base
-        → ((r : ℕ) (other : Call) (w : Process) → r ≢ p → IsOpen s r other w → (y z : Held) → IsAmong y rows → IsAmong z (held_by variant shape other w)
+        → ((r : ℕ) (other : Call) (w : Process) → r ≢ p → IsOpen s r other w → (y z : Held) → IsAmong y rows
+        → IsAmong z (held_by variant shape other w)
         → y.base ≢ z.base)
-        → ((r : ℕ) (other : Call) (w : Process) → r ≢ p → IsOpen s r other w → (z : Held) → IsAmong z (held_by variant shape other w) → z.base ≢ x.base)
+        → ((r : ℕ) (other : Call) (w : Process) → r ≢ p → IsOpen s r other w → (z : Held) → IsAmong z (held_by variant shape other w)
+        → z.base ≢ x.base)
         → IsSound variant shape (n + 1) after × IsSteady variant shape s after × WritesOwn variant shape s p after
     keeps-rising rows none has locked stay held distinct may apart others =
         let cl = m.claims-stay variant shape n s h few p q here call is-open x.base value q' its [] has.2 (inr refl) claims-same in
@@ -255,7 +271,8 @@ module _ (variant : Variant) (shape : Shape) (n : ℕ) (s : State) (h : IsSound 
                   (subst (IsAmong y) (sym has.1) (stay y (subst (λ v. IsAmong y (held_by variant shape v q)) (sym is) a) away)),
             )
 
-        held-now : (base : ℕ) (kind : Kind) → kind_at shape base ≡ Some kind → is_locked (then-at base) ≡ true → IsHeld variant shape after base
+        held-now : (base : ℕ) (kind : Kind) → kind_at shape base ≡ Some kind → is_locked (then-at base) ≡ true
+            → IsHeld variant shape after base
         held-now base kind e free = elim (cases_eq base x.base) [
           | inl same ↦ record {
             holder = p;
@@ -266,36 +283,44 @@ module _ (variant : Variant) (shape : Shape) (n : ℕ) (s : State) (h : IsSound 
             among = subst (IsAmong x) (sym has.1) (held (ap is_locked (sym (ap then-at same ∙ version)) ∙ free));
             is = sym same;
           }
-          | inr other ↦ held-still variant shape n s h p q here x.base value q' base (h.held base kind e (ap is_locked (sym (elsewhere base other)) ∙ free))
+          | inr other ↦ held-still variant shape n s h p q here x.base value q' base
+              (h.held base kind e (ap is_locked (sym (elsewhere base other)) ∙ free))
               (λ o f y a is. for-call o f y a (λ g. other (sym is ∙ g)))
         ]
 
   -- the row is taken
-  locked-apart : (x y : Held) → IsKept l P x → slice_index s.words x.base ≡ x.kept → IsKept l P y → slice_index s.words y.base ≡ y.kept + 2 → y.base ≢ x.base
+  locked-apart : (x y : Held) → IsKept l P x → slice_index s.words x.base ≡ x.kept → IsKept l P y
+      → slice_index s.words y.base ≡ y.kept + 2 → y.base ≢ x.base
   locked-apart x y kx ex ky ey same =
       omega (arith, ap (slice_index s.words) same, ex, ey, version-free l x.kept kx.0, version-free l y.kept ky.0)
 
-  pub takes : (x : Held) (all : List Held) → IsKept l P x → slice_index s.words x.base ≡ x.kept → IsWith x (holds c place) all → fills place ≡ []
+  pub takes : (x : Held) (all : List Held) → IsKept l P x → slice_index s.words x.base ≡ x.kept → IsWith x (holds c place) all
+      → fills place ≡ []
       → (q' : Process) (its : q'.call ≡ Some call)
       → (((y : Held) → IsAmong y (holds c place) → y.base ≢ x.base) → Has P c (stage_of variant shape call q') all [])
-      → IsSound variant shape (n + 1) (record { words = slice_set s.words x.base (locked_word x.kept); processes = slice_set s.processes p q' })
+      → IsSound variant shape (n + 1) (record { words = slice_set s.words x.base (locked_word x.kept); processes = slice_set
+          s.processes p q' })
       × IsSteady variant shape s (record { words = slice_set s.words x.base (locked_word x.kept); processes = slice_set s.processes p q' })
-      × WritesOwn variant shape s p (record { words = slice_set s.words x.base (locked_word x.kept); processes = slice_set s.processes p q' })
+      × WritesOwn variant shape s p (record { words = slice_set s.words x.base (locked_word x.kept); processes = slice_set
+          s.processes p q' })
   takes x all k is with none q' its has =
       keeps-rising x k (locked_word x.kept) q' its (omega (arith, is, value)) (omega (arith, is, value)) all none
       (has (λ y a. held-apart p call q opens y a))
       (λ y a. locked y (with-split x (holds c place) all y with a)) (λ y a other. with-more x (holds c place) all y with a)
-      (λ e. with-here x (holds c place) all with) (distinct-with x (holds c place) all with (h.distinct p call q opens) new) (inr (inl (refl, by-it)))
+      (λ e. with-here x (holds c place) all with) (distinct-with x (holds c place) all with (h.distinct p call q opens) new)
+          (inr (inl (refl, by-it)))
       (λ r other w away o y z a. apart r other w away o y z (with-split x (holds c place) all y with a)) others
     where
       value : locked_word x.kept ≡ x.kept + 2
       value = omega (arith, is, version-small x k, few)
 
-      held-apart : (r : ℕ) (other : Call) (w : Process) → IsOpen s r other w → (y : Held) → IsAmong y (held_by variant shape other w) → y.base ≢ x.base
+      held-apart : (r : ℕ) (other : Call) (w : Process) → IsOpen s r other w → (y : Held)
+          → IsAmong y (held_by variant shape other w) → y.base ≢ x.base
       held-apart r other w o y a =
           locked-apart x y k is (m.held-row variant shape n s h few p q here call is-open r other w o y a) (h.locked r other w o y a)
 
-      by-it : IsTakenBy variant shape s p (record { words = slice_set s.words x.base (locked_word x.kept); processes = slice_set s.processes p q' }) x.base
+      by-it : IsTakenBy variant shape s p (record { words = slice_set s.words x.base (locked_word x.kept); processes = slice_set
+          s.processes p q' }) x.base
       by-it = (
         record {
           holder = p;
@@ -314,7 +339,8 @@ module _ (variant : Variant) (shape : Shape) (n : ℕ) (s : State) (h : IsSound 
           → slice_index (slice_set s.words x.base (locked_word x.kept)) y.base ≡ y.kept + 2
       locked y (inl e) = subst (λ z. slice_index (slice_set s.words x.base (locked_word x.kept)) z.base ≡ z.kept + 2) (sym e)
           (version x k (locked_word x.kept) q' its (omega (arith, is, value)) (omega (arith, is, value)) ∙ value)
-      locked y (inr a) = index-other s.words x.base (locked_word x.kept) y.base (held-apart p call q opens y a) ∙ h.locked p call q opens y a
+      locked y (inr a) = index-other s.words x.base (locked_word x.kept) y.base (held-apart p call q opens y a)
+          ∙ h.locked p call q opens y a
 
       new : (y : Held) → IsAmong y (holds c place) → x.base ≢ y.base
       new y a e = held-apart p call q opens y a (sym e)
@@ -324,7 +350,8 @@ module _ (variant : Variant) (shape : Shape) (n : ℕ) (s : State) (h : IsSound 
       apart r other w away o y z (inl e) b same = held-apart r other w o z b (sym same ∙ ap (λ v. v.base) e)
       apart r other w away o y z (inr a) b same = away (sym (h.apart p r call other q w opens o y z a b same))
 
-      others : (r : ℕ) (other : Call) (w : Process) → r ≢ p → IsOpen s r other w → (z : Held) → IsAmong z (held_by variant shape other w) → z.base ≢ x.base
+      others : (r : ℕ) (other : Call) (w : Process) → r ≢ p → IsOpen s r other w → (z : Held)
+          → IsAmong z (held_by variant shape other w) → z.base ≢ x.base
       others r other w away o z a = held-apart r other w o z a
 
   -- a row is released
@@ -335,7 +362,8 @@ module _ (variant : Variant) (shape : Shape) (n : ℕ) (s : State) (h : IsSound 
       × IsSteady variant shape s (record { words = slice_set s.words x.base value; processes = slice_set s.processes p q' })
       × WritesOwn variant shape s p (record { words = slice_set s.words x.base value; processes = slice_set s.processes p q' })
   releases x rest value k with none written q' its has =
-      keeps-rising x k value q' its more-than at-most rest none has locked stay (λ e. absurd (true-false e free)) distinct.0 (inl by-it) apart others
+      keeps-rising x k value q' its more-than at-most rest none has locked stay (λ e. absurd (true-false e free)) distinct.0
+          (inl by-it) apart others
     where
       among-x : IsAmong x (holds c place)
       among-x = with-here x rest (holds c place) with
@@ -383,5 +411,6 @@ module _ (variant : Variant) (shape : Shape) (n : ℕ) (s : State) (h : IsSound 
           → IsAmong z (held_by variant shape other w) → y.base ≢ z.base
       apart r other w away o y z a b same = away (sym (h.apart p r call other q w opens o y z (later-among y a) b same))
 
-      others : (r : ℕ) (other : Call) (w : Process) → r ≢ p → IsOpen s r other w → (z : Held) → IsAmong z (held_by variant shape other w) → z.base ≢ x.base
+      others : (r : ℕ) (other : Call) (w : Process) → r ≢ p → IsOpen s r other w → (z : Held)
+          → IsAmong z (held_by variant shape other w) → z.base ≢ x.base
       others r other w away o z a same = away (h.apart r p other call w q o opens z x a among-x same)

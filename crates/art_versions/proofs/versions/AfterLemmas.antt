@@ -21,7 +21,8 @@ use Rattle.art_stages.specs.declared.stage.Stage.{Stage}
 use Rattle.art_stages.specs.declared.stage.Stage.TheVariants.{FindCount, Slot, Over}
 use Rattle.art_stages.specs.Stages.{row_at, held, count_in, keys_in, keys_among, byte_in, place_in, leaf_place, setting}
 use Rattle.art_stages.specs.Automaton.{start_at, moves_at, put_at, work_at, checked_at, among_at, words_at, find_at, release_at, keys_one}
-use Rattle.art_versions.specs.versions.Holding.{OfRows, Each, IsSlot, child_rows, row_filled, IsUnder, IsFound, HasPlace, FitsWork, IsKept, IsNamed, KnowsKey}
+use Rattle.art_versions.specs.versions.Holding.{OfRows, Each, IsSlot, child_rows, row_filled, IsUnder, IsFound, HasPlace, FitsWork, IsKept}
+use Rattle.art_versions.specs.versions.Holding.{IsNamed, KnowsKey}
 use Rattle.art_versions.specs.versions.Holding.{rows_of_work, rows_found, FitsPlace, HasSlot, kept_at_place, KnowsRows}
 use Rattle.art_versions.proofs.versions.WordFacts.{place-fits, entry-fits}
 use Rattle.art_steps.specs.declared.variant.Variant.{Variant}
@@ -33,7 +34,8 @@ own-slot : (l : Bool) (h : Hold) (slot : ℕ) → IsSlot h.row.base h.row.kind s
 own-slot true h slot e = inl e
 own-slot false h slot e = e
 
-module _ (variant : Variant) (s : Shape) (call : Call) (P : OfRows) (is_row : (b : ℕ) (k : Kind) → P b k → kind_at s b ≡ Some k) (root : P (root_base s) Full) where
+module _ (variant : Variant) (s : Shape) (call : Call) (P : OfRows) (is_row : (b : ℕ) (k : Kind) → P b k → kind_at s b ≡ Some k)
+    (root : P (root_base s) Full) where
   abbrev c : Setting
   c = setting s variant call
 
@@ -87,7 +89,8 @@ module _ (variant : Variant) (s : Shape) (call : Call) (P : OfRows) (is_row : (b
   )
   moves h keys (suc n) kept place less = (record { kept = kept; known = tt; fits = (place, omega (arith, less)); filled = tt }, refl, refl)
 
-  puts : (base : ℕ) (kind : Kind) (info was : ℕ) (above : Option Held) (keys : Keys) → Each (IsKept l P) (held base kind info was ∷ all_of above)
+  puts : (base : ℕ) (kind : Kind) (info was : ℕ) (above : Option Held) (keys : Keys)
+      → Each (IsKept l P) (held base kind info was ∷ all_of above)
       → count_in kind keys < capacity kind
       → IsAt (held base kind info was ∷ all_of above) (put_at kind c (record { row = held base kind info was; above = above }) keys)
   puts base Four info was above keys kept less =
@@ -101,9 +104,11 @@ module _ (variant : Variant) (s : Shape) (call : Call) (P : OfRows) (is_row : (b
   puts base FortyEight info was above keys kept less = (record { kept = kept; known = tt; fits = (less, less); filled = tt }, refl, refl)
   puts base Full info was above keys kept less = (record { kept = kept; known = tt; fits = tt; filled = tt }, refl, refl)
 
-  pub works : (h : Hold) (work : Work) → Each (IsKept l P) (rows_of_hold h) → Each (IsNamed P) (rows_of_work s work) → FitsWork h.row h.above work
+  pub works : (h : Hold) (work : Work) → Each (IsKept l P) (rows_of_hold h) → Each (IsNamed P) (rows_of_work s work)
+      → FitsWork h.row h.above work
       → IsAt (rows_of_hold h) (work_at c h work)
-  works h (work.Write slot word reply) kept known fits = (record { kept = kept; known = known; fits = own-slot l h slot fits; filled = tt }, refl, refl)
+  works h (work.Write slot word reply) kept known fits =
+      (record { kept = kept; known = known; fits = own-slot l h slot fits; filled = tt }, refl, refl)
   works h (work.Pair p) kept known fits = (record { kept = kept; known = known; fits = own-slot l h p.slot fits; filled = tt }, refl, refl)
   works h (work.Put keys) kept known fits = puts h.row.base h.row.kind h.row.info h.row.kept h.above keys kept fits
   works h (work.Grow slot keys) kept known fits = (record { kept = kept; known = tt; fits = fits; filled = tt }, refl, refl)
@@ -116,10 +121,12 @@ module _ (variant : Variant) (s : Shape) (call : Call) (P : OfRows) (is_row : (b
   -- FIND: what comes behind it depends on the tree
   module _ (checked : (p : Position) (f : Finding) → Each (IsKept l P) (kept_at_place l i p) → FitsPlace p → IsFound p.row f
       → Each (IsNamed P) (rows_found f) → IsAt (held_at_place l i p) (checked_at l i e c p f)) where
-    pub among : (p : Position) (keys : Keys) → Each (IsKept l P) (kept_at_place l i p) → FitsPlace p → IsAt (held_at_place l i p) (words_at l i e c p keys)
+    pub among : (p : Position) (keys : Keys) → Each (IsKept l P) (kept_at_place l i p) → FitsPlace p
+        → IsAt (held_at_place l i p) (words_at l i e c p keys)
     among p keys kept under = go (place_of (byte_in c p.row) (keys_among p.row.kind keys)) refl
       where
-        go : (o : Option ℕ) → place_of (byte_in c p.row) (keys_among p.row.kind keys) ≡ o → IsAt (held_at_place l i p) (among_at l i e c p keys o)
+        go : (o : Option ℕ) → place_of (byte_in c p.row) (keys_among p.row.kind keys) ≡ o
+            → IsAt (held_at_place l i p) (among_at l i e c p keys o)
         go None e = checked p (Lacks keys) kept under tt tt
         go (Some place) e = (
           record {
@@ -132,15 +139,18 @@ module _ (variant : Variant) (s : Shape) (call : Call) (P : OfRows) (is_row : (b
           refl,
         )
 
-    indexed : (j : Bool) (p : Position) (index entry : ℕ) → p.row.kind ≡ FortyEight → entry - 1 < 48 → Each (IsKept l P) (kept_at_place l i p) → FitsPlace p
-        → IsAt (held_at_place l i p) (if entry == 0 then (if j then FindCount p index else checked_at l i e c p (Lacks (keys_one index))) else Slot p
+    indexed : (j : Bool) (p : Position) (index entry : ℕ) → p.row.kind ≡ FortyEight → entry - 1 < 48
+        → Each (IsKept l P) (kept_at_place l i p) → FitsPlace p
+        → IsAt (held_at_place l i p) (if entry == 0 then (if j then FindCount p index else checked_at l i e c p
+            (Lacks (keys_one index))) else Slot p
         (child_at FortyEight p.row.base (entry - 1)))
     indexed j p index entry is less kept under = go (entry == 0) j
       where
         slot : IsSlot p.row.base p.row.kind (child_at FortyEight p.row.base (entry - 1))
         slot = subst (λ k. IsSlot p.row.base k (child_at FortyEight p.row.base (entry - 1))) (sym is) (entry - 1, less, refl)
 
-        go : (b j : Bool) → IsAt (held_at_place l i p) (if b then (if j then FindCount p index else checked_at l i e c p (Lacks (keys_one index))) else Slot p
+        go : (b j : Bool) → IsAt (held_at_place l i p) (if b then (if j then FindCount p index else checked_at l i e c p
+            (Lacks (keys_one index))) else Slot p
             (child_at FortyEight p.row.base (entry - 1)))
         go true true = (record { kept = kept; known = tt; fits = under; filled = tt }, refl, refl)
         go true false = checked p (Lacks (keys_one index)) kept under tt tt
@@ -152,7 +162,8 @@ module _ (variant : Variant) (s : Shape) (call : Call) (P : OfRows) (is_row : (b
     -- the first word of FIND; a child that was loaded is one of P
     pub finds : (base : ℕ) (kind : Kind) (info was : ℕ) (above : Option Held) (slot w : ℕ)
         → Each (IsKept l P) (kept_at_place l i (place base kind info was above slot)) → IsUnder above (held base kind info was) slot
-        → (IsSlot base Full (child_at Full base (byte_in c (held base kind info was))) → kind ≡ Full → Each (IsNamed P) (child_rows (child_of s w)))
+        → (IsSlot base Full (child_at Full base (byte_in c (held base kind info was))) → kind ≡ Full
+        → Each (IsNamed P) (child_rows (child_of s w)))
         → IsAt (held_at_place l i (place base kind info was above slot)) (find_at l i e kind c (place base kind info was above slot) w)
     finds base Four info was above slot w kept under good = among (place base Four info was above slot) (keys_one w) kept under
     finds base Sixteen info was above slot w kept under good = (record { kept = kept; known = tt; fits = under; filled = tt }, refl, refl)
@@ -161,4 +172,5 @@ module _ (variant : Variant) (s : Shape) (call : Call) (P : OfRows) (is_row : (b
     finds base Full info was above slot w kept under good =
         let at : IsSlot base Full (child_at Full base (byte_in c (held base Full info was))) =
         (byte_in c (held base Full info was), key_byte-small (key_of call) (row_at (held base Full info was)).level, refl) in
-        checked (place base Full info was above slot) (Has (child_at Full base (byte_in c (held base Full info was))) (child_of s w)) kept under at (good at refl)
+        checked (place base Full info was above slot) (Has (child_at Full base (byte_in c (held base Full info was))) (child_of s w)) kept
+            under at (good at refl)

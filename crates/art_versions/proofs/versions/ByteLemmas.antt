@@ -41,5 +41,6 @@ pub index-small : (lo hi : ℕ) (n : Row) (j x : ℕ) (xs : List ℕ) → filter
 index-small lo hi n j x xs e =
     let byte = filter-head (in_word j) (bytes_of lo hi n) x xs e in
     let less = first-each (λ i. i < 256) (filter (in_word j) (bytes_of lo hi n)) x xs e
-    (filter-each (in_word j) (λ i. i < 256) (bytes_of lo hi n) (filter-each (can_lie lo hi n) (λ i. i < 256) (numbers 0 256) (numbers-below 0 256 256 (omega arith)))) in
+    (filter-each (in_word j) (λ i. i < 256) (bytes_of lo hi n)
+        (filter-each (can_lie lo hi n) (λ i. i < 256) (numbers 0 256) (numbers-below 0 256 256 (omega arith)))) in
     omega (arith, number_is (x / 8) j byte, less)

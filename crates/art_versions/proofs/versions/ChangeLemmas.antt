@@ -1,7 +1,8 @@
 -- What has to be shown of a step, so that rows and versions stay sound.
 use Rattle.art_rows.specs.Table.{row_words}
 use Rattle.art_versions.specs.versions.Writers.{MayWrite, WritesOwn}
-use Rattle.std.proofs.Common.{◌≡◌, ◌≢◌, ℕ, zero, suc, ◌+◌, ◌*◌, ◌<◌, ◌≤◌, true, List, [], ◌∷◌, length, refl, ap, sym, subst, ◌∙◌, inl, inr, arith}
+use Rattle.std.proofs.Common.{◌≡◌, ◌≢◌, ℕ, zero, suc, ◌+◌, ◌*◌, ◌<◌, ◌≤◌, true, List, [], ◌∷◌, length, refl, ap, sym, subst, ◌∙◌, inl, inr}
+use Rattle.std.proofs.Common.{arith}
 use Rattle.std.proofs.Common.{get_or-set_other}
 use Rattle.std.specs.Prelude.{◌⊎◌, slice_get, slice_index, slice_set, Some}
 use Rattle.std.proofs.lemmas.List.{length-set}
@@ -54,7 +55,8 @@ written variant shape s p word value processes may base kind e x low high change
   | inr other ↦ absurd (changed (index-other s.words word value x other))
 ]
 
-module _ (variant : Variant) (shape : Shape) (n : ℕ) (s : State) (h : IsSound variant shape n s) (p : ℕ) (q : Process) (here : slice_get s.processes p ≡ Some q)
+module _ (variant : Variant) (shape : Shape) (n : ℕ) (s : State) (h : IsSound variant shape n s) (p : ℕ) (q : Process)
+    (here : slice_get s.processes p ≡ Some q)
     (word value : ℕ) (q' : Process) where
   abbrev pub next : State
   next = record { words = slice_set s.words word value; processes = slice_set s.processes p q' }
@@ -109,7 +111,8 @@ module _ (variant : Variant) (shape : Shape) (n : ℕ) (s : State) (h : IsSound 
         → IsClaimed shape (slice_set s.words word value) b k
     pub fresh : (call : Call) → q'.call ≡ Some call → (b : ℕ) (k : Kind) → filled_by variant shape call q' ≡ (b, k) ∷ []
         → (l : Kind) → IsSettled variant shape s b l → ⊥
-    pub apart : (call : Call) → q'.call ≡ Some call → (r : ℕ) (other : Call) (w : Process) → r ≢ p → IsOpen s r other w → (b d : ℕ) (k l : Kind)
+    pub apart : (call : Call) → q'.call ≡ Some call → (r : ℕ) (other : Call) (w : Process) → r ≢ p → IsOpen s r other w
+        → (b d : ℕ) (k l : Kind)
         → filled_by variant shape call q' ≡ (b, k) ∷ [] → filled_by variant shape other w ≡ (d, l) ∷ [] → b ≢ d
 
   module _ (c : Claims) where
@@ -133,7 +136,8 @@ module _ (variant : Variant) (shape : Shape) (n : ℕ) (s : State) (h : IsSound 
       pub good : IsGoodAt (IsSettled variant shape next) shape word value
       pub others : (r : ℕ) (call : Call) (w : Process) → r ≢ p → IsOpen s r call w → (x : Held) → IsAmong x (held_by variant shape call w)
           → now x.base ≡ slice_index s.words x.base
-      pub knows : (call : Call) → q'.call ≡ Some call → Knows (IsSettled variant shape next) (setting shape variant call) (stage_of variant shape call q')
+      pub knows : (call : Call) → q'.call ≡ Some call
+          → Knows (IsSettled variant shape next) (setting shape variant call) (stage_of variant shape call q')
       pub locked : (call : Call) → q'.call ≡ Some call → (x : Held) → IsAmong x (held_by variant shape call q') → now x.base ≡ x.kept + 2
       pub held : (base : ℕ) (kind : Kind) → kind_at shape base ≡ Some kind → is_locked (now base) ≡ true → IsHeld variant shape next base
       pub distinct : (call : Call) → q'.call ≡ Some call → AreDistinct (held_by variant shape call q')
@@ -146,16 +150,21 @@ module _ (variant : Variant) (shape : Shape) (n : ℕ) (s : State) (h : IsSound 
         | inl same ↦ subst (λ y. IsGoodAt (IsSettled variant shape next) shape y (now y)) (sym same)
             (subst (IsGoodAt (IsSettled variant shape next) shape word) (sym (stored-at s.words word value k.within)) k.good)
         | inr other ↦ subst (IsGoodAt (IsSettled variant shape next) shape x) (sym (index-other s.words word value x other))
-            (good-more (IsSettled variant shape s) (IsSettled variant shape next) shape settled-more x (slice_index s.words x) (h.children x))
+            (good-more (IsSettled variant shape s) (IsSettled variant shape next) shape settled-more x
+                (slice_index s.words x) (h.children x))
       ]
 
-      knows-now : (r : ℕ) (call : Call) (w : Process) → IsOpen next r call w → Knows (IsSettled variant shape next) (setting shape variant call) (stage_of variant shape call w)
+      knows-now : (r : ℕ) (call : Call) (w : Process) → IsOpen next r call w
+          → Knows (IsSettled variant shape next) (setting shape variant call) (stage_of variant shape call w)
       knows-now r call w o = elim (whose r call w o) [
-        | inl t ↦ subst (λ v. Knows (IsSettled variant shape next) (setting shape variant call) (stage_of variant shape call v)) (sym t.1) (k.knows call (own-call r call w o t.1))
-        | inr t ↦ knows-more (IsSettled variant shape s) (IsSettled variant shape next) (setting shape variant call) settled-more (stage_of variant shape call w) (h.knows r call w t.1)
+        | inl t ↦ subst (λ v. Knows (IsSettled variant shape next) (setting shape variant call) (stage_of variant shape call v)) (sym t.1)
+            (k.knows call (own-call r call w o t.1))
+        | inr t ↦ knows-more (IsSettled variant shape s) (IsSettled variant shape next) (setting shape variant call) settled-more
+            (stage_of variant shape call w) (h.knows r call w t.1)
       ]
 
-      locked-now : (r : ℕ) (call : Call) (w : Process) → IsOpen next r call w → (x : Held) → IsAmong x (held_by variant shape call w) → now x.base ≡ x.kept + 2
+      locked-now : (r : ℕ) (call : Call) (w : Process) → IsOpen next r call w → (x : Held) → IsAmong x (held_by variant shape call w)
+          → now x.base ≡ x.kept + 2
       locked-now r call w o x a = elim (whose r call w o) [
         | inl t ↦ k.locked call (own-call r call w o t.1) x (subst (λ v. IsAmong x (held_by variant shape call v)) t.1 a)
         | inr t ↦ k.others r call w t.0 t.1 x a ∙ h.locked r call w t.1 x a
@@ -172,23 +181,27 @@ module _ (variant : Variant) (shape : Shape) (n : ℕ) (s : State) (h : IsSound 
       apart-now r t call other w v o l x y a b e = elim (whose r call w o) [
         | inl m ↦ elim (whose t other v l) [
           | inl z ↦ m.0 ∙ sym z.0
-          | inr z ↦ absurd (k.apart call (own-call r call w o m.1) t other v z.0 z.1 x y (subst (λ u. IsAmong x (held_by variant shape call u)) m.1 a) b e)
+          | inr z ↦ absurd (k.apart call (own-call r call w o m.1) t other v z.0 z.1 x y
+              (subst (λ u. IsAmong x (held_by variant shape call u)) m.1 a) b e)
         ]
         | inr m ↦ elim (whose t other v l) [
-          | inl z ↦ absurd (k.apart other (own-call t other v l z.1) r call w m.0 m.1 y x (subst (λ u. IsAmong y (held_by variant shape other u)) z.1 b) a
+          | inl z ↦ absurd (k.apart other (own-call t other v l z.1) r call w m.0 m.1 y x
+              (subst (λ u. IsAmong y (held_by variant shape other u)) z.1 b) a
               (sym e))
           | inr z ↦ h.apart r t call other w v m.1 z.1 x y a b e
         ]
       ]
 
-      filled-now : (r : ℕ) (call : Call) (w : Process) → IsOpen next r call w → (b : ℕ) (l : Kind) → filled_by variant shape call w ≡ (b, l) ∷ []
+      filled-now : (r : ℕ) (call : Call) (w : Process) → IsOpen next r call w → (b : ℕ) (l : Kind)
+          → filled_by variant shape call w ≡ (b, l) ∷ []
           → IsClaimed shape (slice_set s.words word value) b l
       filled-now r call w o b l e = elim (whose r call w o) [
         | inl t ↦ c.filled call (own-call r call w o t.1) b l (subst (λ v. filled_by variant shape call v ≡ (b, l) ∷ []) t.1 e)
         | inr t ↦ claimed-more b l (h.filled r call w t.1 b l e)
       ]
 
-      fills-apart-now : (r t : ℕ) (call other : Call) (w v : Process) → IsOpen next r call w → IsOpen next t other v → (b d : ℕ) (k l : Kind)
+      fills-apart-now : (r t : ℕ) (call other : Call) (w v : Process) → IsOpen next r call w → IsOpen next t other v
+          → (b d : ℕ) (k l : Kind)
           → filled_by variant shape call w ≡ (b, k) ∷ [] → filled_by variant shape other v ≡ (d, l) ∷ [] → b ≡ d → r ≡ t
       fills-apart-now r t call other w v o l b d kb kd x y e = elim (whose r call w o) [
         | inl m ↦ elim (whose t other v l) [

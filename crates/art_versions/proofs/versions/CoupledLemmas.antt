@@ -16,7 +16,8 @@ use Rattle.art_stages.specs.declared.stage.Stage.TheVariants.{Between, ClaimGrow
 use Rattle.events.specs.declared.event.Call.{Call}
 use Rattle.art_steps.specs.declared.variant.Variant.TheVariants.{Coupled}
 use Rattle.art_stages.specs.declared.stage.Down.{Down}
-use Rattle.art_versions.specs.versions.Holding.{Each, FitsDown, FitsPlace, FitsTarget, HasRoom, IsFound, IsKept, IsNamed, IsSlot, IsUnder, IsVersion, KnowsKey}
+use Rattle.art_versions.specs.versions.Holding.{Each, FitsDown, FitsPlace, FitsTarget, HasRoom, IsFound, IsKept, IsNamed, IsSlot, IsUnder}
+use Rattle.art_versions.specs.versions.Holding.{IsVersion, KnowsKey}
 use Rattle.art_versions.specs.versions.Holding.{OfRows, kept_at_place, kept_below, row_filled, rows_found, rows_of_wait, KnowsRows}
 use Rattle.art_stages.specs.declared.stage.Finding.{Finding}
 use Rattle.art_rows.specs.declared.table.Kind.TheVariants.{FortyEight, Four, Full, Sixteen}
@@ -32,7 +33,8 @@ use Rattle.art_rows.specs.declared.table.Shape.{Shape}
 use Rattle.art_stages.specs.declared.stage.Stage.{Stage}
 use Rattle.art_stages.specs.declared.stage.Target.{Target}
 use Rattle.art_versions.specs.versions.Locking.{all_of, held_at_place, held_below, lock_of, locks_of, rows_of_target, held_at_stage}
-use Rattle.art_stages.specs.Automaton.{below_at, down_from, entered_at, found_at, hold_alone, insert_coupled, let_go_at, no_value, overwrite_at}
+use Rattle.art_stages.specs.Automaton.{below_at, down_from, entered_at, found_at, hold_alone, insert_coupled, let_go_at, no_value}
+use Rattle.art_stages.specs.Automaton.{overwrite_at}
 use Rattle.art_stages.specs.Automaton.{place_coupled, seek_coupled, work_at}
 use Rattle.art_rows.specs.Table.{capacity, kind_at, root_base}
 use Rattle.art_rows.specs.Words.{child_word, is_locked, key_bytes, locked_word}
@@ -42,7 +44,8 @@ use Rattle.art_steps.proofs.AccessLemmas.{not_full}
 use Rattle.art_versions.proofs.versions.AfterLemmas.{works}
 use Rattle.art_stages.specs.declared.stage.Work.TheVariants as work
 
-module _ (s : Shape) (call : Call) (P : OfRows) (is_row : (b : ℕ) (k : Kind) → P b k → kind_at s b ≡ Some k) (root : P (root_base s) Full) where
+module _ (s : Shape) (call : Call) (P : OfRows) (is_row : (b : ℕ) (k : Kind) → P b k → kind_at s b ≡ Some k)
+    (root : P (root_base s) Full) where
   abbrev c : Setting
   c = setting s Coupled call
 
@@ -63,7 +66,8 @@ module _ (s : Shape) (call : Call) (P : OfRows) (is_row : (b : ℕ) (k : Kind) �
 
   goes-down : (i : Bool) (n : Held) (slot base : ℕ) (kind : Kind) → Keeps n → IsSlot n.base n.kind slot → P base kind
       → At i (n ∷ []) (Lock (Below (down_from n slot base kind)) true)
-  goes-down i n slot base kind kept fits known = (record { kept = (kept, tt); known = (known, tt); fits = (tt, fits); filled = tt }, refl, refl)
+  goes-down i n slot base kind kept fits known =
+      (record { kept = (kept, tt); known = (known, tt); fits = (tt, fits); filled = tt }, refl, refl)
 
   overwrites : (n : Held) (slot value : ℕ) (o : Option ℕ) → overwriting call value ≡ o → Keeps n → IsSlot n.base n.kind slot
       → At false (n ∷ []) (overwrite_at n slot value o)
@@ -76,7 +80,8 @@ module _ (s : Shape) (call : Call) (P : OfRows) (is_row : (b : ℕ) (k : Kind) �
   seeks n (Has slot Empty) kept fits known = unlocks false n _ kept
   seeks n (Has slot (Leaf key value)) kept fits known = go (key == key_of call)
     where
-      go : (b : Bool) → At false (n ∷ []) (if b then overwrite_at n slot value (overwriting call value) else Unlock (hold_alone n) (Some no_value))
+      go : (b : Bool) → At false (n ∷ []) (if b then overwrite_at n slot value (overwriting call value) else Unlock
+          (hold_alone n) (Some no_value))
       go true = overwrites n slot value (overwriting call value) refl kept fits
       go false = unlocks false n _ kept
   seeks n (Has slot (ChildRow base kind)) kept fits known = goes-down false n slot base kind kept fits known.0
@@ -91,14 +96,16 @@ module _ (s : Shape) (call : Call) (P : OfRows) (is_row : (b : ℕ) (k : Kind) �
     refl,
   )
 
-  alone : is_insert call ≡ true → (n : Held) (f : Finding) → Keeps n → IsFound n f → HasRoom n f → Each (IsNamed P) (rows_found f) → At true (n ∷ []) (insert_coupled c n f)
+  alone : is_insert call ≡ true → (n : Held) (f : Finding) → Keeps n → IsFound n f → HasRoom n f → Each (IsNamed P) (rows_found f)
+      → At true (n ∷ []) (insert_coupled c n f)
   alone ins n (Lacks keys) kept fits room known =
       subst (λ i. At i (n ∷ []) (work_at c (hold_alone n) (work.Put keys))) ins
       (works Coupled s call P is_row root (hold_alone n) (work.Put keys) (kept, tt) tt room)
   alone ins n (Has slot Empty) kept fits room known = writes n slot None kept fits
   alone ins n (Has slot (Leaf key value)) kept fits room known = go (key == key_of call)
     where
-      go : (b : Bool) → At true (n ∷ []) (if b then Write (hold_alone n) slot (child_word (new_leaf call)) (Some value) else ClaimPair (hold_alone n) (record {
+      go : (b : Bool) → At true (n ∷ []) (if b then Write (hold_alone n) slot (child_word (new_leaf call)) (Some value) else ClaimPair
+          (hold_alone n) (record {
         slot = slot;
         level = keys_differ_at key (key_of call);
         byte = slice_index (key_bytes key) (keys_differ_at key (key_of call));
@@ -110,12 +117,15 @@ module _ (s : Shape) (call : Call) (P : OfRows) (is_row : (b : ℕ) (k : Kind) �
 
   -- and where it may hold the row above too
 
-  lets-go : is_insert call ≡ true → (n : Held) (above : Option Held) (slot : ℕ) (f : Finding) → Each Keeps (n ∷ all_of above) → IsFound n f → HasRoom n f
+  lets-go : is_insert call ≡ true → (n : Held) (above : Option Held) (slot : ℕ) (f : Finding) → Each Keeps (n ∷ all_of above)
+      → IsFound n f → HasRoom n f
       → Each (IsNamed P) (rows_found f) → At true (n ∷ all_of above) (let_go_at c n above slot f)
   lets-go ins n None slot f kept fits room known = alone ins n f kept.0 fits room known
-  lets-go ins n (Some a) slot f kept fits room known = (record { kept = kept; known = known; fits = (refl, fits, room); filled = tt }, refl, refl)
+  lets-go ins n (Some a) slot f kept fits room known =
+      (record { kept = kept; known = known; fits = (refl, fits, room); filled = tt }, refl, refl)
 
-  grows : (base : ℕ) (kind : Kind) (info was : ℕ) (above : Option Held) (slot : ℕ) (keys : Keys) → Each Keeps (held base kind info was ∷ all_of above)
+  grows : (base : ℕ) (kind : Kind) (info was : ℕ) (above : Option Held) (slot : ℕ) (keys : Keys)
+      → Each Keeps (held base kind info was ∷ all_of above)
       → IsUnder above (held base kind info was) slot → (count_in kind keys == capacity kind) ≡ true
       → At true (held base kind info was ∷ all_of above) (ClaimGrow (record { row = held base kind info was; above = above }) slot keys)
   grows base Four info was None slot keys kept under full = absurd (differ under)
@@ -133,7 +143,8 @@ module _ (s : Shape) (call : Call) (P : OfRows) (is_row : (b : ℕ) (k : Kind) �
   grows base Full info was None slot keys kept under full = absurd (false≢true full)
   grows base kind info was (Some a) slot keys kept under full = (record { kept = kept; known = tt; fits = under; filled = tt }, refl, refl)
 
-  inserts : is_insert call ≡ true → (p : Position) (f : Finding) → Each Keeps (p.row ∷ all_of p.above) → FitsPlace p → IsFound p.row f → Each (IsNamed P) (rows_found f)
+  inserts : is_insert call ≡ true → (p : Position) (f : Finding) → Each Keeps (p.row ∷ all_of p.above) → FitsPlace p → IsFound p.row f
+      → Each (IsNamed P) (rows_found f)
       → At true (p.row ∷ all_of p.above) (place_coupled c p f)
   inserts ins p (Has slot child) kept under fits known = lets-go ins p.row p.above p.slot (Has slot child) kept fits tt known
   inserts ins p (Lacks keys) kept under fits known = go (count_in p.row.kind keys == capacity p.row.kind) refl
@@ -143,26 +154,31 @@ module _ (s : Shape) (call : Call) (P : OfRows) (is_row : (b : ℕ) (k : Kind) �
       go true e = grows p.row.base p.row.kind p.row.info p.row.kept p.above p.slot keys kept under e
       go false e = lets-go ins p.row p.above p.slot (Lacks keys) kept tt (not_full _ _ e (count-most p.row.kind keys)) tt
 
-  found : (i : Bool) → is_insert call ≡ i → (p : Position) (f : Finding) → Each Keeps (kept_at_place true i p) → FitsPlace p → IsFound p.row f → Each (IsNamed P) (rows_found f)
+  found : (i : Bool) → is_insert call ≡ i → (p : Position) (f : Finding) → Each Keeps (kept_at_place true i p) → FitsPlace p
+      → IsFound p.row f → Each (IsNamed P) (rows_found f)
       → At i (held_at_place true i p) (found_at true i false c p f)
   found false e p f kept under fits known = seeks p.row f kept.0 fits known
   found true e p f kept under fits known = inserts e p f kept under fits known
 
   -- once the row above is unlocked
-  still-room : is_insert call ≡ true → (p : Position) (f : Finding) → p.above ≡ None → Keeps p.row → IsFound p.row f → HasRoom p.row f → Each (IsNamed P) (rows_found f)
+  still-room : is_insert call ≡ true → (p : Position) (f : Finding) → p.above ≡ None → Keeps p.row → IsFound p.row f → HasRoom p.row f
+      → Each (IsNamed P) (rows_found f)
       → At true (p.row ∷ []) (place_coupled c p f)
   still-room ins p (Has slot child) none kept fits room known =
-      subst (λ o. At true (p.row ∷ []) (let_go_at c p.row o p.slot (Has slot child))) (sym none) (alone ins p.row (Has slot child) kept fits room known)
+      subst (λ o. At true (p.row ∷ []) (let_go_at c p.row o p.slot (Has slot child))) (sym none)
+          (alone ins p.row (Has slot child) kept fits room known)
   still-room ins p (Lacks keys) none kept fits room known = go (count_in p.row.kind keys == capacity p.row.kind) refl
     where
       go : (b : Bool) → (count_in p.row.kind keys == capacity p.row.kind) ≡ b → At true (p.row ∷ [])
           (if b then ClaimGrow (record { row = p.row; above = p.above }) p.slot keys else let_go_at c p.row p.above p.slot (Lacks keys))
       go true e = absurd (full-not-less _ _ e room)
-      go false e = subst (λ o. At true (p.row ∷ []) (let_go_at c p.row o p.slot (Lacks keys))) (sym none) (alone ins p.row (Lacks keys) kept fits room known)
+      go false e = subst (λ o. At true (p.row ∷ []) (let_go_at c p.row o p.slot (Lacks keys))) (sym none) (alone ins p.row (Lacks keys)
+          kept fits room known)
 
   -- LOCK
 
-  entered : (i : Bool) (t : Target) (v : ℕ) → IsVersion true v → Each Keeps (rows_of_target t) → Each (IsNamed P) (rows_of_wait t) → FitsTarget t
+  entered : (i : Bool) (t : Target) (v : ℕ) → IsVersion true v → Each Keeps (rows_of_target t)
+      → Each (IsNamed P) (rows_of_wait t) → FitsTarget t
       → (n : Held) × (n.base ≡ target_base c t) × (n.kept ≡ v) × (lock_of n ≡ n) × Keeps n
       × KnowsRows P true i c (entered_at true i false c t v)
       × (locks_of (held_at_stage true i (entered_at true i false c t v)) ≡ n ∷ locks_of (rows_of_target t))
@@ -227,10 +243,13 @@ module _ (s : Shape) (call : Call) (P : OfRows) (is_row : (b : ℕ) (k : Kind) �
   exchange-does t v k =
       let x = entered i t v k.fits.2 k.kept k.known k.fits.1 in
       Takes x.0 (x.0 ∷ locks_of (rows_of_target t)) _ (turn x.0 x.1 x.2) (inl (refl, refl)) refl x.4
-      (λ apart. subst (λ w. Leads P c (OnKey (if w == v then entered_at true i false c t v else Lock t false)) (x.0 ∷ locks_of (rows_of_target t)) [])
-      (sym x.2) (subst (λ b. Leads P c (OnKey (if b then entered_at true i false c t v else Lock t false)) (x.0 ∷ locks_of (rows_of_target t)) [])
+      (λ apart. subst (λ w. Leads P c (OnKey (if w == v then entered_at true i false c t v else Lock t false))
+          (x.0 ∷ locks_of (rows_of_target t)) [])
+      (sym x.2) (subst (λ b. Leads P c (OnKey (if b then entered_at true i false c t v else Lock t false))
+          (x.0 ∷ locks_of (rows_of_target t)) [])
       (sym (eq-eqb v v refl)) (x.5, x.6, x.7)))
-      (λ value other. subst (λ b. Leads P c (OnKey (if b then entered_at true i false c t v else Lock t false)) (locks_of (rows_of_target t)) [])
+      (λ value other. subst (λ b. Leads P c (OnKey (if b then entered_at true i false c t v else Lock t false))
+          (locks_of (rows_of_target t)) [])
       (sym (ne_eqb value v (λ same. other (same ∙ sym x.2)))) again)
     where
       again : At i (rows_of_target t) (Lock t false)

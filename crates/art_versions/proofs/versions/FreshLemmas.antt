@@ -30,7 +30,8 @@ use Rattle.art_versions.proofs.versions.StepLemmas.{one-step}
 use Rattle.art_versions.proofs.versions.RunLemmas.{start-sound, idle-idle, opening-sound, zeros, one, root-row}
 
 -- a row that was claimed is not one whose number no claim has reached
-unreached : (shape : Shape) (words : List ℕ) (base number : ℕ) (l kind : Kind) → IsClaimed shape words base l → base ≡ base_of shape kind number
+unreached : (shape : Shape) (words : List ℕ) (base number : ℕ) (l kind : Kind) → IsClaimed shape words base l
+    → base ≡ base_of shape kind number
     → number < rows_of shape kind → slice_index words (claims_of kind) ≤ number → ⊥
 unreached shape words base number l kind x e within past =
     let same = base_of-once shape l kind x.number number x.within within (sym x.is ∙ e) in
@@ -43,13 +44,15 @@ module _ (variant : Variant) (shape : Shape) (n : ℕ) (s : State) (h : IsSound 
       (held-is-kept (IsSettled variant shape s) (setting shape variant x.call) (stage_of variant shape x.call x.process)
       (h.knows x.holder x.call x.process x.is_open) x.row x.among).1.claimed
 
-fresh-step : (variant : Variant) (shape : Shape) (n m : ℕ) (s later : State) (p : ℕ) → IsSound variant shape n s → IsSound variant shape m later
+fresh-step : (variant : Variant) (shape : Shape) (n m : ℕ) (s later : State) (p : ℕ) → IsSound variant shape n s
+    → IsSound variant shape m later
     → IsSteady variant shape s later → WritesOwn variant shape s p later → AreZeroPastClaims shape s.words
     → AreZeroPastClaims shape later.words
 fresh-step variant shape n m s later p h k steady own fresh kind number past within word low high =
     elim (cases_eq (slice_index later.words word) (slice_index s.words word)) [
       | inl same ↦ same ∙ fresh kind number before within word low high
-      | inr changed ↦ absurd (nobody (own (base_of shape kind number) kind (kind_at-base_of shape kind number within) word low high changed))
+      | inr changed ↦ absurd (nobody (own (base_of shape kind number) kind (kind_at-base_of shape kind number within) word
+          low high changed))
     ]
   where
     before : slice_index s.words (claims_of kind) ≤ number
@@ -63,7 +66,8 @@ fresh-step variant shape n m s later p h k steady own fresh kind number past wit
     nobody (inr (inr filled)) = unreached shape s.words (base_of shape kind number) number filled.kind kind
         (h.filled p filled.call filled.process filled.is_open (base_of shape kind number) filled.kind filled.fills) refl within before
 
-fresh-run : (variant : Variant) → IsFull variant → (plan : Plan) → plan.variant ≡ variant → 1 ≤ plan.shape.rows256 → (schedule : List ℕ) (n : ℕ)
+fresh-run : (variant : Variant) → IsFull variant → (plan : Plan) → plan.variant ≡ variant → 1 ≤ plan.shape.rows256
+    → (schedule : List ℕ) (n : ℕ)
     (first s : State) → n + length schedule < 2 ^ 62 → IsSound variant plan.shape n first → AreZeroPastClaims plan.shape first.words
     → run_on plan (Some first) schedule ≡ Some s → AreZeroPastClaims plan.shape s.words
 fresh-run variant full plan v root [] n first s few h k e = subst (λ x. AreZeroPastClaims plan.shape x.words) (same_Some first s e) k
@@ -114,7 +118,8 @@ reset-fresh shape s t is h kind number past within word low high =
     at : (x : ℕ) → 0 < x → slice_index t.words x ≡ slice_index s.words x
     at x some = ap (λ w. slice_index w x) is ∙ index-other s.words 0 0 x (differ-from x 0 some)
 
-start-fresh : (variant : Variant) → IsFull variant → (plan : Plan) (start : Contents) (words : List ℕ) → plan.variant ≡ variant → 1 ≤ plan.shape.rows256
+start-fresh : (variant : Variant) → IsFull variant → (plan : Plan) (start : Contents) (words : List ℕ) → plan.variant ≡ variant
+    → 1 ≤ plan.shape.rows256
     → StartsOn plan.shape plan.variant start words → AreZeroPastClaims plan.shape (opened_on plan words).words
 start-fresh variant full plan start words v root h =
     let first = start_plan plan.shape plan.variant start in

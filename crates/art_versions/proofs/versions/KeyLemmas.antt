@@ -1,5 +1,6 @@
 -- What each access of a call on a key does, where both full trees do the same.
-use Rattle.std.proofs.Common.{◌≡◌, ℕ, zero, suc, ◌+◌, ◌-◌, ◌*◌, ◌<◌, ◌≤◌, List, [], ◌∷◌, ◌++◌, refl, ap, sym, subst, ◌∙◌, Bool, true, false, arith}
+use Rattle.std.proofs.Common.{◌≡◌, ℕ, zero, suc, ◌+◌, ◌-◌, ◌*◌, ◌<◌, ◌≤◌, List, [], ◌∷◌, ◌++◌, refl, ap, sym, subst, ◌∙◌, Bool, true, false}
+use Rattle.std.proofs.Common.{arith}
 use Rattle.std.proofs.Common.{inl, inr}
 use Rattle.std.specs.Prelude.{◌⊎◌, nat_lt, ◌==◌, slice_index, Option, Some, None, if◌then◌else◌}
 use Rattle.events.specs.declared.event.Call.{Call}
@@ -8,7 +9,8 @@ use Rattle.art_rows.specs.declared.table.Kind.TheVariants.{Four, Sixteen, FortyE
 use Rattle.art_rows.specs.declared.table.Shape.{Shape}
 use Rattle.art_rows.specs.declared.table.Child.{Child}
 use Rattle.art_rows.specs.declared.table.Child.TheVariants.{Row as ChildRow}
-use Rattle.art_rows.specs.Table.{capacity, kind_at, child_at, root_base, rows_of, base_of, info_at, keys_at, more_keys_at, index_at, count_at}
+use Rattle.art_rows.specs.Table.{capacity, kind_at, child_at, root_base, rows_of, base_of, info_at, keys_at, more_keys_at, index_at}
+use Rattle.art_rows.specs.Table.{count_at}
 use Rattle.art_rows.specs.Words.{entries_of, child_of, row_word, keys16_word, more_keys16_word}
 use Rattle.art_rows.proofs.WriterLemmas.{new_place-most}
 use Rattle.art_rows.proofs.ByteLemmas.{key_byte-small, keys4-few, keys16-few}
@@ -26,15 +28,21 @@ use Rattle.art_stages.specs.declared.stage.Growing.{Growing}
 use Rattle.art_stages.specs.declared.stage.Spread.{Spread}
 use Rattle.art_stages.specs.declared.stage.Outcome.TheVariants.{Refused}
 use Rattle.art_stages.specs.declared.stage.Stage.{Stage}
-use Rattle.art_stages.specs.declared.stage.Stage.TheVariants.{Lock, Exchange, Wait, Leave, Between, Info, Find, FindKeys, FindMore, FindCount, Slot}
-use Rattle.art_stages.specs.declared.stage.Stage.TheVariants.{Check, CheckLast, LetGo, Take, Write, ClaimPair, StorePair, PutLoad, PutStore, PutLeaf}
-use Rattle.art_stages.specs.declared.stage.Stage.TheVariants.{PutKeys, PutMore, PutCount, ClaimGrow, GrowInfo, GrowLoad, GrowStore, SpreadIndex}
-use Rattle.art_stages.specs.declared.stage.Stage.TheVariants.{SpreadLoad, SpreadStore, GrowLeaf, GrowKeys, GrowCount, Hang, Obsolete, Unlock, Over}
-use Rattle.art_stages.specs.Stages.{row_at, held, count_in, keys_in, byte_in, place_in, leaf_place, keys_after, old_child, new_child, setting}
+use Rattle.art_stages.specs.declared.stage.Stage.TheVariants.{Lock, Exchange, Wait, Leave, Between, Info, Find, FindKeys, FindMore}
+use Rattle.art_stages.specs.declared.stage.Stage.TheVariants.{FindCount, Slot}
+use Rattle.art_stages.specs.declared.stage.Stage.TheVariants.{Check, CheckLast, LetGo, Take, Write, ClaimPair, StorePair, PutLoad, PutStore}
+use Rattle.art_stages.specs.declared.stage.Stage.TheVariants.{PutLeaf}
+use Rattle.art_stages.specs.declared.stage.Stage.TheVariants.{PutKeys, PutMore, PutCount, ClaimGrow, GrowInfo, GrowLoad, GrowStore}
+use Rattle.art_stages.specs.declared.stage.Stage.TheVariants.{SpreadIndex}
+use Rattle.art_stages.specs.declared.stage.Stage.TheVariants.{SpreadLoad, SpreadStore, GrowLeaf, GrowKeys, GrowCount, Hang, Obsolete}
+use Rattle.art_stages.specs.declared.stage.Stage.TheVariants.{Unlock, Over}
+use Rattle.art_stages.specs.Stages.{row_at, held, count_in, keys_in, byte_in, place_in, leaf_place, keys_after, old_child, new_child}
+use Rattle.art_stages.specs.Stages.{setting}
 use Rattle.art_stages.specs.Automaton.{copies_at, spreads_at, entries_at, keys_at_after, store_of, checked_at}
 use Rattle.art_steps.specs.Steps.{Turn}
 use Rattle.art_stages.specs.Calls.{OnKey}
-use Rattle.art_versions.specs.versions.Holding.{OfRows, Named, Each, IsSlot, child_rows, row_grown, HangsIn, IsCopied, FitsGrowing, IsKept, IsNamed, KnowsKey}
+use Rattle.art_versions.specs.versions.Holding.{OfRows, Named, Each, IsSlot, child_rows, row_grown, HangsIn, IsCopied, FitsGrowing, IsKept}
+use Rattle.art_versions.specs.versions.Holding.{IsNamed, KnowsKey}
 use Rattle.art_versions.specs.versions.Holding.{FitsPlace, HasSlot, IsFound, kept_at_place, rows_found}
 use Rattle.art_versions.specs.versions.Effects.{IsAmong, With, IsBehindVersion, Has, Reads, Writes, Fills, Ends, Releases, Claims, Answered}
 use Rattle.art_versions.specs.versions.Effects.{AccessDoes}
@@ -95,7 +103,8 @@ module _ (l : Bool) (s : Shape) (P : OfRows) where
       let same = rows_apart s base b kind k word e row (omega (arith, other.0)) other.1 (omega (arith, behind.0)) behind.1 in
       none (subst (λ x. IsSlot b x word) same.1 (subst (λ x. IsSlot x kind word) same.0 slot))
 
-module _ (variant : Variant) (s : Shape) (call : Call) (P : OfRows) (is_row : (b : ℕ) (k : Kind) → P b k → kind_at s b ≡ Some k) (root : P (root_base s) Full) where
+module _ (variant : Variant) (s : Shape) (call : Call) (P : OfRows) (is_row : (b : ℕ) (k : Kind) → P b k → kind_at s b ≡ Some k)
+    (root : P (root_base s) Full) where
   abbrev c : Setting
   c = setting s variant call
 
@@ -119,12 +128,14 @@ module _ (variant : Variant) (s : Shape) (call : Call) (P : OfRows) (is_row : (b
   put-keys-does base Four info was above keys k =
       let row = is_row base Four k.kept.0.1 in
       let behind : IsBehindVersion base Four (keys_at base) = (omega arith, omega arith) in
-      Writes (held base Four 0 was) _ _ _ refl (inl refl) k.kept.0 behind (λ ob ok oe os. absurd (bare l s P base Four (keys_at base) row behind (λ h. omega (arith, h.2)) ob ok oe os))
+      Writes (held base Four 0 was) _ _ _ refl (inl refl) k.kept.0 behind
+          (λ ob ok oe os. absurd (bare l s P base Four (keys_at base) row behind (λ h. omega (arith, h.2)) ob ok oe os))
       (record { kept = k.kept; known = tt; fits = tt; filled = tt }, refl, refl)
   put-keys-does base Sixteen info was above keys k =
       let row = is_row base Sixteen k.kept.0.1 in
       let behind : IsBehindVersion base Sixteen (keys_at base) = (omega arith, omega arith) in
-      Writes (held base Sixteen 0 was) _ _ _ refl (inl refl) k.kept.0 behind (λ ob ok oe os. absurd (bare l s P base Sixteen (keys_at base) row behind (λ h. omega (arith, h.2)) ob ok oe os))
+      Writes (held base Sixteen 0 was) _ _ _ refl (inl refl) k.kept.0 behind
+          (λ ob ok oe os. absurd (bare l s P base Sixteen (keys_at base) row behind (λ h. omega (arith, h.2)) ob ok oe os))
       (record { kept = k.kept; known = tt; fits = refl; filled = tt }, refl, refl)
   put-keys-does base FortyEight info was above keys k =
       let row = is_row base FortyEight k.kept.0.1 in
@@ -142,7 +153,8 @@ module _ (variant : Variant) (s : Shape) (call : Call) (P : OfRows) (is_row : (b
   put-more-does base Sixteen info was above keys e k =
       let row = is_row base Sixteen k.kept.0.1 in
       let behind : IsBehindVersion base Sixteen (more_keys_at base) = (omega arith, omega arith) in
-      Writes (held base Sixteen 0 was) _ _ _ refl (inl refl) k.kept.0 behind (λ ob ok oe os. absurd (bare l s P base Sixteen (more_keys_at base) row behind (λ h. omega (arith, h.2)) ob ok oe os))
+      Writes (held base Sixteen 0 was) _ _ _ refl (inl refl) k.kept.0 behind
+          (λ ob ok oe os. absurd (bare l s P base Sixteen (more_keys_at base) row behind (λ h. omega (arith, h.2)) ob ok oe os))
       (record { kept = k.kept; known = tt; fits = inl refl; filled = tt }, refl, refl)
   put-more-does base Four info was above keys e k = absurd (differ e)
     where
@@ -200,12 +212,14 @@ module _ (variant : Variant) (s : Shape) (call : Call) (P : OfRows) (is_row : (b
   pair-does h p base pair_word.Info k =
       let row = k.filled.0 in
       let behind : IsBehindVersion base Four (info_at base) = (omega arith, omega arith) in
-      Fills base Four _ _ _ refl refl behind row (λ ob ok oe os. absurd (bare l s P base Four (info_at base) row behind (λ x. omega (arith, x.2)) ob ok oe os))
+      Fills base Four _ _ _ refl refl behind row
+          (λ ob ok oe os. absurd (bare l s P base Four (info_at base) row behind (λ x. omega (arith, x.2)) ob ok oe os))
       (record { kept = k.kept; known = k.known; fits = k.fits; filled = k.filled }, refl, refl)
   pair-does h p base pair_word.Keys k =
       let row = k.filled.0 in
       let behind : IsBehindVersion base Four (keys_at base) = (omega arith, omega arith) in
-      Fills base Four _ _ _ refl refl behind row (λ ob ok oe os. absurd (bare l s P base Four (keys_at base) row behind (λ x. omega (arith, x.2)) ob ok oe os))
+      Fills base Four _ _ _ refl refl behind row
+          (λ ob ok oe os. absurd (bare l s P base Four (keys_at base) row behind (λ x. omega (arith, x.2)) ob ok oe os))
       (record { kept = k.kept; known = k.known; fits = k.fits; filled = k.filled }, refl, refl)
   pair-does h p base pair_word.Lesser k =
       let row = k.filled.0 in
@@ -244,19 +258,22 @@ module _ (variant : Variant) (s : Shape) (call : Call) (P : OfRows) (is_row : (b
   copies g place (suc n) kept fits copied less row =
       (record { kept = kept; known = tt; fits = (fits, copied, omega (arith, less)); filled = (row, tt) }, refl, refl)
 
-  spreads : (g : Growing) (place n : ℕ) → Each (IsKept l P) (rows_of_hold g.hold) → FitsGrowing g → g.hold.row.kind ≡ FortyEight → place + n ≤ 32
+  spreads : (g : Growing) (place n : ℕ) → Each (IsKept l P) (rows_of_hold g.hold) → FitsGrowing g
+      → g.hold.row.kind ≡ FortyEight → place + n ≤ 32
       → IsRow g → Grows g (spreads_at g place n)
   spreads g place zero kept fits is less row = (record { kept = kept; known = tt; fits = fits; filled = (row, tt) }, refl, refl)
   spreads g place (suc n) kept fits is less row =
       (record { kept = kept; known = tt; fits = (fits, is, omega (arith, less)); filled = (row, tt) }, refl, refl)
 
-  entries : (x : Spread) (entry n : ℕ) → Each (IsKept l P) (rows_of_hold x.growing.hold) → FitsGrowing x.growing → x.growing.hold.row.kind ≡ FortyEight
+  entries : (x : Spread) (entry n : ℕ) → Each (IsKept l P) (rows_of_hold x.growing.hold) → FitsGrowing x.growing
+      → x.growing.hold.row.kind ≡ FortyEight
       → x.place + x.left < 32 → entry + n ≤ 8 → IsRow x.growing → Grows x.growing (entries_at x entry n)
   entries x entry zero kept fits is less few row = spreads x.growing (x.place + 1) x.left kept fits is (omega (arith, less)) row
   entries x entry (suc n) kept fits is less few row =
       go (slice_index (entries_of x.word) entry == 0) (entries x (entry + 1) n kept fits is less (omega (arith, few)) row)
     where
-      go : (b : Bool) → Grows x.growing (entries_at x (entry + 1) n) → Grows x.growing (if b then entries_at x (entry + 1) n else SpreadLoad x entry n)
+      go : (b : Bool) → Grows x.growing (entries_at x (entry + 1) n)
+          → Grows x.growing (if b then entries_at x (entry + 1) n else SpreadLoad x entry n)
       go true rest = rest
       go false rest = (record { kept = kept; known = tt; fits = (fits, is, less, omega (arith, few)); filled = (row, tt) }, refl, refl)
 
@@ -264,15 +281,19 @@ module _ (variant : Variant) (s : Shape) (call : Call) (P : OfRows) (is_row : (b
   hangs : (g : Growing) → Each (IsKept l P) (rows_of_hold g.hold) → FitsGrowing g
       → Has (With P g.base (next_kind g.hold.row.kind)) c (OnKey (Hang g)) (locks_of (rows_of_hold g.hold)) []
   hangs g kept fits =
-      (record { kept = kept-with l s P g.base (next_kind g.hold.row.kind) (rows_of_hold g.hold) kept; known = (inr (refl, refl), tt); fits = fits; filled = tt }, refl, refl)
+      (record { kept = kept-with l s P g.base (next_kind g.hold.row.kind) (rows_of_hold g.hold) kept; known =
+          (inr (refl, refl), tt); fits = fits; filled = tt }, refl, refl)
 
   info-does : (old : ℕ) (kind : Kind) (info was : ℕ) (above : Option Held) (slot : ℕ) (keys : Keys) (base : ℕ)
-      → KnowsKey P c (GrowInfo (growing old kind info was above slot keys base)) → Doing (GrowInfo (growing old kind info was above slot keys base))
+      → KnowsKey P c (GrowInfo (growing old kind info was above slot keys base))
+      → Doing (GrowInfo (growing old kind info was above slot keys base))
   info-does old Four info was above slot keys base k =
       let row = k.filled.0 in
       let behind : IsBehindVersion base Sixteen (info_at base) = (omega arith, omega arith) in
-      Fills base Sixteen _ _ _ refl refl behind row (λ ob ok oe os. absurd (bare l s P base Sixteen (info_at base) row behind (λ x. omega (arith, x.2)) ob ok oe os))
-      (copies (growing old Four info was above slot keys base) 0 (count_in Four keys) k.kept k.fits tt (omega (arith, keys4-few keys.first)) row)
+      Fills base Sixteen _ _ _ refl refl behind row
+          (λ ob ok oe os. absurd (bare l s P base Sixteen (info_at base) row behind (λ x. omega (arith, x.2)) ob ok oe os))
+      (copies (growing old Four info was above slot keys base) 0 (count_in Four keys) k.kept k.fits tt
+          (omega (arith, keys4-few keys.first)) row)
   info-does old Sixteen info was above slot keys base k =
       let row = k.filled.0 in
       let behind : IsBehindVersion base FortyEight (info_at base) = (omega arith, omega arith) in
@@ -283,12 +304,14 @@ module _ (variant : Variant) (s : Shape) (call : Call) (P : OfRows) (is_row : (b
   info-does old FortyEight info was above slot keys base k =
       let row = k.filled.0 in
       let behind : IsBehindVersion base Full (info_at base) = (omega arith, omega arith) in
-      Fills base Full _ _ _ refl refl behind row (λ ob ok oe os. absurd (bare l s P base Full (info_at base) row behind (λ x. omega (arith, x.2)) ob ok oe os))
+      Fills base Full _ _ _ refl refl behind row
+          (λ ob ok oe os. absurd (bare l s P base Full (info_at base) row behind (λ x. omega (arith, x.2)) ob ok oe os))
       (record { kept = k.kept; known = tt; fits = (k.fits, refl, omega arith); filled = (row, tt) }, refl, refl)
   info-does old Full info was above slot keys base k =
       let row = k.filled.0 in
       let behind : IsBehindVersion base Full (info_at base) = (omega arith, omega arith) in
-      Ends base Full _ _ _ refl refl behind row (λ ob ok oe os. absurd (bare l s P base Full (info_at base) row behind (λ x. omega (arith, x.2)) ob ok oe os))
+      Ends base Full _ _ _ refl refl behind row
+          (λ ob ok oe os. absurd (bare l s P base Full (info_at base) row behind (λ x. omega (arith, x.2)) ob ok oe os))
       (hangs (growing old Full info was above slot keys base) k.kept k.fits)
 
   grow-store-does : (old : ℕ) (kind : Kind) (info was : ℕ) (above : Option Held) (slot : ℕ) (keys : Keys) (base place left word : ℕ)
@@ -314,10 +337,13 @@ module _ (variant : Variant) (s : Shape) (call : Call) (P : OfRows) (is_row : (b
   grow-store-does old FortyEight info was above slot keys base place left word k = absurd k.fits.1
   grow-store-does old Full info was above slot keys base place left word k = absurd k.fits.1
 
-  spread-load-does : (old : ℕ) (kind : Kind) (info was : ℕ) (above : Option Held) (slot : ℕ) (keys : Keys) (base place left index entry after : ℕ)
+  spread-load-does : (old : ℕ) (kind : Kind) (info was : ℕ) (above : Option Held) (slot : ℕ) (keys : Keys)
+      (base place left index entry after : ℕ)
       → kind ≡ FortyEight
-      → KnowsKey P c (SpreadLoad (record { growing = growing old kind info was above slot keys base; place = place; left = left; word = index }) entry after)
-      → Doing (SpreadLoad (record { growing = growing old kind info was above slot keys base; place = place; left = left; word = index }) entry after)
+      → KnowsKey P c (SpreadLoad (record { growing = growing old kind info was above slot keys base; place = place; left = left; word =
+          index }) entry after)
+      → Doing (SpreadLoad (record { growing = growing old kind info was above slot keys base; place = place; left = left; word =
+          index }) entry after)
   spread-load-does old FortyEight info was above slot keys base place left index entry after e k =
       let at : IsSlot old FortyEight (child_at FortyEight old (slice_index (entries_of index) entry - 1)) =
       (slice_index (entries_of index) entry - 1, entry-fits index entry, refl) in
@@ -344,12 +370,16 @@ module _ (variant : Variant) (s : Shape) (call : Call) (P : OfRows) (is_row : (b
       differ : Full ≡ FortyEight → ⊥
       differ e = cc
 
-  spread-store-does : (old : ℕ) (kind : Kind) (info was : ℕ) (above : Option Held) (slot : ℕ) (keys : Keys) (base place left index entry after word : ℕ)
+  spread-store-does : (old : ℕ) (kind : Kind) (info was : ℕ) (above : Option Held) (slot : ℕ) (keys : Keys)
+      (base place left index entry after word : ℕ)
       → kind ≡ FortyEight
-      → KnowsKey P c (SpreadStore (record { growing = growing old kind info was above slot keys base; place = place; left = left; word = index }) entry after word)
-      → Doing (SpreadStore (record { growing = growing old kind info was above slot keys base; place = place; left = left; word = index }) entry after word)
+      → KnowsKey P c (SpreadStore (record { growing = growing old kind info was above slot keys base; place = place; left = left; word =
+          index }) entry after word)
+      → Doing (SpreadStore (record { growing = growing old kind info was above slot keys base; place = place; left = left; word = index
+          }) entry after word)
   spread-store-does old FortyEight info was above slot keys base place left index entry after word e k =
-      let x : Spread = record { growing = growing old FortyEight info was above slot keys base; place = place; left = left; word = index } in
+      let x : Spread = record { growing = growing old FortyEight info was above slot keys base; place = place; left =
+          left; word = index } in
       let row = k.filled.0 in
       let at : IsSlot base Full (child_at Full base (8 * place + entry)) = (8 * place + entry, omega (arith, k.fits.2, k.fits.3), refl) in
       Fills base Full _ _ _ refl refl (slot-behind base Full _ at) row (λ ob ok oe os. k.known)
@@ -368,7 +398,8 @@ module _ (variant : Variant) (s : Shape) (call : Call) (P : OfRows) (is_row : (b
       differ e = cc
 
   grow-leaf-does : (old : ℕ) (kind : Kind) (info was : ℕ) (above : Option Held) (slot : ℕ) (keys : Keys) (base : ℕ)
-      → KnowsKey P c (GrowLeaf (growing old kind info was above slot keys base)) → Doing (GrowLeaf (growing old kind info was above slot keys base))
+      → KnowsKey P c (GrowLeaf (growing old kind info was above slot keys base))
+      → Doing (GrowLeaf (growing old kind info was above slot keys base))
   grow-leaf-does old Four info was above slot keys base k =
       let g = growing old Four info was above slot keys base in
       let row = k.filled.0 in
@@ -400,9 +431,11 @@ module _ (variant : Variant) (s : Shape) (call : Call) (P : OfRows) (is_row : (b
       (λ ob ok oe os. child-good s P is_row (new_leaf call) (new-leaf-rows s P call))
       (hangs g k.kept k.fits)
 
-  keys-after : (g : Growing) (place left : ℕ) → Each (IsKept l P) (rows_of_hold g.hold) → FitsGrowing g → IsCopied g.hold.row.kind → place + left < 32
+  keys-after : (g : Growing) (place left : ℕ) → Each (IsKept l P) (rows_of_hold g.hold) → FitsGrowing g → IsCopied g.hold.row.kind
+      → place + left < 32
       → IsRow g → Grows g (keys_at_after g place left)
-  keys-after g place zero kept fits copied less row = (record { kept = kept; known = tt; fits = (fits, copied); filled = (row, tt) }, refl, refl)
+  keys-after g place zero kept fits copied less row =
+      (record { kept = kept; known = tt; fits = (fits, copied); filled = (row, tt) }, refl, refl)
   keys-after g place (suc n) kept fits copied less row =
       (record { kept = kept; known = tt; fits = (fits, copied, omega (arith, less)); filled = (row, tt) }, refl, refl)
 
@@ -431,19 +464,22 @@ module _ (variant : Variant) (s : Shape) (call : Call) (P : OfRows) (is_row : (b
       go true e = Fills base Sixteen (keys_at base) _ _ (ap choose e) refl first k.filled.0
           (λ ob ok oe os. absurd (bare l s P base Sixteen (keys_at base) k.filled.0 first (λ x. omega (arith, x.2)) ob ok oe os)) after
       go false e = Fills base Sixteen (more_keys_at base) _ _ (ap choose e) refl second k.filled.0
-          (λ ob ok oe os. absurd (bare l s P base Sixteen (more_keys_at base) k.filled.0 second (λ x. omega (arith, x.2)) ob ok oe os)) after
+          (λ ob ok oe os. absurd (bare l s P base Sixteen (more_keys_at base) k.filled.0 second (λ x. omega (arith, x.2))
+              ob ok oe os)) after
   grow-keys-does old Sixteen info was above slot keys base place left k =
       let g = growing old Sixteen info was above slot keys base in
       let row = k.filled.0 in
       let behind : IsBehindVersion base FortyEight (index_at base (8 * place)) = (omega (arith, k.fits.2), omega (arith, k.fits.2)) in
       Fills base FortyEight _ _ _ refl refl behind row
-      (λ ob ok oe os. absurd (bare l s P base FortyEight (index_at base (8 * place)) row behind (λ x. omega (arith, x.2, k.fits.2)) ob ok oe os))
+      (λ ob ok oe os. absurd (bare l s P base FortyEight (index_at base (8 * place)) row behind
+          (λ x. omega (arith, x.2, k.fits.2)) ob ok oe os))
       (keys-after g place left k.kept k.fits.0 tt k.fits.2 row)
   grow-keys-does old FortyEight info was above slot keys base place left k = absurd k.fits.1
   grow-keys-does old Full info was above slot keys base place left k = absurd k.fits.1
 
   grow-count-does : (old : ℕ) (kind : Kind) (info was : ℕ) (above : Option Held) (slot : ℕ) (keys : Keys) (base : ℕ)
-      → KnowsKey P c (GrowCount (growing old kind info was above slot keys base)) → Doing (GrowCount (growing old kind info was above slot keys base))
+      → KnowsKey P c (GrowCount (growing old kind info was above slot keys base))
+      → Doing (GrowCount (growing old kind info was above slot keys base))
   grow-count-does old Four info was above slot keys base k =
       let row = k.filled.0 in
       let behind : IsBehindVersion base Sixteen (count_at Sixteen base) = (omega arith, omega arith) in
@@ -463,7 +499,8 @@ module _ (variant : Variant) (s : Shape) (call : Call) (P : OfRows) (is_row : (b
       → KnowsKey P c (Hang g) → Doing (Hang g)
   hang-does g None e kept fits k = absurd fits
   hang-does g (Some a) e kept fits k =
-      Writes (lock_of a) _ _ _ refl (inr (subst (λ o. IsAmong (lock_of a) (locks_of (all_of o))) (sym e) (inl refl))) kept.0 (slot-behind a.base a.kind g.slot fits)
+      Writes (lock_of a) _ _ _ refl (inr (subst (λ o. IsAmong (lock_of a) (locks_of (all_of o))) (sym e) (inl refl))) kept.0
+          (slot-behind a.base a.kind g.slot fits)
       (λ ob ok oe os. child-good s P is_row (ChildRow g.base (next_kind g.hold.row.kind)) k.known)
       (record { kept = k.kept; known = tt; fits = tt; filled = tt }, refl, refl)
 
@@ -500,23 +537,27 @@ module _ (variant : Variant) (s : Shape) (call : Call) (P : OfRows) (is_row : (b
         → KnowsKey P c (Find (record { row = held base kind info was; above = above; slot = slot }))
         → Doing (Find (record { row = held base kind info was; above = above; slot = slot }))
     find-does base Four info was above slot k =
-        Reads _ _ refl (λ value good. finds variant s call P is_row root own.checked base Four info was above slot value k.kept k.fits (λ at e. absurd (differ e)))
+        Reads _ _ refl (λ value good. finds variant s call P is_row root own.checked base Four info was above slot value k.kept k.fits
+            (λ at e. absurd (differ e)))
       where
         differ : Four ≡ Full → ⊥
         differ e = cc
     find-does base Sixteen info was above slot k =
-        Reads _ _ refl (λ value good. finds variant s call P is_row root own.checked base Sixteen info was above slot value k.kept k.fits (λ at e. absurd (differ e)))
+        Reads _ _ refl (λ value good. finds variant s call P is_row root own.checked base Sixteen info was above slot value k.kept k.fits
+            (λ at e. absurd (differ e)))
       where
         differ : Sixteen ≡ Full → ⊥
         differ e = cc
     find-does base FortyEight info was above slot k =
-        Reads _ _ refl (λ value good. finds variant s call P is_row root own.checked base FortyEight info was above slot value k.kept k.fits (λ at e. absurd (differ e)))
+        Reads _ _ refl (λ value good. finds variant s call P is_row root own.checked base FortyEight info was above slot value k.kept
+            k.fits (λ at e. absurd (differ e)))
       where
         differ : FortyEight ≡ Full → ⊥
         differ e = cc
     find-does base Full info was above slot k =
         Reads _ _ refl (λ value good. finds variant s call P is_row root own.checked base Full info was above slot value k.kept k.fits
-        (λ at e. good base Full (is_row base Full (place-row l i P (record { row = held base Full info was; above = above; slot = slot }) k.kept).1) at))
+        (λ at e. good base Full (is_row base Full (place-row l i P (record { row = held base Full info was; above = above; slot = slot
+            }) k.kept).1) at))
 
     pub key-does : (stage : Stage) → KnowsKey P c stage → Doing stage
     key-does (Leave d) k = absurd k.fits
@@ -530,7 +571,8 @@ module _ (variant : Variant) (s : Shape) (call : Call) (P : OfRows) (is_row : (b
     key-does (LetGo above p f) k = own.let_go above p f k
     key-does (Take t) k = own.take t k
     key-does (Find p) k = find-does p.row.base p.row.kind p.row.info p.row.kept p.above p.slot k
-    key-does (FindKeys p count) k = Reads _ _ refl (λ value good. (record { kept = k.kept; known = tt; fits = k.fits; filled = tt }, refl, refl))
+    key-does (FindKeys p count) k = Reads _ _ refl (λ value good. (record { kept = k.kept; known = tt; fits = k.fits; filled =
+        tt }, refl, refl))
     key-does (FindMore p count first) k = Reads _ _ refl (λ value good. among variant s call P is_row root own.checked p _ k.kept k.fits)
     key-does (FindCount p index) k = Reads _ _ refl (λ value good. own.checked p _ k.kept k.fits tt tt)
     key-does (Slot p slot) k = Reads _ _ refl (λ value good.
@@ -543,7 +585,8 @@ module _ (variant : Variant) (s : Shape) (call : Call) (P : OfRows) (is_row : (b
     key-does (ClaimPair h p) k = Claims Four _ refl refl
         (λ value l. claim-after Four value _ (Unlock h (Some Refused)) (locks_of (rows_of_hold h)) ((base_of s Four value, Four) ∷ [])
         (λ l. (record { kept = k.kept; known = k.known; fits = k.fits; filled = (kind_at-base_of s Four value l, tt) }, refl, refl)) l)
-        (λ value l. claim-fails Four value (StorePair h p (base_of s Four value) pair_word.Info) (Unlock h (Some Refused)) (locks_of (rows_of_hold h))
+        (λ value l. claim-fails Four value (StorePair h p (base_of s Four value) pair_word.Info) (Unlock h (Some Refused))
+            (locks_of (rows_of_hold h))
         (record { kept = k.kept; known = tt; fits = tt; filled = tt }, refl, refl) l)
     key-does (StorePair h p base word) k = pair-does h p base word k
     key-does (PutLoad h keys left) k = Reads _ _ refl (λ value good. (
@@ -574,14 +617,16 @@ module _ (variant : Variant) (s : Shape) (call : Call) (P : OfRows) (is_row : (b
     key-does (ClaimGrow h slot keys) k = Claims (next_kind h.row.kind) _ refl refl
         (λ value l. claim-after (next_kind h.row.kind) value _ (Unlock h (Some Refused)) (locks_of (rows_of_hold h))
         ((base_of s (next_kind h.row.kind) value, next_kind h.row.kind) ∷ [])
-        (λ l. (record { kept = k.kept; known = tt; fits = k.fits; filled = (kind_at-base_of s (next_kind h.row.kind) value l, tt) }, refl, refl)) l)
+        (λ l. (record { kept = k.kept; known = tt; fits = k.fits; filled = (kind_at-base_of s (next_kind h.row.kind) value l, tt)
+            }, refl, refl)) l)
         (λ value l. claim-fails (next_kind h.row.kind) value _ (Unlock h (Some Refused)) (locks_of (rows_of_hold h))
         (record { kept = k.kept; known = tt; fits = tt; filled = tt }, refl, refl) l)
     key-does (GrowInfo g) k = info-does g.hold.row.base g.hold.row.kind g.hold.row.info g.hold.row.kept g.hold.above g.slot g.keys g.base k
     key-does (GrowLoad g place left) k = Reads _ _ refl (λ value good. (
       record {
         kept = k.kept;
-        known = child-good s P is_row (child_of s value) (good g.hold.row.base g.hold.row.kind (is_row g.hold.row.base g.hold.row.kind k.kept.0.1)
+        known = child-good s P is_row (child_of s value)
+            (good g.hold.row.base g.hold.row.kind (is_row g.hold.row.base g.hold.row.kind k.kept.0.1)
             (place, omega (arith, k.fits.2), refl));
         fits = k.fits;
         filled = k.filled;
@@ -592,20 +637,27 @@ module _ (variant : Variant) (s : Shape) (call : Call) (P : OfRows) (is_row : (b
     key-does (GrowStore g place left word) k =
         grow-store-does g.hold.row.base g.hold.row.kind g.hold.row.info g.hold.row.kept g.hold.above g.slot g.keys g.base place left word k
     key-does (SpreadIndex g place left) k = Reads _ _ refl (λ value good.
-        entries (record { growing = g; place = place; left = left; word = value }) 0 8 k.kept k.fits.0 k.fits.1 k.fits.2 (omega arith) k.filled.0)
+        entries (record { growing = g; place = place; left = left; word = value }) 0 8 k.kept k.fits.0 k.fits.1 k.fits.2
+            (omega arith) k.filled.0)
     key-does (SpreadLoad x entry after) k =
         let g = x.growing in
-        spread-load-does g.hold.row.base g.hold.row.kind g.hold.row.info g.hold.row.kept g.hold.above g.slot g.keys g.base x.place x.left x.word entry after
+        spread-load-does g.hold.row.base g.hold.row.kind g.hold.row.info g.hold.row.kept g.hold.above g.slot g.keys g.base x.place x.left
+            x.word entry after
         k.fits.1 k
     key-does (SpreadStore x entry after word) k =
         let g = x.growing in
-        spread-store-does g.hold.row.base g.hold.row.kind g.hold.row.info g.hold.row.kept g.hold.above g.slot g.keys g.base x.place x.left x.word entry after
+        spread-store-does g.hold.row.base g.hold.row.kind g.hold.row.info g.hold.row.kept g.hold.above g.slot g.keys g.base x.place x.left
+            x.word entry after
         word k.fits.1 k
-    key-does (GrowLeaf g) k = grow-leaf-does g.hold.row.base g.hold.row.kind g.hold.row.info g.hold.row.kept g.hold.above g.slot g.keys g.base k
+    key-does (GrowLeaf g) k = grow-leaf-does g.hold.row.base g.hold.row.kind g.hold.row.info g.hold.row.kept g.hold.above
+        g.slot g.keys g.base k
     key-does (GrowKeys g place left) k =
         grow-keys-does g.hold.row.base g.hold.row.kind g.hold.row.info g.hold.row.kept g.hold.above g.slot g.keys g.base place left k
-    key-does (GrowCount g) k = grow-count-does g.hold.row.base g.hold.row.kind g.hold.row.info g.hold.row.kept g.hold.above g.slot g.keys g.base k
+    key-does (GrowCount g) k = grow-count-does g.hold.row.base g.hold.row.kind g.hold.row.info g.hold.row.kept g.hold.above
+        g.slot g.keys g.base k
     key-does (Hang g) k = hang-does g g.hold.above refl k.kept.1 k.fits k
-    key-does (Obsolete h) k = Releases (lock_of h.row) (locks_of (all_of h.above)) _ _ refl (inl (refl, refl)) refl (inr refl) k.kept.0 (released variant s call P is_row root h.above _ k.kept.1)
-    key-does (Unlock h outcome) k = Releases (lock_of h.row) (locks_of (all_of h.above)) _ _ refl (inl (refl, refl)) refl (inl refl) k.kept.0 (released variant s call P is_row root h.above _ k.kept.1)
+    key-does (Obsolete h) k = Releases (lock_of h.row) (locks_of (all_of h.above)) _ _ refl (inl (refl, refl)) refl (inr refl) k.kept.0
+        (released variant s call P is_row root h.above _ k.kept.1)
+    key-does (Unlock h outcome) k = Releases (lock_of h.row) (locks_of (all_of h.above)) _ _ refl (inl (refl, refl)) refl (inl refl)
+        k.kept.0 (released variant s call P is_row root h.above _ k.kept.1)
     key-does (Over outcome) k = Answered _ refl refl

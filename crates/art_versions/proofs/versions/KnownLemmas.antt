@@ -14,10 +14,14 @@ use Rattle.art_stages.specs.declared.stage.Held.{Held}
 use Rattle.art_stages.specs.declared.stage.Frame.{Frame}
 use Rattle.art_stages.specs.declared.stage.ScanStep.{ScanStep}
 use Rattle.art_stages.specs.declared.stage.Stage.{Stage}
-use Rattle.art_stages.specs.declared.stage.Stage.TheVariants.{Lock, Exchange, Wait, Leave, Between, Info, Find, FindKeys, FindMore, FindCount, Slot}
-use Rattle.art_stages.specs.declared.stage.Stage.TheVariants.{Check, CheckLast, LetGo, Take, Write, ClaimPair, StorePair, PutLoad, PutStore, PutLeaf}
-use Rattle.art_stages.specs.declared.stage.Stage.TheVariants.{PutKeys, PutMore, PutCount, ClaimGrow, GrowInfo, GrowLoad, GrowStore, SpreadIndex}
-use Rattle.art_stages.specs.declared.stage.Stage.TheVariants.{SpreadLoad, SpreadStore, GrowLeaf, GrowKeys, GrowCount, Hang, Obsolete, Unlock, Over}
+use Rattle.art_stages.specs.declared.stage.Stage.TheVariants.{Lock, Exchange, Wait, Leave, Between, Info, Find, FindKeys, FindMore}
+use Rattle.art_stages.specs.declared.stage.Stage.TheVariants.{FindCount, Slot}
+use Rattle.art_stages.specs.declared.stage.Stage.TheVariants.{Check, CheckLast, LetGo, Take, Write, ClaimPair, StorePair, PutLoad, PutStore}
+use Rattle.art_stages.specs.declared.stage.Stage.TheVariants.{PutLeaf}
+use Rattle.art_stages.specs.declared.stage.Stage.TheVariants.{PutKeys, PutMore, PutCount, ClaimGrow, GrowInfo, GrowLoad, GrowStore}
+use Rattle.art_stages.specs.declared.stage.Stage.TheVariants.{SpreadIndex}
+use Rattle.art_stages.specs.declared.stage.Stage.TheVariants.{SpreadLoad, SpreadStore, GrowLeaf, GrowKeys, GrowCount, Hang, Obsolete}
+use Rattle.art_stages.specs.declared.stage.Stage.TheVariants.{Unlock, Over}
 use Rattle.art_stages.specs.declared.stage.Position.{Position}
 use Rattle.art_stages.specs.declared.stage.Down.{Down}
 use Rattle.art_stages.specs.Stages.{held, row_at}
@@ -51,7 +55,8 @@ module _ (P : OfRows) where
   below-kept true i d kept k = k
   below-kept false i d kept k = tt
 
-  between-kept : (l : Bool) (d : Down) (kept : ℕ) → Each (IsKept l P) (held d.base d.kind 0 kept ∷ d.above ∷ []) → Each (IsKept l P) (held_between l d kept)
+  between-kept : (l : Bool) (d : Down) (kept : ℕ) → Each (IsKept l P) (held d.base d.kind 0 kept ∷ d.above ∷ [])
+      → Each (IsKept l P) (held_between l d kept)
   between-kept true d kept k = k
   between-kept false d kept k = tt
 
@@ -152,7 +157,8 @@ found-row base [] h = absurd (false≢true h)
 found-row base (n ∷ rows) h = go (n.base == base) refl h (found-row base rows)
   where
     go : (b : Bool) → (n.base == base) ≡ b → (if b then true else has_row base (map row_at rows)) ≡ true
-        → (has_row base (map row_at rows) ≡ true → (m : Held) × IsAmong m rows × (m.base ≡ base)) → (m : Held) × IsAmong m (n ∷ rows) × (m.base ≡ base)
+        → (has_row base (map row_at rows) ≡ true → (m : Held) × IsAmong m rows × (m.base ≡ base)) → (m : Held)
+        × IsAmong m (n ∷ rows) × (m.base ≡ base)
     go true e k later = (n, inl refl, number_is n.base base e)
     go false e k later = let r = later k in (r.0, inr r.1, r.2)
 

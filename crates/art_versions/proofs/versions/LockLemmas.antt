@@ -1,5 +1,6 @@
 -- The rows that a call holds at its stage are those that it has locked by its accesses and not released since.
-use Rattle.std.proofs.Common.{◌≡◌, ◌≢◌, ℕ, ◌+◌, ◌*◌, ◌^◌, ◌<◌, ◌≤◌, List, [], ◌∷◌, ◌++◌, length, take, refl, ap, sym, subst, ◌∙◌, inl, inr, arith}
+use Rattle.std.proofs.Common.{◌≡◌, ◌≢◌, ℕ, ◌+◌, ◌*◌, ◌^◌, ◌<◌, ◌≤◌, List, [], ◌∷◌, ◌++◌, length, take, refl, ap, sym, subst, ◌∙◌, inl, inr}
+use Rattle.std.proofs.Common.{arith}
 use Rattle.std.specs.Prelude.{◌⊎◌, slice_get, slice_index, Option, Some, None}
 use Rattle.std.proofs.lemmas.List.{length-append, take-append-le}
 use Rattle.std.proofs.Math.Seq.{take-append_seam}
@@ -20,14 +21,16 @@ use Rattle.art_steps.specs.Steps.{Turn, Asks, Answers}
 use Rattle.art_steps.specs.Rows.{Setting, locks}
 use Rattle.art_steps.specs.Act.{act}
 use Rattle.art_steps.specs.Fits.{word_of}
-use Rattle.art_steps.proofs.TurnLemmas.{load-store, load-exchange, store-exchange, exchange-store, add-store, add-exchange, store-word, exchanges-same}
+use Rattle.art_steps.proofs.TurnLemmas.{load-store, load-exchange, store-exchange, exchange-store, add-store, add-exchange, store-word}
+use Rattle.art_steps.proofs.TurnLemmas.{exchanges-same}
 use Rattle.art_steps.proofs.TurnLemmas.{asks-same, asks-answers}
 use Rattle.art_stages.specs.declared.stage.Held.{Held}
 use Rattle.art_stages.specs.Stages.{setting}
 use Rattle.art_stages.specs.Calls.{CallAt, call_turn, call_after, call_begun}
 use Rattle.art_core.specs.declared.process.Process.{Process}
 use Rattle.art_core.specs.Accesses.{told}
-use Rattle.art_core.specs.Core.{Plan, State, Move, Invokes, Makes, Responds, after_move, word_of_move, move_of, invocation, next_call, move_from, opened_on}
+use Rattle.art_core.specs.Core.{Plan, State, Move, Invokes, Makes, Responds, after_move, word_of_move, move_of, invocation, next_call}
+use Rattle.art_core.specs.Core.{move_from, opened_on}
 use Rattle.art_core.specs.Core.{step}
 use Rattle.art_core.specs.Runs.{run_on}
 use Rattle.art_versions.specs.versions.Locks.{HasLocked, Holds, LocksAreHeld}
@@ -74,7 +77,8 @@ module _ (plan : Plan) (call : Call) where
       within : h.i < length got
       within = slice_get_within got h.i v h.made
 
-  newest : (got : List ℕ) (base v : ℕ) (mark : Option Point) → next got ≡ Asks (Exchange base v (locked_word v)) mark → HasLocked plan call (got ++ v ∷ []) base v
+  newest : (got : List ℕ) (base v : ℕ) (mark : Option Point) → next got ≡ Asks (Exchange base v (locked_word v)) mark
+      → HasLocked plan call (got ++ v ∷ []) base v
   newest got base v mark e = record {
     i = length got;
     point = mark;
@@ -84,7 +88,8 @@ module _ (plan : Plan) (call : Call) where
   }
 
   less : (got : List ℕ) (w base v : ℕ) → HasLocked plan call (got ++ w ∷ []) base v
-      → (HasLocked plan call got base v × Stays got base) ⊎ ((mark : Option Point) × (next got ≡ Asks (Exchange base v (locked_word v)) mark) × (w ≡ v))
+      → (HasLocked plan call got base v × Stays got base)
+      ⊎ ((mark : Option Point) × (next got ≡ Asks (Exchange base v (locked_word v)) mark) × (w ≡ v))
   less got w base v h = elim (cases_lt h.i (length got)) [
     | inl before ↦ inl (
       record {
@@ -117,7 +122,8 @@ module _ (plan : Plan) (call : Call) where
 
   -- nothing is locked or released
   stay : (got : List ℕ) (w : ℕ) (hs : List Held) → AreLocked got hs → ((h : Held) → IsAmong h hs → Stays got h.base)
-      → ((base v : ℕ) (mark : Option Point) → next got ≡ Asks (Exchange base v (locked_word v)) mark → w ≡ v → ⊥) → AreLocked (got ++ w ∷ []) hs
+      → ((base v : ℕ) (mark : Option Point) → next got ≡ Asks (Exchange base v (locked_word v)) mark → w ≡ v → ⊥)
+      → AreLocked (got ++ w ∷ []) hs
   stay got w hs k stays none = record {
     locked = λ h a. more got w h.base h.kept (k.locked h a) (stays h a);
     held = λ base v x. elim (less got w base v x) [
@@ -126,7 +132,8 @@ module _ (plan : Plan) (call : Call) where
     ];
   }
 
-module _ (plan : Plan) (n : ℕ) (s : State) (sound : IsSound plan.variant plan.shape n s) (p : ℕ) (q : Process) (call : Call) (opens : IsOpen s p call q)
+module _ (plan : Plan) (n : ℕ) (s : State) (sound : IsSound plan.variant plan.shape n s) (p : ℕ) (q : Process) (call : Call)
+    (opens : IsOpen s p call q)
     (k : AreLocked plan call q.got (held_by plan.variant plan.shape call q)) where
   abbrev c : Setting
   c = setting plan.shape plan.variant call
@@ -150,7 +157,8 @@ module _ (plan : Plan) (n : ℕ) (s : State) (sound : IsSound plan.variant plan.
   row-of h a = settled-row plan.variant plan.shape s h.base h.kind (held-is-kept P c place (sound.knows p call q opens) h a).1
 
   -- a word that is no version is stored
-  stores : (b : ℕ) (kind : Kind) (word value : ℕ) (mark : Option Point) → call_turn c place ≡ Asks (Store word value) mark → IsBehindVersion b kind word
+  stores : (b : ℕ) (kind : Kind) (word value : ℕ) (mark : Option Point) → call_turn c place ≡ Asks (Store word value) mark
+      → IsBehindVersion b kind word
       → kind_at plan.shape b ≡ Some kind → AreLocked plan call (q.got ++ 0 ∷ []) (holds c place)
   stores b kind word value mark turn behind row = stay plan call q.got 0 (holds c place) k
       (λ h a v m e. other h a (store-word (sym (turn-is (Asks (Store word value) mark) turn) ∙ e)))
@@ -158,7 +166,8 @@ module _ (plan : Plan) (n : ℕ) (s : State) (sound : IsSound plan.variant plan.
     where
       other : (h : Held) → IsAmong h (holds c place) → word ≡ h.base → ⊥
       other h a same =
-          let one = rows_apart plan.shape h.base b h.kind kind word (row-of h a) row (omega (arith, same)) (omega (arith, same, some-words h.kind))
+          let one = rows_apart plan.shape h.base b h.kind kind word (row-of h a) row (omega (arith, same))
+              (omega (arith, same, some-words h.kind))
           (omega (arith, behind.0)) behind.1 in
           omega (arith, same, one.0, behind.0)
 
@@ -198,7 +207,8 @@ module _ (plan : Plan) (n : ℕ) (s : State) (sound : IsSound plan.variant plan.
       (elim (cases_eq (slice_index s.words x.base) x.kept) [
         | inl same ↦ subst (λ w. AreLocked plan call (q.got ++ w ∷ []) (holds c (call_after c place w))) (sym same)
             (subst (AreLocked plan call (q.got ++ x.kept ∷ [])) (sym (taken (λ y b f. locked-apart y b same f)).1) takes)
-        | inr differs ↦ subst (AreLocked plan call (q.got ++ slice_index s.words x.base ∷ [])) (sym (other (slice_index s.words x.base) differs).1)
+        | inr differs ↦ subst (AreLocked plan call (q.got ++ slice_index s.words x.base ∷ []))
+            (sym (other (slice_index s.words x.base) differs).1)
             (stay plan call q.got (slice_index s.words x.base) (holds c place) k (λ h b v m f. exchange-store (sym its ∙ f))
             (λ base v m f g. differs (g ∙ sym (exchanges-same (sym its ∙ f)).1)))
       ])
@@ -221,7 +231,8 @@ module _ (plan : Plan) (n : ℕ) (s : State) (sound : IsSound plan.variant plan.
       takes : AreLocked plan call (q.got ++ x.kept ∷ []) all
       takes = record {
         locked = λ h b. elim (with-split x (holds c place) all h with b) [
-          | inl same ↦ subst (λ z. HasLocked plan call (q.got ++ x.kept ∷ []) z.base z.kept) (sym same) (newest plan call q.got x.base x.kept at its)
+          | inl same ↦ subst (λ z. HasLocked plan call (q.got ++ x.kept ∷ []) z.base z.kept) (sym same)
+              (newest plan call q.got x.base x.kept at its)
           | inr old ↦ more plan call q.got x.kept h.base h.kept (k.locked h old) (λ v m f. exchange-store (sym its ∙ f))
         ];
         held = λ base v y. elim (less plan call q.got x.kept base v y) [
@@ -229,7 +240,8 @@ module _ (plan : Plan) (n : ℕ) (s : State) (sound : IsSound plan.variant plan.
           | inr t ↦ let same = exchanges-same (sym its ∙ t.1) in (x, with-here x (holds c place) all with, same.0, same.1)
         ];
       }
-  access a mark e (Claims kind at turn none claimed full) = subst After (asks-same (sym turn ∙ e)) (elim (cases_lt value (rows_of plan.shape kind)) [
+  access a mark e (Claims kind at turn none claimed full) =
+      subst After (asks-same (sym turn ∙ e)) (elim (cases_lt value (rows_of plan.shape kind)) [
     | inl low ↦ subst (AreLocked plan call (q.got ++ value ∷ [])) (sym (claimed value low).1) added
     | inr past ↦ subst (AreLocked plan call (q.got ++ value ∷ [])) (sym (full value past).1) added
   ])
@@ -238,7 +250,8 @@ module _ (plan : Plan) (n : ℕ) (s : State) (sound : IsSound plan.variant plan.
       value = slice_index s.words (claims_of kind)
 
       added : AreLocked plan call (q.got ++ value ∷ []) (holds c place)
-      added = stay plan call q.got value (holds c place) k (λ h b v m f. add-store (sym (turn-is (Asks (Add (claims_of kind)) at) turn) ∙ f))
+      added = stay plan call q.got value (holds c place) k
+          (λ h b v m f. add-store (sym (turn-is (Asks (Add (claims_of kind)) at) turn) ∙ f))
           (λ base v m f g. add-exchange (sym (turn-is (Asks (Add (claims_of kind)) at) turn) ∙ f))
   access a mark e (Answered reply turn none) = absurd (asks-answers (sym e ∙ turn))
 
@@ -254,13 +267,15 @@ none-got plan call hs e = record {
 
 module _ (plan : Plan) (full : IsFull plan.variant) (root : 1 ≤ plan.shape.rows256) (n : ℕ) (few : n < 2 ^ 62) (s : State)
     (sound : IsSound plan.variant plan.shape n s) (k : Logged plan s) where
-  own : (p : ℕ) (q : Process) (here : slice_get s.processes p ≡ Some q) (o : Option Call) (m : Move) → q.call ≡ o → move_from plan p q o ≡ Some m
+  own : (p : ℕ) (q : Process) (here : slice_get s.processes p ≡ Some q) (o : Option Call) (m : Move) → q.call ≡ o
+      → move_from plan p q o ≡ Some m
       → (call : Call) → (after_move p m (slice_index s.words (word_of_move m)) q).call ≡ Some call
       → AreLocked plan call (after_move p m (slice_index s.words (word_of_move m)) q).got
       (held_by plan.variant plan.shape call (after_move p m (slice_index s.words (word_of_move m)) q))
   own p q here None m e f = begins (next_call plan p q) f
     where
-      begins : (o : Option Call) → invocation o ≡ Some m → (call : Call) → (after_move p m (slice_index s.words (word_of_move m)) q).call ≡ Some call
+      begins : (o : Option Call) → invocation o ≡ Some m → (call : Call)
+          → (after_move p m (slice_index s.words (word_of_move m)) q).call ≡ Some call
           → AreLocked plan call (after_move p m (slice_index s.words (word_of_move m)) q).got
           (held_by plan.variant plan.shape call (after_move p m (slice_index s.words (word_of_move m)) q))
       begins None g = absurd (none-some m g)
@@ -269,14 +284,16 @@ module _ (plan : Plan) (full : IsFull plan.variant) (root : 1 ≤ plan.shape.row
           (held_by plan.variant plan.shape call (after_move p m (slice_index s.words (word_of_move m)) q))) (same_Some (Invokes first) m g)
           (λ call its. none-got plan call (holds (setting plan.shape plan.variant call) (call_begun (setting plan.shape plan.variant call)))
           (begun-idle plan.variant plan.shape root n s sound few p q here call call).0)
-  own p q here (Some open-call) m e f = goes (act plan.shape plan.variant open-call q.got) (sym (next-turn plan.variant plan.shape open-call q)) f
+  own p q here (Some open-call) m e f = goes (act plan.shape plan.variant open-call q.got)
+      (sym (next-turn plan.variant plan.shape open-call q)) f
     where
       opens : IsOpen s p open-call q
       opens = record { own = here; is_open = e }
 
       doing : AccessDoes (IsSettled plan.variant plan.shape s) (setting plan.shape plan.variant open-call)
           (stage_of plan.variant plan.shape open-call q)
-      doing = does plan.variant full plan.shape open-call (IsSettled plan.variant plan.shape s) (settled-row plan.variant plan.shape s) sound.root
+      doing = does plan.variant full plan.shape open-call (IsSettled plan.variant plan.shape s)
+          (settled-row plan.variant plan.shape s) sound.root
           (stage_of plan.variant plan.shape open-call q) (sound.knows p open-call q opens)
 
       accesses : (a : Access) (mark : Option Point)
@@ -285,8 +302,10 @@ module _ (plan : Plan) (full : IsFull plan.variant) (root : 1 ≤ plan.shape.row
           → AreLocked plan call (q.got ++ told a (slice_index s.words (word_of a)) ∷ [])
           (held_by plan.variant plan.shape call (after_move p (Makes a) (slice_index s.words (word_of a)) q))
       accesses a mark g call its = subst (λ x. AreLocked plan x (q.got ++ told a (slice_index s.words (word_of a)) ∷ [])
-          (held_by plan.variant plan.shape x (after_move p (Makes a) (slice_index s.words (word_of a)) q))) (same_Some open-call call (sym e ∙ its))
-          (subst (λ x. AreLocked plan open-call (q.got ++ told a (slice_index s.words (word_of a)) ∷ []) (holds (setting plan.shape plan.variant open-call) x))
+          (held_by plan.variant plan.shape x (after_move p (Makes a) (slice_index s.words (word_of a)) q)))
+              (same_Some open-call call (sym e ∙ its))
+          (subst (λ x. AreLocked plan open-call (q.got ++ told a (slice_index s.words (word_of a)) ∷ [])
+              (holds (setting plan.shape plan.variant open-call) x))
           (sym (after-more (setting plan.shape plan.variant open-call) (call_begun (setting plan.shape plan.variant open-call)) q.got
           (told a (slice_index s.words (word_of a)))))
           (access plan n s sound p q open-call opens (k p open-call q opens) a mark g doing))
@@ -298,7 +317,8 @@ module _ (plan : Plan) (full : IsFull plan.variant) (root : 1 ≤ plan.shape.row
           (held_by plan.variant plan.shape call (after_move p m (slice_index s.words (word_of_move m)) q))
       goes (Asks a mark) g l = subst (λ m. (call : Call) → (after_move p m (slice_index s.words (word_of_move m)) q).call ≡ Some call
           → AreLocked plan call (after_move p m (slice_index s.words (word_of_move m)) q).got
-          (held_by plan.variant plan.shape call (after_move p m (slice_index s.words (word_of_move m)) q))) (same_Some (Makes a) m l) (accesses a mark g)
+          (held_by plan.variant plan.shape call (after_move p m (slice_index s.words (word_of_move m)) q))) (same_Some (Makes a) m l)
+              (accesses a mark g)
       goes (Answers reply) g l = subst (λ m. (call : Call) → (after_move p m (slice_index s.words (word_of_move m)) q).call ≡ Some call
           → AreLocked plan call (after_move p m (slice_index s.words (word_of_move m)) q).got
           (held_by plan.variant plan.shape call (after_move p m (slice_index s.words (word_of_move m)) q))) (same_Some (Responds reply) m l)
@@ -307,7 +327,9 @@ module _ (plan : Plan) (full : IsFull plan.variant) (root : 1 ≤ plan.shape.row
   pub logged-step : (p : ℕ) (later : State) → step plan s p ≡ Some later → Logged plan later
   logged-step p later e =
       let m = is-moved plan s p later e in
-      subst (Logged plan) (sym m.is) (λ r call w o. elim (changed-at s.processes p (after_move p m.move (slice_index s.words (word_of_move m.move)) m.process) r w o.own) [
+      subst (Logged plan) (sym m.is)
+          (λ r call w o. elim (changed-at s.processes p (after_move p m.move (slice_index s.words (word_of_move m.move))
+          m.process) r w o.own) [
         | inl t ↦ subst (λ x. AreLocked plan call x.got (held_by plan.variant plan.shape call x)) (sym t.1)
             (own p m.process m.here m.process.call m.move refl m.is_next call (ap (λ x. x.call) (sym t.1) ∙ o.is_open))
         | inr t ↦ k r call w (record { own = t.1; is_open = o.is_open })
@@ -315,14 +337,16 @@ module _ (plan : Plan) (full : IsFull plan.variant) (root : 1 ≤ plan.shape.row
 
 -- The state that a schedule gives.
 
-run-logged : (plan : Plan) → IsFull plan.variant → 1 ≤ plan.shape.rows256 → (schedule : List ℕ) (n : ℕ) (first s : State) → n + length schedule < 2 ^ 62
+run-logged : (plan : Plan) → IsFull plan.variant → 1 ≤ plan.shape.rows256 → (schedule : List ℕ) (n : ℕ) (first s : State)
+    → n + length schedule < 2 ^ 62
     → IsSound plan.variant plan.shape n first → Logged plan first → run_on plan (Some first) schedule ≡ Some s
     → IsSound plan.variant plan.shape (n + length schedule) s × Logged plan s
 run-logged plan full root [] n first s few h k e = (
   subst (λ k. IsSound plan.variant plan.shape k s) (omega arith) (subst (IsSound plan.variant plan.shape n) (same_Some first s e) h),
   subst (Logged plan) (same_Some first s e) k,
 )
-run-logged plan full root (p ∷ schedule) n first s few h k e = go (step plan first p) refl e (λ next. run-logged plan full root schedule (n + 1) next s)
+run-logged plan full root (p ∷ schedule) n first s few h k e =
+    go (step plan first p) refl e (λ next. run-logged plan full root schedule (n + 1) next s)
   where
     go : (o : Option State) → step plan first p ≡ o → run_on plan o schedule ≡ Some s
         → ((next : State) → n + 1 + length schedule < 2 ^ 62 → IsSound plan.variant plan.shape (n + 1) next → Logged plan next
@@ -344,7 +368,8 @@ module _ (plan : Plan) (n : ℕ) (few : n < 2 ^ 62) (s : State) (sound : IsSound
       → slice_index s.words h.base ≡ locked_word h.kept
   word-is p call q o h a =
       let row = settled-row plan.variant plan.shape s h.base h.kind
-      (held-is-kept (IsSettled plan.variant plan.shape s) (setting plan.shape plan.variant call) (stage_of plan.variant plan.shape call q) (sound.knows p call q o) h a).1 in
+      (held-is-kept (IsSettled plan.variant plan.shape s) (setting plan.shape plan.variant call) (stage_of plan.variant plan.shape call q)
+          (sound.knows p call q o) h a).1 in
       let is = sound.locked p call q o h a in
       is ∙ sym (locked-small h.kept n (omega (arith, is, sound.versions h.base h.kind row)) few)
 
@@ -363,21 +388,25 @@ module _ (plan : Plan) (n : ℕ) (few : n < 2 ^ 62) (s : State) (sound : IsSound
             own = x.is_open.own;
             call = x.call;
             is_open = x.is_open.is_open;
-            locked = subst (λ b. HasLocked plan x.call x.process.got b x.row.kept) x.is ((k x.holder x.call x.process x.is_open).locked x.row x.among);
+            locked = subst (λ b. HasLocked plan x.call x.process.got b x.row.kept) x.is
+                ((k x.holder x.call x.process x.is_open).locked x.row x.among);
           },
           ap (slice_index s.words) (sym x.is) ∙ word-is x.holder x.call x.process x.is_open x.row x.among,
         );
     locked = λ p base v x.
         let h = holder p base v x in
-        ap (slice_index s.words) (sym h.2) ∙ (word-is p x.call x.process (record { own = x.own; is_open = x.is_open }) h.0 h.1 ∙ ap locked_word h.3);
+        ap (slice_index s.words) (sym h.2) ∙ (word-is p x.call x.process (record { own = x.own; is_open = x.is_open }) h.0 h.1
+            ∙ ap locked_word h.3);
     one = λ p q base v w x y.
         let h = holder p base v x in
         let g = holder q base w y in
-        sound.apart p q x.call y.call x.process y.process (record { own = x.own; is_open = x.is_open }) (record { own = y.own; is_open = y.is_open }) h.0 g.0 h.1 g.1
+        sound.apart p q x.call y.call x.process y.process (record { own = x.own; is_open = x.is_open })
+            (record { own = y.own; is_open = y.is_open }) h.0 g.0 h.1 g.1
         (h.2 ∙ sym g.2);
   }
 
-pub locks-at : (plan : Plan) (start : Contents) (words schedule : List ℕ) (s : State) → IsRun plan start words schedule s → IsFull plan.variant
+pub locks-at : (plan : Plan) (start : Contents) (words schedule : List ℕ) (s : State) → IsRun plan start words schedule s
+    → IsFull plan.variant
     → LocksAreHeld plan s
 locks-at plan start words schedule s run full =
     let first = start-sound plan.variant full plan start words refl run.within.shape.root run.starts in

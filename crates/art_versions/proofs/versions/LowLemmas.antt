@@ -39,10 +39,12 @@ first-item e = cc
 same-item : {b d : ℕ} {k l : Kind} → ◌≡◌ {A = List Named} ((b, k) ∷ []) ((d, l) ∷ []) → (b ≡ d) × (k ≡ l)
 same-item e = let same = first-item e in (ap (λ x. x.0) same, ap (λ x. x.1) same)
 
-module _ (variant : Variant) (shape : Shape) (n : ℕ) (s : State) (h : IsSound variant shape n s) (few : n < 2 ^ 62) (p : ℕ) (q : Process) (here : slice_get s.processes p ≡ Some q) where
+module _ (variant : Variant) (shape : Shape) (n : ℕ) (s : State) (h : IsSound variant shape n s) (few : n < 2 ^ 62) (p : ℕ) (q : Process)
+    (here : slice_get s.processes p ≡ Some q) where
   held-row : (r : ℕ) (other : Call) (w : Process) → IsOpen s r other w → (x : Held) → IsAmong x (held_by variant shape other w)
       → IsKept (locks variant) (IsSettled variant shape s) x
-  held-row r other w o x a = held-is-kept (IsSettled variant shape s) (setting shape variant other) (stage_of variant shape other w) (h.knows r other w o) x a
+  held-row r other w o x a = held-is-kept (IsSettled variant shape s) (setting shape variant other) (stage_of variant shape other w)
+      (h.knows r other w o) x a
 
   module _ (word value : ℕ) (low : word < 5) (q' : Process) where
     abbrev later : State
@@ -66,15 +68,19 @@ module _ (variant : Variant) (shape : Shape) (n : ℕ) (s : State) (h : IsSound 
     no-slot : (Q : OfRows) → IsGoodAt Q shape word value
     no-slot Q base kind e slot = absurd (omega (arith, low, (slot-behind base kind word slot).0, row_begins shape base kind e))
 
-    steady : ((kind : Kind) → slice_index s.words (claims_of kind) ≤ now (claims_of kind)) → ((base : ℕ) (kind : Kind) → IsSettled variant shape s base kind → IsSettled variant shape later base kind) → IsSteady variant shape s later
+    steady : ((kind : Kind) → slice_index s.words (claims_of kind) ≤ now (claims_of kind))
+        → ((base : ℕ) (kind : Kind) → IsSettled variant shape s base kind → IsSettled variant shape later base kind)
+        → IsSteady variant shape s later
     steady rise more = record {
       claims = rise;
       settled = more;
       rises = λ base kind x. omega (arith, row-above base kind (settled-row variant shape s base kind x));
-      stands = λ base kind x e free w l less. above w (omega (arith, l, row_begins shape base kind (settled-row variant shape s base kind x)));
+      stands = λ base kind x e free w l less. above w
+          (omega (arith, l, row_begins shape base kind (settled-row variant shape s base kind x)));
     }
 
-    no-row : (base : ℕ) (kind : Kind) → kind_at shape base ≡ Some kind → base ≤ word → word < base + row_words kind → MayWrite variant shape s p later base word
+    no-row : (base : ℕ) (kind : Kind) → kind_at shape base ≡ Some kind → base ≤ word → word < base + row_words kind
+        → MayWrite variant shape s p later base word
     no-row base kind e from below = absurd (omega (arith, low, from, row_begins shape base kind e))
 
     abbrev ClaimsNow : Type 0
@@ -84,7 +90,8 @@ module _ (variant : Variant) (shape : Shape) (n : ℕ) (s : State) (h : IsSound 
     pub keeps-idle : ((kind : Kind) → now (claims_of kind) ≡ slice_index s.words (claims_of kind))
         → ((call : Call) → q'.call ≡ Some call → (held_by variant shape call q' ≡ []) × (filled_by variant shape call q' ≡ []))
         → ((call : Call) → q.call ≡ Some call → held_by variant shape call q ≡ [])
-        → ((Q : OfRows) → Q (root_base shape) Full → (call : Call) → q'.call ≡ Some call → Knows Q (setting shape variant call) (stage_of variant shape call q'))
+        → ((Q : OfRows) → Q (root_base shape) Full → (call : Call) → q'.call ≡ Some call
+        → Knows Q (setting shape variant call) (stage_of variant shape call q'))
         → IsSound variant shape (n + 1) later × IsSteady variant shape s later × WritesOwn variant shape s p later
     keeps-idle claims none before knows = (
       sound-now variant shape n s h p q here word value q' cl (record {
@@ -95,7 +102,8 @@ module _ (variant : Variant) (shape : Shape) (n : ℕ) (s : State) (h : IsSound 
             (settled-row variant shape s x.base x.kind (held-row r other w o x a).1);
         knows = λ call e. knows (IsSettled variant shape later) (more (root_base shape) Full h.root) call e;
         locked = λ call e x a. absurd (subst (IsAmong x) (none call e).0 a);
-        held = λ base kind e locked. held-still variant shape n s h p q here word value q' base (h.held base kind e (ap is_locked (sym (row-above base kind e)) ∙ locked))
+        held = λ base kind e locked. held-still variant shape n s h p q here word value q' base
+            (h.held base kind e (ap is_locked (sym (row-above base kind e)) ∙ locked))
             (λ call f x a is. absurd (subst (IsAmong x) (before call f) a));
         distinct = λ call e. subst AreDistinct (sym (none call e).0) tt;
         apart = λ call e r other w away o x y a b. absurd (subst (IsAmong x) (none call e).0 a);
@@ -117,7 +125,8 @@ module _ (variant : Variant) (shape : Shape) (n : ℕ) (s : State) (h : IsSound 
         more b k x = settled-more variant shape n s h p q here word value q' cl b k x
 
   -- a claim by an open call
-  module _ (call : Call) (is-open : q.call ≡ Some call) (kind : Kind) (value : ℕ) (one : value ≡ slice_index s.words (claims_of kind) + 1) (q' : Process)
+  module _ (call : Call) (is-open : q.call ≡ Some call) (kind : Kind) (value : ℕ)
+      (one : value ≡ slice_index s.words (claims_of kind) + 1) (q' : Process)
       (its : q'.call ≡ Some call) where
     abbrev claimed : ℕ
     claimed = slice_index s.words (claims_of kind)
@@ -144,12 +153,15 @@ module _ (variant : Variant) (shape : Shape) (n : ℕ) (s : State) (h : IsSound 
         let same = base_of-once shape l kind x.number claimed x.within less (sym x.is ∙ e) in
         omega (arith, x.claimed, same.1, ap (λ k. slice_index s.words (claims_of k)) same.0)
 
-    pub keeps-claim : (filled : List Named) → (filled ≡ []) ⊎ ((claimed < rows_of shape kind) × (filled ≡ (base_of shape kind claimed, kind) ∷ []))
-        → Has (IsSettled variant shape s) (setting shape variant call) (stage_of variant shape call q') (held_by variant shape call q) filled
+    pub keeps-claim : (filled : List Named) → (filled ≡ [])
+        ⊎ ((claimed < rows_of shape kind) × (filled ≡ (base_of shape kind claimed, kind) ∷ []))
+        → Has (IsSettled variant shape s) (setting shape variant call) (stage_of variant shape call q')
+            (held_by variant shape call q) filled
         → IsSound variant shape (n + 1) after × IsSteady variant shape s after × WritesOwn variant shape s p after
     keeps-claim filled as-said has = (
       m.rows-stay variant shape n s h few p q here call is-open (claims_of kind) value q' its cl filled
-          (knows-more (IsSettled variant shape s) (IsSettled variant shape after) (setting shape variant call) more (stage_of variant shape call q') has.0, has.1, has.2)
+          (knows-more (IsSettled variant shape s) (IsSettled variant shape after) (setting shape variant call) more
+              (stage_of variant shape call q') has.0, has.1, has.2)
           (within (claims_of kind) value (claims-few kind) q') (versions (claims_of kind) value (claims-few kind) q')
           (no-slot (claims_of kind) value (claims-few kind) q' (IsSettled variant shape after))
           (row-above (claims_of kind) value (claims-few kind) q'),
@@ -185,11 +197,13 @@ module _ (variant : Variant) (shape : Shape) (n : ℕ) (s : State) (h : IsSound 
           ];
           filled = λ other e. own (λ x. (b : ℕ) (k : Kind) → filled_by variant shape x q' ≡ (b, k) ∷ []
               → IsClaimed shape (slice_set s.words (claims_of kind) value) b k) (λ b k f. is-claimed b k (its-row b k f)) other e;
-          fresh = λ other e. own (λ x. (b : ℕ) (k : Kind) → filled_by variant shape x q' ≡ (b, k) ∷ [] → (l : Kind) → IsSettled variant shape s b l → ⊥)
+          fresh = λ other e. own (λ x. (b : ℕ) (k : Kind) → filled_by variant shape x q' ≡ (b, k) ∷ [] → (l : Kind) → IsSettled
+              variant shape s b l → ⊥)
               (λ b k f l y. let r = its-row b k f in unclaimed r.0 b l r.1 y.claimed) other e;
           apart = λ other e. own (λ x. (r : ℕ) (o : Call) (w : Process) → r ≢ p → IsOpen s r o w → (b d : ℕ) (k l : Kind)
               → filled_by variant shape x q' ≡ (b, k) ∷ [] → filled_by variant shape o w ≡ (d, l) ∷ [] → b ≢ d)
-              (λ r o w away ow b d k l f g same. let x = its-row b k f in unclaimed x.0 d l (sym same ∙ x.1) (h.filled r o w ow d l g)) other e;
+              (λ r o w away ow b d k l f g same. let x =
+                  its-row b k f in unclaimed x.0 d l (sym same ∙ x.1) (h.filled r o w ow d l g)) other e;
         }
 
         more : (b : ℕ) (k : Kind) → IsSettled variant shape s b k → IsSettled variant shape after b k

@@ -27,7 +27,8 @@ use Rattle.art_versions.proofs.versions.KnownLemmas.{held-is-kept}
 use Rattle.art_versions.proofs.versions.ChangeLemmas.{index-other, next, now, held-still, Claims, settled-more, sound-now}
 use Rattle.art_stages.proofs.BehindLemmas.{behind}
 
-pub settled-row : (variant : Variant) (shape : Shape) (s : State) (b : ℕ) (k : Kind) → IsSettled variant shape s b k → kind_at shape b ≡ Some k
+pub settled-row : (variant : Variant) (shape : Shape) (s : State) (b : ℕ) (k : Kind) → IsSettled variant shape s b k
+    → kind_at shape b ≡ Some k
 settled-row variant shape s b k x = ap (kind_at shape) x.claimed.is ∙ kind_at-base_of shape k x.claimed.number x.claimed.within
 
 pub differ : (a b : ℕ) → a < b → a ≢ b
@@ -42,7 +43,8 @@ no-items e = cc
 pub true-false : {b : _} → b ≡ true → b ≡ false → ⊥
 true-false e f = cc
 
-module _ (variant : Variant) (shape : Shape) (n : ℕ) (s : State) (h : IsSound variant shape n s) (few : n < 2 ^ 62) (p : ℕ) (q : Process) (here : slice_get s.processes p ≡ Some q)
+module _ (variant : Variant) (shape : Shape) (n : ℕ) (s : State) (h : IsSound variant shape n s) (few : n < 2 ^ 62) (p : ℕ) (q : Process)
+    (here : slice_get s.processes p ≡ Some q)
     (call : Call) (is-open : q.call ≡ Some call) where
   abbrev c : Setting
   c = setting shape variant call
@@ -56,7 +58,8 @@ module _ (variant : Variant) (shape : Shape) (n : ℕ) (s : State) (h : IsSound 
   -- a row that some process holds
   pub held-row : (r : ℕ) (other : Call) (w : Process) → IsOpen s r other w → (x : Held) → IsAmong x (held_by variant shape other w)
       → IsKept (locks variant) (IsSettled variant shape s) x
-  held-row r other w o x a = held-is-kept (IsSettled variant shape s) (setting shape variant other) (stage_of variant shape other w) (h.knows r other w o) x a
+  held-row r other w o x a = held-is-kept (IsSettled variant shape s) (setting shape variant other) (stage_of variant shape other w)
+      (h.knows r other w o) x a
 
   pub kind-of : (x : Held) → IsKept (locks variant) (IsSettled variant shape s) x → kind_at shape x.base ≡ Some x.kind
   kind-of x k = settled-row variant shape s x.base x.kind k.1
@@ -86,9 +89,11 @@ module _ (variant : Variant) (shape : Shape) (n : ℕ) (s : State) (h : IsSound 
     claims-stay filled is same claims = record {
       rise = λ kind. omega (arith, claims kind);
       few = λ kind. omega (arith, claims kind, h.claims kind);
-      filled = λ other e. for-own (λ x. (b : ℕ) (k : Kind) → filled_by variant shape x q' ≡ (b, k) ∷ [] → IsClaimed shape (slice_set s.words word value) b k)
+      filled = λ other e. for-own (λ x. (b : ℕ) (k : Kind) → filled_by variant shape x q' ≡ (b, k) ∷ [] → IsClaimed shape
+          (slice_set s.words word value) b k)
           (λ b k f. more b k (h.filled p call q opens b k (old b k f))) other e;
-      fresh = λ other e. for-own (λ x. (b : ℕ) (k : Kind) → filled_by variant shape x q' ≡ (b, k) ∷ [] → (l : Kind) → IsSettled variant shape s b l → ⊥)
+      fresh = λ other e. for-own (λ x. (b : ℕ) (k : Kind) → filled_by variant shape x q' ≡ (b, k) ∷ [] → (l : Kind) → IsSettled
+          variant shape s b l → ⊥)
           (λ b k f l y. y.unfilled p call q opens b k (old b k f) refl) other e;
       apart = λ other e. for-own (λ x. (r : ℕ) (o : Call) (w : Process) → r ≢ p → IsOpen s r o w → (b d : ℕ) (k l : Kind)
           → filled_by variant shape x q' ≡ (b, k) ∷ [] → filled_by variant shape o w ≡ (d, l) ∷ [] → b ≢ d)
@@ -109,8 +114,10 @@ module _ (variant : Variant) (shape : Shape) (n : ℕ) (s : State) (h : IsSound 
       settles b k x = settled-more variant shape n s h p q here word value q' cl b k x
 
       -- where it holds the rows that it held, and their versions stay
-      pub rows-stay : (filled : List Named) → Has (IsSettled variant shape later) c (stage_of variant shape call q') (holds c place) filled → word < length s.words
-          → ((base : ℕ) (kind : Kind) → kind_at shape base ≡ Some kind → at-now base ≤ 3 * (n + 1)) → IsGoodAt (IsSettled variant shape later) shape word value
+      pub rows-stay : (filled : List Named) → Has (IsSettled variant shape later) c (stage_of variant shape call q') (holds c place) filled
+          → word < length s.words
+          → ((base : ℕ) (kind : Kind) → kind_at shape base ≡ Some kind → at-now base ≤ 3 * (n + 1))
+          → IsGoodAt (IsSettled variant shape later) shape word value
           → ((base : ℕ) (kind : Kind) → kind_at shape base ≡ Some kind → at-now base ≡ slice_index s.words base)
           → IsSound variant shape (n + 1) later
       rows-stay filled has within versions good same = sound-now variant shape n s h p q here word value q' cl (record {
@@ -118,12 +125,15 @@ module _ (variant : Variant) (shape : Shape) (n : ℕ) (s : State) (h : IsSound 
         versions = versions;
         good = good;
         others = λ r other w away o x a. calm x (held-row r other w o x a);
-        knows = λ other e. for-own (λ v. Knows (IsSettled variant shape later) (setting shape variant v) (stage_of variant shape v q')) has.0 other e;
+        knows = λ other e. for-own (λ v. Knows (IsSettled variant shape later) (setting shape variant v) (stage_of variant shape v
+            q')) has.0 other e;
         locked = λ other e. for-own (λ v. (x : Held) → IsAmong x (held_by variant shape v q') → at-now x.base ≡ x.kept + 2)
             (λ x a. let b = subst (IsAmong x) has.1 a in calm x (held-row p call q opens x b) ∙ h.locked p call q opens x b) other e;
-        held = λ base kind e free. held-still variant shape n s h p q here word value q' base (h.held base kind e (ap is_locked (sym (same base kind e)) ∙ free))
+        held = λ base kind e free. held-still variant shape n s h p q here word value q' base
+            (h.held base kind e (ap is_locked (sym (same base kind e)) ∙ free))
             (λ other f x a is. for-call other f x a);
-        distinct = λ other e. for-own (λ v. AreDistinct (held_by variant shape v q')) (subst AreDistinct (sym has.1) (h.distinct p call q opens)) other e;
+        distinct = λ other e. for-own (λ v. AreDistinct (held_by variant shape v q'))
+            (subst AreDistinct (sym has.1) (h.distinct p call q opens)) other e;
         apart = λ other e. for-own (λ v. (r : ℕ) (o : Call) (w : Process) → r ≢ p → IsOpen s r o w → (x y : Held)
             → IsAmong x (held_by variant shape v q') → IsAmong y (held_by variant shape o w) → x.base ≢ y.base)
             (λ r o w away ow x y a b same. away (sym (h.apart p r call o q w opens ow x y (subst (IsAmong x) has.1 a) b same))) other e;
@@ -142,10 +152,12 @@ module _ (variant : Variant) (shape : Shape) (n : ℕ) (s : State) (h : IsSound 
               )
 
     -- a word that is behind a version is no version
-    pub no-version : (b : ℕ) (k : Kind) → kind_at shape b ≡ Some k → IsBehindVersion b k word → (base : ℕ) (kind : Kind) → kind_at shape base ≡ Some kind
+    pub no-version : (b : ℕ) (k : Kind) → kind_at shape b ≡ Some k → IsBehindVersion b k word → (base : ℕ) (kind : Kind)
+        → kind_at shape base ≡ Some kind
         → base ≢ word
     no-version b k row behind base kind e same =
-        let one = rows_apart shape base b kind k word e row (omega (arith, same)) (omega (arith, same, some-words kind)) (omega (arith, behind.0)) behind.1 in
+        let one = rows_apart shape base b kind k word e row (omega (arith, same)) (omega (arith, same, some-words kind))
+            (omega (arith, behind.0)) behind.1 in
         omega (arith, same, one.0, behind.0)
 
     pub no-claim : 5 ≤ word → (kind : Kind) → claims_of kind ≢ word

@@ -34,29 +34,36 @@ use Rattle.art_versions.proofs.versions.MoveLemmas.{true-false, differ, differ-f
 use Rattle.art_versions.proofs.versions.StepLemmas.{one-step}
 
 pub steady-refl : (variant : Variant) (shape : Shape) (s : State) → IsSteady variant shape s s
-steady-refl variant shape s = record { claims = λ kind. omega arith; settled = λ b k x. x; rises = λ b k x. omega arith; stands = λ b k x e free w low high. refl }
+steady-refl variant shape s = record { claims = λ kind. omega arith; settled = λ b k x. x; rises = λ b k x. omega arith; stands =
+    λ b k x e free w low high. refl }
 
-pub steady-trans : (variant : Variant) (shape : Shape) (a b c : State) → IsSteady variant shape a b → IsSteady variant shape b c → IsSteady variant shape a c
+pub steady-trans : (variant : Variant) (shape : Shape) (a b c : State) → IsSteady variant shape a b → IsSteady variant shape b c
+    → IsSteady variant shape a c
 steady-trans variant shape a b c h k = record {
   claims = λ kind. omega (arith, h.claims kind, k.claims kind);
   settled = λ base kind x. k.settled base kind (h.settled base kind x);
   rises = λ base kind x. omega (arith, h.rises base kind x, k.rises base kind (h.settled base kind x));
   stands = λ base kind x e free w low high.
-      let between : slice_index b.words base ≡ slice_index a.words base = omega (arith, h.rises base kind x, k.rises base kind (h.settled base kind x), e) in
-      k.stands base kind (h.settled base kind x) (e ∙ sym between) (ap is_locked between ∙ free) w low high ∙ h.stands base kind x between free w low high;
+      let between : slice_index b.words base ≡ slice_index a.words base =
+          omega (arith, h.rises base kind x, k.rises base kind (h.settled base kind x), e) in
+      k.stands base kind (h.settled base kind x) (e ∙ sym between) (ap is_locked between ∙ free) w low high
+          ∙ h.stands base kind x between free w low high;
 }
 
-pub run-sound : (variant : Variant) → IsFull variant → (plan : Plan) → plan.variant ≡ variant → 1 ≤ plan.shape.rows256 → (schedule : List ℕ) (n : ℕ) (first s : State)
+pub run-sound : (variant : Variant) → IsFull variant → (plan : Plan) → plan.variant ≡ variant → 1 ≤ plan.shape.rows256
+    → (schedule : List ℕ) (n : ℕ) (first s : State)
     → n + length schedule < 2 ^ 62 → IsSound variant plan.shape n first → run_on plan (Some first) schedule ≡ Some s
     → IsSound variant plan.shape (n + length schedule) s × IsSteady variant plan.shape first s
 run-sound variant full plan v root [] n first s few h e = (
   subst (λ k. IsSound variant plan.shape k s) (omega arith) (subst (IsSound variant plan.shape n) (same_Some first s e) h),
   subst (IsSteady variant plan.shape first) (same_Some first s e) (steady-refl variant plan.shape first),
 )
-run-sound variant full plan v root (p ∷ schedule) n first s few h e = go (step plan first p) refl e (λ next. run-sound variant full plan v root schedule (n + 1) next s)
+run-sound variant full plan v root (p ∷ schedule) n first s few h e =
+    go (step plan first p) refl e (λ next. run-sound variant full plan v root schedule (n + 1) next s)
   where
     go : (o : Option State) → step plan first p ≡ o → run_on plan o schedule ≡ Some s
-        → ((next : State) → n + 1 + length schedule < 2 ^ 62 → IsSound variant plan.shape (n + 1) next → run_on plan (Some next) schedule ≡ Some s
+        → ((next : State) → n + 1 + length schedule < 2 ^ 62 → IsSound variant plan.shape (n + 1) next
+        → run_on plan (Some next) schedule ≡ Some s
         → IsSound variant plan.shape (n + 1 + length schedule) s × IsSteady variant plan.shape next s)
         → IsSound variant plan.shape (n + length (p ∷ schedule)) s × IsSteady variant plan.shape first s
     go None f l later = absurd (nowhere plan schedule s l)
@@ -115,7 +122,8 @@ module _ (variant : Variant) (shape : Shape) (some : 1 ≤ shape.rows256) where
 
   behind-root : (base : ℕ) (kind : Kind) → kind_at shape base ≡ Some kind → base ≢ root + 1
   behind-root base kind e same =
-      let apart = rows_apart shape base root kind Full (root + 1) e root-row (omega (arith, same)) (omega (arith, same, some-words kind)) (omega arith) (omega arith) in
+      let apart = rows_apart shape base root kind Full (root + 1) e root-row (omega (arith, same)) (omega (arith, same, some-words kind))
+          (omega arith) (omega arith) in
       omega (arith, same, apart.0)
 
   slot-zero : (base : ℕ) (kind : Kind) → kind_at shape base ≡ Some kind → (x : ℕ) → IsSlot base kind x → slice_index words x ≡ 0
@@ -125,22 +133,26 @@ module _ (variant : Variant) (shape : Shape) (some : 1 ≤ shape.rows256) where
     where
       no-info : (base < x) × (x < base + row_words kind) → x ≢ root + 1
       no-info behind same =
-          let apart = rows_apart shape base root kind Full (root + 1) e root-row (omega (arith, behind.0, same)) (omega (arith, behind.1, same)) (omega arith)
+          let apart = rows_apart shape base root kind Full (root + 1) e root-row (omega (arith, behind.0, same))
+              (omega (arith, behind.1, same)) (omega arith)
           (omega arith) in
           omega (arith, same, apart.0, slot-far base kind x slot)
 
   pub opening-sound : (s : State) → s.words ≡ words → AllIdle s → IsSound variant shape 0 s
   opening-sound s is none = record {
     long = ap (λ w. length w) is ∙ opening-length shape;
-    versions = λ base kind e. omega (arith, at base, zeros base (differ-from base 4 (omega (arith, row_begins shape base kind e))) (behind-root base kind e));
+    versions = λ base kind e. omega (arith, at base, zeros base (differ-from base 4 (omega (arith, row_begins shape base kind e)))
+        (behind-root base kind e));
     claims = λ kind. omega (arith, at (claims_of kind), opening-claims kind);
     root = record {
       claimed = record { number = 0; claimed = omega (arith, at 4, one); within = omega (arith, some); is = refl };
       unfilled = λ p call q o. absurd (none p call q o);
     };
-    children = λ x base kind e slot. subst (λ v. Each (IsNamed (IsSettled variant shape s)) (child_rows (child_of shape v))) (sym (at x ∙ slot-zero base kind e x slot)) tt;
+    children = λ x base kind e slot. subst (λ v. Each (IsNamed (IsSettled variant shape s)) (child_rows (child_of shape v)))
+        (sym (at x ∙ slot-zero base kind e x slot)) tt;
     knows = λ p call q o. absurd (none p call q o);
-    held = λ base kind e locked. absurd (differs (at base ∙ zeros base (differ-from base 4 (omega (arith, row_begins shape base kind e))) (behind-root base kind e)) locked);
+    held = λ base kind e locked. absurd (differs (at base ∙ zeros base (differ-from base 4 (omega (arith, row_begins shape base kind e)))
+        (behind-root base kind e)) locked);
     locked = λ p call q o. absurd (none p call q o);
     distinct = λ p call q o. absurd (none p call q o);
     apart = λ p r call other q w o. absurd (none p call q o);
@@ -155,7 +167,8 @@ module _ (variant : Variant) (shape : Shape) (some : 1 ≤ shape.rows256) where
       at x = ap (λ w. slice_index w x) is
 
 -- With the clock set back, and no process in a call before or after, all stays sound.
-pub reset-sound : (variant : Variant) (shape : Shape) (n : ℕ) (s t : State) → IsSound variant shape n s → AllIdle s → t.words ≡ slice_set s.words 0 0 → AllIdle t → IsSound variant shape n t
+pub reset-sound : (variant : Variant) (shape : Shape) (n : ℕ) (s t : State) → IsSound variant shape n s → AllIdle s
+    → t.words ≡ slice_set s.words 0 0 → AllIdle t → IsSound variant shape n t
 reset-sound variant shape n s t h before is none = record {
   long = ap (λ w. length w) is ∙ (length-set s.words 0 0 ∙ h.long);
   versions = λ base kind e. omega (arith, at base (omega (arith, row_begins shape base kind e)), h.versions base kind e);
@@ -163,7 +176,8 @@ reset-sound variant shape n s t h before is none = record {
   root = settled (root_base shape) Full h.root;
   children = λ x base kind e slot. subst (λ v. Each (IsNamed (IsSettled variant shape t)) (child_rows (child_of shape v)))
       (sym (at x (omega (arith, (slot-behind base kind x slot).0))))
-      (good-more (IsSettled variant shape s) (IsSettled variant shape t) shape settled x (slice_index s.words x) (h.children x) base kind e slot);
+      (good-more (IsSettled variant shape s) (IsSettled variant shape t) shape settled x (slice_index s.words x) (h.children x)
+          base kind e slot);
   knows = λ p call q o. absurd (none p call q o);
   locked = λ p call q o. absurd (none p call q o);
   held = λ base kind e locked.
@@ -186,7 +200,8 @@ reset-sound variant shape n s t h before is none = record {
 
     settled : (b : ℕ) (k : Kind) → IsSettled variant shape s b k → IsSettled variant shape t b k
     settled b k x = record {
-      claimed = record { number = x.claimed.number; claimed = omega (arith, x.claimed.claimed, at (claims_of k) (claims-some k)); within = x.claimed.within; is = x.claimed.is };
+      claimed = record { number = x.claimed.number; claimed = omega (arith, x.claimed.claimed, at (claims_of k) (claims-some k)); within =
+          x.claimed.within; is = x.claimed.is };
       unfilled = λ p call q o. absurd (none p call q o);
     }
 
@@ -206,10 +221,12 @@ start-idle plan start words h p call q o =
     let first = start_plan plan.shape plan.variant start in
     let alone : length h.state.processes ≡ 1 = (run-lengths first h.inserted.schedule (opened first) h.state h.inserted.gives).1 in
     let its : p ≡ 0 = omega (arith, alone, slice_get_within h.state.processes p q o.own) in
-    let same : q ≡ h.process = same_Some q h.process (sym (subst (λ i. slice_get h.state.processes i ≡ Some q) its o.own) ∙ h.inserted.is_process) in
+    let same : q ≡ h.process = same_Some q h.process (sym (subst (λ i. slice_get h.state.processes i ≡ Some q) its o.own)
+        ∙ h.inserted.is_process) in
     none-some call (sym (ap (λ x. x.call) same ∙ no-call first h.process h.process.call h.all) ∙ o.is_open)
 
-pub start-sound : (variant : Variant) → IsFull variant → (plan : Plan) (start : Contents) (words : List ℕ) → plan.variant ≡ variant → 1 ≤ plan.shape.rows256
+pub start-sound : (variant : Variant) → IsFull variant → (plan : Plan) (start : Contents) (words : List ℕ) → plan.variant ≡ variant
+    → 1 ≤ plan.shape.rows256
     → StartsOn plan.shape plan.variant start words → StartsSound variant plan words
 start-sound variant full plan start words v root h =
     let first = start_plan plan.shape plan.variant start in
@@ -220,7 +237,8 @@ start-sound variant full plan start words v root h =
     record {
       steps = 0 + length h.inserted.schedule;
       few = omega (arith, few);
-      sound = reset-sound variant plan.shape (0 + length h.inserted.schedule) h.state (opened_on plan words) sound (start-idle plan start words h) h.leaves (idle-idle plan words);
+      sound = reset-sound variant plan.shape (0 + length h.inserted.schedule) h.state (opened_on plan words) sound
+          (start-idle plan start words h) h.leaves (idle-idle plan words);
     }
 
 -- A state that a schedule gives, with the steps that were made up to it.
@@ -240,18 +258,23 @@ sound-at variant full plan start words schedule s run v =
 
 pub later-part : (plan : Plan) (first s t : State) (earlier later : List ℕ) → run_on plan (Some first) earlier ≡ Some s
     → run_on plan (Some first) (earlier ++ later) ≡ Some t → run_on plan (Some s) later ≡ Some t
-later-part plan first s t earlier later e k = ap (λ o. run_on plan o later) (sym e) ∙ (sym (run-on-append plan (Some first) earlier later) ∙ k)
+later-part plan first s t earlier later e k = ap (λ o. run_on plan o later) (sym e)
+    ∙ (sym (run-on-append plan (Some first) earlier later) ∙ k)
 
-pub steady-between : (variant : Variant) → IsFull variant → (plan : Plan) (start : Contents) (words earlier later : List ℕ) (s t : State) → IsRun plan start words (earlier ++ later) t
-    → plan.variant ≡ variant → run_on plan (Some (opened_on plan words)) earlier ≡ Some s → IsSteady variant plan.shape s t × (n : ℕ) × IsSound variant plan.shape n s
+pub steady-between : (variant : Variant) → IsFull variant → (plan : Plan) (start : Contents) (words earlier later : List ℕ) (s t : State)
+    → IsRun plan start words (earlier ++ later) t
+    → plan.variant ≡ variant → run_on plan (Some (opened_on plan words)) earlier ≡ Some s → IsSteady variant plan.shape s t × (n : ℕ)
+    × IsSound variant plan.shape n s
 steady-between variant full plan start words earlier later s t run v e =
     let first = start-sound variant full plan start words v run.within.shape.root run.starts in
     let steps = run-steps plan (earlier ++ later) (opened_on plan words) t run.gives in
     let long = length-append earlier later in
     let few : first.steps + length earlier + length later < 2 ^ 62 = omega (arith, first.few, steps, run.few_steps, long) in
-    let here = (run-sound variant full plan v run.within.shape.root earlier first.steps (opened_on plan words) s (omega (arith, few)) first.sound e).0 in
+    let here = (run-sound variant full plan v run.within.shape.root earlier first.steps (opened_on plan words) s (omega (arith, few))
+        first.sound e).0 in
     let on = later-part plan (opened_on plan words) s t earlier later e run.gives in
-    ((run-sound variant full plan v run.within.shape.root later (first.steps + length earlier) s t few here on).1, first.steps + length earlier, here)
+    ((run-sound variant full plan v run.within.shape.root later (first.steps + length earlier) s t few here on).1, first.steps
+        + length earlier, here)
 
 -- The last step of a run.
 

@@ -9,7 +9,8 @@ use Rattle.art_versions.specs.versions.Locking.{lock_of, locks_of, scan_locked, 
 use Rattle.art_versions.specs.versions.Holding.{FitsScan, IsKept, rows_entered, rows_walked, holds}
 use Rattle.art_versions.specs.versions.Effects.{IsAmong, IsWith, Has, Releases, Takes}
 use Rattle.art_versions.proofs.versions.WithLemmas.{with-last}
-use Rattle.std.proofs.Common.{◌≡◌, ◌≢◌, ◌∙◌, eq-eqb, ne_eqb, inl, inr, ap, subst, ℕ, zero, suc, ◌+◌, ◌-◌, ◌%◌, ◌<◌, ◌≤◌, List, [], ◌∷◌, ◌++◌, refl, sym, Bool}
+use Rattle.std.proofs.Common.{◌≡◌, ◌≢◌, ◌∙◌, eq-eqb, ne_eqb, inl, inr, ap, subst, ℕ, zero, suc, ◌+◌, ◌-◌, ◌%◌, ◌<◌, ◌≤◌, List, [], ◌∷◌}
+use Rattle.std.proofs.Common.{◌++◌, refl, sym, Bool}
 use Rattle.std.proofs.Common.{true, false, arith}
 use Rattle.std.specs.Prelude.{◌==◌, if◌then◌else◌, slice_index, map, filter, Option, Some, None}
 use Rattle.std.proofs.lemmas.Option.{none-some, same_Some}
@@ -29,11 +30,13 @@ use Rattle.art_stages.specs.declared.stage.Entry.{Entry}
 use Rattle.art_stages.specs.declared.stage.Entry.TheVariants.{Root, Below}
 use Rattle.art_stages.specs.declared.stage.Frame.{Frame}
 use Rattle.art_stages.specs.declared.stage.ScanStep.{ScanStep}
-use Rattle.art_stages.specs.declared.stage.ScanStep.TheVariants.{Lock, Exchange, Wait, Info, Keys, FirstKeys, SecondKeys, Index, Child as LoadChild, Release}
+use Rattle.art_stages.specs.declared.stage.ScanStep.TheVariants.{Lock, Exchange, Wait, Info, Keys, FirstKeys, SecondKeys, Index}
+use Rattle.art_stages.specs.declared.stage.ScanStep.TheVariants.{Child as LoadChild, Release}
 use Rattle.art_stages.specs.declared.stage.ScanStep.TheVariants.{Over}
 use Rattle.art_stages.specs.Stages.{row_at, held, keys_among}
 use Rattle.art_stages.specs.Automaton.{keys_one}
-use Rattle.art_stages.specs.Scans.{Walk, ScanAt, at, walked, on_way, in_word, frame_of, keys16, release_rows, close_at, slot_at, bytes_at, index_at_list}
+use Rattle.art_stages.specs.Scans.{Walk, ScanAt, at, walked, on_way, in_word, frame_of, keys16, release_rows, close_at, slot_at, bytes_at}
+use Rattle.art_stages.specs.Scans.{index_at_list}
 use Rattle.art_stages.specs.Scans.{words_at, place_slot, child_from, frame_at, way_at, resume_at, with_frame, row_begins}
 use Rattle.art_stages.specs.Scans.{visit_list, visit_at, entry_at, child_after, scan_start, step_after}
 use Rattle.art_stages.specs.Calls.{OnScan}
@@ -50,7 +53,8 @@ walked_held false rows = []
 -- a row that is met again, and one that is not
 fresh-row : (base : ℕ) (rows : List Held) → Each (λ n. n.base ≢ base) rows → has_row base (map row_at rows) ≡ false
 fresh-row base [] h = refl
-fresh-row base (n ∷ rows) h = ap (λ b. if b then true else has_row base (map row_at rows)) (ne_eqb n.base base h.0) ∙ fresh-row base rows h.1
+fresh-row base (n ∷ rows) h = ap (λ b. if b then true else has_row base (map row_at rows)) (ne_eqb n.base base h.0)
+    ∙ fresh-row base rows h.1
 
 each-end : {A : Type 0} (Q : A → Type 0) (xs : List A) (x : A) → Each Q xs → Q x → Each Q (xs ++ x ∷ [])
 each-end Q [] x h q = (q, tt)
@@ -64,7 +68,8 @@ locks-end : (rows : List Held) (n : Held) → locks_of (rows ++ n ∷ []) ≡ lo
 locks-end [] n = refl
 locks-end (x ∷ rows) n = ap (λ xs. lock_of x ∷ xs) (locks-end rows n)
 
-among-all : (Q : Held → Type 0) (rows : List Held) → ((x : Held) → IsAmong x (locks_of rows) → Q x) → ((x : Held) → Q (lock_of x) → Q x) → Each Q rows
+among-all : (Q : Held → Type 0) (rows : List Held) → ((x : Held) → IsAmong x (locks_of rows) → Q x)
+    → ((x : Held) → Q (lock_of x) → Q x) → Each Q rows
 among-all Q [] h back = tt
 among-all Q (x ∷ rows) h back = (back x (h (lock_of x) (inl refl)), among-all Q rows (λ y a. h y (inr a)) back)
 
@@ -123,12 +128,14 @@ module _ (variant : Variant) (s : Shape) (call : Call) (P : OfRows) (is_row : (b
         → P f.row.base f.row.kind → x + n ≤ 256 → Each (FitsFrame P) w.way → Good other → Good (slot_at o (child_from w f x n) other)
     slot-good w f x n None other is kept slots p few way rest = rest
     slot-good w f x n (Some slot) other is kept slots p few way rest =
-        at-step (LoadChild (record { row = f.row; keys = f.keys; byte = x; left = n; index = f.index; words = f.words }) slot) w is refl kept tt
+        at-step (LoadChild (record { row = f.row; keys = f.keys; byte = x; left = n; index = f.index; words = f.words })
+            slot) w is refl kept tt
         ((p, few), slots slot refl) way
 
     bytes-good : (test : ℕ → Bool) (slot_of : ℕ → Option ℕ) (w : Walk) (f : Frame) (x n : ℕ) (other : ScanAt) → w.rows ≡ rows → AreKept
         → ((y slot : ℕ) → y < 256 → slot_of y ≡ Some slot → IsSlot f.row.base f.row.kind slot)
-        → P f.row.base f.row.kind → x + n ≤ 256 → Each (FitsFrame P) w.way → Good other → Good (bytes_at test slot_of (child_from w f) x n other)
+        → P f.row.base f.row.kind → x + n ≤ 256 → Each (FitsFrame P) w.way → Good other
+        → Good (bytes_at test slot_of (child_from w f) x n other)
     bytes-good test slot_of w f x zero other is kept slots p few way rest = rest
     bytes-good test slot_of w f x (suc n) other is kept slots p few way rest =
         go (test x) (bytes-good test slot_of w f (x + 1) n other is kept slots p (omega (arith, few)) way rest)
@@ -136,7 +143,8 @@ module _ (variant : Variant) (s : Shape) (call : Call) (P : OfRows) (is_row : (b
         go : (b : Bool) → Good (bytes_at test slot_of (child_from w f) (x + 1) n other)
             → Good (if b then slot_at (slot_of x) (child_from w f (x + 1) n) (bytes_at test slot_of (child_from w f) (x + 1) n other)
             else bytes_at test slot_of (child_from w f) (x + 1) n other)
-        go true later = slot-good w f (x + 1) n (slot_of x) _ is kept (λ slot e. slots x slot (omega (arith, few)) e) p (omega (arith, few)) way later
+        go true later = slot-good w f (x + 1) n (slot_of x) _ is kept (λ slot e. slots x slot (omega (arith, few)) e) p
+            (omega (arith, few)) way later
         go false later = later
 
     words-good : (n : Held) (w : Walk) (j m : ℕ) (other : ScanAt) → w.rows ≡ rows → AreKept → n.kind ≡ FortyEight → P n.base n.kind
@@ -192,7 +200,8 @@ module _ (variant : Variant) (s : Shape) (call : Call) (P : OfRows) (is_row : (b
     way-good : (w : Walk) (fs : List Frame) → w.rows ≡ rows → AreKept → Each (FitsFrame P) fs → Good (way_at c lo hi w fs)
     way-good w [] is kept h = closed w is kept
     way-good w (f ∷ fs) is kept h =
-        frame-good (on_way w fs) f.row.base f.row.kind f.row.info f.row.kept f.keys f.byte f.left f.index f.words (way_at c lo hi w fs) is kept
+        frame-good (on_way w fs) f.row.base f.row.kind f.row.info f.row.kept f.keys f.byte f.left f.index f.words
+            (way_at c lo hi w fs) is kept
         h.0.0 h.0.1 h.1 (way-good w fs is kept h.1)
 
     pub resumed : (w : Walk) → w.rows ≡ rows → AreKept → Each (FitsFrame P) w.way → Good (resume_at c lo hi w)
@@ -207,7 +216,8 @@ module _ (variant : Variant) (s : Shape) (call : Call) (P : OfRows) (is_row : (b
     begins base Full info was w is kept p way =
         frame-good w base Full info was (keys_one 0) 0 256 0 0 _ is kept p (omega arith) way (resumed w is kept way)
 
-    listed : (n : Held) (w : Walk) (xs : List ℕ) → w.rows ≡ rows → AreKept → P n.base n.kind → Each (FitsFrame P) w.way → Good (visit_list c lo hi n w xs)
+    listed : (n : Held) (w : Walk) (xs : List ℕ) → w.rows ≡ rows → AreKept → P n.base n.kind → Each (FitsFrame P) w.way
+        → Good (visit_list c lo hi n w xs)
     listed n w [] is kept p way = resumed w is kept way
     listed n w (x ∷ xs) is kept p way = begins n.base n.kind n.info n.kept w is kept p way
 
@@ -249,15 +259,19 @@ module _ (variant : Variant) (s : Shape) (call : Call) (P : OfRows) (is_row : (b
     keys-does : (base : ℕ) (kind : Kind) (info was : ℕ) → KnowsScanRows P l (at (Keys (held base kind info was)) w)
         → Doing (Keys (held base kind info was))
     keys-does base Four info was k = Reads _ _ refl (λ value good. leads (Keys (held base Four info was)) _ refl
-        (resumed w.rows (with_frame w (frame_of (held base Four info was) (keys_one value) 0 0)) refl (rows-kept (Keys (held base Four info was)) refl k)
+        (resumed w.rows (with_frame w (frame_of (held base Four info was) (keys_one value) 0 0)) refl
+            (rows-kept (Keys (held base Four info was)) refl k)
         ((k.known.0, omega arith), k.way)))
     keys-does base Sixteen info was k = Reads _ _ refl (λ value good. leads (Keys (held base Sixteen info was)) _ refl
-        (at-step w.rows (FirstKeys (held base Sixteen info was) value) w refl refl (rows-kept (Keys (held base Sixteen info was)) refl k) k.known tt k.way))
+        (at-step w.rows (FirstKeys (held base Sixteen info was) value) w refl refl (rows-kept (Keys (held base Sixteen info was)) refl k)
+            k.known tt k.way))
     keys-does base FortyEight info was k = Reads _ _ refl (λ value good. leads (Keys (held base FortyEight info was)) _ refl
-        (resumed w.rows (with_frame w (frame_of (held base FortyEight info was) (keys_one value) 0 0)) refl (rows-kept (Keys (held base FortyEight info was)) refl k)
+        (resumed w.rows (with_frame w (frame_of (held base FortyEight info was) (keys_one value) 0 0)) refl
+            (rows-kept (Keys (held base FortyEight info was)) refl k)
         ((k.known.0, omega arith), k.way)))
     keys-does base Full info was k = Reads _ _ refl (λ value good. leads (Keys (held base Full info was)) _ refl
-        (resumed w.rows (with_frame w (frame_of (held base Full info was) (keys_one value) 0 0)) refl (rows-kept (Keys (held base Full info was)) refl k)
+        (resumed w.rows (with_frame w (frame_of (held base Full info was) (keys_one value) 0 0)) refl
+            (rows-kept (Keys (held base Full info was)) refl k)
         ((k.known.0, omega arith), k.way)))
 
     -- Stages that are not the same in both trees.
@@ -281,7 +295,8 @@ module _ (variant : Variant) (s : Shape) (call : Call) (P : OfRows) (is_row : (b
         (resumed w.rows (with_frame w (frame_of n (keys16 count first value) 0 0)) refl (rows-kept (SecondKeys n count first) refl k)
         ((k.known.0, omega arith), k.way)))
     step-does own (Index n j m) k = Reads _ _ refl (λ value good. leads (Index n j m) _ refl
-        (resumed w.rows (with_frame w (frame_of n (keys_one value) j m)) refl (rows-kept (Index n j m) refl k) ((k.known.0, omega arith), k.way)))
+        (resumed w.rows (with_frame w (frame_of n (keys_one value) j m)) refl (rows-kept (Index n j m) refl k)
+            ((k.known.0, omega arith), k.way)))
     step-does own (LoadChild f slot) k = Reads _ _ refl (λ value good. leads (LoadChild f slot) _ refl
         (child-after w.rows (with_frame w f) (child_of s value) refl (rows-kept (LoadChild f slot) refl k) (k.fits.0, k.way)
         (good f.row.base f.row.kind (is_row f.row.base f.row.kind k.fits.0.0) k.fits.1)))
@@ -292,11 +307,13 @@ module _ (variant : Variant) (s : Shape) (call : Call) (P : OfRows) (is_row : (b
         none false = refl
 
 -- A scan of the optimistic tree.
-module _ (s : Shape) (call : Call) (P : OfRows) (is_row : (b : ℕ) (k : Kind) → P b k → kind_at s b ≡ Some k) (root : P (root_base s) Full) (lo hi : ℕ) where
+module _ (s : Shape) (call : Call) (P : OfRows) (is_row : (b : ℕ) (k : Kind) → P b k → kind_at s b ≡ Some k)
+    (root : P (root_base s) Full) (lo hi : ℕ) where
   abbrev optimistic-setting : Setting
   optimistic-setting = setting s Optimistic call
 
-  met : (n : Held) (w : Walk) → P n.base n.kind → Each (FitsFrame P) w.way → Has P optimistic-setting (OnScan lo hi (visit_at optimistic-setting lo hi n w)) [] []
+  met : (n : Held) (w : Walk) → P n.base n.kind → Each (FitsFrame P) w.way
+      → Has P optimistic-setting (OnScan lo hi (visit_at optimistic-setting lo hi n w)) [] []
   met n w p way = go (bytes_of lo hi (row_at n)) (has_row n.base (map row_at w.rows))
     where
       here : Bool → Walk
@@ -307,7 +324,8 @@ module _ (s : Shape) (call : Call) (P : OfRows) (is_row : (b : ℕ) (k : Kind) �
       same false = way
 
       go : (xs : List ℕ) (b : Bool) → Has P optimistic-setting (OnScan lo hi (visit_list optimistic-setting lo hi n (here b) xs)) [] []
-      go xs b = let k = listed Optimistic s call P is_row root lo hi (here b).rows n (here b) xs refl tt p (same b) in (k.0, ap locks_of k.1, refl)
+      go xs b = let k = listed Optimistic s call P is_row root lo hi (here b).rows n (here b) xs refl tt p
+          (same b) in (k.0, ap locks_of k.1, refl)
 
   entered : (entry : Entry) (w : Walk) (v : ℕ) → KnowsScanRows P false (at (Wait entry) w)
       → Has P optimistic-setting (OnScan lo hi (entry_at optimistic-setting lo hi entry w v)) [] []
@@ -321,12 +339,14 @@ module _ (s : Shape) (call : Call) (P : OfRows) (is_row : (b : ℕ) (k : Kind) �
       → Has P optimistic-setting (OnScan lo hi (step_after optimistic-setting lo hi (Wait entry) w value)) [] []
   waits entry w value k = choose (is_locked value) (is_obsolete value)
     where
-      choose : (b d : Bool) → Has P optimistic-setting (OnScan lo hi (if b then at (Wait entry) w else if d then scan_start optimistic-setting else entry_at optimistic-setting lo hi entry w value)) [] []
+      choose : (b d : Bool) → Has P optimistic-setting (OnScan lo hi (if b then at (Wait entry) w else if d then scan_start
+          optimistic-setting else entry_at optimistic-setting lo hi entry w value)) [] []
       choose true d = (k, refl, refl)
       choose false true = begun
       choose false false = entered entry w value k
 
-  checks : (w : Walk) (b : Bool) → Has P optimistic-setting (OnScan lo hi (if b then close_at optimistic-setting w else scan_start optimistic-setting)) [] []
+  checks : (w : Walk) (b : Bool) → Has P optimistic-setting (OnScan lo hi (if b then close_at optimistic-setting w else scan_start
+      optimistic-setting)) [] []
   checks w true = let k = closed Optimistic s call P is_row root lo hi w.rows w refl tt in (k.0, ap locks_of k.1, refl)
   checks w false = begun
 
@@ -340,12 +360,14 @@ module _ (s : Shape) (call : Call) (P : OfRows) (is_row : (b : ℕ) (k : Kind) �
   }) x.step k
 
 -- A scan of the coupled tree.
-module _ (s : Shape) (call : Call) (P : OfRows) (is_row : (b : ℕ) (k : Kind) → P b k → kind_at s b ≡ Some k) (root : P (root_base s) Full) (lo hi : ℕ) where
+module _ (s : Shape) (call : Call) (P : OfRows) (is_row : (b : ℕ) (k : Kind) → P b k → kind_at s b ≡ Some k)
+    (root : P (root_base s) Full) (lo hi : ℕ) where
   abbrev coupled-setting : Setting
   coupled-setting = setting s Coupled call
 
   -- a row that was locked last is met
-  locked-row : (n : Held) (w : Walk) → Each (λ x. x.base ≢ n.base) w.rows → Each (IsKept true P) w.rows → IsKept true P n → Each (FitsFrame P) w.way
+  locked-row : (n : Held) (w : Walk) → Each (λ x. x.base ≢ n.base) w.rows → Each (IsKept true P) w.rows → IsKept true P n
+      → Each (FitsFrame P) w.way
       → Has P coupled-setting (OnScan lo hi (visit_at coupled-setting lo hi n w)) (locks_of (w.rows ++ n ∷ [])) []
   locked-row n w fresh kept new way = go (bytes_of lo hi (row_at n)) (has_row n.base (map row_at w.rows)) (fresh-row n.base w.rows fresh)
     where
@@ -353,10 +375,12 @@ module _ (s : Shape) (call : Call) (P : OfRows) (is_row : (b : ℕ) (k : Kind) �
       all = record { rows = w.rows ++ n ∷ []; pairs = w.pairs; way = w.way }
 
       go : (xs : List ℕ) (b : Bool) → b ≡ false
-          → Has P coupled-setting (OnScan lo hi (visit_list coupled-setting lo hi n (if b then w else all) xs)) (locks_of (w.rows ++ n ∷ [])) []
+          → Has P coupled-setting (OnScan lo hi (visit_list coupled-setting lo hi n (if b then w else all) xs))
+              (locks_of (w.rows ++ n ∷ [])) []
       go xs true e = absurd (false≢true (sym e))
       go xs false e =
-          let k = listed Coupled s call P is_row root lo hi (w.rows ++ n ∷ []) n all xs refl (each-end (IsKept true P) w.rows n kept new) new.1 way in
+          let k = listed Coupled s call P is_row root lo hi (w.rows ++ n ∷ []) n all xs refl
+              (each-end (IsKept true P) w.rows n kept new) new.1 way in
           (k.0, ap locks_of k.1, refl)
 
   locks-does : (w : Walk) (entry : Entry) (first : Bool) → KnowsScanRows P true (at (Lock entry first) w)
@@ -379,10 +403,14 @@ module _ (s : Shape) (call : Call) (P : OfRows) (is_row : (b : ℕ) (k : Kind) �
       → AccessDoes P coupled-setting (OnScan lo hi (at (Exchange entry v) w))
   exchanges-does w Root v k =
       let n = held (root_base s) Full 0 v in
-      Takes n (locks_of (w.rows ++ n ∷ [])) _ refl (subst (IsWith n (locks_of w.rows)) (sym (locks-end w.rows n)) (with-last n (locks_of w.rows))) refl (k.fits.1, root)
-      (λ apart. subst (λ b. Has P coupled-setting (OnScan lo hi (if b then entry_at coupled-setting lo hi Root w v else at (Lock Root false) w)) (locks_of (w.rows ++ n ∷ [])) [])
-      (sym (eq-eqb v v refl)) (same-locks (locked-row (held (root_base s) Full 3 v) w (apart-rows (root_base s) w.rows apart) k.kept (k.fits.1, root) k.way)))
-      (λ value other. subst (λ b. Has P coupled-setting (OnScan lo hi (if b then entry_at coupled-setting lo hi Root w v else at (Lock Root false) w)) (locks_of w.rows) [])
+      Takes n (locks_of (w.rows ++ n ∷ [])) _ refl
+          (subst (IsWith n (locks_of w.rows)) (sym (locks-end w.rows n)) (with-last n (locks_of w.rows))) refl (k.fits.1, root)
+      (λ apart. subst (λ b. Has P coupled-setting (OnScan lo hi (if b then entry_at coupled-setting lo hi Root w v else at
+          (Lock Root false) w)) (locks_of (w.rows ++ n ∷ [])) [])
+      (sym (eq-eqb v v refl)) (same-locks (locked-row (held (root_base s) Full 3 v) w (apart-rows (root_base s) w.rows apart) k.kept
+          (k.fits.1, root) k.way)))
+      (λ value other. subst (λ b. Has P coupled-setting (OnScan lo hi (if b then entry_at coupled-setting lo hi Root w v else at
+          (Lock Root false) w)) (locks_of w.rows) [])
       (sym (ne_eqb value v other)) again)
     where
       again : Has P coupled-setting (OnScan lo hi (at (Lock Root false) w)) (locks_of w.rows) []
@@ -390,12 +418,15 @@ module _ (s : Shape) (call : Call) (P : OfRows) (is_row : (b : ℕ) (k : Kind) �
 
       same-locks : {x : ScanAt} → Has P coupled-setting (OnScan lo hi x) (locks_of (w.rows ++ held (root_base s) Full 3 v ∷ [])) []
           → Has P coupled-setting (OnScan lo hi x) (locks_of (w.rows ++ held (root_base s) Full 0 v ∷ [])) []
-      same-locks h = (h.0, h.1 ∙ (locks-end w.rows (held (root_base s) Full 3 v) ∙ sym (locks-end w.rows (held (root_base s) Full 0 v))), h.2)
+      same-locks h = (h.0, h.1 ∙ (locks-end w.rows (held (root_base s) Full 3 v) ∙ sym
+          (locks-end w.rows (held (root_base s) Full 0 v))), h.2)
   exchanges-does w (Below base kind) v k =
       let n = held base kind 0 v in
-      Takes n (locks_of (w.rows ++ n ∷ [])) _ refl (subst (IsWith n (locks_of w.rows)) (sym (locks-end w.rows n)) (with-last n (locks_of w.rows))) refl
+      Takes n (locks_of (w.rows ++ n ∷ [])) _ refl
+          (subst (IsWith n (locks_of w.rows)) (sym (locks-end w.rows n)) (with-last n (locks_of w.rows))) refl
       (k.fits.1, k.known.0)
-      (λ apart. subst (λ b. Has P coupled-setting (OnScan lo hi (if b then at (Info base kind v) w else at (Lock (Below base kind) false) w)) (locks_of (w.rows ++ n ∷ [])) [])
+      (λ apart. subst (λ b. Has P coupled-setting (OnScan lo hi (if b then at (Info base kind v) w else at (Lock (Below base kind) false)
+          w)) (locks_of (w.rows ++ n ∷ [])) [])
       (sym (eq-eqb v v refl)) (
         record {
           kept = each-end (IsKept true P) w.rows n k.kept (k.fits.1, k.known.0);
@@ -406,7 +437,8 @@ module _ (s : Shape) (call : Call) (P : OfRows) (is_row : (b : ℕ) (k : Kind) �
         refl,
         refl,
       ))
-      (λ value other. subst (λ b. Has P coupled-setting (OnScan lo hi (if b then at (Info base kind v) w else at (Lock (Below base kind) false) w)) (locks_of w.rows) [])
+      (λ value other. subst (λ b. Has P coupled-setting (OnScan lo hi (if b then at (Info base kind v) w else at
+          (Lock (Below base kind) false) w)) (locks_of w.rows) [])
       (sym (ne_eqb value v other)) (record { kept = k.kept; known = k.known; fits = tt; way = k.way }, refl, refl))
 
   infos-does : (w : Walk) (base : ℕ) (kind : Kind) (kept : ℕ) → KnowsScanRows P true (at (Info base kind kept) w)
@@ -415,7 +447,8 @@ module _ (s : Shape) (call : Call) (P : OfRows) (is_row : (b : ℕ) (k : Kind) �
       let parts = each-init (IsKept true P) w.rows (held base kind 0 kept) k.kept in
       same-locks value (locked-row (held base kind value kept) w k.fits parts.0 parts.1 k.way))
     where
-      same-locks : (value : ℕ) {x : ScanAt} → Has P coupled-setting (OnScan lo hi x) (locks_of (w.rows ++ held base kind value kept ∷ [])) []
+      same-locks : (value : ℕ) {x : ScanAt} → Has P coupled-setting (OnScan lo hi x)
+          (locks_of (w.rows ++ held base kind value kept ∷ [])) []
           → Has P coupled-setting (OnScan lo hi x) (locks_of (w.rows ++ held base kind 0 kept ∷ [])) []
       same-locks value h = (h.0, h.1 ∙ (locks-end w.rows (held base kind value kept) ∙ sym (locks-end w.rows (held base kind 0 kept))), h.2)
 
@@ -423,7 +456,8 @@ module _ (s : Shape) (call : Call) (P : OfRows) (is_row : (b : ℕ) (k : Kind) �
       → AccessDoes P coupled-setting (OnScan lo hi (at (Release n) w))
   releases-does w n k = Releases (lock_of n) (locks_of w.rows) _ _ refl (inl (refl, refl)) refl (inl refl) k.kept.0 (go w.rows k.kept.1)
     where
-      go : (rows : List Held) → Each (IsKept true P) rows → Has P coupled-setting (OnScan lo hi (release_rows rows w.pairs)) (locks_of rows) []
+      go : (rows : List Held) → Each (IsKept true P) rows
+          → Has P coupled-setting (OnScan lo hi (release_rows rows w.pairs)) (locks_of rows) []
       go [] kept = (record { kept = tt; known = tt; fits = tt; way = tt }, refl, refl)
       go (m ∷ rows) kept = (record { kept = kept; known = tt; fits = tt; way = tt }, refl, refl)
 

@@ -15,7 +15,8 @@ use Rattle.art_steps.proofs.TurnLemmas.{loads-same, answers-asks}
 use Rattle.art_stages.specs.declared.stage.Held.{Held}
 use Rattle.art_stages.specs.declared.stage.Entry.TheVariants.{Root, Below}
 use Rattle.art_stages.specs.declared.stage.ScanStep.{ScanStep}
-use Rattle.art_stages.specs.declared.stage.ScanStep.TheVariants.{Lock, Exchange, Wait, Info, Keys, FirstKeys, SecondKeys, Index, Child as LoadChild, Release}
+use Rattle.art_stages.specs.declared.stage.ScanStep.TheVariants.{Lock, Exchange, Wait, Info, Keys, FirstKeys, SecondKeys, Index}
+use Rattle.art_stages.specs.declared.stage.ScanStep.TheVariants.{Child as LoadChild, Release}
 use Rattle.art_stages.specs.declared.stage.ScanStep.TheVariants.{Over}
 use Rattle.art_stages.specs.Scans.{Walk, ScanAt, at, scan_turn, keys_turn}
 use Rattle.art_versions.specs.versions.Holding.{optimistic, OfRows, KnowsScanRows}
@@ -31,14 +32,20 @@ module _ (s : Shape) (call : Call) (P : OfRows) (root : P (root_base s) Full) wh
     pub below : word < base + row_words kind
 
   in-row : (base : ℕ) (kind : Kind) (x word : ℕ) → P base kind → x ≡ word → base ≤ x → x < base + row_words kind → IsInKnown word
-  in-row base kind x word p e low high = record { base = base; kind = kind; known = p; from = omega (arith, low, e); below = omega (arith, high, e) }
+  in-row base kind x word p e low high = record { base = base; kind = kind; known = p; from = omega (arith, low, e); below = omega
+      (arith, high, e) }
 
-  keys-known : (kind : Kind) (n : Held) (word : ℕ) (mark : Option Point) → n.kind ≡ kind → P n.base n.kind → keys_turn kind n ≡ Asks (Load word) mark
+  keys-known : (kind : Kind) (n : Held) (word : ℕ) (mark : Option Point) → n.kind ≡ kind → P n.base n.kind
+      → keys_turn kind n ≡ Asks (Load word) mark
       → IsInKnown word
-  keys-known Four n word mark k p e = in-row n.base n.kind (keys_at n.base) word p (loads-same e).0 (omega arith) (omega (arith, seven-words n.kind))
-  keys-known Sixteen n word mark k p e = in-row n.base n.kind (count_at Sixteen n.base) word p (loads-same e).0 (omega arith) (omega (arith, seven-words n.kind))
-  keys-known FortyEight n word mark k p e = in-row n.base n.kind (keys_at n.base) word p (loads-same e).0 (omega arith) (omega (arith, seven-words n.kind))
-  keys-known Full n word mark k p e = in-row n.base n.kind (keys_at n.base) word p (loads-same e).0 (omega arith) (omega (arith, seven-words n.kind))
+  keys-known Four n word mark k p e = in-row n.base n.kind (keys_at n.base) word p (loads-same e).0 (omega arith)
+      (omega (arith, seven-words n.kind))
+  keys-known Sixteen n word mark k p e = in-row n.base n.kind (count_at Sixteen n.base) word p (loads-same e).0 (omega arith)
+      (omega (arith, seven-words n.kind))
+  keys-known FortyEight n word mark k p e = in-row n.base n.kind (keys_at n.base) word p (loads-same e).0 (omega arith)
+      (omega (arith, seven-words n.kind))
+  keys-known Full n word mark k p e = in-row n.base n.kind (keys_at n.base) word p (loads-same e).0 (omega arith)
+      (omega (arith, seven-words n.kind))
 
   pub loads-known : (x : ScanAt) → KnowsScanRows P false x → (word : ℕ) (mark : Option Point)
       → scan_turn (optimistic s call) x ≡ Asks (Load word) mark
@@ -50,10 +57,13 @@ module _ (s : Shape) (call : Call) (P : OfRows) (root : P (root_base s) Full) wh
       go (Lock entry first) w k e = absurd k.fits
       go (Exchange entry v) w k e = absurd k.fits.0
       go (Wait Root) w k e = in-row (root_base s) Full (root_base s) word root (loads-same e).0 (omega arith) (omega arith)
-      go (Wait (Below base kind)) w k e = in-row base kind base word k.known.0 (loads-same e).0 (omega arith) (omega (arith, seven-words kind))
-      go (Info base kind kept) w k e = in-row base kind (info_at base) word k.known.0 (loads-same e).0 (omega arith) (omega (arith, seven-words kind))
+      go (Wait (Below base kind)) w k e = in-row base kind base word k.known.0 (loads-same e).0 (omega arith)
+          (omega (arith, seven-words kind))
+      go (Info base kind kept) w k e = in-row base kind (info_at base) word k.known.0 (loads-same e).0 (omega arith)
+          (omega (arith, seven-words kind))
       go (Keys n) w k e = keys-known n.kind n word mark refl k.known.0 e
-      go (FirstKeys n count) w k e = in-row n.base n.kind (keys_at n.base) word k.known.0 (loads-same e).0 (omega arith) (omega (arith, seven-words n.kind))
+      go (FirstKeys n count) w k e = in-row n.base n.kind (keys_at n.base) word k.known.0 (loads-same e).0 (omega arith)
+          (omega (arith, seven-words n.kind))
       go (SecondKeys n count first) w k e =
           in-row n.base n.kind (more_keys_at n.base) word k.known.0 (loads-same e).0 (omega arith) (omega (arith, seven-words n.kind))
       go (Index n j m) w k e = in-row n.base n.kind (index_at n.base (8 * j)) word k.known.0 (loads-same e).0 (omega arith)

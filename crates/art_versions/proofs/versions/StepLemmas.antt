@@ -2,7 +2,8 @@
 use Rattle.art_versions.specs.versions.Writers.{WritesOwn}
 use Rattle.std.proofs.Common.{true, false}
 use Rattle.art_steps.specs.Rows.{locks}
-use Rattle.std.proofs.Common.{◌≡◌, ◌≢◌, ℕ, ◌+◌, ◌%◌, ◌^◌, ◌<◌, ◌≤◌, List, [], ◌∷◌, ◌++◌, length, refl, ap, sym, subst, ◌∙◌, inl, inr, arith, eq-eqb}
+use Rattle.std.proofs.Common.{◌≡◌, ◌≢◌, ℕ, ◌+◌, ◌%◌, ◌^◌, ◌<◌, ◌≤◌, List, [], ◌∷◌, ◌++◌, length, refl, ap, sym, subst, ◌∙◌, inl, inr, arith}
+use Rattle.std.proofs.Common.{eq-eqb}
 use Rattle.std.proofs.Common.{ne_eqb}
 use Rattle.std.specs.Prelude.{Bool, slice_get, slice_index, slice_set, Option, Some, None, if◌then◌else◌}
 use Rattle.std.proofs.lemmas.List.{append-nil}
@@ -34,7 +35,8 @@ use Rattle.art_stages.proofs.BehindLemmas.{call_next, behind}
 use Rattle.art_steps.specs.declared.variant.Variant.{Variant}
 use Rattle.art_core.specs.declared.process.Process.{Process}
 use Rattle.art_core.specs.Accesses.{told}
-use Rattle.art_core.specs.Core.{Plan, State, Move, Invokes, Makes, Responds, after_move, moved, move_of, invocation, next_call, move_from, step}
+use Rattle.art_core.specs.Core.{Plan, State, Move, Invokes, Makes, Responds, after_move, moved, move_of, invocation, next_call, move_from}
+use Rattle.art_core.specs.Core.{step}
 use Rattle.art_core.proofs.HistoryLemmas.{is-moved}
 use Rattle.art_versions.specs.versions.Holding.{OfRows, Named, Knows, holds, fills}
 use Rattle.art_versions.specs.versions.Effects.{With, Has, Reads, Writes, Fills, Ends, Releases, Takes, Claims, Answered, AccessDoes}
@@ -64,19 +66,22 @@ pub after-more : (c : Setting) (at : CallAt) (got : List ℕ) (w : ℕ) → afte
 after-more c at [] w = refl
 after-more c at (v ∷ got) w = after-more c (call_after c at v) got w
 
-pub coupled-does : (shape : Shape) (call : Call) (P : OfRows) → ((b : ℕ) (k : Kind) → P b k → kind_at shape b ≡ Some k) → P (root_base shape) Full
+pub coupled-does : (shape : Shape) (call : Call) (P : OfRows) → ((b : ℕ) (k : Kind) → P b k → kind_at shape b ≡ Some k)
+    → P (root_base shape) Full
     → (at : CallAt) → Knows P (setting shape Coupled call) at → AccessDoes P (setting shape Coupled call) at
 coupled-does shape call P is_row root (OnKey stage) k =
     key-does Coupled shape call P is_row root (coupled-own shape call P is_row root) stage k
 coupled-does shape call P is_row root (OnScan low high scan) k = coupled-scan-does shape call P is_row root low high scan k
 
-pub optimistic-does : (shape : Shape) (call : Call) (P : OfRows) → ((b : ℕ) (k : Kind) → P b k → kind_at shape b ≡ Some k) → P (root_base shape) Full
+pub optimistic-does : (shape : Shape) (call : Call) (P : OfRows) → ((b : ℕ) (k : Kind) → P b k → kind_at shape b ≡ Some k)
+    → P (root_base shape) Full
     → (at : CallAt) → Knows P (setting shape Optimistic call) at → AccessDoes P (setting shape Optimistic call) at
 optimistic-does shape call P is_row root (OnKey stage) k =
     key-does Optimistic shape call P is_row root (optimistic-own shape call P is_row root) stage k
 optimistic-does shape call P is_row root (OnScan low high scan) k = optimistic-scan-does shape call P is_row root low high scan k
 
-pub does : (variant : Variant) → IsFull variant → (shape : Shape) (call : Call) (P : OfRows) → ((b : ℕ) (k : Kind) → P b k → kind_at shape b ≡ Some k)
+pub does : (variant : Variant) → IsFull variant → (shape : Shape) (call : Call) (P : OfRows)
+    → ((b : ℕ) (k : Kind) → P b k → kind_at shape b ≡ Some k)
     → P (root_base shape) Full → (at : CallAt) → Knows P (setting shape variant call) at → AccessDoes P (setting shape variant call) at
 does variant (inl e) shape call P is_row root at =
     subst (λ v. Knows P (setting shape v call) at → AccessDoes P (setting shape v call) at) (sym e)
@@ -92,10 +97,12 @@ next-turn variant shape call q =
     ap (act shape variant call) (sym (append-nil q.got))
     ∙ (sym (behind (setting shape variant call) q.got []) ∙ call_next (setting shape variant call) (stage_of variant shape call q))
 
-module _ (variant : Variant) (shape : Shape) (root : 1 ≤ shape.rows256) (n : ℕ) (s : State) (h : IsSound variant shape n s) (few : n < 2 ^ 62) (p : ℕ) (q : Process)
+module _ (variant : Variant) (shape : Shape) (root : 1 ≤ shape.rows256) (n : ℕ) (s : State) (h : IsSound variant shape n s)
+    (few : n < 2 ^ 62) (p : ℕ) (q : Process)
     (here : slice_get s.processes p ≡ Some q) where
   abbrev Kept : Move → Type 0
-  Kept m = IsSound variant shape (n + 1) (moved s p q m) × IsSteady variant shape s (moved s p q m) × WritesOwn variant shape s p (moved s p q m)
+  Kept m = IsSound variant shape (n + 1) (moved s p q m) × IsSteady variant shape s (moved s p q m)
+      × WritesOwn variant shape s p (moved s p q m)
 
   module _ (call : Call) (is-open : q.call ≡ Some call) where
     abbrev c : Setting
@@ -127,21 +134,27 @@ module _ (variant : Variant) (shape : Shape) (root : 1 ≤ shape.rows256) (n : �
 
     access : (a : Access) (mark : Option Point) → call_turn c place ≡ Asks a mark → AccessDoes P c place → Kept (Makes a)
     access a mark e (Reads word at turn after) = subst (λ a. Kept (Makes a)) (asks-same (sym turn ∙ e))
-        (keeps-words variant shape n s h few p q here call is-open word (slice_index s.words word) (later (Load word)) is-open (in-table (Load word) at turn) refl
+        (keeps-words variant shape n s h few p q here call is-open word (slice_index s.words word) (later (Load word)) is-open
+            (in-table (Load word) at turn) refl
         (has-at P (Load word) (holds c place) (fills place) (after (slice_index s.words word) (h.children word))))
     access a mark e (Writes x word value at turn among kept behind good after) = subst (λ a. Kept (Makes a)) (asks-same (sym turn ∙ e))
-        (keeps-versions variant shape n s h few p q here call is-open word value (later (Store word value)) is-open (in-table (Store word value) at turn)
+        (keeps-versions variant shape n s h few p q here call is-open word value (later (Store word value)) is-open
+            (in-table (Store word value) at turn)
         x.base x.kind (settled-row variant shape s x.base x.kind kept.1) behind
         (λ l y free. true-false (is-locked variant shape n s h few p q here call is-open x among kept) free)
-        (inl (record { holder = p; call = call; process = q; is_open = opens; row = x; among = among; is = refl }, refl)) good (fills place) (inl refl) P (λ more. more)
+        (inl (record { holder = p; call = call; process = q; is_open = opens; row = x; among = among; is = refl }, refl)) good
+            (fills place) (inl refl) P (λ more. more)
         (has-at P (Store word value) (holds c place) (fills place) after))
     access a mark e (Fills b k word value at turn filled behind row good after) = subst (λ a. Kept (Makes a)) (asks-same (sym turn ∙ e))
-        (keeps-versions variant shape n s h few p q here call is-open word value (later (Store word value)) is-open (in-table (Store word value) at turn)
+        (keeps-versions variant shape n s h few p q here call is-open word value (later (Store word value)) is-open
+            (in-table (Store word value) at turn)
         b k row behind (λ l y free. y.unfilled p call q opens b k filled refl)
-        (inr (inr (record { call = call; process = q; is_open = opens; kind = k; fills = filled }))) good (fills place) (inl refl) P (λ more. more)
+        (inr (inr (record { call = call; process = q; is_open = opens; kind = k; fills = filled }))) good (fills place)
+            (inl refl) P (λ more. more)
         (has-at P (Store word value) (holds c place) (fills place) after))
     access a mark e (Ends b k word value at turn filled behind row good after) = subst (λ a. Kept (Makes a)) (asks-same (sym turn ∙ e))
-        (keeps-versions variant shape n s h few p q here call is-open word value (later (Store word value)) is-open (in-table (Store word value) at turn)
+        (keeps-versions variant shape n s h few p q here call is-open word value (later (Store word value)) is-open
+            (in-table (Store word value) at turn)
         b k row behind (λ l y free. y.unfilled p call q opens b k filled refl)
         (inr (inr (record { call = call; process = q; is_open = opens; kind = k; fills = filled }))) good [] (inr refl) (With P b k) settles
         (has-at (With P b k) (Store word value) (holds c place) [] after))
@@ -159,19 +172,25 @@ module _ (variant : Variant) (shape : Shape) (root : 1 ≤ shape.rows256) (n : �
         claims-same = index-other s.words word value (claims_of k)
             (differ (claims_of k) word (omega (arith, claims-few k, row_begins shape b k row, behind.0)))
 
-        unfilled : (r : ℕ) (o : Call) (w : Process) → IsOpen stored r o w → (d : ℕ) (l : Kind) → filled_by variant shape o w ≡ (d, l) ∷ [] → b ≢ d
-        unfilled r o w open-then d l f same = elim (whose variant shape n s h p q here word value (later (Store word value)) r o w open-then) [
+        unfilled : (r : ℕ) (o : Call) (w : Process) → IsOpen stored r o w → (d : ℕ) (l : Kind)
+            → filled_by variant shape o w ≡ (d, l) ∷ [] → b ≢ d
+        unfilled r o w open-then d l f same = elim (whose variant shape n s h p q here word value (later (Store word value))
+            r o w open-then) [
           | inl t ↦ no-items (sym none-now ∙ subst (λ v. filled_by variant shape v (later (Store word value)) ≡ (d, l) ∷ [])
-              (same_Some o call (sym (own-call variant shape n s h p q here word value (later (Store word value)) r o w open-then t.1) ∙ is-open))
+              (same_Some o call (sym (own-call variant shape n s h p q here word value (later (Store word value)) r o w
+                  open-then t.1) ∙ is-open))
               (subst (λ v. filled_by variant shape o v ≡ (d, l) ∷ []) t.1 f))
           | inr t ↦ t.0 (sym (h.fills_apart p r call o q w opens t.1 b d k l filled f same))
         ]
 
-        settles : ((base : ℕ) (kind : Kind) → P base kind → IsSettled variant shape stored base kind) → (base : ℕ) (kind : Kind) → With P b k base kind
+        settles : ((base : ℕ) (kind : Kind) → P base kind → IsSettled variant shape stored base kind) → (base : ℕ) (kind : Kind)
+            → With P b k base kind
             → IsSettled variant shape stored base kind
         settles more base kind (inl x) = more base kind x
-        settles more base kind (inr x) = subst (λ y. IsSettled variant shape stored y kind) (sym x.0) (subst (IsSettled variant shape stored b) (sym x.1) (record {
-          claimed = record { number = claimed.number; claimed = omega (arith, claimed.claimed, claims-same); within = claimed.within; is = claimed.is };
+        settles more base kind (inr x) = subst (λ y. IsSettled variant shape stored y kind) (sym x.0)
+            (subst (IsSettled variant shape stored b) (sym x.1) (record {
+          claimed = record { number = claimed.number; claimed = omega (arith, claimed.claimed, claims-same); within = claimed.within;
+              is = claimed.is };
           unfilled = unfilled;
         }))
     access a mark e (Releases x rest value at turn hold none written kept after) = subst (λ a. Kept (Makes a)) (asks-same (sym turn ∙ e))
@@ -183,7 +202,8 @@ module _ (variant : Variant) (shape : Shape) (root : 1 ≤ shape.rows256) (n : �
               (takes variant shape n s h few p q here call is-open x all kept same with none (later swap) is-open
               (λ apart. has-at P swap all [] (subst (λ w. Has P c (call_after c place w) all []) (sym same) (taken apart))))
           | inr differs ↦ subst (λ b. Chosen b) (sym (ne_eqb (slice_index s.words x.base) x.kept differs))
-              (keeps-words variant shape n s h few p q here call is-open x.base (slice_index s.words x.base) (later swap) is-open (in-table swap at turn) refl
+              (keeps-words variant shape n s h few p q here call is-open x.base (slice_index s.words x.base) (later swap) is-open
+                  (in-table swap at turn) refl
               (has-at P swap (holds c place) (fills place)
               (subst (λ f. Has P c (call_after c place (slice_index s.words x.base)) (holds c place) f) (sym none)
               (other (slice_index s.words x.base) differs))))
@@ -200,11 +220,15 @@ module _ (variant : Variant) (shape : Shape) (root : 1 ≤ shape.rows256) (n : �
 
         Chosen : Bool → Type 0
         Chosen b = IsSound variant shape (n + 1) (to b) × IsSteady variant shape s (to b) × WritesOwn variant shape s p (to b)
-    access a mark e (Claims kind at turn none claimed full) = subst (λ a. Kept (Makes a)) (asks-same (sym turn ∙ e)) (elim (cases_lt value (rows_of shape kind)) [
-      | inl less ↦ keeps-claim variant shape n s h few p q here call is-open kind ((value + 1) % 2 ^ 64) one (later (Add (claims_of kind))) is-open
-          ((base_of shape kind value, kind) ∷ []) (inr (less, refl)) (has-at P (Add (claims_of kind)) (holds c place) ((base_of shape kind value, kind) ∷ [])
+    access a mark e (Claims kind at turn none claimed full) =
+        subst (λ a. Kept (Makes a)) (asks-same (sym turn ∙ e)) (elim (cases_lt value (rows_of shape kind)) [
+      | inl less ↦ keeps-claim variant shape n s h few p q here call is-open kind ((value + 1) % 2 ^ 64) one
+          (later (Add (claims_of kind))) is-open
+          ((base_of shape kind value, kind) ∷ []) (inr (less, refl))
+              (has-at P (Add (claims_of kind)) (holds c place) ((base_of shape kind value, kind) ∷ [])
           (claimed value less))
-      | inr more ↦ keeps-claim variant shape n s h few p q here call is-open kind ((value + 1) % 2 ^ 64) one (later (Add (claims_of kind))) is-open
+      | inr more ↦ keeps-claim variant shape n s h few p q here call is-open kind ((value + 1) % 2 ^ 64) one
+          (later (Add (claims_of kind))) is-open
           [] (inl refl) (has-at P (Add (claims_of kind)) (holds c place) [] (full value more))
     ])
       where
@@ -258,14 +282,17 @@ module _ (variant : Variant) (shape : Shape) (root : 1 ≤ shape.rows256) (n : �
   claims-above value Full = index-other s.words 0 value 4 (λ e. omega (arith, e))
 
   invoked : (call : Call) → q.call ≡ None → Kept (Invokes call)
-  invoked call idle = keeps-idle variant shape n s h few p q here 0 _ (omega arith) (after_move p (Invokes call) (slice_index s.words 0) q) (claims-above _)
+  invoked call idle = keeps-idle variant shape n s h few p q here 0 _ (omega arith) (after_move p (Invokes call) (slice_index s.words 0)
+      q) (claims-above _)
       (λ other e. begun-idle other other) (λ other e. absurd (none-some other (sym idle ∙ e))) (λ Q r other e. begun-knows other other Q)
 
   responded : (reply : Reply) → ((call : Call) → q.call ≡ Some call → held_by variant shape call q ≡ []) → Kept (Responds reply)
-  responded reply nothing = keeps-idle variant shape n s h few p q here 0 _ (omega arith) (after_move p (Responds reply) (slice_index s.words 0) q) (claims-above _)
+  responded reply nothing = keeps-idle variant shape n s h few p q here 0 _ (omega arith) (after_move p (Responds reply)
+      (slice_index s.words 0) q) (claims-above _)
       (λ other e. absurd (none-some other e)) nothing (λ Q r other e. absurd (none-some other e))
 
-  pub one-move : IsFull variant → (plan : Plan) → plan.shape ≡ shape → plan.variant ≡ variant → (o : Option Call) (m : Move) → q.call ≡ o → move_from plan p q o ≡ Some m
+  pub one-move : IsFull variant → (plan : Plan) → plan.shape ≡ shape → plan.variant ≡ variant → (o : Option Call) (m : Move) → q.call ≡ o
+      → move_from plan p q o ≡ Some m
       → Kept m
   one-move full plan its-shape its-variant None m e k = begins (next_call plan p q) k
     where
@@ -276,10 +303,12 @@ module _ (variant : Variant) (shape : Shape) (root : 1 ≤ shape.rows256) (n : �
       goes (act plan.shape plan.variant call q.got) (sym turn) k
     where
       turn : act plan.shape plan.variant call q.got ≡ call_turn (setting shape variant call) (stage_of variant shape call q)
-      turn = ap (λ x. act x plan.variant call q.got) its-shape ∙ (ap (λ v. act shape v call q.got) its-variant ∙ next-turn variant shape call q)
+      turn = ap (λ x. act x plan.variant call q.got) its-shape
+          ∙ (ap (λ v. act shape v call q.got) its-variant ∙ next-turn variant shape call q)
 
       doing : AccessDoes (IsSettled variant shape s) (setting shape variant call) (stage_of variant shape call q)
-      doing = does variant full shape call (IsSettled variant shape s) (settled-row variant shape s) h.root (stage_of variant shape call q) (h.knows p call q (record { own = here; is_open = e }))
+      doing = does variant full shape call (IsSettled variant shape s) (settled-row variant shape s) h.root (stage_of variant shape call q)
+          (h.knows p call q (record { own = here; is_open = e }))
 
       nothing : (reply : Reply) → call_turn (setting shape variant call) (stage_of variant shape call q) ≡ Answers reply
           → AccessDoes (IsSettled variant shape s) (setting shape variant call) (stage_of variant shape call q)
@@ -293,13 +322,15 @@ module _ (variant : Variant) (shape : Shape) (root : 1 ≤ shape.rows256) (n : �
       nothing reply f (Takes x all at turn with none kept taken other) = absurd (asks-answers (sym turn ∙ f))
       nothing reply f (Claims kind at turn none claimed full) = absurd (asks-answers (sym turn ∙ f))
 
-      goes : (t : Turn) → call_turn (setting shape variant call) (stage_of variant shape call q) ≡ t → ◌≡◌ {A = Option Move} (Some (move_of t)) (Some m) → Kept m
+      goes : (t : Turn) → call_turn (setting shape variant call) (stage_of variant shape call q) ≡ t
+          → ◌≡◌ {A = Option Move} (Some (move_of t)) (Some m) → Kept m
       goes (Asks a mark) f l = subst Kept (same_Some (Makes a) m l) (access call e a mark f doing)
       goes (Answers reply) f l = subst Kept (same_Some (Responds reply) m l) (responded reply (λ other g.
           subst (λ x. held_by variant shape x q ≡ []) (same_Some call other (sym e ∙ g)) (nothing reply f doing)))
 
 -- A step of a full tree.
-pub one-step : (variant : Variant) → IsFull variant → (plan : Plan) → plan.variant ≡ variant → 1 ≤ plan.shape.rows256 → (n : ℕ) → n < 2 ^ 62 → (s : State)
+pub one-step : (variant : Variant) → IsFull variant → (plan : Plan) → plan.variant ≡ variant → 1 ≤ plan.shape.rows256 → (n : ℕ)
+    → n < 2 ^ 62 → (s : State)
     → IsSound variant plan.shape n s → (p : ℕ) (later : State) → step plan s p ≡ Some later
     → IsSound variant plan.shape (n + 1) later × IsSteady variant plan.shape s later × WritesOwn variant plan.shape s p later
 one-step variant full plan its-variant root n few s h p later e =

@@ -68,7 +68,8 @@ module _ (s : Shape) where
       two false = refl
 
       one : (b : Bool) → (w % 4 == 1) ≡ b
-          → child_rows (if b then row_child (w / 4) (kind_at s (w / 4)) else (if w % 4 == 2 then Leaf (w / 4294967296) (w % 4294967296 / 4) else Empty)) ≡ []
+          → child_rows (if b then row_child (w / 4) (kind_at s (w / 4)) else (if w % 4 == 2 then Leaf (w / 4294967296)
+              (w % 4294967296 / 4) else Empty)) ≡ []
       one true f = absurd (grind (arith, f, e))
       one false f = two (w % 4 == 2)
 
@@ -89,7 +90,8 @@ module _ (s : Shape) where
     pub child-good : ((b : ℕ) (k : Kind) → P b k → kind_at s b ≡ Some k) → (child : Child) → Each (IsNamed P) (child_rows child)
         → Each (IsNamed P) (child_rows (child_of s (child_word child)))
     child-good is_row Empty h = tt
-    child-good is_row (ChildRow base kind) h = subst (λ c. Each (IsNamed P) (child_rows c)) (sym (row-is base kind (is_row base kind h.0))) h
+    child-good is_row (ChildRow base kind) h =
+        subst (λ c. Each (IsNamed P) (child_rows c)) (sym (row-is base kind (is_row base kind h.0))) h
     child-good is_row (Leaf key value) h = leaf-good key value
 
     pub new-leaf-rows : (call : Call) → Each (IsNamed P) (child_rows (new_leaf call))
@@ -99,7 +101,8 @@ module _ (s : Shape) where
     new-leaf-rows (Scan a b) = tt
     new-leaf-rows (Replace k old new) = tt
 
-    pub overwriting-good : (call : Call) (value word : ℕ) → overwriting call value ≡ Some word → Each (IsNamed P) (child_rows (child_of s word))
+    pub overwriting-good : (call : Call) (value word : ℕ) → overwriting call value ≡ Some word
+        → Each (IsNamed P) (child_rows (child_of s word))
     overwriting-good (Get k) value word e = absurd (none-some word e)
     overwriting-good (Insert k v) value word e = absurd (none-some word e)
     overwriting-good (Scan a b) value word e = absurd (none-some word e)

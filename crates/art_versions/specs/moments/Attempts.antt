@@ -12,7 +12,8 @@ use Rattle.art_steps.specs.Act.{act}
 use Rattle.art_core.specs.Core.{Plan}
 use Rattle.art_core.specs.Moments.{BeginsAttempt, Reads, Enters, Checks}
 
--- The word that the i-th access read is of a row that the attempt had entered by then, with a version that was neither locked nor obsolete. It entered the row
+-- The word that the i-th access read is of a row that the attempt had entered by then, with a version that was neither locked nor obsolete.
+-- It entered the row
 -- before its m-th word, and checked it behind that, and not before this read: the version was the one with which it had entered.
 pub record IsOfCheckedRow (plan : Plan) (call : Call) (attempt : List ℕ) (m i word : ℕ) : Type 0 where
   pub base : ℕ
@@ -39,7 +40,8 @@ pub record IsValidated (plan : Plan) (call : Call) (got : List ℕ) : Type 0 whe
   pub m : ℕ
   pub most : m ≤ length attempt
   pub reads : (i word : ℕ) → Reads plan call attempt i word → IsOfCheckedRow plan call attempt m i word
-  pub parts : (i word : ℕ) (r : Reads plan call attempt i word) → ((i < m) × (r.mark ≢ Some point.Check)) ⊎ ((m ≤ i) × (r.mark ≡ Some point.Check))
+  pub parts : (i word : ℕ) (r : Reads plan call attempt i word) → ((i < m) × (r.mark ≢ Some point.Check))
+      ⊎ ((m ≤ i) × (r.mark ≡ Some point.Check))
 
 -- An answered scan of the optimistic tree was validated, whatever words it got.
 abbrev pub AnsweredScansAreValidated : Type 0

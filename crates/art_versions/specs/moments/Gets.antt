@@ -12,7 +12,8 @@ use Rattle.art_core.specs.Core.{Plan}
 use Rattle.art_core.specs.Moments.{BeginsAttempt, Reads, Enters, Checks}
 use Rattle.art_versions.specs.moments.RowReplies.{row_reply}
 
--- The info word by which a get goes at the row that it entered there: the one that it read behind that entry; and at the root, which it enters first and of which
+-- The info word by which a get goes at the row that it entered there: the one that it read behind that entry; and at the root, which it
+-- enters first and of which
 -- it reads none, the word of a root.
 abbrev pub GoesBy : Plan → Call → List ℕ → ℕ → ℕ → ℕ → Type 0
 GoesBy plan call attempt entry base info =
@@ -22,9 +23,11 @@ GoesBy plan call attempt entry base info =
 -- these words have what was read of the row behind that entry
 abbrev pub HasRead : Plan → Call → List ℕ → ℕ → ℕ → Kind → List ℕ → Type 0
 HasRead plan call attempt entry base kind words =
-    (i word : ℕ) → Reads plan call attempt i word → entry ≤ i → base < word → word < base + row_words kind → slice_index words word ≡ slice_index attempt i
+    (i word : ℕ) → Reads plan call attempt i word → entry ≤ i → base < word → word < base + row_words kind
+        → slice_index words word ≡ slice_index attempt i
 
--- The attempt that answers: it checked the row that it entered last behind that entry, found the version with which it had entered, and read nothing more. Its reply
+-- The attempt that answers: it checked the row that it entered last behind that entry, found the version with which it had entered, and
+-- read nothing more. Its reply
 -- is that of any words which have what it read of the row.
 pub record IsCheckedGet (plan : Plan) (key : ℕ) (got : List ℕ) (reply : Reply) : Type 0 where
   pub earlier : List ℕ
@@ -43,7 +46,8 @@ pub record IsCheckedGet (plan : Plan) (key : ℕ) (got : List ℕ) (reply : Repl
   pub final : (i word : ℕ) → Reads plan (Get key) attempt i word → i ≤ check
   pub info : ℕ
   pub goes_by : GoesBy plan (Get key) attempt entry base info
-  pub replies : (words : List ℕ) → HasRead plan (Get key) attempt entry base kind words → row_reply plan.shape words base kind info key ≡ Some reply
+  pub replies : (words : List ℕ) → HasRead plan (Get key) attempt entry base kind words
+      → row_reply plan.shape words base kind info key ≡ Some reply
 
 -- An answered get of the optimistic tree was checked, whatever words it got.
 abbrev pub AnsweredGetsAreChecked : Type 0

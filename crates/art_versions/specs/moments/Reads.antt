@@ -16,10 +16,12 @@ use Rattle.art_versions.specs.moments.LastRows.{HasMomentOfLastRow}
 abbrev pub AnsweredScansHaveMoments : Plan → List ℕ → List ℕ → Type 0
 AnsweredScansHaveMoments plan words schedule =
     (t : ℕ) (past : State) → At plan (opened_on plan words) schedule t past → (p low high : ℕ) (q : Process) (reply : Reply)
-    → slice_get past.processes p ≡ Some q → q.call ≡ Some (Scan low high) → known_reply plan q.got q.call ≡ Some reply → reply ≢ replies.Refused
+    → slice_get past.processes p ≡ Some q → q.call ≡ Some (Scan low high) → known_reply plan q.got q.call ≡ Some reply
+    → reply ≢ replies.Refused
     → HasMoment plan (opened_on plan words) (take t schedule) p (length (begun q)) (Scan low high) q.got reply
 
--- Each get that had its reply at some moment of the schedule has one moment at which the last row that it read stands still, and says the reply.
+-- Each get that had its reply at some moment of the schedule has one moment at which the last row that it read stands still, and says the
+-- reply.
 abbrev pub AnsweredGetsHaveMoments : Plan → List ℕ → List ℕ → Type 0
 AnsweredGetsHaveMoments plan words schedule =
     (t : ℕ) (past : State) → At plan (opened_on plan words) schedule t past → (p key : ℕ) (q : Process) (reply : Reply)
@@ -27,9 +29,11 @@ AnsweredGetsHaveMoments plan words schedule =
     → HasMomentOfLastRow plan (opened_on plan words) (take t schedule) p (length (begun q)) key q.got reply
 
 abbrev pub RunsHaveMomentsOfScans : Type 0
-RunsHaveMomentsOfScans = (plan : Plan) (start : Contents) (words schedule : List ℕ) (s : State) → IsRun plan start words schedule s → plan.variant ≡ Optimistic
+RunsHaveMomentsOfScans = (plan : Plan) (start : Contents) (words schedule : List ℕ) (s : State) → IsRun plan start words schedule s
+    → plan.variant ≡ Optimistic
     → AnsweredScansHaveMoments plan words schedule
 
 abbrev pub RunsHaveMomentsOfGets : Type 0
-RunsHaveMomentsOfGets = (plan : Plan) (start : Contents) (words schedule : List ℕ) (s : State) → IsRun plan start words schedule s → plan.variant ≡ Optimistic
+RunsHaveMomentsOfGets = (plan : Plan) (start : Contents) (words schedule : List ℕ) (s : State) → IsRun plan start words schedule s
+    → plan.variant ≡ Optimistic
     → AnsweredGetsHaveMoments plan words schedule

@@ -15,7 +15,8 @@ use Rattle.art_versions.specs.versions.Holding.{OfRows, Named, Each, IsSlot, chi
 
 -- a value that the word may have: where the word is a child's, a row that it says is one of these
 abbrev pub IsGoodAt : OfRows → Shape → ℕ → ℕ → Type 0
-IsGoodAt P s word value = (base : ℕ) (kind : Kind) → kind_at s base ≡ Some kind → IsSlot base kind word → Each (IsNamed P) (child_rows (child_of s value))
+IsGoodAt P s word value = (base : ℕ) (kind : Kind) → kind_at s base ≡ Some kind → IsSlot base kind word
+    → Each (IsNamed P) (child_rows (child_of s value))
 
 abbrev pub IsAmong : Held → List Held → Type 0
 IsAmong h [] = ⊥
@@ -51,7 +52,8 @@ pub data AccessDoes (P : OfRows) (c : Setting) (at : CallAt) : Type 0 where
       → fills at ≡ (b, k) ∷ [] → IsBehindVersion b k word → kind_at c.shape b ≡ Some k → IsGoodAt P c.shape word value
       → Has (With P b k) c (call_after c at 0) (holds c at) [] → AccessDoes P c at
   Releases : (h : Held) → (rest : List Held) → (value : ℕ) → (mark : Option Point) → call_turn c at ≡ Asks (Store h.base value) mark
-      → IsWith h rest (holds c at) → fills at ≡ [] → (value ≡ released_word h.kept) ⊎ (value ≡ obsolete_word h.kept) → IsKept (locks c.variant) P h
+      → IsWith h rest (holds c at) → fills at ≡ [] → (value ≡ released_word h.kept) ⊎ (value ≡ obsolete_word h.kept)
+      → IsKept (locks c.variant) P h
       → Has P c (call_after c at 0) rest [] → AccessDoes P c at
   Takes : (h : Held) → (all : List Held) → (mark : Option Point) → call_turn c at ≡ Asks (Exchange h.base h.kept (locked_word h.kept)) mark
       → IsWith h (holds c at) all → fills at ≡ [] → IsKept (locks c.variant) P h

@@ -25,9 +25,12 @@ use Rattle.art_stages.specs.declared.stage.Target.TheVariants.{Root, Below, Take
 use Rattle.art_stages.specs.declared.stage.Growing.{Growing}
 use Rattle.art_stages.specs.declared.stage.Spread.{Spread}
 use Rattle.art_stages.specs.declared.stage.Stage.{Stage}
-use Rattle.art_stages.specs.declared.stage.Stage.TheVariants.{Lock, Exchange, Wait, Leave, Between, Info, Find, FindKeys, FindMore, FindCount, Slot, Check}
-use Rattle.art_stages.specs.declared.stage.Stage.TheVariants.{CheckLast, LetGo, Take, Write, ClaimPair, StorePair, PutLoad, PutStore, PutLeaf, PutKeys, PutMore}
-use Rattle.art_stages.specs.declared.stage.Stage.TheVariants.{PutCount, ClaimGrow, GrowInfo, GrowLoad, GrowStore, SpreadIndex, SpreadLoad, SpreadStore}
+use Rattle.art_stages.specs.declared.stage.Stage.TheVariants.{Lock, Exchange, Wait, Leave, Between, Info, Find, FindKeys, FindMore}
+use Rattle.art_stages.specs.declared.stage.Stage.TheVariants.{FindCount, Slot, Check}
+use Rattle.art_stages.specs.declared.stage.Stage.TheVariants.{CheckLast, LetGo, Take, Write, ClaimPair, StorePair, PutLoad, PutStore}
+use Rattle.art_stages.specs.declared.stage.Stage.TheVariants.{PutLeaf, PutKeys, PutMore}
+use Rattle.art_stages.specs.declared.stage.Stage.TheVariants.{PutCount, ClaimGrow, GrowInfo, GrowLoad, GrowStore, SpreadIndex, SpreadLoad}
+use Rattle.art_stages.specs.declared.stage.Stage.TheVariants.{SpreadStore}
 use Rattle.art_stages.specs.declared.stage.Stage.TheVariants.{GrowLeaf, GrowKeys, GrowCount, Hang, Obsolete, Unlock, Over}
 use Rattle.art_stages.specs.declared.stage.Entry.{Entry}
 use Rattle.art_stages.specs.declared.stage.Entry.TheVariants.{Root as AtRoot, Below as BelowRow}

@@ -1,4 +1,5 @@
--- The rows that a call of a full tree holds at each of its stages. Here and in Holding the first flag says that the variant locks what it reads, as the
+-- The rows that a call of a full tree holds at each of its stages. Here and in Holding the first flag says that the variant locks what it
+-- reads, as the
 -- coupled tree does, and the second that the call is an insert.
 use Rattle.std.specs.Prelude.{ℕ, List, [], ◌∷◌, ◌++◌, map, Bool, true, false, Option, Some, None}
 use Rattle.art_stages.specs.declared.stage.Held.{Held}
@@ -8,9 +9,12 @@ use Rattle.art_stages.specs.declared.stage.Hold.{Hold}
 use Rattle.art_stages.specs.declared.stage.Target.{Target}
 use Rattle.art_stages.specs.declared.stage.Target.TheVariants.{Root, Below, Taken}
 use Rattle.art_stages.specs.declared.stage.Stage.{Stage}
-use Rattle.art_stages.specs.declared.stage.Stage.TheVariants.{Lock, Exchange, Between, Info, Find, FindKeys, FindMore, FindCount, Slot, LetGo, Take, Write}
-use Rattle.art_stages.specs.declared.stage.Stage.TheVariants.{ClaimPair, StorePair, PutLoad, PutStore, PutLeaf, PutKeys, PutMore, PutCount, ClaimGrow}
-use Rattle.art_stages.specs.declared.stage.Stage.TheVariants.{GrowInfo, GrowLoad, GrowStore, SpreadIndex, SpreadLoad, SpreadStore, GrowLeaf, GrowKeys}
+use Rattle.art_stages.specs.declared.stage.Stage.TheVariants.{Lock, Exchange, Between, Info, Find, FindKeys, FindMore, FindCount, Slot}
+use Rattle.art_stages.specs.declared.stage.Stage.TheVariants.{LetGo, Take, Write}
+use Rattle.art_stages.specs.declared.stage.Stage.TheVariants.{ClaimPair, StorePair, PutLoad, PutStore, PutLeaf, PutKeys, PutMore, PutCount}
+use Rattle.art_stages.specs.declared.stage.Stage.TheVariants.{ClaimGrow}
+use Rattle.art_stages.specs.declared.stage.Stage.TheVariants.{GrowInfo, GrowLoad, GrowStore, SpreadIndex, SpreadLoad, SpreadStore, GrowLeaf}
+use Rattle.art_stages.specs.declared.stage.Stage.TheVariants.{GrowKeys}
 use Rattle.art_stages.specs.declared.stage.Stage.TheVariants.{GrowCount, Hang, Obsolete, Unlock}
 use Rattle.art_stages.specs.declared.stage.ScanStep.{ScanStep}
 use Rattle.art_stages.specs.declared.stage.ScanStep.TheVariants as scan
@@ -39,7 +43,8 @@ rows_of_target Root = []
 rows_of_target (Below d) = d.above ∷ []
 rows_of_target (Taken t) = []
 
--- Where reads are locked: at a row, a get or a remove holds this row alone, and an insert the row above it too, until it knows that this one has room.
+-- Where reads are locked: at a row, a get or a remove holds this row alone, and an insert the row above it too, until it knows that this
+-- one has room.
 abbrev pub held_at_place : Bool → Bool → Position → List Held
 held_at_place true true p = p.row ∷ all_of p.above
 held_at_place true false p = p.row ∷ []
@@ -56,7 +61,8 @@ held_below true true d kept = held d.base d.kind 0 kept ∷ d.above ∷ []
 held_below true false d kept = held d.base d.kind 0 kept ∷ []
 held_below false i d kept = []
 
--- A call on a key. Without locks it holds nothing before it takes its rows; what it does with the rows that it holds is the same in both trees.
+-- A call on a key. Without locks it holds nothing before it takes its rows; what it does with the rows that it holds is the same in both
+-- trees.
 abbrev pub held_at_stage : Bool → Bool → Stage → List Held
 held_at_stage l i (Lock t first) = rows_of_target t
 held_at_stage l i (Exchange t v) = rows_of_target t
@@ -93,7 +99,8 @@ held_at_stage l i (Obsolete h) = rows_of_hold h
 held_at_stage l i (Unlock h outcome) = rows_of_hold h
 held_at_stage l i stage = []
 
--- A scan that locks holds every row that it has walked, and the row whose info it is to load; at its end, those that it has not released yet.
+-- A scan that locks holds every row that it has walked, and the row whose info it is to load; at its end, those that it has not released
+-- yet.
 abbrev pub scan_locked : ScanStep → Walk → List Held
 scan_locked (scan.Info base kind kept) w = w.rows ++ held base kind 0 kept ∷ []
 scan_locked (scan.Release n) w = n ∷ w.rows

@@ -17,7 +17,8 @@ pub record HasLocked (plan : Plan) (call : Call) (got : List ℕ) (base v : ℕ)
   pub point : Option Point
   pub exchange : act plan.shape plan.variant call (take i got) ≡ Asks (Exchange base v (locked_word v)) point
   pub made : slice_get got i ≡ Some v
-  pub kept : (j value : ℕ) (p : Option Point) → i < j → j < length got → act plan.shape plan.variant call (take j got) ≡ Asks (Store base value) p → ⊥
+  pub kept : (j value : ℕ) (p : Option Point) → i < j → j < length got
+      → act plan.shape plan.variant call (take j got) ≡ Asks (Store base value) p → ⊥
 
 -- process p holds the row from v
 pub record Holds (plan : Plan) (s : State) (p base v : ℕ) : Type 0 where

@@ -12,7 +12,8 @@ use Rattle.art_versions.specs.versions.Versions.{IsSettled}
 abbrev pub SameWords : List ℕ → List ℕ → ℕ → Kind → Type 0
 SameWords words later base kind = (word : ℕ) → base ≤ word → word < base + row_words kind → slice_index later word ≡ slice_index words word
 
--- From the one state to a later one claims do not fall, each row that was settled stays so, its version does not fall, and where it is the same and unlocked, so are all words
+-- From the one state to a later one claims do not fall, each row that was settled stays so, its version does not fall, and where it is the
+-- same and unlocked, so are all words
 -- of the row.
 pub record IsSteady (variant : Variant) (shape : Shape) (s later : State) : Type 0 where
   pub claims : (kind : Kind) → slice_index s.words (claims_of kind) ≤ slice_index later.words (claims_of kind)
@@ -23,5 +24,6 @@ pub record IsSteady (variant : Variant) (shape : Shape) (s later : State) : Type
 
 -- a settled row that is obsolete has the same words
 abbrev pub ObsoleteStand : Variant → Shape → State → State → Type 0
-ObsoleteStand variant shape s later = (base : ℕ) (kind : Kind) → IsSettled variant shape s base kind → is_obsolete (slice_index s.words base) ≡ true
+ObsoleteStand variant shape s later = (base : ℕ) (kind : Kind) → IsSettled variant shape s base kind
+    → is_obsolete (slice_index s.words base) ≡ true
     → SameWords s.words later.words base kind

@@ -49,7 +49,8 @@ filled_by variant shape call q = fills (stage_of variant shape call q)
 -- The row was claimed, and no process is filling it: only such rows are ever named by a child word or known to a call.
 pub record IsSettled (variant : Variant) (shape : Shape) (s : State) (base : ℕ) (kind : Kind) : Type 0 where
   pub claimed : IsClaimed shape s.words base kind
-  pub unfilled : (p : ℕ) (call : Call) (q : Process) → IsOpen s p call q → (b : ℕ) (k : Kind) → filled_by variant shape call q ≡ (b, k) ∷ [] → base ≢ b
+  pub unfilled : (p : ℕ) (call : Call) (q : Process) → IsOpen s p call q → (b : ℕ) (k : Kind)
+      → filled_by variant shape call q ≡ (b, k) ∷ [] → base ≢ b
 
 -- a process is in a call that holds the row
 pub record IsHeld (variant : Variant) (shape : Shape) (s : State) (base : ℕ) : Type 0 where
@@ -76,12 +77,15 @@ pub record IsSound (variant : Variant) (shape : Shape) (n : ℕ) (s : State) : T
   pub root : IsSettled variant shape s (root_base shape) Full
   pub children : (word : ℕ) → IsGoodAt (IsSettled variant shape s) shape word (slice_index s.words word)
   -- each open call knows settled rows alone, with versions that were not locked, and in the optimistic tree not obsolete
-  pub knows : (p : ℕ) (call : Call) (q : Process) → IsOpen s p call q → Knows (IsSettled variant shape s) (setting shape variant call) (stage_of variant shape call q)
+  pub knows : (p : ℕ) (call : Call) (q : Process) → IsOpen s p call q
+      → Knows (IsSettled variant shape s) (setting shape variant call) (stage_of variant shape call q)
   -- a row that a process holds is locked from the version that was kept, and no two processes hold one row
   pub locked : (p : ℕ) → EachHeld variant shape s p (λ h. slice_index s.words h.base ≡ h.kept + 2)
-  -- A row that is locked is held by a process, without exception: a fresh row and one that is released for good are not locked, and the root is a row
+  -- A row that is locked is held by a process, without exception: a fresh row and one that is released for good are not locked, and the
+  -- root is a row
   -- as any other.
-  pub held : (base : ℕ) (kind : Kind) → kind_at shape base ≡ Some kind → is_locked (slice_index s.words base) ≡ true → IsHeld variant shape s base
+  pub held : (base : ℕ) (kind : Kind) → kind_at shape base ≡ Some kind → is_locked (slice_index s.words base) ≡ true
+      → IsHeld variant shape s base
   pub distinct : (p : ℕ) (call : Call) (q : Process) → IsOpen s p call q → AreDistinct (held_by variant shape call q)
   pub apart : (p r : ℕ) (call other : Call) (q w : Process) → IsOpen s p call q → IsOpen s r other w → (h x : Held)
       → IsAmong h (held_by variant shape call q) → IsAmong x (held_by variant shape other w) → h.base ≡ x.base → p ≡ r

@@ -23,12 +23,14 @@ pub record IsFilledBy (variant : Variant) (shape : Shape) (s : State) (p base : 
 abbrev pub IsTakenBy : Variant → Shape → State → ℕ → State → ℕ → Type 0
 IsTakenBy variant shape s p later base = (x : IsHeld variant shape later base) × (x.holder ≡ p) × (slice_index s.words base ≡ x.row.kept)
 
--- process p may write the word in the step to a later state: it holds or fills the row, or the word is the version by which it takes the row
+-- process p may write the word in the step to a later state: it holds or fills the row, or the word is the version by which it takes the
+-- row
 abbrev pub MayWrite : Variant → Shape → State → ℕ → State → ℕ → ℕ → Type 0
 MayWrite variant shape s p later base word =
     IsHeldBy variant shape s p base ⊎ ((word ≡ base) × IsTakenBy variant shape s p later base) ⊎ IsFilledBy variant shape s p base
 
 -- Each word of a row that the step of process p changes is one that it may write.
 abbrev pub WritesOwn : Variant → Shape → State → ℕ → State → Type 0
-WritesOwn variant shape s p later = (base : ℕ) (kind : Kind) → kind_at shape base ≡ Some kind → (word : ℕ) → base ≤ word → word < base + row_words kind
+WritesOwn variant shape s p later = (base : ℕ) (kind : Kind) → kind_at shape base ≡ Some kind → (word : ℕ) → base ≤ word
+    → word < base + row_words kind
     → slice_index later.words word ≢ slice_index s.words word → MayWrite variant shape s p later base word

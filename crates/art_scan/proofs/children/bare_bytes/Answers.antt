@@ -5,4 +5,5 @@ pub returns-then-next-byte-2-clause-bare : goal.returns-then-next-byte-2-clause-
 returns-then-next-byte-2-clause-bare c = λ y from below. c.next_key-next.ensures y from (omega (arith, below, c.if-next-byte.false))
 
 pub returns-else-next-byte-2-clause-bare : goal.returns-else-next-byte-2-clause-bare
-returns-else-next-byte-2-clause-bare c = λ y from below. c.next_key-next.ensures y from (omega (arith, below, c.if-next-byte.false, c.if-next-byte-2.false))
+returns-else-next-byte-2-clause-bare c = λ y from below. c.next_key-next.ensures y from
+    (omega (arith, below, c.if-next-byte.false, c.if-next-byte-2.false))

@@ -38,7 +38,8 @@ unfolding computing
 last-reply stamp = refl
 
 -- what is shown after the invocation, and after a load that found 0
-invocation : (call : Call) (old new : View) (stamp : ℕ) → call ≡ Get 7 → old ≡ last_alone (all_idle small) → new ≡ invoking call old stamp → new ≡ begun stamp
+invocation : (call : Call) (old new : View) (stamp : ℕ) → call ≡ Get 7 → old ≡ last_alone (all_idle small) → new ≡ invoking call old stamp
+    → new ≡ begun stamp
 invocation call old new stamp get is made = made ∙ (ap (λ c. invoking c old stamp) get ∙ ap (λ v. invoking (Get 7) v stamp) is)
 
 found : (old new seen : View) (n : ℕ) → old ≡ seen → n ≡ 0 → new ≡ advanced old n → new ≡ advanced seen 0

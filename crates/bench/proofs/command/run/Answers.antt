@@ -14,7 +14,8 @@ returns-in-Check-clause-run g c = record {
   outcome = c.run_check.ensures.outcome;
   comes = read-words (IsCheckAnswer c.in-Check.order.items) IsHistoryRefusal (texts c.args.words.now)
       (change g.S.Source.remaining g.S.Source.failures c.args.source.now c.run_check.new.source) c.run_check.ensures.outcome
-      (λ comes. record { line = c.in-Ok.line; accepted = c.in-Ok.ensures.accepted; asked = c.in-Ok.ensures.line; comes = rw c.in-Check.is comes })
+      (λ comes. record { line = c.in-Ok.line; accepted = c.in-Ok.ensures.accepted; asked = c.in-Ok.ensures.line; comes = rw
+          c.in-Check.is comes })
       (rw (← c.deref.ensures.value) c.run_check.ensures.comes);
   leaves = c.run_check.ensures.leaves;
 }
@@ -24,7 +25,8 @@ returns-in-Judge-clause-run g c = record {
   outcome = c.run_judge.ensures.outcome;
   comes = read-words (IsJudgeAnswer c.in-Judge.budget) IsHistoryRefusal (texts c.args.words.now)
       (change g.S.Source.remaining g.S.Source.failures c.args.source.now c.run_judge.new.source) c.run_judge.ensures.outcome
-      (λ comes. record { line = c.in-Ok.line; accepted = c.in-Ok.ensures.accepted; asked = c.in-Ok.ensures.line; comes = rw c.in-Judge.is comes })
+      (λ comes. record { line = c.in-Ok.line; accepted = c.in-Ok.ensures.accepted; asked = c.in-Ok.ensures.line; comes = rw
+          c.in-Judge.is comes })
       c.run_judge.ensures.comes;
   leaves = c.run_judge.ensures.leaves;
 }
@@ -34,7 +36,8 @@ returns-in-Locate-clause-run g c = record {
   outcome = c.run_locate.ensures.outcome;
   comes = read-words (IsLocateAnswer c.in-Locate.budget) IsHistoryRefusal (texts c.args.words.now)
       (change g.S.Source.remaining g.S.Source.failures c.args.source.now c.run_locate.new.source) c.run_locate.ensures.outcome
-      (λ comes. record { line = c.in-Ok.line; accepted = c.in-Ok.ensures.accepted; asked = c.in-Ok.ensures.line; comes = rw c.in-Locate.is comes })
+      (λ comes. record { line = c.in-Ok.line; accepted = c.in-Ok.ensures.accepted; asked = c.in-Ok.ensures.line; comes = rw
+          c.in-Locate.is comes })
       c.run_locate.ensures.comes;
   leaves = c.run_locate.ensures.leaves;
 }
@@ -44,7 +47,8 @@ returns-in-Draw-clause-run g c = record {
   outcome = c.run_draw.ensures.outcome;
   comes = read-words (IsDrawAnswer c.in-Draw.budget) IsHistoryRefusal (texts c.args.words.now)
       (change g.S.Source.remaining g.S.Source.failures c.args.source.now c.run_draw.new.source) c.run_draw.ensures.outcome
-      (λ comes. record { line = c.in-Ok.line; accepted = c.in-Ok.ensures.accepted; asked = c.in-Ok.ensures.line; comes = rw c.in-Draw.is comes })
+      (λ comes. record { line = c.in-Ok.line; accepted = c.in-Ok.ensures.accepted; asked = c.in-Ok.ensures.line; comes = rw
+          c.in-Draw.is comes })
       c.run_draw.ensures.comes;
   leaves = c.run_draw.ensures.leaves;
 }
@@ -54,7 +58,8 @@ returns-in-Generate-clause-run g c = record {
   outcome = c.run_generate.ensures.outcome;
   comes = drawn-words c.in-Generate.seed _ c.in-Generate.processes c.in-Generate.calls (texts c.args.words.now)
       (change g.S.Source.remaining g.S.Source.failures c.args.source.now c.args.source.now) c.run_generate.ensures.outcome
-      (λ comes. record { line = c.in-Ok.line; accepted = c.in-Ok.ensures.accepted; asked = c.in-Ok.ensures.line; comes = rw c.in-Generate.is (refl, comes) })
+      (λ comes. record { line = c.in-Ok.line; accepted = c.in-Ok.ensures.accepted; asked = c.in-Ok.ensures.line; comes = rw
+          c.in-Generate.is (refl, comes) })
       refl c.run_generate.ensures.comes;
   leaves = c.run_generate.ensures.leaves;
 }
@@ -64,7 +69,8 @@ returns-in-Replay-clause-run g c = record {
   outcome = c.run_replay.ensures.outcome;
   comes = read-words IsReplayAnswer IsReplayRefusal (texts c.args.words.now)
       (change g.S.Source.remaining g.S.Source.failures c.args.source.now c.run_replay.new.source) c.run_replay.ensures.outcome
-      (λ comes. record { line = c.in-Ok.line; accepted = c.in-Ok.ensures.accepted; asked = c.in-Ok.ensures.line; comes = rw c.in-Replay.is comes })
+      (λ comes. record { line = c.in-Ok.line; accepted = c.in-Ok.ensures.accepted; asked = c.in-Ok.ensures.line; comes = rw
+          c.in-Replay.is comes })
       c.run_replay.ensures.comes;
   leaves = c.run_replay.ensures.leaves;
 }

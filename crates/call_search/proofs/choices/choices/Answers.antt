@@ -13,7 +13,8 @@ returns-in_default g c =
 
 pub next_calls-requires : goal.next_calls-requires
 next_calls-requires g c =
-    (c.requires.0, (c.requires.1.0, (c.requires.1.1.0, (c.requires.1.1.1.0, (c.requires.1.1.1.1, rw c.in-Some.is at c.earliest_answer.ensures)))))
+    (c.requires.0,
+        (c.requires.1.0, (c.requires.1.1.0, (c.requires.1.1.1.0, (c.requires.1.1.1.1, rw c.in-Some.is at c.earliest_answer.ensures)))))
 
 pub returns : goal.returns
 returns g c =

@@ -15,7 +15,8 @@ use Rattle.call_search.proofs.choices.next_calls.Goals as goal
 use Rattle.call_search.proofs.choices.next_calls.Goals.{then-may_come+else-is_read+in_ok-push, else-may_come}
 
 -- one call more may come next
-next_more : (start : Contents) (calls : List Operation) (path rest more : List ℕ) (i : ℕ) → more ≡ rest ++ i ∷ [] → IsNext start calls path i
+next_more : (start : Contents) (calls : List Operation) (path rest more : List ℕ) (i : ℕ) → more ≡ rest ++ i ∷ []
+    → IsNext start calls path i
     → AreNext start calls path rest × ((n : ℕ) → n < i → IsNext start calls path n → Contains rest n) × (length rest ≤ i)
     → AreNext start calls path more × ((n : ℕ) → n < i + 1 → IsNext start calls path n → Contains more n) × (length more ≤ i + 1)
 next_more start calls path rest more i is next h = (
@@ -52,9 +53,11 @@ returns-then-answered-call-clause-choices g c =
     let late = c.if-answered-call.true in
     record {
       next = inv.0;
-      closes = all_close g.start calls path c.loop-place.next.items c.requires.1.0 (IsOrder-not_yet g.start calls path c.args.answered c.requires.1.1.1.1.1)
+      closes = all_close g.start calls path c.loop-place.next.items c.requires.1.0
+          (IsOrder-not_yet g.start calls path c.args.answered c.requires.1.1.1.1.1)
           (λ n next. ⊎_elim (λ lt. inv.1 n lt next)
-          (λ ge. absurd (not_next calls path g.start i n c.args.answered a c.requires.1.1.0 here late c.requires.1.1.1.1.1 ge next)) (cases_lt n i));
+          (λ ge. absurd (not_next calls path g.start i n c.args.answered a c.requires.1.1.0 here late c.requires.1.1.1.1.1 ge
+              next)) (cases_lt n i));
     }
 
 pub may_come-requires : goal.may_come-requires
@@ -76,7 +79,8 @@ returns-then-is_read-clause-choices g c =
     let next = c.may_come.ensures.next c.if-may_come.true in
     let rising = c.requires.1.1.1.0 in
     read_choices g.start calls path c.in_ok-from_slice.field-0.items i rising c.in_ok-from_slice.ensures.items next
-    (read_next g.start calls path i a rising here (c.is_read.ensures.completed c.if-is_read.true) (c.is_read.ensures.leaves c.if-is_read.true) next)
+    (read_next g.start calls path i a rising here (c.is_read.ensures.completed c.if-is_read.true)
+        (c.is_read.ensures.leaves c.if-is_read.true) next)
 
 pub loop-place-preserved : goal.loop-place-preserved
 loop-place-preserved g c =
@@ -97,6 +101,7 @@ returns-clause-choices g c =
     let inv = c.loop-place.invariant in
     record {
       next = inv.0;
-      closes = all_close g.start calls path c.loop-place.next.items c.requires.1.0 (IsOrder-not_yet g.start calls path c.args.answered c.requires.1.1.1.1.1)
+      closes = all_close g.start calls path c.loop-place.next.items c.requires.1.0
+          (IsOrder-not_yet g.start calls path c.args.answered c.requires.1.1.1.1.1)
           (λ n next. inv.1 n (omega (arith, c.loop-place-test.false, slice_get_within calls n next.call next.here)) next);
     }

@@ -8,7 +8,8 @@ use Rattle.call_search.specs.declared.standing.Standing.{Standing}
 use Rattle.call_search.proofs.searching.search_on.Goals as goal
 
 -- a search that has moved has less to do: a configuration more is one fewer that the budget allows
-falls : (start : Contents) (calls : List Operation) (budget : ℕ) (old new : Standing) → length old.memo ≤ budget → HasMoved start calls old new
+falls : (start : Contents) (calls : List Operation) (budget : ℕ) (old new : Standing) → length old.memo ≤ budget
+    → HasMoved start calls old new
     → rest_of budget (length calls) new < rest_of budget (length calls) old
 falls start calls budget old new within h = ⊎_elim
     (λ tried. rw tried.0 (omega (arith, tried.1)))

@@ -1,4 +1,5 @@
-use Rattle.std.proofs.Common.{◌≡◌, ℕ, Bool, true, false, List, Option, ◌+◌, ◌<◌, ◌≤◌, get_or, [], ◌∷◌, ◌++◌, Some, length, set, refl, sym, ap, ◌∙◌}
+use Rattle.std.proofs.Common.{◌≡◌, ℕ, Bool, true, false, List, Option, ◌+◌, ◌<◌, ◌≤◌, get_or, [], ◌∷◌, ◌++◌, Some, length, set, refl, sym}
+use Rattle.std.proofs.Common.{ap, ◌∙◌}
 use Rattle.std.proofs.Common.{subst, ⊎_elim, arith}
 use Rattle.std.specs.Prelude.{◌⊎◌, ◌↔◌, slice_get, Contains, IsTrue}
 use Rattle.std.proofs.lemmas.Bool.{both_ways}
@@ -27,7 +28,8 @@ same_call : (m n : Contents) (a b : Operation) → b ≡ a → n ≡ after_call 
 same_call m n a b is h = subst (λ (x : Operation). n ≡ after_call m x.call x.response) (sym is) h
 
 -- the place below which all calls are taken, after one more
-low_within : {place : ℕ} {undo : Option Call} {old new : Standing} (p : IsPushed place undo old new) → new.low ≤ length (set old.taken.items place true)
+low_within : {place : ℕ} {undo : Option Call} {old new : Standing} (p : IsPushed place undo old new)
+    → new.low ≤ length (set old.taken.items place true)
 low_within {place} {undo} {old} {new} p = subst (λ xs. new.low ≤ length xs) p.taken p.within
 
 low_below : {place : ℕ} {undo : Option Call} {old new : Standing} (p : IsPushed place undo old new) (k : ℕ) → k < new.low
@@ -68,7 +70,8 @@ returns-in_ok-push-in-Ok-true g c =
     let leads_before = subst (LeadsTo g.start calls (places w.levels.items)) before s.stands_at.2 in
     let pairs_before = leads_before.pairs ∙ sym s.holds in
     let leads =
-    LeadsTo-push g.start calls (places w.levels.items) c.args.place next.call c.at.result.now config leads_before next.here c.in_ok-config.ensures.rising
+    LeadsTo-push g.start calls (places w.levels.items) c.args.place next.call c.at.result.now config leads_before next.here
+        c.in_ok-config.ensures.rising
     c.in_ok-config.ensures.taken
     (c.in_ok-config.ensures.pairs ∙ after_is ∙ ap (λ m. after_call m next.call.call next.call.response) (sym pairs_before)) in
     let visited_is = rw c.in-Ok-true.field-0-test at c.in-Ok-true.ensures.visited in
@@ -76,11 +79,14 @@ returns-in_ok-push-in-Ok-true g c =
     let level : Level = record { place = c.args.place; undo = c.in_ok-undo.undo; at = w.at; rest = w.rest } in
     let n = c.push.new.standing in
     let stands =
-    stands-push g.start calls w.levels.items w.at w.map w.memo w.taken.items w.low s c.args.place next config leads w.rest.items of level refl refl refl
+    stands-push g.start calls w.levels.items w.at w.map w.memo w.taken.items w.low s c.args.place next config leads w.rest.items
+        of level refl refl refl
     c.take_call.new.map after_is c.in_ok-undo.ensures.undo n.low (low_within p) (λ k lt. low_below p k lt) in
     let one_more : length (w.memo ++ config ∷ []) ≡ length w.memo + 1 = length-append w.memo (config ∷ []) in (
-      stands-same g.start calls (w.levels.items ++ level ∷ []) n.levels.items (length w.memo) n.at c.take_call.new.map n.map (w.memo ++ config ∷ []) n.memo
-          (set w.taken.items c.args.place true) n.taken.items n.low n.low p.levels (p.at ∙ omega (arith, ap length visited_is, one_more)) p.map
+      stands-same g.start calls (w.levels.items ++ level ∷ []) n.levels.items (length w.memo) n.at c.take_call.new.map n.map
+          (w.memo ++ config ∷ []) n.memo
+          (set w.taken.items c.args.place true) n.taken.items n.low n.low p.levels
+              (p.at ∙ omega (arith, ap length visited_is, one_more)) p.map
           (p.memo ∙ visited_is) p.taken refl stands,
       ap length (p.memo ∙ visited_is) ∙ one_more,
       ap (λ ls. to_try ls []) p.levels ∙ to_try-push w.levels.items level [] ∙ more (to_try w.levels.items w.rest.items),
@@ -102,11 +108,13 @@ returns-in_ok-undo_call-in-Ok-false g c =
     let leads_before = subst (LeadsTo g.start calls (places w.levels.items)) before s.stands_at.2 in
     let pairs_before = leads_before.pairs ∙ sym s.holds in
     let leads =
-    LeadsTo-push g.start calls (places w.levels.items) c.args.place next.call c.at.result.now config leads_before next.here c.in_ok-config.ensures.rising
+    LeadsTo-push g.start calls (places w.levels.items) c.args.place next.call c.at.result.now config leads_before next.here
+        c.in_ok-config.ensures.rising
     c.in_ok-config.ensures.taken
     (c.in_ok-config.ensures.pairs ∙ after_is ∙ ap (λ m. after_call m next.call.call next.call.response) (sym pairs_before)) in
     let visited_is = rw c.in-Ok-false.field-0-test at c.in-Ok-false.ensures.visited in
-    let within : Contains w.memo config = not_new config w.memo c.in-Ok-false.field-0 c.in-Ok-false.ensures.new c.in-Ok-false.field-0-test in
+    let within : Contains w.memo config = not_new config w.memo c.in-Ok-false.field-0 c.in-Ok-false.ensures.new
+        c.in-Ok-false.field-0-test in
     let pairs_back = c.in_ok-undo_call-in-Ok-false.ensures ∙ c.in_ok-undo.ensures.undo in (
       subst (λ m. StandsWith g.start calls w.levels.items w.at m c.visit.new.self w.taken.items w.low) (sym pairs_back)
           (subst (λ vs. StandsWith g.start calls w.levels.items w.at w.map vs w.taken.items w.low) (sym visited_is) s),

@@ -4,7 +4,8 @@ use Rattle.calls_left.specs.Left.{calls_of}
 use Rattle.calls_left.proofs.MarkLemmas.{call_here, length-calls_of}
 use Rattle.calls_left.proofs.GroupLemmas.{IsWidenedBelow, widened-skip, widened-take, widened-all}
 use Rattle.calls_left.proofs.groups.widened.Goals as goal
-use Rattle.calls_left.proofs.groups.widened.Goals.{then-belongs+then-not-is_apart, else-belongs, else-belongs-via-then-belongs+else-not-is_apart}
+use Rattle.calls_left.proofs.groups.widened.Goals.{then-belongs+then-not-is_apart, else-belongs}
+use Rattle.calls_left.proofs.groups.widened.Goals.{else-belongs-via-then-belongs+else-not-is_apart}
 use Rattle.calls_left.proofs.groups.widened.Goals.{else-belongs-via-else-belongs}
 
 pub loop-place-preserved : goal.loop-place-preserved
@@ -26,7 +27,8 @@ loop-place-preserved c =
           (widened-skip calls c.args.range wider i call.operation here
           (elim w.else-belongs.branch [
             | else-belongs-via-then-belongs+else-not-is_apart w' ↦ λ belongs. sym w'.is_apart.ensures ∙ w'.if-not-is_apart.false
-            | else-belongs-via-else-belongs w' ↦ λ belongs. absurd (both_ways c.belongs.result w'.if-belongs.false (c.belongs.ensures ∙ belongs))
+            | else-belongs-via-else-belongs w' ↦ λ belongs. absurd
+                (both_ways c.belongs.result w'.if-belongs.false (c.belongs.ensures ∙ belongs))
           ])
           c.loop-place.invariant)
     ]

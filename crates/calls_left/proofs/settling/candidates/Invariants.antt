@@ -9,5 +9,6 @@ use Rattle.calls_left.proofs.settling.candidates.Given as goal
 abbrev pub invariant-loop-place : goal.invariant-loop-place
 invariant-loop-place l = record {
   size : length l.goes.items ≡ l.place;
-  each : (n : ℕ) (a : Operation) → n < l.place → slice_get (calls_of l.left) n ≡ Some a → is_marked l.goes.items n ≡ (is_marked l.group n && is_completed a);
+  each : (n : ℕ) (a : Operation) → n < l.place → slice_get (calls_of l.left) n ≡ Some a
+      → is_marked l.goes.items n ≡ (is_marked l.group n && is_completed a);
 }

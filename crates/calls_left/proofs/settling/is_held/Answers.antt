@@ -5,7 +5,8 @@ use Rattle.list_laws.proofs.NumberLemmas.{slice_get-below}
 use Rattle.calls_left.specs.Left.{calls_of, is_marked}
 use Rattle.calls_left.proofs.MarkLemmas.{call_here, length-calls_of, let_go_more}
 use Rattle.calls_left.proofs.settling.is_held.Goals as goal
-use Rattle.calls_left.proofs.settling.is_held.Goals.{else-not-goes-other-via-then-not-goes-other+else-not-lets_go, else-not-goes-other-via-else-not-goes-other}
+use Rattle.calls_left.proofs.settling.is_held.Goals.{else-not-goes-other-via-then-not-goes-other+else-not-lets_go}
+use Rattle.calls_left.proofs.settling.is_held.Goals.{else-not-goes-other-via-else-not-goes-other}
 
 pub loop-other-preserved : goal.loop-other-preserved
 loop-other-preserved c =
@@ -26,4 +27,5 @@ loop-other-preserved c =
 pub returns-clause-free : goal.returns-clause-free
 returns-clause-free c = λ no j b here stays.
     c.loop-other.invariant j b
-    (omega (arith, slice_get_within (calls_of c.args.left.now) j b here, length-calls_of c.args.left.now, c.loop-other-test.false)) here stays
+    (omega (arith, slice_get_within (calls_of c.args.left.now) j b here, length-calls_of c.args.left.now,
+        c.loop-other-test.false)) here stays

@@ -10,10 +10,12 @@ use Rattle.certificate.proofs.checker.check.Goals as goal
 use Rattle.certificate.proofs.checker.check.Goals.{In_err-take}
 
 -- a number that is not taken shows why the list is refused
-refused : (c : In_err-take) → IsRefusedFor c.args.history.now.start (operations c.args.history.now.events) c.args.order.now c.in_err-take.field-0.0
+refused : (c : In_err-take) → IsRefusedFor c.args.history.now.start (operations c.args.history.now.events) c.args.order.now
+    c.in_err-take.field-0.0
 refused c =
     rw (← c.calls-calls.ensures.calls)
-    (c.in_err-take.ensures.refused c.args.history.now.start c.args.order.now (slice_get-get_or c.args.order.now c.loop-place.place 0 (omega arith))
+    (c.in_err-take.ensures.refused c.args.history.now.start c.args.order.now
+        (slice_get-get_or c.args.order.now c.loop-place.place 0 (omega arith))
     c.loop-place.invariant)
 
 pub returns-in_err-take-clause-refused : goal.returns-in_err-take-clause-refused
@@ -28,7 +30,8 @@ returns-in_err-take-clause-accepted c = λ h.
     (refused (goal.at.returns-in_err-take-clause-accepted c).In_err-take) h)
 
 pub loop-place-preserved : goal.loop-place-preserved
-loop-place-preserved c = c.in_ok-take.ensures.ok c.args.history.now.start c.args.order.now (slice_get-get_or _ c.loop-place.place 0 (omega arith))
+loop-place-preserved c = c.in_ok-take.ensures.ok c.args.history.now.start c.args.order.now
+    (slice_get-get_or _ c.loop-place.place 0 (omega arith))
     c.loop-place.invariant
 
 pub returns-in-Some-clause-refused : goal.returns-in-Some-clause-refused

@@ -8,7 +8,8 @@ use Rattle.command_line.specs.Words.{Gives}
 use Rattle.command_line.specs.declared.fault.LineFault.{LineFault}
 use Rattle.command_line.specs.declared.fault.LineFault.TheVariants as faults
 use Rattle.command_line.proofs.AskableLemmas.{askable}
-use Rattle.command_line.proofs.LineLemmas.{check_use, checks, draw_given, draw_use, draws, drive_use, drives, judge_given, judge_use, judges, locate_given, locate_use, locates}
+use Rattle.command_line.proofs.LineLemmas.{check_use, checks, draw_given, draw_use, draws, drive_use, drives, judge_given, judge_use}
+use Rattle.command_line.proofs.LineLemmas.{judges, locate_given, locate_use, locates}
 use Rattle.command_line.proofs.read.read_line.Goals as goal
 
 -- a fault that is `Memory` where the words are accepted may come at them
@@ -29,42 +30,49 @@ unfolding bench_app
 returns-in-Ok-clause-accepted c = (c.in-Ok.ensures.accepted, c.in-Ok.ensures.named)
 
 pub returns-in-Ok-clause-given : goal.returns-in-Ok-clause-given
-returns-in-Ok-clause-given c usage given calls is = subst (Gives usage given calls) (sym c.line_of.ensures.same) (c.in-Ok.ensures.given usage given calls is)
+returns-in-Ok-clause-given c usage given calls is =
+    subst (Gives usage given calls) (sym c.line_of.ensures.same) (c.in-Ok.ensures.given usage given calls is)
 
 pub returns-in-Ok-clause-check : goal.returns-in-Ok-clause-check
 returns-in-Ok-clause-check c calls is =
     let is_use = check_use (texts c.args.words.now) calls is in
-    checks calls c.line_of.result (subst (Gives check_usage [] calls) (sym c.line_of.ensures.same) (c.in-Ok.ensures.given check_usage [] calls is_use))
+    checks calls c.line_of.result (subst (Gives check_usage [] calls) (sym c.line_of.ensures.same)
+        (c.in-Ok.ensures.given check_usage [] calls is_use))
 
 pub returns-in-Ok-clause-judge : goal.returns-in-Ok-clause-judge
 returns-in-Ok-clause-judge c budget workers is =
     let words = texts c.args.words.now in
     let given = judge_given words budget workers is in
     judges words budget workers c.line_of.result is
-    (subst (Gives judge_usage given []) (sym c.line_of.ensures.same) (c.in-Ok.ensures.given judge_usage given [] (judge_use words budget workers is)))
+    (subst (Gives judge_usage given []) (sym c.line_of.ensures.same)
+        (c.in-Ok.ensures.given judge_usage given [] (judge_use words budget workers is)))
 
 pub returns-in-Ok-clause-locate : goal.returns-in-Ok-clause-locate
 returns-in-Ok-clause-locate c budget workers is =
     let words = texts c.args.words.now in
     let given = locate_given words budget workers is in
     locates words budget workers c.line_of.result is
-    (subst (Gives locate_usage given []) (sym c.line_of.ensures.same) (c.in-Ok.ensures.given locate_usage given [] (locate_use words budget workers is)))
+    (subst (Gives locate_usage given []) (sym c.line_of.ensures.same)
+        (c.in-Ok.ensures.given locate_usage given [] (locate_use words budget workers is)))
 
 pub returns-in-Ok-clause-draw : goal.returns-in-Ok-clause-draw
 returns-in-Ok-clause-draw c budget workers is =
     let words = texts c.args.words.now in
     let given = draw_given words budget workers is in
     draws words budget workers c.line_of.result is
-    (subst (Gives draw_usage given []) (sym c.line_of.ensures.same) (c.in-Ok.ensures.given draw_usage given [] (draw_use words budget workers is)))
+    (subst (Gives draw_usage given []) (sym c.line_of.ensures.same)
+        (c.in-Ok.ensures.given draw_usage given [] (draw_use words budget workers is)))
 
 pub returns-in-Ok-clause-drive : goal.returns-in-Ok-clause-drive
 returns-in-Ok-clause-drive c given is =
     let is_use = drive_use (texts c.args.words.now) given is in
-    drives given c.line_of.result (subst (Gives drive_usage given []) (sym c.line_of.ensures.same) (c.in-Ok.ensures.given drive_usage given [] is_use))
+    drives given c.line_of.result (subst (Gives drive_usage given []) (sym c.line_of.ensures.same)
+        (c.in-Ok.ensures.given drive_usage given [] is_use))
 
 pub returns-in-Err-clause-refused : goal.returns-in-Err-clause-refused
 unfolding bench_app
-returns-in-Err-clause-refused c = fault_at (texts c.args.words.now) c.in-Err.fault (λ accepted. c.in-Err.ensures.refused accepted.0 accepted.1)
+returns-in-Err-clause-refused c = fault_at (texts c.args.words.now) c.in-Err.fault (λ accepted. c.in-Err.ensures.refused
+    accepted.0 accepted.1)
 
 pub returns-in-Err-clause-taken : goal.returns-in-Err-clause-taken
 unfolding bench_app

@@ -13,7 +13,8 @@ use Rattle.command_line.proofs.request.calls_of.Goals.{After-unwrap_or}
 
 -- the texts that a getter lends are the values of the argument, none where it has no row
 texts_are : (got : Option (Bor (List (Bor Text)))) (none : Bor (List (Bor Text))) (f : Found) (id : Text) → none.now ≡ []
-    → option_map (λ s. texts s.now) got ≡ option_map raw_values (matched_of f id) → texts (unwrap_or got none).now ≡ values_of id (rows_of f)
+    → option_map (λ s. texts s.now) got ≡ option_map raw_values (matched_of f id)
+    → texts (unwrap_or got none).now ≡ values_of id (rows_of f)
 texts_are None none f id empty given = ap texts empty ∙ ap (λ o. unwrap_or o []) (given ∙ raw_values-rows f id)
 texts_are (Some s) none f id empty given = ap (λ o. unwrap_or o []) (given ∙ raw_values-rows f id)
 
@@ -39,4 +40,5 @@ numbers_of-requires c = (read c).0
 
 pub returns-then-takes_calls : goal.returns-then-takes_calls
 returns-then-takes_calls c =
-    IfOk-weaker c.numbers_of.result _ _ (λ v are. asked (goal.at.returns-then-takes_calls c).After-unwrap_or v.items are) c.numbers_of.ensures
+    IfOk-weaker c.numbers_of.result _ _ (λ v are. asked (goal.at.returns-then-takes_calls c).After-unwrap_or v.items are)
+        c.numbers_of.ensures

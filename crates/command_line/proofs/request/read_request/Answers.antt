@@ -29,7 +29,8 @@ holds_on_ok : {T E : Type 0} (r : Result T E) (P : Type 0) → P → OnOk r P
 holds_on_ok (Ok x) P holds = holds
 holds_on_ok (Err e) P holds = tt
 
-by_both : {T E : Type 0} (r : Result T E) (P Q : T → Type 0) (R : E → Type 0) → IfOk r P → ((x : T) → P x → Q x) → IfErr r R → MatchResult r Q R
+by_both : {T E : Type 0} (r : Result T E) (P Q : T → Type 0) (R : E → Type 0) → IfOk r P → ((x : T) → P x → Q x) → IfErr r R
+    → MatchResult r Q R
 by_both (Ok x) P Q R ok gives err = gives x ok
 by_both (Err e) P Q R ok gives err = err
 
@@ -48,15 +49,18 @@ module _ (c : After-request_of) where
   -- what is read is what the words ask for
   asks : IfOk c.request_of.result (λ r. Asks table (subcommand_of (table_app c.args.name.now table) words) (asked_of r))
   unfolding words table
-  asks = subst (λ (met : Option (Text × List Row)). IfOk c.request_of.result (λ r. Asks table met (asked_of r))) met_is c.request_of.ensures.asked
+  asks = subst (λ (met : Option (Text × List Row)). IfOk c.request_of.result (λ r. Asks table met (asked_of r))) met_is
+      c.request_of.ensures.asked
 
   -- only where its values are words where they have to be
   names : OnOk c.request_of.result (has_named table (subcommand_of (table_app c.args.name.now table) words) ≡ true)
   unfolding words table
-  names = subst (λ (met : Option (Text × List Row)). OnOk c.request_of.result (has_named table met ≡ true)) met_is c.request_of.ensures.named
+  names = subst (λ (met : Option (Text × List Row)). OnOk c.request_of.result (has_named table met ≡ true)) met_is
+      c.request_of.ensures.named
 
   -- and where they are only memory is wanted
-  memory_wanted : has_named table (subcommand_of (table_app c.args.name.now table) words) ≡ true → IfErr c.request_of.result (λ e. e ≡ faults.Memory)
+  memory_wanted : has_named table (subcommand_of (table_app c.args.name.now table) words) ≡ true
+      → IfErr c.request_of.result (λ e. e ≡ faults.Memory)
   unfolding words table
   memory_wanted named =
       c.request_of.ensures.refused (subst (λ (met : Option (Text × List Row)). has_named table met ≡ true) (sym met_is) named)
@@ -68,7 +72,8 @@ returns-in-Ok-clause-asked c = asks (goal.at.returns-in-Ok-clause-asked c).After
 pub returns-in-Ok-clause-accepted : goal.returns-in-Ok-clause-accepted
 returns-in-Ok-clause-accepted c =
     holds_on_ok c.request_of.result _
-    (accepted_as _ c.args.name.now (map usage_of c.args.table.now) (texts c.args.words.now) c.in_ok-command_of.ensures c.requires c.in-Ok.ensures.kinds)
+    (accepted_as _ c.args.name.now (map usage_of c.args.table.now) (texts c.args.words.now) c.in_ok-command_of.ensures c.requires
+        c.in-Ok.ensures.kinds)
 
 pub returns-in-Ok-clause-named : goal.returns-in-Ok-clause-named
 unfolding words table

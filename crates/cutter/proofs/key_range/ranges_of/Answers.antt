@@ -20,7 +20,8 @@ loop-number-preserved c =
       | in-Some+in_ok-push w ↦ rw (w.ranges-is, w.in_ok-push.ensures.items, w.in-Some.ensures.1)
           (AreRangesBelow-take calls i c.loop-number.ranges.items a c.loop-number.invariant here w.in-Some.ensures.0 in_order)
       | in_default w ↦ rw w.ranges-is
-          (AreRangesBelow-skip calls i c.loop-number.ranges.items a c.loop-number.invariant here (false_from_ne_true (belongs a) w.in_default.ensures))
+          (AreRangesBelow-skip calls i c.loop-number.ranges.items a c.loop-number.invariant here
+              (false_from_ne_true (belongs a) w.in_default.ensures))
     ]
 
 pub returns : goal.returns

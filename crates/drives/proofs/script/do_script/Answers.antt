@@ -29,7 +29,8 @@ returns-clause-recorded g c =
     record {
       own = kept.events;
       finished = record {
-        calls = own-calls c.loop-call.pass kept.events ∙ (kept.done ∙ take_all c.loop-call.call-index c.args.script.now c.loop-call-test.false);
+        calls = own-calls c.loop-call.pass kept.events
+            ∙ (kept.done ∙ take_all c.loop-call.call-index c.args.script.now c.loop-call-test.false);
         completed = kept.idle;
       };
       answered = kept.answered;

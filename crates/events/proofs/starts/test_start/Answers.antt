@@ -13,7 +13,8 @@ returns-in_err-test_pair-clause-first c =
       before = take place pairs;
       next = get_or pairs place (0, 0);
       rest = drop (place + 1) pairs;
-      parts = parts_at pairs place (get_or pairs place (0, 0)) c.loop-place-test.true (get_or_default pairs place (0, 0) _ c.loop-place-test.true);
+      parts = parts_at pairs place (get_or pairs place (0, 0)) c.loop-place-test.true
+          (get_or_default pairs place (0, 0) _ c.loop-place-test.true);
       sound = c.loop-place.invariant;
       shows = c.in_err-test_pair.ensures.fault;
     })

@@ -10,7 +10,8 @@ use Rattle.outcomes.specs.Outcomes.{IsTextOutcome}
 use Rattle.history_engines.proofs.verdict.outcome_of.Goals as goal
 
 -- a verdict that is answered with the line of its report is an outcome of the text
-IsTextOutcome-judged : {E : Type 0} (budget : ℕ) (text : List ℕ) (verdict : Verdict) (report : List ℕ) (answer : Answer) (full : Result (String Global) E)
+IsTextOutcome-judged : {E : Type 0} (budget : ℕ) (text : List ℕ) (verdict : Verdict) (report : List ℕ) (answer : Answer)
+    (full : Result (String Global) E)
     (outcome : Outcome) → IsJudged budget text verdict report → answer ≡ answer_of verdict
     → IfOk full (λ f. string_bytes f ≡ line report) → MatchResult full (λ f. outcome ≡ Answered answer f) (λ _. outcome ≡ Memory)
     → IsTextOutcome (IsJudgeAnswer budget) IsHistoryRefusal (Some text) outcome
@@ -23,4 +24,5 @@ IsTextOutcome-judged budget text verdict report answer (Err e) outcome judged is
 pub returns-in-Ok : goal.returns-in-Ok
 returns-in-Ok c budget text judged refused =
     IsTextOutcome-judged budget text c.in-Ok.verdict
-    (string_bytes c.in-Ok.report) c.answer_of.result c.line_of.result c.answered.result (rw c.in-Ok.is at judged) c.answer_of.ensures c.line_of.ensures c.answered.ensures
+    (string_bytes c.in-Ok.report) c.answer_of.result c.line_of.result c.answered.result (rw c.in-Ok.is at judged) c.answer_of.ensures
+        c.line_of.ensures c.answered.ensures

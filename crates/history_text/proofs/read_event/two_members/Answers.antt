@@ -8,7 +8,8 @@ use Rattle.history_text.proofs.read_event.two_members.Goals.{After-as_str, else-
 
 pub returns-then-len-ne2-clause-none : goal.returns-then-len-ne2-clause-none
 returns-then-len-ne2-clause-none c = λ d e h.
-    c.if-len-ne2.true (c.len.ensures.len ∙ entries_of_two c.in_ok-members.members.now.entries _ _ d e (sym (object_found _ _ c.in_ok-members.ensures) ∙ h))
+    c.if-len-ne2.true (c.len.ensures.len ∙ entries_of_two c.in_ok-members.members.now.entries _ _ d e
+        (sym (object_found _ _ c.in_ok-members.ensures) ∙ h))
 
 module _ (c : After-as_str) where
   found : view c.args.value.now ≡ object_of_two (string_bytes c.in_ok-first_name.first_name.now) (view c.in_ok-first_name.first_value.now)
@@ -29,5 +30,6 @@ returns-else-eq-clause-none c = λ d e h.
     elim c.else-eq.branch [
       | else-eq-via-then-eq+else-eq-2 w ↦ other_texts w.as_str-then-eq.result.now c.args.second.now w.if-eq-2.ensures
           (w.as_str-then-eq.ensures.value ∙ second_names _ _ _ _ _ _ _ _ same)
-      | else-eq-via-else-eq w ↦ other_texts c.as_str.result.now c.args.first.now w.if-eq.ensures (c.as_str.ensures.value ∙ first_names _ _ _ _ _ _ _ _ same)
+      | else-eq-via-else-eq w ↦ other_texts c.as_str.result.now c.args.first.now w.if-eq.ensures
+          (c.as_str.ensures.value ∙ first_names _ _ _ _ _ _ _ _ same)
     ]

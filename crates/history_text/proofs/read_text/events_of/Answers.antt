@@ -9,11 +9,13 @@ use Rattle.history_text.proofs.read_text.events_of.Goals.{After-event_of}
 
 module _ (c : After-event_of) where
   size : length c.loop-place.turns.events ≡ c.loop-place.place
-  size = length_before event_data c.args.items.now c.loop-place.turns.events c.loop-place.place c.loop-place-test.true c.loop-place.invariant.spelled
+  size = length_before event_data c.args.items.now c.loop-place.turns.events c.loop-place.place c.loop-place-test.true
+      c.loop-place.invariant.spelled
 
   parts : map view c.args.items.now ≡ map event_data c.loop-place.turns.events ++ view c.index-items-place.result ∷ map view
       (drop (c.loop-place.place + 1) c.args.items.now)
-  parts = values_at event_data c.args.items.now c.loop-place.turns.events c.loop-place.place c.index-items-place.result c.loop-place-test.true
+  parts = values_at event_data c.args.items.now c.loop-place.turns.events c.loop-place.place c.index-items-place.result
+      c.loop-place-test.true
       c.index-items-place.is c.loop-place.invariant.spelled
 
 pub returns-in_err-event-clause-refused : goal.returns-in_err-event-clause-refused
@@ -30,5 +32,6 @@ returns-in_err-take-clause-refused c =
     let here = (goal.at.returns-in_err-take-clause-refused c).After-event_of in
     rw (p.1, p.2)
     (fault_on_taking c.args.has_start c.loop-place.turns.events c.in_ok-event.event
-    (view c.index-items-place.result) c.in_err-take.field-0.0 _ _ c.in_err-take.ensures.refused c.in_ok-event.ensures.ok c.in_ok-event.ensures.standing
+    (view c.index-items-place.result) c.in_err-take.field-0.0 _ _ c.in_err-take.ensures.refused c.in_ok-event.ensures.ok
+        c.in_ok-event.ensures.standing
     (parts here) c.loop-place.invariant.events)

@@ -9,7 +9,8 @@ use Rattle.history_text.proofs.read_text.start_of.Goals.{After-starting_pair}
 
 module _ (c : After-starting_pair) where
   size : length c.loop-place.turns.start ≡ c.loop-place.place
-  size = length_before pair_data c.args.items.now c.loop-place.turns.start c.loop-place.place c.loop-place-test.true c.loop-place.invariant.spelled
+  size = length_before pair_data c.args.items.now c.loop-place.turns.start c.loop-place.place c.loop-place-test.true
+      c.loop-place.invariant.spelled
 
   parts : map view c.args.items.now ≡ map pair_data c.loop-place.turns.start ++ view c.index-items-place.result ∷ map view
       (drop (c.loop-place.place + 1) c.args.items.now)
@@ -21,7 +22,8 @@ returns-in_err-pair-clause-refused c =
     let p = err_from_is_err_and c.from_residual.result c.from_residual.ensures.1 in
     let here = (goal.at.returns-in_err-pair-clause-refused c).After-starting_pair in
     rw (p.1, p.2)
-    (pair_fault_alone c.loop-place.turns.start (view c.index-items-place.result) c.in_err-pair.field-0.0 (rw (size here) c.in_err-pair.ensures.refused) _ _
+    (pair_fault_alone c.loop-place.turns.start (view c.index-items-place.result) c.in_err-pair.field-0.0
+        (rw (size here) c.in_err-pair.ensures.refused) _ _
     (parts here) c.loop-place.invariant.history.start)
 
 pub returns-in_err-take_pair-clause-refused : goal.returns-in_err-take_pair-clause-refused

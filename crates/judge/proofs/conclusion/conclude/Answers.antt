@@ -10,7 +10,8 @@ use Rattle.orders.specs.Orders.{IsLinearizable}
 use Rattle.segments.specs.SegmentOrders.{HasNoOrder}
 use Rattle.segments.specs.Segments.{AreSegments}
 use Rattle.list_laws.proofs.Lists.{Contains-first}
-use Rattle.judge.proofs.AnswerLemmas.{HaveShown-found, HaveShown-spent, HaveShown-first, IsOrderedOrSpent-all, IsUnderWay-start, IsUnderWay-answer}
+use Rattle.judge.proofs.AnswerLemmas.{HaveShown-found, HaveShown-spent, HaveShown-first, IsOrderedOrSpent-all, IsUnderWay-start}
+use Rattle.judge.proofs.AnswerLemmas.{IsUnderWay-answer}
 use Rattle.judge.proofs.AnswerLemmas.{IsUnderWay-next}
 use Rattle.judge.proofs.AnswerLemmas.{IsUnderWay-all}
 use Rattle.judge.proofs.VerdictLemmas.{found_orders, shows_yes, shows_no, shows_undecided}
@@ -33,7 +34,8 @@ loop-segment-preserved-in-Order-1 c =
     let steps = c.in-Some.ensures.steps in
     let orders = map (λ v. v.items) c.loop-segment.orders.items in
     let found = rw c.in-Order.is at (IsUnderWay-answer way steps.0.0 steps.1.0) in
-    let shown = HaveShown-found c.args.budget way.before orders c.loop-segment.lowest_spent c.in-Some.segment c.in-Order.order.items way.shown found in
+    let shown = HaveShown-found c.args.budget way.before orders c.loop-segment.lowest_spent c.in-Some.segment c.in-Order.order.items
+        way.shown found in
     record {
       can_next = (tt, tt);
       is_finite = tt;
@@ -50,7 +52,8 @@ returns-in-NoOrder-clause-exact c =
       are_segments = subst (AreSegments c.args.history.now.start (operations c.args.history.now.events)) (way.parts
           ∙ ap (λ l. way.before ++ l) steps.0.0) c.requires.segments;
       refuted = rw c.in-NoOrder.is at (IsUnderWay-answer way steps.0.0 steps.1.0);
-      lowest = IsOrderedOrSpent-all c.args.budget way.before (map (λ v. v.items) c.loop-segment.orders.items) c.loop-segment.lowest_spent way.shown;
+      lowest = IsOrderedOrSpent-all c.args.budget way.before (map (λ v. v.items) c.loop-segment.orders.items)
+          c.loop-segment.lowest_spent way.shown;
     }
 
 pub returns-in-NoOrder-clause-shown : goal.returns-in-NoOrder-clause-shown
@@ -61,9 +64,11 @@ returns-in-NoOrder-clause-shown c =
     let segment = c.in-Some.segment in
     let above = into_iter_items (zip_first c.next.new.self) in
     let parts = way.parts ∙ ap (λ l. way.before ++ l) c.in-Some.ensures.steps.0.0 in
-    let is = subst (λ s. Contains s segment) (sym parts) (Contains-append_right way.before (segment ∷ above) segment (Contains-first segment above)) in
+    let is = subst (λ s. Contains s segment) (sym parts)
+        (Contains-append_right way.before (segment ∷ above) segment (Contains-first segment above)) in
     shows_no c.args.budget c.args.history.now.start calls segment exact
-    (All-contains (λ s. HasNoOrder s → IsLinearizable c.args.history.now.start calls → ⊥) c.args.segments.items segment c.requires.refutes is exact.refuted.0)
+    (All-contains (λ s. HasNoOrder s → IsLinearizable c.args.history.now.start calls → ⊥) c.args.segments.items segment c.requires.refutes
+        is exact.refuted.0)
 
 pub loop-segment-preserved-then-is_none : goal.loop-segment-preserved-then-is_none
 loop-segment-preserved-then-is_none c =
@@ -71,7 +76,8 @@ loop-segment-preserved-then-is_none c =
     let steps = c.in-Some.ensures.steps in
     let orders = map (λ v. v.items) c.loop-segment.orders.items in
     let spent = rw c.in-Spent.is at (IsUnderWay-answer way steps.0.0 steps.1.0) in
-    let shown = HaveShown-first c.args.budget way.before orders c.loop-segment.lowest_spent c.in-Some.segment c.if-is_none.ensures way.shown spent in
+    let shown = HaveShown-first c.args.budget way.before orders c.loop-segment.lowest_spent c.in-Some.segment c.if-is_none.ensures
+        way.shown spent in
     record {
       can_next = (tt, tt);
       is_finite = tt;
@@ -84,7 +90,8 @@ loop-segment-preserved c =
     let steps = c.in-Some.ensures.steps in
     let orders = map (λ v. v.items) c.loop-segment.orders.items in
     let spent = rw c.in-Spent-2.is at (IsUnderWay-answer way steps.0.0 steps.1.0) in
-    let shown = HaveShown-spent c.args.budget way.before orders c.loop-segment.lowest_spent c.in-Some.segment c.if-is_none.ensures way.shown spent in
+    let shown = HaveShown-spent c.args.budget way.before orders c.loop-segment.lowest_spent c.in-Some.segment c.if-is_none.ensures
+        way.shown spent in
     record {
       can_next = (tt, tt);
       is_finite = tt;

@@ -8,6 +8,7 @@ abbrev pub invariant-loop-segment : goal.invariant-loop-segment
 invariant-loop-segment l = record {
   can_next : (goal.iterator-loop-segment).can_next l.segment-iterator;
   is_finite : (goal.iterator-loop-segment).is_finite l.segment-iterator;
-  under_way : IsUnderWay l.budget l.fn.segments.items (into_iter_items (zip_first l.segment-iterator)) (into_iter_items (zip_second l.segment-iterator))
+  under_way : IsUnderWay l.budget l.fn.segments.items (into_iter_items (zip_first l.segment-iterator))
+      (into_iter_items (zip_second l.segment-iterator))
       (map (λ v. v.items) l.orders.items) l.lowest_spent;
 }

@@ -18,11 +18,13 @@ loop-preserved c = elim c.if-is_left.branch [
       (c.is_left.ensures.0 w.if-is_left.true) c.loop.invariant w.in_ok-found.ensures)
   | else-is_left w ↦ rw w.found-is
       (without_turn c.args.budget c.args.history.now c.args.gap c.args.known c.loop.counter c.loop.found c.loop-test.true
-      (none_left c.is_left.result (low_of c.args.gap c.loop.found) (high_of c.args.gap c.loop.found) c.is_left.ensures w.if-is_left.false) c.loop.invariant)
+      (none_left c.is_left.result (low_of c.args.gap c.loop.found) (high_of c.args.gap c.loop.found) c.is_left.ensures
+          w.if-is_left.false) c.loop.invariant)
 ]
 
 pub returns : goal.returns
 returns c = record {
   in_order = c.loop.invariant.in_order;
-  halved = after_turns c.args.budget c.args.history.now c.args.gap c.args.known c.loop.counter c.loop.found c.loop-test.false c.loop.invariant;
+  halved = after_turns c.args.budget c.args.history.now c.args.gap c.args.known c.loop.counter c.loop.found
+      c.loop-test.false c.loop.invariant;
 }

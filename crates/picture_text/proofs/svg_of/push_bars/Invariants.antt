@@ -4,4 +4,5 @@ use Rattle.picture_text.specs.Svg.{with_bars}
 use Rattle.picture_text.proofs.svg_of.push_bars.Given as goal
 
 abbrev pub invariant-loop-bar : goal.invariant-loop-bar
-invariant-loop-bar l = with_bars (string_bytes l.fn.out) l.width l.columns l.bars ≡ with_bars (string_bytes l.out) l.width l.columns (drop l.bar-index l.bars)
+invariant-loop-bar l = with_bars (string_bytes l.fn.out) l.width l.columns l.bars ≡ with_bars (string_bytes l.out) l.width l.columns
+    (drop l.bar-index l.bars)

@@ -4,4 +4,5 @@ use Rattle.picture_text.specs.Svg.{with_marks}
 use Rattle.picture_text.proofs.svg_of.push_marks.Given as goal
 
 abbrev pub invariant-loop-mark : goal.invariant-loop-mark
-invariant-loop-mark l = with_marks (string_bytes l.fn.out) l.width l.marks ≡ with_marks (string_bytes l.out) l.width (drop l.mark-index l.marks)
+invariant-loop-mark l = with_marks (string_bytes l.fn.out) l.width l.marks ≡ with_marks (string_bytes l.out) l.width
+    (drop l.mark-index l.marks)

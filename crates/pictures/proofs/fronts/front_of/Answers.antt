@@ -15,4 +15,5 @@ pub returns-clause-markable : goal.returns-clause-markable
 returns-clause-markable c =
     let history = c.args.history.now in
     let front : IsFrontShown c.args.budget c.args.verdict.now c.match-verdict.front.items = returns-clause-front c in
-    IsMarkable-from_verdict history.start c.args.budget (operations history.events) c.args.verdict.now c.match-verdict.front.items c.requires.shown front
+    IsMarkable-from_verdict history.start c.args.budget (operations history.events) c.args.verdict.now c.match-verdict.front.items
+        c.requires.shown front

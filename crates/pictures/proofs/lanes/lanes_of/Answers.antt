@@ -12,7 +12,8 @@ loop-process-preserved c =
     let below = c.loop-process-test.true in
     let before = c.loop-process.invariant in
     elim c.if-has_events.branch [
-      | then-has_events+in_ok-push w ↦ rw w.lanes-is (lanes-yes _ _ c.loop-process.lanes.items _ below (cc) w.in_ok-push.ensures.items before)
+      | then-has_events+in_ok-push w ↦ rw w.lanes-is
+          (lanes-yes _ _ c.loop-process.lanes.items _ below (cc) w.in_ok-push.ensures.items before)
       | else-has_events w ↦ rw w.lanes-is (lanes-no _ _ c.loop-process.lanes.items below (cc) before)
     ]
 

@@ -29,7 +29,8 @@ loop-place-preserved c =
     let known = c.requires.order.known place 0 c.loop-place-test.true in
     let (a, here) = slice_get-below calls n known in
     let bar = c.index-bars-number.result in
-    let bar_here : slice_get bars n ≡ Some bar = slice_get_read bars (length bars) n bar refl (omega (arith, known, c.requires.bars.one_each)) c.index-bars-number.is in
+    let bar_here : slice_get bars n ≡ Some bar =
+        slice_get_read bars (length bars) n bar refl (omega (arith, known, c.requires.bars.one_each)) c.index-bars-number.is in
     let point = ap (λ points. get_or points place 0) c.requires.points ∙ point-at calls order place n order_here in
     let spans = rw c.requires.points at c.requires.bars in
     let column = rw c.requires.points at c.mark_column.ensures in
@@ -38,7 +39,8 @@ loop-place-preserved c =
       at_place = refl;
       point = point;
       column = column;
-      inside = mark-in-bar events order bars place n a bar _ c.requires.order spans order_here here bar_here (ap (λ (b : Bar). b.lane) (sym c.index-bars-number.is)) column;
+      inside = mark-in-bar events order bars place n a bar _ c.requires.order spans order_here here bar_here
+          (ap (λ (b : Bar). b.lane) (sym c.index-bars-number.is)) column;
     }))
 
 pub returns : goal.returns

@@ -18,7 +18,8 @@ denied true P same is p = cc
 denied false P same is p = let yes = same.1 p in cc
 
 -- for a fault for which no plan is driven
-undriven : (text : List ℕ) (fault : PlanFault) (outcome : Outcome) → IsUndriven text fault → IsPlanFaultOutcome fault outcome → IsUndrivenOutcome text outcome
+undriven : (text : List ℕ) (fault : PlanFault) (outcome : Outcome) → IsUndriven text fault → IsPlanFaultOutcome fault outcome
+    → IsUndrivenOutcome text outcome
 undriven text fault (Answered answer bytes) is h = h
 undriven text fault (Refused bytes) is h = record { fault = fault; refused = is; not_memory = h.0; bytes_are = h.1 }
 undriven text fault Memory is h = tt
@@ -26,7 +27,8 @@ undriven text fault (Words bytes) is h = h
 undriven text fault Failed is h = h
 
 -- a plan for which there is no room is not driven
-undrivable : (text : List ℕ) (scripts : List (List Call)) → SpellsPlan text scripts → AreScripts scripts → (IsDrivable scripts → ⊥) → IsUndriven text plans.TooMany
+undrivable : (text : List ℕ) (scripts : List (List Call)) → SpellsPlan text scripts → AreScripts scripts → (IsDrivable scripts → ⊥)
+    → IsUndriven text plans.TooMany
 undrivable text scripts spelled are many = inr (refl, (scripts, spelled, are, many))
 
 pub returns-then-not-is_drivable-clause-refused : goal.returns-then-not-is_drivable-clause-refused

@@ -19,7 +19,8 @@ loop-answer-preserved g c =
       | in-None-answer+in_ok-found-in-None-answer w ↦
           let here : w.len-in-None-answer.result ≡ length c.loop-answer.answers.items =
           omega (arith, w.len-in-None-answer.ensures, c.loop-answer.answers.ok.0) in
-          rw w.found-is (IsHalfKnown-found P c.loop-answer.invariant c.in-Some.ensures.steps.0 (rw here at w.in_ok-found-in-None-answer.ensures))
+          rw w.found-is (IsHalfKnown-found P c.loop-answer.invariant c.in-Some.ensures.steps.0
+              (rw here at w.in_ok-found-in-None-answer.ensures))
     ])
 
 pub returns : goal.returns

@@ -7,7 +7,8 @@ use Rattle.search.proofs.longest.longest_front.Given as goal
 -- the walk stands somewhere, within the budget, and of the configurations that it visited none has more calls taken than the longest front
 abbrev pub invariant-loop-longest : goal.invariant-loop-longest
 invariant-loop-longest l =
-    Stands l.segment.start l.segment.calls l.standing × IsLongestSoFar l.segment l.standing l.longest.items × (length l.standing.memo ≤ l.budget + 1)
+    Stands l.segment.start l.segment.calls l.standing × IsLongestSoFar l.segment l.standing l.longest.items
+        × (length l.standing.memo ≤ l.budget + 1)
 
 -- what the walk still has to do
 abbrev pub decreases-loop-longest : goal.decreases-loop-longest

@@ -10,7 +10,8 @@ use Rattle.search.proofs.standing.make_step.Goals as goal
 use Rattle.search.proofs.standing.make_step.Goals.{else-next-calls-via-then-next-calls+else-calls-next, else-next-calls-via-else-next-calls}
 
 -- a call at a place was invoked late where the one that was read there was
-late : (calls : List Operation) (n answered : ℕ) (a b : Operation) → slice_get calls n ≡ Some a → slice_get calls n ≡ Some b → answered < b.inv
+late : (calls : List Operation) (n answered : ℕ) (a b : Operation) → slice_get calls n ≡ Some a → slice_get calls n ≡ Some b
+    → answered < b.inv
     → answered < a.inv
 late calls n answered a b here there h = subst (λ (x : Operation). answered < x.inv) (same_Some b a (sym there ∙ here)) h
 
@@ -29,7 +30,8 @@ try_call-requires g c =
     let path = places w.levels.items in
     let earliest : IsEarliestAnswer calls path (Some c.in-Some.answered) = rw c.in-Some.is at c.earliest_answer.ensures in
     let a = c.index-calls-next.result in
-    let here : slice_get calls w.next ≡ Some a = slice_get_read calls (length calls) w.next a refl c.if-next-calls.true c.index-calls-next.is in (
+    let here : slice_get calls w.next ≡ Some a =
+        slice_get_read calls (length calls) w.next a refl c.if-next-calls.true c.index-calls-next.is in (
       c.requires.0,
       (
         c.requires.1.0,

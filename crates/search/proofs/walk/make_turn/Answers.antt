@@ -39,7 +39,8 @@ returns-then-len-budget c =
     let calls = c.args.segment.now.calls in
     let start = c.args.segment.now.start in
     let above : c.args.budget < length w.memo = omega (arith, c.if-len-budget.true, c.len.ensures.len) in
-    (CountIsAbove-at_cursor start calls (places w.levels.items) w.next w.memo s.cursor c.args.budget above, λ count has. omega arith, met c.args.segment.now w c.args.budget s (λ count has. omega arith))
+    (CountIsAbove-at_cursor start calls (places w.levels.items) w.next w.memo s.cursor c.args.budget above, λ count has. omega arith, met
+        c.args.segment.now w c.args.budget s (λ count has. omega arith))
 
 pub make_step-requires : goal.make_step-requires
 make_step-requires c =
@@ -48,7 +49,8 @@ make_step-requires c =
     rw c.calls.ensures.calls (omega (arith, segment.few), (segment.none_precedes_itself, (segment.invocations_rise, stands)))
 
 -- a walk that has moved goes on: a configuration more is one fewer that the budget allows
-goes_on : (segment : SegmentView) (budget : ℕ) (old new : Standing) → length old.memo ≤ budget → HasMoved segment.start segment.calls old new
+goes_on : (segment : SegmentView) (budget : ℕ) (old new : Standing) → length old.memo ≤ budget
+    → HasMoved segment.start segment.calls old new
     → GoesOn (walk_at segment budget old) (walk_at segment budget new)
 goes_on segment budget old new within h = ⊎_elim
     (λ tried. let same = ap length tried.0 in record {
@@ -92,13 +94,15 @@ returns-in_ok-order-in-Order c =
     let is_order = subst (λ from. IsOrder from calls (places w.levels.items)) s.begins (rw c.calls.ensures.calls at step.1) in
     let numbers = c.args.segment.now.numbers in
     let order_is : c.in_ok-order-in-Order.order.items ≡ map (λ place. slice_index numbers place) (places w.levels.items) =
-    c.in_ok-order-in-Order.ensures ∙ ap (λ ns. map (λ place. slice_index ns place) (places c.make_step.new.standing.levels.items)) c.numbers.ensures.numbers
+    c.in_ok-order-in-Order.ensures ∙ ap (λ ns. map (λ place. slice_index ns place) (places c.make_step.new.standing.levels.items))
+        c.numbers.ensures.numbers
     ∙ ap (λ (t : Standing). map (λ place. slice_index numbers place) (places t.levels.items)) step.0 in
     let least = IsLeastOrder-at_cursor start calls (places w.levels.items) w.next w.memo s.cursor is_order in
     let count = HasCount-at_order start calls (places w.levels.items) w.next w.memo s.cursor is_order in (
       ((places w.levels.items, order_is, least), (length w.memo, count, within)),
       λ n has. enough n c.args.budget (length w.memo) (HasCount-unique start calls n (length w.memo) has count),
-      met c.args.segment.now w c.args.budget s (λ n has. all_met n c.args.budget (length w.memo) (HasCount-unique start calls n (length w.memo) has count)),
+      met c.args.segment.now w c.args.budget s
+          (λ n has. all_met n c.args.budget (length w.memo) (HasCount-unique start calls n (length w.memo) has count)),
     )
 
 pub returns-in-NoOrder : goal.returns-in-NoOrder
@@ -112,5 +116,6 @@ returns-in-NoOrder c =
     let done = subst (λ from. IsExhausted from calls w.memo) s.begins (rw c.calls.ensures.calls at step) in (
       (done.none, (length w.memo, done.count, within)),
       λ n has. enough n c.args.budget (length w.memo) (HasCount-unique start calls n (length w.memo) has done.count),
-      met c.args.segment.now w c.args.budget s (λ n has. all_met n c.args.budget (length w.memo) (HasCount-unique start calls n (length w.memo) has done.count)),
+      met c.args.segment.now w c.args.budget s
+          (λ n has. all_met n c.args.budget (length w.memo) (HasCount-unique start calls n (length w.memo) has done.count)),
     )

@@ -6,6 +6,7 @@ use Rattle.streams.proofs.writing.write_whole.Goals as goal
 pub loop-done-preserved : goal.loop-done-preserved
 loop-done-preserved g c = record {
   within = omega (arith, c.in_ok-done.ensures.within, length-take {A = ℕ}, length-drop {A = ℕ});
-  written = Appends-more _ _ _ _ _ _ c.loop-done.invariant.written (rw (take_rest c.args.bytes.now c.loop-done.done) at c.in_ok-done.ensures.appended);
+  written = Appends-more _ _ _ _ _ _ c.loop-done.invariant.written
+      (rw (take_rest c.args.bytes.now c.loop-done.done) at c.in_ok-done.ensures.appended);
   counted = search rules;
 }

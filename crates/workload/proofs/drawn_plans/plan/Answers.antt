@@ -8,7 +8,8 @@ pub from_scripts-requires : goal.from_scripts-requires
 from_scripts-requires c =
     let sound = c.in_ok-test_arguments.ensures.sound in
     subst AreTreeCalls (sym c.in_ok-scripts.ensures.drawn)
-    (scripts_of-are_scripts c.args.seed c.args.processes c.args.calls c.args.mix.now c.in_ok-test_arguments.ensures.small sound.1 sound.2).calls
+    (scripts_of-are_scripts c.args.seed c.args.processes c.args.calls c.args.mix.now c.in_ok-test_arguments.ensures.small
+        sound.1 sound.2).calls
 
 -- what fails only where something holds that does not, does not fail
 IfErr-never : {A E : Type 0} (result : Result A E) (P : E → Type 0) (Q : Type 0) → Q → OnErr result (Q → ⊥) → IfErr result P
@@ -21,5 +22,6 @@ returns-clause-refused c =
     IfErr-never c.from_scripts.result (IsDrawFault c.args.mix.now c.args.processes c.args.calls)
     (AreFew (map (λ script. script.items) c.in_ok-scripts.scripts.items))
     (subst AreFew (sym c.in_ok-scripts.ensures.drawn)
-    (scripts_of-are_scripts c.args.seed c.args.processes c.args.calls c.args.mix.now c.in_ok-test_arguments.ensures.small sound.1 sound.2).few)
+    (scripts_of-are_scripts c.args.seed c.args.processes c.args.calls c.args.mix.now c.in_ok-test_arguments.ensures.small
+        sound.1 sound.2).few)
     c.from_scripts.ensures.many

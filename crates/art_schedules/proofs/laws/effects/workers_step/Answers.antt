@@ -2,4 +2,5 @@ use Rattle.art_schedules.proofs.effects.OwnStepLemmas.{workers-step}
 use Rattle.art_schedules.proofs.laws.effects.workers_step.Goals as goal
 
 pub returns : goal.returns
-returns c = workers-step c.children_are_read.ensures c.kept_trees_follow.ensures c.effects_follow.ensures c.ways_say_values.ensures c.work_is_done.ensures
+returns c = workers-step c.children_are_read.ensures c.kept_trees_follow.ensures c.effects_follow.ensures c.ways_say_values.ensures
+    c.work_is_done.ensures

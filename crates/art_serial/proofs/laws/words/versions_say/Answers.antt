@@ -1,4 +1,5 @@
-use Rattle.art_serial.proofs.words.VersionLemmas.{locked_locked, obsolete_locked, locked_released, obsolete_released, locked_obsolete, obsolete_obsolete}
+use Rattle.art_serial.proofs.words.VersionLemmas.{locked_locked, obsolete_locked, locked_released, obsolete_released, locked_obsolete}
+use Rattle.art_serial.proofs.words.VersionLemmas.{obsolete_obsolete}
 use Rattle.art_serial.proofs.laws.words.versions_say.Goals as goal
 
 pub returns : goal.returns

@@ -16,17 +16,20 @@ load-requires c =
     let next : next_of me.0.view ≡ Some (Makes (Load c.in-Load.word)) = c.requires.next ∙ ap (λ a. Some (Makes a)) c.in-Load.is in (
       search rules,
       access-inside core.table.shared.key core.limits _ c.requires.own.setup _ next core.words,
-      access-allowed _ core.limits _ _ me c.requires.own.setup _ next _ (λ n. refl) (step core.table.shared.table_id.slots c.in-Load.word 0 0 none),
+      access-allowed _ core.limits _ _ me c.requires.own.setup _ next _ (λ n. refl)
+          (step core.table.shared.table_id.slots c.in-Load.word 0 0 none),
     )
 
 pub store-requires : goal.store-requires
 store-requires c =
     let core = c.args.self.now in
     let me = c.args.place.now.seat.me in
-    let next : next_of me.0.view ≡ Some (Makes (Store c.in-Store.word c.in-Store.value)) = c.requires.next ∙ ap (λ a. Some (Makes a)) c.in-Store.is in (
+    let next : next_of me.0.view ≡ Some (Makes (Store c.in-Store.word c.in-Store.value)) = c.requires.next
+        ∙ ap (λ a. Some (Makes a)) c.in-Store.is in (
       search rules,
       access-inside core.table.shared.key core.limits _ c.requires.own.setup _ next core.words,
-      store-allowed _ core.limits _ _ me c.requires.own.setup _ _ next (step core.table.shared.table_id.slots c.in-Store.word c.in-Store.value 0 none),
+      store-allowed _ core.limits _ _ me c.requires.own.setup _ _ next
+          (step core.table.shared.table_id.slots c.in-Store.word c.in-Store.value 0 none),
     )
 
 pub compare_exchange-requires : goal.compare_exchange-requires
@@ -48,7 +51,8 @@ fetch_add-requires c =
     let next : next_of me.0.view ≡ Some (Makes (Add c.in-Add.word)) = c.requires.next ∙ ap (λ a. Some (Makes a)) c.in-Add.is in (
       search rules,
       access-inside core.table.shared.key core.limits _ c.requires.own.setup _ next core.words,
-      access-allowed _ core.limits _ _ me c.requires.own.setup _ next _ (λ n. refl) (step core.table.shared.table_id.slots c.in-Add.word 1 0 none),
+      access-allowed _ core.limits _ _ me c.requires.own.setup _ next _ (λ n. refl)
+          (step core.table.shared.table_id.slots c.in-Add.word 1 0 none),
     )
 
 -- what the store wrote, its call is not told
@@ -58,13 +62,17 @@ returns-in-Store-clause-made c =
     c.store.ensures.2.1 ∙ store-blind c.args.place.now.seat.me.0.view c.in-Store.word c.in-Store.value next c.in-Store.value 0
 
 pub invariant_of-place-clause-rising : goal.invariant_of-place-clause-rising
-invariant_of-place-clause-rising c = subst NumbersRise (sym c.load.ensures.2.1) (advanced-rises c.args.place.now.seat.me.0.view _ c.args.place.now.rising)
+invariant_of-place-clause-rising c = subst NumbersRise (sym c.load.ensures.2.1) (advanced-rises c.args.place.now.seat.me.0.view _
+    c.args.place.now.rising)
 
 pub invariant_of-place-in-Store-clause-rising : goal.invariant_of-place-in-Store-clause-rising
-invariant_of-place-in-Store-clause-rising c = subst NumbersRise (sym c.store.ensures.2.1) (advanced-rises c.args.place.now.seat.me.0.view _ c.args.place.now.rising)
+invariant_of-place-in-Store-clause-rising c = subst NumbersRise (sym c.store.ensures.2.1) (advanced-rises c.args.place.now.seat.me.0.view _
+    c.args.place.now.rising)
 
 pub invariant_of-place-in-Exchange-clause-rising : goal.invariant_of-place-in-Exchange-clause-rising
-invariant_of-place-in-Exchange-clause-rising c = subst NumbersRise (sym c.compare_exchange.ensures.2.1) (advanced-rises c.args.place.now.seat.me.0.view _ c.args.place.now.rising)
+invariant_of-place-in-Exchange-clause-rising c =
+    subst NumbersRise (sym c.compare_exchange.ensures.2.1) (advanced-rises c.args.place.now.seat.me.0.view _ c.args.place.now.rising)
 
 pub invariant_of-place-in-Add-clause-rising : goal.invariant_of-place-in-Add-clause-rising
-invariant_of-place-in-Add-clause-rising c = subst NumbersRise (sym c.fetch_add.ensures.2.1) (advanced-rises c.args.place.now.seat.me.0.view _ c.args.place.now.rising)
+invariant_of-place-in-Add-clause-rising c = subst NumbersRise (sym c.fetch_add.ensures.2.1) (advanced-rises c.args.place.now.seat.me.0.view
+    _ c.args.place.now.rising)

@@ -13,4 +13,5 @@ fetch_add-requires c =
     (search rules, omega (arith, core.words), response-allowed _ core.limits _ _ _ c.requires.own.setup _ c.requires.next.1 st)
 
 pub invariant_of-place-clause-rising : goal.invariant_of-place-clause-rising
-invariant_of-place-clause-rising c = subst NumbersRise (sym c.fetch_add.ensures.2.0.1) (advanced-rises c.args.place.now.seat.me.0.view _ c.args.place.now.rising)
+invariant_of-place-clause-rising c = subst NumbersRise (sym c.fetch_add.ensures.2.0.1) (advanced-rises c.args.place.now.seat.me.0.view _
+    c.args.place.now.rising)

@@ -20,7 +20,8 @@ fetch_add-requires c =
     let is : me.0 ≡ noted v (Some c.args.call.now) = c.compare_exchange_with.ensures.2.1 c.args.call.now refl in (
       search rules,
       omega (arith, core.words),
-      invocation-allowed _ core.limits _ _ me (ap (λ z. z.view.setup) is ∙ c.requires.own.setup) c.args.call.now (ap (λ z. z.asked) is) c.fits.ensures
+      invocation-allowed _ core.limits _ _ me (ap (λ z. z.view.setup) is ∙ c.requires.own.setup) c.args.call.now
+          (ap (λ z. z.asked) is) c.fits.ensures
           (subst (λ z. IsTrue (is_idle z.view)) (sym is) c.requires.idle) (subst (λ z. 0 < calls_left z.view) (sym is) c.requires.left)
           (step core.table.shared.table_id.slots 0 1 0 none),
     )
@@ -36,11 +37,13 @@ returns-clause-own c =
 
 pub returns-clause-invoked : goal.returns-clause-invoked
 returns-clause-invoked c =
-    c.fetch_add.ensures.2.1 ∙ ap (λ z. with_asked z.asked z.view c.fetch_add.result) (c.compare_exchange_with.ensures.2.1 c.args.call.now refl)
+    c.fetch_add.ensures.2.1 ∙ ap (λ z. with_asked z.asked z.view c.fetch_add.result) (c.compare_exchange_with.ensures.2.1
+        c.args.call.now refl)
 
 pub returns-clause-later : goal.returns-clause-later
 returns-clause-later c =
-    subst (λ z. AllStamps (λ stamp. stamp < c.fetch_add.result) z.view) (c.compare_exchange_with.ensures.2.1 c.args.call.now refl) c.fetch_add.ensures.2.2
+    subst (λ z. AllStamps (λ stamp. stamp < c.fetch_add.result) z.view) (c.compare_exchange_with.ensures.2.1 c.args.call.now refl)
+        c.fetch_add.ensures.2.2
 
 pub invariant_of-place-clause-rising : goal.invariant_of-place-clause-rising
 invariant_of-place-clause-rising c =

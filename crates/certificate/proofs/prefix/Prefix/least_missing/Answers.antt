@@ -7,7 +7,8 @@ use Rattle.orders.specs.Orders.{IsCompletedAt}
 use Rattle.orders.proofs.OrderLemmas.{IsCompletedAt-below}
 use Rattle.certificate.proofs.PrefixLemmas.{Contains-taken, not_Contains-taken, IsCompletedAt-response, response-IsCompletedAt}
 use Rattle.certificate.proofs.prefix.Prefix.least_missing.Goals as goal
-use Rattle.certificate.proofs.prefix.Prefix.least_missing.Goals.{else-is_some-via-then-is_some+else-not-index, else-is_some-via-else-is_some}
+use Rattle.certificate.proofs.prefix.Prefix.least_missing.Goals.{else-is_some-via-then-is_some+else-not-index}
+use Rattle.certificate.proofs.prefix.Prefix.least_missing.Goals.{else-is_some-via-else-is_some}
 
 pub returns-then-not-index-clause-missing : goal.returns-then-not-index-clause-missing
 returns-then-not-index-clause-missing c = λ start order h.

@@ -3,7 +3,8 @@ use Rattle.std.specs.Prelude.{slice_get}
 use Rattle.std.proofs.lemmas.Bool.{false≢true}
 use Rattle.std.proofs.lemmas.Grind.{common_steps}
 use Rattle.std.proofs.lemmas.Option.{slice_get_read}
-use Rattle.certificate.proofs.PrefixLemmas.{take-next, Contains-taken, not_Contains-taken, IsNewAt-taken, PrecedesSome-latest, not_PrecedesSome-latest}
+use Rattle.certificate.proofs.PrefixLemmas.{take-next, Contains-taken, not_Contains-taken, IsNewAt-taken, PrecedesSome-latest}
+use Rattle.certificate.proofs.PrefixLemmas.{not_PrecedesSome-latest}
 use Rattle.certificate.proofs.PrefixLemmas.{IsPrefixOf-push}
 use Rattle.certificate.proofs.prefix.Prefix.take.Goals as goal
 use Rattle.certificate.proofs.prefix.Prefix.take.Goals.{After-is_before}
@@ -51,5 +52,6 @@ returns-clause-ok c = λ start order here h.
     let at = (goal.at.returns-clause-ok c).After-is_before in
     rw (take-next order c.args.place c.args.number here)
     (IsPrefixOf-push start _ _ _ _ c.args.number c.index-calls-index.result h (call at)
-    (not_Contains-taken start _ _ _ _ h (omega arith) (free at)) (not_PrecedesSome-latest start _ _ _ c.index-calls-index.result h (search rules))
+    (not_Contains-taken start _ _ _ _ h (omega arith) (free at))
+        (not_PrecedesSome-latest start _ _ _ c.index-calls-index.result h (search rules))
     (search rules) (search rules) refl (search rules))

@@ -10,4 +10,5 @@ invariant_of-self c = rising_written _ _ _ _ c.self.invariant (rw c.self.view_is
 
 -- a pair is put into the gap
 pub invariant_of-self-in-Err : goal.invariant_of-self-in-Err
-invariant_of-self-in-Err c = rw c.in_ok-insert-in-Err.ensures.items (rising_put _ _ _ _ c.self.invariant (rw c.self.view_is c.in-Err.ensures.absent))
+invariant_of-self-in-Err c = rw c.in_ok-insert-in-Err.ensures.items (rising_put _ _ _ _ c.self.invariant
+    (rw c.self.view_is c.in-Err.ensures.absent))

@@ -8,7 +8,8 @@ use Rattle.memo.proofs.TakingLemmas.{Contains-with_place}
 use Rattle.memo.proofs.config.Config.with.Goals as goal
 
 -- the pairs before and after
-changed : (c : goal.After-change) → (c.change.result + sum_by mix_pair c.self.inside.pairs.items) % 2 ^ 64 ≡ sum_by mix_pair c.in_ok-pairs.pairs.items % 2 ^ 64
+changed : (c : goal.After-change) → (c.change.result + sum_by mix_pair c.self.inside.pairs.items) % 2 ^ 64 ≡ sum_by mix_pair
+    c.in_ok-pairs.pairs.items % 2 ^ 64
 changed c =
     ap (λ (pairs : List (ℕ × ℕ)). (c.change.result + sum_by mix_pair pairs) % 2 ^ 64) (sym c.deref.ensures.value)
     ∙ c.change.ensures

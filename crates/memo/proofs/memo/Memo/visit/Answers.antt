@@ -10,7 +10,8 @@ use Rattle.memo.proofs.memo.Memo.visit.Goals as goal
 use Rattle.memo.proofs.memo.Memo.visit.Goals.{in-Ok, in-Err}
 
 -- the test tells whether a configuration is among those visited
-Decides-visited : (visited : List Configuration) (config : Configuration) → Decides (list_any (is_same config) visited) (Contains visited config)
+Decides-visited : (visited : List Configuration) (config : Configuration)
+    → Decides (list_any (is_same config) visited) (Contains visited config)
 Decides-visited visited config =
     (Contains-from_any (λ a b. (Decides-is_same a b).0) config visited, list_any-from_Contains is_same-equivalence config visited)
 
@@ -18,7 +19,8 @@ Decides-visited visited config =
 is_new : (visited : List Configuration) (config : Configuration) (new : Bool) → new ≡ not (list_any (is_same config) visited)
     → IsTrue new ↔ (Contains visited config → ⊥)
 is_new visited config new is =
-    Decides-at new (not (list_any (is_same config) visited)) is (Decides-not (list_any (is_same config) visited) (Decides-visited visited config))
+    Decides-at new (not (list_any (is_same config) visited)) is
+        (Decides-not (list_any (is_same config) visited) (Decides-visited visited config))
 
 pub returns-clause-new : goal.returns-clause-new
 returns-clause-new c = elim c.match-insert.branch [

@@ -23,7 +23,8 @@ returns-then-self-place c =
     let bit = Decides-at c.has_bit.result (bit_of words at == 1) is (Decides-eqb (bit_of words at) 1) in
     rw (← c.self.view_is) (
       (λ set. (Contains-places_of least words n).1 (inr (c.if-self-place.true, bit.0 set))),
-      (λ h. ⊎_elim (λ low. absurd (omega (arith, low, c.if-place-self.false))) (λ high. bit.1 high.1) ((Contains-places_of least words n).0 h)),
+      (λ h. ⊎_elim (λ low. absurd (omega (arith, low, c.if-place-self.false))) (λ high. bit.1 high.1)
+          ((Contains-places_of least words n).0 h)),
     )
 
 pub returns-else-self-place : goal.returns-else-self-place
@@ -33,6 +34,7 @@ returns-else-self-place c =
     let n = c.args.place in
     rw (← c.self.view_is) (
       (λ lt. absurd (omega (arith, (Decides-ltb least n).0 lt, c.if-self-place.false))),
-      (λ h. ⊎_elim (λ low. absurd (omega (arith, low, c.if-place-self.false))) (λ high. absurd (omega (arith, high.0, c.if-self-place.false)))
+      (λ h. ⊎_elim (λ low. absurd (omega (arith, low, c.if-place-self.false)))
+          (λ high. absurd (omega (arith, high.0, c.if-self-place.false)))
           ((Contains-places_of least words n).0 h)),
     )

@@ -29,7 +29,8 @@ returns-clause-history c =
       schedule = e.schedule;
       within = e.within;
       gives = e.gives;
-      is = is ∙ (ap (λ start. record { start = start; events = events_by_stamp c.in_ok-stamped.stamped.items }) c.new.ensures.items ∙ ap with_no_start same);
+      is = is ∙ (ap (λ start. record { start = start; events = events_by_stamp c.in_ok-stamped.stamped.items }) c.new.ensures.items
+          ∙ ap with_no_start same);
     }) c.history_by_stamp.ensures
 
 pub returns-clause-own_events : goal.returns-clause-own_events
@@ -42,16 +43,20 @@ returns-clause-own_events c =
     c.history_by_stamp.ensures
 
 pub returns-clause-moments : goal.returns-clause-moments
-returns-clause-moments c = scans-have-moments c.answered_scans_have_moments.ensures (opened_for c.args.self.now) (shows c.args.pass.now) (c.look.ensures.all c.requires.all)
+returns-clause-moments c = scans-have-moments c.answered_scans_have_moments.ensures (opened_for c.args.self.now) (shows c.args.pass.now)
+    (c.look.ensures.all c.requires.all)
 
 pub returns-in_err-stamped-clause-moments : goal.returns-in_err-stamped-clause-moments
-returns-in_err-stamped-clause-moments c = scans-have-moments c.answered_scans_have_moments.ensures (opened_for c.args.self.now) (shows c.args.pass.now) (c.look.ensures.all c.requires.all)
+returns-in_err-stamped-clause-moments c = scans-have-moments c.answered_scans_have_moments.ensures (opened_for c.args.self.now)
+    (shows c.args.pass.now) (c.look.ensures.all c.requires.all)
 
 pub returns-clause-gets : goal.returns-clause-gets
-returns-clause-gets c = gets-have-moments c.answered_gets_have_moments.ensures (opened_for c.args.self.now) (shows c.args.pass.now) (c.look.ensures.all c.requires.all)
+returns-clause-gets c = gets-have-moments c.answered_gets_have_moments.ensures (opened_for c.args.self.now) (shows c.args.pass.now)
+    (c.look.ensures.all c.requires.all)
 
 pub returns-in_err-stamped-clause-gets : goal.returns-in_err-stamped-clause-gets
-returns-in_err-stamped-clause-gets c = gets-have-moments c.answered_gets_have_moments.ensures (opened_for c.args.self.now) (shows c.args.pass.now) (c.look.ensures.all c.requires.all)
+returns-in_err-stamped-clause-gets c = gets-have-moments c.answered_gets_have_moments.ensures (opened_for c.args.self.now)
+    (shows c.args.pass.now) (c.look.ensures.all c.requires.all)
 
 pub returns-clause-linearizable : goal.returns-clause-linearizable
 returns-clause-linearizable c =
@@ -59,6 +64,8 @@ returns-clause-linearizable c =
     let same = ap events_by_stamp (c.in_ok-stamped.ensures ∙ ap (flat_map (λ (r : Run). r.1.log.items)) c.deref.ensures.value)
     ∙ sym (logged-history c.args.pass.now.setup e.words (shows c.args.pass.now) c.args.pass.now.runners.items c.requires.own.pass.fit) in
     IfOk-weaker c.history_by_stamp.result _ _ (λ (found : HistoryView) is.
-    is-linearizable c.coupled_is_linearizable.ensures c.optimistic_is_linearizable.ensures (opened_for c.args.self.now) (shows c.args.pass.now) e found
-    (is ∙ (ap (λ start. record { start = start; events = events_by_stamp c.in_ok-stamped.stamped.items }) c.new.ensures.items ∙ ap with_no_start same)))
+    is-linearizable c.coupled_is_linearizable.ensures c.optimistic_is_linearizable.ensures (opened_for c.args.self.now)
+        (shows c.args.pass.now) e found
+    (is ∙ (ap (λ start. record { start = start; events = events_by_stamp c.in_ok-stamped.stamped.items }) c.new.ensures.items
+        ∙ ap with_no_start same)))
     c.history_by_stamp.ensures

@@ -6,7 +6,8 @@ use Rattle.segments.proofs.BelongingLemmas.{BelongsAt-below}
 use Rattle.segments.proofs.segment.Segment.whole.Goals as goal
 
 pub numbers_that_belong-requires : goal.numbers_that_belong-requires
-numbers_that_belong-requires c = rw c.calls.ensures.calls (let few = length-operations_le c.args.history.now.events c.calls.ensures.history.events in omega
+numbers_that_belong-requires c = rw c.calls.ensures.calls (let few = length-operations_le c.args.history.now.events
+    c.calls.ensures.history.events in omega
     arith)
 
 pub of-requires-clause-known : goal.of-requires-clause-known
