@@ -7,7 +7,7 @@ use Rattle.art_steps.specs.declared.variant.Variant.TheVariants as variants
 use Rattle.command_line.specs.declared.line.Tree.{Tree}
 use Rattle.command_line.specs.declared.line.Tree.TheVariants as trees
 use Rattle.command_line.specs.declared.line.Line.{Line}
-use Rattle.command_line.specs.declared.line.Line.TheVariants.{Check, Judge, Locate, Draw, Generate, Replay, Drive}
+use Rattle.command_line.specs.declared.line.Line.TheVariants.{Check, Judge, Locate, Draw, Follow, Generate, Replay, Drive}
 use Rattle.command_line.specs.declared.fault.LineFault.{LineFault}
 use Rattle.command_line.specs.declared.fault.LineFault.TheVariants as line_faults
 use Rattle.command_line.specs.Lines.{IsLineOf}
@@ -19,6 +19,7 @@ use Rattle.outcomes.specs.Ends.{Change, IsUnused, IsSound}
 use Rattle.history_engines.specs.Outcomes.{IsCheckOutcome, IsJudgeOutcome}
 use Rattle.history_engines.specs.LocateOutcomes.{IsLocateOutcome}
 use Rattle.picture_engines.specs.Outcomes.{IsDrawOutcome}
+use Rattle.stream_engines.specs.Outcomes.{IsFollowOutcome}
 use Rattle.plan_engines.specs.Outcomes.{IsDriveOutcome, IsGenerateOutcome, IsReplayOutcome, IsTreeDriveOutcome}
 
 -- the variant of a tree on shared words; the map under a lock is none
@@ -42,6 +43,7 @@ IsLineOutcome (Check order) source outcome = IsCheckOutcome order.items source o
 IsLineOutcome (Judge budget workers) source outcome = IsJudgeOutcome budget source outcome
 IsLineOutcome (Locate budget workers) source outcome = IsLocateOutcome budget source outcome
 IsLineOutcome (Draw budget workers) source outcome = IsDrawOutcome budget source outcome
+IsLineOutcome (Follow budget) source outcome = IsFollowOutcome budget source outcome
 IsLineOutcome (Generate seed processes calls get insert remove scan lo hi) source outcome = IsUnused source
     × IsGenerateOutcome seed (record { get = get; insert = insert; remove = remove; scan = scan; lo = lo; hi = hi }) processes calls outcome
 IsLineOutcome Replay source outcome = IsReplayOutcome source outcome

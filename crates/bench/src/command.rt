@@ -17,6 +17,7 @@ use pool::Gate;
 use std::alloc::{AllocError, Global};
 use std::sync::Wait;
 use std::thread::Threads;
+use stream_engines::run_follow;
 use streams::{Sink, Source};
 use workload::Mix;
 
@@ -66,6 +67,7 @@ pub fn run<R: Threads + Wait + Sync, S: Source, O: Sink, F: Sink, G: Gate + Sync
         Line::Draw { budget, workers } => {
             run_draw(rt, alloc, source, output, faults, budget, workers, gate)
         }
+        Line::Follow { budget } => run_follow(alloc, source, output, faults, budget),
         Line::Generate {
             seed,
             processes,

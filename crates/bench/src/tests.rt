@@ -3,6 +3,7 @@ mod checking;
 mod drawing_plans;
 mod driving;
 mod failing_ends;
+mod following;
 mod judging;
 mod refused_words;
 mod two_workers;

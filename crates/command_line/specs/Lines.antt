@@ -14,7 +14,7 @@ use Rattle.command_line.specs.Trees.{name_of, place_of}
 use Rattle.command_line.specs.Words.{AreOptionsOf, Given, value_given}
 use Rattle.command_line.specs.Words.{option_words as words_of}
 use Rattle.command_line.specs.declared.line.Line.{Line}
-use Rattle.command_line.specs.declared.line.Line.TheVariants.{Check, Judge, Locate, Draw, Generate, Replay, Drive}
+use Rattle.command_line.specs.declared.line.Line.TheVariants.{Check, Judge, Locate, Draw, Follow, Generate, Replay, Drive}
 use Rattle.command_line.specs.declared.line.Tree.{Tree}
 use Rattle.command_line.specs.declared.line.Tree.TheVariants.{Optimistic}
 
@@ -27,6 +27,7 @@ asked_by (Locate budget workers) =
     record { name = codes "locate"; numbers = budget ∷ workers ∷ []; calls = [] }
 asked_by (Draw budget workers) =
     record { name = codes "draw"; numbers = budget ∷ workers ∷ []; calls = [] }
+asked_by (Follow budget) = record { name = codes "follow"; numbers = budget ∷ []; calls = [] }
 asked_by (Generate seed processes calls get insert remove scan lo hi) = record {
   name = codes "generate";
   numbers = seed ∷ processes ∷ calls ∷ get ∷ insert ∷ remove ∷ scan ∷ lo ∷ hi ∷ [];
@@ -52,6 +53,7 @@ IsWithinLimits (Locate budget workers) =
     (1 ≤ budget) × (budget ≤ budget_limit) × (1 ≤ workers) × (workers ≤ workers_limit)
 IsWithinLimits (Draw budget workers) =
     (1 ≤ budget) × (budget ≤ budget_limit) × (1 ≤ workers) × (workers ≤ workers_limit)
+IsWithinLimits (Follow budget) = (1 ≤ budget) × (budget ≤ budget_limit)
 IsWithinLimits (Generate seed processes calls get insert remove scan lo hi) = ⊤
 IsWithinLimits Replay = ⊤
 IsWithinLimits (Drive tree rows4 rows16 rows48 rows256 limit) = (rows4 ≤ rows4_limit)

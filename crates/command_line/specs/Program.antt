@@ -40,6 +40,10 @@ locate_usage = search_usage (codes "locate")
 abbrev pub draw_usage : Usage
 draw_usage = search_usage (codes "draw")
 
+-- `follow [--budget N]`
+abbrev pub follow_usage : Usage
+follow_usage = record { name = codes "follow"; flags = number_flag (codes "budget") 1 budget_limit budget_default ∷ []; takes_calls = false }
+
 -- `--NAME N`, which may not be left out, with any number up to the greatest
 abbrev pub required_flag : Text → ℕ → Flag
 required_flag name greatest = record { name = name; values = within 0 greatest; default = None }
@@ -82,7 +86,7 @@ drive_usage = record {
 
 -- the subcommands of the program
 abbrev pub bench_table : List Usage
-bench_table = check_usage ∷ judge_usage ∷ locate_usage ∷ draw_usage ∷ generate_usage ∷ replay_usage ∷ drive_usage ∷ []
+bench_table = check_usage ∷ judge_usage ∷ locate_usage ∷ draw_usage ∷ follow_usage ∷ generate_usage ∷ replay_usage ∷ drive_usage ∷ []
 
 -- the program, as `clap` reads it
 unfoldable pub bench_app : App

@@ -23,6 +23,11 @@ pub enum Line {
         budget: u32,
         workers: u32,
     },
+    /// Whether the stream of events on standard input is linearizable, judged as it comes: a search meets at most `budget`
+    /// configurations of a group, within the limits of `Judge`.
+    Follow {
+        budget: u32,
+    },
     /// The text of the plan that is drawn from this seed: so many processes, with so many calls each.
     /// Of a hundred calls `get`, `insert`, `remove` and `scan` are of these kinds, and their keys are
     /// from `lo` to `hi`.

@@ -33,16 +33,18 @@ macro_rules! required_option {
     };
 }
 
+// The budget of a search.
+macro_rules! budget_option {
+    ($help:literal) => {
+        number_option!("budget", $help, 1 to 1000000, default 100000)
+    };
+}
+
 // The options of a search.
 macro_rules! search_options {
     () => {
         &[
-            number_option!(
-                "budget",
-                "How many configurations of each segment are searched at most",
-                1 to 1000000,
-                default 100000
-            ),
+            budget_option!("How many configurations of each segment are searched at most"),
             number_option!(
                 "workers",
                 "How many workers search the segments side by side",
@@ -54,7 +56,7 @@ macro_rules! search_options {
 }
 
 /// The subcommands of the program.
-pub(crate) static SUBCOMMANDS: [Subcommand<'static>; 7] = [
+pub(crate) static SUBCOMMANDS: [Subcommand<'static>; 8] = [
     Subcommand {
         name: "check",
         about: "Tells whether calls, in this order, are an order of the history on standard input",
@@ -77,6 +79,14 @@ pub(crate) static SUBCOMMANDS: [Subcommand<'static>; 7] = [
         name: "draw",
         about: "Draws the verdict on the history on standard input, as one SVG",
         options: search_options!(),
+        takes_calls: false,
+    },
+    Subcommand {
+        name: "follow",
+        about: "Tells as they come whether the events on standard input, one a line, are linearizable",
+        options: &[budget_option!(
+            "How many configurations of each group of calls are searched at most"
+        )],
         takes_calls: false,
     },
     Subcommand {

@@ -94,6 +94,9 @@ fn line_of(request: Request<'_>) -> Line
             budget: request.number(0),
             workers: request.number(1),
         },
+        "follow" => Line::Follow {
+            budget: request.number(0),
+        },
         "generate" => Line::Generate {
             seed: request.wide_number(0),
             processes: request.number(1),

@@ -2,7 +2,7 @@ use crate::{Line, LineFault, Tree, read_line};
 use std::test::Fail;
 
 // Words that are no line, and how the text that the user is shown begins.
-static FAULTS: [(&[&str], &str); 29] = [
+static FAULTS: [(&[&str], &str); 30] = [
     (
         &["bench"],
         "error: 'bench' requires a subcommand but one was not provided",
@@ -34,6 +34,10 @@ static FAULTS: [(&[&str], &str); 29] = [
     (
         &["bench", "draw", "--seed", "1"],
         "error: unexpected argument '--seed' found",
+    ),
+    (
+        &["bench", "follow", "--workers", "2"],
+        "error: unexpected argument '--workers' found",
     ),
     (
         &["bench", "judge", "--budget"],
@@ -226,6 +230,20 @@ fn asks_for_a_picture(rt: HostRuntime) -> Result<(), Fail> {
             assert_eq!(rt; workers, 1);
         }
         other => assert!(rt; false, "{other:?}"),
+    }
+    Ok(())
+}
+
+#[test]
+fn asks_for_a_stream(rt: HostRuntime) -> Result<(), Fail> {
+    for (words, want) in [
+        (&["bench", "follow"][..], 100000),
+        (&["bench", "follow", "--budget", "7"][..], 7),
+    ] {
+        match read_line(rt.alloc(), words)? {
+            Line::Follow { budget } => assert_eq!(rt; budget, want),
+            other => assert!(rt; false, "{other:?}"),
+        }
     }
     Ok(())
 }

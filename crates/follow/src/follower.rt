@@ -66,6 +66,13 @@ impl Follower {
         self.standing.left().len()
     }
 
+    /// How many calls were invoked.
+    pub fn calls(&self) -> usize
+        ensures { result ≡ self.now.calls }
+    {
+        self.standing.calls()
+    }
+
     /// Takes an invocation, in time in proportion to the calls left. Otherwise nothing changes, and the fault is the first of
     /// these: `Shape` where the call's first key is above its last, `NotWellFormed` where the process has an open call, `TooMany`
     /// after 2^64 - 1 events, or `Memory`.

@@ -71,6 +71,13 @@ impl Standing {
         self.events
     }
 
+    /// How many calls were taken.
+    pub(crate) fn calls(&self) -> usize
+        ensures { result ≡ self.now.calls }
+    {
+        self.calls
+    }
+
     /// Takes a call that begins. Nothing changes where memory is wanting.
     pub(crate) fn take_call(&mut self, process: u16, call: Call) -> Result<(), Memory>
         requires room { self.old.events < 2 ^ 64 - 1 }

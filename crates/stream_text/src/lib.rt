@@ -19,9 +19,10 @@ mod write_line;
 pub use event::{FirstLine, StreamEvent};
 pub use laws::{lines_one_by_one, one_event_line, one_line_fault};
 pub use line_fault::LineFault;
-pub use line_reader::LineReader;
+pub use line_reader::{LineReader, next_line};
 pub use no_line::NoLine;
 pub use read_line::{read_event_line, read_first_line};
+pub use window::Window;
 pub use write_line::event_line;
 
 /// The most bytes that a line has, without the line feed that ends it.

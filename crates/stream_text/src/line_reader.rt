@@ -70,8 +70,9 @@ impl<S: Source> LineReader<S> {
     }
 }
 
-/// Hands out the next line of a source, of which a beginning was read.
-fn next_line<S: Source>(window: &mut Window, source: &mut S) -> Result<bool, NoLine>
+/// Hands out the next line of a source, of which a beginning was read into the window: what `LineReader::advance` does, for a source
+/// that is borrowed.
+pub fn next_line<S: Source>(window: &mut Window, source: &mut S) -> Result<bool, NoLine>
     requires { S.failures source.old < u64.MAX }
     ensures line { IfOk result (λ found. Advances found
         (prepend_known window.old.bytes (S.remaining source.old)) window.new.line

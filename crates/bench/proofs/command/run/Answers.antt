@@ -3,6 +3,7 @@ use Rattle.clap.specs.Walk.{texts}
 use Rattle.history_engines.specs.Answers.{IsCheckAnswer, IsHistoryRefusal, IsJudgeAnswer}
 use Rattle.history_engines.specs.LocateAnswers.{IsLocateAnswer}
 use Rattle.picture_engines.specs.Drawings.{IsDrawAnswer}
+use Rattle.stream_engines.specs.Answers.{IsFollowAnswer, IsStreamRefusal}
 use Rattle.plan_engines.specs.Answers.{IsReplayAnswer, IsReplayRefusal}
 use Rattle.plan_engines.specs.Drives.{IsDriveAnswer, IsDriveRefusal}
 use Rattle.outcomes.specs.Ends.{change}
@@ -51,6 +52,17 @@ returns-in-Draw-clause-run g c = record {
           c.in-Draw.is comes })
       c.run_draw.ensures.comes;
   leaves = c.run_draw.ensures.leaves;
+}
+
+pub returns-in-Follow-clause-run : goal.returns-in-Follow-clause-run
+returns-in-Follow-clause-run g c = record {
+  outcome = c.run_follow.ensures.outcome;
+  comes = read-words (IsFollowAnswer c.in-Follow.budget) IsStreamRefusal (texts c.args.words.now)
+      (change g.S.Source.remaining g.S.Source.failures c.args.source.now c.run_follow.new.source) c.run_follow.ensures.outcome
+      (λ comes. record { line = c.in-Ok.line; accepted = c.in-Ok.ensures.accepted; asked = c.in-Ok.ensures.line; comes = rw
+          c.in-Follow.is comes })
+      c.run_follow.ensures.comes;
+  leaves = c.run_follow.ensures.leaves;
 }
 
 pub returns-in-Generate-clause-run : goal.returns-in-Generate-clause-run

@@ -1,0 +1,131 @@
+-- What an answer that was judged comes to, and the end of the lines.
+use Rattle.std.proofs.Common.{◌≡◌, ℕ, Bool, List, [], ◌∷◌, ◌++◌, length, codes, Option, Some, None, refl, sym, ap, ◌∙◌, subst, append-nil}
+use Rattle.std.proofs.Common.{string_bytes}
+use Rattle.serde_json.specs.Written.{compact_text}
+use Rattle.events.specs.declared.event.Reply.{Reply}
+use Rattle.events.specs.declared.event.Event.{Event}
+use Rattle.events.specs.declared.event.Event.TheVariants.{Answer}
+use Rattle.events.specs.Operations.{operations}
+use Rattle.orders.specs.Orders.{IsLinearizable}
+use Rattle.prefixes.specs.Prefixes.{GoesWrongAt}
+use Rattle.map_object.specs.MapObject.{Contents}
+use Rattle.stream_text.specs.Cuts.{lines_of}
+use Rattle.stream_text.specs.Lines.{SpellsEvent}
+use Rattle.follow.specs.declared.answered.Loss.{Loss}
+use Rattle.follow.specs.declared.answered.Answered.{Answered as Judged}
+use Rattle.follow.specs.declared.answered.Answered.TheVariants as judged
+use Rattle.follow.specs.Outcomes.{IsTakenAs}
+use Rattle.outcomes.specs.declared.outcome.Answer as answers
+use Rattle.outcomes.specs.declared.outcome.Answer.TheVariants.{Yes, No, Undecided}
+use Rattle.outcomes.specs.declared.outcome.Outcome.{Outcome}
+use Rattle.outcomes.specs.declared.outcome.Outcome.TheVariants.{Answered, Refused, Memory, Words, Failed}
+use Rattle.outcomes.specs.Lines.{line}
+use Rattle.stream_engines.specs.declared.followed.Followed.{Followed}
+use Rattle.stream_engines.specs.Followed.{IsFollowed}
+use Rattle.stream_engines.specs.StreamTexts.{SpellStream, BeginsWith}
+use Rattle.stream_engines.specs.Overlaps.{overlap_of}
+use Rattle.stream_engines.specs.Reports.{yes_data, loss_data}
+use Rattle.stream_engines.specs.Reading.{AreLinesOf}
+use Rattle.stream_engines.specs.Leaves.{IsAnsweredBy, IsLostOutcome}
+use Rattle.stream_engines.specs.Answers.{IsWholeAnswer, IsJudgedAnswer, GoesWrongHere, IsFollowAnswer}
+use Rattle.stream_engines.specs.Outcomes.{IsStreamOutcome}
+use Rattle.stream_engines.proofs.RefusalLemmas.{next_of}
+
+-- the answer of the next line, as it was judged
+judged_of : (budget : ℕ) (text : List ℕ) (read rest : List (List ℕ)) (next : List ℕ) (f : Followed) (process : ℕ) (reply : Reply)
+    (what : Loss → Judged) (loss : Loss)
+    (followed : IsFollowed read f) → SpellsEvent f.has_start next (Answer process reply) → lines_of text ≡ (read ++ next ∷ []) ++ rest
+    → IsTakenAs followed.stream.start followed.stream.events f.follower process reply budget (what loss)
+    → IsJudgedAnswer budget (lines_of text) what loss
+judged_of budget text read rest next f process reply what loss followed spelled parts taken = record {
+  stream = followed.stream;
+  has_start = f.has_start;
+  read = read;
+  next = next;
+  rest = rest;
+  parts = next_of text read rest next parts;
+  spelled = followed.spelled;
+  well_formed = followed.follows.well_formed;
+  linearizable = followed.follows.linearizable;
+  process = process;
+  reply = reply;
+  answer = spelled;
+  follower = f.follower;
+  follows = followed.follows;
+  taken = taken;
+}
+
+-- the events go wrong, whatever comes behind the answer
+abbrev WrongWith : Contents → List Event → ℕ → Reply → Loss → Type 0
+WrongWith start events process reply loss = (more : List Event) → let all = events ++ Answer process reply ∷ more in
+    (IsLinearizable start (operations all) → ⊥) × GoesWrongAt (record { start = start; events = all }) loss.number loss.event
+
+wrong_of : (budget : ℕ) (text : List ℕ) (read rest : List (List ℕ)) (next : List ℕ) (f : Followed) (process : ℕ)
+    (reply : Reply) (loss : Loss)
+    (followed : IsFollowed read f) → SpellsEvent f.has_start next (Answer process reply) → lines_of text ≡ (read ++ next ∷ []) ++ rest
+    → IsTakenAs followed.stream.start followed.stream.events f.follower process reply budget (judged.Lost loss)
+    → GoesWrongHere budget (lines_of text) loss
+unfolding judged_of
+wrong_of budget text read rest next f process reply loss followed spelled parts taken = record {
+  judged = judged_of budget text read rest next f process reply judged.Lost loss followed spelled parts taken;
+  place = taken.judged.at.event ∙ followed.follows.places;
+  wrong = subst (λ (p : ℕ). WrongWith followed.stream.start followed.stream.events p reply loss) taken.is_open.0 taken.judged.wrong;
+}
+
+pub lost_at : (budget : ℕ) (told : Option (List ℕ)) (read : List (List ℕ)) (next : List ℕ) (f : Followed) (process : ℕ)
+    (reply : Reply) (loss : Loss)
+    (outcome : Outcome) (followed : IsFollowed read f) → SpellsEvent f.has_start next (Answer process reply)
+        → BeginsWith told (read ++ next ∷ [])
+    → IsTakenAs followed.stream.start followed.stream.events f.follower process reply budget (judged.Lost loss)
+    → IsLostOutcome loss outcome → IsStreamOutcome budget told outcome
+lost_at budget told read next f process reply loss Memory followed spelled begins taken is = tt
+lost_at budget told read next f process reply loss (Refused bytes) followed spelled begins taken is = absurd is
+lost_at budget told read next f process reply loss (Words bytes) followed spelled begins taken is = absurd is
+lost_at budget told read next f process reply loss Failed followed spelled begins taken is = absurd is
+lost_at budget None read next f process reply loss (Answered answer bytes) followed spelled begins taken is = tt
+lost_at budget (Some text) read next f process reply loss (Answered answer bytes) followed spelled begins taken is =
+    subst (λ (a : answers.Answer). IsFollowAnswer budget text a (string_bytes bytes)) (sym is.0)
+    (loss, wrong_of budget text read begins.0 next f process reply loss followed spelled begins.1 taken, is.1.0, is.1.1, is.1.2)
+
+pub spent_at : (budget : ℕ) (told : Option (List ℕ)) (read : List (List ℕ)) (next : List ℕ) (f : Followed) (process : ℕ)
+    (reply : Reply) (loss : Loss)
+    (outcome : Outcome) (followed : IsFollowed read f) → SpellsEvent f.has_start next (Answer process reply)
+        → BeginsWith told (read ++ next ∷ [])
+    → IsTakenAs followed.stream.start followed.stream.events f.follower process reply budget (judged.Spent loss)
+    → IsAnsweredBy Undecided (line (compact_text (loss_data loss (codes "undecided")))) outcome → IsStreamOutcome budget told outcome
+spent_at budget told read next f process reply loss Memory followed spelled begins taken is = tt
+spent_at budget told read next f process reply loss (Refused bytes) followed spelled begins taken is = absurd is
+spent_at budget told read next f process reply loss (Words bytes) followed spelled begins taken is = absurd is
+spent_at budget told read next f process reply loss Failed followed spelled begins taken is = absurd is
+spent_at budget None read next f process reply loss (Answered answer bytes) followed spelled begins taken is = tt
+spent_at budget (Some text) read next f process reply loss (Answered answer bytes) followed spelled begins taken is =
+    subst (λ (a : answers.Answer). IsFollowAnswer budget text a (string_bytes bytes)) (sym is.0)
+    (loss, judged_of budget text read begins.0 next f process reply judged.Spent loss followed spelled begins.1 taken, is.1)
+
+-- all lines were read
+whole_of : (text : List ℕ) (read : List (List ℕ)) (f : Followed) (bytes : List ℕ) (followed : IsFollowed read f) → lines_of text ≡ read
+    → bytes ≡ line (compact_text (yes_data (length (operations followed.stream.events)) (overlap_of followed.stream.events)))
+    → IsWholeAnswer (lines_of text) bytes
+whole_of text read f bytes followed lines is = record {
+  stream = followed.stream;
+  has_start = f.has_start;
+  spelled = subst (λ (ls : List (List ℕ)). SpellStream f.has_start ls followed.stream) (sym lines) followed.spelled;
+  well_formed = followed.follows.well_formed;
+  linearizable = followed.follows.linearizable;
+  bytes_are = is;
+}
+
+pub whole_at : (budget : ℕ) (told : Option (List ℕ)) (read : List (List ℕ)) (f : Followed) (calls overlap : ℕ) (outcome : Outcome)
+    (followed : IsFollowed read f) → AreLinesOf told read → calls ≡ length (operations followed.stream.events)
+        → overlap ≡ overlap_of followed.stream.events
+    → IsAnsweredBy Yes (line (compact_text (yes_data calls overlap))) outcome → IsStreamOutcome budget told outcome
+whole_at budget told read f calls overlap Memory followed lines count many is = tt
+whole_at budget told read f calls overlap (Refused bytes) followed lines count many is = absurd is
+whole_at budget told read f calls overlap (Words bytes) followed lines count many is = absurd is
+whole_at budget told read f calls overlap Failed followed lines count many is = absurd is
+whole_at budget None read f calls overlap (Answered answer bytes) followed lines count many is = tt
+whole_at budget (Some text) read f calls overlap (Answered answer bytes) followed lines count many is =
+    subst (λ (a : answers.Answer). IsFollowAnswer budget text a (string_bytes bytes)) (sym is.0)
+    (whole_of text read f (string_bytes bytes) followed lines
+    (is.1 ∙ (ap (λ (n : ℕ). line (compact_text (yes_data n overlap))) count
+    ∙ ap (λ (n : ℕ). line (compact_text (yes_data (length (operations followed.stream.events)) n))) many)))

@@ -1,0 +1,9 @@
+mod AlikeLemmas
+mod SmallLemmas
+mod StreamLemmas
+mod OverlapLemmas
+mod FirstLemmas
+mod FollowedLemmas
+mod RefusalLemmas
+mod JudgedLemmas
+mod ReadingLemmas

@@ -1,0 +1,111 @@
+-- What a refused line comes to.
+use Rattle.stream_text.specs.declared.line_fault.LineFault.TheVariants as faults
+use Rattle.follow.specs.declared.fault.FollowFault.TheVariants as turns
+use Rattle.std.proofs.Common.{◌≡◌, ◌≢◌, ℕ, ◌+◌, ◌<◌, Bool, true, false, List, [], ◌∷◌, ◌++◌, length, Option, Some, None, refl, sym, ap, ◌∙◌}
+use Rattle.std.proofs.Common.{subst, inl, inr, append_assoc, arith, string_bytes}
+use Rattle.events.specs.declared.event.Event.{Event}
+use Rattle.stream_text.specs.declared.line_fault.LineFault.{LineFault}
+use Rattle.stream_text.specs.Cuts.{lines_of}
+use Rattle.stream_text.specs.Lines.{SpellsEvent}
+use Rattle.stream_text.specs.LineFaults.{IsEventLineFault}
+use Rattle.follow.specs.declared.fault.FollowFault.{FollowFault}
+use Rattle.follow.specs.Faults.{shown}
+use Rattle.outcomes.specs.declared.outcome.Outcome.{Outcome}
+use Rattle.outcomes.specs.declared.outcome.Outcome.TheVariants.{Answered, Refused, Memory, Words, Failed}
+use Rattle.stream_engines.specs.declared.followed.Followed.{Followed}
+use Rattle.stream_engines.specs.Followed.{IsFollowed}
+use Rattle.stream_engines.specs.StreamTexts.{BeginsWith}
+use Rattle.stream_engines.specs.Refusals.{line_fault_name, turn_fault_name, turn_fault, stream_fault_line, IsLineFaultAfter, StopsFor}
+use Rattle.stream_engines.specs.Answers.{IsStreamRefusal}
+use Rattle.stream_engines.specs.Leaves.{IsLineRefusal, IsTurnRefusal}
+use Rattle.stream_engines.specs.Outcomes.{IsStreamOutcome}
+
+-- a text that begins with lines that are followed, and stops behind them
+pub refusal_of : (text : List ℕ) (read more : List (List ℕ)) (f : Followed) (name bytes : List ℕ) (followed : IsFollowed read f)
+    → lines_of text ≡ read ++ more
+    → StopsFor read f.has_start followed.stream.events more name → bytes ≡ stream_fault_line (length read + 1) name
+    → IsStreamRefusal text bytes
+refusal_of text read more f name bytes followed parts stops is = record {
+  stream = followed.stream;
+  has_start = f.has_start;
+  read = read;
+  more = more;
+  parts = parts;
+  spelled = followed.spelled;
+  well_formed = followed.follows.well_formed;
+  linearizable = followed.follows.linearizable;
+  name = name;
+  stops = stops;
+  bytes_are = is;
+}
+
+-- the line behind some, and those behind it
+pub next_of : (text : List ℕ) (read rest : List (List ℕ)) (line : List ℕ) → lines_of text ≡ (read ++ line ∷ []) ++ rest
+    → lines_of text ≡ read ++ line ∷ rest
+next_of text read rest line h = h ∙ append_assoc read (line ∷ []) rest
+
+numbered : (count number : ℕ) (name bytes : List ℕ) → count ≡ number → bytes ≡ stream_fault_line number name
+    → bytes ≡ stream_fault_line count name
+numbered count number name bytes same is = is ∙ ap (λ (n : ℕ). stream_fault_line n name) (sym same)
+
+-- the next line has a fault
+pub refused_at : (budget : ℕ) (told : Option (List ℕ)) (read : List (List ℕ)) (line : List ℕ) (f : Followed) (number : ℕ)
+    (fault : LineFault) (outcome : Outcome)
+    → IsFollowed read f → length read + 1 ≡ number → IsLineFaultAfter read f.has_start line fault → BeginsWith told (read ++ line ∷ [])
+    → IsLineRefusal number fault outcome → IsStreamOutcome budget told outcome
+refused_at budget told read line f number fault Memory followed count wrong begins is = tt
+refused_at budget told read line f number fault (Answered answer bytes) followed count wrong begins is = absurd is
+refused_at budget told read line f number fault (Words bytes) followed count wrong begins is = absurd is
+refused_at budget told read line f number fault Failed followed count wrong begins is = absurd is
+refused_at budget None read line f number fault (Refused bytes) followed count wrong begins is = tt
+refused_at budget (Some text) read line f number fault (Refused bytes) followed count wrong begins is =
+    refusal_of text read (line ∷ begins.0) f (line_fault_name fault) (string_bytes bytes) followed
+        (next_of text read begins.0 line begins.1)
+    (inl (record {
+      next = line;
+      rest = begins.0;
+      parts = refl;
+      fault = fault;
+      is_fault = wrong;
+      not_memory = is.0;
+      name_is = refl;
+    })) (numbered (length read + 1) number (line_fault_name fault) (string_bytes bytes) count is.1)
+
+-- the event of the next line is out of its turn
+pub refused_turn : (budget : ℕ) (told : Option (List ℕ)) (read : List (List ℕ)) (line : List ℕ) (f : Followed) (number : ℕ) (e : Event)
+    (fault : FollowFault)
+    (outcome : Outcome) (followed : IsFollowed read f) → length read + 1 ≡ number → SpellsEvent f.has_start line e
+    → (fault ≢ turns.Memory → turn_fault followed.stream.events e ≡ Some fault)
+    → BeginsWith told (read ++ line ∷ []) → IsTurnRefusal number fault outcome → IsStreamOutcome budget told outcome
+refused_turn budget told read line f number e fault Memory followed count spelled wrong begins is = tt
+refused_turn budget told read line f number e fault (Answered answer bytes) followed count spelled wrong begins is = absurd is
+refused_turn budget told read line f number e fault (Words bytes) followed count spelled wrong begins is = absurd is
+refused_turn budget told read line f number e fault Failed followed count spelled wrong begins is = absurd is
+refused_turn budget None read line f number e fault (Refused bytes) followed count spelled wrong begins is = tt
+refused_turn budget (Some text) read line f number e fault (Refused bytes) followed count spelled wrong begins is =
+    refusal_of text read (line ∷ begins.0) f (turn_fault_name fault) (string_bytes bytes) followed
+        (next_of text read begins.0 line begins.1)
+    (inr (inl (record {
+      next = line;
+      rest = begins.0;
+      parts = refl;
+      event = e;
+      spelled = spelled;
+      fault = fault;
+      is_fault = wrong is.0;
+      name_is = refl;
+    }))) (numbered (length read + 1) number (turn_fault_name fault) (string_bytes bytes) count is.1)
+
+-- what an error shows of an event, unless memory was wanting
+pub shown_some : (fault : FollowFault) (seen : Option FollowFault) → seen ≡ shown fault → fault ≢ turns.Memory → seen ≡ Some fault
+shown_some turns.Shape seen is other = is
+shown_some turns.NotWellFormed seen is other = is
+shown_some turns.TooMany seen is other = is
+shown_some turns.Memory seen is other = absurd (other refl)
+
+-- a line after others
+pub later_fault : (read : List (List ℕ)) (has_start : Bool) (line : List ℕ) (fault : LineFault) → 0 < length read
+    → IsEventLineFault has_start line fault
+    → IsLineFaultAfter read has_start line fault
+later_fault [] has_start line fault some wrong = absurd (omega arith)
+later_fault (first ∷ read) has_start line fault some wrong = wrong

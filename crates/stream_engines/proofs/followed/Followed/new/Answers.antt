@@ -1,0 +1,11 @@
+use Rattle.std.proofs.Common.{[], refl}
+use Rattle.stream_engines.proofs.followed.Followed.new.Goals as goal
+
+pub returns : goal.returns
+returns c = record {
+  stream = record { start = []; events = [] };
+  spelled = (refl, tt);
+  follows = c.in_ok-follower.ensures.follows;
+  pending = refl;
+  overlap = refl;
+}

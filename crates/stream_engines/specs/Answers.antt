@@ -1,0 +1,108 @@
+-- What the program answers to the lines of a stream.
+use Rattle.std.specs.Prelude.{◌≡◌, ◌⊎◌, ℕ, ◌+◌, Bool, List, [], ◌∷◌, ◌++◌, length, codes}
+use Rattle.serde_json.specs.Written.{compact_text}
+use Rattle.events.specs.HistoryView.{HistoryView}
+use Rattle.events.specs.declared.event.Reply.{Reply}
+use Rattle.events.specs.declared.event.Event.{Event}
+use Rattle.events.specs.declared.event.Event.TheVariants.{Answer}
+use Rattle.events.specs.Events.{IsWellFormed}
+use Rattle.events.specs.Histories.{IsHistory}
+use Rattle.events.specs.Operations.{operations}
+use Rattle.orders.specs.Orders.{IsLinearizable}
+use Rattle.quiet_cuts.specs.Groups.{AreAlike}
+use Rattle.prefixes.specs.Prefixes.{GoesWrongAt}
+use Rattle.history_text.specs.Texts.{Spells}
+use Rattle.stream_text.specs.Cuts.{lines_of}
+use Rattle.stream_text.specs.Lines.{SpellsEvent}
+use Rattle.follow.specs.FollowerView.{FollowerView}
+use Rattle.follow.specs.Following.{IsFollowing}
+use Rattle.follow.specs.Outcomes.{IsTakenAs}
+use Rattle.follow.specs.declared.answered.Loss.{Loss}
+use Rattle.follow.specs.declared.answered.Answered.{Answered}
+use Rattle.follow.specs.declared.answered.Answered.TheVariants.{Lost, Spent}
+use Rattle.outcomes.specs.declared.outcome.Answer as outcomes
+use Rattle.outcomes.specs.declared.outcome.Answer.TheVariants as verdicts
+use Rattle.outcomes.specs.Lines.{line}
+use Rattle.stream_engines.specs.StreamTexts.{SpellStream}
+use Rattle.stream_engines.specs.Overlaps.{overlap_of}
+use Rattle.stream_engines.specs.Refusals.{stream_fault_line, StopsFor}
+use Rattle.stream_engines.specs.Reports.{yes_data, loss_data}
+
+-- all lines spell a stream, whose events have an order
+pub record IsWholeAnswer (lines : List (List ℕ)) (bytes : List ℕ) : Type 0 where
+  pub stream : HistoryView
+  pub has_start : Bool
+  pub spelled : SpellStream has_start lines stream
+  pub well_formed : IsWellFormed stream.events
+  pub linearizable : IsLinearizable stream.start (operations stream.events)
+  pub bytes_are : bytes ≡ line (compact_text (yes_data (length (operations stream.events)) (overlap_of stream.events)))
+
+-- the lines begin with those of a stream whose events have an order, and then comes an answer that was judged, from where a follower
+-- of these events stood
+pub record IsJudgedAnswer (budget : ℕ) (lines : List (List ℕ)) (what : Loss → Answered) (loss : Loss) : Type 0 where
+  pub stream : HistoryView
+  pub has_start : Bool
+  pub read : List (List ℕ)
+  pub next : List ℕ
+  pub rest : List (List ℕ)
+  pub parts : lines ≡ read ++ next ∷ rest
+  pub spelled : SpellStream has_start read stream
+  pub well_formed : IsWellFormed stream.events
+  pub linearizable : IsLinearizable stream.start (operations stream.events)
+  pub process : ℕ
+  pub reply : Reply
+  pub answer : SpellsEvent has_start next (Answer process reply)
+  pub follower : FollowerView
+  pub follows : IsFollowing stream.start stream.events follower
+  pub taken : IsTakenAs stream.start stream.events follower process reply budget (what loss)
+
+-- with this answer, and whatever comes behind it, the events go wrong
+pub record GoesWrongHere (budget : ℕ) (lines : List (List ℕ)) (loss : Loss) : Type 0 where
+  pub judged : IsJudgedAnswer budget lines Lost loss
+  pub place : loss.event ≡ length judged.stream.events
+  pub wrong : (more : List Event) → let all = judged.stream.events ++ Answer judged.process judged.reply ∷ more in
+      (IsLinearizable judged.stream.start (operations all) → ⊥)
+      × GoesWrongAt (record { start = judged.stream.start; events = all }) loss.number loss.event
+
+-- the text is that of a history with these calls, at other places and by other processes, from these pairs; and it has no order
+pub record IsSmallHistory (loss : Loss) (text : List ℕ) : Type 0 where
+  pub history : HistoryView
+  pub spelled : Spells text history
+  pub is_history : IsHistory history
+  pub start : history.start ≡ loss.start.items
+  pub alike : AreAlike loss.calls.items (operations history.events)
+  pub refuted : IsLinearizable history.start (operations history.events) → ⊥
+
+-- the line of such a text, or nothing where the calls fit no history
+abbrev pub IsSmallLine : Loss → List ℕ → Type 0
+IsSmallLine loss bytes = (bytes ≡ []) ⊎ ((text : List ℕ) × (bytes ≡ line text) × IsSmallHistory loss text)
+
+-- `follow` answers the lines at the budget so
+abbrev pub IsLinesAnswer : ℕ → List (List ℕ) → outcomes.Answer → List ℕ → Type 0
+IsLinesAnswer budget lines verdicts.Yes bytes = IsWholeAnswer lines bytes
+IsLinesAnswer budget lines verdicts.No bytes =
+    (loss : Loss) × GoesWrongHere budget lines loss × (small : List ℕ) × IsSmallLine loss small
+    × (bytes ≡ line (compact_text (loss_data loss (codes "no"))) ++ small)
+IsLinesAnswer budget lines verdicts.Undecided bytes =
+    (loss : Loss) × IsJudgedAnswer budget lines Spent loss × (bytes ≡ line (compact_text (loss_data loss (codes "undecided"))))
+
+-- with this line `follow` refuses the lines: those before it are followed, and there it stops
+pub record IsLinesRefusal (lines : List (List ℕ)) (bytes : List ℕ) : Type 0 where
+  pub stream : HistoryView
+  pub has_start : Bool
+  pub read : List (List ℕ)
+  pub more : List (List ℕ)
+  pub parts : lines ≡ read ++ more
+  pub spelled : SpellStream has_start read stream
+  pub well_formed : IsWellFormed stream.events
+  pub linearizable : IsLinearizable stream.start (operations stream.events)
+  pub name : List ℕ
+  pub stops : StopsFor read has_start stream.events more name
+  pub bytes_are : bytes ≡ stream_fault_line (length read + 1) name
+
+-- the same of a text
+abbrev pub IsFollowAnswer : ℕ → List ℕ → outcomes.Answer → List ℕ → Type 0
+IsFollowAnswer budget text answer bytes = IsLinesAnswer budget (lines_of text) answer bytes
+
+abbrev pub IsStreamRefusal : List ℕ → List ℕ → Type 0
+IsStreamRefusal text bytes = IsLinesRefusal (lines_of text) bytes

@@ -1,0 +1,43 @@
+-- How single answers and refusals come out.
+use Rattle.stream_text.specs.declared.line_fault.LineFault.TheVariants as lines
+use Rattle.follow.specs.declared.fault.FollowFault.TheVariants as turns
+use Rattle.std.specs.Prelude.{◌≡◌, ◌≢◌, ℕ, List, ◌++◌, codes, ⊤, string_bytes}
+use Rattle.serde_json.specs.Written.{compact_text}
+use Rattle.stream_text.specs.declared.line_fault.LineFault.{LineFault}
+use Rattle.follow.specs.declared.fault.FollowFault.{FollowFault}
+use Rattle.follow.specs.declared.answered.Loss.{Loss}
+use Rattle.outcomes.specs.declared.outcome.Answer.{Answer}
+use Rattle.outcomes.specs.declared.outcome.Answer.TheVariants.{No}
+use Rattle.outcomes.specs.declared.outcome.Outcome.{Outcome}
+use Rattle.outcomes.specs.declared.outcome.Outcome.TheVariants.{Answered, Refused, Memory}
+use Rattle.outcomes.specs.Lines.{line}
+use Rattle.stream_engines.specs.Refusals.{line_fault_name, turn_fault_name, stream_fault_line}
+use Rattle.stream_engines.specs.Reports.{loss_data}
+use Rattle.stream_engines.specs.Answers.{IsSmallLine}
+
+-- the outcome of the line of this number, which has this fault
+abbrev pub IsLineRefusal : ℕ → LineFault → Outcome → Type 0
+IsLineRefusal number fault (Refused bytes) = (fault ≢ lines.Memory)
+    × (string_bytes bytes ≡ stream_fault_line number (line_fault_name fault))
+IsLineRefusal number fault Memory = ⊤
+IsLineRefusal number fault outcome = ⊥
+
+-- the same of its event
+abbrev pub IsTurnRefusal : ℕ → FollowFault → Outcome → Type 0
+IsTurnRefusal number fault (Refused bytes) = (fault ≢ turns.Memory)
+    × (string_bytes bytes ≡ stream_fault_line number (turn_fault_name fault))
+IsTurnRefusal number fault Memory = ⊤
+IsTurnRefusal number fault outcome = ⊥
+
+-- an answer with these bytes, where memory suffices
+abbrev pub IsAnsweredBy : Answer → List ℕ → Outcome → Type 0
+IsAnsweredBy answer bytes (Answered given text) = (given ≡ answer) × (string_bytes text ≡ bytes)
+IsAnsweredBy answer bytes Memory = ⊤
+IsAnsweredBy answer bytes outcome = ⊥
+
+-- the outcome where an answer was judged and the events go wrong
+abbrev pub IsLostOutcome : Loss → Outcome → Type 0
+IsLostOutcome loss (Answered given text) = (given ≡ No)
+    × ((small : List ℕ) × IsSmallLine loss small × (string_bytes text ≡ line (compact_text (loss_data loss (codes "no"))) ++ small))
+IsLostOutcome loss Memory = ⊤
+IsLostOutcome loss outcome = ⊥

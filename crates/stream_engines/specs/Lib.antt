@@ -1,0 +1,9 @@
+pub mod StreamTexts
+pub mod Overlaps
+pub mod Refusals
+pub mod Reports
+pub mod Followed
+pub mod Answers
+pub mod Leaves
+pub mod Outcomes
+pub mod Reading

@@ -1,0 +1,80 @@
+-- Why a line of a stream is refused, as the program says it.
+use Rattle.stream_text.specs.declared.line_fault.LineFault.TheVariants as lines
+use Rattle.follow.specs.declared.fault.FollowFault.TheVariants as turns
+use Rattle.std.specs.Prelude.{◌≡◌, ◌≢◌, ◌⊎◌, ℕ, ◌+◌, ◌-◌, ◌^◌, Bool, List, [], ◌∷◌, ◌++◌, length, Option, Some, codes, decimal}
+use Rattle.events.specs.declared.event.Event.{Event}
+use Rattle.events.specs.declared.event.Event.TheVariants.{Invoke, Answer}
+use Rattle.stream_text.specs.declared.line_fault.LineFault.{LineFault}
+use Rattle.stream_text.specs.Lines.{SpellsEvent}
+use Rattle.stream_text.specs.LineFaults.{IsEventLineFault, IsFirstLineFault}
+use Rattle.follow.specs.declared.fault.FollowFault.{FollowFault}
+use Rattle.follow.specs.Faults.{invocation_fault, answer_fault}
+use Rattle.outcomes.specs.Lines.{line}
+
+-- how many lines are read at most
+abbrev pub most_lines : ℕ
+most_lines = 2 ^ 64 - 2
+
+abbrev pub too_many_name : List ℕ
+too_many_name = codes "5 TooMany"
+
+-- the fault of a line
+abbrev pub line_fault_name : LineFault → List ℕ
+line_fault_name lines.TooLong = codes "1 TooLong"
+line_fault_name lines.NotJson = codes "2 NotJson"
+line_fault_name lines.Version = codes "3 Version"
+line_fault_name lines.Shape = codes "4 Shape"
+line_fault_name lines.TooMany = too_many_name
+line_fault_name lines.Memory = codes "7 Memory"
+line_fault_name (lines.Start pair) = codes "8 Start at pair " ++ decimal pair
+
+-- the fault of an event after others
+abbrev pub turn_fault_name : FollowFault → List ℕ
+turn_fault_name turns.Shape = codes "4 Shape"
+turn_fault_name turns.NotWellFormed = codes "6 NotWellFormed"
+turn_fault_name turns.TooMany = too_many_name
+turn_fault_name turns.Memory = codes "7 Memory"
+
+-- the line of a fault; lines are numbered from 1
+abbrev pub stream_fault_line : ℕ → List ℕ → List ℕ
+stream_fault_line number name = line (codes "stream: line " ++ decimal number ++ codes ": " ++ name)
+
+-- what is wrong with an event after these
+abbrev pub turn_fault : List Event → Event → Option FollowFault
+turn_fault events (Invoke process call) = invocation_fault events process call
+turn_fault events (Answer process reply) = answer_fault events process
+
+-- the fault of a line after these: a first one may spell starting pairs
+abbrev pub IsLineFaultAfter : List (List ℕ) → Bool → List ℕ → LineFault → Type 0
+IsLineFaultAfter [] has_start next fault = IsFirstLineFault next fault
+IsLineFaultAfter (line ∷ lines) has_start next fault = IsEventLineFault has_start next fault
+
+-- the next line spells nothing that may stand there
+pub record IsFaulty (read : List (List ℕ)) (has_start : Bool) (more : List (List ℕ)) (name : List ℕ) : Type 0 where
+  pub next : List ℕ
+  pub rest : List (List ℕ)
+  pub parts : more ≡ next ∷ rest
+  pub fault : LineFault
+  pub is_fault : IsLineFaultAfter read has_start next fault
+  pub not_memory : fault ≢ lines.Memory
+  pub name_is : name ≡ line_fault_name fault
+
+-- the next line spells an event that is not in its turn
+pub record IsOutOfTurn (has_start : Bool) (events : List Event) (more : List (List ℕ)) (name : List ℕ) : Type 0 where
+  pub next : List ℕ
+  pub rest : List (List ℕ)
+  pub parts : more ≡ next ∷ rest
+  pub event : Event
+  pub spelled : SpellsEvent has_start next event
+  pub fault : FollowFault
+  pub is_fault : turn_fault events event ≡ Some fault
+  pub name_is : name ≡ turn_fault_name fault
+
+-- as many lines were read as may be
+pub record AreMany (read : List (List ℕ)) (name : List ℕ) : Type 0 where
+  pub count : length read ≡ most_lines
+  pub name_is : name ≡ too_many_name
+
+-- why reading stops behind these lines, which spell these events
+abbrev pub StopsFor : List (List ℕ) → Bool → List Event → List (List ℕ) → List ℕ → Type 0
+StopsFor read has_start events more name = IsFaulty read has_start more name ⊎ IsOutOfTurn has_start events more name ⊎ AreMany read name

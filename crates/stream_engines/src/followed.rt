@@ -1,0 +1,181 @@
+// A stream, as far as it was followed, and what each line makes of it.
+ghost use Rattle.std.specs.Prelude.{◌≡◌, ℕ, ◌+◌, ◌<◌, List, [], ◌∷◌, ◌++◌, length, Option, IfOk, IfErr};
+ghost use Rattle.events.specs.declared.event.Event.TheVariants as events;
+ghost use Rattle.events.specs.Starts.{KeysRise};
+ghost use Rattle.stream_text.specs.Lines.{as_event, SpellsEvent, SpellsStart};
+ghost use Rattle.stream_engines.specs.Followed.{IsFollowed};
+ghost use Rattle.stream_engines.specs.Outcomes.{IsStreamOutcome};
+ghost use Rattle.stream_engines.specs.Reading.{AreLinesOf};
+ghost use Rattle.stream_engines.specs.StreamTexts.{BeginsWith};
+
+use crate::refusals::{refused_event, refused_line};
+use crate::reports::{lost_outcome, spent_outcome, yes_outcome};
+use events::{Call, Memory, Pairs, Reply};
+use follow::{Answered, Follower};
+use outcomes::Outcome;
+use std::alloc::Global;
+use stream_text::{FirstLine, StreamEvent, read_event_line, read_first_line};
+
+/// A stream, as far as it was followed: its follower, whether it began with starting pairs, how many calls are open, and how many
+/// other calls were open at the invocations, in all.
+#[derive(Drop)]
+pub struct Followed {
+    pub follower: Follower,
+    pub has_start: bool,
+    pub pending: u64,
+    pub overlap: u64,
+}
+
+impl Followed {
+    /// Before any line.
+    pub fn new(alloc: Global) -> Result<Followed, Memory>
+        ensures { IfOk result (IsFollowed []) }
+    {
+        let follower = Follower::new(alloc, &[])?;
+        Ok(Followed {
+            follower,
+            has_start: false,
+            pending: 0,
+            overlap: 0,
+        })
+    }
+
+    /// Behind a first line of starting pairs.
+    fn from_start(alloc: Global, start: &Pairs) -> Result<Followed, Memory>
+        requires { KeysRise start.now }
+        ensures { (line : List ℕ) → SpellsStart line start.now → IfOk result (IsFollowed (line ∷ [])) }
+    {
+        let follower = Follower::new(alloc, start.as_slice())?;
+        Ok(Followed {
+            follower,
+            has_start: true,
+            pending: 0,
+            overlap: 0,
+        })
+    }
+
+    /// Takes the line that stands behind so many.
+    pub fn take_line(
+        self,
+        alloc: Global,
+        before: u64,
+        line: &[u8],
+        budget: u32,
+    ) -> Result<Followed, Outcome>
+        requires { before < u64.MAX }
+        ensures taken { (read : List (List ℕ)) → length read ≡ before → IsFollowed read self
+            → IfOk result (IsFollowed (read ++ line.now ∷ [])) }
+        ensures stopped { (told : Option (List ℕ)) (read : List (List ℕ)) → length read ≡ before → IsFollowed read self
+            → BeginsWith told (read ++ line.now ∷ []) → IfErr result (IsStreamOutcome budget told) }
+    {
+        if before == 0 {
+            return self.take_first(alloc, line, budget);
+        }
+        match read_event_line(alloc, self.has_start, line) {
+            Ok(event) => self.take_event(alloc, before + 1, event, budget),
+            Err(fault) => Err(refused_line(alloc, before + 1, fault)),
+        }
+    }
+
+    /// Takes the first line.
+    fn take_first(self, alloc: Global, line: &[u8], budget: u32) -> Result<Followed, Outcome>
+        ensures taken { IsFollowed [] self → IfOk result (IsFollowed (line.now ∷ [])) }
+        ensures stopped { (told : Option (List ℕ)) → IsFollowed [] self → BeginsWith told (line.now ∷ [])
+            → IfErr result (IsStreamOutcome budget told) }
+    {
+        match read_first_line(alloc, line) {
+            Ok(FirstLine::Event(event)) => self.take_event(alloc, 1, event, budget),
+            Ok(FirstLine::Start(start)) => match Followed::from_start(alloc, &start) {
+                Ok(followed) => Ok(followed),
+                Err(_) => Err(Outcome::Memory),
+            },
+            Err(fault) => Err(refused_line(alloc, 1, fault)),
+        }
+    }
+
+    /// Takes an event, which the line of this number spells.
+    fn take_event(
+        self,
+        alloc: Global,
+        number: u64,
+        event: StreamEvent,
+        budget: u32,
+    ) -> Result<Followed, Outcome>
+        ensures taken { (read : List (List ℕ)) (line : List ℕ) → IsFollowed read self → SpellsEvent self.has_start line (as_event event)
+            → IfOk result (IsFollowed (read ++ line ∷ [])) }
+        ensures stopped { (told : Option (List ℕ)) (read : List (List ℕ)) (line : List ℕ) → length read + 1 ≡ number → IsFollowed read self
+            → SpellsEvent self.has_start line (as_event event) → BeginsWith told (read ++ line ∷ [])
+            → IfErr result (IsStreamOutcome budget told) }
+    {
+        match event {
+            StreamEvent::Invoke { process, call } => self.begin_call(alloc, number, process, call),
+            StreamEvent::Answer { process, reply } => {
+                self.take_answer(alloc, number, process, reply, budget)
+            }
+        }
+    }
+
+    /// Takes an invocation.
+    fn begin_call(
+        self,
+        alloc: Global,
+        number: u64,
+        process: u16,
+        call: Call,
+    ) -> Result<Followed, Outcome>
+        ensures taken { (read : List (List ℕ)) (line : List ℕ) → IsFollowed read self
+            → SpellsEvent self.has_start line (events.Invoke process call) → IfOk result (IsFollowed (read ++ line ∷ [])) }
+        ensures stopped { (told : Option (List ℕ)) (read : List (List ℕ)) (line : List ℕ) (budget : ℕ) → length read + 1 ≡ number
+            → IsFollowed read self → SpellsEvent self.has_start line (events.Invoke process call)
+            → BeginsWith told (read ++ line ∷ []) → IfErr result (IsStreamOutcome budget told) }
+    {
+        let mut follower = self.follower;
+        match follower.invoke(process, call) {
+            Ok(()) => Ok(Followed {
+                follower,
+                has_start: self.has_start,
+                pending: self.pending.saturating_add(1),
+                overlap: self.overlap.saturating_add(self.pending),
+            }),
+            Err(fault) => Err(refused_event(alloc, number, &fault)),
+        }
+    }
+
+    /// Takes an answer, and has it judged.
+    fn take_answer(
+        self,
+        alloc: Global,
+        number: u64,
+        process: u16,
+        reply: Reply,
+        budget: u32,
+    ) -> Result<Followed, Outcome>
+        ensures taken { (read : List (List ℕ)) (line : List ℕ) → IsFollowed read self
+            → SpellsEvent self.has_start line (events.Answer process reply) → IfOk result (IsFollowed (read ++ line ∷ [])) }
+        ensures stopped { (told : Option (List ℕ)) (read : List (List ℕ)) (line : List ℕ) → length read + 1 ≡ number
+            → IsFollowed read self → SpellsEvent self.has_start line (events.Answer process reply)
+            → BeginsWith told (read ++ line ∷ []) → IfErr result (IsStreamOutcome budget told) }
+    {
+        let (has_start, pending, overlap) = (self.has_start, self.pending, self.overlap);
+        match self.follower.answer(alloc, process, reply, budget) {
+            Ok(Answered::Going(follower)) => Ok(Followed {
+                follower,
+                has_start,
+                pending: pending.saturating_sub(1),
+                overlap,
+            }),
+            Ok(Answered::Lost(loss)) => Err(lost_outcome(alloc, loss)),
+            Ok(Answered::Spent(loss)) => Err(spent_outcome(alloc, &loss)),
+            Ok(Answered::Refused(_, fault)) => Err(refused_event(alloc, number, &fault)),
+            Err(_) => Err(Outcome::Memory),
+        }
+    }
+
+    /// All lines were taken.
+    pub fn finish(self, alloc: Global) -> Outcome
+        ensures { (told : Option (List ℕ)) (read : List (List ℕ)) (budget : ℕ) → IsFollowed read self → AreLinesOf told read
+            → IsStreamOutcome budget told result }
+    {
+        yes_outcome(alloc, self.follower.calls(), self.overlap)
+    }
+}

@@ -1,0 +1,12 @@
+//! The engine on a stream of events, over any source and sinks: it reads lines one by one, judges each answer as it comes, and
+//! ends at the first that goes wrong.
+#![tactic(auto)]
+
+mod alike;
+mod followed;
+mod following;
+mod refusals;
+mod reports;
+mod small_history;
+
+pub use following::{follow_outcome, run_follow};
