@@ -100,7 +100,7 @@ def fails(subcommand, text):
 def main():
     # Builds the program where that is still to do.
     with open(ORDERED, "rb") as source:
-        subprocess.run([os.path.join(TOP, "bench"), "judge"], stdin=source, stdout=subprocess.DEVNULL, check=True)
+        subprocess.run([os.path.join(TOP, "bench"), "draw"], stdin=source, stdout=subprocess.DEVNULL, check=True)
     chance = random.Random(SEED)
     examples = list(originals())
     texts = [(chance.choice(readers), damaged(text, chance)) for readers, text in chance.choices(examples, k=TEXTS)]

@@ -120,7 +120,7 @@ def cases():
 def main():
     # Builds the program where that is still to do.
     with open(os.path.join(TOP, "examples", "no-events.json"), "rb") as source:
-        subprocess.run([os.path.join(TOP, "bench"), "judge"], stdin=source, stdout=subprocess.DEVNULL, check=True)
+        subprocess.run([os.path.join(TOP, "bench"), "draw"], stdin=source, stdout=subprocess.DEVNULL, check=True)
     passed = failed = 0
     for name, text, words in cases():
         fault = fault_of(text, words)

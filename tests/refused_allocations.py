@@ -50,7 +50,7 @@ def is_linearizable(words, got):
 def main():
     # Builds the program where that is still to do.
     with open(os.path.join(EXAMPLES, "no-events.json"), "rb") as source:
-        subprocess.run([os.path.join(TOP, "bench"), "judge"], stdin=source, stdout=subprocess.DEVNULL, check=True)
+        subprocess.run([os.path.join(TOP, "bench"), "draw"], stdin=source, stdout=subprocess.DEVNULL, check=True)
     passed = failed = runs = 0
     with tempfile.TemporaryDirectory() as folder:
         library = os.path.join(folder, "refuse.so")

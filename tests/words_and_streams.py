@@ -162,7 +162,7 @@ def runs(folder):
 def main():
     # Builds the program where that is still to do.
     with open(ORDERED, "rb") as source:
-        subprocess.run([os.path.join(TOP, "bench"), "judge"], stdin=source, stdout=subprocess.DEVNULL, check=True)
+        subprocess.run([os.path.join(TOP, "bench"), "draw"], stdin=source, stdout=subprocess.DEVNULL, check=True)
     passed = failed = 0
     with tempfile.TemporaryDirectory() as folder:
         for shows, got, wanted in runs(folder):

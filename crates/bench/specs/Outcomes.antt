@@ -1,6 +1,5 @@
--- How a run comes out, for the words of the command line and the text on the source.
-use Rattle.std.specs.Prelude.{ℕ, List, Option, Some, None}
-use Rattle.clap.specs.Words.{Text}
+-- How a run comes out, for what the words of the command line ask for and the text on the source.
+use Rattle.std.specs.Prelude.{ℕ, Option, Some, None}
 use Rattle.art_rows.specs.declared.table.Shape.{Shape}
 use Rattle.art_steps.specs.declared.variant.Variant.{Variant}
 use Rattle.art_steps.specs.declared.variant.Variant.TheVariants as variants
@@ -8,14 +7,9 @@ use Rattle.command_line.specs.declared.line.Tree.{Tree}
 use Rattle.command_line.specs.declared.line.Tree.TheVariants as trees
 use Rattle.command_line.specs.declared.line.Line.{Line}
 use Rattle.command_line.specs.declared.line.Line.TheVariants.{Check, Judge, Locate, Draw, Follow, Generate, Replay, Drive}
-use Rattle.command_line.specs.declared.fault.LineFault.{LineFault}
-use Rattle.command_line.specs.declared.fault.LineFault.TheVariants as line_faults
-use Rattle.command_line.specs.Lines.{IsLineOf}
-use Rattle.command_line.specs.LineFaults.{IsAccepted, IsFaultAt}
 use Rattle.locked_map.specs.Answers.{IsAnswerOf}
 use Rattle.outcomes.specs.declared.outcome.Outcome.{Outcome}
-use Rattle.outcomes.specs.declared.outcome.Outcome.TheVariants.{Memory, Words}
-use Rattle.outcomes.specs.Ends.{Change, IsUnused, IsSound}
+use Rattle.outcomes.specs.Ends.{Change, IsUnused}
 use Rattle.history_engines.specs.Outcomes.{IsCheckOutcome, IsJudgeOutcome}
 use Rattle.history_engines.specs.LocateOutcomes.{IsLocateOutcome}
 use Rattle.picture_engines.specs.Outcomes.{IsDrawOutcome}
@@ -49,22 +43,3 @@ IsLineOutcome (Generate seed processes calls get insert remove scan lo hi) sourc
 IsLineOutcome Replay source outcome = IsReplayOutcome source outcome
 IsLineOutcome (Drive tree rows4 rows16 rows48 rows256 limit) source outcome =
     IsDrivenOutcome (variant_of tree) (record { rows4 = rows4; rows16 = rows16; rows48 = rows48; rows256 = rows256 }) limit source outcome
-
--- the words ask for a line, which has this outcome
-pub record IsAskedOutcome (words : List Text) (source : Change) (outcome : Outcome) : Type 0 where
-  pub line : Line
-  pub accepted : IsAccepted words
-  pub asked : IsLineOf words line
-  pub comes : IsLineOutcome line source outcome
-
--- the outcome of a run with these words: what they ask for, or the fault that they have; want of memory may come in reading them, or in
--- doing what they ask
-abbrev pub IsWordsOutcome : List Text → Change → Outcome → Type 0
-IsWordsOutcome words source (Words text) = IsFaultAt words (line_faults.Line text) × IsSound source
-IsWordsOutcome words source Memory = IsSound source
-IsWordsOutcome words source outcome = IsAskedOutcome words source outcome
-
--- the outcome of words with this fault
-abbrev pub fault_outcome : LineFault → Outcome
-fault_outcome (line_faults.Line text) = Words text
-fault_outcome line_faults.Memory = Memory

@@ -1,32 +1,27 @@
 // What the words of the command line ask for, done.
-ghost use Rattle.std.specs.Prelude.{◌≡◌, ◌<◌, IfOk, map, string_bytes};
+ghost use Rattle.std.specs.Prelude.{◌≡◌, ◌<◌};
 ghost use Rattle.clap.specs.Walk.{texts};
 ghost use Rattle.outcomes.specs.Ends.{change};
 ghost use Rattle.outcomes.specs.Runs.{IsRun};
 ghost use Rattle.outcomes.specs.Statuses.{words_status};
-ghost use Rattle.bench.specs.Outcomes.{IsWordsOutcome, fault_outcome, variant_of};
+ghost use Rattle.line_outcomes.specs.Outcomes.{IsWordsOutcome};
+ghost use Rattle.bench.specs.Outcomes.{IsLineOutcome, variant_of};
 
 use art::{Shape, Variant};
-use command_line::{Line, LineFault, Tree, read_line};
+use command_line::{Line, Tree};
 use history_engines::{run_check, run_judge, run_locate};
+use line_outcomes::asked_line;
 use locked_map::LockedMap;
-use outcomes::{Outcome, write_outcome};
+use outcomes::write_outcome;
 use picture_engines::run_draw;
 use plan_engines::{run_drive, run_generate, run_replay, run_tree_drive};
 use pool::Gate;
-use std::alloc::{AllocError, Global};
+use std::alloc::Global;
 use std::sync::Wait;
 use std::thread::Threads;
 use stream_engines::run_follow;
 use streams::{Sink, Source};
 use workload::Mix;
-
-/// The texts of the words.
-pub fn texts_of(alloc: Global, words: &[String]) -> Result<Vec<&str>, AllocError>
-    ensures { IfOk result (λ v. texts v.items ≡ map string_bytes words.now) }
-{
-    words.iter().map(|word| word.as_str()).collect(alloc)
-}
 
 /// Does what the words of the command line ask for, the program's name first, and answers the exit status.
 /// Workers pass the gate before each segment that they search, and the processes of a drive on a tree before they begin.
@@ -45,16 +40,16 @@ pub fn run<R: Threads + Wait + Sync, S: Source, O: Sink, F: Sink, G: Gate + Sync
 
     // What the words ask for comes out so, or the fault that they have.
     ensures run { IsRun
-        (IsWordsOutcome (texts words.entry.now) (change S.remaining S.failures source.old source.new))
+        (IsWordsOutcome IsLineOutcome (texts words.entry.now) (change S.remaining S.failures source.old source.new))
         (change O.written O.failures output.old output.new)
         (change F.written F.failures faults.old faults.new) result }
 
     // For words with a fault nothing is read.
     ensures unread { result ≡ words_status → source.new ≡ source.old }
 {
-    let line = match read_line(alloc, words) {
+    let line = match asked_line(alloc, words) {
         Ok(line) => line,
-        Err(fault) => return write_outcome(output, faults, &fault_outcome(fault)),
+        Err(outcome) => return write_outcome(output, faults, &outcome),
     };
     match line {
         Line::Check { order } => run_check(alloc, source, output, faults, &order),
@@ -127,15 +122,5 @@ fn variant_of(tree: Tree) -> Option<Variant>
         Tree::ScanUnvalidated => Some(Variant::ScanUnvalidated),
         Tree::LockUnchecked => Some(Variant::LockUnchecked),
         Tree::EarlyRelease => Some(Variant::EarlyRelease),
-    }
-}
-
-/// That the words of the command line ask for nothing that can be done, or want of memory.
-fn fault_outcome(fault: LineFault) -> Outcome
-    ensures { result ≡ fault_outcome fault }
-{
-    match fault {
-        LineFault::Line(text) => Outcome::Words(text),
-        LineFault::Memory => Outcome::Memory,
     }
 }

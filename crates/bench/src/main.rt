@@ -9,11 +9,10 @@ mod command;
 #[cfg(test)]
 mod tests;
 
-use command::{run, texts_of};
+use command::run;
+use line_outcomes::{texts_of, words_of};
 use outcomes::{Outcome, write_outcome};
 use pool::OpenGate;
-use std::env;
-use std::io::ErrorKind;
 use std::process::ExitCode;
 use streams::{StandardError, StandardInput, StandardOutput};
 
@@ -21,7 +20,7 @@ fn main(rt: HostRuntime) -> ExitCode {
     let mut source = StandardInput::new(rt.stdin());
     let mut output = StandardOutput::new(rt.stdout());
     let mut faults = StandardError::new(rt.stderr());
-    let words = match words_of(&rt) {
+    let words = match words_of(&rt, rt.alloc()) {
         Ok(words) => words,
         Err(outcome) => return ExitCode::from(write_outcome(&mut output, &mut faults, &outcome)),
     };
@@ -38,24 +37,4 @@ fn main(rt: HostRuntime) -> ExitCode {
         Err(_) => write_outcome(&mut output, &mut faults, &Outcome::Memory),
     };
     ExitCode::from(status)
-}
-
-// The words of the command line, the program's name first.
-fn words_of(rt: &HostRuntime) -> Result<Vec<String>, Outcome> {
-    let words = match env::args(rt) {
-        Ok(words) => words.collect(rt.alloc()),
-        Err(error) => {
-            if error.kind() == ErrorKind::OutOfMemory {
-                return Err(Outcome::Memory);
-            }
-            return match String::from_str(rt.alloc(), "error: a word is no text\n") {
-                Ok(text) => Err(Outcome::Words(text)),
-                Err(_) => Err(Outcome::Memory),
-            };
-        }
-    };
-    match words {
-        Ok(words) => Ok(words),
-        Err(_) => Err(Outcome::Memory),
-    }
 }

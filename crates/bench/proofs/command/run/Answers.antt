@@ -7,15 +7,17 @@ use Rattle.stream_engines.specs.Answers.{IsFollowAnswer, IsStreamRefusal}
 use Rattle.plan_engines.specs.Answers.{IsReplayAnswer, IsReplayRefusal}
 use Rattle.plan_engines.specs.Drives.{IsDriveAnswer, IsDriveRefusal}
 use Rattle.outcomes.specs.Ends.{change}
-use Rattle.bench.proofs.OutcomeLemmas.{read-words, drawn-words}
+use Rattle.line_outcomes.proofs.OutcomeLemmas.{read-words, fault-words}
+use Rattle.bench.specs.Outcomes.{IsLineOutcome}
+use Rattle.bench.proofs.OutcomeLemmas.{drawn-words}
 use Rattle.bench.proofs.command.run.Goals as goal
 
 pub returns-in-Check-clause-run : goal.returns-in-Check-clause-run
 returns-in-Check-clause-run g c = record {
   outcome = c.run_check.ensures.outcome;
-  comes = read-words (IsCheckAnswer c.in-Check.order.items) IsHistoryRefusal (texts c.args.words.now)
+  comes = read-words IsLineOutcome (IsCheckAnswer c.in-Check.order.items) IsHistoryRefusal (texts c.args.words.now)
       (change g.S.Source.remaining g.S.Source.failures c.args.source.now c.run_check.new.source) c.run_check.ensures.outcome
-      (λ comes. record { line = c.in-Ok.line; accepted = c.in-Ok.ensures.accepted; asked = c.in-Ok.ensures.line; comes = rw
+      (λ comes. record { line = c.in-Ok.line; accepted = c.in-Ok.ensures.line.1; asked = c.in-Ok.ensures.line.0; comes = rw
           c.in-Check.is comes })
       (rw (← c.deref.ensures.value) c.run_check.ensures.comes);
   leaves = c.run_check.ensures.leaves;
@@ -24,9 +26,9 @@ returns-in-Check-clause-run g c = record {
 pub returns-in-Judge-clause-run : goal.returns-in-Judge-clause-run
 returns-in-Judge-clause-run g c = record {
   outcome = c.run_judge.ensures.outcome;
-  comes = read-words (IsJudgeAnswer c.in-Judge.budget) IsHistoryRefusal (texts c.args.words.now)
+  comes = read-words IsLineOutcome (IsJudgeAnswer c.in-Judge.budget) IsHistoryRefusal (texts c.args.words.now)
       (change g.S.Source.remaining g.S.Source.failures c.args.source.now c.run_judge.new.source) c.run_judge.ensures.outcome
-      (λ comes. record { line = c.in-Ok.line; accepted = c.in-Ok.ensures.accepted; asked = c.in-Ok.ensures.line; comes = rw
+      (λ comes. record { line = c.in-Ok.line; accepted = c.in-Ok.ensures.line.1; asked = c.in-Ok.ensures.line.0; comes = rw
           c.in-Judge.is comes })
       c.run_judge.ensures.comes;
   leaves = c.run_judge.ensures.leaves;
@@ -35,9 +37,9 @@ returns-in-Judge-clause-run g c = record {
 pub returns-in-Locate-clause-run : goal.returns-in-Locate-clause-run
 returns-in-Locate-clause-run g c = record {
   outcome = c.run_locate.ensures.outcome;
-  comes = read-words (IsLocateAnswer c.in-Locate.budget) IsHistoryRefusal (texts c.args.words.now)
+  comes = read-words IsLineOutcome (IsLocateAnswer c.in-Locate.budget) IsHistoryRefusal (texts c.args.words.now)
       (change g.S.Source.remaining g.S.Source.failures c.args.source.now c.run_locate.new.source) c.run_locate.ensures.outcome
-      (λ comes. record { line = c.in-Ok.line; accepted = c.in-Ok.ensures.accepted; asked = c.in-Ok.ensures.line; comes = rw
+      (λ comes. record { line = c.in-Ok.line; accepted = c.in-Ok.ensures.line.1; asked = c.in-Ok.ensures.line.0; comes = rw
           c.in-Locate.is comes })
       c.run_locate.ensures.comes;
   leaves = c.run_locate.ensures.leaves;
@@ -46,9 +48,9 @@ returns-in-Locate-clause-run g c = record {
 pub returns-in-Draw-clause-run : goal.returns-in-Draw-clause-run
 returns-in-Draw-clause-run g c = record {
   outcome = c.run_draw.ensures.outcome;
-  comes = read-words (IsDrawAnswer c.in-Draw.budget) IsHistoryRefusal (texts c.args.words.now)
+  comes = read-words IsLineOutcome (IsDrawAnswer c.in-Draw.budget) IsHistoryRefusal (texts c.args.words.now)
       (change g.S.Source.remaining g.S.Source.failures c.args.source.now c.run_draw.new.source) c.run_draw.ensures.outcome
-      (λ comes. record { line = c.in-Ok.line; accepted = c.in-Ok.ensures.accepted; asked = c.in-Ok.ensures.line; comes = rw
+      (λ comes. record { line = c.in-Ok.line; accepted = c.in-Ok.ensures.line.1; asked = c.in-Ok.ensures.line.0; comes = rw
           c.in-Draw.is comes })
       c.run_draw.ensures.comes;
   leaves = c.run_draw.ensures.leaves;
@@ -57,9 +59,9 @@ returns-in-Draw-clause-run g c = record {
 pub returns-in-Follow-clause-run : goal.returns-in-Follow-clause-run
 returns-in-Follow-clause-run g c = record {
   outcome = c.run_follow.ensures.outcome;
-  comes = read-words (IsFollowAnswer c.in-Follow.budget) IsStreamRefusal (texts c.args.words.now)
+  comes = read-words IsLineOutcome (IsFollowAnswer c.in-Follow.budget) IsStreamRefusal (texts c.args.words.now)
       (change g.S.Source.remaining g.S.Source.failures c.args.source.now c.run_follow.new.source) c.run_follow.ensures.outcome
-      (λ comes. record { line = c.in-Ok.line; accepted = c.in-Ok.ensures.accepted; asked = c.in-Ok.ensures.line; comes = rw
+      (λ comes. record { line = c.in-Ok.line; accepted = c.in-Ok.ensures.line.1; asked = c.in-Ok.ensures.line.0; comes = rw
           c.in-Follow.is comes })
       c.run_follow.ensures.comes;
   leaves = c.run_follow.ensures.leaves;
@@ -70,7 +72,7 @@ returns-in-Generate-clause-run g c = record {
   outcome = c.run_generate.ensures.outcome;
   comes = drawn-words c.in-Generate.seed _ c.in-Generate.processes c.in-Generate.calls (texts c.args.words.now)
       (change g.S.Source.remaining g.S.Source.failures c.args.source.now c.args.source.now) c.run_generate.ensures.outcome
-      (λ comes. record { line = c.in-Ok.line; accepted = c.in-Ok.ensures.accepted; asked = c.in-Ok.ensures.line; comes = rw
+      (λ comes. record { line = c.in-Ok.line; accepted = c.in-Ok.ensures.line.1; asked = c.in-Ok.ensures.line.0; comes = rw
           c.in-Generate.is (refl, comes) })
       refl c.run_generate.ensures.comes;
   leaves = c.run_generate.ensures.leaves;
@@ -79,10 +81,18 @@ returns-in-Generate-clause-run g c = record {
 pub returns-in-Replay-clause-run : goal.returns-in-Replay-clause-run
 returns-in-Replay-clause-run g c = record {
   outcome = c.run_replay.ensures.outcome;
-  comes = read-words IsReplayAnswer IsReplayRefusal (texts c.args.words.now)
+  comes = read-words IsLineOutcome IsReplayAnswer IsReplayRefusal (texts c.args.words.now)
       (change g.S.Source.remaining g.S.Source.failures c.args.source.now c.run_replay.new.source) c.run_replay.ensures.outcome
-      (λ comes. record { line = c.in-Ok.line; accepted = c.in-Ok.ensures.accepted; asked = c.in-Ok.ensures.line; comes = rw
+      (λ comes. record { line = c.in-Ok.line; accepted = c.in-Ok.ensures.line.1; asked = c.in-Ok.ensures.line.0; comes = rw
           c.in-Replay.is comes })
       c.run_replay.ensures.comes;
   leaves = c.run_replay.ensures.leaves;
+}
+
+pub returns-in-Err-clause-run : goal.returns-in-Err-clause-run
+returns-in-Err-clause-run g c = record {
+  outcome = c.in-Err.outcome;
+  comes = fault-words IsLineOutcome (texts c.args.words.now)
+      (change g.S.Source.remaining g.S.Source.failures c.args.source.now c.args.source.now) c.in-Err.outcome c.in-Err.ensures.refused refl;
+  leaves = c.write_outcome.ensures;
 }

@@ -1,7 +1,7 @@
 use Rattle.std.proofs.Common.{string_bytes, rules, tests}
 use Rattle.std.proofs.lemmas.Iterator.{YieldsList-from_slice, YieldsList-from_map_by}
 use Rattle.std.proofs.lemmas.Iterator.Consumers.{map_from_collect}
-use Rattle.bench.proofs.command.texts_of.Goals as goal
+use Rattle.line_outcomes.proofs.asking.texts_of.Goals as goal
 
 pub returns : goal.returns
 returns c =

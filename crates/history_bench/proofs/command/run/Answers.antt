@@ -1,0 +1,49 @@
+use Rattle.std.proofs.Common.{refl, inl}
+use Rattle.clap.specs.Walk.{texts}
+use Rattle.history_engines.specs.Answers.{IsCheckAnswer, IsHistoryRefusal, IsJudgeAnswer}
+use Rattle.history_engines.specs.LocateAnswers.{IsLocateAnswer}
+use Rattle.outcomes.specs.Ends.{change}
+use Rattle.line_outcomes.proofs.OutcomeLemmas.{read-words, fault-words}
+use Rattle.history_bench.specs.Outcomes.{IsHistoryLineOutcome}
+use Rattle.history_bench.proofs.command.run.Goals as goal
+
+pub returns-in-Check-clause-run : goal.returns-in-Check-clause-run
+returns-in-Check-clause-run g c = record {
+  outcome = c.run_check.ensures.outcome;
+  comes = inl (read-words IsHistoryLineOutcome (IsCheckAnswer c.in-Check.order.items) IsHistoryRefusal (texts c.args.words.now)
+      (change g.S.Source.remaining g.S.Source.failures c.args.source.now c.run_check.new.source) c.run_check.ensures.outcome
+      (λ comes. record { line = c.in-Ok.line; accepted = c.in-Ok.ensures.line.1; asked = c.in-Ok.ensures.line.0; comes = rw
+          c.in-Check.is comes })
+      (rw (← c.deref.ensures.value) c.run_check.ensures.comes));
+  leaves = c.run_check.ensures.leaves;
+}
+
+pub returns-in-Judge-clause-run : goal.returns-in-Judge-clause-run
+returns-in-Judge-clause-run g c = record {
+  outcome = c.run_judge.ensures.outcome;
+  comes = inl (read-words IsHistoryLineOutcome (IsJudgeAnswer c.in-Judge.budget) IsHistoryRefusal (texts c.args.words.now)
+      (change g.S.Source.remaining g.S.Source.failures c.args.source.now c.run_judge.new.source) c.run_judge.ensures.outcome
+      (λ comes. record { line = c.in-Ok.line; accepted = c.in-Ok.ensures.line.1; asked = c.in-Ok.ensures.line.0; comes = rw
+          c.in-Judge.is comes })
+      c.run_judge.ensures.comes);
+  leaves = c.run_judge.ensures.leaves;
+}
+
+pub returns-in-Locate-clause-run : goal.returns-in-Locate-clause-run
+returns-in-Locate-clause-run g c = record {
+  outcome = c.run_locate.ensures.outcome;
+  comes = inl (read-words IsHistoryLineOutcome (IsLocateAnswer c.in-Locate.budget) IsHistoryRefusal (texts c.args.words.now)
+      (change g.S.Source.remaining g.S.Source.failures c.args.source.now c.run_locate.new.source) c.run_locate.ensures.outcome
+      (λ comes. record { line = c.in-Ok.line; accepted = c.in-Ok.ensures.line.1; asked = c.in-Ok.ensures.line.0; comes = rw
+          c.in-Locate.is comes })
+      c.run_locate.ensures.comes);
+  leaves = c.run_locate.ensures.leaves;
+}
+
+pub returns-in-Err-clause-run : goal.returns-in-Err-clause-run
+returns-in-Err-clause-run g c = record {
+  outcome = c.in-Err.outcome;
+  comes = inl (fault-words IsHistoryLineOutcome (texts c.args.words.now)
+      (change g.S.Source.remaining g.S.Source.failures c.args.source.now c.args.source.now) c.in-Err.outcome c.in-Err.ensures.refused refl);
+  leaves = c.write_outcome.ensures;
+}

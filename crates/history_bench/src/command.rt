@@ -1,0 +1,66 @@
+// What the words of the command line ask of a history, done.
+ghost use Rattle.std.specs.Prelude.{◌≡◌, ◌<◌};
+ghost use Rattle.clap.specs.Walk.{texts};
+ghost use Rattle.outcomes.specs.Ends.{change};
+ghost use Rattle.outcomes.specs.Runs.{IsRun};
+ghost use Rattle.outcomes.specs.Statuses.{words_status};
+ghost use Rattle.history_bench.specs.Outcomes.{IsElsewhereOutcome, IsHistoryWordsOutcome};
+
+use command_line::Line;
+use history_engines::{run_check, run_judge, run_locate};
+use line_outcomes::asked_line;
+use outcomes::{Outcome, write_outcome};
+use pool::Gate;
+use std::alloc::Global;
+use std::thread::Threads;
+use streams::{Sink, Source};
+
+/// Does what the words of the command line ask of a history, the program's name first, and answers the exit status. Words that
+/// ask for anything else are told so. Workers pass the gate before each segment that they search.
+pub fn run<R: Threads + Sync, S: Source, O: Sink, F: Sink, G: Gate + Sync>(
+    rt: &R,
+    alloc: Global,
+    source: &mut S,
+    output: &mut O,
+    faults: &mut F,
+    words: &[&str],
+    gate: &G,
+) -> u8
+    requires source { S.failures source.old < u64.MAX }
+    requires output { O.failures output.old < u64.MAX }
+    requires faults { F.failures faults.old < u64.MAX }
+
+    // What the words ask for comes out so, or the fault that they have, or that they ask for something else.
+    ensures run { IsRun
+        (IsHistoryWordsOutcome (texts words.entry.now) (change S.remaining S.failures source.old source.new))
+        (change O.written O.failures output.old output.new)
+        (change F.written F.failures faults.old faults.new) result }
+
+    // For words with a fault, and for those that ask for something else, nothing is read.
+    ensures unread { result ≡ words_status → source.new ≡ source.old }
+{
+    let line = match asked_line(alloc, words) {
+        Ok(line) => line,
+        Err(outcome) => return write_outcome(output, faults, &outcome),
+    };
+    match line {
+        Line::Check { order } => run_check(alloc, source, output, faults, &order),
+        Line::Judge { budget, workers } => {
+            run_judge(rt, alloc, source, output, faults, budget, workers, gate)
+        }
+        Line::Locate { budget, workers } => {
+            run_locate(rt, alloc, source, output, faults, budget, workers, gate)
+        }
+        _ => write_outcome(output, faults, &elsewhere(alloc)),
+    }
+}
+
+/// That the words ask for what this part of the program does not do.
+fn elsewhere(alloc: Global) -> Outcome
+    ensures { IsElsewhereOutcome result }
+{
+    match String::from_str(alloc, "error: this program checks, judges and locates alone\n") {
+        Ok(text) => Outcome::Words(text),
+        Err(_) => Outcome::Memory,
+    }
+}

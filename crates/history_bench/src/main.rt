@@ -1,0 +1,38 @@
+//! The program's part that checks, judges and locates, alone: it stands on no tree, no plan and no picture, so that a first
+//! verdict is proved and built in a fraction of the time.
+//!
+//! It takes the words of the whole program, and what it does for them is what the whole program does. Words that ask for
+//! another subcommand are refused, and nothing is read for them.
+#![tactic(auto)]
+
+mod command;
+
+use command::run;
+use line_outcomes::{texts_of, words_of};
+use outcomes::{Outcome, write_outcome};
+use pool::OpenGate;
+use std::process::ExitCode;
+use streams::{StandardError, StandardInput, StandardOutput};
+
+fn main(rt: HostRuntime) -> ExitCode {
+    let mut source = StandardInput::new(rt.stdin());
+    let mut output = StandardOutput::new(rt.stdout());
+    let mut faults = StandardError::new(rt.stderr());
+    let words = match words_of(&rt, rt.alloc()) {
+        Ok(words) => words,
+        Err(outcome) => return ExitCode::from(write_outcome(&mut output, &mut faults, &outcome)),
+    };
+    let status = match texts_of(rt.alloc(), &words) {
+        Ok(texts) => run(
+            &rt,
+            rt.alloc(),
+            &mut source,
+            &mut output,
+            &mut faults,
+            &texts,
+            &OpenGate,
+        ),
+        Err(_) => write_outcome(&mut output, &mut faults, &Outcome::Memory),
+    };
+    ExitCode::from(status)
+}

@@ -1,0 +1,31 @@
+-- How a run comes out, for the words of the command line and the text on the source.
+use Rattle.std.specs.Prelude.{⊤, List}
+use Rattle.clap.specs.Words.{Text}
+use Rattle.command_line.specs.declared.line.Line.{Line}
+use Rattle.command_line.specs.declared.fault.LineFault.TheVariants as line_faults
+use Rattle.command_line.specs.Lines.{IsLineOf}
+use Rattle.command_line.specs.LineFaults.{IsAccepted, IsFaultAt}
+use Rattle.outcomes.specs.declared.outcome.Outcome.{Outcome}
+use Rattle.outcomes.specs.declared.outcome.Outcome.TheVariants.{Memory, Words}
+use Rattle.outcomes.specs.Ends.{Change, IsSound}
+
+-- the outcome of words that ask for no line: they have a fault, with this text; or memory was wanting
+abbrev pub IsFaultOutcome : List Text → Outcome → Type 0
+IsFaultOutcome words (Words text) = IsFaultAt words (line_faults.Line text)
+IsFaultOutcome words Memory = ⊤
+IsFaultOutcome words outcome = ⊥
+
+-- the words ask for a line, which has this outcome
+pub record IsAskedOutcome (IsLineOutcome : Line → Change → Outcome → Type 0) (words : List Text) (source : Change) (outcome : Outcome)
+    : Type 0 where
+  pub line : Line
+  pub accepted : IsAccepted words
+  pub asked : IsLineOf words line
+  pub comes : IsLineOutcome line source outcome
+
+-- the outcome of a run with these words: what they ask for, or the fault that they have; want of memory may come in reading them, or in
+-- doing what they ask
+abbrev pub IsWordsOutcome : (Line → Change → Outcome → Type 0) → List Text → Change → Outcome → Type 0
+IsWordsOutcome IsLineOutcome words source (Words text) = IsFaultAt words (line_faults.Line text) × IsSound source
+IsWordsOutcome IsLineOutcome words source Memory = IsSound source
+IsWordsOutcome IsLineOutcome words source outcome = IsAskedOutcome IsLineOutcome words source outcome

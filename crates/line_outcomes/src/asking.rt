@@ -1,0 +1,53 @@
+// The words of the command line, and what they ask for.
+ghost use Rattle.std.specs.Prelude.{◌≡◌, IfErr, IfOk, map, string_bytes};
+ghost use Rattle.clap.specs.Walk.{texts};
+ghost use Rattle.command_line.specs.LineFaults.{IsAccepted};
+ghost use Rattle.command_line.specs.Lines.{IsLineOf, IsWithinLimits};
+ghost use Rattle.line_outcomes.specs.Outcomes.{IsFaultOutcome};
+
+use command_line::{Line, LineFault, read_line};
+use outcomes::Outcome;
+use std::alloc::{Alloc, AllocError, Global};
+use std::env;
+use std::env::Env;
+use std::io::ErrorKind;
+
+/// The words that the program was called with, its name first; or, where one is no text, the outcome of words with a fault.
+pub fn words_of<R: Env + Alloc>(rt: &R, alloc: Global) -> Result<Vec<String>, Outcome> {
+    let words = match env::args(&(rt, alloc)) {
+        Ok(words) => words.collect(alloc),
+        Err(error) => {
+            if error.kind() == ErrorKind::OutOfMemory {
+                return Err(Outcome::Memory);
+            }
+            return match String::from_str(alloc, "error: a word is no text\n") {
+                Ok(text) => Err(Outcome::Words(text)),
+                Err(_) => Err(Outcome::Memory),
+            };
+        }
+    };
+    match words {
+        Ok(words) => Ok(words),
+        Err(_) => Err(Outcome::Memory),
+    }
+}
+
+/// The texts of the words.
+pub fn texts_of(alloc: Global, words: &[String]) -> Result<Vec<&str>, AllocError>
+    ensures { IfOk result (λ v. texts v.items ≡ map string_bytes words.now) }
+{
+    words.iter().map(|word| word.as_str()).collect(alloc)
+}
+
+/// The line that the words ask for, the program's name first; or the outcome of words with a fault, or of want of memory.
+pub fn asked_line(alloc: Global, words: &[&str]) -> Result<Line, Outcome>
+    ensures line { IfOk result (λ line. IsLineOf (texts words.entry.now) line × IsAccepted (texts words.entry.now)) }
+    ensures limits { IfOk result IsWithinLimits }
+    ensures refused { IfErr result (IsFaultOutcome (texts words.entry.now)) }
+{
+    match read_line(alloc, words) {
+        Ok(line) => Ok(line),
+        Err(LineFault::Line(text)) => Err(Outcome::Words(text)),
+        Err(LineFault::Memory) => Err(Outcome::Memory),
+    }
+}
