@@ -1,18 +1,20 @@
 #!/usr/bin/env python3
 """Times the program on histories that it generates, and prints the time and the peak memory of each run.
 
-    benchmarks/run.py [check|judge|search|segments|workers|generate|replay|record|drive]..
+    benchmarks/run.py [check|judge|search|segments|workers|follow|generate|replay|record|drive]..
 
 A history for `check` is made by one sorted map that processes call in turn, so that the calls by number are an
 order of it. In one for `judge` and `segments` the calls overlap, and each has its effect at some moment while it is
 open. One for `search` is one segment without order: some pairs are held, some calls overlap, and then one key is seen
 with what nobody put there. One for `workers` has segments that are equal but for their keys, of many configurations and
-without order. `generate` makes plans, and `replay` runs generated plans on both full trees, each call to its end or some turns
+without order. A stream for `follow` is of processes that each begin a call as soon as their last one is answered; it is followed
+from a file, with its calls a second in place of its bytes. `generate` makes plans, and `replay` runs generated plans on both full trees, each call to its end or some turns
 at a time, and one call that waits for a lock as long as a machine may live. `record` has threads note calls and answers at
 recorders, beside as many threads that add to one shared word as often; `drive` has them do a plan on each full tree, beside additions
 to one word: `crates/rates` does each, and the time of the same threads with nothing to do is taken off.
 """
 
+import itertools
 import json
 import os
 import random
@@ -26,6 +28,7 @@ PROGRAM = os.path.join(TOP, "crates", "bench", "out", "bench")
 RATES = os.path.join(TOP, "crates", "rates", "out", "rates")
 MAX_TEXT = 16_777_216
 MAX_BUDGET = 1_000_000
+compact = json.JSONEncoder(separators=(",", ":")).encode
 
 
 def text_of(events):
@@ -112,10 +115,16 @@ def long_scans(pairs, scans):
 
 
 def run(words, text, statuses=(0, 1, 2), program=PROGRAM):
-    """The seconds and the peak of memory, in MiB, of one run, with what it printed."""
-    with tempfile.TemporaryFile() as source:
+    """The seconds and the peak of memory, in MiB, of one run on a text, with what it printed."""
+    with tempfile.NamedTemporaryFile() as source:
         source.write(text)
-        source.seek(0)
+        source.flush()
+        return run_on(words, source.name, statuses, program)
+
+
+def run_on(words, path, statuses=(0, 1, 2), program=PROGRAM):
+    """The same of a run on a file."""
+    with open(path, "rb") as source:
         began = time.monotonic()
         process = subprocess.Popen([program, *words], stdin=source, stdout=subprocess.PIPE, stderr=subprocess.DEVNULL)
         answer = process.stdout.read()
@@ -245,6 +254,61 @@ def workers():
         show(f"judge, 8 equal segments, {number} workers", words, text, b'{"calls":')
 
 
+def stream_calls(count, keys, choose, scans):
+    """Calls on some keys, half of them gets; where `scans` is not 0 each call of that number is a scan over all keys."""
+    for number in range(1, count + 1):
+        key = int(choose.random() * keys)
+        kind = choose.random()
+        if scans and number % scans == 0:
+            yield ("scan", 0, keys - 1)
+        elif kind < 0.5:
+            yield ("get", key)
+        elif kind < 0.8:
+            yield ("insert", key, number)
+        else:
+            yield ("remove", key)
+
+
+def write_stream(file, count, processes, keys, scans=0):
+    """Writes a stream line by line. In a random turn a process has the effect of its call, or is answered and begins its next."""
+    choose = random.Random(count + processes)
+    calls = stream_calls(count, keys, choose, scans)
+    held = {}
+    opened = dict(enumerate(itertools.islice(calls, processes)))
+    answers = {}
+    for process, call in opened.items():
+        file.write(f'{{"invoke":{compact(call)},"process":{process}}}\n')
+    turns = list(opened)
+    while turns:
+        place = int(choose.random() * len(turns))
+        process = turns[place]
+        if process not in answers:
+            name, *numbers = opened[process]
+            answers[process] = compact(answer_of(held, name, numbers))
+            continue
+        file.write(f'{{"answer":{answers.pop(process)},"process":{process}}}\n')
+        call = next(calls, None)
+        if call is None:
+            turns.pop(place)
+        else:
+            opened[process] = call
+            file.write(f'{{"invoke":{compact(call)},"process":{process}}}\n')
+
+
+def follow():
+    # The peak of a program's memory is at least what the one that starts it holds, so that nothing is held of a stream here.
+    for count, processes, keys, scans in (
+        (1_000_000, 8, 1000, 0), (2_000_000, 8, 1000, 0), (1_000_000, 8, 1000, 1000), (1_000_000, 60, 64, 0)
+    ):
+        with tempfile.NamedTemporaryFile("w+", encoding="utf-8") as file:
+            write_stream(file, count, processes, keys, scans)
+            file.flush()
+            seconds, peak, answer = min(run_on(["follow"], file.name) for _ in range(3))
+        assert answer.startswith(f'{{"calls":{count},'.encode()), answer
+        name = f"follow, {count} calls of {processes} on {keys} keys" + (f", {count // scans} scans" if scans else "")
+        print(f"{name:<56} {count / seconds:>10,.0f} calls/s {seconds:8.3f} s {peak:8.1f} MiB")
+
+
 def generated(processes, calls, seed, most):
     """The words that generate a plan of calls of all kinds on the keys up to the most."""
     numbers = {"seed": seed, "processes": processes, "calls": calls, "get": 40, "insert": 30, "remove": 20, "scan": 10,
@@ -325,7 +389,7 @@ def drive(rounds=200):
 
 def main():
     parts = {"check": check, "judge": judge, "search": search, "segments": segments, "workers": workers,
-             "generate": generate, "replay": replay, "record": record, "drive": drive}
+             "follow": follow, "generate": generate, "replay": replay, "record": record, "drive": drive}
     unknown = [part for part in sys.argv[1:] if part not in parts]
     if unknown:
         sys.exit(f"benchmarks/run.py: {unknown[0]} is none of {', '.join(parts)}")

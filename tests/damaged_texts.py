@@ -5,7 +5,7 @@
 
 A text is cut, or bytes of it are doubled, swapped or flipped, up to three times; a fixed seed chooses how. Each run has
 to end with a status from 0 to 3 and to write one line: on standard output, or for a refused text on standard error, the
-line of a fault that docs/FORMATS.md names. What is drawn is one SVG. The last line counts the texts that passed and
+line of a fault that docs/FORMATS.md names. What is drawn is one SVG, and a no of a stream has a second line. The last line counts the texts that passed and
 failed.
 """
 
@@ -26,6 +26,8 @@ MOST_DAMAGES = 3
 
 NOTHING = rb""
 LINE = rb"[^\n]+\n"
+# Behind a stream that goes wrong stands a small history.
+LINE_OR_TWO = rb"([^\n]+\n){1,2}"
 PICTURE = rb"<svg [^>]*>\n(?:[^\n]+\n)+</svg>\n"
 REFUSED_HISTORY = (
     rb"history: ([1-3] (TooLong|NotJson|Version)|5 TooMany|[46] (Shape|NotWellFormed) at event [0-9]+"
@@ -42,6 +44,7 @@ REFUSED = {
     "follow": rb"stream: line [0-9]+: (1 TooLong|2 NotJson|3 Version|4 Shape|5 TooMany|6 NotWellFormed|8 Start at pair [0-9]+)\n",
 }
 ANSWERED = {"judge": (0, 1, 2), "locate": (0, 1, 2), "draw": (0, 1, 2), "replay": (0,), "drive": (0,), "follow": (0, 1, 2)}
+ANSWERS = {"draw": PICTURE, "follow": LINE_OR_TWO}
 # What reads an example, by the ending of its name. Of several subcommands each text is given to one.
 READERS = {"-stream.json": ("follow",), "-replay.json": ("replay",), "-plan.json": ("drive",), ".json": ("judge", "locate", "draw")}
 
@@ -87,7 +90,7 @@ def fails(subcommand, text):
     """What is wrong with the run on a text, or None."""
     ran = subprocess.run([PROGRAM, subcommand], input=text, capture_output=True, timeout=60, check=False)
     if ran.returncode in ANSWERED[subcommand]:
-        wanted = PICTURE if subcommand == "draw" else LINE, NOTHING
+        wanted = ANSWERS.get(subcommand, LINE), NOTHING
     elif ran.returncode == 3:
         wanted = NOTHING, REFUSED[subcommand]
     else:

@@ -7,7 +7,6 @@ use Rattle.events.specs.declared.event.Event.{Event}
 use Rattle.events.specs.declared.operation.Operation.{Operation}
 use Rattle.map_object.specs.MapObject.{Contents, within}
 use Rattle.orders.specs.Orders.{after_calls, calls_at, IsOrder, IsLinearizable}
-use Rattle.configurations.specs.Counts.{ReachesMoreThan}
 use Rattle.calls_left.specs.declared.groups.KeyRange.{KeyRange}
 use Rattle.calls_left.specs.declared.left.LeftCall.{LeftCall}
 use Rattle.calls_left.specs.Left.{calls_of, marked}
@@ -84,6 +83,7 @@ is_spent_of f place call reply budget group loss at spent =
       among = subst (λ (marks : List Bool). AreAmong spent.marks marks)
           (at.part.marks ∙ ap (λ (range : KeyRange). map (is_in_group range) (calls_of then.left)) (sym spent.range)) spent.among;
       calls = spent.calls;
+      numbers = spent.numbers;
       reached = spent.reached;
     }
 

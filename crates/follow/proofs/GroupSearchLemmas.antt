@@ -17,11 +17,12 @@ use Rattle.prefixes.specs.Prefixes.{GoesWrongAt}
 use Rattle.calls_left.specs.declared.left.LeftCall.{LeftCall}
 use Rattle.calls_left.specs.Left.{calls_of, with_answer, marked}
 use Rattle.calls_left.specs.Groups.{is_in_group}
-use Rattle.calls_left.proofs.LeftListLemmas.{marked-map}
+use Rattle.std.proofs.lemmas.Simd.{map-map}
+use Rattle.calls_left.proofs.LeftListLemmas.{marked-map, map-marked}
 use Rattle.follow.proofs.ViewLemmas.{All-marked, AllPairs-marked}
 use Rattle.follow.specs.FollowerView.{FollowerView, IsFollowerView, after_answer}
 use Rattle.follow.specs.Following.{IsFollowing}
-use Rattle.follow.specs.Judging.{group_in, IsJudgedIn, GroupHasOrder}
+use Rattle.follow.specs.Judging.{group_in, numbers_of, numbers_in, IsJudgedIn, GroupHasOrder}
 use Rattle.follow.specs.Laws.{AnswersFollow, AnswersRefute}
 use Rattle.follow.specs.declared.groups.Group.{Group}
 use Rattle.follow.specs.Parts.{IsSearchable, IsPartOf, IsGroupAt}
@@ -42,6 +43,17 @@ pub part_calls : (f : FollowerView) (group : Group) → IsPartOf f group
     → group.part.calls.items ≡ group_in group.part.range (calls_of f.left)
 part_calls f group part =
     part.calls ∙ (ap (λ m. marked m (calls_of f.left)) part.marks ∙ marked-map (is_in_group group.part.range) (calls_of f.left))
+
+-- and their numbers are those of its calls
+pub part_numbers : (f : FollowerView) (group : Group) → IsPartOf f group → group.part.numbers.items ≡ numbers_in group.part.range f.left
+part_numbers f group part =
+    let p = is_in_group group.part.range in
+    let operation : LeftCall → Operation = λ call. call.operation in
+    let number : LeftCall → ℕ = λ call. call.number in
+    let in_group : LeftCall → Bool = λ call. p call.operation in
+    part.numbers
+    ∙ (ap (λ m. marked m (numbers_of f.left)) (part.marks ∙ map-map p operation f.left)
+    ∙ (sym (map-marked number (map in_group f.left) f.left) ∙ ap numbers_of (marked-map in_group f.left)))
 
 -- the search says whether the group has an order
 pub group_has_order : (f : FollowerView) (place : ℕ) (call : LeftCall) (reply : Reply) (group : Group)
@@ -102,6 +114,7 @@ pub is_lost : (start : Contents) (events : List Event) (f : FollowerView) (place
 is_lost start events f place call reply group law follows here pending at refuted = record {
   at = judged_at f place call reply group at;
   calls = part_calls (after_answer f place call reply) group at.part;
+  numbers = part_numbers (after_answer f place call reply) group at.part;
   refuted = refuted;
   wrong = λ more.
       let all = events ++ Answer call.process reply ∷ more in
@@ -146,5 +159,6 @@ is_spent f place call reply budget group at reached = record {
   marks = map (is_in_group group.part.range) (calls_of (after_answer f place call reply).left);
   among = λ n is. is;
   calls = at.part.calls ∙ ap (λ m. marked m (calls_of (after_answer f place call reply).left)) at.part.marks;
+  numbers = at.part.numbers ∙ ap (λ m. marked m (numbers_of (after_answer f place call reply).left)) at.part.marks;
   reached = reached;
 }

@@ -15,6 +15,13 @@ use Rattle.follow.specs.FollowerView.{FollowerView, after_answer, after_settleme
 abbrev pub group_in : KeyRange → List Operation → List Operation
 group_in range calls = filter (is_in_group range) calls
 
+-- the numbers of the calls left, and those of the calls of the group of a range
+abbrev pub numbers_of : List LeftCall → List ℕ
+numbers_of left = map (λ call. call.number) left
+
+abbrev pub numbers_in : KeyRange → List LeftCall → List ℕ
+numbers_in range left = numbers_of (filter (λ call. is_in_group range call.operation) left)
+
 -- an open call at a place of the calls left is answered, and judged in a range: it has all keys of the call, and once that one is
 -- answered, all keys or none of
 -- each call that belongs

@@ -15,7 +15,7 @@ use Rattle.calls_left.specs.Groups.{range_of, IsGroupRange, is_in_group}
 use Rattle.calls_left.specs.Settling.{AreAmong}
 use Rattle.follow.specs.FollowerView.{FollowerView, after_answer}
 use Rattle.follow.specs.Following.{IsFollowing}
-use Rattle.follow.specs.Judging.{group_in}
+use Rattle.follow.specs.Judging.{group_in, numbers_of, numbers_in}
 use Rattle.follow.specs.Faults.{answer_fault}
 use Rattle.follow.specs.Settlements.{HasSettled}
 use Rattle.follow.specs.declared.answered.Loss.{Loss}
@@ -46,6 +46,7 @@ pub record IsLost (start : Contents) (events : List Event) (f : FollowerView) (p
     (loss : Loss) : Type 0 where
   pub at : IsJudgedAt f place call reply loss
   pub calls : loss.calls.items ≡ group_in loss.range (calls_of (after_answer f place call reply).left)
+  pub numbers : loss.numbers.items ≡ numbers_in loss.range (after_answer f place call reply).left
   pub refuted : IsLinearizable loss.start.items loss.calls.items → ⊥
   pub wrong : (more : List Event) → let all = events ++ Answer call.process reply ∷ more in
       (IsLinearizable start (operations all) → ⊥) × GoesWrongAt (record { start = start; events = all }) loss.number loss.event
@@ -56,6 +57,7 @@ pub record IsSpent (f : FollowerView) (place : ℕ) (call : LeftCall) (reply : R
   pub marks : List Bool
   pub among : AreAmong marks (map (is_in_group loss.range) (calls_of (after_answer f place call reply).left))
   pub calls : loss.calls.items ≡ marked marks (calls_of (after_answer f place call reply).left)
+  pub numbers : loss.numbers.items ≡ marked marks (numbers_of (after_answer f place call reply).left)
   pub reached : ReachesMoreThan loss.start.items loss.calls.items budget
 
 -- what the answer of an open call comes to

@@ -8,6 +8,7 @@ use Rattle.calls_left.specs.declared.left.LeftCall.{LeftCall}
 use Rattle.calls_left.specs.Left.{calls_of, marked}
 use Rattle.calls_left.specs.Groups.{range_of, IsGroupRange, is_in_group}
 use Rattle.follow.specs.FollowerView.{FollowerView}
+use Rattle.follow.specs.Judging.{numbers_of}
 use Rattle.follow.specs.declared.groups.Group.{Group}
 
 -- at this place of the calls left stands an open one
@@ -22,10 +23,11 @@ pub record IsSearchable (start : Contents) (calls : List Operation) : Type 0 whe
   pub invocations_rise : InvocationsRise calls
   pub none_precedes_itself : NonePrecedesItself calls
 
--- marks on the calls left that are in the group of a range, these calls, and the known pairs of the range
+-- marks on the calls left that are in the group of a range, these calls with their numbers, and the known pairs of the range
 pub record IsPartOf (f : FollowerView) (group : Group) : Type 0 where
   pub marks : group.marks.items ≡ map (is_in_group group.part.range) (calls_of f.left)
   pub calls : group.part.calls.items ≡ marked group.marks.items (calls_of f.left)
+  pub numbers : group.part.numbers.items ≡ marked group.marks.items (numbers_of f.left)
   pub start : group.part.start.items ≡ within group.part.range.low group.part.range.high f.known
 
 -- the group of a call left, which was answered at a place

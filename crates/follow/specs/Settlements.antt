@@ -7,6 +7,7 @@ use Rattle.calls_left.specs.Left.{calls_of, marked}
 use Rattle.calls_left.specs.Settling.{AreAmong, IsSettled}
 use Rattle.follow.specs.FollowerView.{FollowerView, after_settlement}
 use Rattle.follow.specs.Following.{IsFollowing}
+use Rattle.follow.specs.Judging.{numbers_of}
 use Rattle.follow.specs.declared.answered.Loss.{Loss}
 use Rattle.follow.specs.declared.groups.Group.{Group}
 use Rattle.follow.specs.declared.settling.Settled.{Settled}
@@ -32,6 +33,7 @@ pub record IsSpentOf (f : FollowerView) (group : Group) (budget : ℕ) (loss : L
   pub marks : List Bool
   pub among : AreAmong marks group.marks.items
   pub calls : loss.calls.items ≡ marked marks (calls_of f.left)
+  pub numbers : loss.numbers.items ≡ marked marks (numbers_of f.left)
   pub reached : ReachesMoreThan loss.start.items loss.calls.items budget
 
 -- what comes of it where events are followed

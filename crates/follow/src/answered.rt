@@ -5,11 +5,12 @@ use calls_left::KeyRange;
 use events::Operation;
 
 /// What was searched where a stream lost its orders, or where the search was given up: the event and the number of its call, the
-/// range of its group, the pairs of the range that these calls started from, and the calls.
+/// range of its group, the pairs of the range that these calls started from, and the calls with their numbers.
 #[derive(Debug, Drop)]
 pub struct Loss {
     pub event: usize,
     pub number: usize,
+    pub numbers: Vec<usize>,
     pub range: KeyRange,
     pub start: Vec<(u64, u64)>,
     pub calls: Vec<Operation>,

@@ -2,6 +2,8 @@
 ghost use Rattle.std.specs.Prelude.{◌≡◌, ◌<◌, length, Some, slice_get, IfOk};
 ghost use Rattle.map_object.specs.MapObject.{within};
 ghost use Rattle.call_search.specs.Found.{IsFound};
+ghost use Rattle.calls_left.specs.Left.{marked};
+ghost use Rattle.follow.specs.Judging.{numbers_of};
 ghost use Rattle.follow.specs.Parts.{IsSearchable, IsGroupAt};
 
 use crate::answered::Loss;
@@ -35,15 +37,35 @@ pub(crate) fn group_at(
     let range = group_range(left, KeyRange::of(&left[place].operation.call));
     let marks = group_of(alloc, left, range)?;
     let calls = marked_calls(alloc, left, &marks)?;
+    let numbers = marked_numbers(alloc, left, &marks)?;
     let start = pairs_of(alloc, standing.known(), range)?;
     let part = Loss {
         event,
         number: left[place].number,
+        numbers,
         range,
         start,
         calls,
     };
     Ok(Group { marks, part })
+}
+
+/// The numbers of the calls that are marked, in their order.
+pub(crate) fn marked_numbers(
+    alloc: Global,
+    left: &[LeftCall],
+    marks: &[bool],
+) -> Result<Vec<usize>, Memory>
+    requires { length marks.now ≡ length left.now }
+    ensures { IfOk result (λ numbers. numbers.items ≡ marked marks.now (numbers_of left.now)) }
+{
+    let mut numbers = Vec::new(alloc);
+    for place in 0..left.len() {
+        if marks[place] {
+            numbers.push(left[place].number)?;
+        }
+    }
+    Ok(numbers)
 }
 
 /// The pairs of a range.

@@ -9,7 +9,7 @@ ghost use Rattle.follow.specs.Parts.{IsSearchable, IsPartOf};
 ghost use Rattle.follow.specs.Settlements.{IsSettledAs, IsSettlement};
 
 use crate::answered::Loss;
-use crate::groups::{Group, search_part};
+use crate::groups::{Group, marked_numbers, search_part};
 use crate::laws::{settlements_follow, settlements_have_orders};
 use crate::standing::Standing;
 use call_search::Found;
@@ -46,13 +46,14 @@ pub(crate) fn settle(
     settlements_follow();
     let goes = settled(alloc, standing.left(), &group.marks)?;
     let early = marked_calls(alloc, standing.left(), &goes)?;
+    let numbers = marked_numbers(alloc, standing.left(), &goes)?;
     match early_order(alloc, &group, &goes, &early, order, budget)? {
         Found::Order(order) => {
             let standing = standing.let_go(alloc, &goes, &early, &order)?;
             Ok(Settled::Going(standing))
         }
-        Found::NoOrder => Ok(Settled::Lost(with_calls(group.part, early))),
-        Found::Spent => Ok(Settled::Spent(with_calls(group.part, early))),
+        Found::NoOrder => Ok(Settled::Lost(with_calls(group.part, numbers, early))),
+        Found::Spent => Ok(Settled::Spent(with_calls(group.part, numbers, early))),
     }
 }
 
@@ -76,12 +77,13 @@ fn early_order(
 }
 
 /// What was searched, with other calls.
-fn with_calls(part: Loss, calls: Vec<Operation>) -> Loss
-    ensures { result ≡ record part { calls = calls } }
+fn with_calls(part: Loss, numbers: Vec<usize>, calls: Vec<Operation>) -> Loss
+    ensures { result ≡ record part { numbers = numbers; calls = calls } }
 {
     Loss {
         event: part.event,
         number: part.number,
+        numbers,
         range: part.range,
         start: part.start,
         calls,

@@ -27,26 +27,6 @@ alike_of calls others size below = record {
   precedence = λ i j a b c d here later there late. (below i a c (slice_get_within calls i a here) here there).2 j b d later late;
 }
 
--- one place more
-pub placed_more : (calls others : List Operation) (a b : Operation) (i : ℕ) (x y : Operation) → slice_get calls i ≡ Some x
-    → slice_get others i ≡ Some y
-    → precedes a x ≡ precedes b y → ArePlacedBelow calls others a b i → ArePlacedBelow calls others a b (i + 1)
-placed_more calls others a b i x y here there same below j c d less at over = elim (cases_lt j i) [
-  | inl before ↦ below j c d before at over
-  | inr late ↦
-      let is : j ≡ i = omega arith in
-      let left = same_Some c x (sym at ∙ (ap (slice_get calls) is ∙ here)) in
-      let right = same_Some d y (sym over ∙ (ap (slice_get others) is ∙ there)) in
-      ap (precedes a) left ∙ (same ∙ sym (ap (precedes b) right))
-]
-
-pub placed_all : (calls others : List Operation) (a b : Operation) (limit : ℕ) → length calls ≤ limit
-    → ArePlacedBelow calls others a b limit
-    → (j : ℕ) (c d : Operation) → slice_get calls j ≡ Some c → slice_get others j ≡ Some d → precedes a c ≡ precedes b d
-placed_all calls others a b limit all below j c d at over =
-    let within = slice_get_within calls j c at in
-    below j c d (omega arith) at over
-
 -- what is the same of the calls at a place
 abbrev pub AreSame : List Operation → List Operation → Operation → Operation → Type 0
 AreSame calls others a b = (a.call ≡ b.call) × (reply_in a.response ≡ reply_in b.response)

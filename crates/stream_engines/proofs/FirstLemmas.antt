@@ -1,5 +1,5 @@
 -- Before any line there are no starting pairs.
-use Rattle.std.proofs.Common.{◌≡◌, ℕ, Bool, true, false, List, [], ◌∷◌, refl, arith, length, ap}
+use Rattle.std.proofs.Common.{◌≡◌, ℕ, Bool, true, false, List, [], refl, arith, length, ap}
 use Rattle.events.specs.HistoryView.{HistoryView}
 use Rattle.stream_engines.specs.declared.followed.Followed.{Followed}
 use Rattle.stream_engines.specs.Followed.{IsFollowed}

@@ -1,5 +1,5 @@
 -- What an answer that was judged comes to, and the end of the lines.
-use Rattle.std.proofs.Common.{◌≡◌, ℕ, Bool, List, [], ◌∷◌, ◌++◌, length, codes, Option, Some, None, refl, sym, ap, ◌∙◌, subst, append-nil}
+use Rattle.std.proofs.Common.{◌≡◌, ℕ, List, [], ◌∷◌, ◌++◌, length, codes, Option, Some, None, sym, ap, ◌∙◌, subst}
 use Rattle.std.proofs.Common.{string_bytes}
 use Rattle.serde_json.specs.Written.{compact_text}
 use Rattle.events.specs.declared.event.Reply.{Reply}
@@ -16,7 +16,7 @@ use Rattle.follow.specs.declared.answered.Answered.{Answered as Judged}
 use Rattle.follow.specs.declared.answered.Answered.TheVariants as judged
 use Rattle.follow.specs.Outcomes.{IsTakenAs}
 use Rattle.outcomes.specs.declared.outcome.Answer as answers
-use Rattle.outcomes.specs.declared.outcome.Answer.TheVariants.{Yes, No, Undecided}
+use Rattle.outcomes.specs.declared.outcome.Answer.TheVariants.{Yes, Undecided}
 use Rattle.outcomes.specs.declared.outcome.Outcome.{Outcome}
 use Rattle.outcomes.specs.declared.outcome.Outcome.TheVariants.{Answered, Refused, Memory, Words, Failed}
 use Rattle.outcomes.specs.Lines.{line}
@@ -75,7 +75,7 @@ wrong_of budget text read rest next f process reply loss followed spelled parts 
 pub lost_at : (budget : ℕ) (told : Option (List ℕ)) (read : List (List ℕ)) (next : List ℕ) (f : Followed) (process : ℕ)
     (reply : Reply) (loss : Loss)
     (outcome : Outcome) (followed : IsFollowed read f) → SpellsEvent f.has_start next (Answer process reply)
-        → BeginsWith told (read ++ next ∷ [])
+    → BeginsWith told (read ++ next ∷ [])
     → IsTakenAs followed.stream.start followed.stream.events f.follower process reply budget (judged.Lost loss)
     → IsLostOutcome loss outcome → IsStreamOutcome budget told outcome
 lost_at budget told read next f process reply loss Memory followed spelled begins taken is = tt
@@ -90,7 +90,7 @@ lost_at budget (Some text) read next f process reply loss (Answered answer bytes
 pub spent_at : (budget : ℕ) (told : Option (List ℕ)) (read : List (List ℕ)) (next : List ℕ) (f : Followed) (process : ℕ)
     (reply : Reply) (loss : Loss)
     (outcome : Outcome) (followed : IsFollowed read f) → SpellsEvent f.has_start next (Answer process reply)
-        → BeginsWith told (read ++ next ∷ [])
+    → BeginsWith told (read ++ next ∷ [])
     → IsTakenAs followed.stream.start followed.stream.events f.follower process reply budget (judged.Spent loss)
     → IsAnsweredBy Undecided (line (compact_text (loss_data loss (codes "undecided")))) outcome → IsStreamOutcome budget told outcome
 spent_at budget told read next f process reply loss Memory followed spelled begins taken is = tt
@@ -117,7 +117,7 @@ whole_of text read f bytes followed lines is = record {
 
 pub whole_at : (budget : ℕ) (told : Option (List ℕ)) (read : List (List ℕ)) (f : Followed) (calls overlap : ℕ) (outcome : Outcome)
     (followed : IsFollowed read f) → AreLinesOf told read → calls ≡ length (operations followed.stream.events)
-        → overlap ≡ overlap_of followed.stream.events
+    → overlap ≡ overlap_of followed.stream.events
     → IsAnsweredBy Yes (line (compact_text (yes_data calls overlap))) outcome → IsStreamOutcome budget told outcome
 whole_at budget told read f calls overlap Memory followed lines count many is = tt
 whole_at budget told read f calls overlap (Refused bytes) followed lines count many is = absurd is

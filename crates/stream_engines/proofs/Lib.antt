@@ -1,4 +1,5 @@
 mod AlikeLemmas
+mod ReportLemmas
 mod SmallLemmas
 mod StreamLemmas
 mod OverlapLemmas

@@ -2,7 +2,6 @@
 use Rattle.std.proofs.Common.{◌≡◌, ◌≢◌, ℕ, ◌+◌, ◌<◌, ◌≤◌, ◌==◌, Bool, true, false, List, [], ◌∷◌, ◌++◌, length, Option, Some, None, Result}
 use Rattle.std.proofs.Common.{Ok, Err, IfOk, IfErr, refl, sym, ap, ◌∙◌, subst, inl, inr, append_assoc, append-nil, arith, string_bytes}
 use Rattle.std.specs.Io.KnownBytes.{IsAtEnd, Consumes}
-use Rattle.std.proofs.lemmas.Option.{same_Some}
 use Rattle.std.proofs.lemmas.Bool.Decides.{nat_tests}
 use Rattle.std.proofs.lemmas.List.Elements.{All-head, All-tail}
 use Rattle.stream_text.specs.declared.line_fault.LineFault.TheVariants as faults
@@ -21,17 +20,16 @@ use Rattle.stream_engines.specs.Outcomes.{IsStreamOutcome, IsFollowOutcome}
 use Rattle.stream_engines.proofs.RefusalLemmas.{refusal_of}
 
 -- what was read, and what is to come
-pub HasRead-begin : (told : Option (List ℕ)) → HasRead told [] told
-HasRead-begin None = tt
-HasRead-begin (Some text) = (text, refl, refl)
-
 more_of : TakesFirstLine → (text : List ℕ) (lines : List (List ℕ)) (rest line : List ℕ) (new : Option (List ℕ))
     → lines_of text ≡ lines ++ lines_of rest
     → TakesLine (Some rest) line new → HasRead (Some text) (lines ++ line ∷ []) new
 more_of law text lines rest line None is taken = elim taken.taken [ inl fed ↦ absurd fed | inr last ↦ absurd last.1 ]
-more_of law text lines rest line (Some more) is taken =
-    (more, refl, is ∙ (ap (λ (ls : List (List ℕ)). lines ++ ls) (law rest line more taken) ∙ sym (append_assoc lines (line ∷ [])
-        (lines_of more))))
+more_of law text lines rest line (Some more) is taken = (
+  more,
+  refl,
+  is ∙ (ap (λ (ls : List (List ℕ)). lines ++ ls) (law rest line more taken) ∙ sym (append_assoc lines (line ∷ [])
+      (lines_of more))),
+)
 
 pub HasRead-more : TakesFirstLine → (told : Option (List ℕ)) (lines : List (List ℕ)) (old new : Option (List ℕ)) (line : List ℕ)
     → HasRead told lines old
@@ -85,14 +83,23 @@ with_byte byte bytes lines h is = rw (other_byte byte h) (ap (before_lines byte)
 
 long_last : (byte : ℕ) (bytes : List ℕ) (lines : List (List ℕ)) → byte ≢ line_feed → lines_of bytes ≡ lines → BeginsLong (byte ∷ bytes) 1
 long_last byte bytes [] h is = record { next = byte ∷ []; rest = []; parts = with_byte byte bytes [] h is; long = omega arith }
-long_last byte bytes (line ∷ lines) h is = record { next = byte ∷ line; rest = lines; parts = with_byte byte bytes (line ∷ lines) h is;
-    long = omega arith }
+long_last byte bytes (line ∷ lines) h is = record {
+  next = byte ∷ line;
+  rest = lines;
+  parts = with_byte byte bytes (line ∷ lines) h is;
+  long = omega arith;
+}
 
 long_more : (byte : ℕ) (bytes : List ℕ) (count : ℕ) → byte ≢ line_feed → BeginsLong bytes count → BeginsLong (byte ∷ bytes) (count + 1)
 long_more byte bytes count h long =
     let size = long.long in
-    record { next = byte ∷ long.next; rest = long.rest; parts =
-        with_byte byte bytes (long.next ∷ long.rest) h long.parts; long = omega arith }
+    record {
+      next = byte ∷ long.next;
+      rest = long.rest;
+      parts =
+          with_byte byte bytes (long.next ∷ long.rest) h long.parts;
+      long = omega arith;
+    }
 
 long_front : (byte : ℕ) (front rest : List ℕ) → HasNoLineFeed (byte ∷ front) → BeginsLong (byte ∷ front ++ rest) (length (byte ∷ front))
 long_front byte [] rest h = long_last byte rest (lines_of rest) (All-head (λ b. b ≢ line_feed) byte [] h) refl
@@ -172,7 +179,10 @@ went_on told read line new (Err outcome) has followed = tt
 pub came_out : (budget : ℕ) (told : Option (List ℕ)) (before after : ℕ) (new : Option (List ℕ))
     (r : Result Followed Outcome) → after ≡ before
     → IfErr r (IsStreamOutcome budget told)
-    → IfErr r (IsFollowOutcome budget (record { old = record { bytes = told; failures = before }; new = record
-        { bytes = new; failures = after } }))
+    → IfErr r (IsFollowOutcome budget (record {
+      old = record { bytes = told; failures = before };
+      new = record
+          { bytes = new; failures = after };
+    }))
 came_out budget told before after new (Ok f) sound stopped = tt
 came_out budget told before after new (Err outcome) sound stopped = inr (sound, stopped)

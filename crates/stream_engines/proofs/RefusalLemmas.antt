@@ -1,8 +1,7 @@
 -- What a refused line comes to.
-use Rattle.stream_text.specs.declared.line_fault.LineFault.TheVariants as faults
 use Rattle.follow.specs.declared.fault.FollowFault.TheVariants as turns
-use Rattle.std.proofs.Common.{◌≡◌, ◌≢◌, ℕ, ◌+◌, ◌<◌, Bool, true, false, List, [], ◌∷◌, ◌++◌, length, Option, Some, None, refl, sym, ap, ◌∙◌}
-use Rattle.std.proofs.Common.{subst, inl, inr, append_assoc, arith, string_bytes}
+use Rattle.std.proofs.Common.{◌≡◌, ◌≢◌, ℕ, ◌+◌, ◌<◌, Bool, List, [], ◌∷◌, ◌++◌, length, Option, Some, None, refl, sym, ap, ◌∙◌}
+use Rattle.std.proofs.Common.{inl, inr, append_assoc, arith, string_bytes}
 use Rattle.events.specs.declared.event.Event.{Event}
 use Rattle.stream_text.specs.declared.line_fault.LineFault.{LineFault}
 use Rattle.stream_text.specs.Cuts.{lines_of}
@@ -60,7 +59,7 @@ refused_at budget told read line f number fault Failed followed count wrong begi
 refused_at budget None read line f number fault (Refused bytes) followed count wrong begins is = tt
 refused_at budget (Some text) read line f number fault (Refused bytes) followed count wrong begins is =
     refusal_of text read (line ∷ begins.0) f (line_fault_name fault) (string_bytes bytes) followed
-        (next_of text read begins.0 line begins.1)
+    (next_of text read begins.0 line begins.1)
     (inl (record {
       next = line;
       rest = begins.0;
@@ -84,7 +83,7 @@ refused_turn budget told read line f number e fault Failed followed count spelle
 refused_turn budget None read line f number e fault (Refused bytes) followed count spelled wrong begins is = tt
 refused_turn budget (Some text) read line f number e fault (Refused bytes) followed count spelled wrong begins is =
     refusal_of text read (line ∷ begins.0) f (turn_fault_name fault) (string_bytes bytes) followed
-        (next_of text read begins.0 line begins.1)
+    (next_of text read begins.0 line begins.1)
     (inr (inl (record {
       next = line;
       rest = begins.0;

@@ -1,5 +1,5 @@
 -- Lines of a stream, with one line more.
-use Rattle.std.proofs.Common.{◌≡◌, ℕ, Bool, true, false, List, [], ◌∷◌, ◌++◌, ap}
+use Rattle.std.proofs.Common.{ℕ, Bool, true, false, List, [], ◌∷◌, ◌++◌, ap}
 use Rattle.events.specs.declared.event.Event.{Event}
 use Rattle.events.specs.HistoryView.{HistoryView, with_event}
 use Rattle.stream_text.specs.Lines.{SpellsEvent}

@@ -1,7 +1,7 @@
 -- Why a line of a stream is refused, as the program says it.
 use Rattle.stream_text.specs.declared.line_fault.LineFault.TheVariants as lines
 use Rattle.follow.specs.declared.fault.FollowFault.TheVariants as turns
-use Rattle.std.specs.Prelude.{◌≡◌, ◌≢◌, ◌⊎◌, ℕ, ◌+◌, ◌-◌, ◌^◌, Bool, List, [], ◌∷◌, ◌++◌, length, Option, Some, codes, decimal}
+use Rattle.std.specs.Prelude.{◌≡◌, ◌≢◌, ◌⊎◌, ℕ, ◌-◌, ◌^◌, Bool, List, [], ◌∷◌, ◌++◌, length, Option, Some, codes, decimal}
 use Rattle.events.specs.declared.event.Event.{Event}
 use Rattle.events.specs.declared.event.Event.TheVariants.{Invoke, Answer}
 use Rattle.stream_text.specs.declared.line_fault.LineFault.{LineFault}

@@ -7,7 +7,7 @@ ghost use Rattle.serde_json.specs.View.{view};
 ghost use Rattle.serde_json.specs.Written.{compact_text};
 ghost use Rattle.outcomes.specs.Lines.{line};
 ghost use Rattle.stream_engines.specs.Answers.{IsSmallLine};
-ghost use Rattle.stream_engines.specs.Reports.{yes_data, loss_data};
+ghost use Rattle.stream_engines.specs.Reports.{yes_data, numbers_data, loss_data};
 
 use crate::small_history::small_line;
 use events::Memory;
@@ -78,13 +78,25 @@ fn loss_line(alloc: Global, loss: &Loss, word: &str) -> Result<String, AllocErro
 fn loss_value(alloc: Global, loss: &Loss, word: &str) -> Result<Value, AllocError>
     ensures { IfOk result (λ value. view value ≡ loss_data loss.now word.now) }
 {
+    let calls = numbers_value(alloc, &loss.numbers)?;
     let (call, event) = (loss.number, loss.event);
     let range = loss.range;
     json!(in alloc; {
         "call": call,
+        "calls": calls,
         "event": event,
         "hi": range.high,
         "lo": range.low,
         "verdict": word
     })
+}
+
+fn numbers_value(alloc: Global, numbers: &[usize]) -> Result<Value, AllocError>
+    ensures { IfOk result (λ value. view value ≡ numbers_data numbers.now) }
+{
+    let mut items = Vec::with_capacity(alloc, numbers.len())?;
+    for number in numbers {
+        items.push(Value::from(*number))?;
+    }
+    Ok(Value::from(items))
 }

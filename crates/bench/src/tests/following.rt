@@ -25,7 +25,7 @@ fn streams_are_followed(rt: HostRuntime) -> Result<(), Fail> {
     let alloc = rt.alloc();
     let yes = "{\"calls\":2,\"overlap\":1,\"verdict\":\"yes\"}\n";
     let no =
-        "{\"call\":2,\"event\":4,\"hi\":5,\"lo\":5,\"verdict\":\"no\"}\n{\"events\":[{\"invoke\":[\"get\",5],\"process\":0},{\"answer\":1,\"process\":0}],\"start\":[[5,7]],\"version\":2}\n";
+        "{\"call\":2,\"calls\":[2],\"event\":4,\"hi\":5,\"lo\":5,\"verdict\":\"no\"}\n{\"events\":[{\"invoke\":[\"get\",5],\"process\":0},{\"answer\":1,\"process\":0}],\"start\":[[5,7]],\"version\":2}\n";
     let none = "{\"calls\":0,\"overlap\":0,\"verdict\":\"yes\"}\n";
     for (text, status, report) in [
         (OVERLAPPING, 0, yes),

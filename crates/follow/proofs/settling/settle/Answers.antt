@@ -15,7 +15,7 @@ early_order-requires-clause-searchable c =
     rw (c.left.ensures.left, c.deref.ensures.value) at c.in_ok-goes.ensures in
     let early_is : c.in_ok-early.early.items ≡ marked c.in_ok-goes.goes.items (calls_of f.left) =
     rw (c.deref-2.ensures.value, c.left-2.ensures.left) at c.in_ok-early.ensures in
-    subst (λ (calls : List Operation). IsSearchable c.args.group.part.start.items calls) (sym c.deref-4.ensures.value)
+    subst (λ (calls : List Operation). IsSearchable c.args.group.part.start.items calls) (sym c.deref-5.ensures.value)
     (early_searchable f c.args.group c.in_ok-goes.goes.items c.in_ok-early.early.items c.requires.part settled early_is
     c.left.ensures.stands)
 
@@ -27,7 +27,7 @@ returns-in_ok-standing-in-Order-clause-follows c = λ start events follows.
     let early_is : c.in_ok-early.early.items ≡ marked c.in_ok-goes.goes.items (calls_of f.left) =
     rw (c.deref-2.ensures.value, c.left-2.ensures.left) at c.in_ok-early.ensures in
     let is : IsOrder c.args.group.part.start.items c.in_ok-early.early.items c.in-Order.order.items =
-    rw c.deref-4.ensures.value at (rw c.in-Order.is at c.in_ok-order.ensures) in
+    rw c.deref-5.ensures.value at (rw c.in-Order.is at c.in_ok-order.ensures) in
     let gone : c.in_ok-standing-in-Order.standing
     ≡ after_settlement f c.in_ok-goes.goes.items (after_calls f.known (calls_at c.in_ok-early.early.items c.in-Order.order.items)) =
     rw (c.deref-in-Order.ensures.value, c.deref-in-Order-2.ensures.value, c.deref-in-Order-3.ensures.value)
@@ -43,7 +43,7 @@ returns-in-NoOrder-clause-follows c = λ start events follows.
     rw (c.left.ensures.left, c.deref.ensures.value) at c.in_ok-goes.ensures in
     let early_is : c.in_ok-early.early.items ≡ marked c.in_ok-goes.goes.items (calls_of f.left) =
     rw (c.deref-2.ensures.value, c.left-2.ensures.left) at c.in_ok-early.ensures in
-    rw c.deref-4.ensures.value at (rw c.in-NoOrder.is at c.in_ok-order.ensures)
+    rw c.deref-5.ensures.value at (rw c.in-NoOrder.is at c.in_ok-order.ensures)
     (early_has_order f c.args.group c.in_ok-goes.goes.items c.in_ok-early.early.items c.requires.part settled early_is
     c.settlements_have_orders.ensures start
     events follows)

@@ -27,4 +27,4 @@ loop-place-preserved c =
 pub returns : goal.returns
 returns c = λ yes.
     alike_all c.args.calls.now c.args.others.now c.loop-place.place c.loop-place.invariant.0 (omega (arith, c.loop-place-test.false))
-        c.loop-place.invariant.1
+    c.loop-place.invariant.1

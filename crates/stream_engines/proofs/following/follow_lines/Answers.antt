@@ -1,4 +1,4 @@
-use Rattle.std.proofs.Common.{◌≡◌, ℕ, ◌+◌, length, inr, arith}
+use Rattle.std.proofs.Common.{◌≡◌, ◌+◌, length, inr, arith}
 use Rattle.std.specs.Io.KnownBytes.{prepend_known}
 use Rattle.stream_engines.specs.Refusals.{most_lines}
 use Rattle.stream_engines.proofs.ReadingLemmas.{many_at}
@@ -14,5 +14,5 @@ returns g c =
       at.0,
       many_at c.args.budget (g.S.Source.remaining c.args.source.now) read c.loop-before.followed 18446744073709551615
           (prepend_known c.loop-before.window.bytes (g.S.Source.remaining c.loop-before.source)) c.refused_line.result at.1.2 count number
-              at.1.3 c.refused_line.ensures,
+          at.1.3 c.refused_line.ensures,
     )

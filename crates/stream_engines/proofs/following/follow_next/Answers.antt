@@ -1,10 +1,6 @@
-use Rattle.std.proofs.Common.{◌≡◌, ℕ, ◌+◌, List, [], ◌∷◌, ◌++◌, length, Option, Err, inl, inr, ap, sym, subst}
+use Rattle.std.proofs.Common.{ℕ, ◌+◌, [], ◌∷◌, ◌++◌, Err, inr, ap}
 use Rattle.std.specs.Io.KnownBytes.{prepend_known}
-use Rattle.std.proofs.lemmas.Result.{IfOk-weaker}
 use Rattle.stream_text.specs.Cuts.{TakesLine}
-use Rattle.stream_engines.specs.declared.followed.Followed.{Followed}
-use Rattle.stream_engines.specs.Followed.{IsFollowed}
-use Rattle.stream_engines.specs.Reading.{HasRead}
 use Rattle.stream_engines.proofs.ReadingLemmas.{HasRead-more, BeginsWith-read, AreLinesOf-end, took, ended, long_at, went_on, came_out}
 use Rattle.stream_engines.proofs.following.follow_next.Goals as goal
 
@@ -14,7 +10,7 @@ returns-then-found-clause-went g c = λ told read count followed has.
     let old = prepend_known c.args.window.now.bytes (g.S.Source.remaining c.args.source.now) in
     let new = prepend_known c.next_line.new.window.bytes (g.S.Source.remaining c.next_line.new.source) in
     let this : TakesLine old line new = took old new line c.in-Ok.found c.next_line.new.window.line c.if-found.true c.line.ensures
-        c.in-Ok.ensures.line in
+    c.in-Ok.ensures.line in
     went_on told read line new c.take_line.result (HasRead-more c.lines_one_by_one.ensures told read old new line has this)
     (c.take_line.ensures.taken read count followed)
 
@@ -24,11 +20,11 @@ returns-then-found-clause-stopped g c = λ told read count followed has.
     let old = prepend_known c.args.window.now.bytes (g.S.Source.remaining c.args.source.now) in
     let new = prepend_known c.next_line.new.window.bytes (g.S.Source.remaining c.next_line.new.source) in
     let this : TakesLine old line new = took old new line c.in-Ok.found c.next_line.new.window.line c.if-found.true c.line.ensures
-        c.in-Ok.ensures.line in
+    c.in-Ok.ensures.line in
     let begins = BeginsWith-read told (read ++ line ∷ []) new (HasRead-more c.lines_one_by_one.ensures told read old new line has this) in
     came_out c.args.budget told (g.S.Source.failures c.args.source.now) (g.S.Source.failures c.next_line.new.source)
     (g.S.Source.remaining c.next_line.new.source) c.take_line.result c.in-Ok.ensures.counted
-        (c.take_line.ensures.stopped told read count followed begins)
+    (c.take_line.ensures.stopped told read count followed begins)
 
 pub returns-in-Ok-clause-stopped : goal.returns-in-Ok-clause-stopped
 returns-in-Ok-clause-stopped g c = λ told read count followed has.

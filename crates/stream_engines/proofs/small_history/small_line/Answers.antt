@@ -8,7 +8,7 @@ pub returns : goal.returns
 returns c = λ refuted.
     let fits : string_len c.in_ok-text.text ≤ text_limit = omega (arith, c.len.ensures, c.if-len-gt-MAX_TEXT.false) in
     small_of c.places_do_not_matter.ensures c.args.loss.now c.in-Some.history (string_bytes c.in_ok-text.text)
-        (string_bytes c.in_ok-line_of.field-0) refuted
+    (string_bytes c.in_ok-line_of.field-0) refuted
     (rw c.in-Some.is at c.in_ok-history.ensures) c.calls.ensures.history
     (rw (c.deref.ensures.value, c.calls.ensures.calls) at (c.are_alike.ensures c.if-not-are_alike.false)) (c.in_ok-text.ensures.again fits)
-        c.in_ok-line_of.ensures
+    c.in_ok-line_of.ensures

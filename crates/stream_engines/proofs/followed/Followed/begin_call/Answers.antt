@@ -8,9 +8,9 @@ pub returns-in-Ok-clause-taken : goal.returns-in-Ok-clause-taken
 returns-in-Ok-clause-taken c = λ read line followed spelled.
     let stream = followed.stream in
     invoked read line c.args.self c.invoke.new.self c.args.process c.args.call c.saturating_add.result
-        c.saturating_add-in-Ok.result followed spelled
+    c.saturating_add-in-Ok.result followed spelled
     (c.in-Ok.ensures.follows stream.start stream.events followed.follows)
-        (c.in-Ok.ensures.accepted stream.start stream.events followed.follows)
+    (c.in-Ok.ensures.accepted stream.start stream.events followed.follows)
     c.saturating_add.ensures c.saturating_add-in-Ok.ensures
 
 pub returns-in-Err-clause-stopped : goal.returns-in-Err-clause-stopped
@@ -19,7 +19,7 @@ returns-in-Err-clause-stopped c = λ told read line budget count followed spelle
     let process = c.args.process in
     let call = c.args.call in
     refused_turn budget told read line c.args.self c.args.number (Invoke process call) c.in-Err.fault c.refused_event.result
-        followed count spelled
+    followed count spelled
     (shown_some c.in-Err.fault (invocation_fault stream.events process call)
-        (c.in-Err.ensures.refused stream.start stream.events followed.follows))
+    (c.in-Err.ensures.refused stream.start stream.events followed.follows))
     begins c.refused_event.ensures

@@ -13,11 +13,11 @@ returns-in-Ok-Going-clause-taken c = λ read line followed spelled.
     let process = c.args.process in
     let reply = c.args.reply in
     let taken = subst (λ (a : Answered). IsAnswered stream.start stream.events c.args.self.follower process reply c.args.budget a)
-        c.in-Ok-Going.field-0-is
+    c.in-Ok-Going.field-0-is
     (c.in-Ok-Going.ensures stream.start stream.events followed.follows) in
     answered read line c.args.self c.in-Ok-Going.follower process reply c.saturating_sub.result followed spelled
     (going_on stream.start stream.events c.args.self.follower c.in-Ok-Going.follower process reply c.args.budget taken)
-        c.saturating_sub.ensures
+    c.saturating_sub.ensures
 
 pub returns-in-Ok-Lost-clause-stopped : goal.returns-in-Ok-Lost-clause-stopped
 returns-in-Ok-Lost-clause-stopped c = λ told read line count followed spelled begins.
@@ -25,7 +25,7 @@ returns-in-Ok-Lost-clause-stopped c = λ told read line count followed spelled b
     let process = c.args.process in
     let reply = c.args.reply in
     let taken = subst (λ (a : Answered). IsAnswered stream.start stream.events c.args.self.follower process reply c.args.budget a)
-        c.in-Ok-Lost.field-0-is
+    c.in-Ok-Lost.field-0-is
     (c.in-Ok-Lost.ensures stream.start stream.events followed.follows) in
     lost_at c.args.budget told read line c.args.self process reply c.in-Ok-Lost.loss c.lost_outcome.result followed spelled begins taken
     (c.lost_outcome.ensures taken.judged.refuted)
@@ -36,7 +36,7 @@ returns-in-Ok-Spent-clause-stopped c = λ told read line count followed spelled 
     let process = c.args.process in
     let reply = c.args.reply in
     let taken = subst (λ (a : Answered). IsAnswered stream.start stream.events c.args.self.follower process reply c.args.budget a)
-        c.in-Ok-Spent.field-0-is
+    c.in-Ok-Spent.field-0-is
     (c.in-Ok-Spent.ensures stream.start stream.events followed.follows) in
     spent_at c.args.budget told read line c.args.self process reply c.in-Ok-Spent.loss c.spent_outcome.result followed spelled begins taken
     c.spent_outcome.ensures
@@ -47,8 +47,8 @@ returns-in-Ok-Refused-clause-stopped c = λ told read line count followed spelle
     let process = c.args.process in
     let reply = c.args.reply in
     let taken = subst (λ (a : Answered). IsAnswered stream.start stream.events c.args.self.follower process reply c.args.budget a)
-        c.in-Ok-Refused.field-0-is
+    c.in-Ok-Refused.field-0-is
     (c.in-Ok-Refused.ensures stream.start stream.events followed.follows) in
     refused_turn c.args.budget told read line c.args.self c.args.number (Answer process reply) c.in-Ok-Refused.fault c.refused_event.result
-        followed count spelled
+    followed count spelled
     (λ other. taken.0) begins c.refused_event.ensures

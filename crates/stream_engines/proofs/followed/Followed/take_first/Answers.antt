@@ -1,9 +1,6 @@
-use Rattle.std.proofs.Common.{◌≡◌, ℕ, Bool, true, false, List, [], refl, subst}
-use Rattle.events.specs.HistoryView.{HistoryView}
+use Rattle.std.proofs.Common.{Bool, false, [], refl, subst}
 use Rattle.stream_text.specs.declared.event.FirstLine.{FirstLine}
 use Rattle.stream_text.specs.Lines.{as_event, SpellsEvent, SpellsFirst}
-use Rattle.stream_engines.specs.declared.followed.Followed.{Followed}
-use Rattle.stream_engines.specs.Followed.{IsFollowed}
 use Rattle.stream_engines.proofs.FirstLemmas.{no_start}
 use Rattle.stream_engines.proofs.RefusalLemmas.{refused_at}
 use Rattle.stream_engines.proofs.followed.Followed.take_first.Goals as goal
@@ -27,5 +24,5 @@ returns-in-Ok-Event-clause-stopped c = λ told followed begins.
 pub returns-clause-stopped : goal.returns-clause-stopped
 returns-clause-stopped c = λ told followed begins.
     refused_at c.args.budget told [] c.args.line.now c.args.self 1 c.in-Err.fault c.refused_line.result followed refl
-        c.in-Err.ensures.refused begins
+    c.in-Err.ensures.refused begins
     c.refused_line.ensures

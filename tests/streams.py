@@ -1,0 +1,212 @@
+#!/usr/bin/env python3
+"""Compares what `follow` answers to a stream with what `judge` and `locate` answer to the history of the same events.
+
+    tests/streams.py [HISTORIES]
+
+Histories are those of the examples that are not refused, and drawn ones, 5,000 where no number is given: up to 64 processes
+call a map, each call has its effect at a moment while it is open, and some stay open; then answers of half of them are changed,
+or swapped with what stands beside them. Where `judge` says yes `follow` counts the calls and how much they overlap; where
+`locate` finds an event it is the one that `follow` stops at, and the small history that it writes has no order. Where one of
+them is undecided the others may say what fits. The last line counts what passed and failed.
+"""
+
+import concurrent.futures
+import json
+import os
+import random
+import subprocess
+import sys
+
+TOP = os.path.dirname(os.path.dirname(os.path.abspath(__file__)))
+PROGRAM = os.path.join(TOP, "crates", "bench", "out", "bench")
+EXAMPLES = os.path.join(TOP, "examples")
+ORDERED = os.path.join(EXAMPLES, "insert-then-get.json")
+SEED = 20_261_124
+HISTORIES = 5000
+MOST_CALLS = 160
+# With many open calls a search of a whole segment may meet millions of configurations.
+BUDGET = ["--budget", "20000"]
+REFUSED = 3
+
+
+def text_of(history):
+    return json.dumps(history, separators=(",", ":"), sort_keys=True).encode()
+
+
+def lines_of(history):
+    """The stream of a history: a first line where it has starting pairs, and a line for each event."""
+    first = [{"start": history["start"], "version": 2}] if "start" in history else []
+    return b"".join(text_of(line) + b"\n" for line in [*first, *history["events"]])
+
+
+def answer_of(held, name, key, *others):
+    """Does a call on the pairs held, and gives its answer."""
+    if name == "scan":
+        return [[at, held[at]] for at in sorted(held) if key <= at <= others[0]]
+    answer = held.get(key)
+    if name == "insert":
+        held[key] = others[0]
+    elif name == "remove":
+        held.pop(key, None)
+    elif name == "replace" and answer == others[0]:
+        held[key] = others[1]
+    return answer
+
+
+def drawn_call(chance, keys, kinds):
+    key = chance.randrange(keys)
+    name = chance.choice(kinds)
+    if name == "scan":
+        return [name, key, min(keys - 1, key + chance.randrange(4))]
+    return [name, key, *(chance.randrange(3) for _ in range({"insert": 1, "replace": 2}.get(name, 0)))]
+
+
+def drawn_events(chance, held, processes, keys, kinds):
+    """Each process in a random turn begins a call, has the effect of its open one, or is answered."""
+    events, opened, answers = [], {}, {}
+    calls = chance.randrange(1, min(MOST_CALLS, 20 * processes))
+    # Few processes at a time take turns, so that now and then few calls are open.
+    turns = [process for _ in range(1 + 6 * calls // processes)
+             for process in chance.choices(chance.sample(range(processes), chance.randint(1, processes)), k=processes)]
+    # Some processes stop, some when their call has had its effect; and so do all at once.
+    stops = {process: chance.randrange(len(turns)) for process in range(processes) if chance.randrange(8) == 0}
+    for turn, process in enumerate(turns[: chance.choice((len(turns), chance.randint(1, len(turns))))]):
+        if stops.get(process, turn) < turn:
+            continue
+        if process in answers:
+            events.append({"answer": answers.pop(process), "process": process})
+            del opened[process]
+        elif process in opened:
+            refused = chance.randrange(50) == 0
+            answers[process] = "refused" if refused else answer_of(held, *opened[process])
+        elif calls:
+            calls -= 1
+            opened[process] = drawn_call(chance, keys, kinds)
+            events.append({"invoke": opened[process], "process": process})
+    return events
+
+
+def damage(chance, events):
+    """Changes an answer, or swaps two events of different processes that stand side by side."""
+    place = chance.randrange(len(events))
+    event = events[place]
+    if "answer" in event and chance.randrange(3):
+        answer = event["answer"]
+        if isinstance(answer, list):
+            changed = answer[1:] if answer and chance.randrange(2) else [[key, value + 1] for key, value in answer]
+        else:
+            changed = chance.choice([None, 0, 1, 2])
+        events[place] = {"answer": changed, "process": event["process"]}
+    elif place and events[place - 1]["process"] != event["process"]:
+        events[place - 1 : place + 1] = event, events[place - 1]
+
+
+def drawn_history(seed):
+    chance = random.Random(seed)
+    processes = chance.choice((1, 2, 3, 4, 6, 8, 16, 32, 64))
+    keys = max(2, chance.choice((processes // 4, processes, 2 * processes)))
+    kinds = ["get"] * 4 + ["insert"] * 3 + ["remove"] * 2
+    kinds += ["scan"] * (processes < 16 or chance.randrange(4) == 0)
+    history = {"version": 1}
+    held = {}
+    if chance.randrange(2):
+        held = {key: chance.randrange(3) for key in range(keys) if chance.randrange(2)}
+        history = {"start": [list(pair) for pair in held.items()], "version": 2}
+        kinds += ["replace"] * 2
+    history["events"] = drawn_events(chance, held, processes, keys, kinds)
+    if history["events"] and chance.randrange(2):
+        for _ in range(chance.randint(1, 3)):
+            damage(chance, history["events"])
+    return history
+
+
+def overlap_of(events):
+    """How many calls there are, and how many other ones are open at their invocations, in all."""
+    calls = opened = overlap = 0
+    for event in events:
+        if "invoke" in event:
+            calls, overlap, opened = calls + 1, overlap + opened, opened + 1
+        else:
+            opened -= 1
+    return calls, overlap
+
+
+def said(subcommand, text):
+    """The exit status of a run, and each line that it writes on standard output, as a value."""
+    ran = subprocess.run([PROGRAM, subcommand, *BUDGET], input=text, capture_output=True, timeout=120, check=False)
+    return ran.returncode, [json.loads(line) for line in ran.stdout.splitlines()]
+
+
+def wrong_with_yes(history, text, report):
+    """What is wrong where `follow` says yes."""
+    calls, overlap = overlap_of(history["events"])
+    if report != [{"calls": calls, "overlap": overlap, "verdict": "yes"}]:
+        return f"a yes as {report}"
+    judged = said("judge", text)
+    return f"yes, but judge says {judged[1]}" if judged[0] == 1 else None
+
+
+def wrong_with_no(text, report, small):
+    """What is wrong where `follow` says no."""
+    status, (located,) = said("locate", text)
+    call, event = report["call"], report["event"]
+    if status == 2:
+        fits = located["from"] <= event < located["to"]
+    else:
+        fits = located == {"call": call, "event": event, "verdict": "no"}
+    if not fits:
+        return f"{report}, but locate says {located}"
+    if call not in report["calls"] or report["calls"] != sorted(set(report["calls"])):
+        return f"{report}, whose calls are not by rising number, or lack the one that is answered"
+    if len(small) != 1 or sum("invoke" in event for event in small[0]["events"]) != len(report["calls"]):
+        return f"{report}, with a small history of other calls: {small}"
+    judged = said("judge", text_of(small[0]))
+    return f"a small history of which judge says {judged[1]}" if judged[0] == 0 else None
+
+
+def verdict(history):
+    """The verdict of `follow`, and what is wrong with it, or None."""
+    text = text_of(history)
+    status, lines = said("follow", lines_of(history))
+    if status > 2:
+        return "refused", "refused"
+    report, *small = lines
+    wrong = None
+    if status == 0:
+        wrong = wrong_with_yes(history, text, lines)
+    elif status == 1:
+        wrong = wrong_with_no(text, report, small)
+    return report["verdict"], wrong and f"follow says {wrong}: {text.decode()}"
+
+
+def examples():
+    """The histories of the examples that are not refused."""
+    for name in sorted(os.listdir(EXAMPLES)):
+        if name.endswith(".json") and not name.endswith(("-stream.json", "-replay.json", "-plan.json")):
+            with open(os.path.join(EXAMPLES, name), "rb") as source:
+                text = source.read()
+            if said("judge", text)[0] < REFUSED:
+                yield json.loads(text)
+
+
+def main():
+    # Builds the program where that is still to do.
+    with open(ORDERED, "rb") as source:
+        subprocess.run([os.path.join(TOP, "bench"), "judge"], stdin=source, stdout=subprocess.DEVNULL, check=True)
+    count = int(sys.argv[1]) if sys.argv[1:] else HISTORIES
+    histories = [*examples(), *(drawn_history(SEED + number) for number in range(count))]
+    failed = 0
+    verdicts = {"yes": 0, "no": 0, "undecided": 0, "refused": 0}
+    with concurrent.futures.ThreadPoolExecutor(os.cpu_count()) as runs:
+        for found, wrong in runs.map(verdict, histories):
+            verdicts[found] += 1
+            if wrong is not None:
+                failed += 1
+                print(wrong)
+    print(", ".join(f"{number} {found}" for found, number in verdicts.items()))
+    print(f"{len(histories) - failed} passed, {failed} failed")
+    return 1 if failed else 0
+
+
+if __name__ == "__main__":
+    sys.exit(main())
