@@ -45,5 +45,23 @@ int main(void)
     assert(r.stamps == 8);
     assert(recording_write(&r, stdout) == 0);
     recording_close(&r);
+
+    /* A call that is held has the stamp of its hold, whatever is told of it, and one that is left out is not in the history. Before
+     * each is one or the other nothing is written. */
+    assert(recording_open(&r, 2, 2, 0) == 0);
+    assert(recording_hold(&r, 0) == 0);
+    assert(recording_hold(&r, 0) == -1);
+    assert(recording_hold(&r, 2) == -1);
+    assert(recording_drop(&r, 1) == -1);
+    assert(recording_answer(&r, 0, false, 0) == -1);
+    assert(recording_invoke_insert(&r, 1, 9, 90) == 0);
+    assert(recording_hold(&r, 1) == -1);
+    assert(recording_write(&r, stdout) == -1);
+    assert(recording_invoke_get(&r, 0, 9) == 0);
+    assert(recording_answer(&r, 0, false, 0) == 0);
+    assert(recording_hold(&r, 0) == 0);
+    assert(recording_drop(&r, 0) == 0);
+    assert(recording_write(&r, stdout) == 0);
+    recording_close(&r);
     return 0;
 }

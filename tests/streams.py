@@ -192,7 +192,7 @@ def examples():
 def main():
     # Builds the program where that is still to do.
     with open(ORDERED, "rb") as source:
-        subprocess.run([os.path.join(TOP, "bench"), "judge"], stdin=source, stdout=subprocess.DEVNULL, check=True)
+        subprocess.run([os.path.join(TOP, "bench"), "draw"], stdin=source, stdout=subprocess.DEVNULL, check=True)
     count = int(sys.argv[1]) if sys.argv[1:] else HISTORIES
     histories = [*examples(), *(drawn_history(SEED + number) for number in range(count))]
     failed = 0

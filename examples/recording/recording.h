@@ -1,7 +1,7 @@
 /* Records what the threads of a program do at an ordered map, and writes it as a history for `bench judge`.
  *
- * Copy this header: C11 and the C library are all that it needs. While it records it takes no lock and no memory. An event
- * is one atomic fetch_add, which draws its stamp, and one entry in the log of its process, which no other thread touches.
+ * Copy this header: C11 or C++11 and the C library are all that it needs. While it records it takes no lock and no memory. An
+ * event is one atomic fetch_add, which draws its stamp, and one entry in the log of its process, which no other thread touches.
  *
  *     struct recording r;
  *     recording_open(&r, 4, 1000, 0);               // 4 processes, up to 1,000 calls each, no room for scans
@@ -16,21 +16,39 @@
  * Each process is one thread, or what one thread at a time does, and makes one call at a time. Its calls go through its own
  * number p, from 0. A call answers 0, or -1 where it refused: then nothing is recorded and no stamp is drawn. A process
  * whose answer was refused has to stop: its call stays without an answer, which is always true to say of it.
- * docs/RECORDING.md says what has to hold of a recording for its verdict to mean something.
+ *
+ * Where only the answer tells which of these calls it was, as with an insert that leaves a present key as it was:
+ *
+ *     recording_hold(&r, p);                        // before the call does anything
+ *     found = map_insert_if_absent(map, key, value, &old);
+ *     if (found) recording_invoke_get(&r, p, key); else recording_invoke_insert(&r, p, key, value);
+ *     recording_answer(&r, p, found, old);
+ *
+ * docs/RECORDING.md says what has to hold of a recording for its verdict to mean something. streaming.h hands the events on
+ * while the program runs.
  */
 #ifndef RECORDING_H
 #define RECORDING_H
 
-#include <inttypes.h>
-#include <stdatomic.h>
 #include <stdbool.h>
 #include <stddef.h>
 #include <stdint.h>
 #include <stdio.h>
 #include <stdlib.h>
 #include <string.h>
+#ifdef __cplusplus
+#include <atomic>
+typedef std::atomic<uint64_t> recording_word;
+#else
+#include <stdatomic.h>
+typedef _Atomic uint64_t recording_word;
+#endif
 
-enum { RECORDING_PROCESSES = 64, RECORDING_CALLS = 4096, RECORDING_PAIRS = 4096 };
+/* Limits of a history; and of its text: a pair has at most 44 bytes with its comma, and an event 128 besides its pairs. */
+enum {
+    RECORDING_PROCESSES = 64, RECORDING_CALLS = 4096, RECORDING_PAIRS = 4096,
+    RECORDING_PAIR_TEXT = 44, RECORDING_EVENT_TEXT = 128
+};
 
 struct recording_pair { uint64_t key, value; };
 
@@ -47,11 +65,13 @@ struct recording_log {
     struct recording_event *events;
     struct recording_pair *pairs;
     size_t length, pairs_held;
+    uint64_t stamp_held;
+    bool is_held;
     char apart[128];
 };
 
 struct recording {
-    _Atomic uint64_t stamps;
+    recording_word stamps;
     char apart[128];
     unsigned processes, calls_each;
     size_t pairs_each, pairs_at_start;
@@ -66,23 +86,27 @@ static inline void recording_close(struct recording *r)
         free(r->logs[p].events);
         free(r->logs[p].pairs);
     }
-    memset(r, 0, sizeof *r);
+    r->processes = 0;
 }
 
 /* Opens a recording of so many processes (1 to 64), with at most so many calls each (4,096 for all together), and room for
  * so many pairs in the answers of each process's scans. */
 static inline int recording_open(struct recording *r, unsigned processes, unsigned calls_each, size_t pairs_each)
 {
-    memset(r, 0, sizeof *r);
+    r->processes = 0;
     if (processes < 1 || processes > RECORDING_PROCESSES || calls_each > RECORDING_CALLS / processes
         || pairs_each > SIZE_MAX / sizeof(struct recording_pair) - 1)
         return -1;
+    atomic_store(&r->stamps, (uint64_t)0);
+    memset(r->logs, 0, sizeof r->logs);
     r->processes = processes;
     r->calls_each = calls_each;
     r->pairs_each = pairs_each;
+    r->start = NULL;
+    r->pairs_at_start = 0;
     for (unsigned p = 0; p < processes; p++) {
-        r->logs[p].events = malloc((2 * (size_t)calls_each + 1) * sizeof(struct recording_event));
-        r->logs[p].pairs = malloc((pairs_each + 1) * sizeof(struct recording_pair));
+        r->logs[p].events = (struct recording_event *)malloc((2 * (size_t)calls_each + 1) * sizeof(struct recording_event));
+        r->logs[p].pairs = (struct recording_pair *)malloc((pairs_each + 1) * sizeof(struct recording_pair));
         if (!r->logs[p].events || !r->logs[p].pairs) {
             recording_close(r);
             return -1;
@@ -115,8 +139,32 @@ static inline int recording_add(struct recording *r, unsigned p, enum recording_
 {
     if (!recording_may(r, p, kind >= RECORDING_NONE))
         return -1;
-    uint64_t stamp = atomic_fetch_add(&r->stamps, 1);
-    r->logs[p].events[r->logs[p].length++] = (struct recording_event){stamp, {a, b, c}, kind, p};
+    struct recording_log *log = &r->logs[p];
+    struct recording_event e = {log->stamp_held, {a, b, c}, kind, p};
+    if (!log->is_held)
+        e.stamp = atomic_fetch_add(&r->stamps, (uint64_t)1);
+    log->is_held = false;
+    log->events[log->length++] = e;
+    return 0;
+}
+
+/* Process p begins a call, of which its answer tells which one it was: the next invocation of p says so, and has the stamp that
+ * is drawn here. To be noted before the call does anything. */
+static inline int recording_hold(struct recording *r, unsigned p)
+{
+    if (!recording_may(r, p, false) || r->logs[p].is_held)
+        return -1;
+    r->logs[p].stamp_held = atomic_fetch_add(&r->stamps, (uint64_t)1);
+    r->logs[p].is_held = true;
+    return 0;
+}
+
+/* The call that process p holds is left out: it has changed nothing. */
+static inline int recording_drop(struct recording *r, unsigned p)
+{
+    if (p >= r->processes || !r->logs[p].is_held)
+        return -1;
+    r->logs[p].is_held = false;
     return 0;
 }
 
@@ -174,44 +222,70 @@ static inline int recording_answer_refused(struct recording *r, unsigned p)
     return recording_add(r, p, RECORDING_REFUSED, 0, 0, 0);
 }
 
-static inline void recording_write_pairs(FILE *out, const struct recording_pair *pairs, size_t count)
+/* These write into room that suffices, and answer where their text ends. */
+static inline char *recording_put(char *to, const char *text)
 {
-    fputc('[', out);
-    for (size_t i = 0; i < count; i++)
-        fprintf(out, "%s[%" PRIu64 ",%" PRIu64 "]", i ? "," : "", pairs[i].key, pairs[i].value);
-    fputc(']', out);
+    size_t length = strlen(text);
+    memcpy(to, text, length);
+    return to + length;
 }
 
-static inline void recording_write_event(const struct recording *r, FILE *out, const struct recording_event *e)
+static inline char *recording_put_number(char *to, uint64_t number)
 {
-    static const char *const names[] = {"get", "insert", "remove", "scan", "replace"};
+    char digits[20];
+    int count = 0;
+    do
+        digits[count++] = (char)('0' + number % 10);
+    while (number /= 10);
+    while (count)
+        *to++ = digits[--count];
+    return to;
+}
+
+static inline char *recording_put_pairs(char *to, const struct recording_pair *pairs, size_t count)
+{
+    *to++ = '[';
+    for (size_t i = 0; i < count; i++) {
+        to = recording_put_number(recording_put(to, i ? ",[" : "["), pairs[i].key);
+        *to++ = ',';
+        to = recording_put_number(to, pairs[i].value);
+        *to++ = ']';
+    }
+    *to++ = ']';
+    return to;
+}
+
+/* `pairs` are those of a list. */
+static inline char *recording_put_event(char *to, const struct recording_event *e, const struct recording_pair *pairs)
+{
+    static const char *const calls[] = {"get", "insert", "remove", "scan", "replace"};
     static const int words[] = {1, 2, 1, 2, 3};
     if (e->kind < RECORDING_NONE) {
-        fprintf(out, "{\"invoke\":[\"%s\"", names[e->kind]);
-        for (int i = 0; i < words[e->kind]; i++)
-            fprintf(out, ",%" PRIu64, e->words[i]);
-        fputc(']', out);
+        to = recording_put(recording_put(recording_put(to, "{\"invoke\":[\""), calls[e->kind]), "\"");
+        for (int i = 0; i < words[e->kind]; i++) {
+            *to++ = ',';
+            to = recording_put_number(to, e->words[i]);
+        }
+        *to++ = ']';
     } else {
-        fputs("{\"answer\":", out);
+        to = recording_put(to, "{\"answer\":");
         if (e->kind == RECORDING_VALUE)
-            fprintf(out, "%" PRIu64, e->words[0]);
+            to = recording_put_number(to, e->words[0]);
         else if (e->kind == RECORDING_LIST)
-            recording_write_pairs(out, r->logs[e->process].pairs + e->words[0], e->words[1]);
+            to = recording_put_pairs(to, pairs, (size_t)e->words[1]);
         else
-            fputs(e->kind == RECORDING_NONE ? "null" : "\"refused\"", out);
+            to = recording_put(to, e->kind == RECORDING_NONE ? "null" : "\"refused\"");
     }
-    fprintf(out, ",\"process\":%u}", e->process);
+    to = recording_put_number(recording_put(to, ",\"process\":"), e->process);
+    *to++ = '}';
+    return to;
 }
 
-/* Writes the history: all events by rising stamp. To be called once no thread records any more. Answers -1 where memory
- * is wanted or a write fails. */
-static inline int recording_write(const struct recording *r, FILE *out)
+/* Writes the history, with room for the text of an event, and for an event of each stamp: those of calls left out have none. */
+static inline void recording_write_all(const struct recording *r, FILE *out, char *text, const struct recording_event **by_stamp)
 {
-    size_t count = (size_t)r->stamps;
-    const struct recording_event **by_stamp = malloc((count + 1) * sizeof *by_stamp);
-    if (!by_stamp)
-        return -1;
-    bool is_plain = r->pairs_at_start == 0;
+    size_t count = (size_t)atomic_load(&r->stamps);
+    bool is_plain = r->pairs_at_start == 0, is_first = true;
     for (unsigned p = 0; p < r->processes; p++)
         for (size_t i = 0; i < r->logs[p].length; i++) {
             const struct recording_event *e = &r->logs[p].events[i];
@@ -220,18 +294,38 @@ static inline int recording_write(const struct recording *r, FILE *out)
         }
     fputs("{\"events\":[", out);
     for (size_t i = 0; i < count; i++) {
-        if (i)
-            fputc(',', out);
-        recording_write_event(r, out, by_stamp[i]);
+        const struct recording_event *e = by_stamp[i];
+        if (!e)
+            continue;
+        const struct recording_pair *pairs = e->kind == RECORDING_LIST ? r->logs[e->process].pairs + e->words[0] : NULL;
+        fputs(is_first ? "" : ",", out);
+        fwrite(text, 1, (size_t)(recording_put_event(text, e, pairs) - text), out);
+        is_first = false;
     }
-    free((void *)by_stamp);
     fputc(']', out);
     if (!is_plain) {
         fputs(",\"start\":", out);
-        recording_write_pairs(out, r->start, r->pairs_at_start);
+        fwrite(text, 1, (size_t)(recording_put_pairs(text, r->start, r->pairs_at_start) - text), out);
     }
-    fprintf(out, ",\"version\":%d}\n", is_plain ? 1 : 2);
-    return fflush(out) == 0 && !ferror(out) ? 0 : -1;
+    fputs(is_plain ? ",\"version\":1}\n" : ",\"version\":2}\n", out);
+}
+
+/* Writes the history. To be called once no thread records any more. Answers -1 where a process holds a call that was neither told
+ * nor left out, memory is wanted, or a write fails. */
+static inline int recording_write(const struct recording *r, FILE *out)
+{
+    for (unsigned p = 0; p < r->processes; p++)
+        if (r->logs[p].is_held)
+            return -1;
+    size_t room = (size_t)atomic_load(&r->stamps) + 1;
+    const struct recording_event **by_stamp = (const struct recording_event **)calloc(room, sizeof *by_stamp);
+    char *text = (char *)malloc(RECORDING_PAIRS * RECORDING_PAIR_TEXT + RECORDING_EVENT_TEXT);
+    bool has_room = by_stamp && text;
+    if (has_room)
+        recording_write_all(r, out, text, by_stamp);
+    free((void *)by_stamp);
+    free(text);
+    return has_room && fflush(out) == 0 && !ferror(out) ? 0 : -1;
 }
 
 #endif

@@ -1,0 +1,347 @@
+/* Records what the threads of a program do at an ordered map, and hands it on while they run, as a stream for `bench follow`.
+ *
+ * Copy this header and recording.h, which stands beside it: C11 or C++11, their library and POSIX are all that they need. A run may
+ * go on without end, in memory that is taken before it. An event is one atomic fetch_add, which draws its stamp, and one slot.
+ *
+ *     struct streaming s;
+ *     streaming_open(&s, 4, 65536, 0, 1);           // 4 processes, 65,536 slots, no room for scans, to descriptor 1
+ *     ...                                           // a thread of its own: status = streaming_write(&s);
+ *     streaming_invoke_insert(&s, p, key, value);   // before the call does anything
+ *     found = map_insert(map, key, value, &old);
+ *     streaming_answer(&s, p, found, old);          // after all that it does
+ *     ...
+ *     streaming_end(&s);                            // once all threads that record are joined; then the one that writes is joined
+ *     streaming_close(&s);
+ *
+ * Each process is one thread, or what one thread at a time does, and makes one call at a time, through its own number p, from 0. A
+ * call answers 0, or -1 where it refused: then nothing is recorded, and the process has to stop. Its call stays without an answer,
+ * as that of a thread that dies does: neither holds anything up. streaming_hold and streaming_drop are as in recording.h.
+ *
+ * Nothing is lost: where all slots are taken, whoever records waits for the writer, and so for who reads the stream. If a write
+ * fails, the stream ends there, streaming_write answers -1 with errno, and all that would record is refused from then on. Where the
+ * reader has gone, SIGPIPE ends the program at that write, unless it ignores the signal.
+ *
+ * Why the lines stand by rising stamp, and none is left out. Stamps are the numbers from 0, each drawn once: that of an invocation
+ * before its call does anything, that of an answer after all that it does. The event of stamp n goes to slot n modulo their number,
+ * and the writer takes slot after slot. It waits at the first stamp whose event is not there yet. That is the horizon: no thread can
+ * draw a stamp below it any more, and all that were drawn below it are written. A process that is idle, or within a call, has no
+ * stamp whose event is still to come, so it does not keep the horizon where it is; one that holds a call does, until it tells it.
+ *
+ * Why it does not stand still. Nobody waits between the draw of a stamp and its event but for the slot, which the event of a lower
+ * stamp takes. The least stamp that is not written has its slot free. So its event comes, the writer takes it, and the next one has
+ * its slot free. A process waits for room for a list before it draws a stamp. While a call is held, others may wait until it is
+ * told: it must not wait, in its call, for calls that others have yet to begin.
+ */
+#ifndef STREAMING_H
+#define STREAMING_H
+
+#include "recording.h"
+#include <errno.h>
+#include <poll.h>
+#include <sched.h>
+#include <unistd.h>
+
+/* A line has at most 1,048,576 bytes, and so many pairs in it. */
+enum { STREAMING_PROCESSES = 65536, STREAMING_PAIRS = 23000, STREAMING_LINE = 1048576, STREAMING_BATCH = 65536 };
+
+enum streaming_state { STREAMING_IDLE, STREAMING_HELD, STREAMING_OPEN };
+
+/* The slot of stamp n has turn n where it is free, n + 1 where the event stands in it, and n + room once that is written. The event
+ * of a call left out has a stamp, and no line. */
+struct streaming_slot {
+    recording_word turn;
+    struct recording_event event;
+    bool is_left_out;
+};
+
+/* What a process alone reads and writes, but for how far its lists are written: each stands in a ring of twice the room for one. */
+struct streaming_process {
+    enum streaming_state state;
+    uint64_t stamp_held, pairs_put;
+    struct recording_pair *pairs;
+    recording_word pairs_written;
+    char apart[128];
+};
+
+struct streaming {
+    recording_word stamps;
+    char apart[128];
+    recording_word is_ended, is_failed;
+    uint64_t slots_held;
+    unsigned count;
+    size_t pairs_each, pairs_at_start, length;
+    const struct recording_pair *start;
+    struct streaming_slot *slots;
+    struct streaming_process *processes;
+    char *text;
+    int descriptor;
+};
+
+/* Gives all memory back. */
+static inline void streaming_close(struct streaming *s)
+{
+    for (unsigned p = 0; p < s->count; p++)
+        free(s->processes[p].pairs);
+    free(s->processes);
+    free(s->slots);
+    free(s->text);
+    s->processes = NULL;
+    s->slots = NULL;
+    s->text = NULL;
+    s->count = 0;
+}
+
+/* Opens a stream of so many processes (1 to 65,536) to a descriptor, with so many slots (2 at least: some 10,000 keep threads from
+ * waiting for one another), and lists of at most so many pairs (23,000). */
+static inline int streaming_open(struct streaming *s, unsigned processes, size_t slots, size_t pairs_each, int descriptor)
+{
+    s->count = 0;
+    s->slots = NULL;
+    s->processes = NULL;
+    s->text = NULL;
+    if (processes < 1 || processes > STREAMING_PROCESSES || slots < 2 || pairs_each > STREAMING_PAIRS)
+        return -1;
+    s->slots_held = slots;
+    s->pairs_each = pairs_each;
+    s->pairs_at_start = s->length = 0;
+    s->start = NULL;
+    s->descriptor = descriptor;
+    s->slots = (struct streaming_slot *)calloc(slots, sizeof *s->slots);
+    s->processes = (struct streaming_process *)calloc(processes, sizeof *s->processes);
+    s->text = (char *)malloc(STREAMING_BATCH + STREAMING_LINE + 1);
+    bool has_room = s->slots && s->processes && s->text;
+    for (s->count = 0; has_room && s->count < processes; s->count++) {
+        s->processes[s->count].pairs = (struct recording_pair *)malloc((2 * pairs_each + 1) * sizeof(struct recording_pair));
+        has_room = s->processes[s->count].pairs;
+        atomic_store(&s->processes[s->count].pairs_written, (uint64_t)0);
+    }
+    if (!has_room) {
+        streaming_close(s);
+        return -1;
+    }
+    for (size_t i = 0; i < slots; i++)
+        atomic_store(&s->slots[i].turn, (uint64_t)i);
+    atomic_store(&s->stamps, (uint64_t)0);
+    atomic_store(&s->is_ended, (uint64_t)0);
+    atomic_store(&s->is_failed, (uint64_t)0);
+    return 0;
+}
+
+/* Says what the map holds before the first call: at most 23,000 pairs by rising key, which have to stay where they are until they
+ * are written. To be called before streaming_write. */
+static inline int streaming_start(struct streaming *s, const struct recording_pair *pairs, size_t count)
+{
+    if (count > STREAMING_PAIRS)
+        return -1;
+    for (size_t i = 1; i < count; i++)
+        if (pairs[i - 1].key >= pairs[i].key)
+            return -1;
+    s->start = pairs;
+    s->pairs_at_start = count;
+    return 0;
+}
+
+/* Lets other threads go on: most times at once, sometimes for a millisecond. */
+static inline void streaming_rest(unsigned *times)
+{
+    if (++*times % 64)
+        sched_yield();
+    else
+        poll(NULL, 0, 1);
+}
+
+static inline bool streaming_may(struct streaming *s, unsigned p, enum streaming_state state)
+{
+    return p < s->count && s->processes[p].state == state && !atomic_load(&s->is_failed);
+}
+
+/* Puts the event of a stamp into its slot, once that is free. */
+static inline int streaming_put(struct streaming *s, const struct recording_event *event, bool is_left_out)
+{
+    struct streaming_slot *slot = &s->slots[event->stamp % s->slots_held];
+    for (unsigned times = 0; atomic_load(&slot->turn) != event->stamp; streaming_rest(&times))
+        if (atomic_load(&s->is_failed))
+            return -1;
+    slot->event = *event;
+    slot->is_left_out = is_left_out;
+    atomic_store(&slot->turn, event->stamp + 1);
+    return 0;
+}
+
+static inline uint64_t streaming_stamp(struct streaming *s)
+{
+    return atomic_fetch_add(&s->stamps, (uint64_t)1);
+}
+
+static inline int streaming_invoke(struct streaming *s, unsigned p, enum recording_kind kind, uint64_t a, uint64_t b, uint64_t c)
+{
+    bool is_held = streaming_may(s, p, STREAMING_HELD);
+    if (!is_held && !streaming_may(s, p, STREAMING_IDLE))
+        return -1;
+    struct recording_event event = {is_held ? s->processes[p].stamp_held : streaming_stamp(s), {a, b, c}, kind, p};
+    s->processes[p].state = STREAMING_OPEN;
+    return streaming_put(s, &event, false);
+}
+
+/* Process p begins a call: to be noted before the call does anything. */
+static inline int streaming_invoke_get(struct streaming *s, unsigned p, uint64_t key)
+{
+    return streaming_invoke(s, p, RECORDING_GET, key, 0, 0);
+}
+
+static inline int streaming_invoke_insert(struct streaming *s, unsigned p, uint64_t key, uint64_t value)
+{
+    return streaming_invoke(s, p, RECORDING_INSERT, key, value, 0);
+}
+
+static inline int streaming_invoke_remove(struct streaming *s, unsigned p, uint64_t key)
+{
+    return streaming_invoke(s, p, RECORDING_REMOVE, key, 0, 0);
+}
+
+/* All pairs from one key to another, both included, at one moment. */
+static inline int streaming_invoke_scan(struct streaming *s, unsigned p, uint64_t low, uint64_t high)
+{
+    return low > high ? -1 : streaming_invoke(s, p, RECORDING_SCAN, low, high, 0);
+}
+
+/* The key holds `new_value` where it held `old`; else nothing changes. */
+static inline int streaming_invoke_replace(struct streaming *s, unsigned p, uint64_t key, uint64_t old, uint64_t new_value)
+{
+    return streaming_invoke(s, p, RECORDING_REPLACE, key, old, new_value);
+}
+
+/* Process p begins a call, of which its answer tells which one it was: the next invocation of p says so, under the stamp that is
+ * drawn here. To be noted before the call does anything. Where the thread dies in it, another one says what it may have been. */
+static inline int streaming_hold(struct streaming *s, unsigned p)
+{
+    if (!streaming_may(s, p, STREAMING_IDLE))
+        return -1;
+    s->processes[p].stamp_held = streaming_stamp(s);
+    s->processes[p].state = STREAMING_HELD;
+    return 0;
+}
+
+/* The call that process p holds is left out: it has changed nothing. */
+static inline int streaming_drop(struct streaming *s, unsigned p)
+{
+    if (!streaming_may(s, p, STREAMING_HELD))
+        return -1;
+    struct recording_event event = {s->processes[p].stamp_held, {0, 0, 0}, RECORDING_NONE, p};
+    s->processes[p].state = STREAMING_IDLE;
+    return streaming_put(s, &event, true);
+}
+
+static inline int streaming_respond(struct streaming *s, unsigned p, enum recording_kind kind, uint64_t a, uint64_t b)
+{
+    if (!streaming_may(s, p, STREAMING_OPEN))
+        return -1;
+    struct recording_event event = {streaming_stamp(s), {a, b, 0}, kind, p};
+    s->processes[p].state = STREAMING_IDLE;
+    return streaming_put(s, &event, false);
+}
+
+/* The open call of process p was answered by the value that had been at its key, or found none there: to be noted after all that
+ * the call does. */
+static inline int streaming_answer(struct streaming *s, unsigned p, bool found, uint64_t value)
+{
+    return streaming_respond(s, p, found ? RECORDING_VALUE : RECORDING_NONE, value, 0);
+}
+
+/* The open scan was answered by these pairs, which are copied as they are, once there is room for them. */
+static inline int streaming_answer_pairs(struct streaming *s, unsigned p, const struct recording_pair *pairs, size_t count)
+{
+    if (!streaming_may(s, p, STREAMING_OPEN) || count > s->pairs_each)
+        return -1;
+    if (count == 0)
+        return streaming_respond(s, p, RECORDING_LIST, s->processes[p].pairs_put, 0);
+    struct streaming_process *own = &s->processes[p];
+    uint64_t room = 2 * s->pairs_each, first = own->pairs_put;
+    if (first % room + count > room)
+        first += room - first % room;
+    for (unsigned times = 0; first + count - atomic_load(&own->pairs_written) > room; streaming_rest(&times))
+        if (atomic_load(&s->is_failed))
+            return -1;
+    memcpy(own->pairs + first % room, pairs, count * sizeof *pairs);
+    own->pairs_put = first + count;
+    return streaming_respond(s, p, RECORDING_LIST, first, count);
+}
+
+/* The open call was refused and changed nothing. */
+static inline int streaming_answer_refused(struct streaming *s, unsigned p)
+{
+    return streaming_respond(s, p, RECORDING_REFUSED, 0, 0);
+}
+
+/* No process records any more: to be called once the threads that do are joined, or dead. */
+static inline void streaming_end(struct streaming *s)
+{
+    atomic_store(&s->is_ended, (uint64_t)1);
+}
+
+/* Writes out the lines that wait. */
+static inline int streaming_flush(struct streaming *s)
+{
+    for (size_t at = 0; at < s->length;) {
+        ssize_t written = write(s->descriptor, s->text + at, s->length - at);
+        if (written < 0 && errno != EINTR)
+            return -1;
+        at += written < 0 ? 0 : (size_t)written;
+    }
+    s->length = 0;
+    return 0;
+}
+
+/* Puts the event of a slot behind the lines that wait, and lets go of what it takes. */
+static inline void streaming_take(struct streaming *s, struct streaming_slot *slot)
+{
+    const struct recording_event *event = &slot->event;
+    struct streaming_process *own = &s->processes[event->process];
+    bool has_pairs = event->kind == RECORDING_LIST && event->words[1] > 0;
+    if (!slot->is_left_out) {
+        const struct recording_pair *pairs = has_pairs ? own->pairs + event->words[0] % (2 * s->pairs_each) : NULL;
+        char *end = recording_put_event(s->text + s->length, event, pairs);
+        *end++ = '\n';
+        s->length = (size_t)(end - s->text);
+    }
+    if (has_pairs)
+        atomic_store(&own->pairs_written, event->words[0] + event->words[1]);
+    atomic_store(&slot->turn, event->stamp + s->slots_held);
+}
+
+/* Writes the first line, and then line after line until the stream ends. */
+static inline int streaming_write_lines(struct streaming *s)
+{
+    char *end = recording_put_pairs(recording_put(s->text, "{\"start\":"), s->start, s->pairs_at_start);
+    s->length = (size_t)(recording_put(end, ",\"version\":2}\n") - s->text);
+    uint64_t next = 0;
+    for (unsigned times = 0;;) {
+        bool is_ended = atomic_load(&s->is_ended);
+        struct streaming_slot *slot = &s->slots[next % s->slots_held];
+        if (atomic_load(&slot->turn) == next + 1) {
+            streaming_take(s, slot);
+            next++;
+            times = 0;
+            if (s->length >= STREAMING_BATCH && streaming_flush(s))
+                return -1;
+        } else {
+            if (streaming_flush(s))
+                return -1;
+            if (is_ended)
+                return next == atomic_load(&s->stamps) ? 0 : -1;
+            streaming_rest(&times);
+        }
+    }
+}
+
+/* Writes the stream, and answers 0 once it has ended and all is written; or -1 where a write failed, or at the end a process holds
+ * a call that was neither told nor left out: then the stream ends in front of it. To be called once, by a thread of its own. */
+static inline int streaming_write(struct streaming *s)
+{
+    int status = streaming_write_lines(s);
+    if (status)
+        atomic_store(&s->is_failed, (uint64_t)1);
+    return status;
+}
+
+#endif
