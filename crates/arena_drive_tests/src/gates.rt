@@ -1,4 +1,6 @@
 // A gate that holds two processes until both have come.
+ghost use Rattle.std.specs.Prelude.{⊤};
+
 use pool::Gate;
 use std::sync::atomic::{AtomicBool, AtomicU64, Ordering};
 use std::thread;
@@ -30,6 +32,8 @@ impl Pair {
 }
 
 impl Gate for Pair {
+    ghost was_passed = { λ _ _. ⊤ };
+
     fn enter(&self, process: usize) {
         let (here, there) = if process == 0 {
             (&self.first, &self.second)
@@ -72,6 +76,8 @@ impl Visits {
 }
 
 impl Gate for Visits {
+    ghost was_passed = { λ _ _. ⊤ };
+
     fn enter(&self, process: usize) {
         self.entered.fetch_add(1, Ordering::SeqCst);
         self.numbers.fetch_add(process as u64, Ordering::SeqCst);

@@ -4,3 +4,4 @@ pub mod Exact
 pub mod Judged
 pub mod Reports
 pub mod Laws
+pub mod Gates

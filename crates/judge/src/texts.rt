@@ -1,10 +1,11 @@
 // From a history's text to its verdict and the report of it.
-ghost use Rattle.std.specs.Prelude.{◌≡◌, ◌≤◌, IfOk, IfErr, string_bytes};
+ghost use Rattle.std.specs.Prelude.{◌≡◌, ◌≤◌, IfOk, IfErr, OnOk, string_bytes};
 ghost use Rattle.events.specs.HistoryView.{HistoryView};
 ghost use Rattle.events.specs.Histories.{IsHistory};
 ghost use Rattle.history_text.specs.Texts.{Spells};
 ghost use Rattle.serde_json.specs.Written.{compact_text};
 ghost use Rattle.judge.specs.declared.fault.JudgeFault.TheVariants as faults;
+ghost use Rattle.judge.specs.Gates.{WasPassedForText};
 ghost use Rattle.judge.specs.Judged.{IsJudged, IsUnjudged};
 ghost use Rattle.judge.specs.Reports.{verdict_data};
 ghost use Rattle.pool.specs.Limits.{worker_limit};
@@ -37,6 +38,7 @@ pub fn judge_text<R: Threads + Sync, G: Gate + Sync>(
     ensures refused { IfErr result (IsUnjudged text.now) }
     ensures accepted { (history : HistoryView) → Spells text.now history → IsHistory history
         → IfErr result (λ fault. fault ≡ faults.Memory) }
+    ensures passed { OnOk result (WasPassedForText (G.was_passed gate.now) text.now) }
 {
     let history = read_history(alloc, text)?;
     let verdict = judge(rt, alloc, &history, budget, workers, gate)?;

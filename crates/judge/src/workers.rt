@@ -1,8 +1,9 @@
 // The verdict on a history, found by workers.
-ghost use Rattle.std.specs.Prelude.{◌≤◌, IfOk};
+ghost use Rattle.std.specs.Prelude.{◌≤◌, IfOk, OnOk};
 ghost use Rattle.events.specs.Operations.{operations};
 ghost use Rattle.judge.specs.Shown.{IsShown};
 ghost use Rattle.judge.specs.Exact.{IsExactVerdict};
+ghost use Rattle.judge.specs.Gates.{WasPassedForEach};
 ghost use Rattle.pool.specs.Limits.{worker_limit};
 ghost use Rattle.search.specs.Limits.{budget_limit};
 
@@ -28,6 +29,7 @@ pub fn judge<R: Threads + Sync, G: Gate + Sync>(
     requires workers { (1 ≤ workers) × (workers ≤ worker_limit) }
     ensures shown { IfOk result (IsShown history.now.start budget (operations history.now.events)) }
     ensures exact { IfOk result (IsExactVerdict history.now.start budget (operations history.now.events)) }
+    ensures passed { OnOk result (WasPassedForEach (G.was_passed gate.now) history.now) }
 {
     let segments = cut(alloc, history)?;
     let answers = search_all(rt, alloc, &segments, budget, workers, gate)?;

@@ -1,5 +1,5 @@
 // The search for the event at which a history goes wrong, by two halvings.
-ghost use Rattle.std.specs.Prelude.{◌≡◌, ◌↔◌, ℕ, ◌+◌, ◌<◌, ◌≤◌, length, IfOk, IsTrue};
+ghost use Rattle.std.specs.Prelude.{◌≡◌, ◌↔◌, ℕ, ◌+◌, ◌<◌, ◌≤◌, length, IfOk, OnOk, IsTrue};
 ghost use Rattle.locating.specs.Halvings.{
   known_from,
   low_of,
@@ -14,6 +14,8 @@ ghost use Rattle.locating.specs.Halvings.{
 };
 ghost use Rattle.locating.specs.Brackets.{IsInOrder, IsTurn};
 ghost use Rattle.locating.specs.Locations.{IsLocated};
+ghost use Rattle.judge.specs.Gates.{WasPassedForEach};
+ghost use Rattle.prefixes.specs.Prefixes.{prefix_of};
 ghost use Rattle.pool.specs.Limits.{worker_limit};
 ghost use Rattle.search.specs.Limits.{budget_limit};
 
@@ -53,6 +55,7 @@ pub fn locate<R: Threads + Sync, G: Gate + Sync>(
     requires workers { (1 ≤ workers) × (workers ≤ worker_limit) }
     ensures exact { IfOk result (IsExactLocation budget history.now) }
     ensures located { IfOk result (IsLocated budget history.now) }
+    ensures passed { OnOk result (WasPassedForEach (G.was_passed gate.now) history.now) }
 {
     exact_locations_are_so();
     let whole = judge(rt, alloc, history, budget, workers, gate)?;
@@ -183,7 +186,8 @@ fn turn<R: Threads + Sync, G: Gate + Sync>(
     requires workers { (1 ≤ workers) × (workers ≤ worker_limit) }
     requires in_order { IsInOrder history.now found }
     requires left { low_of gap found + 1 < high_of gap found }
-    ensures { IfOk result (IsTurn budget history.now gap found) }
+    ensures turn { IfOk result (IsTurn budget history.now gap found) }
+    ensures passed { OnOk result (WasPassedForEach (G.was_passed gate.now) (prefix_of history.now (middle_of gap found))) }
 {
     let count = middle_of(gap, found);
     let part = first_events(alloc, history, count)?;

@@ -112,14 +112,16 @@ module _ {S A : Type 0} (P : S → A → Type 0) where
   IsHalfKnown-all {segments} {answers} {rest} h e = all_known segments answers (rw e at h.known)
 
 -- none of the known answers is wrong with those of a worker
-pub exact_after : {budget : ℕ} {segments : List SegmentView} (known : List (Option Found)) (answers : List SegmentAnswer)
-    → AllZip (IsExactIfKnown budget) segments known → All (AnswersOneOf budget segments) answers
+pub exact_after : (WasPassed : ℕ → Type 0) {budget : ℕ} {segments : List SegmentView} (known : List (Option Found))
+    (answers : List SegmentAnswer)
+    → AllZip (IsExactIfKnown budget) segments known → All (AnswersOneOf WasPassed budget segments) answers
     → AllZip (IsExactIfKnown budget) segments (fold with_answer known answers)
-exact_after {budget} {segments} known [] h exact = h
-exact_after {budget} {segments} known (a ∷ answers) h exact =
-    let one : AnswersOneOf budget segments a = All-head (AnswersOneOf budget segments) a answers exact in
+exact_after WasPassed {budget} {segments} known [] h exact = h
+exact_after WasPassed {budget} {segments} known (a ∷ answers) h exact =
+    let P = AnswersOneOf WasPassed budget segments in
+    let one : P a = All-head P a answers exact in
     let put = none_wrong_after (IsExactAnswer budget) segments known a.segment a.found h one.one one.exact in
-    exact_after (with_answer known a) answers put (All-tail (AnswersOneOf budget segments) a answers exact)
+    exact_after WasPassed (with_answer known a) answers put (All-tail P a answers exact)
 
 -- exact answers are sound
 pub all_sound : (budget : ℕ) (segments : List SegmentView) (answers : List Found)

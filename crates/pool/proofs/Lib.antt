@@ -1,2 +1,3 @@
 mod DealLemmas
 mod KnownLemmas
+mod PassedLemmas

@@ -1,9 +1,9 @@
 // The answers that are known, at the places of their segments.
-ghost use Rattle.std.specs.Prelude.{◌≡◌, ◌<◌, ◌≤◌, [], replicate, fold, All, IfOk};
+ghost use Rattle.std.specs.Prelude.{◌≡◌, ◌<◌, ◌≤◌, [], replicate, fold, All, EachIndex, IfOk, OnOk};
 ghost use Rattle.std.specs.List.{AllZip};
 ghost use Rattle.std.specs.declared.option.Option.TheVariants.{None};
 ghost use Rattle.search.specs.Exact.{IsExactAnswer};
-ghost use Rattle.pool.specs.Known.{with_answer, IsExactIfKnown};
+ghost use Rattle.pool.specs.Known.{with_answer, IsExactIfKnown, WerePassedIfKnown};
 ghost use Rattle.search.specs.Limits.{budget_limit};
 
 use crate::gate::Gate;
@@ -51,7 +51,9 @@ pub(crate) fn complete<G: Gate>(
 ) -> Result<Vec<Found>, Memory>
     requires budget { (1 ≤ budget) × (budget ≤ budget_limit) }
     requires exact { AllZip (IsExactIfKnown budget) segments.now known.items }
-    ensures { IfOk result (λ v. AllZip (IsExactAnswer budget) segments.now v.items) }
+    requires passed { WerePassedIfKnown (G.was_passed gate.now) 0 known.items }
+    ensures passed { OnOk result (EachIndex segments.now (G.was_passed gate.now)) }
+    ensures exact { IfOk result (λ v. AllZip (IsExactAnswer budget) segments.now v.items) }
 {
     let mut answers = Vec::with_capacity(alloc, known.len())?;
     for answer in known {

@@ -1,5 +1,5 @@
 // The search of all segments, by workers.
-ghost use Rattle.std.specs.Prelude.{◌≤◌, [], All, IfOk};
+ghost use Rattle.std.specs.Prelude.{◌≤◌, [], All, EachIndex, IfOk, OnOk};
 ghost use Rattle.std.specs.List.{AllZip};
 ghost use Rattle.search.specs.Exact.{IsExactAnswer};
 ghost use Rattle.search.specs.Found.{IsSoundAnswer};
@@ -39,6 +39,7 @@ pub fn search_all<R: Threads + Sync, G: Gate + Sync>(
     requires workers { (1 ≤ workers) × (workers ≤ worker_limit) }
     ensures exact { IfOk result (λ v. AllZip (IsExactAnswer budget) segments.now v.items) }
     ensures sound { IfOk result (λ v. AllZip (IsSoundAnswer budget) segments.now v.items) }
+    ensures passed { OnOk result (EachIndex segments.now (G.was_passed gate.now)) }
 {
     let answers = search_apart(rt, alloc, segments, budget, workers, gate)?;
     let known = in_place(alloc, segments.len(), answers)?;
@@ -56,7 +57,7 @@ fn search_apart<R: Threads + Sync, G: Gate + Sync>(
 ) -> Result<Vec<SegmentAnswer>, Memory>
     requires budget { (1 ≤ budget) × (budget ≤ budget_limit) }
     requires workers { (1 ≤ workers) × (workers ≤ worker_limit) }
-    ensures { IfOk result (λ v. All (AnswersOneOf budget segments.now) v.items) }
+    ensures { IfOk result (λ v. All (AnswersOneOf (G.was_passed gate.now) budget segments.now) v.items) }
 {
     // With a draw for each segment and one more, each worker can draw until no segment is left. The most draws that
     // tickets have would cut this past 2^55 segments, more than memory holds, and `complete` would search the others.

@@ -1,4 +1,6 @@
 // The search of segments that no worker drew, which no public call shows: workers draw until none is left.
+ghost use Rattle.std.specs.Prelude.{⊤};
+
 use crate::gate::Gate;
 use crate::known::{complete, in_place};
 use history_text::read_history;
@@ -15,6 +17,8 @@ struct Entries {
 }
 
 impl Gate for Entries {
+    ghost was_passed = { λ _ _. ⊤ };
+
     fn enter(&self, _segment: usize) {
         self.count.fetch_add(1, Ordering::SeqCst);
     }

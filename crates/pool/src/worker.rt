@@ -31,7 +31,7 @@ pub(crate) fn work<G: Gate>(
 ) -> Result<Vec<SegmentAnswer>, Memory>
     requires budget { (1 ≤ budget) × (budget ≤ budget_limit) }
     requires own { counter_of hand ≡ counter tickets.now }
-    ensures { IfOk result (λ v. All (AnswersOneOf budget segments.now) v.items) }
+    ensures { IfOk result (λ v. All (AnswersOneOf (G.was_passed gate.now) budget segments.now) v.items) }
 {
     let mut answers = Vec::new(alloc);
     while hand.left() > 0 {
@@ -55,8 +55,25 @@ pub(crate) fn enter_and_search<G: Gate>(
 ) -> Result<Found, Memory>
     requires budget { (1 ≤ budget) × (budget ≤ budget_limit) }
     requires known { segment < length segments.now }
-    ensures { IfOk result (λ f. HoldsAt (λ s. IsExactAnswer budget s f) segments.now segment) }
+    ensures passed { G.was_passed gate.now segment }
+    ensures exact { IfOk result (λ f. HoldsAt (λ s. IsExactAnswer budget s f) segments.now segment) }
 {
     gate.enter(segment);
+    search_behind(alloc, segments, budget, gate, segment)
+}
+
+/// Searches a segment, where the gate was passed on the way to it.
+fn search_behind<G: Gate>(
+    alloc: Global,
+    segments: &[Segment],
+    budget: u32,
+    _gate: &G,
+    segment: usize,
+) -> Result<Found, Memory>
+    requires budget { (1 ≤ budget) × (budget ≤ budget_limit) }
+    requires known { segment < length segments.now }
+    requires passed { G.was_passed _gate.now segment }
+    ensures { IfOk result (λ f. HoldsAt (λ s. IsExactAnswer budget s f) segments.now segment) }
+{
     search(alloc, &segments[segment], budget)
 }

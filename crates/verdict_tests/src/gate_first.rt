@@ -1,5 +1,7 @@
 // A worker passes the gate to a segment before it searches it. What a search does cannot be seen from outside but for
 // the time that it takes, so this goes by the clock.
+ghost use Rattle.std.specs.Prelude.{⊤};
+
 use cutter::cut;
 use history::Segment;
 use layer_tests::worked::{gets, history_of};
@@ -20,6 +22,8 @@ struct Moments<'a, C> {
 }
 
 impl<C: Clock> Gate for Moments<'_, C> {
+    ghost was_passed = { λ _ _. ⊤ };
+
     fn enter(&self, segment: usize) {
         let entered = if segment == 0 {
             &self.first

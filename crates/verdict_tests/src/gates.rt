@@ -1,4 +1,6 @@
 // Gates that count who comes, or hold workers until others come.
+ghost use Rattle.std.specs.Prelude.{⊤};
+
 use pool::Gate;
 use std::alloc::Global;
 use std::process::Abort;
@@ -42,6 +44,8 @@ pub(crate) fn assert_one_visit_each(rt: &impl Abort, gate: &Visits) {
 }
 
 impl Gate for Visits {
+    ghost was_passed = { λ _ _. ⊤ };
+
     fn enter(&self, segment: usize) {
         let visits = self.each.get(segment).unwrap_or(&self.others);
         visits.fetch_add(1, Ordering::SeqCst);
@@ -75,6 +79,8 @@ impl Pair {
 }
 
 impl Gate for Pair {
+    ghost was_passed = { λ _ _. ⊤ };
+
     fn enter(&self, segment: usize) {
         let (here, there) = if segment == 0 {
             (&self.first, &self.second)
@@ -126,6 +132,8 @@ impl Rounds {
 }
 
 impl Gate for Rounds {
+    ghost was_passed = { λ _ _. ⊤ };
+
     fn enter(&self, _segment: usize) {
         let number = self.entered.fetch_add(1, Ordering::SeqCst);
         for _ in 0..TURNS {

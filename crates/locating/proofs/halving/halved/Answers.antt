@@ -15,11 +15,11 @@ pub loop-preserved : goal.loop-preserved
 loop-preserved g c = elim c.if-is_left.branch [
   | then-is_left+in_ok-found w ↦ rw w.found-is
       (after_turn c.args.budget c.args.history.now c.args.gap c.args.known c.loop.counter c.loop.found w.in_ok-found.found c.loop-test.true
-      (c.is_left.ensures.0 w.if-is_left.true) c.loop.invariant w.in_ok-found.ensures)
+      (c.is_left.ensures.0 w.if-is_left.true) c.loop.invariant w.in_ok-found.ensures.turn)
   | else-is_left w ↦ rw w.found-is
       (without_turn c.args.budget c.args.history.now c.args.gap c.args.known c.loop.counter c.loop.found c.loop-test.true
       (none_left c.is_left.result (low_of c.args.gap c.loop.found) (high_of c.args.gap c.loop.found) c.is_left.ensures
-          w.if-is_left.false) c.loop.invariant)
+      w.if-is_left.false) c.loop.invariant)
 ]
 
 pub returns : goal.returns

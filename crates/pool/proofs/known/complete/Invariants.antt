@@ -1,8 +1,14 @@
-use Rattle.std.proofs.Common.{[]}
+use Rattle.std.proofs.Common.{length}
+use Rattle.std.specs.Prelude.{EachIndex}
 use Rattle.std.specs.Vec.Iter.{into_iter_items}
 use Rattle.search.specs.Exact.{IsExactAnswer}
+use Rattle.pool.specs.Known.{WerePassedIfKnown}
 use Rattle.pool.proofs.KnownLemmas.{IsHalfKnown}
 use Rattle.pool.proofs.known.complete.Given as goal
 
 abbrev pub invariant-loop-answer : goal.invariant-loop-answer
-invariant-loop-answer g l = IsHalfKnown (IsExactAnswer l.budget) l.segments l.answers.items (into_iter_items l.answer-iterator)
+invariant-loop-answer g l = record {
+  known : IsHalfKnown (IsExactAnswer l.budget) l.segments l.answers.items (into_iter_items l.answer-iterator);
+  passed : EachIndex l.answers.items (g.G.Gate.was_passed l.gate);
+  rest : WerePassedIfKnown (g.G.Gate.was_passed l.gate) (length l.answers.items) (into_iter_items l.answer-iterator);
+}

@@ -1,4 +1,4 @@
-use Rattle.std.proofs.Common.{[], All, IfOk}
+use Rattle.std.proofs.Common.{All, IfOk}
 use Rattle.std.proofs.lemmas.List.Elements.{All-append, All-head, All-rest}
 use Rattle.pool.specs.Answers.{AnswersOneOf}
 use Rattle.pool.proofs.pool.search_apart.Goals as goal
@@ -7,7 +7,7 @@ pub loop-answers-preserved : goal.loop-answers-preserved
 loop-answers-preserved g c =
     let kept = c.loop-answers.invariant in
     let next = c.in-Some.ensures.steps.0 in
-    let P = AnswersOneOf c.args.budget c.args.segments.now in
+    let P = AnswersOneOf (g.G.Gate.was_passed c.args.gate.now) c.args.budget c.args.segments.now in
     let here = All-head (λ r. IfOk r (λ v. All P v.items)) c.in-Some.answers _ (rw next at kept.rest) in
     record {
       so_far = rw c.in_ok-append.ensures.items (All-append P _ _ kept.so_far (rw c.in_ok-answers.was at here));

@@ -1,4 +1,4 @@
-use Rattle.std.proofs.Common.{[], rules}
+use Rattle.std.proofs.Common.{rules}
 use Rattle.std.proofs.lemmas.List.Elements.{All-push}
 use Rattle.pool.specs.Answers.{AnswersOneOf}
 use Rattle.pool.proofs.worker.work.Goals as goal
@@ -7,6 +7,6 @@ pub loop-alloc-preserved : goal.loop-alloc-preserved
 loop-alloc-preserved g c = (
   search rules,
   rw c.in_ok-push.ensures.items
-      (All-push (AnswersOneOf c.args.budget c.args.segments.now) _ _ c.loop-alloc.invariant.1
-      (record { one = c.if-segment-segments.false; exact = c.in_ok-found.ensures })),
+      (All-push (AnswersOneOf (g.G.Gate.was_passed c.args.gate.now) c.args.budget c.args.segments.now) _ _ c.loop-alloc.invariant.1
+      (record { one = c.if-segment-segments.false; passed = c.enter_and_search.ensures.passed; exact = c.in_ok-found.ensures.exact })),
 )

@@ -1,9 +1,8 @@
-use Rattle.std.proofs.Common.{[]}
 use Rattle.std.proofs.lemmas.List.Elements.{at_read}
 use Rattle.std.proofs.lemmas.Result.{IfOk-weaker}
 use Rattle.std.specs.List.{HoldsAt}
 use Rattle.search.specs.Exact.{IsExactAnswer}
-use Rattle.pool.proofs.worker.enter_and_search.Goals as goal
+use Rattle.pool.proofs.worker.search_behind.Goals as goal
 
 pub returns : goal.returns
 returns g c =

@@ -1,0 +1,21 @@
+-- On the way to which segments a gate was passed.
+use Rattle.std.specs.Prelude.{ℕ, List, EachIndex}
+use Rattle.events.specs.HistoryView.{HistoryView}
+use Rattle.events.specs.Histories.{IsHistory}
+use Rattle.events.specs.Operations.{operations}
+use Rattle.history_text.specs.Texts.{Spells}
+use Rattle.segments.specs.SegmentView.{SegmentView}
+use Rattle.segments.specs.Segments.{AreSegments}
+
+-- the gate was passed on the way to each segment of the history
+pub record WasPassedForEach (WasPassed : ℕ → Type 0) (history : HistoryView) : Type 0 where
+  pub segments : List SegmentView
+  pub are_segments : AreSegments history.start (operations history.events) segments
+  pub each : EachIndex segments WasPassed
+
+-- the text spells a history, and the gate was passed on the way to each of its segments
+pub record WasPassedForText (WasPassed : ℕ → Type 0) (text : List ℕ) : Type 0 where
+  pub history : HistoryView
+  pub spelled : Spells text history
+  pub is_history : IsHistory history
+  pub passed : WasPassedForEach WasPassed history
