@@ -29,9 +29,8 @@ def main():
     for name, text in [*texts(), ("no text", b""), ("no JSON", b"\xff{")]:
         for word in ("judge", "locate", "draw"):
             for budget in (1, 3, 100_000, 1_000_000):
-                ran = subprocess.run(
-                    [program, word, "--budget", str(budget)], input=text, capture_output=True, timeout=60, check=False
-                )
+                words = [word, "--budget", str(budget), *(["--calls", "0"] if word == "draw" else [])]
+                ran = subprocess.run([program, *words], input=text, capture_output=True, timeout=60, check=False)
                 status, told = potzendai.call("potzendai_" + word, text, budget)
                 if (status, told) == (ran.returncode, (ran.stdout + ran.stderr).decode()):
                     passed += 1

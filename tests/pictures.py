@@ -3,8 +3,9 @@
 
 Each is XML of the elements of SVG that a picture has, without a script and without a reference to anything outside. It has a lane for
 each process, one bar for each call, with the call and its answer in the bar's title, drawn as wrong where `locate` names the call, and
-one mark for each call of the order where the verdict is a yes. Its status is that of `judge`. The last line counts what passed and
-failed.
+one mark for each call of the order where the verdict is a yes. Its status is that of `judge`. Parts of the pictures have the lanes,
+bars and marks that a window over the columns has which is worked out here, and say what they leave out; a part with room for the whole
+picture is the picture. The last line counts what passed and failed.
 """
 
 import glob
@@ -18,7 +19,7 @@ import xml.etree.ElementTree
 TOP = os.path.dirname(os.path.dirname(os.path.abspath(__file__)))
 PROGRAM = os.path.join(TOP, "crates", "bench", "out", "bench")
 ELEMENTS = {"svg", "style", "text", "title", "g", "rect", "path", "circle"}
-ATTRIBUTES = {"xmlns", "width", "height", "class", "x", "y", "rx", "cx", "cy", "r", "d"}
+ATTRIBUTES = {"xmlns", "width", "height", "class", "x", "y", "rx", "cx", "cy", "r", "d", "stroke", "stroke-dasharray", "text-anchor"}
 NAMESPACE = "{http://www.w3.org/2000/svg}"
 
 
@@ -52,38 +53,131 @@ def titles(history):
             for call, (process, inv, words, res, reply) in enumerate(calls)]
 
 
+def groups_of(picture):
+    """The groups of a picture by their classes, and what is wrong with its elements."""
+    root = xml.etree.ElementTree.fromstring(picture)
+    elements = list(root.iter())
+    names = {element.tag for element in elements} - {NAMESPACE + name for name in ELEMENTS}
+    attributes = {name for element in elements for name in element.attrib} - ATTRIBUTES
+    groups = {}
+    for group in root.findall(NAMESPACE + "g"):
+        groups.setdefault(group.get("class"), []).append(group)
+    if names or attributes:
+        return groups, f"elements {names}, attributes {attributes}"
+    if re.search(rb"url\(|@import|href|http(?!://www\.w3\.org/2000/svg')", picture):
+        return groups, "a reference to something outside"
+    return groups, None
+
+
+def titles_in(groups, *names):
+    """The titles of the groups of these classes."""
+    return [group.find(NAMESPACE + "title").text for name in names for group in groups.get(name, [])]
+
+
+def lanes_in(groups):
+    """The names of the lanes."""
+    return [group.find(NAMESPACE + "text").text for group in groups.get("lane", []) if group.find(NAMESPACE + "rect") is not None]
+
+
+def window_of(history, verdict, located, marks, around, calls):
+    """The bars, marks and lanes of the part of a picture with these marks, and what it says of itself; none where all has room."""
+    events = history["events"]
+    shown = {"yes": range(len(events))}.get(verdict["verdict"], verdict.get("calls"))
+    spans = []
+    open_calls = {}
+    call_at = []
+    for number, event in enumerate(events):
+        process = event["process"]
+        if "invoke" in event:
+            open_calls[process] = len(spans)
+            spans.append([process, number, None])
+        else:
+            spans[open_calls[process]][2] = number
+        call_at.append(open_calls[process])
+    points = []
+    for call in marks:
+        points.append(max([spans[call][1], *points]))
+    room = 3 * calls
+    if room == 0 or len(events) + len(marks) <= room:
+        return None
+    wrong = located["event"] if verdict["verdict"] == located["verdict"] == "no" else points[-1] if points else 0
+    middle_event = around if around < len(events) else wrong
+    columns = []
+    middle = None
+    for number, call in enumerate(call_at):
+        if number == middle_event:
+            middle = len(columns)
+        if call in shown:
+            columns.append(("event", number))
+        columns += [("mark", place) for place, point in enumerate(points) if point == number]
+    count = min(room, len(columns))
+    first = min(max(middle - room // 2, 0), len(columns) - count)
+    place_of = {column: place for place, column in enumerate(columns)}
+    bars = [call for call, (_, inv, res) in enumerate(spans) if call in shown and place_of["event", inv] < first + count
+            and (res is None or place_of["event", res] >= first)]
+    drawn = [place for kind, place in columns[first:first + count] if kind == "mark"]
+    lanes = [f"process {process}" for process in sorted({spans[call][0] for call in bars})]
+    notes = [f"{count} of {len(columns)} columns, around event {middle_event}."]
+    notes += [f"\u2190 {first} more columns"] if first else []
+    notes += [f"{len(columns) - first - count} more columns \u2192"] if first + count < len(columns) else []
+    return bars, [f"place {place}: call {marks[place]}" for place in drawn], lanes, notes
+
+
+def fault_of_part(text, words, around, calls):
+    """What is wrong with a part of the picture of a history, or nothing."""
+    asked = ["--calls", str(calls), *([] if around is None else ["--around", str(around)])]
+    status, picture = bench(["draw", *words, *asked], text)
+    wanted, whole = bench(["draw", *words, "--calls", "0"], text)
+    if status != wanted:
+        return f"status {status}, where the whole picture has {wanted}"
+    if status > 2:
+        return "output of a refused text" if picture else None
+    groups, fault = groups_of(picture)
+    if fault is not None:
+        return fault
+    history = json.loads(text)
+    verdict, located = (json.loads(bench([word, *words], text)[1]) for word in ("judge", "locate"))
+    marks = [int(title.rsplit(" ", 1)[1]) for title in titles_in(groups_of(whole)[0], "mark")]
+    window = window_of(history, verdict, located, marks, 8192 if around is None else around, calls)
+    if window is None:
+        return None if picture == whole else "not the whole picture, where all of it has room"
+    bars, places, lanes, notes = window
+    every = titles(history)
+    if sorted(titles_in(groups, "call", "pale", "wrong")) != sorted(every[call] for call in bars):
+        return "bars that are not those of the window"
+    if titles_in(groups, "mark") != places:
+        return "marks that are not those of the window"
+    if lanes_in(groups) != lanes:
+        return "lanes that are not those of the processes that act in the window"
+    said = [element.text for element in xml.etree.ElementTree.fromstring(picture).findall(NAMESPACE + "text")]
+    if not all(any(line.startswith(note) for line in said) for note in notes) or sum("more columns" in line for line in said) != len(notes) - 1:
+        return f"{said} is said, where {notes} should be"
+    return None
+
+
 def fault_of(text, words):
-    """What is wrong with the picture of a history, or nothing."""
-    status, picture = bench(["draw", *words], text)
+    """What is wrong with the whole picture of a history, or nothing."""
+    status, picture = bench(["draw", *words, "--calls", "0"], text)
     wanted, report = bench(["judge", *words], text)
     if status != wanted:
         return f"status {status}, where judge has {wanted}"
     if status > 2:
         return "output of a refused text" if picture else None
-    root = xml.etree.ElementTree.fromstring(picture)
-    elements = list(root.iter())
-    names = {element.tag for element in elements} - {NAMESPACE + name for name in ELEMENTS}
-    attributes = {name for element in elements for name in element.attrib} - ATTRIBUTES
-    if names or attributes:
-        return f"elements {names}, attributes {attributes}"
-    if re.search(rb"url\(|@import|href|http(?!://www\.w3\.org/2000/svg')", picture):
-        return "a reference to something outside"
-    groups = {}
-    for group in root.findall(NAMESPACE + "g"):
-        groups.setdefault(group.get("class"), []).append(group)
+    groups, fault = groups_of(picture)
+    if fault is not None:
+        return fault
     history = json.loads(text)
     lanes = len({event["process"] for event in history["events"]})
-    if len(groups.get("lane", [])) != lanes:
-        return f"{len(groups.get('lane', []))} lanes of {lanes} processes"
-    bars = [group.find(NAMESPACE + "title").text for name in ("call", "pale", "wrong") for group in groups.get(name, [])]
-    if sorted(bars) != sorted(titles(history)):
+    if len(lanes_in(groups)) != lanes:
+        return f"{len(lanes_in(groups))} lanes of {lanes} processes"
+    if sorted(titles_in(groups, "call", "pale", "wrong")) != sorted(titles(history)):
         return "bars that are not those of the calls"
     verdict = json.loads(report)
     located = json.loads(bench(["locate", *words], text)[1])
     wrong = [f"call {located['call']} of"] if verdict["verdict"] == located["verdict"] == "no" else []
-    if [" ".join(group.find(NAMESPACE + "title").text.split()[:3]) for group in groups.get("wrong", [])] != wrong:
+    if [" ".join(title.split()[:3]) for title in titles_in(groups, "wrong")] != wrong:
         return "a bar drawn as wrong that is not of the call at which the history goes wrong"
-    places = [group.find(NAMESPACE + "title").text for group in groups.get("mark", [])]
+    places = titles_in(groups, "mark")
     if verdict["verdict"] == "yes":
         if places != [f"place {place}: call {call}" for place, call in enumerate(verdict["order"])]:
             return "marks that are not those of the order"
@@ -112,9 +206,26 @@ def cases():
             text = file.read()
         yield os.path.basename(path), text, []
         yield os.path.basename(path) + " at budget 2", text, ["--budget", "2"]
-    yield "400 calls", overlapping(400), []
-    yield "4096 calls", overlapping(4096), []
+    for count in (8, 60, 400, 4096):
+        yield f"{count} calls", overlapping(count), []
+    yield "400 calls with a wrong answer", wronged(overlapping(400)), []
     yield "4096 calls at budget 100", overlapping(4096), ["--budget", "100"]
+
+
+def wronged(text):
+    """The same history, where one answer in its midst is another one."""
+    history = json.loads(text)
+    answers = [event for event in history["events"] if "answer" in event]
+    answers[len(answers) // 2]["answer"] = 10 ** 6
+    return json.dumps(history).encode()
+
+
+def faults():
+    """For each case and each part of it, its name and what is wrong."""
+    for name, text, words in cases():
+        yield name, fault_of(text, words)
+        for around, calls in ((None, 20), (0, 1), (5, 2), (11, 3), (300, 20), (8191, 7), (None, 4096)):
+            yield f"{name}, {calls} calls around event {around}", fault_of_part(text, words, around, calls)
 
 
 def main():
@@ -122,8 +233,7 @@ def main():
     with open(os.path.join(TOP, "examples", "no-events.json"), "rb") as source:
         subprocess.run([os.path.join(TOP, "bench"), "draw"], stdin=source, stdout=subprocess.DEVNULL, check=True)
     passed = failed = 0
-    for name, text, words in cases():
-        fault = fault_of(text, words)
+    for name, fault in faults():
         if fault is None:
             passed += 1
         else:

@@ -56,6 +56,8 @@ def refused_words():
     yield "too many workers", ["judge", "--workers", "65"], LINES
     yield "a budget of 0 to locate an event", ["locate", "--budget", "0"], LINES
     yield "too many workers for a picture", ["draw", "--workers", "65"], LINES
+    yield "an event that no history has", ["draw", "--around", "8193"], LINES
+    yield "room for too many calls", ["draw", "--calls", "4097"], LINES
     yield "no row of kind 256", ["drive", "--rows256", "0"], LINES
     yield "too many rows of kind 4", ["drive", "--rows4", "4097"], LINES
     yield "a limit of no steps", ["drive", "--limit", "0"], LINES

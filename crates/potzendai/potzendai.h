@@ -1,5 +1,5 @@
 /* Potzendai's library: judges, locates and draws histories of a concurrent ordered map, as `bench judge`, `bench locate` and
- * `bench draw` do. Link libpotzendai.a; docs/LIBRARY.md says how it is built, and what each call promises.
+ * `bench draw --calls 0` do. Link libpotzendai.a; docs/LIBRARY.md says how it is built, and what each call promises.
  *
  *     char report[POTZENDAI_REPORT] = "";
  *     size_t length;

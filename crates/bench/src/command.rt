@@ -13,7 +13,7 @@ use history_engines::{run_check, run_judge, run_locate};
 use line_outcomes::asked_line;
 use locked_map::LockedMap;
 use outcomes::write_outcome;
-use picture_engines::run_draw;
+use picture_engines::{View, run_draw};
 use plan_engines::{run_drive, run_generate, run_replay, run_tree_drive};
 use pool::Gate;
 use std::alloc::Global;
@@ -59,8 +59,16 @@ pub fn run<R: Threads + Wait + Sync, S: Source, O: Sink, F: Sink, G: Gate + Sync
         Line::Locate { budget, workers } => {
             run_locate(rt, alloc, source, output, faults, budget, workers, gate)
         }
-        Line::Draw { budget, workers } => {
-            run_draw(rt, alloc, source, output, faults, budget, workers, gate)
+        Line::Draw {
+            budget,
+            workers,
+            around,
+            calls,
+        } => {
+            let view = View { around, calls };
+            run_draw(
+                rt, alloc, source, output, faults, budget, workers, view, gate,
+            )
         }
         Line::Follow { budget } => run_follow(alloc, source, output, faults, budget),
         Line::Generate {

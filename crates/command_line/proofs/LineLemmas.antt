@@ -8,10 +8,11 @@ use Rattle.std.proofs.lemmas.List.Quantifiers.{position-Some}
 use Rattle.std.proofs.lemmas.Option.{same_Some}
 use Rattle.std.proofs.lemmas.Slice.Eq.{bytes_eq-Decides}
 use Rattle.clap.specs.Words.{Text}
+use Rattle.command_line.specs.Limits.{around_limit, shown_default, shown_limit}
 use Rattle.command_line.specs.Limits.{budget_default, budget_limit, rows16_default, rows16_limit, rows256_default, rows256_limit}
 use Rattle.command_line.specs.Limits.{rows4_default, rows4_limit}
 use Rattle.command_line.specs.Limits.{rows48_default, rows48_limit, steps_limit, workers_default, workers_limit}
-use Rattle.command_line.specs.Lines.{ChecksNumbers, Drives, NamesTree, IsCheck, IsDraw, IsDrive, IsJudge, IsLocate, IsSearch, asked_by}
+use Rattle.command_line.specs.Lines.{ChecksNumbers, Draws, Drives, NamesTree, IsCheck, IsDraw, IsDrive, IsJudge, IsLocate, IsSearch, asked_by}
 use Rattle.command_line.specs.Lines.{option_words as words_of}
 use Rattle.command_line.specs.Numbers.{IsNumberWithin, number_of}
 use Rattle.command_line.specs.Program.{bench_table, check_usage, draw_usage, drive_usage, judge_usage, locate_usage, number_flag}
@@ -109,7 +110,30 @@ drives given (Drive tree rows4 rows16 rows48 rows256 limit) gives =
     )
 drives given other gives = absurd (other_name _ _ gives.name refl)
 
--- ---- judge, locate and draw
+-- ---- draw
+
+pub draw_use : (words : List Text) (given : List Given) → IsDraw words given → IsUse bench_table words draw_usage given []
+draw_use words given is = record {
+  program = is.name;
+  words_are = is.words_are ∙ ap (λ (ws : List Text). is.name ∷ codes "draw" ∷ ws) (sym (append-nil (option_words given)));
+  named = refl;
+  options = is.options;
+  required = refl;
+  numbers = λ k d lt. absurd (omega arith);
+  no_calls = λ _. refl;
+}
+
+pub draws : (given : List Given) (line : Line) → Gives draw_usage given [] (asked_by line) → Draws given line
+draws given (Draw budget workers around calls) gives =
+    let numbers = gives.numbers in (
+      read_number (codes "budget") 1 budget_limit budget_default _ budget numbers.0.read,
+      read_number (codes "workers") 1 workers_limit workers_default _ workers numbers.1.0.read,
+      read_number (codes "around") 0 around_limit around_limit _ around numbers.1.1.0.read,
+      read_number (codes "calls") 0 shown_limit shown_default _ calls numbers.1.1.1.0.read,
+    )
+draws given other gives = absurd (other_name _ _ gives.name refl)
+
+-- ---- judge and locate
 
 -- an option that may be given
 abbrev given_as : Text → Option Text → List Given
@@ -281,29 +305,3 @@ unfolding locate_given
 locates words budget workers line is gives =
     let gets = search_gets (codes "locate") refl words budget workers is in
     locates_numbers gets.given budget workers line gets.budget_is gets.workers_is gives
-
--- a use of `draw`, for each of these words
-pub draw_given : (words : List Text) (budget workers : Option Text) → IsDraw words budget workers → List Given
-draw_given words budget workers is = (search_gets (codes "draw") refl words budget workers is).given
-
-pub draw_use : (words : List Text) (budget workers : Option Text) (is : IsDraw words budget workers)
-    → IsUse bench_table words draw_usage (draw_given words budget workers is) []
-unfolding draw_given
-draw_use words budget workers is = (search_gets (codes "draw") refl words budget workers is).is_use
-
-draws_numbers : (given : List Given) (budget workers : Option Text) (line : Line) → value_given given (codes "budget") ≡ budget
-    → value_given given (codes "workers") ≡ workers
-    → Gives draw_usage given [] (asked_by line)
-    → line ≡ Draw (option_map_or number_of budget budget_default) (option_map_or number_of workers workers_default)
-draws_numbers given budget workers (Draw x y) b w gives =
-    let read = numbers_read given budget workers x y b w gives.numbers.0.read gives.numbers.1.0.read in
-    ap₂ Draw read.budget_is read.workers_is
-draws_numbers given budget workers other b w gives = absurd (other_name _ _ gives.name refl)
-
-pub draws : (words : List Text) (budget workers : Option Text) (line : Line) (is : IsDraw words budget workers)
-    → Gives draw_usage (draw_given words budget workers is) [] (asked_by line)
-    → line ≡ Draw (option_map_or number_of budget budget_default) (option_map_or number_of workers workers_default)
-unfolding draw_given
-draws words budget workers line is gives =
-    let gets = search_gets (codes "draw") refl words budget workers is in
-    draws_numbers gets.given budget workers line gets.budget_is gets.workers_is gives

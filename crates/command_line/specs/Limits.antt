@@ -17,6 +17,17 @@ workers_limit = 64
 abbrev pub workers_default : ℕ
 workers_default = 1
 
+-- the greatest number of an event in the middle of a picture, which is past those of any history and is meant where none is named
+abbrev pub around_limit : ℕ
+around_limit = 8192
+
+-- for how many calls a picture has room at most, and where no number of them is named
+abbrev pub shown_limit : ℕ
+shown_limit = 4096
+
+abbrev pub shown_default : ℕ
+shown_default = 20
+
 -- the most rows of each kind, by their children, that the table of a tree has
 abbrev pub rows4_limit : ℕ
 rows4_limit = 4096

@@ -4,11 +4,11 @@ use Rattle.std.specs.Prelude.{IfSome}
 use Rattle.std.specs.List.{All}
 use Rattle.std.specs.Option.{option_map_or}
 use Rattle.clap.specs.Words.{Text, subcommand_of}
-use Rattle.command_line.specs.Limits.{budget_limit, rows16_default, rows16_limit, rows256_default}
+use Rattle.command_line.specs.Limits.{around_limit, budget_default, budget_limit, rows16_default, rows16_limit, rows256_default}
 use Rattle.command_line.specs.Limits.{rows256_limit, rows4_default, rows4_limit, rows48_default}
-use Rattle.command_line.specs.Limits.{rows48_limit, steps_limit, workers_limit}
+use Rattle.command_line.specs.Limits.{rows48_limit, shown_default, shown_limit, steps_limit, workers_default, workers_limit}
 use Rattle.command_line.specs.Numbers.{IsNumber, IsNumberWithin, number_of}
-use Rattle.command_line.specs.Program.{bench_app, bench_table, drive_usage}
+use Rattle.command_line.specs.Program.{bench_app, bench_table, draw_usage, drive_usage}
 use Rattle.command_line.specs.Requests.{Asked, Asks}
 use Rattle.command_line.specs.Trees.{name_of, place_of}
 use Rattle.command_line.specs.Words.{AreOptionsOf, Given, value_given}
@@ -25,8 +25,8 @@ asked_by (Judge budget workers) =
     record { name = codes "judge"; numbers = budget ∷ workers ∷ []; calls = [] }
 asked_by (Locate budget workers) =
     record { name = codes "locate"; numbers = budget ∷ workers ∷ []; calls = [] }
-asked_by (Draw budget workers) =
-    record { name = codes "draw"; numbers = budget ∷ workers ∷ []; calls = [] }
+asked_by (Draw budget workers around calls) =
+    record { name = codes "draw"; numbers = budget ∷ workers ∷ around ∷ calls ∷ []; calls = [] }
 asked_by (Follow budget) = record { name = codes "follow"; numbers = budget ∷ []; calls = [] }
 asked_by (Generate seed processes calls get insert remove scan lo hi) = record {
   name = codes "generate";
@@ -51,8 +51,8 @@ IsWithinLimits (Judge budget workers) =
     (1 ≤ budget) × (budget ≤ budget_limit) × (1 ≤ workers) × (workers ≤ workers_limit)
 IsWithinLimits (Locate budget workers) =
     (1 ≤ budget) × (budget ≤ budget_limit) × (1 ≤ workers) × (workers ≤ workers_limit)
-IsWithinLimits (Draw budget workers) =
-    (1 ≤ budget) × (budget ≤ budget_limit) × (1 ≤ workers) × (workers ≤ workers_limit)
+IsWithinLimits (Draw budget workers around calls) = (1 ≤ budget) × (budget ≤ budget_limit) × (1 ≤ workers)
+    × (workers ≤ workers_limit) × (around ≤ around_limit) × (calls ≤ shown_limit)
 IsWithinLimits (Follow budget) = (1 ≤ budget) × (budget ≤ budget_limit)
 IsWithinLimits (Generate seed processes calls get insert remove scan lo hi) = ⊤
 IsWithinLimits Replay = ⊤
@@ -86,15 +86,18 @@ pub record IsSearch (subcommand : Text) (words : List Text) (budget workers : Op
   pub budget_within : IfSome budget (IsNumberWithin budget_limit)
   pub workers_within : IfSome workers (IsNumberWithin workers_limit)
 
--- so are those of `judge`, of `locate` and of `draw`
+-- so are those of `judge` and of `locate`
 abbrev pub IsJudge : List Text → Option Text → Option Text → Type 0
 IsJudge words budget workers = IsSearch (codes "judge") words budget workers
 
 abbrev pub IsLocate : List Text → Option Text → Option Text → Type 0
 IsLocate words budget workers = IsSearch (codes "locate") words budget workers
 
-abbrev pub IsDraw : List Text → Option Text → Option Text → Type 0
-IsDraw words budget workers = IsSearch (codes "draw") words budget workers
+-- the words are a name, `draw` and these options of it
+pub record IsDraw (words : List Text) (given : List Given) : Type 0 where
+  pub name : Text
+  pub words_are : words ≡ name ∷ codes "draw" ∷ words_of given
+  pub options : AreOptionsOf draw_usage.flags given
 
 -- the words are a name, `drive` and these options of it
 pub record IsDrive (words : List Text) (given : List Given) : Type 0 where
@@ -110,6 +113,15 @@ NamesTree (Some text) tree = name_of tree ≡ text
 -- the number that the value of an option spells, or the default where it is left out
 abbrev pub number_given : List Given → Text → ℕ → ℕ
 number_given given name default = option_map_or number_of (value_given given name) default
+
+-- the line is a drawing with the numbers that the options name
+abbrev pub Draws : List Given → Line → Type 0
+Draws given (Draw budget workers around calls) =
+    (budget ≡ number_given given (codes "budget") budget_default)
+    × (workers ≡ number_given given (codes "workers") workers_default)
+    × (around ≡ number_given given (codes "around") around_limit)
+    × (calls ≡ number_given given (codes "calls") shown_default)
+Draws given other = ⊥
 
 -- the line is a drive at the tree, with the rows and with the limit that the options name
 abbrev pub Drives : List Given → Line → Type 0

@@ -2,9 +2,9 @@
 use Rattle.std.specs.Prelude.{ℕ, List, [], ◌∷◌, Some, None, codes, map, true, false}
 use Rattle.clap.specs.Words.{App, Text}
 use Rattle.command_line.specs.Commands.{table_app}
-use Rattle.command_line.specs.Limits.{budget_default, budget_limit, rows16_default, rows16_limit}
+use Rattle.command_line.specs.Limits.{around_limit, budget_default, budget_limit, rows16_default, rows16_limit}
 use Rattle.command_line.specs.Limits.{rows256_default, rows256_limit, rows4_default, rows4_limit}
-use Rattle.command_line.specs.Limits.{rows48_default, rows48_limit, steps_limit, u32_limit}
+use Rattle.command_line.specs.Limits.{rows48_default, rows48_limit, shown_default, shown_limit, steps_limit, u32_limit}
 use Rattle.command_line.specs.Limits.{u64_limit, workers_default, workers_limit}
 use Rattle.command_line.specs.Tables.{Flag, Usage, among, within}
 use Rattle.command_line.specs.Trees.{name_of, place_of, trees}
@@ -36,9 +36,16 @@ judge_usage = search_usage (codes "judge")
 abbrev pub locate_usage : Usage
 locate_usage = search_usage (codes "locate")
 
--- `draw [--budget N] [--workers N]`
+-- `draw [--budget N] [--workers N] [--around N] [--calls N]`
 abbrev pub draw_usage : Usage
-draw_usage = search_usage (codes "draw")
+draw_usage = record {
+  name = codes "draw";
+  flags = number_flag (codes "budget") 1 budget_limit budget_default
+      ∷ number_flag (codes "workers") 1 workers_limit workers_default
+      ∷ number_flag (codes "around") 0 around_limit around_limit
+      ∷ number_flag (codes "calls") 0 shown_limit shown_default ∷ [];
+  takes_calls = false;
+}
 
 -- `follow [--budget N]`
 abbrev pub follow_usage : Usage

@@ -18,10 +18,14 @@ pub enum Line {
         budget: u32,
         workers: u32,
     },
-    /// A picture of the verdict that `Judge` asks for, within the same limits.
+    /// A picture of the verdict that `Judge` asks for, within the same limits: its part around an event, with room for so many
+    /// calls. An event that the history has not names none, and it may be one at most that no history has, 8,192. There is room
+    /// for 4,096 calls at most, and 0 asks for the whole picture.
     Draw {
         budget: u32,
         workers: u32,
+        around: u32,
+        calls: u32,
     },
     /// Whether the stream of events on standard input is linearizable, judged as it comes: a search meets at most `budget`
     /// configurations of a group, within the limits of `Judge`.

@@ -40,9 +40,9 @@ macro_rules! budget_option {
     };
 }
 
-// The options of a search.
+// The options of a search, and others behind them.
 macro_rules! search_options {
-    () => {
+    ($($other:expr),*) => {
         &[
             budget_option!("How many configurations of each segment are searched at most"),
             number_option!(
@@ -51,6 +51,7 @@ macro_rules! search_options {
                 1 to 64,
                 default 1
             ),
+            $($other),*
         ]
     };
 }
@@ -78,7 +79,20 @@ pub(crate) static SUBCOMMANDS: [Subcommand<'static>; 8] = [
     Subcommand {
         name: "draw",
         about: "Draws the verdict on the history on standard input, as one SVG",
-        options: search_options!(),
+        options: search_options!(
+            number_option!(
+                "around",
+                "The event in the middle; one that the history has not names none",
+                0 to 8192,
+                default 8192
+            ),
+            number_option!(
+                "calls",
+                "For how many calls there is room; 0 draws the whole history",
+                0 to 4096,
+                default 20
+            )
+        ),
         takes_calls: false,
     },
     Subcommand {

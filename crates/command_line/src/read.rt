@@ -4,7 +4,7 @@ ghost use Rattle.clap.specs.Words.{Text, takes};
 ghost use Rattle.clap.specs.Walk.{texts};
 ghost use Rattle.command_line.specs.LineFaults.{HasNamed, IsAccepted, IsFaultAt};
 ghost use Rattle.command_line.specs.Limits.{budget_default, workers_default};
-ghost use Rattle.command_line.specs.Lines.{asked_by, ChecksNumbers, Drives, IsCheck, IsDraw, IsDrive};
+ghost use Rattle.command_line.specs.Lines.{asked_by, ChecksNumbers, Draws, Drives, IsCheck, IsDraw, IsDrive};
 ghost use Rattle.command_line.specs.Lines.{IsJudge, IsLineOf, IsLocate, IsWithinLimits};
 ghost use Rattle.command_line.specs.Trees.{place_of};
 ghost use Rattle.command_line.specs.Numbers.{number_of};
@@ -55,13 +55,9 @@ pub fn read_line<'a>(alloc: Global, words: &'a [&'a str]) -> Result<Line, LineFa
         (λ line. line ≡ Line.Locate (option_map_or number_of budget budget_default)
         (option_map_or number_of workers workers_default))
         (λ e. e ≡ LineFault.Memory) }
-    // And `draw` is.
-    ensures draw { (budget workers : Option (List ℕ))
-        → IsDraw (texts words.entry.now) budget workers
-        → MatchResult result
-        (λ line. line ≡ Line.Draw (option_map_or number_of budget budget_default)
-        (option_map_or number_of workers workers_default))
-        (λ e. e ≡ LineFault.Memory) }
+    // And `draw` is, with any of its options in any order.
+    ensures draw { (given : List Given) → IsDraw (texts words.entry.now) given
+        → MatchResult result (Draws given) (λ e. e ≡ LineFault.Memory) }
     // And `drive` is, with any of its options in any order.
     ensures drive { (given : List Given) → IsDrive (texts words.entry.now) given
         → MatchResult result (Drives given) (λ e. e ≡ LineFault.Memory) }
@@ -93,6 +89,8 @@ fn line_of(request: Request<'_>) -> Line
         "draw" => Line::Draw {
             budget: request.number(0),
             workers: request.number(1),
+            around: request.number(2),
+            calls: request.number(3),
         },
         "follow" => Line::Follow {
             budget: request.number(0),

@@ -29,6 +29,8 @@ static FAULTS: [(&[&str], &str); 30] = [
     ),
     (
         &["bench", "draw", "--workers", "0"],
+        &["bench", "draw", "--around", "8193"],
+        &["bench", "draw", "--calls", "4097"],
         "error: invalid value '0' for '--workers <N>'",
     ),
     (
@@ -224,12 +226,22 @@ fn asks_for_a_location(rt: HostRuntime) -> Result<(), Fail> {
 
 #[test]
 fn asks_for_a_picture(rt: HostRuntime) -> Result<(), Fail> {
-    match read_line(rt.alloc(), &["bench", "draw", "--budget=1"])? {
-        Line::Draw { budget, workers } => {
-            assert_eq!(rt; budget, 1);
-            assert_eq!(rt; workers, 1);
+    for (words, want) in [
+        (&["bench", "draw", "--budget=1"][..], (1, 1, 8192, 20)),
+        (
+            &["bench", "draw", "--calls", "0", "--around=7"][..],
+            (100000, 1, 7, 0),
+        ),
+    ] {
+        match read_line(rt.alloc(), words)? {
+            Line::Draw {
+                budget,
+                workers,
+                around,
+                calls,
+            } => assert_eq!(rt; (budget, workers, around, calls), want),
+            other => assert!(rt; false, "{other:?}"),
         }
-        other => assert!(rt; false, "{other:?}"),
     }
     Ok(())
 }

@@ -9,25 +9,26 @@ use Rattle.outcomes.specs.Lines.{line}
 use Rattle.outcomes.specs.Outcomes.{IsTextOutcome}
 use Rattle.history_engines.specs.Answers.{IsHistoryRefusal, IsTextOf}
 use Rattle.history_engines.proofs.WholeHistories.{IsTextOf-whole}
-use Rattle.picture_engines.specs.Drawings.{IsDrawAnswer, IsDrawing}
+use Rattle.pictures.specs.declared.windows.View.{View}
+use Rattle.picture_engines.specs.Drawings.{IsViewAnswer, IsDrawing}
 
 -- a drawing that is answered with a line feed behind it is an outcome of the text
-pub IsTextOutcome-drawn : {E : Type 0} (budget : ℕ) (text : List ℕ) (history : HistoryView) (answer : Answer) (drawing : List ℕ)
+pub IsTextOutcome-drawn : {E : Type 0} (budget : ℕ) (view : View) (text : List ℕ) (history : HistoryView) (answer : Answer) (drawing : List ℕ)
     (full : Result (String Global) E)
-    (outcome : Outcome) → IsTextOf text history → IsDrawing budget history answer drawing → IfOk full (λ f. string_bytes f ≡ line drawing)
+    (outcome : Outcome) → IsTextOf text history → IsDrawing budget view history answer drawing → IfOk full (λ f. string_bytes f ≡ line drawing)
     → MatchResult full (λ f. outcome ≡ Answered answer f) (λ _. outcome ≡ Memory)
-    → IsTextOutcome (IsDrawAnswer budget) IsHistoryRefusal (Some text) outcome
-IsTextOutcome-drawn budget text history answer drawing (Ok f) outcome is_text is full answered =
-    subst (IsTextOutcome (IsDrawAnswer budget) IsHistoryRefusal (Some text)) (sym answered)
+    → IsTextOutcome (IsViewAnswer budget view) IsHistoryRefusal (Some text) outcome
+IsTextOutcome-drawn budget view text history answer drawing (Ok f) outcome is_text is full answered =
+    subst (IsTextOutcome (IsViewAnswer budget view) IsHistoryRefusal (Some text)) (sym answered)
     (record { history = history; drawing = drawing; is_text = is_text; is_drawing = is; bytes_are = full })
-IsTextOutcome-drawn budget text history answer drawing (Err e) outcome is_text is full answered =
-    subst (IsTextOutcome (IsDrawAnswer budget) IsHistoryRefusal (Some text)) (sym answered) tt
+IsTextOutcome-drawn budget view text history answer drawing (Err e) outcome is_text is full answered =
+    subst (IsTextOutcome (IsViewAnswer budget view) IsHistoryRefusal (Some text)) (sym answered) tt
 
 -- an answer to the text that was read is one to the whole
-pub IsDrawAnswer-whole : (budget : ℕ) (text : List ℕ) (answer : Answer) (bytes : List ℕ)
-    → IsDrawAnswer budget (take (text_limit + 1) text) answer bytes
-    → IsDrawAnswer budget text answer bytes
-IsDrawAnswer-whole budget text answer bytes h = record {
+pub IsViewAnswer-whole : (budget : ℕ) (view : View) (text : List ℕ) (answer : Answer) (bytes : List ℕ)
+    → IsViewAnswer budget view (take (text_limit + 1) text) answer bytes
+    → IsViewAnswer budget view text answer bytes
+IsViewAnswer-whole budget view text answer bytes h = record {
   history = h.history;
   drawing = h.drawing;
   is_text = IsTextOf-whole text h.history h.is_text;

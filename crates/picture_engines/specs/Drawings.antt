@@ -1,5 +1,5 @@
 -- What the program answers to the text of a history that it is to draw.
-use Rattle.std.specs.Prelude.{◌≡◌, ℕ, List, Option, Some, None}
+use Rattle.std.specs.Prelude.{◌≡◌, ℕ, List, Option, Some, None, length}
 use Rattle.events.specs.HistoryView.{HistoryView}
 use Rattle.events.specs.Operations.{operations}
 use Rattle.judge.specs.declared.verdict.Verdict.{Verdict}
@@ -11,8 +11,10 @@ use Rattle.locating.specs.declared.location.Location.TheVariants as locations
 use Rattle.locating.specs.Halvings.{IsExactLocation}
 use Rattle.locating.specs.Locations.{IsLocated}
 use Rattle.pictures.specs.declared.pictures_of.Picture.{Picture}
+use Rattle.pictures.specs.declared.windows.View.{View}
 use Rattle.pictures.specs.Fronts.{IsFrontShown}
 use Rattle.pictures.specs.Pictures.{IsPictureOf}
+use Rattle.pictures.specs.Windows.{IsShownOf}
 use Rattle.picture_text.specs.declared.svg_of.TheConstants.{STYLE}
 use Rattle.picture_text.specs.Svg.{IsSvgOf}
 use Rattle.outcomes.specs.declared.outcome.Answer.{Answer}
@@ -32,24 +34,34 @@ IsWrongEvent budget history (verdicts.No segment) wrong =
     (location : Location) × IsExactLocation budget history location × IsLocated budget history location × (wrong ≡ event_of location)
 IsWrongEvent budget history (verdicts.Undecided segment) wrong = wrong ≡ None
 
--- the text is one of a picture of the exact verdict on the history, which is this answer
-pub record IsDrawing (budget : ℕ) (history : HistoryView) (answer : Answer) (text : List ℕ) : Type 0 where
+-- the view that shows a whole picture
+abbrev pub whole : View
+whole = record { around = 0; calls = 0 }
+
+-- the text is one of what the view shows of a picture of the exact verdict on the history, which is this answer
+pub record IsDrawing (budget : ℕ) (view : View) (history : HistoryView) (answer : Answer) (text : List ℕ) : Type 0 where
   pub verdict : Verdict
   pub wrong : Option ℕ
   pub front : List ℕ
   pub picture : Picture
+  pub part : Picture
   pub shown : IsShown history.start budget (operations history.events) verdict
   pub exact : IsExactVerdict history.start budget (operations history.events) verdict
   pub goes_wrong : IsWrongEvent budget history verdict wrong
   pub fronted : IsFrontShown budget verdict front
   pub pictured : IsPictureOf history verdict wrong front picture
-  pub text_is : IsSvgOf STYLE.now picture text
+  pub viewed : IsShownOf (length history.events) wrong view picture part
+  pub text_is : IsSvgOf STYLE.now part text
   pub answer_is : answer ≡ answer_of verdict
 
--- `draw` answers the text at the budget so: with a picture of the verdict on the history
-pub record IsDrawAnswer (budget : ℕ) (text : List ℕ) (answer : Answer) (bytes : List ℕ) : Type 0 where
+-- `draw` answers the text at the budget so: with what the view shows of a picture of the verdict on the history
+pub record IsViewAnswer (budget : ℕ) (view : View) (text : List ℕ) (answer : Answer) (bytes : List ℕ) : Type 0 where
   pub history : HistoryView
   pub drawing : List ℕ
   pub is_text : IsTextOf text history
-  pub is_drawing : IsDrawing budget history answer drawing
+  pub is_drawing : IsDrawing budget view history answer drawing
   pub bytes_are : bytes ≡ line drawing
+
+-- or with the whole picture
+abbrev pub IsDrawAnswer : ℕ → List ℕ → Answer → List ℕ → Type 0
+IsDrawAnswer budget text answer bytes = IsViewAnswer budget whole text answer bytes

@@ -4,8 +4,9 @@ use Rattle.outcomes.specs.declared.outcome.Outcome.{Outcome}
 use Rattle.outcomes.specs.Ends.{Change}
 use Rattle.outcomes.specs.Outcomes.{IsReadOutcome}
 use Rattle.history_engines.specs.Answers.{IsHistoryRefusal}
-use Rattle.picture_engines.specs.Drawings.{IsDrawAnswer}
+use Rattle.pictures.specs.declared.windows.View.{View}
+use Rattle.picture_engines.specs.Drawings.{IsViewAnswer}
 
--- the outcome of `draw` at this budget
-abbrev pub IsDrawOutcome : ℕ → Change → Outcome → Type 0
-IsDrawOutcome budget source outcome = IsReadOutcome (IsDrawAnswer budget) IsHistoryRefusal source outcome
+-- the outcome of `draw` at this budget, where this view is asked for
+abbrev pub IsDrawOutcome : ℕ → View → Change → Outcome → Type 0
+IsDrawOutcome budget view source outcome = IsReadOutcome (IsViewAnswer budget view) IsHistoryRefusal source outcome

@@ -8,8 +8,9 @@ ghost use Rattle.judge.specs.Shown.{IsShown};
 ghost use Rattle.outcomes.specs.Ends.{change};
 ghost use Rattle.outcomes.specs.Outcomes.{IsTextOutcome};
 ghost use Rattle.outcomes.specs.Runs.{IsRun};
-ghost use Rattle.picture_engines.specs.Drawings.{event_of, IsDrawAnswer, IsDrawing, IsWrongEvent};
+ghost use Rattle.picture_engines.specs.Drawings.{event_of, whole, IsDrawAnswer, IsViewAnswer, IsDrawing, IsWrongEvent};
 ghost use Rattle.picture_engines.specs.Outcomes.{IsDrawOutcome};
+ghost use Rattle.pictures.specs.declared.windows.View.{View};
 ghost use Rattle.pool.specs.Limits.{worker_limit};
 ghost use Rattle.search.specs.Limits.{budget_limit};
 
@@ -20,7 +21,7 @@ use judge::{Verdict, judge, judge_alone};
 use locating::{Location, locate, locate_alone};
 use outcomes::{Answer, Outcome, line_of, text_from, write_outcome};
 use picture_text::svg;
-use pictures::{front_of, picture_of};
+use pictures::{View, front_of, part_of, picture_of};
 use pool::Gate;
 use std::alloc::Global;
 use std::thread::Threads;
@@ -28,8 +29,8 @@ use streams::{Sink, Source};
 
 /// Reads a history text to the end of the source, or until it is too long, and draws the verdict on it, which is found
 /// as `run_judge` finds it; for a no the event at which the history goes wrong is marked, where the budget suffices to
-/// locate it, and for a no or an undecided the longest front that a search of the named segment meets. Answers the exit
-/// status, that of the verdict.
+/// locate it, and for a no or an undecided the longest front that a search of the named segment meets. Of the picture the part
+/// that the view asks for is drawn. Answers the exit status, that of the verdict.
 pub fn run_draw<R: Threads + Sync, S: Source, O: Sink, F: Sink, G: Gate + Sync>(
     rt: &R,
     alloc: Global,
@@ -38,6 +39,7 @@ pub fn run_draw<R: Threads + Sync, S: Source, O: Sink, F: Sink, G: Gate + Sync>(
     faults: &mut F,
     budget: u32,
     workers: u32,
+    view: View,
     gate: &G,
 ) -> u8
     requires budget { (1 ≤ budget) × (budget ≤ budget_limit) }
@@ -46,39 +48,40 @@ pub fn run_draw<R: Threads + Sync, S: Source, O: Sink, F: Sink, G: Gate + Sync>(
     requires output { O.failures output.old < u64.MAX }
     requires faults { F.failures faults.old < u64.MAX }
     ensures { IsRun
-        (IsDrawOutcome budget (change S.remaining S.failures source.old source.new))
+        (IsDrawOutcome budget view (change S.remaining S.failures source.old source.new))
         (change O.written O.failures output.old output.new)
         (change F.written F.failures faults.old faults.new) result }
 {
     match text_from(alloc, source, MAX_TEXT) {
         Ok(text) => {
-            let outcome = draw_outcome(rt, alloc, &text, budget, workers, gate);
+            let outcome = draw_outcome(rt, alloc, &text, budget, workers, view, gate);
             write_outcome(output, faults, &outcome)
         }
         Err(outcome) => write_outcome(output, faults, &outcome),
     }
 }
 
-/// A picture of the verdict on the history that the text spells.
+/// The part that the view asks for of a picture of the verdict on the history that the text spells.
 pub fn draw_outcome<R: Threads + Sync, G: Gate + Sync>(
     rt: &R,
     alloc: Global,
     text: &[u8],
     budget: u32,
     workers: u32,
+    view: View,
     gate: &G,
 ) -> Outcome
     requires budget { (1 ≤ budget) × (budget ≤ budget_limit) }
     requires workers { (1 ≤ workers) × (workers ≤ worker_limit) }
-    ensures { IsTextOutcome (IsDrawAnswer budget) IsHistoryRefusal (Some text.now) result }
+    ensures { IsTextOutcome (IsViewAnswer budget view) IsHistoryRefusal (Some text.now) result }
 {
     match read_history(alloc, text) {
-        Ok(history) => outcome_of(drawing_of(rt, alloc, &history, budget, workers, gate)),
+        Ok(history) => outcome_of(drawing_of(rt, alloc, &history, budget, workers, view, gate)),
         Err(fault) => Outcome::of_history_fault(alloc, &fault),
     }
 }
 
-/// The same as `draw_outcome`, drawn by one thread: it starts no thread and waits for nobody.
+/// The same as `draw_outcome` of the whole picture, drawn by one thread: it starts no thread and waits for nobody.
 pub fn draw_outcome_alone(alloc: Global, text: &[u8], budget: u32) -> Outcome
     requires { (1 ≤ budget) × (budget ≤ budget_limit) }
     ensures { IsTextOutcome (IsDrawAnswer budget) IsHistoryRefusal (Some text.now) result }
@@ -91,9 +94,9 @@ pub fn draw_outcome_alone(alloc: Global, text: &[u8], budget: u32) -> Outcome
 
 /// How a drawing comes out, or want of memory for it.
 fn outcome_of(drawn: Result<(Answer, String), Memory>) -> Outcome
-    ensures { (budget : ℕ) (text : List ℕ) (history : HistoryView) → IsTextOf text history
-        → IfOk drawn (λ drawn. IsDrawing budget history drawn.0 (string_bytes drawn.1))
-        → IsTextOutcome (IsDrawAnswer budget) IsHistoryRefusal (Some text) result }
+    ensures { (budget : ℕ) (view : View) (text : List ℕ) (history : HistoryView) → IsTextOf text history
+        → IfOk drawn (λ drawn. IsDrawing budget view history drawn.0 (string_bytes drawn.1))
+        → IsTextOutcome (IsViewAnswer budget view) IsHistoryRefusal (Some text) result }
 {
     match drawn {
         Ok((answer, drawing)) => Outcome::answered(answer, line_of(drawing)),
@@ -108,44 +111,52 @@ fn drawing_of<R: Threads + Sync, G: Gate + Sync>(
     history: &History,
     budget: u32,
     workers: u32,
+    view: View,
     gate: &G,
 ) -> Result<(Answer, String), Memory>
     requires budget { (1 ≤ budget) × (budget ≤ budget_limit) }
     requires workers { (1 ≤ workers) × (workers ≤ worker_limit) }
-    ensures { IfOk result (λ drawn. IsDrawing budget history.now drawn.0 (string_bytes drawn.1)) }
+    ensures { IfOk result (λ drawn. IsDrawing budget view history.now drawn.0 (string_bytes drawn.1)) }
 {
     let verdict = judge(rt, alloc, history, budget, workers, gate)?;
     let wrong = wrong_event(rt, alloc, history, &verdict, budget, workers, gate)?;
-    drawing_with(alloc, history, budget, &verdict, wrong)
+    drawing_with(alloc, history, budget, &verdict, wrong, view)
 }
 
-/// The same, where one thread judges.
+/// The same of the whole picture, where one thread judges.
 fn drawing_alone(alloc: Global, history: &History, budget: u32) -> Result<(Answer, String), Memory>
     requires { (1 ≤ budget) × (budget ≤ budget_limit) }
-    ensures { IfOk result (λ drawn. IsDrawing budget history.now drawn.0 (string_bytes drawn.1)) }
+    ensures { IfOk result (λ drawn. IsDrawing budget whole history.now drawn.0 (string_bytes drawn.1)) }
 {
     let verdict = judge_alone(alloc, history, budget)?;
     let wrong = wrong_event_alone(alloc, history, &verdict, budget)?;
-    drawing_with(alloc, history, budget, &verdict, wrong)
+    let whole = View {
+        around: 0,
+        calls: 0,
+    };
+    drawing_with(alloc, history, budget, &verdict, wrong, whole)
 }
 
-/// The text of a picture of this verdict on a history, with this event marked as wrong, and the answer that it is.
+/// The text of what a view shows of a picture of this verdict on a history, with this event marked as wrong, and the answer that
+/// it is.
 fn drawing_with(
     alloc: Global,
     history: &History,
     budget: u32,
     verdict: &Verdict,
     wrong: Option<usize>,
+    view: View,
 ) -> Result<(Answer, String), Memory>
     requires budget { (1 ≤ budget) × (budget ≤ budget_limit) }
     requires shown { IsShown history.now.start budget (operations history.now.events) verdict.now }
     requires exact { IsExactVerdict history.now.start budget (operations history.now.events) verdict.now }
     requires wrong { IsWrongEvent budget history.now verdict.now wrong }
-    ensures { IfOk result (λ drawn. IsDrawing budget history.now drawn.0 (string_bytes drawn.1)) }
+    ensures { IfOk result (λ drawn. IsDrawing budget view history.now drawn.0 (string_bytes drawn.1)) }
 {
     let front = front_of(alloc, history, verdict, budget)?;
     let picture = picture_of(alloc, history, verdict, wrong, &front)?;
-    let drawing = svg(alloc, &picture)?;
+    let part = part_of(alloc, picture, history.events().len(), wrong, view)?;
+    let drawing = svg(alloc, &part)?;
     Ok((answer_of(verdict), drawing))
 }
 

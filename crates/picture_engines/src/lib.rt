@@ -4,3 +4,4 @@
 mod drawing;
 
 pub use drawing::{draw_outcome, draw_outcome_alone, run_draw};
+pub use pictures::View;

@@ -1,5 +1,5 @@
 -- The bars of a text. Each definition gives the text so far with one part more behind it.
-use Rattle.std.specs.Prelude.{ℕ, ◌+◌, ◌-◌, if◌then◌else◌, List, [], ◌∷◌, ◌++◌, Option, Some, None, option_map, codes, decimal, string_bytes}
+use Rattle.std.specs.Prelude.{ℕ, ◌+◌, ◌-◌, Bool, true, false, if◌then◌else◌, List, [], ◌∷◌, ◌++◌, Option, Some, None, option_map, codes, decimal, string_bytes}
 use Rattle.pictures.specs.declared.bars.Bar.{Bar}
 use Rattle.picture_text.specs.Content.{escaped, shown}
 use Rattle.picture_text.specs.Layout.{x_of, y_of, room_of}
@@ -37,13 +37,29 @@ abbrev pub with_open : List ℕ → ℕ → ℕ → ℕ → List ℕ
 with_open text x y end =
     text ++ (codes "<path class='bar' d='M" ++ (decimal end ++ (codes " " ++ decimal y))) ++ (codes "H" ++ (decimal x ++ (codes "v18H" ++ (decimal end ++ codes "'/>"))))
 
--- the shape of a bar: a rectangle from its invocation to its response, or one that is open, to the end
-abbrev pub with_shape_from : List ℕ → ℕ → ℕ → ℕ → ℕ → Option ℕ → List ℕ
-with_shape_from text width columns from y (Some to) = text ++ rectangle_text (x_of width from) y (x_of width to - x_of width from)
-with_shape_from text width columns from y None = with_open text (x_of width from) y (x_of width columns)
+-- a line to the right, down and back; a rectangle that is open at the left, and one that is at both ends, whose line leaves out its right side
+abbrev pub turn_text : ℕ → ℕ → List ℕ
+turn_text x end = codes "H" ++ (decimal end ++ (codes "v18H" ++ (decimal x ++ codes "'/>")))
+
+abbrev pub with_left_open : List ℕ → ℕ → ℕ → ℕ → List ℕ
+with_left_open text x y end = text ++ (codes "<path class='bar' d='M" ++ (decimal x ++ (codes " " ++ decimal y))) ++ turn_text x end
+
+abbrev pub dashes_text : ℕ → ℕ → ℕ → List ℕ
+dashes_text x y span =
+    codes "<path class='bar' stroke-dasharray='" ++ (decimal span ++ (codes " 18' d='M" ++ (decimal x ++ (codes " " ++ decimal y))))
+
+abbrev pub with_both_open : List ℕ → ℕ → ℕ → ℕ → List ℕ
+with_both_open text x y end = text ++ dashes_text x y (end - x) ++ turn_text x end
+
+-- the shape of a bar: a rectangle from its invocation to its response, or one that is open to the end, or from the beginning of what is shown
+abbrev pub with_shape_from : List ℕ → ℕ → ℕ → ℕ → ℕ → Bool → Option ℕ → List ℕ
+with_shape_from text width columns from y false (Some to) = text ++ rectangle_text (x_of width from) y (x_of width to - x_of width from)
+with_shape_from text width columns from y false None = with_open text (x_of width from) y (x_of width columns)
+with_shape_from text width columns from y true (Some to) = with_left_open text (x_of width from) y (x_of width to)
+with_shape_from text width columns from y true None = with_both_open text (x_of width from) y (x_of width columns)
 
 abbrev pub with_shape : List ℕ → ℕ → ℕ → Bar → List ℕ
-with_shape text width columns bar = with_shape_from text width columns bar.from (y_of bar.lane + 19) bar.to
+with_shape text width columns bar = with_shape_from text width columns bar.from (y_of bar.lane + 19) bar.is_cut bar.to
 
 -- the number of a bar's call
 abbrev pub number_text : ℕ → Bar → List ℕ
@@ -66,7 +82,7 @@ with_words text width columns bar =
     let room = room_of width columns bar in
     let x = x_of width bar.from + 1 in
     with_label (with_label text x (y_of bar.lane + 14) (string_bytes bar.call) room) x (y_of bar.lane + 49)
-        (reply_label (option_map string_bytes bar.reply)) room
+    (reply_label (option_map string_bytes bar.reply)) room
 
 -- a bar
 unfoldable pub with_bar : List ℕ → ℕ → ℕ → Bar → List ℕ

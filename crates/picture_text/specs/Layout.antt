@@ -2,10 +2,27 @@
 use Rattle.std.specs.Prelude.{ℕ, ◌+◌, ◌-◌, ◌*◌, ◌/◌, max, min, List, length, map, Option, Some, None, option_map, string_bytes}
 use Rattle.list_laws.specs.Lists.{greatest}
 use Rattle.pictures.specs.declared.bars.Bar.{Bar}
+use Rattle.pictures.specs.declared.pictures_of.Part.{Part}
 
--- a column from the left, and a lane from above
+-- how many columns stand between two columns of names: as many as fill 1,200 units with one
+abbrev pub per_screen : ℕ → ℕ
+per_screen width = 1104 / max width 1
+
+-- how many columns of names stand before a column, besides that at the left
+abbrev pub screens_before : ℕ → ℕ → ℕ
+screens_before width column = (column - 1) / max (per_screen width) 1
+
+-- how wide the columns from one column of names to the next are, with it
+abbrev pub screen_width : ℕ → ℕ
+screen_width width = width * per_screen width + 96
+
+-- where the names of a column of names begin, from the left: 80 before the column behind it
+abbrev pub names_at : ℕ → ℕ → ℕ
+names_at width screen = 16 + width + screen_width width * screen
+
+-- a column from the left, behind the columns of names before it, and a lane from above
 abbrev pub x_of : ℕ → ℕ → ℕ
-x_of width column = 96 + width * column
+x_of width column = 96 + width * column + 96 * screens_before width column
 
 abbrev pub y_of : ℕ → ℕ
 y_of lane = 70 + 58 * lane
@@ -39,9 +56,14 @@ width_for columns bar = (letters_of bar * 6 + 6) / (end_of columns bar - bar.fro
 abbrev pub column_width : ℕ → List Bar → ℕ
 column_width columns bars = min 72 (max 28 (greatest (map (width_for columns) bars)))
 
+-- what is said of a part has room below
+abbrev pub part_height : Option Part → ℕ
+part_height None = 0
+part_height (Some part) = 16
+
 -- how wide and how high a picture is: the words above and below its lanes have room
 abbrev pub width_of : ℕ → ℕ → ℕ
 width_of width columns = max (x_of width columns + 32) 640
 
-abbrev pub height_of : ℕ → ℕ
-height_of lanes = y_of lanes + 34
+abbrev pub height_of : ℕ → Option Part → ℕ
+height_of lanes part = y_of lanes + 34 + part_height part

@@ -3,4 +3,5 @@ pub mod Layout
 pub mod Bars
 pub mod Marks
 pub mod Frame
+pub mod Parts
 pub mod Svg

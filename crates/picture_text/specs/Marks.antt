@@ -19,4 +19,4 @@ place_text x y place = codes "<text x='" ++ (decimal x ++ (codes "' y='" ++ (dec
 unfoldable pub with_mark : List ℕ → ℕ → Mark → List ℕ
 with_mark text width mark =
     text ++ mark_title mark ++ circle_text (x_of width mark.column) (y_of mark.lane + 28) ++ place_text (x_of width mark.column)
-        (y_of mark.lane + 31) mark.place
+    (y_of mark.lane + 31) mark.place

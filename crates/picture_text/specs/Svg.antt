@@ -6,7 +6,8 @@ use Rattle.pictures.specs.declared.pictures_of.Picture.{Picture}
 use Rattle.picture_text.specs.Bars.{with_bar}
 use Rattle.picture_text.specs.Marks.{with_mark}
 use Rattle.picture_text.specs.Frame.{head_text, with_heading, with_start, with_lane, with_legend}
-use Rattle.picture_text.specs.Layout.{y_of, width_of, height_of, column_width}
+use Rattle.picture_text.specs.Layout.{y_of, width_of, height_of, screens_before, column_width}
+use Rattle.picture_text.specs.Parts.{with_screens, with_part}
 
 -- the lanes, from one on
 abbrev pub with_lanes : List ℕ → ℕ → ℕ → List ℕ → List ℕ
@@ -25,8 +26,8 @@ with_marks text width (mark ∷ marks) = with_marks (with_mark text width mark) 
 -- what stands above the lanes
 unfoldable pub top_text : List ℕ → ℕ → Picture → List ℕ
 top_text style all picture =
-    with_start (with_heading (head_text all (height_of (length picture.lanes.items)) ++ style) picture.heading)
-        picture.start.items ((all - 104) / 6)
+    with_start (with_heading (head_text all (height_of (length picture.lanes.items) picture.part) ++ style) picture.heading)
+    picture.start.items ((all - 104) / 6)
 
 -- the text of a picture, with these lines on how its parts look, at a width of a column
 abbrev pub svg_text : List ℕ → ℕ → Picture → List ℕ
@@ -34,7 +35,9 @@ svg_text style width picture =
     let all = width_of width picture.columns in
     let lanes = with_lanes (top_text style all picture) (all - 16) 0 picture.lanes.items in
     let bars = with_bars lanes width picture.columns picture.bars.items in
-    with_legend (with_marks bars width picture.marks.items) (y_of (length picture.lanes.items) + 20) picture.heading ++ codes "</svg>"
+    let names = with_screens bars width picture.lanes.items 0 (screens_before width picture.columns) in
+    let legend = with_legend (with_marks names width picture.marks.items) (y_of (length picture.lanes.items) + 20) picture.heading in
+    with_part legend width picture ++ codes "</svg>"
 
 -- the text of a picture: at the width of a column at which its words have room
 abbrev pub IsSvgOf : List ℕ → Picture → List ℕ → Type 0

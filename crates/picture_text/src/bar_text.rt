@@ -1,6 +1,7 @@
 // The bars of a text.
 ghost use Rattle.std.specs.Prelude.{◌≡◌, ◌++◌, OnOk, option_map, string_bytes};
 ghost use Rattle.picture_text.specs.Bars.{class_of, answered_text, with_reply, with_title, with_shape, rectangle_text, with_open, number_text, with_label, reply_label, with_words, with_bar};
+ghost use Rattle.picture_text.specs.Bars.{turn_text, dashes_text, with_left_open, with_both_open};
 
 use crate::content::{push_content, push_shown};
 use crate::layout::{end_of, room_of, x_of, y_of};
@@ -75,15 +76,18 @@ fn push_replied(out: &mut String, bar: &Bar) -> Result<(), Memory>
     Ok(())
 }
 
-/// Adds the shape of a bar: a rectangle from the invocation to the response, or one that is open at the right.
+/// Adds the shape of a bar: a rectangle from the invocation to the response, or one that is open at the right, or at the left
+/// where the bar begins before what is shown, or at both.
 fn push_shape(out: &mut String, width: u8, columns: usize, bar: &Bar) -> Result<(), Memory>
     ensures { OnOk result (string_bytes out.new ≡ with_shape (string_bytes out.old) width columns bar.now) }
 {
     let x = x_of(width, bar.from);
     let y = y_of(bar.lane) + 19;
-    match bar.to {
-        Some(to) => push_rectangle(out, x, y, x_of(width, to).saturating_sub(x)),
-        None => push_open(out, x, y, x_of(width, columns)),
+    match (bar.is_cut, bar.to) {
+        (false, Some(to)) => push_rectangle(out, x, y, x_of(width, to).saturating_sub(x)),
+        (false, None) => push_open(out, x, y, x_of(width, columns)),
+        (true, Some(to)) => push_left_open(out, x, y, x_of(width, to)),
+        (true, None) => push_both_open(out, x, y, x_of(width, columns)),
     }
 }
 
@@ -104,6 +108,41 @@ fn push_open(out: &mut String, x: u128, y: u128, end: u128) -> Result<(), Memory
 {
     write!(out, "<path class='bar' d='M{end} {y}")?;
     write!(out, "H{x}v18H{end}'/>")?;
+    Ok(())
+}
+
+/// Adds a rectangle that is open at the left.
+fn push_left_open(out: &mut String, x: u128, y: u128, end: u128) -> Result<(), Memory>
+    ensures { OnOk result (string_bytes out.new ≡ with_left_open (string_bytes out.old) x y end) }
+{
+    write!(out, "<path class='bar' d='M{x} {y}")?;
+    push_turn(out, x, end)
+}
+
+/// Adds a rectangle that is open at both ends: of its line the part at the right is left out.
+fn push_both_open(out: &mut String, x: u128, y: u128, end: u128) -> Result<(), Memory>
+    ensures { OnOk result (string_bytes out.new ≡ with_both_open (string_bytes out.old) x y end) }
+{
+    push_dashes(out, x, y, end.saturating_sub(x))?;
+    push_turn(out, x, end)
+}
+
+/// Adds the beginning of a line of which what is behind so much and before its last so much is left out.
+fn push_dashes(out: &mut String, x: u128, y: u128, span: u128) -> Result<(), Memory>
+    ensures { OnOk result (string_bytes out.new ≡ string_bytes out.old ++ dashes_text x y span) }
+{
+    write!(
+        out,
+        "<path class='bar' stroke-dasharray='{span} 18' d='M{x} {y}"
+    )?;
+    Ok(())
+}
+
+/// Adds a line to the right, down and back.
+fn push_turn(out: &mut String, x: u128, end: u128) -> Result<(), Memory>
+    ensures { OnOk result (string_bytes out.new ≡ string_bytes out.old ++ turn_text x end) }
+{
+    write!(out, "H{end}v18H{x}'/>")?;
     Ok(())
 }
 

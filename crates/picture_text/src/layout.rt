@@ -1,15 +1,44 @@
 // Where things stand, in the units of the text.
 ghost use Rattle.std.specs.Prelude.{◌≡◌, ◌≤◌, ◌<◌, ◌^◌};
 ghost use Rattle.picture_text.specs.Layout.{x_of, y_of, end_of, room_of, height_of, width_of, letters_of, column_width};
+ghost use Rattle.picture_text.specs.Layout.{per_screen, screens_before, screen_width, names_at, part_height};
 
-use pictures::{Bar, Picture};
+use pictures::{Bar, Part, Picture};
 
-/// Where a column stands from the left, at this width of a column.
+/// How many columns stand between two columns of names, at this width of a column.
+fn per_screen(width: u8) -> u16
+    ensures { result ≡ per_screen width }
+{
+    1104 / width.max(1) as u16
+}
+
+/// How many columns of names stand before a column, besides that at the left.
+pub fn screens_before(width: u8, column: usize) -> usize
+    ensures { result ≡ screens_before width column }
+{
+    column.saturating_sub(1) / per_screen(width).max(1) as usize
+}
+
+/// How wide the columns from one column of names to the next are, with it.
+fn screen_width(width: u8) -> u32
+    ensures { result ≡ screen_width width }
+{
+    width as u32 * per_screen(width) as u32 + 96
+}
+
+/// Where the names of a column of names begin, from the left. That at the left has number 0, and stands elsewhere.
+pub fn names_at(width: u8, screen: usize) -> u128
+    ensures { result ≡ names_at width screen }
+{
+    16 + width as u128 + screen_width(width) as u128 * screen as u128
+}
+
+/// Where a column stands from the left, at this width of a column: behind the columns of names before it.
 pub fn x_of(width: u8, column: usize) -> u128
     ensures value { result ≡ x_of width column }
     ensures small { result < 2 ^ 80 }
 {
-    96 + width as u128 * column as u128
+    96 + width as u128 * column as u128 + 96 * screens_before(width, column) as u128
 }
 
 /// Where a lane stands from above.
@@ -46,10 +75,21 @@ pub fn width_of(width: u8, columns: usize) -> u128
 }
 
 /// How high it is.
-pub fn height_of(lanes: usize) -> u128
-    ensures { result ≡ height_of lanes }
+pub fn height_of(lanes: usize, part: &Option<Part>) -> u128
+    ensures { result ≡ height_of lanes part.now }
 {
-    y_of(lanes) + 34
+    y_of(lanes) + 34 + part_height(part)
+}
+
+/// How much of it is for what is said of a part.
+fn part_height(part: &Option<Part>) -> u128
+    ensures value { result ≡ part_height part.now }
+    ensures small { result ≤ 16 }
+{
+    match part {
+        Some(_) => 16,
+        None => 0,
+    }
 }
 
 /// The width of a column at which the words of all bars have room, where it is from 28 to 72.

@@ -9,6 +9,7 @@ mod frame;
 mod laws;
 mod layout;
 mod mark_text;
+mod part_text;
 mod svg_of;
 
 pub use content::push_content;

@@ -4,8 +4,9 @@ ghost use Rattle.picture_text.specs.Svg.{top_text, with_bars, with_marks, with_l
 
 use crate::bar_text::push_bar;
 use crate::frame::{push_head, push_heading, push_lane, push_legend, push_start};
-use crate::layout::{column_width, height_of, width_of, y_of};
+use crate::layout::{column_width, height_of, screens_before, width_of, y_of};
 use crate::mark_text::push_mark;
+use crate::part_text::{push_part, push_screens};
 use events::Memory;
 use pictures::{Bar, Mark, Picture};
 use std::alloc::Global;
@@ -32,8 +33,15 @@ pub fn svg(alloc: Global, picture: &Picture) -> Result<String, Memory>
     let mut text = top_of(alloc, all, picture)?;
     push_lanes(&mut text, all.saturating_sub(16), &picture.lanes)?;
     push_bars(&mut text, width, picture.columns, &picture.bars)?;
+    push_screens(
+        &mut text,
+        width,
+        screens_before(width, picture.columns),
+        &picture.lanes,
+    )?;
     push_marks(&mut text, width, &picture.marks)?;
     push_legend(&mut text, y_of(picture.lanes.len()) + 20, &picture.heading)?;
+    push_part(&mut text, width, picture)?;
     text.push_str("</svg>")?;
     Ok(text)
 }
@@ -44,7 +52,11 @@ fn top_of(alloc: Global, all: u128, picture: &Picture) -> Result<String, Memory>
     ensures { IfOk result (λ text. string_bytes text ≡ top_text STYLE.now all picture.now) }
 {
     let mut text = String::new(alloc);
-    push_head(&mut text, all, height_of(picture.lanes.len()))?;
+    push_head(
+        &mut text,
+        all,
+        height_of(picture.lanes.len(), &picture.part),
+    )?;
     text.push_str(STYLE)?;
     push_heading(&mut text, &picture.heading)?;
     push_start(

@@ -44,7 +44,7 @@ below-le [] place event up within h = absurd (omega arith)
 below-le (x ∷ xs) zero event up within h =
     let later = AllPairs-head (λ p q. p ≤ q) x xs up in
     rw (le-ltb x event h) (rw (filter_none (is_below event) xs (λ k d inside. le-ltb (get_or xs k d) event
-        (omega (arith, later k d inside)))) (omega arith))
+    (omega (arith, later k d inside)))) (omega arith))
 below-le (x ∷ xs) (suc place) event up within h =
     below-cons x place event xs (below-le xs place event (AllPairs-tail (λ p q. p ≤ q) x xs up) (omega arith) h)
 

@@ -33,16 +33,16 @@ response-at : (p : ℕ) (front events : List Event) → IfSome (response_from p 
 response-at p front [] = tt
 response-at p front (Invoke q call ∷ events) =
     moved (λ n all. IfSome (response_from p n events) (IsAnswerAt all)) front (Invoke q call) events
-        (response-at p (front ++ Invoke q call ∷ []) events)
+    (response-at p (front ++ Invoke q call ∷ []) events)
 response-at p front (Answer q reply ∷ events) =
     first_or (q == p) (record { process = q; event = slice_get-middle front (Answer q reply) events })
     (moved (λ n all. IfSome (response_from p n events) (IsAnswerAt all)) front (Answer q reply) events
-        (response-at p (front ++ Answer q reply ∷ []) events))
+    (response-at p (front ++ Answer q reply ∷ []) events))
   where
     first_or : (b : Bool) → IsAnswerAt (front ++ Answer q reply ∷ events) (record { res = length front; reply = reply })
         → IfSome (response_from p (suc (length front)) events) (IsAnswerAt (front ++ Answer q reply ∷ events))
         → IfSome (cond b (Some (record { res = length front; reply = reply })) (response_from p (suc (length front)) events))
-            (IsAnswerAt (front ++ Answer q reply ∷ events))
+        (IsAnswerAt (front ++ Answer q reply ∷ events))
     first_or true h k = h
     first_or false h k = k
 
@@ -50,19 +50,19 @@ calls-at : (front events : List Event) → All (IsCallIn (front ++ events)) (ope
 calls-at front [] = All-nil (IsCallIn (front ++ []))
 calls-at front (Answer p reply ∷ events) =
     moved (λ n all. All (IsCallIn all) (operations_from n events)) front (Answer p reply) events
-        (calls-at (front ++ Answer p reply ∷ []) events)
+    (calls-at (front ++ Answer p reply ∷ []) events)
 calls-at front (Invoke p call ∷ events) =
     All-cons (IsCallIn (front ++ Invoke p call ∷ events)) (operation_of p call (length front) events)
-        (operations_from (suc (length front)) events)
+    (operations_from (suc (length front)) events)
     (record {
       process = p;
       invoked = slice_get-middle front (Invoke p call) events;
       answered =
           moved (λ n all. IfSome (response_from p n events) (IsAnswerAt all)) front (Invoke p call) events
-              (response-at p (front ++ Invoke p call ∷ []) events);
+          (response-at p (front ++ Invoke p call ∷ []) events);
     })
     (moved (λ n all. All (IsCallIn all) (operations_from n events)) front (Invoke p call) events
-        (calls-at (front ++ Invoke p call ∷ []) events))
+    (calls-at (front ++ Invoke p call ∷ []) events))
 
 -- each call of a history is invoked and answered by its events
 pub calls-in : (events : List Event) → All (IsCallIn events) (operations events)

@@ -32,9 +32,9 @@ IsMarkable-from_front start calls segment front h (places, is, is_front) =
     let known = All-from_contains (λ n. n < length calls) numbers (λ n here. BelongsAt-below calls n ((h.members n n here).0 here).0) in
     let same : segment.calls ≡ calls_at calls numbers = ap (λ (s : SegmentView). s.calls) h.view in
     let legal = subst (λ cs. IsLegalOrder segment.start cs places) same
-        (IsLegalOrder-from_front segment.start segment.calls places is_front) in
+    (IsLegalOrder-from_front segment.start segment.calls places is_front) in
     subst (IsMarkable calls) (sym is) (IsMarkable-from_legal segment.start calls _ (IsLegalOrder-numbers segment.start calls numbers places
-        known h.rising legal))
+    known h.rising legal))
 
 -- the segment in the midst of others
 segment-named : (start : Contents) (calls : List Operation) (below above : List SegmentView) (segment : SegmentView)

@@ -33,7 +33,7 @@ range-first n process below =
 -- the lane of a process, where it has one, and those from the next process on
 pub lanes-next : (events : List Event) (process : ℕ) → process < 64
     → lanes_from events process ≡ cond (has_events events process) (process ∷ lanes_from events (process + 1))
-        (lanes_from events (process + 1))
+    (lanes_from events (process + 1))
 unfolding lanes_from
 lanes-next events process below = ap (filter (has_events events)) (range-first process_limit process below)
 
@@ -71,7 +71,7 @@ lane-below limit events place event below here =
     let same : get_or events place event ≡ event = get_or_from_slice_get events place event event here in
     Contains-filter (has_events events) (range_with_len 0 limit) (process_of event) (Contains-range limit (process_of event) below)
     (list_any_at (λ e. process_of e == process_of event) events place event within
-        (rw same (eq-eqb (process_of event) (process_of event) refl)))
+    (rw same (eq-eqb (process_of event) (process_of event) refl)))
 
 -- each process with an event has a lane
 pub lane-is : (events : List Event) (place : ℕ) (event : Event) → AreHistoryEvents events → slice_get events place ≡ Some event

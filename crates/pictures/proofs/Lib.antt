@@ -4,3 +4,5 @@ mod ColumnLemmas
 mod BarLemmas
 mod MarkLemmas
 mod FrontLemmas
+mod RankLemmas
+mod WindowLemmas

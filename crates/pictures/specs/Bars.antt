@@ -48,6 +48,7 @@ pub record IsBarOf (events : List Event) (points : List ℕ) (verdict : Verdict)
   pub reply : option_map string_bytes bar.reply ≡ option_map (λ r. reply_words r.reply) a.response
   pub pale : bar.is_pale ≡ not (speaks_of verdict n)
   pub goes_wrong : bar.is_wrong ≡ is_response wrong a.response
+  pub whole : bar.is_cut ≡ false
 
 -- the bars of a history: one for each call, by number
 pub record AreBarsOf (events : List Event) (points : List ℕ) (verdict : Verdict) (wrong : Option ℕ) (bars : List Bar) : Type 0 where

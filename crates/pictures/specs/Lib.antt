@@ -5,3 +5,4 @@ pub mod Bars
 pub mod Marks
 pub mod Pictures
 pub mod Fronts
+pub mod Windows

@@ -1,5 +1,5 @@
 -- The picture of a verdict on a history.
-use Rattle.std.specs.Prelude.{◌≡◌, ℕ, ◌+◌, List, Option, length}
+use Rattle.std.specs.Prelude.{◌≡◌, ℕ, ◌+◌, List, Option, None, length}
 use Rattle.events.specs.HistoryView.{HistoryView}
 use Rattle.events.specs.Operations.{operations}
 use Rattle.judge.specs.declared.verdict.Verdict.{Verdict}
@@ -32,3 +32,4 @@ pub record IsPictureOf (history : HistoryView) (verdict : Verdict) (wrong : Opti
   pub bars : AreBarsOf history.events (order_points (operations history.events) (marked verdict front)) verdict wrong picture.bars.items
   pub marks : AreMarksOf (operations history.events) (marked verdict front) picture.bars.items picture.marks.items
   pub columns : picture.columns ≡ length history.events + length (marked verdict front)
+  pub whole : picture.part ≡ None

@@ -41,6 +41,8 @@ pub struct Bar {
     pub is_pale: bool,
     /// Whether its response is the event at which the history goes wrong.
     pub is_wrong: bool,
+    /// Whether it begins before what is shown.
+    pub is_cut: bool,
 }
 
 /// What the bars of a picture are drawn from, besides the calls.
@@ -93,6 +95,7 @@ fn bar_of(alloc: Global, scene: &Scene<'_>, number: usize, call: &Operation) -> 
         reply,
         is_pale: !speaks_of(scene.verdict, number),
         is_wrong: is_response(scene.wrong, &call.response),
+        is_cut: false,
     })
 }
 

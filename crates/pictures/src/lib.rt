@@ -2,19 +2,24 @@
 //! for each call of an order, at its linearization point.
 //!
 //! A picture goes from left to right by columns. Each event has a column, and each mark has one behind the event
-//! at which its point is, so no two of them stand in one column.
+//! at which its point is, so no two of them stand in one column. Of a long picture a part is shown, a window of the
+//! columns of the calls of which the verdict speaks.
 #![tactic(auto)]
 
 mod bars;
 mod columns;
 mod fronts;
 mod lanes;
+mod laws;
 mod marks;
 mod pictures_of;
+mod windows;
 mod words;
 
 pub use bars::Bar;
 pub use fronts::front_of;
+pub use laws::{ranks_rise, windows_hold_their_middle};
 pub use marks::Mark;
-pub use pictures_of::{Heading, Picture, picture_of};
+pub use pictures_of::{Heading, Part, Picture, picture_of};
+pub use windows::{View, part_of};
 pub use words::{call_words, pairs_words, reply_words};

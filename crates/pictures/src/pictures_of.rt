@@ -38,6 +38,19 @@ pub struct Picture {
     pub marks: Vec<Mark>,
     /// How many columns there are.
     pub columns: usize,
+    /// Where it shows a part of the columns of a picture, what it leaves out.
+    pub part: Option<Part>,
+}
+
+/// What a part of a picture leaves out.
+#[derive(Clone, Copy, Debug, PartialEq, Eq)]
+pub struct Part {
+    /// How many columns stand before it.
+    pub before: usize,
+    /// How many columns stand behind it.
+    pub behind: usize,
+    /// The event in its middle.
+    pub event: usize,
 }
 
 /// The picture of a verdict on a history: with the event at which it goes wrong, where that is known, and in a no
@@ -75,6 +88,7 @@ pub fn picture_of(
         bars,
         marks,
         columns,
+        part: None,
     })
 }
 

@@ -58,7 +58,7 @@ pub extern "C" fn potzendai_locate(
     }
 }
 
-/// Draws the verdict on the history that the text spells, as `bench draw` does. Else as `potzendai_judge`.
+/// Draws the verdict on the history that the text spells, as `bench draw --calls 0` does. Else as `potzendai_judge`.
 #[unsafe(no_mangle)]
 pub extern "C" fn potzendai_draw(
     alloc: Global,

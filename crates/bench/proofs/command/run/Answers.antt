@@ -2,7 +2,7 @@ use Rattle.std.specs.Prelude.{refl}
 use Rattle.clap.specs.Walk.{texts}
 use Rattle.history_engines.specs.Answers.{IsCheckAnswer, IsHistoryRefusal, IsJudgeAnswer}
 use Rattle.history_engines.specs.LocateAnswers.{IsLocateAnswer}
-use Rattle.picture_engines.specs.Drawings.{IsDrawAnswer}
+use Rattle.picture_engines.specs.Drawings.{IsViewAnswer}
 use Rattle.stream_engines.specs.Answers.{IsFollowAnswer, IsStreamRefusal}
 use Rattle.plan_engines.specs.Answers.{IsReplayAnswer, IsReplayRefusal}
 use Rattle.plan_engines.specs.Drives.{IsDriveAnswer, IsDriveRefusal}
@@ -48,7 +48,7 @@ returns-in-Locate-clause-run g c = record {
 pub returns-in-Draw-clause-run : goal.returns-in-Draw-clause-run
 returns-in-Draw-clause-run g c = record {
   outcome = c.run_draw.ensures.outcome;
-  comes = read-words IsLineOutcome (IsDrawAnswer c.in-Draw.budget) IsHistoryRefusal (texts c.args.words.now)
+  comes = read-words IsLineOutcome (IsViewAnswer c.in-Draw.budget (record { around = c.in-Draw.around; calls = c.in-Draw.calls })) IsHistoryRefusal (texts c.args.words.now)
       (change g.S.Source.remaining g.S.Source.failures c.args.source.now c.run_draw.new.source) c.run_draw.ensures.outcome
       (λ comes. record { line = c.in-Ok.line; accepted = c.in-Ok.ensures.line.1; asked = c.in-Ok.ensures.line.0; comes = rw
           c.in-Draw.is comes })

@@ -8,7 +8,7 @@ use Rattle.command_line.specs.Words.{Gives}
 use Rattle.command_line.specs.declared.fault.LineFault.{LineFault}
 use Rattle.command_line.specs.declared.fault.LineFault.TheVariants as faults
 use Rattle.command_line.proofs.AskableLemmas.{askable}
-use Rattle.command_line.proofs.LineLemmas.{check_use, checks, draw_given, draw_use, draws, drive_use, drives, judge_given, judge_use}
+use Rattle.command_line.proofs.LineLemmas.{check_use, checks, draw_use, draws, drive_use, drives, judge_given, judge_use}
 use Rattle.command_line.proofs.LineLemmas.{judges, locate_given, locate_use, locates}
 use Rattle.command_line.proofs.read.read_line.Goals as goal
 
@@ -37,7 +37,7 @@ pub returns-in-Ok-clause-check : goal.returns-in-Ok-clause-check
 returns-in-Ok-clause-check c calls is =
     let is_use = check_use (texts c.args.words.now) calls is in
     checks calls c.line_of.result (subst (Gives check_usage [] calls) (sym c.line_of.ensures.same)
-        (c.in-Ok.ensures.given check_usage [] calls is_use))
+    (c.in-Ok.ensures.given check_usage [] calls is_use))
 
 pub returns-in-Ok-clause-judge : goal.returns-in-Ok-clause-judge
 returns-in-Ok-clause-judge c budget workers is =
@@ -45,7 +45,7 @@ returns-in-Ok-clause-judge c budget workers is =
     let given = judge_given words budget workers is in
     judges words budget workers c.line_of.result is
     (subst (Gives judge_usage given []) (sym c.line_of.ensures.same)
-        (c.in-Ok.ensures.given judge_usage given [] (judge_use words budget workers is)))
+    (c.in-Ok.ensures.given judge_usage given [] (judge_use words budget workers is)))
 
 pub returns-in-Ok-clause-locate : goal.returns-in-Ok-clause-locate
 returns-in-Ok-clause-locate c budget workers is =
@@ -53,21 +53,18 @@ returns-in-Ok-clause-locate c budget workers is =
     let given = locate_given words budget workers is in
     locates words budget workers c.line_of.result is
     (subst (Gives locate_usage given []) (sym c.line_of.ensures.same)
-        (c.in-Ok.ensures.given locate_usage given [] (locate_use words budget workers is)))
+    (c.in-Ok.ensures.given locate_usage given [] (locate_use words budget workers is)))
 
 pub returns-in-Ok-clause-draw : goal.returns-in-Ok-clause-draw
-returns-in-Ok-clause-draw c budget workers is =
-    let words = texts c.args.words.now in
-    let given = draw_given words budget workers is in
-    draws words budget workers c.line_of.result is
-    (subst (Gives draw_usage given []) (sym c.line_of.ensures.same)
-        (c.in-Ok.ensures.given draw_usage given [] (draw_use words budget workers is)))
+returns-in-Ok-clause-draw c given is =
+    let is_use = draw_use (texts c.args.words.now) given is in
+    draws given c.line_of.result (subst (Gives draw_usage given []) (sym c.line_of.ensures.same) (c.in-Ok.ensures.given draw_usage given [] is_use))
 
 pub returns-in-Ok-clause-drive : goal.returns-in-Ok-clause-drive
 returns-in-Ok-clause-drive c given is =
     let is_use = drive_use (texts c.args.words.now) given is in
     drives given c.line_of.result (subst (Gives drive_usage given []) (sym c.line_of.ensures.same)
-        (c.in-Ok.ensures.given drive_usage given [] is_use))
+    (c.in-Ok.ensures.given drive_usage given [] is_use))
 
 pub returns-in-Err-clause-refused : goal.returns-in-Err-clause-refused
 unfolding bench_app
@@ -95,9 +92,7 @@ returns-in-Err-clause-locate c budget workers is =
     c.in-Err.ensures.given locate_usage (locate_given words budget workers is) [] (locate_use words budget workers is)
 
 pub returns-in-Err-clause-draw : goal.returns-in-Err-clause-draw
-returns-in-Err-clause-draw c budget workers is =
-    let words = texts c.args.words.now in
-    c.in-Err.ensures.given draw_usage (draw_given words budget workers is) [] (draw_use words budget workers is)
+returns-in-Err-clause-draw c given is = c.in-Err.ensures.given draw_usage given [] (draw_use (texts c.args.words.now) given is)
 
 pub returns-in-Err-clause-drive : goal.returns-in-Err-clause-drive
 returns-in-Err-clause-drive c given is = c.in-Err.ensures.given drive_usage given [] (drive_use (texts c.args.words.now) given is)

@@ -2,6 +2,6 @@ use Rattle.picture_engines.proofs.drawing.draw_outcome.Goals as goal
 
 pub returns-in-Ok : goal.returns-in-Ok
 returns-in-Ok g c =
-    c.outcome_of.ensures c.args.budget c.args.text.now c.in-Ok.history
-        (record { spelled = c.in-Ok.ensures.spelled; is_history = c.in-Ok.ensures.history })
+    c.outcome_of.ensures c.args.budget c.args.view c.args.text.now c.in-Ok.history
+    (record { spelled = c.in-Ok.ensures.spelled; is_history = c.in-Ok.ensures.history })
     c.drawing_of.ensures

@@ -30,4 +30,5 @@ returns c =
       reply = c.in_ok-reply.ensures;
       pale = ap not c.speaks_of.ensures;
       goes_wrong = c.is_response.ensures;
+      whole = refl;
     }

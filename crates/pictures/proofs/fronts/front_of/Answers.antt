@@ -16,4 +16,4 @@ returns-clause-markable c =
     let history = c.args.history.now in
     let front : IsFrontShown c.args.budget c.args.verdict.now c.match-verdict.front.items = returns-clause-front c in
     IsMarkable-from_verdict history.start c.args.budget (operations history.events) c.args.verdict.now c.match-verdict.front.items
-        c.requires.shown front
+    c.requires.shown front

@@ -30,7 +30,7 @@ loop-place-preserved c =
     let (a, here) = slice_get-below calls n known in
     let bar = c.index-bars-number.result in
     let bar_here : slice_get bars n ≡ Some bar =
-        slice_get_read bars (length bars) n bar refl (omega (arith, known, c.requires.bars.one_each)) c.index-bars-number.is in
+    slice_get_read bars (length bars) n bar refl (omega (arith, known, c.requires.bars.one_each)) c.index-bars-number.is in
     let point = ap (λ points. get_or points place 0) c.requires.points ∙ point-at calls order place n order_here in
     let spans = rw c.requires.points at c.requires.bars in
     let column = rw c.requires.points at c.mark_column.ensures in

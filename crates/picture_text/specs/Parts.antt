@@ -1,0 +1,74 @@
+-- What stands in a text where it is long, or shows a part of a picture.
+use Rattle.std.specs.Prelude.{ℕ, zero, suc, ◌+◌, ◌==◌, if◌then◌else◌, List, [], ◌∷◌, ◌++◌, length, Option, Some, None, codes, decimal}
+use Rattle.pictures.specs.declared.pictures_of.Heading.{Heading}
+use Rattle.pictures.specs.declared.pictures_of.Heading.TheVariants.{Order, NoOrder, Undecided}
+use Rattle.pictures.specs.declared.pictures_of.Part.{Part}
+use Rattle.pictures.specs.declared.pictures_of.Picture.{Picture}
+use Rattle.picture_text.specs.Layout.{x_of, y_of, names_at}
+
+-- ---- the names of the lanes once more
+
+-- the name of a lane at a place
+abbrev pub again_text : ℕ → ℕ → ℕ → List ℕ
+again_text x y process =
+    codes "<g class='lane'><text x='" ++ (decimal x ++ (codes "' y='" ++ (decimal y ++ (codes "'>process " ++ (decimal process
+    ++ (codes "</text></g>" ++ 10 ∷ []))))))
+
+-- a column of names, from a lane on
+abbrev pub with_names : List ℕ → ℕ → ℕ → List ℕ → List ℕ
+with_names text x lane [] = text
+with_names text x lane (process ∷ processes) = with_names (text ++ again_text x (y_of lane + 32) process) x (lane + 1) processes
+
+-- so many columns of names behind one
+abbrev pub with_screens : List ℕ → ℕ → List ℕ → ℕ → ℕ → List ℕ
+with_screens text width lanes screen zero = text
+with_screens text width lanes screen (suc more) =
+    with_screens (with_names text (names_at width (screen + 1)) 0 lanes) width lanes (screen + 1) more
+
+-- ---- a part
+
+-- a dashed line across the lanes
+abbrev pub line_text : ℕ → ℕ → List ℕ
+line_text x bottom = codes "<path stroke='#5c6b77' stroke-dasharray='4 3' d='M" ++ (decimal x ++ (codes " 70V" ++ (decimal bottom ++ codes "'/>")))
+
+-- how many columns stand before it, and behind it
+abbrev pub before_text : ℕ → List ℕ
+before_text count = codes "<text class='note' x='96' y='66'>&#8592; " ++ (decimal count ++ (codes " more columns</text>" ++ 10 ∷ []))
+
+abbrev pub behind_text : ℕ → ℕ → List ℕ
+behind_text x count =
+    codes "<text class='note' text-anchor='end' x='" ++ (decimal x ++ (codes "' y='66'>" ++ (decimal count
+    ++ (codes " more columns &#8594;</text>" ++ 10 ∷ []))))
+
+-- a mark at each end at which there is more
+abbrev pub with_before : List ℕ → ℕ → ℕ → List ℕ
+with_before text count bottom = if count == 0 then text else text ++ line_text 90 bottom ++ before_text count
+
+abbrev pub with_behind : List ℕ → ℕ → ℕ → ℕ → List ℕ
+with_behind text x count bottom = if count == 0 then text else text ++ line_text x bottom ++ behind_text x count
+
+-- how many columns are shown, of how many, and around which event
+abbrev pub counts_text : ℕ → ℕ → Part → List ℕ
+counts_text y columns part =
+    codes "<text class='note' x='16' y='" ++ (decimal y ++ (codes "'>" ++ (decimal columns ++ (codes " of "
+    ++ (decimal (part.before + columns + part.behind) ++ (codes " columns, around event " ++ (decimal part.event ++ codes ".")))))))
+
+-- that a part of a no or an undecided shows the named segment alone
+abbrev pub alone_text : Heading → List ℕ
+alone_text Order = codes ""
+alone_text (NoOrder lo hi) = codes " Calls outside of the named segment are left out."
+alone_text (Undecided lo hi) = codes " Calls outside of the named segment are left out."
+
+abbrev pub with_counts : List ℕ → ℕ → ℕ → Part → Heading → List ℕ
+with_counts text y columns part heading = text ++ counts_text y columns part ++ alone_text heading ++ (codes "</text>" ++ 10 ∷ [])
+
+-- what is said of a part
+abbrev pub with_part_of : List ℕ → ℕ → Picture → Option Part → List ℕ
+with_part_of text width picture None = text
+with_part_of text width picture (Some part) =
+    let bottom = y_of (length picture.lanes.items) in
+    with_counts (with_behind (with_before text part.before bottom) (x_of width picture.columns + 8) part.behind bottom)
+    (bottom + 36) picture.columns part picture.heading
+
+unfoldable pub with_part : List ℕ → ℕ → Picture → List ℕ
+with_part text width picture = with_part_of text width picture picture.part

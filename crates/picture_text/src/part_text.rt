@@ -1,0 +1,130 @@
+// What stands in a text where it is long, or shows a part of a picture.
+ghost use Rattle.std.specs.Prelude.{◌≡◌, ◌++◌, OnOk, string_bytes};
+ghost use Rattle.picture_text.specs.Parts.{again_text, with_names, with_screens, line_text, before_text, behind_text};
+ghost use Rattle.picture_text.specs.Parts.{with_before, with_behind, counts_text, alone_text, with_counts, with_part};
+
+use crate::layout::{names_at, x_of, y_of};
+use events::Memory;
+use pictures::{Heading, Part, Picture};
+
+/// Adds so many columns of names behind that at the left.
+pub fn push_screens(out: &mut String, width: u8, screens: usize, lanes: &[u8]) -> Result<(), Memory>
+    ensures { OnOk result (string_bytes out.new ≡ with_screens (string_bytes out.old) width lanes.now 0 screens) }
+{
+    for screen in 0..screens {
+        push_names(out, names_at(width, screen + 1), lanes)?;
+    }
+    Ok(())
+}
+
+/// Adds a column of names.
+fn push_names(out: &mut String, x: u128, lanes: &[u8]) -> Result<(), Memory>
+    ensures { OnOk result (string_bytes out.new ≡ with_names (string_bytes out.old) x 0 lanes.now) }
+{
+    for (lane, process) in lanes.iter().enumerate() {
+        push_again(out, x, y_of(lane) + 32, *process)?;
+    }
+    Ok(())
+}
+
+/// Adds the name of a lane at a place.
+fn push_again(out: &mut String, x: u128, y: u128, process: u8) -> Result<(), Memory>
+    ensures { OnOk result (string_bytes out.new ≡ string_bytes out.old ++ again_text x y process) }
+{
+    write!(
+        out,
+        "<g class='lane'><text x='{x}' y='{y}'>process {process}</text></g>\n"
+    )?;
+    Ok(())
+}
+
+/// Adds what is said of a part, where the picture is one: a dashed line at each end at which there is more, with how many
+/// columns that is, and below the legend how many are shown.
+#[tactic(auto, unfolding(crate::specs::Parts::with_part))]
+pub fn push_part(out: &mut String, width: u8, picture: &Picture) -> Result<(), Memory>
+    ensures { OnOk result (string_bytes out.new ≡ with_part (string_bytes out.old) width picture.now) }
+{
+    let Some(part) = picture.part else {
+        return Ok(());
+    };
+    let bottom = y_of(picture.lanes.len());
+    let end = x_of(width, picture.columns) + 8;
+    push_before(out, part.before, bottom)?;
+    push_behind(out, end, part.behind, bottom)?;
+    push_counts(out, bottom + 36, picture.columns, part, &picture.heading)?;
+    Ok(())
+}
+
+/// Adds that there is more before it, where there is.
+fn push_before(out: &mut String, count: usize, bottom: u128) -> Result<(), Memory>
+    ensures { OnOk result (string_bytes out.new ≡ with_before (string_bytes out.old) count bottom) }
+{
+    if count == 0 {
+        return Ok(());
+    }
+    push_line(out, 90, bottom)?;
+    write!(
+        out,
+        "<text class='note' x='96' y='66'>&#8592; {count} more columns</text>\n"
+    )?;
+    Ok(())
+}
+
+/// Adds that there is more behind it, where there is.
+fn push_behind(out: &mut String, x: u128, count: usize, bottom: u128) -> Result<(), Memory>
+    ensures { OnOk result (string_bytes out.new ≡ with_behind (string_bytes out.old) x count bottom) }
+{
+    if count == 0 {
+        return Ok(());
+    }
+    push_line(out, x, bottom)?;
+    write!(
+        out,
+        "<text class='note' text-anchor='end' x='{x}' y='66'>{count} more columns &#8594;</text>\n"
+    )?;
+    Ok(())
+}
+
+/// Adds a dashed line across the lanes.
+fn push_line(out: &mut String, x: u128, bottom: u128) -> Result<(), Memory>
+    ensures { OnOk result (string_bytes out.new ≡ string_bytes out.old ++ line_text x bottom) }
+{
+    write!(
+        out,
+        "<path stroke='#5c6b77' stroke-dasharray='4 3' d='M{x} 70V{bottom}'/>"
+    )?;
+    Ok(())
+}
+
+/// Adds how many columns are shown, of how many, and around which event.
+fn push_counts(
+    out: &mut String,
+    y: u128,
+    columns: usize,
+    part: Part,
+    heading: &Heading,
+) -> Result<(), Memory>
+    ensures { OnOk result (string_bytes out.new ≡ with_counts (string_bytes out.old) y columns part heading.now) }
+{
+    let all = part.before as u128 + columns as u128 + part.behind as u128;
+    let event = part.event;
+    write!(
+        out,
+        "<text class='note' x='16' y='{y}'>{columns} of {all} columns, around event {event}."
+    )?;
+    out.push_str(alone_text(heading))?;
+    out.push_str("</text>\n")?;
+    Ok(())
+}
+
+/// That a part of a no or an undecided shows the named segment alone.
+fn alone_text(heading: &Heading) -> &'static str
+    ensures { result.now ≡ alone_text heading.now }
+{
+    match heading {
+        Heading::Order => "",
+        Heading::NoOrder { .. } | Heading::Undecided { .. } => {
+            " Calls outside of the named segment are left out."
+        }
+    }
+}

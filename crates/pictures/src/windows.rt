@@ -1,0 +1,390 @@
+// The part of a picture that a view shows.
+ghost use Rattle.std.specs.Prelude.{◌≡◌, ◌==◌, ◌+◌, ◌≤◌, length, map, min, option_map, position, slice_get, unwrap_or, IfOk, Option};
+ghost use Rattle.std.specs.List.{filter_map, list_any};
+ghost use Rattle.pictures.specs.Windows.{ranked_bar, ranked_mark, meets, is_within, cut_bar, cut_mark, cut_end};
+ghost use Rattle.pictures.specs.Windows.{columns_of, start_of, end_of, rank, place_of, lanes_kept, bars_in, marks_in};
+ghost use Rattle.pictures.specs.Windows.{window_from, event_shown, last_point, column_of, is_whole, IsPartOf, IsShownOf};
+
+use crate::bars::Bar;
+use crate::marks::Mark;
+use crate::pictures_of::{Part, Picture};
+use events::Memory;
+use std::alloc::Global;
+
+/// What part of a picture is asked for.
+#[derive(Clone, Copy, Debug, PartialEq, Eq)]
+pub struct View {
+    /// The event in its middle. One that the history has not names none.
+    pub around: u32,
+    /// For how many calls it has room, three columns each. 0 asks for the whole picture.
+    pub calls: u32,
+}
+
+/// The part of a picture of a history with so many events that a view shows: the picture itself where all its columns have
+/// room, else a window of the columns of the calls of which the verdict speaks. It takes time in proportion to the square of
+/// the columns. `Err` is want of memory.
+pub fn part_of(
+    alloc: Global,
+    picture: Picture,
+    events: usize,
+    wrong: Option<usize>,
+    view: View,
+) -> Result<Picture, Memory>
+    ensures { IfOk result (IsShownOf events wrong view picture) }
+{
+    let room = view.calls as usize * 3;
+    if is_whole(room, picture.columns) {
+        return Ok(picture);
+    }
+    let event = event_shown(events, wrong, view.around as usize, &picture.marks);
+    let columns = columns_of(alloc, &picture.bars, &picture.marks)?;
+    let middle = rank(&columns, column_of(&picture.marks, event));
+    let from = window_from(columns.len(), middle, room);
+    window_at(
+        alloc,
+        picture,
+        &columns,
+        event,
+        from,
+        from + room.min(columns.len()),
+    )
+}
+
+/// Whether a picture with so many columns is shown whole.
+fn is_whole(room: usize, columns: usize) -> bool
+    ensures { result ≡ is_whole room columns }
+{
+    room == 0 || columns <= room
+}
+
+/// The event in the middle: the one that is asked for, where there is such an event; else the wrong one; else that behind which
+/// the last mark stands.
+fn event_shown(events: usize, wrong: Option<usize>, around: usize, marks: &[Mark]) -> usize
+    ensures { result ≡ event_shown events wrong around marks.now }
+{
+    if around < events {
+        return around;
+    }
+    match wrong {
+        Some(event) => event,
+        None => last_point(marks),
+    }
+}
+
+/// The event behind which the last mark stands, and the first one where nothing is marked.
+fn last_point(marks: &[Mark]) -> usize
+    ensures { result ≡ last_point marks.now }
+{
+    match marks.last() {
+        Some(mark) => mark.point,
+        None => 0,
+    }
+}
+
+/// The column of an event in the whole picture.
+fn column_of(marks: &[Mark], event: usize) -> u128
+    ensures { result ≡ column_of marks.now event }
+{
+    event as u128 + marks.iter().filter(|mark| mark.point < event).count() as u128
+}
+
+/// The columns that the calls of which the verdict speaks, and the marks, have in the whole picture.
+fn columns_of(alloc: Global, bars: &[Bar], marks: &[Mark]) -> Result<Vec<usize>, Memory>
+    ensures { IfOk result (λ v. v.items ≡ columns_of bars.now marks.now) }
+{
+    let mut columns = starts_of(alloc, bars)?;
+    let ends = ends_of(alloc, bars)?;
+    let places = places_of(alloc, marks)?;
+    columns.extend_from_slice(&ends)?;
+    columns.extend_from_slice(&places)?;
+    Ok(columns)
+}
+
+/// The columns of their invocations.
+fn starts_of(alloc: Global, bars: &[Bar]) -> Result<Vec<usize>, Memory>
+    ensures { IfOk result (λ v. v.items ≡ filter_map start_of bars.now) }
+{
+    Ok(bars.iter().filter_map(|bar| start_of(bar)).collect(alloc)?)
+}
+
+/// The column of an invocation, where the verdict speaks of the call.
+fn start_of(bar: &Bar) -> Option<usize>
+    ensures { result ≡ start_of bar.now }
+{
+    if bar.is_pale { None } else { Some(bar.from) }
+}
+
+/// The columns of their responses.
+fn ends_of(alloc: Global, bars: &[Bar]) -> Result<Vec<usize>, Memory>
+    ensures { IfOk result (λ v. v.items ≡ filter_map end_of bars.now) }
+{
+    Ok(bars.iter().filter_map(|bar| end_of(bar)).collect(alloc)?)
+}
+
+/// The column of a response, where the verdict speaks of the call.
+fn end_of(bar: &Bar) -> Option<usize>
+    ensures { result ≡ end_of bar.now }
+{
+    if bar.is_pale { None } else { bar.to }
+}
+
+/// The columns of the marks.
+fn places_of(alloc: Global, marks: &[Mark]) -> Result<Vec<usize>, Memory>
+    ensures { IfOk result (λ v. v.items ≡ map (λ m. m.column) marks.now) }
+{
+    Ok(marks.iter().map(|mark| mark.column).collect(alloc)?)
+}
+
+/// How many of the columns stand before one.
+fn rank(columns: &[usize], column: u128) -> usize
+    ensures value { result ≡ rank columns.now column }
+    ensures within { result ≤ length columns.now }
+{
+    columns
+        .iter()
+        .filter(|other| (**other as u128) < column)
+        .count()
+}
+
+/// The first column of a window with so much room, as near to the middle as the columns let it be.
+fn window_from(columns: usize, middle: usize, room: usize) -> usize
+    ensures value { result ≡ window_from columns middle room }
+    ensures within { result + min room columns ≤ columns }
+{
+    let last = columns - room.min(columns);
+    middle.saturating_sub(room / 2).min(last)
+}
+
+/// The window from a column up to another one.
+fn window_at(
+    alloc: Global,
+    picture: Picture,
+    columns: &[usize],
+    event: usize,
+    from: usize,
+    to: usize,
+) -> Result<Picture, Memory>
+    ensures { IfOk result (IsPartOf columns.now event from to picture) }
+{
+    let bars = bars_in(alloc, picture.bars, columns, from, to)?;
+    let marks = marks_in(alloc, &picture.marks, columns, from, to)?;
+    let lanes = lanes_kept(alloc, &bars, &picture.lanes)?;
+    let bars = cut_bars(alloc, bars, &lanes, from, to)?;
+    let marks = cut_marks(alloc, &marks, &picture.lanes, &lanes, from)?;
+    Ok(Picture {
+        heading: picture.heading,
+        start: picture.start,
+        lanes,
+        bars,
+        marks,
+        columns: to.saturating_sub(from),
+        part: Some(Part {
+            before: from,
+            behind: columns.len().saturating_sub(to),
+            event,
+        }),
+    })
+}
+
+/// The bars of the calls of which the verdict speaks that meet a window, with their places among the columns.
+fn bars_in(
+    alloc: Global,
+    bars: Vec<Bar>,
+    columns: &[usize],
+    from: usize,
+    to: usize,
+) -> Result<Vec<Bar>, Memory>
+    ensures { IfOk result (λ v. v.items ≡ bars_in columns.now from to bars.items) }
+{
+    Ok(
+        bars.into_iter()
+            .filter(|bar| !bar.is_pale)
+            .map(|bar| ranked_bar(columns, bar))
+            .filter(|bar| meets(from, to, bar))
+            .collect(alloc)?,
+    )
+}
+
+/// A bar whose columns are their places among these.
+fn ranked_bar(columns: &[usize], bar: Bar) -> Bar
+    ensures { result ≡ ranked_bar columns.now bar }
+{
+    let from = rank(columns, bar.from as u128);
+    let to = ranked_end(columns, bar.to);
+    Bar { from, to, ..bar }
+}
+
+/// The place of a column among these.
+fn ranked_end(columns: &[usize], end: Option<usize>) -> Option<usize>
+    ensures { result ≡ option_map (rank columns.now) end }
+{
+    match end {
+        Some(column) => Some(rank(columns, column as u128)),
+        None => None,
+    }
+}
+
+/// Whether a bar has a part in a window.
+fn meets(from: usize, to: usize, bar: &Bar) -> bool
+    ensures { result ≡ meets from to bar.now }
+{
+    if bar.from >= to {
+        return false;
+    }
+    match bar.to {
+        Some(end) => from <= end,
+        None => true,
+    }
+}
+
+/// The marks in a window, with their places among the columns.
+fn marks_in(
+    alloc: Global,
+    marks: &[Mark],
+    columns: &[usize],
+    from: usize,
+    to: usize,
+) -> Result<Vec<Mark>, Memory>
+    ensures { IfOk result (λ v. v.items ≡ marks_in columns.now from to marks.now) }
+{
+    Ok(
+        marks
+            .iter()
+            .map(|mark| ranked_mark(columns, mark))
+            .filter(|mark| is_within(from, to, mark))
+            .collect(alloc)?,
+    )
+}
+
+/// A mark whose column is its place among these.
+fn ranked_mark(columns: &[usize], mark: &Mark) -> Mark
+    ensures { result ≡ ranked_mark columns.now mark.now }
+{
+    let column = rank(columns, mark.column as u128);
+    Mark { column, ..*mark }
+}
+
+/// Whether a mark stands in a window.
+fn is_within(from: usize, to: usize, mark: &Mark) -> bool
+    ensures { result ≡ is_within from to mark.now }
+{
+    from <= mark.column && mark.column < to
+}
+
+/// The lanes in which there is a bar.
+fn lanes_kept(alloc: Global, bars: &[Bar], lanes: &[u8]) -> Result<Vec<u8>, Memory>
+    ensures { IfOk result (λ v. v.items ≡ lanes_kept bars.now lanes.now) }
+{
+    Ok(
+        lanes
+            .iter()
+            .copied()
+            .filter(|lane| has_bar(bars, *lane))
+            .collect(alloc)?,
+    )
+}
+
+/// Whether a process has a bar.
+fn has_bar(bars: &[Bar], process: u8) -> bool
+    ensures { result ≡ list_any (λ b. b.process == process) bars.now }
+{
+    bars.iter().any(|bar| bar.process == process)
+}
+
+/// Where the lane of a process stands among these.
+fn place_of(lanes: &[u8], process: u8) -> usize
+    ensures { result ≡ place_of lanes.now process }
+{
+    match lane_of(lanes, process) {
+        Some(place) => place,
+        None => 0,
+    }
+}
+
+/// The lane of a process.
+fn lane_of(lanes: &[u8], process: u8) -> Option<usize>
+    ensures { result ≡ position (λ lane. lane == process) lanes.now }
+{
+    lanes.iter().position(|lane| *lane == process)
+}
+
+/// The bars as they stand in a window with these lanes.
+fn cut_bars(
+    alloc: Global,
+    bars: Vec<Bar>,
+    lanes: &[u8],
+    from: usize,
+    to: usize,
+) -> Result<Vec<Bar>, Memory>
+    ensures { IfOk result (λ v. v.items ≡ map (cut_bar lanes.now from to) bars.items) }
+{
+    Ok(
+        bars.into_iter()
+            .map(|bar| cut_bar(lanes, from, to, bar))
+            .collect(alloc)?,
+    )
+}
+
+/// A bar as it stands in a window: where it begins before the window, or ends behind it, it is open at that end.
+fn cut_bar(lanes: &[u8], from: usize, to: usize, bar: Bar) -> Bar
+    ensures { result ≡ cut_bar lanes.now from to bar }
+{
+    Bar {
+        lane: place_of(lanes, bar.process),
+        from: bar.from.saturating_sub(from),
+        to: cut_end(from, to, bar.to),
+        is_cut: bar.from < from,
+        ..bar
+    }
+}
+
+/// The end of a bar in a window, where it is in it.
+fn cut_end(from: usize, to: usize, end: Option<usize>) -> Option<usize>
+    ensures { result ≡ cut_end from to end }
+{
+    let column = end?;
+    if column < to {
+        Some(column.saturating_sub(from))
+    } else {
+        None
+    }
+}
+
+/// The marks as they stand in a window with these lanes.
+fn cut_marks(
+    alloc: Global,
+    marks: &[Mark],
+    all: &[u8],
+    lanes: &[u8],
+    from: usize,
+) -> Result<Vec<Mark>, Memory>
+    ensures { IfOk result (λ v. v.items ≡ map (cut_mark all.now lanes.now from) marks.now) }
+{
+    Ok(
+        marks
+            .iter()
+            .map(|mark| cut_mark(all, lanes, from, mark))
+            .collect(alloc)?,
+    )
+}
+
+/// A mark as it stands in a window.
+fn cut_mark(all: &[u8], lanes: &[u8], from: usize, mark: &Mark) -> Mark
+    ensures { result ≡ cut_mark all.now lanes.now from mark.now }
+{
+    Mark {
+        lane: place_of(lanes, process_at(all, mark.lane)),
+        column: mark.column.saturating_sub(from),
+        ..*mark
+    }
+}
+
+/// The process of a lane.
+fn process_at(lanes: &[u8], lane: usize) -> u8
+    ensures { result ≡ unwrap_or (slice_get lanes.now lane) 0 }
+{
+    match lanes.get(lane) {
+        Some(process) => *process,
+        None => 0,
+    }
+}
