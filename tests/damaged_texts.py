@@ -4,8 +4,9 @@
     tests/damaged_texts.py
 
 A text is cut, or bytes of it are doubled, swapped or flipped, up to three times; a fixed seed chooses how. Each run has
-to end with a status from 0 to 3 and to write one line: on standard output, or for a refused text on standard error, the
-line of a fault that docs/FORMATS.md names. What is drawn is one SVG, and a no of a stream has a second line. The last line counts the texts that passed and
+to end with a status from 0 to 3 and to write one line on standard output, or for a refused text two on standard error: the
+line of a fault that docs/FORMATS.md names, and the one that says what was wanted. What is drawn is one SVG, and a no of a stream
+has a second line. The last line counts the texts that passed and
 failed.
 """
 
@@ -28,6 +29,7 @@ NOTHING = rb""
 LINE = rb"[^\n]+\n"
 # Behind a stream that goes wrong stands a small history.
 LINE_OR_TWO = rb"([^\n]+\n){1,2}"
+WANTED = rb"wanted [ -~]+\n"
 PICTURE = rb"<svg [^>]*>\n(?:[^\n]+\n)+</svg>\n"
 REFUSED_HISTORY = (
     rb"history: ([1-3] (TooLong|NotJson|Version)|5 TooMany|[46] (Shape|NotWellFormed) at event [0-9]+"
@@ -92,7 +94,7 @@ def fails(subcommand, text):
     if ran.returncode in ANSWERED[subcommand]:
         wanted = ANSWERS.get(subcommand, LINE), NOTHING
     elif ran.returncode == 3:
-        wanted = NOTHING, REFUSED[subcommand]
+        wanted = NOTHING, rb"(?:" + REFUSED[subcommand] + rb")" + WANTED
     else:
         return f"{subcommand} of {text!r} ends with status {ran.returncode}"
     if not all(map(re.fullmatch, wanted, (ran.stdout, ran.stderr))):

@@ -116,7 +116,7 @@ def runs(folder):
             yield shows, run(words, source), (5, NOTHING, told)
 
     long_text = os.path.join(folder, "long")
-    for spaces, wanted in ((0, (0, rb"ok\n", NOTHING)), (1, (3, NOTHING, rb"history: 1 TooLong\n"))):
+    for spaces, wanted in ((0, (0, rb"ok\n", NOTHING)), (1, (3, NOTHING, rb"history: 1 TooLong\nwanted at most 16777216 bytes\n"))):
         with open(ORDERED, "rb") as source, open(long_text, "wb") as longer:
             longer.write(source.read().ljust(LONGEST_TEXT + spaces))
         with open(long_text, "rb") as source:

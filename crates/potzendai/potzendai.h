@@ -7,9 +7,9 @@
  *     assert(verdict == POTZENDAI_YES);
  *
  * A call reads the history text of docs/FORMATS.md in `text_length` bytes, which end as they will, and searches at most `budget`
- * configurations of each segment. It writes the line that the program writes, with its line feed, into the room, and a zero
- * byte behind it; where the room is too small, as much of the line as leaves place for the zero byte. `*length` is how many
- * bytes the line has without the zero byte, so that all of it is there where `*length < room_length`, and else a call with room
+ * configurations of each segment. It writes what the program writes, a line with its line feed, or the two of a refused text, into
+ * the room, and a zero byte behind it; where the room is too small, as much of it as leaves place for the zero byte. `*length` is how
+ * many bytes it has without the zero byte, so that all of it is there where `*length < room_length`, and else a call with room
  * for `*length + 1` bytes gives all of it. The call answers the status.
  *
  * No pointer may be null, also for no bytes, and the text, the room and `*length` lie apart. The room's bytes were set before,

@@ -58,7 +58,9 @@ fn the_engine_writes_the_history_or_the_first_fault(rt: HostRuntime) -> Result<(
     let pending = "{\"events\":[{\"invoke\":[\"insert\",5,7],\"process\":0}],\"version\":1}\n";
     leaves(&rt, alloc, plan, DEFAULT, 1, (0, pending, ""))?;
     let none = r#"{"scripts":[],"version":1}"#;
-    leaves(&rt, alloc, none, DEFAULT, 1, (3, "", "plan: 3 TooMany\n"))?;
+    let fault = "plan: 3 TooMany\nwanted 1 to 64 scripts, at most 4096 calls in all, \
+        and to be done at most 4096 as scripts times the longest of them\n";
+    leaves(&rt, alloc, none, DEFAULT, 1, (3, "", fault))?;
     Ok(())
 }
 

@@ -18,6 +18,22 @@ use std::test::Fail;
 use std::thread::Threads;
 use streams::memory_ends::{MemorySink, MemorySource};
 
+// The two lines of a fault.
+const NO_HISTORY: &str = "history: 3 Version\n\
+    wanted {\"version\":1,\"events\":[..]} or {\"version\":2,\"start\":[..],\"events\":[..]}\n";
+
+const BAD_MIX: &str = "plan: 1 BadMix\n\
+    wanted shares of gets, inserts, removes and scans that are 100 together\n";
+
+const TOO_MANY: &str = "plan: 3 TooMany\n\
+    wanted 1 to 64 scripts, at most 4096 calls in all, \
+    and to be done at most 4096 as scripts times the longest of them\n";
+
+const NO_PLAN: &str = "plan: 7 Shape\n\
+    wanted {\"version\":1,\"scripts\":[[C,..],..]}; \
+    C is [\"get\",K], [\"insert\",K,V], [\"remove\",K], [\"scan\",LO,HI] with LO <= HI, \
+    or in version 2 [\"replace\",K,OLD,NEW]; keys are from 0 to 4294967295, values from 0 to 1073741823\n";
+
 // Does what the words of a line ask for over a text, and compares the status and what was written.
 fn leaves<R: Threads + Wait + Sync + Abort>(
     rt: &R,

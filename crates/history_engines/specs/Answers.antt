@@ -16,7 +16,8 @@ use Rattle.judge.specs.declared.verdict.Verdict.TheVariants as verdicts
 use Rattle.judge.specs.Judged.{IsJudged}
 use Rattle.outcomes.specs.declared.outcome.Answer.{Answer}
 use Rattle.outcomes.specs.declared.outcome.Answer.TheVariants.{Yes, No, Undecided}
-use Rattle.outcomes.specs.Lines.{line, ok_line, order_fault_line, history_fault_line}
+use Rattle.outcomes.specs.Lines.{line, ok_line, order_fault_line}
+use Rattle.outcomes.specs.Wanted.{history_fault_lines}
 
 -- the text spells this, and it is a history
 pub record IsTextOf (text : List ℕ) (history : HistoryView) : Type 0 where
@@ -39,9 +40,9 @@ pub record SpellsNone (text : List ℕ) (fault : HistoryFault) : Type 0 where
   pub refused : IsTextFault text fault
   pub not_memory : fault ≢ histories.Memory
 
--- a text that spells no history is refused with this line, that of its first fault
+-- a text that spells no history is refused with these lines, those of its first fault
 abbrev pub IsHistoryRefusal : List ℕ → List ℕ → Type 0
-IsHistoryRefusal text bytes = (fault : HistoryFault) × SpellsNone text fault × (bytes ≡ history_fault_line fault)
+IsHistoryRefusal text bytes = (fault : HistoryFault) × SpellsNone text fault × (bytes ≡ history_fault_lines fault)
 
 -- `check` answers the order and the text so: yes with `ok`, or no with the order's first fault
 abbrev pub IsCheckAnswer : List ℕ → List ℕ → Answer → List ℕ → Type 0

@@ -9,6 +9,26 @@ use std::test::Fail;
 use std::thread::Threads;
 use streams::memory_ends::{MemorySink, MemorySource};
 
+// What is said behind the line of a fault.
+const LENGTH: &str = "wanted at most 16777216 bytes\n";
+
+const JSON: &str = "wanted JSON in UTF-8\n";
+
+const TOP: &str =
+    "wanted {\"version\":1,\"events\":[..]} or {\"version\":2,\"start\":[..],\"events\":[..]}\n";
+
+const EVENT: &str = "wanted {\"process\":P,\"invoke\":C} or {\"process\":P,\"answer\":A}; \
+    C is [\"get\",K], [\"insert\",K,V], [\"remove\",K], [\"scan\",LO,HI] with LO <= HI, \
+    or in version 2 [\"replace\",K,OLD,NEW]; A is null, V, [[K,V],..] or \"refused\"; \
+    numbers are from 0 to 18446744073709551615\n";
+
+const LIMITS: &str =
+    "wanted at most 4096 starting pairs, processes from 0 to 63, at most 4096 calls, \
+    at most 4096 pairs in an answer\n";
+
+const TURN: &str =
+    "wanted an invocation where the process has no open call, an answer where it has one\n";
+
 // Whether these calls are an order of the text's history: compares the status and what was written.
 fn checks(
     rt: &impl Abort,
@@ -29,14 +49,16 @@ fn checks(
     Ok(())
 }
 
-// Each text is refused with this line by all engines.
+// Each text is refused with these two lines by all engines.
 fn refuses<R: Threads + Sync + Abort>(
     rt: &R,
     alloc: Global,
     text: &[u8],
     fault: &str,
+    wanted: &str,
 ) -> Result<(), AllocError> {
-    checks(rt, alloc, &[0, 1], text, 3, "", fault)?;
+    let told = format!(in alloc; "{fault}{wanted}")?;
+    checks(rt, alloc, &[0, 1], text, 3, "", &told)?;
     for locates in [false, true] {
         let mut source = MemorySource::new(Vec::from_slice(alloc, text)?, 1_000_000, None);
         let mut out = MemorySink::new(Vec::new(alloc), 7, None);
@@ -49,7 +71,7 @@ fn refuses<R: Threads + Sync + Abort>(
         };
         assert_eq!(rt; answer, 3, "{fault}");
         assert!(rt; out.bytes().is_empty(), "{fault}");
-        assert!(rt; err.bytes() == fault.as_bytes(), "{fault}");
+        assert!(rt; err.bytes() == told.as_bytes(), "{fault}");
     }
     Ok(())
 }
@@ -58,61 +80,74 @@ fn refuses<R: Threads + Sync + Abort>(
 fn refused_texts(rt: HostRuntime) -> Result<(), Fail> {
     let alloc = rt.alloc();
     let texts = [
-        ("", "history: 2 NotJson\n"),
-        (r#"{"events":[],"version":3}"#, "history: 3 Version\n"),
-        (r#"{"events":[]}"#, "history: 3 Version\n"),
+        ("", "history: 2 NotJson\n", JSON),
+        (r#"{"events":[],"version":3}"#, "history: 3 Version\n", TOP),
+        (r#"{"events":[]}"#, "history: 3 Version\n", TOP),
         (
             r#"{"events":[],"more":0,"version":1}"#,
             "history: 3 Version\n",
+            TOP,
         ),
-        (r#"{"events":{},"version":1}"#, "history: 3 Version\n"),
-        ("[]", "history: 3 Version\n"),
+        (r#"{"events":{},"version":1}"#, "history: 3 Version\n", TOP),
+        ("[]", "history: 3 Version\n", TOP),
     ];
-    for (text, fault) in texts {
-        refuses(&rt, alloc, text.as_bytes(), fault)?;
+    for (text, fault, wanted) in texts {
+        refuses(&rt, alloc, text.as_bytes(), fault, wanted)?;
     }
     let events = [
         (
             r#"{"answer":null,"process":1}"#,
             "history: 6 NotWellFormed at event 0\n",
+            TURN,
         ),
         (
             r#"{"invoke":["scan",2,1],"process":0}"#,
             "history: 4 Shape at event 0\n",
+            EVENT,
         ),
         (
             r#"{"invoke":["get",5],"process":64}"#,
             "history: 5 TooMany\n",
+            LIMITS,
         ),
         (
             r#"{"invoke":["scan",2,1],"process":64}"#,
             "history: 4 Shape at event 0\n",
+            EVENT,
         ),
-        (r#"{"answer":null,"process":64}"#, "history: 5 TooMany\n"),
+        (
+            r#"{"answer":null,"process":64}"#,
+            "history: 5 TooMany\n",
+            LIMITS,
+        ),
         (
             r#"{"invoke":["get",-1],"process":0}"#,
             "history: 4 Shape at event 0\n",
+            EVENT,
         ),
         (
             r#"{"invoke":["get","5"],"process":0}"#,
             "history: 4 Shape at event 0\n",
+            EVENT,
         ),
         (
             r#"{"invoke":["get",5],"process":0,"time":1}"#,
             "history: 4 Shape at event 0\n",
+            EVENT,
         ),
         (
             r#"{"invoke":["get",5],"process":0},{"invoke":["get",5],"process":0}"#,
             "history: 6 NotWellFormed at event 1\n",
+            TURN,
         ),
     ];
-    for (events, fault) in events {
+    for (events, fault, wanted) in events {
         let text = format!(in alloc; "{{\"events\":[{events}],\"version\":1}}")?;
-        refuses(&rt, alloc, text.as_bytes(), fault)?;
+        refuses(&rt, alloc, text.as_bytes(), fault, wanted)?;
     }
     let text = INSERT_THEN_GET.as_bytes();
     for end in 0..text.len() {
-        refuses(&rt, alloc, &text[..end], "history: 2 NotJson\n")?;
+        refuses(&rt, alloc, &text[..end], "history: 2 NotJson\n", JSON)?;
     }
     Ok(())
 }
@@ -123,18 +158,18 @@ fn long_and_deep_texts(rt: HostRuntime) -> Result<(), Fail> {
     let most = padded(alloc, EMPTY.as_bytes(), b' ', 16_777_191)?;
     checks(&rt, alloc, &[], &most, 0, "ok\n", "")?;
     let longer = padded(alloc, EMPTY.as_bytes(), b' ', 16_777_192)?;
-    refuses(&rt, alloc, &longer, "history: 1 TooLong\n")?;
+    refuses(&rt, alloc, &longer, "history: 1 TooLong\n", LENGTH)?;
     let no_json = padded(alloc, b"", 255, 16_777_217)?;
-    refuses(&rt, alloc, &no_json, "history: 1 TooLong\n")?;
+    refuses(&rt, alloc, &no_json, "history: 1 TooLong\n", LENGTH)?;
     let mut nested = padded(alloc, b"", b'[', 100)?;
     for _ in 0..100 {
         nested.push(b']')?;
     }
-    refuses(&rt, alloc, &nested, "history: 3 Version\n")?;
+    refuses(&rt, alloc, &nested, "history: 3 Version\n", TOP)?;
     let deep = padded(alloc, b"", b'[', 100_000)?;
-    refuses(&rt, alloc, &deep, "history: 2 NotJson\n")?;
+    refuses(&rt, alloc, &deep, "history: 2 NotJson\n", JSON)?;
     let not_text = padded(alloc, EMPTY.as_bytes(), 255, 1)?;
-    refuses(&rt, alloc, &not_text, "history: 2 NotJson\n")?;
+    refuses(&rt, alloc, &not_text, "history: 2 NotJson\n", JSON)?;
     Ok(())
 }
 
@@ -148,6 +183,6 @@ fn as_many_calls_as_a_history_has(rt: HostRuntime) -> Result<(), Fail> {
     let most = many_gets(alloc, 4096)?;
     checks(&rt, alloc, &order, most.as_bytes(), 0, "ok\n", "")?;
     let more = many_gets(alloc, 4097)?;
-    refuses(&rt, alloc, more.as_bytes(), "history: 5 TooMany\n")?;
+    refuses(&rt, alloc, more.as_bytes(), "history: 5 TooMany\n", LIMITS)?;
     Ok(())
 }

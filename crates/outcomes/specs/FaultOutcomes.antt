@@ -7,11 +7,12 @@ use Rattle.certificate.specs.declared.fault.OrderFault.TheVariants as orders
 use Rattle.outcomes.specs.declared.outcome.Answer.TheVariants.{No}
 use Rattle.outcomes.specs.declared.outcome.Outcome.{Outcome}
 use Rattle.outcomes.specs.declared.outcome.Outcome.TheVariants.{Answered, Refused, Memory}
-use Rattle.outcomes.specs.Lines.{history_fault_line, order_fault_line}
+use Rattle.outcomes.specs.Lines.{order_fault_line}
+use Rattle.outcomes.specs.Wanted.{history_fault_lines}
 
 -- the outcome of a text with this fault
 abbrev pub IsHistoryFaultOutcome : HistoryFault → Outcome → Type 0
-IsHistoryFaultOutcome fault (Refused bytes) = (fault ≢ histories.Memory) × (string_bytes bytes ≡ history_fault_line fault)
+IsHistoryFaultOutcome fault (Refused bytes) = (fault ≢ histories.Memory) × (string_bytes bytes ≡ history_fault_lines fault)
 IsHistoryFaultOutcome fault Memory = ⊤
 IsHistoryFaultOutcome fault outcome = ⊥
 

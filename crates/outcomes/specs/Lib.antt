@@ -1,4 +1,5 @@
 pub mod Lines
+pub mod Wanted
 pub mod Statuses
 pub mod Ends
 pub mod Outcomes

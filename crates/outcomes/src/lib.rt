@@ -7,7 +7,9 @@ mod lines;
 mod outcome;
 #[cfg(test)]
 mod tests;
+mod wanted;
 
 pub use ends::{text_from, write_outcome};
 pub use lines::line_of;
 pub use outcome::{Answer, FAILED, MEMORY, NO, Outcome, REFUSED, UNDECIDED, WORDS, YES};
+pub use wanted::{event_wanted, json_wanted, length_wanted, pair_wanted, push_wanted, turn_wanted};

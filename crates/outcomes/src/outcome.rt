@@ -3,7 +3,7 @@ ghost use Rattle.std.specs.Prelude.{◌≡◌, MatchResult};
 ghost use Rattle.outcomes.specs.FaultOutcomes.{IsHistoryFaultOutcome, IsOrderFaultOutcome};
 ghost use Rattle.outcomes.specs.Statuses.{answer_status};
 
-use crate::lines::{history_fault_line, order_fault_line};
+use crate::lines::{history_fault_lines, order_fault_line};
 use certificate::OrderFault;
 use events::HistoryFault;
 use std::alloc::{AllocError, Global};
@@ -58,7 +58,7 @@ impl Answer {
 pub enum Outcome {
     /// The input is answered, with this line for standard output.
     Answered { answer: Answer, line: String },
-    /// The input is refused, with this line for standard error.
+    /// The input is refused, with these lines for standard error.
     Refused(String),
     /// Want of memory.
     Memory,
@@ -81,13 +81,13 @@ impl Outcome {
         }
     }
 
-    /// A refusal with this line, if there was memory for the line.
-    pub fn refused(line: Result<String, AllocError>) -> Outcome
-        ensures { MatchResult line (λ text. result ≡ Outcome.Refused text)
+    /// A refusal with these lines, if there was memory for them.
+    pub fn refused(lines: Result<String, AllocError>) -> Outcome
+        ensures { MatchResult lines (λ text. result ≡ Outcome.Refused text)
             (λ _. result ≡ Outcome.Memory) }
     {
-        match line {
-            Ok(line) => Outcome::Refused(line),
+        match lines {
+            Ok(lines) => Outcome::Refused(lines),
             Err(_) => Outcome::Memory,
         }
     }
@@ -98,7 +98,7 @@ impl Outcome {
     {
         match fault {
             HistoryFault::Memory => Outcome::Memory,
-            _ => Outcome::refused(history_fault_line(alloc, fault)),
+            _ => Outcome::refused(history_fault_lines(alloc, fault)),
         }
     }
 

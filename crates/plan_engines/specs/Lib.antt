@@ -1,3 +1,4 @@
+pub mod Wanted
 pub mod Faults
 pub mod Answers
 pub mod Drives

@@ -8,6 +8,7 @@ mod faults;
 mod generate;
 mod replay;
 mod tree_drive;
+mod wanted;
 
 pub use drive::{drive_outcome, run_drive};
 pub use generate::{generate_outcome, run_generate};

@@ -13,8 +13,8 @@ use picture_engines::draw_outcome_alone;
 use std::alloc::Global;
 
 /// Judges the history that the text spells, by a search of at most `budget` configurations in each of its segments. The room
-/// is given the line that `bench judge` writes, with a zero byte behind it, as far as there is place, and `size` the length
-/// of the line. Answers the exit status of `bench judge`.
+/// is given what `bench judge` writes, with a zero byte behind it, as far as there is place, and `size` its length.
+/// Answers the exit status of `bench judge`.
 #[unsafe(no_mangle)]
 pub extern "C" fn potzendai_judge(
     alloc: Global,

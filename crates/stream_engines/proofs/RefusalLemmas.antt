@@ -14,7 +14,7 @@ use Rattle.outcomes.specs.declared.outcome.Outcome.TheVariants.{Answered, Refuse
 use Rattle.stream_engines.specs.declared.followed.Followed.{Followed}
 use Rattle.stream_engines.specs.Followed.{IsFollowed}
 use Rattle.stream_engines.specs.StreamTexts.{BeginsWith}
-use Rattle.stream_engines.specs.Refusals.{line_fault_name, turn_fault_name, turn_fault, stream_fault_line, IsLineFaultAfter, StopsFor}
+use Rattle.stream_engines.specs.Refusals.{line_fault_told, turn_fault_told, turn_fault, stream_fault_line, IsLineFaultAfter, StopsFor}
 use Rattle.stream_engines.specs.Answers.{IsStreamRefusal}
 use Rattle.stream_engines.specs.Leaves.{IsLineRefusal, IsTurnRefusal}
 use Rattle.stream_engines.specs.Outcomes.{IsStreamOutcome}
@@ -58,7 +58,7 @@ refused_at budget told read line f number fault (Words bytes) followed count wro
 refused_at budget told read line f number fault Failed followed count wrong begins is = absurd is
 refused_at budget None read line f number fault (Refused bytes) followed count wrong begins is = tt
 refused_at budget (Some text) read line f number fault (Refused bytes) followed count wrong begins is =
-    refusal_of text read (line ∷ begins.0) f (line_fault_name fault) (string_bytes bytes) followed
+    refusal_of text read (line ∷ begins.0) f (line_fault_told fault) (string_bytes bytes) followed
     (next_of text read begins.0 line begins.1)
     (inl (record {
       next = line;
@@ -68,7 +68,7 @@ refused_at budget (Some text) read line f number fault (Refused bytes) followed 
       is_fault = wrong;
       not_memory = is.0;
       name_is = refl;
-    })) (numbered (length read + 1) number (line_fault_name fault) (string_bytes bytes) count is.1)
+    })) (numbered (length read + 1) number (line_fault_told fault) (string_bytes bytes) count is.1)
 
 -- the event of the next line is out of its turn
 pub refused_turn : (budget : ℕ) (told : Option (List ℕ)) (read : List (List ℕ)) (line : List ℕ) (f : Followed) (number : ℕ) (e : Event)
@@ -82,7 +82,7 @@ refused_turn budget told read line f number e fault (Words bytes) followed count
 refused_turn budget told read line f number e fault Failed followed count spelled wrong begins is = absurd is
 refused_turn budget None read line f number e fault (Refused bytes) followed count spelled wrong begins is = tt
 refused_turn budget (Some text) read line f number e fault (Refused bytes) followed count spelled wrong begins is =
-    refusal_of text read (line ∷ begins.0) f (turn_fault_name fault) (string_bytes bytes) followed
+    refusal_of text read (line ∷ begins.0) f (turn_fault_told fault) (string_bytes bytes) followed
     (next_of text read begins.0 line begins.1)
     (inr (inl (record {
       next = line;
@@ -93,7 +93,7 @@ refused_turn budget (Some text) read line f number e fault (Refused bytes) follo
       fault = fault;
       is_fault = wrong is.0;
       name_is = refl;
-    }))) (numbered (length read + 1) number (turn_fault_name fault) (string_bytes bytes) count is.1)
+    }))) (numbered (length read + 1) number (turn_fault_told fault) (string_bytes bytes) count is.1)
 
 -- what an error shows of an event, unless memory was wanting
 pub shown_some : (fault : FollowFault) (seen : Option FollowFault) → seen ≡ shown fault → fault ≢ turns.Memory → seen ≡ Some fault

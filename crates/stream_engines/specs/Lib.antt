@@ -1,5 +1,6 @@
 pub mod StreamTexts
 pub mod Overlaps
+pub mod Wanted
 pub mod Refusals
 pub mod Reports
 pub mod Followed

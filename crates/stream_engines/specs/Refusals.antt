@@ -10,6 +10,7 @@ use Rattle.stream_text.specs.LineFaults.{IsEventLineFault, IsFirstLineFault}
 use Rattle.follow.specs.declared.fault.FollowFault.{FollowFault}
 use Rattle.follow.specs.Faults.{invocation_fault, answer_fault}
 use Rattle.outcomes.specs.Lines.{line}
+use Rattle.stream_engines.specs.Wanted.{line_wanted, turn_wanted_for, name_with_wanted}
 
 -- how many lines are read at most
 abbrev pub most_lines : ℕ
@@ -35,7 +36,14 @@ turn_fault_name turns.NotWellFormed = codes "6 NotWellFormed"
 turn_fault_name turns.TooMany = too_many_name
 turn_fault_name turns.Memory = codes "7 Memory"
 
--- the line of a fault; lines are numbered from 1
+-- what is told of a fault: its name, and what was wanted
+abbrev pub line_fault_told : LineFault → List ℕ
+line_fault_told fault = name_with_wanted (line_fault_name fault) (line_wanted fault)
+
+abbrev pub turn_fault_told : FollowFault → List ℕ
+turn_fault_told fault = name_with_wanted (turn_fault_name fault) (turn_wanted_for fault)
+
+-- the lines of a fault; lines are numbered from 1
 abbrev pub stream_fault_line : ℕ → List ℕ → List ℕ
 stream_fault_line number name = line (codes "stream: line " ++ decimal number ++ codes ": " ++ name)
 
@@ -57,7 +65,7 @@ pub record IsFaulty (read : List (List ℕ)) (has_start : Bool) (more : List (Li
   pub fault : LineFault
   pub is_fault : IsLineFaultAfter read has_start next fault
   pub not_memory : fault ≢ lines.Memory
-  pub name_is : name ≡ line_fault_name fault
+  pub name_is : name ≡ line_fault_told fault
 
 -- the next line spells an event that is not in its turn
 pub record IsOutOfTurn (has_start : Bool) (events : List Event) (more : List (List ℕ)) (name : List ℕ) : Type 0 where
@@ -68,12 +76,12 @@ pub record IsOutOfTurn (has_start : Bool) (events : List Event) (more : List (Li
   pub spelled : SpellsEvent has_start next event
   pub fault : FollowFault
   pub is_fault : turn_fault events event ≡ Some fault
-  pub name_is : name ≡ turn_fault_name fault
+  pub name_is : name ≡ turn_fault_told fault
 
 -- as many lines were read as may be
 pub record AreMany (read : List (List ℕ)) (name : List ℕ) : Type 0 where
   pub count : length read ≡ most_lines
-  pub name_is : name ≡ too_many_name
+  pub name_is : name ≡ line_fault_told lines.TooMany
 
 -- why reading stops behind these lines, which spell these events
 abbrev pub StopsFor : List (List ℕ) → Bool → List Event → List (List ℕ) → List ℕ → Type 0

@@ -1,10 +1,11 @@
 // Why a line of a stream is refused, as an outcome.
 ghost use Rattle.std.specs.Prelude.{◌≡◌, IfOk, string_bytes};
 ghost use Rattle.stream_engines.specs.Leaves.{IsLineRefusal, IsTurnRefusal};
-ghost use Rattle.stream_engines.specs.Refusals.{line_fault_name, turn_fault_name, stream_fault_line};
+ghost use Rattle.stream_engines.specs.Refusals.{line_fault_name, turn_fault_name, line_fault_told, turn_fault_told, stream_fault_line};
+ghost use Rattle.stream_engines.specs.Wanted.{too_many_wanted, line_wanted, turn_wanted_for, name_with_wanted};
 
 use follow::FollowFault;
-use outcomes::Outcome;
+use outcomes::{Outcome, event_wanted, json_wanted, line_of, pair_wanted, turn_wanted};
 use std::alloc::{AllocError, Global};
 use stream_text::LineFault;
 
@@ -15,8 +16,8 @@ pub fn refused_line(alloc: Global, number: u64, fault: LineFault) -> Outcome
     if matches!(fault, LineFault::Memory) {
         return Outcome::Memory;
     }
-    match line_fault_name(alloc, fault) {
-        Ok(name) => Outcome::refused(fault_line(alloc, number, name.as_str())),
+    match line_fault_told(alloc, fault) {
+        Ok(told) => Outcome::refused(fault_line(alloc, number, told.as_str())),
         Err(_) => Outcome::Memory,
     }
 }
@@ -27,18 +28,48 @@ pub fn refused_event(alloc: Global, number: u64, fault: &FollowFault) -> Outcome
 {
     match fault {
         FollowFault::Memory => Outcome::Memory,
-        _ => Outcome::refused(fault_line(alloc, number, turn_fault_name(fault))),
+        _ => match turn_fault_told(alloc, fault) {
+            Ok(told) => Outcome::refused(fault_line(alloc, number, told.as_str())),
+            Err(_) => Outcome::Memory,
+        },
     }
 }
 
-/// The line of a fault, at the line of this number.
-fn fault_line(alloc: Global, number: u64, name: &str) -> Result<String, AllocError>
-    ensures { IfOk result (λ text. string_bytes text ≡ stream_fault_line number name.now) }
+/// The lines of a fault of which this is told, at the line of this number.
+fn fault_line(alloc: Global, number: u64, told: &str) -> Result<String, AllocError>
+    ensures { IfOk result (λ text. string_bytes text ≡ stream_fault_line number told.now) }
 {
     let mut line = format!(in alloc; "stream: line {number}: ")?;
-    line.push_str(name)?;
+    line.push_str(told)?;
     line.push_str("\n")?;
     Ok(line)
+}
+
+/// What is told of the fault of a line.
+fn line_fault_told(alloc: Global, fault: LineFault) -> Result<String, AllocError>
+    ensures { IfOk result (λ told. string_bytes told ≡ line_fault_told fault) }
+{
+    name_with_wanted(line_fault_name(alloc, fault)?, line_wanted(fault))
+}
+
+/// What is told of the fault of an event after others.
+fn turn_fault_told(alloc: Global, fault: &FollowFault) -> Result<String, AllocError>
+    ensures { IfOk result (λ told. string_bytes told ≡ turn_fault_told fault.now) }
+{
+    name_with_wanted(
+        String::from_str(alloc, turn_fault_name(fault))?,
+        turn_wanted_for(fault),
+    )
+}
+
+/// A name, and what was wanted on a line of its own.
+fn name_with_wanted(name: String, wanted: &str) -> Result<String, AllocError>
+    ensures { IfOk result (λ told. string_bytes told ≡ name_with_wanted (string_bytes name) wanted.now) }
+{
+    let mut told = line_of(name)?;
+    told.push_str("wanted ")?;
+    told.push_str(wanted)?;
+    Ok(told)
 }
 
 /// The number and the name of the fault of a line.
@@ -67,4 +98,38 @@ fn turn_fault_name(fault: &FollowFault) -> &'static str
         FollowFault::TooMany => "5 TooMany",
         FollowFault::Memory => "7 Memory",
     }
+}
+
+/// What was wanted in the place of a line with this fault.
+fn line_wanted(fault: LineFault) -> &'static str
+    ensures { result.now ≡ line_wanted fault }
+{
+    match fault {
+        LineFault::TooLong => "at most 1048576 bytes",
+        LineFault::NotJson => json_wanted(),
+        LineFault::Version => "{\"version\":2,\"start\":[[K,V],..]}",
+        LineFault::Shape => event_wanted(),
+        LineFault::TooMany => too_many_wanted(),
+        LineFault::Memory => "",
+        LineFault::Start { .. } => pair_wanted(),
+    }
+}
+
+/// What was wanted in the place of an event with this fault.
+fn turn_wanted_for(fault: &FollowFault) -> &'static str
+    ensures { result.now ≡ turn_wanted_for fault.now }
+{
+    match fault {
+        FollowFault::Shape => event_wanted(),
+        FollowFault::NotWellFormed => turn_wanted(),
+        FollowFault::TooMany => too_many_wanted(),
+        FollowFault::Memory => "",
+    }
+}
+
+/// Which processes there may be, and how many lines.
+fn too_many_wanted() -> &'static str
+    ensures { result.now ≡ too_many_wanted }
+{
+    "processes from 0 to 65535, and fewer than 18446744073709551615 lines"
 }

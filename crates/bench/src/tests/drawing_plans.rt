@@ -1,6 +1,6 @@
 // Plans that are drawn.
 
-use super::leaves;
+use super::{BAD_MIX, TOO_MANY, leaves};
 use crate::command::run;
 use pool::OpenGate;
 use std::test::Fail;
@@ -43,22 +43,13 @@ fn drawn_plans(rt: HostRuntime) -> Result<(), Fail> {
 fn refused_plans(rt: HostRuntime) -> Result<(), Fail> {
     let alloc = rt.alloc();
     for (options, fault) in [
-        (
-            "--processes 0 --calls 65 --scan 1 --lo 9 --hi 0",
-            "plan: 1 BadMix\n",
-        ),
+        ("--processes 0 --calls 65 --scan 1 --lo 9 --hi 0", BAD_MIX),
         (
             "--processes 64 --calls 65 --scan 0 --lo 9 --hi 0",
-            "plan: 2 BadRange\n",
+            "plan: 2 BadRange\nwanted a least key that is not above the greatest\n",
         ),
-        (
-            "--processes 64 --calls 65 --scan 0 --lo 0 --hi 9",
-            "plan: 3 TooMany\n",
-        ),
-        (
-            "--processes 0 --calls 1 --scan 0 --lo 0 --hi 9",
-            "plan: 3 TooMany\n",
-        ),
+        ("--processes 64 --calls 65 --scan 0 --lo 0 --hi 9", TOO_MANY),
+        ("--processes 0 --calls 1 --scan 0 --lo 0 --hi 9", TOO_MANY),
     ] {
         let line = format!(in alloc;
             "bench generate --seed 42 --get 100 --insert 0 --remove 0 {options}"
@@ -90,6 +81,6 @@ fn generate_reads_nothing(rt: HostRuntime) -> Result<(), Fail> {
     );
     assert_eq!(rt; status, 3);
     assert!(rt; out.bytes().is_empty());
-    assert!(rt; err.bytes() == "plan: 1 BadMix\n".as_bytes());
+    assert!(rt; err.bytes() == BAD_MIX.as_bytes());
     Ok(())
 }

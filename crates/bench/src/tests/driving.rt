@@ -3,7 +3,7 @@ ghost use Rattle.std.specs.Prelude.{◌≡◌};
 ghost use Rattle.events.specs.declared.event.Reply.TheVariants as replies;
 
 use super::failing_ends::{assert_reads_fail, assert_writes_fail};
-use super::leaves;
+use super::{NO_PLAN, TOO_MANY, leaves};
 use crate::command::run;
 use events::{Call, Reply};
 use history_engines::worked_texts::padded;
@@ -80,14 +80,11 @@ fn driven_plans(rt: HostRuntime) -> Result<(), Fail> {
         }
     }
     let refused = [
-        ("", "plan: 6 NotJson\n"),
-        (r#"{"scripts":[],"version":1}"#, "plan: 3 TooMany\n"),
-        (r#"{"scripts":[[]],"version":3}"#, "plan: 7 Shape\n"),
-        (r#"{"scripts":[[["get"]]],"version":1}"#, "plan: 7 Shape\n"),
-        (
-            r#"{"scripts":[[["replace",5,7,8]]],"version":1}"#,
-            "plan: 7 Shape\n",
-        ),
+        ("", "plan: 6 NotJson\nwanted JSON in UTF-8\n"),
+        (r#"{"scripts":[],"version":1}"#, TOO_MANY),
+        (r#"{"scripts":[[]],"version":3}"#, NO_PLAN),
+        (r#"{"scripts":[[["get"]]],"version":1}"#, NO_PLAN),
+        (r#"{"scripts":[[["replace",5,7,8]]],"version":1}"#, NO_PLAN),
     ];
     for (text, fault) in refused {
         leaves(&rt, alloc, "bench drive", text.as_bytes(), 3, "", fault)?;
@@ -131,11 +128,11 @@ fn plans_of_too_many_calls(rt: HostRuntime) -> Result<(), Fail> {
     output_of(&rt, alloc, "bench drive", text.as_bytes(), 0)?;
     for count in [2049, 4096, 4097] {
         let text = gets_and_none(alloc, count)?;
-        let fault = "plan: 3 TooMany\n";
-        leaves(&rt, alloc, "bench drive", text.as_bytes(), 3, "", fault)?;
+        leaves(&rt, alloc, "bench drive", text.as_bytes(), 3, "", TOO_MANY)?;
     }
     let text = padded(alloc, b"", b' ', 16_777_217)?;
-    leaves(&rt, alloc, "bench drive", &text, 3, "", "plan: 5 TooLong\n")?;
+    let fault = "plan: 5 TooLong\nwanted at most 16777216 bytes\n";
+    leaves(&rt, alloc, "bench drive", &text, 3, "", fault)?;
     Ok(())
 }
 

@@ -1,6 +1,6 @@
 // Ends that fail, one byte at a time.
 
-use super::text_of_fault;
+use super::{NO_HISTORY, NO_PLAN, TOO_MANY, text_of_fault};
 use crate::command::run;
 use history_engines::worked_texts::{INSERT_THEN_GET, MISSED_INSERT};
 use pool::OpenGate;
@@ -142,11 +142,11 @@ fn failing_writes_to_the_faults(rt: HostRuntime) -> Result<(), Fail> {
     let alloc = rt.alloc();
     let told = text_of_fault(&rt, alloc, "bench run")?;
     let rows = [
-        (["bench", "check"].as_slice(), 3, "history: 3 Version\n"),
-        (["bench", "judge"].as_slice(), 3, "history: 3 Version\n"),
-        (["bench", "locate"].as_slice(), 3, "history: 3 Version\n"),
-        (NO_PROCESS.as_slice(), 3, "plan: 3 TooMany\n"),
-        (["bench", "drive"].as_slice(), 3, "plan: 7 Shape\n"),
+        (["bench", "check"].as_slice(), 3, NO_HISTORY),
+        (["bench", "judge"].as_slice(), 3, NO_HISTORY),
+        (["bench", "locate"].as_slice(), 3, NO_HISTORY),
+        (NO_PROCESS.as_slice(), 3, TOO_MANY),
+        (["bench", "drive"].as_slice(), 3, NO_PLAN),
         (["bench", "run"].as_slice(), 5, told.as_str()),
     ];
     for (words, status, fault) in rows {

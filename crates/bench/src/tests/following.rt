@@ -47,34 +47,59 @@ fn streams_are_followed(rt: HostRuntime) -> Result<(), Fail> {
     Ok(())
 }
 
+// What is said behind the line of a fault.
+const JSON: &str = "wanted JSON in UTF-8\n";
+
+const EVENT: &str = "wanted {\"process\":P,\"invoke\":C} or {\"process\":P,\"answer\":A}; \
+    C is [\"get\",K], [\"insert\",K,V], [\"remove\",K], [\"scan\",LO,HI] with LO <= HI, \
+    or in version 2 [\"replace\",K,OLD,NEW]; A is null, V, [[K,V],..] or \"refused\"; \
+    numbers are from 0 to 18446744073709551615\n";
+
+const START: &str = "wanted {\"version\":2,\"start\":[[K,V],..]}\n";
+
+const PAIR: &str = "wanted [K,V] with K above that of the pair before; \
+    numbers are from 0 to 18446744073709551615\n";
+
+const LIMITS: &str =
+    "wanted processes from 0 to 65535, and fewer than 18446744073709551615 lines\n";
+
+const TURN: &str =
+    "wanted an invocation where the process has no open call, an answer where it has one\n";
+
 #[test]
 fn streams_are_refused(rt: HostRuntime) -> Result<(), Fail> {
     let alloc = rt.alloc();
-    for (text, fault) in [
-        ("\n", "stream: line 1: 2 NotJson\n"),
-        ("{}\n", "stream: line 1: 4 Shape\n"),
+    for (text, fault, wanted) in [
+        ("\n", "stream: line 1: 2 NotJson\n", JSON),
+        ("{}\n", "stream: line 1: 4 Shape\n", EVENT),
         (
             "{\"start\":[],\"version\":1}\n",
             "stream: line 1: 3 Version\n",
+            START,
         ),
         (
             "{\"start\":[[7,1],[7,2]],\"version\":2}\n",
             "stream: line 1: 8 Start at pair 1\n",
+            PAIR,
         ),
         (
             "{\"invoke\":[\"get\",5],\"process\":65536}\n",
             "stream: line 1: 5 TooMany\n",
+            LIMITS,
         ),
         (
             "{\"invoke\":[\"get\",5],\"process\":0}\n{\"answer\":null,\"process\":1}\n",
             "stream: line 2: 6 NotWellFormed\n",
+            TURN,
         ),
         (
             "{\"invoke\":[\"replace\",5,1,2],\"process\":0}\n",
             "stream: line 1: 4 Shape\n",
+            EVENT,
         ),
     ] {
-        leaves(&rt, alloc, "bench follow", text.as_bytes(), 3, "", fault)?;
+        let told = format!(in alloc; "{fault}{wanted}")?;
+        leaves(&rt, alloc, "bench follow", text.as_bytes(), 3, "", &told)?;
     }
     Ok(())
 }

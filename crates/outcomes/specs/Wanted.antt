@@ -1,0 +1,47 @@
+-- What is said behind the line of a fault of a text: what was wanted.
+use Rattle.std.specs.Prelude.{ℕ, List, [], ◌++◌, codes}
+use Rattle.events.specs.declared.fault.HistoryFault.{HistoryFault}
+use Rattle.events.specs.declared.fault.HistoryFault.TheVariants as histories
+use Rattle.outcomes.specs.Lines.{line, history_fault_line}
+
+-- the same lines, with one more that says what was wanted
+abbrev pub with_wanted : List ℕ → List ℕ → List ℕ
+with_wanted lines wanted = line (lines ++ codes "wanted " ++ wanted)
+
+-- how long a text may be, and what it is
+abbrev pub length_wanted : List ℕ
+length_wanted = codes "at most 16777216 bytes"
+
+abbrev pub json_wanted : List ℕ
+json_wanted = codes "JSON in UTF-8"
+
+-- an event of a history text, or of a stream
+abbrev pub event_wanted : List ℕ
+event_wanted =
+    codes "{\"process\":P,\"invoke\":C} or {\"process\":P,\"answer\":A}; C is [\"get\",K], [\"insert\",K,V], [\"remove\",K], "
+    ++ codes "[\"scan\",LO,HI] with LO <= HI, or in version 2 [\"replace\",K,OLD,NEW]; A is null, V, [[K,V],..] or \"refused\"; "
+    ++ codes "numbers are from 0 to 18446744073709551615"
+
+-- an event in its turn
+abbrev pub turn_wanted : List ℕ
+turn_wanted = codes "an invocation where the process has no open call, an answer where it has one"
+
+-- a starting pair
+abbrev pub pair_wanted : List ℕ
+pair_wanted = codes "[K,V] with K above that of the pair before; numbers are from 0 to 18446744073709551615"
+
+-- in the place of each fault of a history text
+abbrev pub history_wanted : HistoryFault → List ℕ
+history_wanted histories.TooLong = length_wanted
+history_wanted histories.NotJson = json_wanted
+history_wanted histories.Version = codes "{\"version\":1,\"events\":[..]} or {\"version\":2,\"start\":[..],\"events\":[..]}"
+history_wanted (histories.Shape event) = event_wanted
+history_wanted histories.TooMany =
+    codes "at most 4096 starting pairs, processes from 0 to 63, at most 4096 calls, at most 4096 pairs in an answer"
+history_wanted (histories.NotWellFormed event) = turn_wanted
+history_wanted (histories.Start pair) = pair_wanted
+history_wanted histories.Memory = []
+
+-- the lines of a fault of a history text
+abbrev pub history_fault_lines : HistoryFault → List ℕ
+history_fault_lines fault = with_wanted (history_fault_line fault) (history_wanted fault)

@@ -1,0 +1,73 @@
+// What is said behind the line of a fault of a text: what was wanted.
+ghost use Rattle.std.specs.Prelude.{◌≡◌, OnOk, string_bytes};
+ghost use Rattle.outcomes.specs.Wanted.{with_wanted, length_wanted, json_wanted, event_wanted, turn_wanted, pair_wanted, history_wanted};
+
+use events::HistoryFault;
+use std::alloc::AllocError;
+
+/// Adds the line that says what was wanted.
+pub fn push_wanted(lines: &mut String, wanted: &str) -> Result<(), AllocError>
+    ensures { OnOk result (string_bytes lines.new ≡ with_wanted (string_bytes lines.old) wanted.now) }
+{
+    lines.push_str("wanted ")?;
+    lines.push_str(wanted)?;
+    lines.push_str("\n")?;
+    Ok(())
+}
+
+/// How long a text may be.
+pub fn length_wanted() -> &'static str
+    ensures { result.now ≡ length_wanted }
+{
+    "at most 16777216 bytes"
+}
+
+/// What a text is.
+pub fn json_wanted() -> &'static str
+    ensures { result.now ≡ json_wanted }
+{
+    "JSON in UTF-8"
+}
+
+/// What an event may be, in a history text and in a stream.
+pub fn event_wanted() -> &'static str
+    ensures { result.now ≡ event_wanted }
+{
+    "{\"process\":P,\"invoke\":C} or {\"process\":P,\"answer\":A}; C is [\"get\",K], [\"insert\",K,V], [\"remove\",K], \
+    [\"scan\",LO,HI] with LO <= HI, or in version 2 [\"replace\",K,OLD,NEW]; A is null, V, [[K,V],..] or \"refused\"; \
+    numbers are from 0 to 18446744073709551615"
+}
+
+/// When an event comes in its turn.
+pub fn turn_wanted() -> &'static str
+    ensures { result.now ≡ turn_wanted }
+{
+    "an invocation where the process has no open call, an answer where it has one"
+}
+
+/// What a starting pair may be.
+pub fn pair_wanted() -> &'static str
+    ensures { result.now ≡ pair_wanted }
+{
+    "[K,V] with K above that of the pair before; numbers are from 0 to 18446744073709551615"
+}
+
+/// What was wanted in the place of a fault of a history text.
+pub fn history_wanted(fault: &HistoryFault) -> &'static str
+    ensures { result.now ≡ history_wanted fault.now }
+{
+    match fault {
+        HistoryFault::TooLong => length_wanted(),
+        HistoryFault::NotJson => json_wanted(),
+        HistoryFault::Version => {
+            "{\"version\":1,\"events\":[..]} or {\"version\":2,\"start\":[..],\"events\":[..]}"
+        }
+        HistoryFault::Shape { .. } => event_wanted(),
+        HistoryFault::TooMany => {
+            "at most 4096 starting pairs, processes from 0 to 63, at most 4096 calls, at most 4096 pairs in an answer"
+        }
+        HistoryFault::NotWellFormed { .. } => turn_wanted(),
+        HistoryFault::Start { .. } => pair_wanted(),
+        HistoryFault::Memory => "",
+    }
+}

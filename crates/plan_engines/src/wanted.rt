@@ -1,0 +1,46 @@
+// What is said behind the line of a fault of a plan or of a replay: what was wanted.
+ghost use Rattle.std.specs.Prelude.{◌≡◌};
+ghost use Rattle.plan_engines.specs.Wanted.{plan_wanted, machine_wanted};
+
+use outcomes::{json_wanted, length_wanted};
+use plans::{MachineFault, PlanFault};
+
+/// What was wanted in the place of a fault of a plan.
+pub(crate) fn plan_wanted(fault: PlanFault) -> &'static str
+    ensures { result.now ≡ plan_wanted fault }
+{
+    match fault {
+        PlanFault::BadMix => "shares of gets, inserts, removes and scans that are 100 together",
+        PlanFault::BadRange => "a least key that is not above the greatest",
+        PlanFault::TooMany => {
+            "1 to 64 scripts, at most 4096 calls in all, and to be done at most 4096 as scripts times the longest of them"
+        }
+        PlanFault::Memory => "",
+        PlanFault::TooLong => length_wanted(),
+        PlanFault::NotJson => json_wanted(),
+        PlanFault::Shape => {
+            "{\"version\":1,\"scripts\":[[C,..],..]}; C is [\"get\",K], [\"insert\",K,V], [\"remove\",K], [\"scan\",LO,HI] \
+            with LO <= HI, or in version 2 [\"replace\",K,OLD,NEW]; keys are from 0 to 4294967295, values from 0 to 1073741823"
+        }
+    }
+}
+
+/// What was wanted in the place of a fault of a replay or of its schedule.
+pub(crate) fn machine_wanted(fault: MachineFault) -> &'static str
+    ensures { result.now ≡ machine_wanted fault }
+{
+    match fault {
+        MachineFault::NoProcess => "an item whose process has a script, from 0",
+        MachineFault::NothingToDo =>
+            "a process with an open call, or with a call left in its script",
+        MachineFault::TurnLimit => "no more turns than the limit",
+        MachineFault::Memory => "",
+        MachineFault::TooLong => length_wanted(),
+        MachineFault::NotJson => json_wanted(),
+        MachineFault::Shape => {
+            "{\"version\":1,\"variant\":NAME,\"rows\":[N,N,N,N],\"limit\":N,\"scripts\":[[C,..],..],\"schedule\":[ITEM,..]}, and in \
+            version 2 \"start\":[[K,V],..]; ITEM is [P,\"turns\",N], [P,\"end\"] or [P,\"until\",POINT]; C is as in a plan"
+        }
+        MachineFault::StartRefused => "rows that have room for the starting pairs",
+    }
+}
