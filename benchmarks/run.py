@@ -362,14 +362,16 @@ def rates(threads, rounds, *works):
 
 
 def build_rates():
-    subprocess.run(["rt", "run", "--", "neither", "1", "0"], cwd=os.path.dirname(os.path.dirname(RATES)), stdout=subprocess.DEVNULL, check=True)
+    folder = os.path.dirname(os.path.dirname(RATES))
+    subprocess.run(["rt", "run", "--", "neither", "1", "0"], cwd=folder, stdout=subprocess.DEVNULL, check=True)
 
 
 def record(rounds=500):
     build_rates()
     for threads in (1, 2, 4):
         (events, noted), (additions, added) = rates(threads, rounds, "recorder", "word")
-        print(f"record, {threads} threads: {events / noted:14,.0f} events/s {additions / added:14,.0f} additions/s {noted / added:6.2f} times")
+        rate = f"{events / noted:14,.0f} events/s {additions / added:14,.0f} additions/s {noted / added:6.2f} times"
+        print(f"record, {threads} threads: {rate}")
 
 
 def drive(rounds=200):

@@ -49,9 +49,13 @@ ended-in : (setup : Setup) (events : List Event) (p number limit : ℕ) (q : Pro
 ended-in setup events p number limit q script its done =
     let calls : drives.invoked (events_of p events) ≡ begun q = ap drives.invoked its ∙ calls-logged q.log in
     ⊎_elim (λ (h : HasAnsweredAll script q). inl
-        (record { calls = calls ∙ h.calls; completed = ap (ends_waiting false) its ∙ h.completed }))
-    (λ (h : HasStoppedIn script q). inr (record { rest = h.rest; calls = ap (λ l. l ++ h.rest) calls ∙ h.calls; pending = ap
-        (ends_waiting false) its ∙ h.pending }))
+    (record { calls = calls ∙ h.calls; completed = ap (ends_waiting false) its ∙ h.completed }))
+    (λ (h : HasStoppedIn script q). inr (record {
+      rest = h.rest;
+      calls = ap (λ l. l ++ h.rest) calls ∙ h.calls;
+      pending = ap
+          (ends_waiting false) its ∙ h.pending;
+    }))
     done.ended
 
 -- the process at a place has its number
@@ -68,7 +72,7 @@ module _ (shape : Shape) (variant : Variant) (limit : ℕ) (scripts : List (List
     (gives : IsHistoryOf (setup_with shape variant (length scripts) (longest scripts)) v history)
     (own : HasOwnEvents (setup_with shape variant (length scripts) (longest scripts)) v history.events)
     (done : All (HasDoneOwn (setup_with shape variant (length scripts) (longest scripts)) limit scripts) v.processes)
-        (small : limit < 2 ^ 32)
+    (small : limit < 2 ^ 32)
     (order : IsLinearizableIn (setup_with shape variant (length scripts) (longest scripts)) v history) where
   many : length v.processes ≡ length scripts
   many = omega (arith, ap length own.numbers, length-map v.processes (λ (x : Numbered). x.0), length-range_with_len 0 (length scripts))
@@ -79,7 +83,7 @@ module _ (shape : Shape) (variant : Variant) (limit : ℕ) (scripts : List (List
   -- the process at a place did the script there
   did : (k : ℕ) (d : Numbered) (script : List Call) → k < length v.processes → slice_get scripts k ≡ Some script
       → HasDone (setup_with shape variant (length scripts) (longest scripts)) (slice_index_or v.processes k d).0 limit script
-          (slice_index_or v.processes k d).1
+      (slice_index_or v.processes k d).1
   did k d script within at = done k d within script (ap (slice_get scripts) (number k d within) ∙ at)
 
   ended : (p : ℕ) (script : List Call) → slice_get scripts p ≡ Some script → HasFinished history.events p script
@@ -89,7 +93,7 @@ module _ (shape : Shape) (variant : Variant) (limit : ℕ) (scripts : List (List
       let x = slice_index_or v.processes p (0, idle) in
       let its = own.each p (0, idle) within in
       ended-in (setup_with shape variant (length scripts) (longest scripts)) history.events p x.0 limit x.1 script
-          (ap (λ n. events_of n history.events) (sym (number p (0, idle) within)) ∙ its)
+      (ap (λ n. events_of n history.events) (sym (number p (0, idle) within)) ∙ its)
       (did p (0, idle) script within at)
 
   limited : All (IsLimited (setup_with shape variant (length scripts) (longest scripts)) limit) v.processes

@@ -50,7 +50,7 @@ module _ (a : Arena) (limit : ℕ) (scripts : List (List Call)) where
       let one = ap (λ l. length l) here.is in
       let rest =
       gathered-done done (merge xs (shows p).processes) all (All-tail After (Ok p) done h)
-          (all-merge Own xs (shows p).processes own (own-pass p here)) is in
+      (all-merge Own xs (shows p).processes own (own-pass p here)) is in
       record { done = rest.done; many = let m = rest.many in omega arith }
   gathered-done (Err e ∷ done) xs all h own is = absurd (none-some all is)
 

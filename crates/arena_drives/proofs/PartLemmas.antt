@@ -7,16 +7,14 @@ use Rattle.art_shared.specs.declared.view.Setup.{Setup}
 use Rattle.art_shared.specs.declared.view.View.{View}
 use Rattle.art_shared.specs.Views.{Numbered, view, without_last, last_alone}
 use Rattle.arena_drives.specs.ArenaDrives.{alone}
-
-abbrev idle_at : ℕ → Numbered
-idle_at p = (p, idle)
+use Rattle.running.proofs.FitLemmas.{first_process}
 
 -- the first processes of all, before the first step
 abbrev pub first_idle : ℕ → List Numbered
 first_idle n = map (λ p. (p, idle)) (range_with_len 0 n)
 
 pub length-idle : (n : ℕ) → length (first_idle n) ≡ n
-length-idle n = length-map-range_with_len idle_at 0 n
+length-idle n = length-map-range_with_len first_process 0 n
 
 drop-last : (xs : List Numbered) (x : Numbered) (n : ℕ) → n ≡ length xs → drop n (xs ++ x ∷ []) ≡ x ∷ []
 drop-last [] x n e = ap (λ k. drop k (x ∷ [])) e
@@ -30,7 +28,7 @@ module _ (setup : Setup) (n m : ℕ) (more : m ≡ n + 1) (v : View) (shown : v 
   pub kept-idle : without_last v ≡ view setup (first_idle n)
   kept-idle =
       ap (λ k. view v.setup (take k v.processes)) one-less
-      ∙ (ap (λ z. view z.setup (take n z.processes)) shown ∙ ap (view setup) (take-map-range_with_len idle_at 0 m n (omega arith)))
+      ∙ (ap (λ z. view z.setup (take n z.processes)) shown ∙ ap (view setup) (take-map-range_with_len first_process 0 m n (omega arith)))
 
   -- the last one alone is the greatest
   pub given-idle : last_alone v ≡ alone setup n idle
@@ -38,5 +36,5 @@ module _ (setup : Setup) (n m : ℕ) (more : m ≡ n + 1) (v : View) (shown : v 
       ap (λ k. view v.setup (drop k v.processes)) one-less
       ∙ (ap (λ z. view z.setup (drop n z.processes)) shown
       ∙ ap (view setup)
-      (ap (drop n) (ap first_idle more ∙ map-range_with_len_more idle_at 0 n n (omega arith))
-          ∙ drop-last (first_idle n) (n, idle) n (sym (length-idle n))))
+      (ap (drop n) (ap first_idle more ∙ map-range_with_len_more first_process 0 n n (omega arith))
+      ∙ drop-last (first_idle n) (n, idle) n (sym (length-idle n))))

@@ -107,8 +107,13 @@ module _ (setup : Setup) (number : ℕ) where
     pub gone : HasGone n old new
 
   pub ran-open : (n : ℕ) (q : Process) (w : View) → Ran n (alone setup number q) w → IsTrue (is_open w) → HasOpenTurns n q w
-  ran-open zero q w h still = record { new = q; is = h; run = record { calls = refl; steps = omega arith }; gone = record
-      { log = refl; got = omega arith } }
+  ran-open zero q w h still = record {
+    new = q;
+    is = h;
+    run = record { calls = refl; steps = omega arith };
+    gone = record
+        { log = refl; got = omega arith };
+  }
   ran-open (suc n) q w h still =
       let one = turned q h.1.0 q.call h.0 in
       let rest = subst (λ v. Ran n v w) one.is h.1.1 in

@@ -32,7 +32,7 @@ steps-within setup limit (x ∷ xs) all =
     (subst (λ n. x.1.steps + steps_of xs ≤ (limit + 1) * n)
     (sym (sum_by-cons (λ n. n) (length (begun x.1)) (map (λ script. length script) (map begun (map (λ x. x.1) xs)))))
     (both-within x.1.steps (steps_of xs) ((limit + 1) * length (begun x.1)) ((limit + 1) * calls_of xs)
-        ((limit + 1) * (length (begun x.1) + calls_of xs))
+    ((limit + 1) * (length (begun x.1) + calls_of xs))
     (All-head (IsLimited setup limit) x xs all).steps
     (steps-within setup limit xs (All-tail (IsLimited setup limit) x xs all)) (mul-add (limit + 1) (length (begun x.1)) (calls_of xs))))
 

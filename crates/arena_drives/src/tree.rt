@@ -63,7 +63,8 @@ fn do_scripts<R: Threads + Sync, G: Gate + Sync>(
     requires processes { (opened_for arena.now).processes ≡ length scripts.now }
     requires room { All (λ script. vec_len script ≤ (opened_for arena.now).calls_each) scripts.now }
     ensures many { IfOk result (λ done. vec_len done ≡ vec_len passes) }
-    ensures done { IfOk result (λ done. All (λ d. IfOk d (IsPassAfter arena.now limit (map (λ script. script.items) scripts.now))) done.items) }
+    ensures done { IfOk result (λ done. All (λ d. IfOk d (IsPassAfter arena.now limit
+        (map (λ script. script.items) scripts.now))) done.items) }
 {
     thread::map_vec(
         rt,

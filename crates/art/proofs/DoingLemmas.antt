@@ -2,27 +2,19 @@
 use Rattle.std.proofs.Common.{◌≡◌, ℕ, List, [], ◌∷◌, ◌++◌, refl, sym, ap, ◌∙◌, append_assoc}
 use Rattle.std.specs.Prelude.{Option, Some, None}
 use Rattle.std.proofs.lemmas.List.{append-nil}
-use Rattle.std.proofs.lemmas.Option.{same_Some, none-some}
 use Rattle.events.specs.declared.event.Call.{Call}
 use Rattle.events.specs.declared.event.Reply.{Reply}
 use Rattle.art_rows.specs.declared.table.Shape.{Shape}
 use Rattle.art_steps.specs.declared.variant.Variant.{Variant}
 use Rattle.art_steps.specs.declared.access.Access.{Access}
 use Rattle.art_steps.specs.declared.access.Point.{Point}
-use Rattle.art_steps.specs.Steps.{Turn, Rest, Asks, Answers, access_of, reply_of}
+use Rattle.art_steps.specs.Steps.{Rest, Asks, access_of, reply_of}
 use Rattle.art_steps.specs.Act.{act}
 use Rattle.art_steps.specs.Fits.{Fits}
+use Rattle.art_steps.proofs.TurnLemmas.{asks-of, answers-of}
 use Rattle.art.specs.declared.task.Task.{Task}
 use Rattle.art.specs.Tasks.{rest_of}
 use Rattle.art.specs.Doings.{FitsDoing, after_access}
-
-asks-of : (t : Turn) (a : Access) → access_of t ≡ Some a → (p : Option Point) × (t ≡ Asks a p)
-asks-of (Asks b p) a e = (p, ap (λ x. Asks x p) (same_Some b a e))
-asks-of (Answers r) a e = absurd (none-some a e)
-
-answers-of : (t : Turn) (r : Reply) → reply_of t ≡ Some r → t ≡ Answers r
-answers-of (Asks b p) r e = absurd (none-some r e)
-answers-of (Answers q) r e = ap Answers (same_Some q r e)
 
 -- a call that got these words has this rest
 module _ (shape : Shape) (variant : Variant) (call : Call) (got : List ℕ) (rest : Rest) (fits : Fits shape variant call got rest) where

@@ -2,7 +2,8 @@
 use Rattle.std.proofs.Common.{◌≡◌, ℕ, ◌<◌, ◌≤◌, List, [], ◌∷◌, ◌++◌, append_assoc, refl, ap, sym, subst, ◌∙◌, Bool, true, false}
 use Rattle.std.proofs.Math.Logic.{∥∥₁_elim, ∥∥₁_map}
 use Rattle.std.proofs.Props.{props}
-use Rattle.std.proofs.lemmas.Bool.{false≢true}
+use Rattle.std.proofs.lemmas.Bool.{false≢true, true≢false}
+use Rattle.std.proofs.lemmas.Option.{none-some, same_Some}
 use Rattle.std.specs.Prelude.{if◌then◌else◌, Option, Some, None, is_some}
 use Rattle.events.specs.declared.event.Call.{Call}
 use Rattle.events.specs.declared.event.Call.TheVariants.{Get, Insert, Remove, Scan, Replace}
@@ -13,8 +14,9 @@ use Rattle.art_steps.specs.declared.access.Point.{Point}
 use Rattle.art_steps.specs.Act.{point_of, act}
 use Rattle.art_steps.specs.Fits.{Fits, word_of}
 use Rattle.art_steps.specs.Rows.{Setting, locks, is_scan}
-use Rattle.art_steps.specs.Steps.{Turn, Asks, Answers, Rest, access_of, reply_of}
+use Rattle.art_steps.specs.Steps.{Turn, Rest, access_of, reply_of}
 use Rattle.art_steps.proofs.AccessLemmas.{act-stays}
+use Rattle.art_steps.proofs.TurnLemmas.{asks-of}
 use Rattle.art_stages.specs.declared.stage.Stage.{Stage}
 use Rattle.art_stages.specs.declared.stage.Entry.TheVariants.{Root}
 use Rattle.art_stages.specs.declared.stage.ScanStep.TheVariants.{Lock, Wait}
@@ -38,24 +40,15 @@ no_scan (Get k) e = refl
 no_scan (Insert k v) e = refl
 no_scan (Remove k) e = refl
 no_scan (Replace k old new) e = refl
-no_scan (Scan low high) e = absurd (some_none e)
-  where
-    some_none : {A : Type 0} {y : A} → ◌≡◌ {A = Option A} (Some y) None → ⊥
-    some_none h = cc
-
-none_some : {A : Type 0} {y : A} → ◌≡◌ {A = Option A} None (Some y) → ⊥
-none_some h = cc
+no_scan (Scan low high) e = absurd (none-some _ (sym e))
 
 pub a_scan : (call : Call) (low high : ℕ) → keys_between call ≡ Some (low, high) → call ≡ Scan low high
-a_scan (Get k) low high e = absurd (none_some e)
-a_scan (Insert k v) low high e = absurd (none_some e)
-a_scan (Remove k) low high e = absurd (none_some e)
-a_scan (Replace k old new) low high e = absurd (none_some e)
-a_scan (Scan a b) low high e = both (same e)
+a_scan (Get k) low high e = absurd (none-some _ e)
+a_scan (Insert k v) low high e = absurd (none-some _ e)
+a_scan (Remove k) low high e = absurd (none-some _ e)
+a_scan (Replace k old new) low high e = absurd (none-some _ e)
+a_scan (Scan a b) low high e = both (same_Some _ _ e)
   where
-    same : {x y : ℕ × ℕ} → ◌≡◌ {A = Option (ℕ × ℕ)} (Some x) (Some y) → x ≡ y
-    same h = cc
-
     both : ◌≡◌ {A = ℕ × ℕ} (a, b) (low, high) → Scan a b ≡ Scan low high
     both h = ap (λ p. Scan p.0 p.1) h
 
@@ -141,26 +134,16 @@ module _ (c : Setting) (going g : Going) (is : going ≡ g) where
 
 pub unanswered : (o : Option Reply) → is_some o ≡ false → o ≡ None
 unanswered None h = refl
-unanswered (Some r) h = absurd (true_false h)
-  where
-    true_false : true ≡ false → ⊥
-    true_false k = cc
-
-asks_of : (t : Turn) (a : Access) → access_of t ≡ Some a → (p : Option Point) × (t ≡ Asks a p)
-asks_of (Asks b p) a e = (p, ap (λ x. Asks x p) (some_same e))
-  where
-    some_same : {x y : Access} → ◌≡◌ {A = Option Access} (Some x) (Some y) → x ≡ y
-    some_same h = cc
-asks_of (Answers r) a e = absurd (none_some e)
+unanswered (Some r) h = absurd (true≢false h)
 
 access_asks : (t : Turn) (a : Access) → access_of t ≡ Some a → is_some (reply_of t) ≡ false
-access_asks t a e = ap (λ t. is_some (reply_of t)) (asks_of t a e).1
+access_asks t a e = ap (λ t. is_some (reply_of t)) (asks-of t a e).1
 
 pub in_table : (c : Setting) (at : CallAt) (a : Access) → 1 ≤ c.shape.rows256
     → (is_some (reply_of (rest_at c at [])) ≡ false → ∥ IsReached c at ∥₁)
     → access_of (rest_at c at []) ≡ Some a → word_of a < table_words c.shape
 in_table c at a root reached asks = ∥∥₁_elim (reached (access_asks (rest_at c at []) a asks)) (Prim.hlevel props) λ (x : IsReached c at).
-    let found = asks_of (rest_at c at []) a asks in
+    let found = asks-of (rest_at c at []) a asks in
     (act-stays c.shape c.variant c.call root (x.0 ++ []) a found.0 (sym (x.1 []) ∙ found.1)).1
 
 -- how it goes on
@@ -186,7 +169,7 @@ reached_more c at next w reached goes =
 
 module _ (c : Setting) (going : Going) (k after : KeyCall) (w : ℕ) (result : Option Reply) (is : going ≡ KeyIs k)
     (keys : keys_between c.call ≡ scanned_in going) (next : after.stage ≡ stage_after c k.stage w)
-        (reply : reply_of (turn_at c after.stage) ≡ result) where
+    (reply : reply_of (turn_at c after.stage) ≡ result) where
   pub key_fits : (rest : List ℕ) → rest_at c (at_of (KeyIs after)) rest ≡ rest_at c (at_of going) (w ∷ rest)
   key_fits rest = key_on c k.stage after.stage w rest (keys ∙ ap scanned_in is) next ∙ ap (λ g. rest_at c (at_of g) (w ∷ rest)) (sym is)
 
@@ -231,7 +214,7 @@ module _ (c : Setting) (going : Going) (s after : Scanning) (is : going ≡ Scan
     scan_fits none rest =
         ap (λ x. rest_at c x rest)
         (at_scan (low_of after) (low_of s) (high_of after) (high_of s) (scan_of after) (scan_after c (low_of s) (high_of s) (scan_of s) w)
-            low high (next none))
+        low high (next none))
         ∙ goes_on_scan rest
 
     pub scan_reply : reply_of (rest_at c (at_of going) (w ∷ [])) ≡ result
@@ -247,4 +230,4 @@ module _ (c : Setting) (going : Going) (s after : Scanning) (is : going ≡ Scan
         → is_some (reply_of (rest_at c (at_of (ScanIs after)) [])) ≡ false → ∥ IsReached c (at_of (ScanIs after)) ∥₁
     scan_reached asked reached h =
         reached_more c (at_of going) (at_of (ScanIs after)) w (reached (ap is_some asked))
-            (scan_fits (unanswered result (sym scan_over ∙ h)))
+        (scan_fits (unanswered result (sym scan_over ∙ h)))

@@ -27,7 +27,8 @@ pub struct Task {
     pub(crate) setting: Setting,
     pub(crate) going: Going,
     ghost keys: { keys_between setting.call ≡ scanned_in going },
-    ghost reached: { is_some (reply_of (rest_at (call_setting setting) (at_of going) [])) ≡ false → ∥ IsReached (call_setting setting) (at_of going) ∥₁ },
+    ghost reached: { is_some (reply_of (rest_at (call_setting setting) (at_of going) [])) ≡ false
+        → ∥ IsReached (call_setting setting) (at_of going) ∥₁ },
 }
 
 impl Task {

@@ -17,19 +17,21 @@ use art_rows::{
     more_keys16_with, moved_info, pair_info, pair_keys, row_word, version_locked, version_obsolete,
     version_released,
 };
-use art_setting::{Setting, child_slot, claims, count, count_slot, next_kind};
+use art_setting::{
+    Setting, child_slot, claims, count, count_slot, index_slot, info_slot, keys_slot,
+    more_keys_slot, next_kind,
+};
 use art_stages::{Down, Growing, Held, Hold, Keys, Pair, PairWord, Stage, Target};
 use art_steps::Access;
 
 fn find_access(setting: &Setting, row: Held) -> Access
     ensures { access_of (find_turn row.kind (setting_of setting.now) row) ≡ Some result }
 {
-    let base = row.base as usize;
     let word = match row.kind {
-        Kind::Four => base + 2,
-        Kind::Sixteen => base + 4,
-        Kind::FortyEight => base + 2 + (setting.byte(row) / 8) as usize,
-        Kind::Full => base + 2 + setting.byte(row) as usize,
+        Kind::Four => keys_slot(row.base),
+        Kind::Sixteen => count_slot(Kind::Sixteen, row.base),
+        Kind::FortyEight => index_slot(row.base, setting.byte(row)),
+        Kind::Full => child_slot(Kind::Full, row.base, setting.byte(row)),
     };
     Access::Load { word }
 }
@@ -62,19 +64,18 @@ fn pair_access(setting: &Setting, pair: Pair, base: u32, word: PairWord) -> Acce
     } else {
         (setting.call.leaf(), pair.child)
     };
-    let base = base as usize;
     match word {
-        PairWord::Info => store(base + 1, pair_info(key, pair.level)),
+        PairWord::Info => store(info_slot(base), pair_info(key, pair.level)),
         PairWord::Keys => store(
-            base + 2,
+            keys_slot(base),
             if pair.byte < byte {
                 pair_keys(pair.byte, byte)
             } else {
                 pair_keys(byte, pair.byte)
             },
         ),
-        PairWord::Lesser => store(base + 3, child_word(lesser)),
-        PairWord::Greater => store(base + 4, child_word(greater)),
+        PairWord::Lesser => store(child_slot(Kind::Four, base, 0), child_word(lesser)),
+        PairWord::Greater => store(child_slot(Kind::Four, base, 1), child_word(greater)),
     }
 }
 
@@ -108,16 +109,16 @@ fn leaf_place(setting: &Setting, hold: Hold, keys: Keys) -> u32
 fn put_keys_access(setting: &Setting, hold: Hold, keys: Keys) -> Access
     ensures { access_of (put_keys_turn hold.row.kind (setting_of setting.now) hold keys) ≡ Some result }
 {
-    let base = hold.row.base as usize;
+    let base = hold.row.base;
     let byte = setting.byte(hold.row);
     match hold.row.kind {
-        Kind::Four => store(base + 2, keys_with(keys.first, byte)),
+        Kind::Four => store(keys_slot(base), keys_with(keys.first, byte)),
         Kind::Sixteen => store(
-            base + 2,
+            keys_slot(base),
             keys16_with(keys.count, keys.first, keys.second, byte),
         ),
         Kind::FortyEight => store(
-            base + 2 + (byte / 8) as usize,
+            index_slot(base, byte),
             index_with(keys.first, byte, count(Kind::FortyEight, keys) + 1),
         ),
         Kind::Full => unlock(hold.row),
@@ -126,11 +127,12 @@ fn put_keys_access(setting: &Setting, hold: Hold, keys: Keys) -> Access
 
 fn put_more_access(setting: &Setting, hold: Hold, keys: Keys) -> Access
     requires { is_sixteen hold.row.kind ≡ true }
-    ensures { access_of (store_of (more_keys_at hold.row.base) (more_keys16_word (keys_after (setting_of setting.now) hold keys))) ≡ Some result }
+    ensures { access_of (store_of (more_keys_at hold.row.base) (more_keys16_word (keys_after (setting_of setting.now) hold keys)))
+        ≡ Some result }
 {
     match hold.row.kind {
         Kind::Sixteen => store(
-            hold.row.base as usize + 3,
+            more_keys_slot(hold.row.base),
             more_keys16_with(keys.count, keys.first, keys.second, setting.byte(hold.row)),
         ),
         _ => unreachable!(),
@@ -177,20 +179,20 @@ fn key_word_access(setting: &Setting, growing: Growing, place: u32, left: u32) -
     ensures { access_of (grow_keys_turn growing.hold.row.kind (setting_of setting.now) growing place) ≡ Some result }
 {
     let _left = left;
-    let base = growing.base as usize;
+    let base = growing.base;
     match growing.hold.row.kind {
         Kind::Four => {
             if place == 0 {
                 store(
-                    base + 2,
+                    keys_slot(base),
                     key_bytes_with(growing.keys.first, setting.byte(growing.hold.row)),
                 )
             } else {
-                store(base + 3, 0)
+                store(more_keys_slot(base), 0)
             }
         }
         _ => store(
-            base + 2 + place as usize,
+            index_slot(base, 8 * place),
             setting.index_from(growing, 8 * place, 8),
         ),
     }
@@ -219,18 +221,20 @@ pub fn access_at(setting: &Setting, stage: &Stage) -> Access
         Stage::Exchange { target, version } => exchange(setting.target_base(target), *version),
         Stage::Leave { down } => unlock(down.above),
         Stage::Between { down, .. } => between(setting, *down),
-        Stage::Info { down, .. } => load(down.base as usize + 1),
+        Stage::Info { down, .. } => load(info_slot(down.base)),
         Stage::Find { place } => find_access(setting, place.row),
-        Stage::FindKeys { place, .. } => load(place.row.base as usize + 2),
-        Stage::FindMore { place, .. } => load(place.row.base as usize + 3),
-        Stage::FindCount { place, .. } => load(place.row.base as usize + 34),
+        Stage::FindKeys { place, .. } => load(keys_slot(place.row.base)),
+        Stage::FindMore { place, .. } => load(more_keys_slot(place.row.base)),
+        Stage::FindCount { place, .. } => load(count_slot(Kind::FortyEight, place.row.base)),
         Stage::Slot { slot, .. } => load(*slot),
         Stage::Check { place, .. } => check(place.row),
         Stage::CheckLast { row } => check(*row),
         Stage::LetGo { above, .. } => unlock(*above),
         Stage::Take { taking } => exchange(taking.row.base as usize, taking.row.kept),
         Stage::Write { slot, word, .. } => store(*slot, *word),
-        Stage::ClaimPair { .. } => Access::Add { word: 1 },
+        Stage::ClaimPair { .. } => Access::Add {
+            word: claims(Kind::Four),
+        },
         Stage::StorePair {
             pair,
             base,
@@ -264,7 +268,7 @@ pub fn access_at(setting: &Setting, stage: &Stage) -> Access
         Stage::GrowInfo { growing } => {
             let row = growing.hold.row;
             let info = moved_info(row.kind, row.info, next_kind(row.kind));
-            store(growing.base as usize + 1, info)
+            store(info_slot(growing.base), info)
         }
         Stage::GrowLoad { growing, place, .. } => load(child_slot(
             growing.hold.row.kind,
@@ -278,7 +282,7 @@ pub fn access_at(setting: &Setting, stage: &Stage) -> Access
             word,
         } => store(copy_slot(setting, *growing, *place, *left), *word),
         Stage::SpreadIndex { growing, place, .. } => {
-            load(growing.hold.row.base as usize + 2 + *place as usize)
+            load(index_slot(growing.hold.row.base, 8 * *place))
         }
         Stage::SpreadLoad { spread, entry, .. } => {
             let place = entry_at(spread.word, *entry).saturating_sub(1);
@@ -290,11 +294,8 @@ pub fn access_at(setting: &Setting, stage: &Stage) -> Access
             word,
             ..
         } => {
-            let base = spread.growing.base as usize;
-            store(
-                base + 2 + (8 * spread.place as usize + *entry as usize),
-                *word,
-            )
+            let byte = 8 * spread.place + *entry;
+            store(child_slot(Kind::Full, spread.growing.base, byte), *word)
         }
         Stage::GrowLeaf { growing } => grow_leaf_access(setting, *growing),
         Stage::GrowKeys {

@@ -3,6 +3,7 @@ use Rattle.std.proofs.Common.{◌≡◌, ℕ, zero, suc, ◌+◌, ◌-◌, refl,
 use Rattle.std.specs.Prelude.{if◌then◌else◌, slice_index}
 use Rattle.std.proofs.lemmas.Bool.{eq-eqb, ne_eqb}
 use Rattle.art_rows.specs.Words.{entries_of}
+use Rattle.art_rows.proofs.WriterLemmas.{less_one}
 use Rattle.art_stages.specs.declared.stage.Hold.{Hold}
 use Rattle.art_stages.specs.declared.stage.Keys.{Keys}
 use Rattle.art_stages.specs.declared.stage.Growing.{Growing}
@@ -10,9 +11,6 @@ use Rattle.art_stages.specs.declared.stage.Spread.{Spread}
 use Rattle.art_stages.specs.declared.stage.Stage.TheVariants.{PutLeaf, PutLoad, GrowLeaf, GrowLoad, SpreadIndex, SpreadLoad, GrowKeys}
 use Rattle.art_stages.specs.declared.stage.Stage.TheVariants.{GrowCount}
 use Rattle.art_stages.specs.Automaton.{moves_at, copies_at, spreads_at, entries_at, keys_at_after}
-
-less_one : (n : ℕ) → suc n - 1 ≡ n
-less_one n = omega arith
 
 pub moves_none : (h : Hold) (keys : Keys) (n : ℕ) → n ≡ 0 → moves_at h keys n ≡ PutLeaf h keys
 moves_none h keys zero e = refl
@@ -62,4 +60,4 @@ pub entries_some : (s : Spread) (i n : ℕ) → (n ≡ 0 → ⊥) → (slice_ind
 entries_some s i zero some e = absurd (some refl)
 entries_some s i (suc n) some e =
     ap (λ b. if b then entries_at s (i + 1) n else SpreadLoad s i n) (ne_eqb (slice_index (entries_of s.word) i) 0 e)
-        ∙ ap (SpreadLoad s i) (sym (less_one n))
+    ∙ ap (SpreadLoad s i) (sym (less_one n))

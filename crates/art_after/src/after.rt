@@ -19,7 +19,7 @@ use art_stages::{
     Down, Finding, Growing, Hold, Keys, Outcome, Pair, PairWord, Position, Spread, Stage, Target,
 };
 
-/// LOCK after a load of the version.
+/// Where LOCK is after a load of the version.
 fn locked(setting: &Setting, target: &Target, version: u64) -> Stage
     requires { is_sound_target target.now ≡ true }
     ensures stage { result ≡ stage_after (setting_of setting.now) (Lock target.now true) version }
@@ -38,7 +38,7 @@ fn locked(setting: &Setting, target: &Target, version: u64) -> Stage
     }
 }
 
-/// LOCK after an exchange of it.
+/// Where LOCK is after an exchange of the version.
 fn exchanged(setting: &Setting, target: &Target, version: u64, got: u64) -> Stage
     requires { is_sound_target target.now ≡ true }
     ensures stage { result ≡ stage_after (setting_of setting.now) (Exchange target.now version) got }
@@ -54,7 +54,7 @@ fn exchanged(setting: &Setting, target: &Target, version: u64, got: u64) -> Stag
     }
 }
 
-/// WAIT after a load of the version.
+/// Where WAIT is after a load of the version.
 fn waited(setting: &Setting, target: &Target, version: u64) -> Stage
     requires { is_sound_target target.now ≡ true }
     ensures stage { result ≡ stage_after (setting_of setting.now) (Wait target.now) version }
@@ -87,7 +87,7 @@ fn moved(setting: &Setting, word: u64) -> u64
     child_word(setting.shape.child(word))
 }
 
-/// PAIR after its claim.
+/// Where PAIR is after its claim.
 fn pair_claimed(setting: &Setting, hold: &Hold, pair: &Pair, number: u64) -> Stage
     requires { is_small_child pair.now.child ≡ true }
     ensures stage { result ≡ stage_after (setting_of setting.now) (Claiming hold.now pair.now) number }
@@ -105,7 +105,7 @@ fn pair_claimed(setting: &Setting, hold: &Hold, pair: &Pair, number: u64) -> Sta
     }
 }
 
-/// GROW after its claim.
+/// Where GROW is after its claim.
 fn grow_claimed(setting: &Setting, hold: &Hold, slot: usize, keys: &Keys, number: u64) -> Stage
     ensures stage { result ≡ stage_after (setting_of setting.now) (ClaimingNext hold.now slot keys.now) number }
     ensures sound { is_sound result ≡ true }
@@ -316,7 +316,7 @@ pub fn stage_after(setting: &Setting, stage: &Stage, got: u64) -> Stage
     }
 }
 
-/// PAIR after one of its words.
+/// Where PAIR is after a store of one of the words.
 fn pair_stored(hold: &Hold, pair: &Pair, base: u32, word: PairWord) -> Stage
     requires { is_small_child pair.now.child ≡ true }
     ensures stage { result ≡ pair_after hold.now pair.now base word }
@@ -343,7 +343,7 @@ fn pair_stored(hold: &Hold, pair: &Pair, base: u32, word: PairWord) -> Stage
     }
 }
 
-/// What is held is unlocked, and the call is refused.
+/// Where a refused call is, which still holds its rows.
 fn refused(hold: &Hold) -> Stage
     ensures stage { result ≡ UnlockAll hold.now (Some Refused) }
     ensures sound { is_sound result ≡ true }
@@ -354,7 +354,7 @@ fn refused(hold: &Hold) -> Stage
     }
 }
 
-/// The row is unlocked, and the reply is none.
+/// Where an insert is that has put its leaf, still holds its row and answers that the key had no value.
 fn put_done(hold: &Hold) -> Stage
     ensures stage { result ≡ UnlockAll hold.now (Some (Value None)) }
     ensures sound { is_sound result ≡ true }

@@ -4,10 +4,13 @@ ghost use Rattle.art_rows.specs.Words.{entries_of, is_small_child};
 ghost use Rattle.art_steps.specs.Rows.{locks, releases_early, is_insert, leaves_out_check, path_differs_at};
 ghost use Rattle.art_steps.specs.Updates.{overwriting};
 ghost use Rattle.art_stages.specs.Stages.{row_at, held, byte_in};
-ghost use Rattle.art_stages.specs.Automaton.{hold_alone, down_from, keys_one, seek_coupled, overwrite_unlocked, seek_unlocked, insert_coupled};
+ghost use Rattle.art_stages.specs.Automaton.{hold_alone, down_from, keys_one, seek_coupled, overwrite_unlocked, seek_unlocked};
+ghost use Rattle.art_stages.specs.Automaton.{insert_coupled};
 ghost use Rattle.art_stages.specs.Automaton.{let_go_at, place_coupled, grow_unlocked, insert_unlocked, leaf_work, pair_work, below_at};
-ghost use Rattle.art_after.specs.Descents.{after_found, after_finding, after_words, after_index, after_first, after_arrival, after_entry, after_info};
-ghost use Rattle.art_stages.specs.declared.stage.Stage.TheVariants.{Unlock as UnlockAll, Over as Ended, Wait as WaitFor, Write as WriteTo, Leave, Lock};
+ghost use Rattle.art_after.specs.Descents.{after_found, after_finding, after_words, after_index, after_first, after_arrival, after_entry};
+ghost use Rattle.art_after.specs.Descents.{after_info};
+ghost use Rattle.art_stages.specs.declared.stage.Stage.TheVariants.{Unlock as UnlockAll, Over as Ended, Wait as WaitFor, Write as WriteTo};
+ghost use Rattle.art_stages.specs.declared.stage.Stage.TheVariants.{Leave, Lock};
 ghost use Rattle.art_stages.specs.declared.stage.Finding.TheVariants.{Has};
 ghost use Rattle.art_rows.specs.declared.table.Child.TheVariants.{Leaf};
 ghost use Rattle.art_stages.specs.declared.stage.Target.TheVariants.{Below as BelowRow};
@@ -62,7 +65,7 @@ fn leave(setting: &Setting, down: Down) -> Stage
     }
 }
 
-/// Where one that does not lock is then.
+/// Where a get or remove that does not lock is once FIND is done and its row is checked.
 fn seek_free(setting: &Setting, row: Held, finding: Finding) -> Stage
     ensures stage { result ≡ seek_unlocked (setting_of setting.now) row finding }
     ensures sound { is_sound result ≡ true }
@@ -101,7 +104,7 @@ fn overwrite(setting: &Setting, row: Held, slot: usize, value: u32) -> Stage
     }
 }
 
-/// The leaf that an insert writes into a slot.
+/// The work of an insert that writes its leaf into a slot.
 fn leaf_work(setting: &Setting, slot: usize, reply: Option<u32>) -> Work
     ensures work { result ≡ leaf_work (setting_of setting.now) slot reply }
     ensures sound { is_sound_work result ≡ true }
@@ -113,7 +116,7 @@ fn leaf_work(setting: &Setting, slot: usize, reply: Option<u32>) -> Work
     }
 }
 
-/// The leaf of another key and the new one, in one slot.
+/// The work of an insert that hangs a row of two leaves into a slot: the one of another key, and its own.
 fn pair_work(setting: &Setting, slot: usize, key: u32, value: u32) -> Work
     requires { is_small_child (Leaf key value) ≡ true }
     ensures work { result ≡ pair_work (setting_of setting.now) slot key value }
@@ -158,7 +161,7 @@ fn insert_locked(setting: &Setting, row: Held, finding: Finding) -> Stage
     }
 }
 
-/// Where it is before the row above is unlocked.
+/// The same before the row above is unlocked.
 fn let_go(setting: &Setting, row: Held, above: Option<Held>, slot: usize, finding: Finding) -> Stage
     requires { is_sound_finding finding ≡ true }
     ensures stage { result ≡ let_go_at (setting_of setting.now) row above slot finding }
@@ -178,7 +181,7 @@ fn let_go(setting: &Setting, row: Held, above: Option<Held>, slot: usize, findin
     }
 }
 
-/// Where it is once FIND is done.
+/// Where an insert that locks is once FIND is done.
 fn place_locked(setting: &Setting, place: Position, finding: Finding) -> Stage
     requires { is_sound_finding finding ≡ true }
     ensures stage { result ≡ place_coupled (setting_of setting.now) place finding }
@@ -214,7 +217,7 @@ fn grow_free(setting: &Setting, row: Held, above: Option<Held>, slot: usize, key
     }
 }
 
-/// Where it is once FIND is done.
+/// Where an insert that does not lock is once FIND is done and its row is checked.
 fn insert_free(setting: &Setting, place: Position, finding: Finding) -> Stage
     requires { is_sound_finding finding ≡ true }
     ensures stage { result ≡ insert_unlocked (setting_of setting.now) place finding }
@@ -237,10 +240,11 @@ fn insert_free(setting: &Setting, place: Position, finding: Finding) -> Stage
     }
 }
 
-/// Where it is once FIND has found a leaf.
+/// The same where FIND has found a leaf.
 fn insert_at_leaf(setting: &Setting, row: Held, slot: usize, key: u32, value: u32) -> Stage
     requires { is_small_child (Leaf key value) ≡ true }
-    ensures stage { result ≡ insert_unlocked (setting_of setting.now) (record { row = row; above = None; slot = 0 }) (Has slot (Leaf key value)) }
+    ensures stage { result ≡ insert_unlocked (setting_of setting.now) (record { row = row; above = None; slot = 0 })
+        (Has slot (Leaf key value)) }
     ensures sound { is_sound result ≡ true }
 {
     if key == setting.call.key() {
@@ -254,6 +258,7 @@ fn insert_at_leaf(setting: &Setting, row: Held, slot: usize, key: u32, value: u3
     }
 }
 
+/// Where a call is once FIND is done and its row is checked, where its variant checks it.
 pub(crate) fn found(setting: &Setting, place: &Position, finding: &Finding) -> Stage
     requires { is_sound_finding finding.now ≡ true }
     ensures stage { result ≡ after_found (setting_of setting.now) place.now finding.now }
@@ -267,6 +272,7 @@ pub(crate) fn found(setting: &Setting, place: &Position, finding: &Finding) -> S
     }
 }
 
+/// Where a call is once FIND is done.
 pub(crate) fn checked(setting: &Setting, place: &Position, finding: Finding) -> Stage
     requires { is_sound_finding finding ≡ true }
     ensures stage { result ≡ after_finding (setting_of setting.now) place.now finding }
@@ -282,7 +288,7 @@ pub(crate) fn checked(setting: &Setting, place: &Position, finding: Finding) -> 
     }
 }
 
-/// Where the call is once the key words of a row are loaded.
+/// Where a call is once the key words of its row are loaded.
 pub(crate) fn among(setting: &Setting, place: &Position, keys: Keys) -> Stage
     ensures stage { result ≡ after_words (setting_of setting.now) place.now keys }
     ensures sound { is_sound result ≡ true }
@@ -296,7 +302,7 @@ pub(crate) fn among(setting: &Setting, place: &Position, keys: Keys) -> Stage
     }
 }
 
-/// Where it is once the index word of the byte is loaded.
+/// Where a call is once the index word of its byte is loaded.
 fn indexed(setting: &Setting, place: &Position, index: u64) -> Stage
     requires { place.now.row.kind ≡ Kind.FortyEight }
     ensures stage { result ≡ after_index (setting_of setting.now) place.now index }
@@ -306,7 +312,7 @@ fn indexed(setting: &Setting, place: &Position, index: u64) -> Stage
     if entry != 0 {
         Stage::Slot {
             place: *place,
-            slot: place.row.base as usize + 35 + (entry - 1) as usize,
+            slot: child_slot(Kind::FortyEight, place.row.base, entry - 1),
         }
     } else if setting.is_insert() {
         Stage::FindCount {
@@ -324,7 +330,7 @@ fn indexed(setting: &Setting, place: &Position, index: u64) -> Stage
     }
 }
 
-/// Where the call is once FIND's first word is loaded.
+/// Where a call is once the first word of FIND is loaded.
 pub(crate) fn find(setting: &Setting, place: &Position, got: u64) -> Stage
     ensures stage { result ≡ after_first (setting_of setting.now) place.now got }
     ensures sound { is_sound result ≡ true }
@@ -337,14 +343,14 @@ pub(crate) fn find(setting: &Setting, place: &Position, got: u64) -> Stage
         },
         Kind::FortyEight => indexed(setting, place, got),
         Kind::Full => {
-            let slot = place.row.base as usize + 2 + setting.byte(place.row) as usize;
+            let slot = child_slot(Kind::Full, place.row.base, setting.byte(place.row));
             let child = setting.shape.child(got);
             checked(setting, place, Finding::Has { slot, child })
         }
     }
 }
 
-/// Where it is once the row below is locked or waited for.
+/// Where a call is once the row below its own is locked or waited for.
 fn arrived(setting: &Setting, down: &Down, kept: u64) -> Stage
     ensures stage { result ≡ after_arrival (setting_of setting.now) down.now kept }
     ensures sound { is_sound result ≡ true }
@@ -384,7 +390,7 @@ pub(crate) fn entered(setting: &Setting, target: &Target, kept: u64) -> Stage
     }
 }
 
-/// Where it is once the info of the row below is loaded.
+/// Where a call is once the info of the row below its own is loaded.
 pub(crate) fn below(setting: &Setting, down: &Down, kept: u64, info: u64) -> Stage
     ensures stage { result ≡ after_info (setting_of setting.now) down.now (held down.now.base down.now.kind info kept) }
     ensures sound { is_sound result ≡ true }
@@ -407,9 +413,10 @@ pub(crate) fn below(setting: &Setting, down: &Down, kept: u64, info: u64) -> Sta
     }
 }
 
-/// Where it is once the path of the row below differs from the key at this level.
+/// Where a call is once its key has turned out to differ at this level from the path of the row below its own.
 fn beside(setting: &Setting, down: Down, row: Held, level: u32) -> Stage
-    ensures stage { result ≡ below_at (locks setting.now.variant) (is_insert setting.now.call) (setting_of setting.now) down row (Some level) }
+    ensures stage { result ≡ below_at (locks setting.now.variant) (is_insert setting.now.call) (setting_of setting.now) down row
+        (Some level) }
     ensures sound { is_sound result ≡ true }
 {
     let pair = Pair {
@@ -449,7 +456,7 @@ fn beside(setting: &Setting, down: Down, row: Held, level: u32) -> Stage
     }
 }
 
-/// The row is unlocked, and then the call has this value.
+/// Where a call is that unlocks its row and then answers this value.
 fn unlocked(row: Held, value: Option<u32>) -> Stage
     ensures stage { result ≡ UnlockAll (hold_alone row) (Some (Value value)) }
     ensures sound { is_sound result ≡ true }

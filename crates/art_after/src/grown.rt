@@ -23,7 +23,7 @@ pub(crate) fn fill(growing: &Growing) -> Stage
     }
 }
 
-/// With so many children to be copied.
+/// Where GROW is with so many children to be copied.
 #[tactic(auto, using(crate::proofs::LoopLemmas::copies_none, crate::proofs::LoopLemmas::copies_some))]
 fn copies(growing: &Growing, left: u32) -> Stage
     requires { left ≤ 48 }
@@ -41,7 +41,7 @@ fn copies(growing: &Growing, left: u32) -> Stage
     }
 }
 
-/// With so many children to be copied behind this one.
+/// Where GROW is with so many children to be copied behind this one.
 #[tactic(auto, using(crate::proofs::LoopLemmas::copies_none, crate::proofs::LoopLemmas::copies_some))]
 pub(crate) fn copied(growing: &Growing, place: u32, left: u32) -> Stage
     requires { nat_le (place + left) 48 ≡ true }
@@ -59,7 +59,7 @@ pub(crate) fn copied(growing: &Growing, place: u32, left: u32) -> Stage
     }
 }
 
-/// With so many index words to be spread behind this one.
+/// Where GROW is with so many index words to be spread behind this one.
 #[tactic(auto, using(crate::proofs::LoopLemmas::spreads_none, crate::proofs::LoopLemmas::spreads_some))]
 fn spreads(growing: &Growing, place: u32, left: u32) -> Stage
     requires { nat_le (place + left) 31 ≡ true }
@@ -77,7 +77,7 @@ fn spreads(growing: &Growing, place: u32, left: u32) -> Stage
     }
 }
 
-/// With so many entries of an index word from this one on.
+/// Where GROW is with so many entries of an index word to be spread, from this one on.
 #[tactic(auto, using(crate::proofs::LoopLemmas::entries_none, crate::proofs::LoopLemmas::entries_skip, crate::proofs::LoopLemmas::entries_some))]
 pub(crate) fn entries(spread: &Spread, entry: u32, left: u32) -> Stage
     requires words { nat_le (spread.now.place + spread.now.left) 31 ≡ true }
@@ -98,7 +98,7 @@ pub(crate) fn entries(spread: &Spread, entry: u32, left: u32) -> Stage
     }
 }
 
-/// With so many entries behind this one.
+/// Where GROW is with so many entries of an index word to be spread behind this one.
 pub(crate) fn spread_on(spread: &Spread, entry: u32, after: u32) -> Stage
     requires words { nat_le (spread.now.place + spread.now.left) 31 ≡ true }
     requires few { nat_le (entry + after) 7 ≡ true }
@@ -108,7 +108,7 @@ pub(crate) fn spread_on(spread: &Spread, entry: u32, after: u32) -> Stage
     entries(spread, entry + 1, after)
 }
 
-/// Behind its leaf.
+/// Where GROW is behind the leaf of the key.
 pub(crate) fn leaf_stored(growing: &Growing) -> Stage
     ensures stage { result ≡ leaf_after growing.now.hold.row.kind growing.now }
     ensures sound { is_sound result ≡ true }
@@ -128,7 +128,7 @@ pub(crate) fn leaf_stored(growing: &Growing) -> Stage
     }
 }
 
-/// With so many key words or index words behind this one.
+/// Where GROW is with so many key words or index words to be written behind this one.
 #[tactic(auto, using(crate::proofs::LoopLemmas::keys_none, crate::proofs::LoopLemmas::keys_some))]
 pub(crate) fn keys_stored(growing: &Growing, place: u32, left: u32) -> Stage
     requires kind { has_keys growing.now.hold.row.kind ≡ true }

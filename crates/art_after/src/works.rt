@@ -11,7 +11,7 @@ use art_rows::Kind;
 use art_setting::{Setting, count};
 use art_stages::{Held, Hold, Keys, Outcome, Stage, Taking, Target, Work};
 
-/// A row is taken: it is locked from the version that was kept, or in one variant from any.
+/// Where a call is that takes a row: it locks the row from the version that it kept, or in one variant from any.
 fn take_row(setting: &Setting, taking: Taking) -> Stage
     requires { is_sound_work taking.work ≡ true }
     ensures stage { result ≡ take_at (setting_of setting.now) taking }
@@ -27,7 +27,7 @@ fn take_row(setting: &Setting, taking: Taking) -> Stage
     }
 }
 
-/// A row is taken for some work in it.
+/// Where a call is that takes its row for some work in it.
 pub(crate) fn take_alone(setting: &Setting, row: Held, work: Work) -> Stage
     requires { is_sound_work work ≡ true }
     ensures stage { result ≡ take_alone (setting_of setting.now) row work }
@@ -44,7 +44,7 @@ pub(crate) fn take_alone(setting: &Setting, row: Held, work: Work) -> Stage
     )
 }
 
-/// A row is taken, and then the row below it, for some work in both.
+/// Where a call is that takes a row, and then the row below it, for some work in both.
 pub(crate) fn take_above(setting: &Setting, above: Held, row: Held, work: Work) -> Stage
     requires { is_sound_work work ≡ true }
     ensures stage { result ≡ take_at (setting_of setting.now) (record { row = above; held = None; below = Some row; work = work }) }
@@ -61,10 +61,11 @@ pub(crate) fn take_above(setting: &Setting, above: Held, row: Held, work: Work) 
     )
 }
 
-/// Where the call is once a row is taken, with this version.
+/// Where a call is once it has taken a row, with this version.
 pub(crate) fn taken(setting: &Setting, taking: &Taking, kept: u64) -> Stage
     requires { is_sound_work taking.now.work ≡ true }
-    ensures stage { result ≡ taken_at (setting_of setting.now) taking.now.held taking.now.below taking.now.work (record taking.now.row { kept = kept }) }
+    ensures stage { result ≡ taken_at (setting_of setting.now) taking.now.held taking.now.below taking.now.work
+        (record taking.now.row { kept = kept }) }
     ensures sound { is_sound result ≡ true }
 {
     let row = Held {
@@ -94,7 +95,7 @@ pub(crate) fn taken(setting: &Setting, taking: &Taking, kept: u64) -> Stage
     }
 }
 
-/// Where the work begins.
+/// Where some work in held rows begins.
 pub(crate) fn begin_work(setting: &Setting, hold: Hold, work: Work) -> Stage
     requires { is_sound_work work ≡ true }
     ensures stage { result ≡ work_at (setting_of setting.now) hold work }
@@ -132,7 +133,7 @@ fn put(setting: &Setting, hold: Hold, keys: Keys) -> Stage
     }
 }
 
-/// Where it is once a row's rows above it are still to be unlocked.
+/// Where a call is that has its outcome and still holds a row above, if any.
 pub(crate) fn release(setting: &Setting, above: &Option<Held>, outcome: Option<Outcome>) -> Stage
     ensures stage { result ≡ release_at (locks setting.now.variant) above.now outcome }
     ensures sound { is_sound result ≡ true }

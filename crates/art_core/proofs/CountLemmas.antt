@@ -112,7 +112,7 @@ module _ (plan : Plan) where
 pub opened-counted : (plan : Plan) → are_counted plan (opened plan)
 opened-counted plan i q at =
     subst (λ q. IsCounted plan i q) (sym (all-idle (length plan.scripts) i q at))
-        (record { counts = refl; within = λ script at. omega arith })
+    (record { counts = refl; within = λ script at. omega arith })
 
 pub starts-are-answered : StartsAreAnswered
 starts-are-answered shape variant start words h =

@@ -294,7 +294,7 @@ module _ (plan : Plan) (within : IsPlan plan) (s : State) (p : ℕ) (q : Process
           let ranged : has_range call ≡ true = has-range call is-call in
           let own : nat_lt p process_limit ≡ true = known in
           let left : nat_le call_limit (call_count (logged s.processes)) ≡ false =
-              lt-leb call_limit (call_count (logged s.processes)) room in
+          lt-leb call_limit (call_count (logged s.processes)) room in
           let turn : has_open_call p (logged s.processes) ≡ false = h.opens p q here ∙ ap (λ o. is_some o) idle in
           rw (ranged, own, left, turn) refl
 
@@ -314,7 +314,7 @@ module _ (plan : Plan) (within : IsPlan plan) (s : State) (p : ℕ) (q : Process
         within = λ script at.
             let z = zip_left has_begun s.processes plan.scripts p q h.scripts here in
             subst (λ n. n ≤ length script) (sym as-many)
-                (subst (λ l. length (begun q) ≤ length l) (same_Some z.0 script (sym z.1 ∙ at)) z.2);
+            (subst (λ l. length (begun q) ≤ length l) (same_Some z.0 script (sym z.1 ∙ at)) z.2);
         steps = refl;
       }
 
@@ -427,7 +427,7 @@ logged-on plan within (p ∷ schedule) first s h gives few = go (step plan first
         let bound = steps-rise plan schedule next s k in
         let fewer : all_steps first + 1 < 2 ^ 61 = omega (arith, one-step plan first p next e) in
         later next (subst (IsLogged plan) (sym m.is)
-            (one-move plan within first p m.process h m.here fewer m.process.call m.move refl m.is_next)) k few
+        (one-move plan within first p m.process h m.here fewer m.process.call m.move refl m.is_next)) k few
 
 pub no-logs : (n : ℕ) → flat_map (λ log. log) (map (λ q. q.log) (replicate n idle)) ≡ []
 no-logs zero = refl

@@ -9,7 +9,7 @@ use Rattle.art_rows.specs.declared.table.Shape.{Shape}
 use Rattle.art_rows.specs.Table.{opening}
 use Rattle.art_steps.specs.declared.variant.Variant.{Variant}
 use Rattle.std.specs.List.{AllZip}
-use Rattle.std.proofs.lemmas.Option.{slice_get_within}
+use Rattle.std.proofs.lemmas.Option.{slice_get_within, none-some, same_Some}
 use Rattle.list_laws.proofs.Lists.{slice_get-append_left, slice_get-middle}
 use Rattle.list_laws.proofs.ZipLemmas.{zip_left}
 use Rattle.events.specs.declared.event.Call.{Call}
@@ -32,12 +32,6 @@ run-on-append plan (Some s) (p ∷ earlier) later = run-on-append plan (step pla
 
 -- Longer scripts.
 
-some-same : {A : Type 0} {x y : A} → ◌≡◌ {A = Option A} (Some x) (Some y) → x ≡ y
-some-same h = cc
-
-none-some : {A : Type 0} {y : A} → ◌≡◌ {A = Option A} None (Some y) → ⊥
-none-some h = cc
-
 begins-get : (script longer : List Call) (i : ℕ) (call : Call) → Begins script longer → slice_get script i ≡ Some call
     → slice_get longer i ≡ Some call
 begins-get script longer i call b h =
@@ -50,7 +44,7 @@ module _ (plan longer : Plan) (shape : longer.shape ≡ plan.shape) (variant : l
     where
       go : (o : Option (List Call)) → slice_get plan.scripts p ≡ o → next_in o (length (begun q)) ≡ Some call
           → next_call longer p q ≡ Some call
-      go None e k = absurd (none-some k)
+      go None e k = absurd (none-some _ k)
       go (Some script) e k =
           let z = zip_left Begins plan.scripts longer.scripts p script zip e in
           ap (λ o. next_in o (length (begun q))) z.1 ∙ begins-get script z.0 (length (begun q)) call z.2 k
@@ -63,7 +57,7 @@ module _ (plan longer : Plan) (shape : longer.shape ≡ plan.shape) (variant : l
   next-move-longer p q None m h = go (next_call plan p q) refl h
     where
       go : (o : Option Call) → next_call plan p q ≡ o → invocation o ≡ Some m → invocation (next_call longer p q) ≡ Some m
-      go None e k = absurd (none-some k)
+      go None e k = absurd (none-some _ k)
       go (Some call) e k = ap invocation (next-call-longer p q call e) ∙ k
 
   step-longer : (s : State) (p : ℕ) (s' : State) → step plan s p ≡ Some s' → step longer s p ≡ Some s'
@@ -72,16 +66,16 @@ module _ (plan longer : Plan) (shape : longer.shape ≡ plan.shape) (variant : l
     where
       moves : (q : Process) (o : Option Move) → next_move plan p q ≡ o → moved_by s p q o ≡ Some s'
           → moved_by s p q (next_move longer p q) ≡ Some s'
-      moves q None e k = absurd (none-some k)
+      moves q None e k = absurd (none-some _ k)
       moves q (Some m) e k = ap (moved_by s p q) (next-move-longer p q q.call m e) ∙ k
 
       go : (o : Option Process) → step_of plan s p o ≡ Some s' → step_of longer s p o ≡ Some s'
-      go None k = absurd (none-some k)
+      go None k = absurd (none-some _ k)
       go (Some q) k = moves q (next_move plan p q) refl k
 
   none-stays : (schedule : List ℕ) (s : State) → run_on plan None schedule ≡ Some s → ⊥
-  none-stays [] s h = none-some h
-  none-stays (p ∷ schedule) s h = none-some h
+  none-stays [] s h = none-some _ h
+  none-stays (p ∷ schedule) s h = none-some _ h
 
   goes-on : (schedule : List ℕ) (s : State) → ((first : State) → run_on plan (Some first) schedule ≡ Some s → run_on longer (Some first)
       schedule ≡ Some s)
@@ -105,13 +99,13 @@ begins-all (xs ∷ xss) = (begins-refl xs, begins-all xss)
 
 begins-set : (processes : List Process) (p : ℕ) (q q' : Process) → slice_get processes p ≡ Some q → Begins (begun q) (begun q')
     → AllZip Begins (map begun processes) (map begun (slice_set processes p q'))
-begins-set [] p q q' e b = absurd (none-some e)
-begins-set (r ∷ rs) zero q q' e b = (subst (λ r. Begins (begun r) (begun q')) (sym (some-same e)) b, begins-all (map begun rs))
+begins-set [] p q q' e b = absurd (none-some _ e)
+begins-set (r ∷ rs) zero q q' e b = (subst (λ r. Begins (begun r) (begun q')) (sym (same_Some _ _ e)) b, begins-all (map begun rs))
 begins-set (r ∷ rs) (suc p) q q' e b = (begins-refl (begun r), begins-set rs p q q' e b)
 
 get-set : (processes : List Process) (p : ℕ) (q q' : Process) → slice_get processes p ≡ Some q
     → slice_get (map begun (slice_set processes p q')) p ≡ Some (begun q')
-get-set [] p q q' e = absurd (none-some e)
+get-set [] p q q' e = absurd (none-some _ e)
 get-set (r ∷ rs) zero q q' e = refl
 get-set (r ∷ rs) (suc p) q q' e = get-set rs p q q' e
 
@@ -156,7 +150,7 @@ module _ (shape : Shape) (variant : Variant) (s : State) (p : ℕ) (q : Process)
   move-reached schedule gives may =
       let longer =
       run-longer (begun_plan shape variant s.processes) longer_plan refl refl
-          (begins-set s.processes p q (after_move p m n q) here (grows p n m q))
+      (begins-set s.processes p q (after_move p m n q) here (grows p n m q))
       (opened (begun_plan shape variant s.processes)) schedule s gives in
       let first = subst (λ f. Gives longer_plan f schedule s) its-opening longer in
       run-on-append longer_plan (Some (opened longer_plan)) schedule (p ∷ [])

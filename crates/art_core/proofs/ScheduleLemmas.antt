@@ -1,6 +1,8 @@
 -- What is computed of a schedule is what its items name.
 use Rattle.std.proofs.Common.{◌≡◌, ℕ, zero, suc, ◌+◌, Bool, true, false, not, ◌||◌, List, [], ◌∷◌, refl, sym, ap, subst, ◌∙◌, arith}
 use Rattle.std.proofs.Common.{Option, Some, None, eqb-true, eq-eqb}
+use Rattle.std.proofs.lemmas.Option.{none-some}
+use Rattle.std.proofs.lemmas.Bool.{not-false, not-true, or_parts, true≢false}
 use Rattle.std.specs.Prelude.{slice_get, if◌then◌else◌}
 use Rattle.art_steps.specs.declared.access.Point.{Point}
 use Rattle.art_steps.specs.declared.access.Point.TheVariants as point
@@ -14,9 +16,6 @@ use Rattle.art_core.specs.Schedules.{point_number, is_at, has_finished, made, it
 use Rattle.art_core.specs.Laws.{HasComputed, SchedulesCompute}
 use Rattle.art_core.proofs.NamedTurnLemmas.{made-none, made-more}
 
-refused-no : {x : Refusal} → ◌≡◌ {A = Option Refusal} (Some x) None → ⊥
-refused-no h = cc
-
 -- a turn that was not refused
 record IsTurn (plan : Plan) (r : Run) (p : ℕ) (after : Run) : Type 0 where
   steps : step plan r.state p ≡ Some after.state
@@ -24,9 +23,9 @@ record IsTurn (plan : Plan) (r : Run) (p : ℕ) (after : Run) : Type 0 where
 
 turn-with-ok : (r : Run) (left : ℕ) (o : Option Process) (next : Option State) → (turn_with r left o next).refused ≡ None
     → (next ≡ Some (turn_with r left o next).state) × ((turn_with r left o next).left + 1 ≡ left)
-turn-with-ok r left None next h = absurd (refused-no h)
-turn-with-ok r left (Some q) None h = absurd (refused-no h)
-turn-with-ok r zero (Some q) (Some s) h = absurd (refused-no h)
+turn-with-ok r left None next h = absurd (none-some _ (sym h))
+turn-with-ok r left (Some q) None h = absurd (none-some _ (sym h))
+turn-with-ok r zero (Some q) (Some s) h = absurd (none-some _ (sym h))
 turn-with-ok r (suc left) (Some q) (Some s) h = (refl, omega arith)
 
 turn-ok : (plan : Plan) (r : Run) (p : ℕ) → (turn plan r p).refused ≡ None → IsTurn plan r p (turn plan r p)
@@ -39,7 +38,7 @@ unless-ok r f h = go r.refused refl h
   where
     go : (o : Option Refusal) → r.refused ≡ o → (if_refused o r f).refused ≡ None → (r.refused ≡ None) × (if_refused r.refused r f ≡ f r)
     go None e k = (e, ap (λ o. if_refused o r f) e)
-    go (Some x) e k = absurd (refused-no (sym e ∙ k))
+    go (Some x) e k = absurd (none-some _ (sym k ∙ e))
 
 -- One item.
 
@@ -97,21 +96,6 @@ module _ (plan : Plan) (item : Item) (first : State) (stop : State → Bool)
           subst (λ q. IsComputed plan item first (r.left + k) q) (sym u.1)
           (record { made = rest.made; turns = rest.turns; costs = rest.costs ∙ omega arith })
 
-not-false : (b : Bool) → not b ≡ false → b ≡ true
-not-false true h = refl
-not-false false h = cc
-
-not-true : (b : Bool) → not b ≡ true → b ≡ false
-not-true true h = cc
-not-true false h = refl
-
-or-false : (a b : Bool) → (a || b) ≡ false → (a ≡ false) × (b ≡ false)
-or-false true b h = cc
-or-false false b h = (refl, h)
-
-true-false : {b : Bool} → b ≡ true → b ≡ false → ⊥
-true-false h k = cc
-
 or-true : (a b : Bool) → (a || b) ≡ true → a ≡ false → b ≡ true
 or-true true b h k = cc
 or-true false b h k = h
@@ -138,7 +122,7 @@ at-yes q None h = cc
 at-yes q (Some a) h = ap Some (sym (unfolded a) ∙ (ap point-at (sym (eqb-true (point_number q) (point_number a) h)) ∙ unfolded q))
 
 at-no : (q : Point) (o : Option Point) → is_at q o ≡ false → o ≡ Some q → ⊥
-at-no q o h e = true-false (ap (is_at q) e ∙ eq-eqb (point_number q) (point_number q) refl) h
+at-no q o h e = true≢false (sym (ap (is_at q) e ∙ eq-eqb (point_number q) (point_number q) refl) ∙ h)
 
 one-item : (plan : Plan) (item : Item) (r : Run) → (made plan item r).refused ≡ None
     → IsComputed plan item r.state r.left (made plan item r)
@@ -149,14 +133,14 @@ one-item plan (End p) r ok =
     let f = finished_count (slice_get r.state.processes p) in
     let c = until plan (End p) r.state (has_finished p f)
     (λ s n h. eqb-true (finished_count (slice_get s.processes p)) f (not-false _ h))
-    (λ s n h k. true-false (eq-eqb (finished_count (slice_get s.processes p)) f k) (not-true _ h))
+    (λ s n h k. true≢false (sym (eq-eqb (finished_count (slice_get s.processes p)) f k) ∙ not-true _ h))
     r.left 0 r refl (made-none plan (End p) r.state) ok in
     record { made = c.made; turns = c.turns; costs = c.costs ∙ omega arith }
 one-item plan (Until p q) r ok =
     let f = finished_count (slice_get r.state.processes p) in
     let c = until plan (Until p q) r.state (λ s. has_finished p f s || is_at q (next_point plan (slice_get s.processes p)))
     (λ s n h.
-    let b = or-false (has_finished p f s) (is_at q (next_point plan (slice_get s.processes p))) h in
+    let b = or_parts (has_finished p f s) (is_at q (next_point plan (slice_get s.processes p))) h in
     (eqb-true (finished_count (slice_get s.processes p)) f (not-false _ b.0), at-no q (next_point plan (slice_get s.processes p)) b.1))
     (λ s n h k.
     k.1 (at-yes q (next_point plan (slice_get s.processes p))

@@ -91,7 +91,7 @@ module _ (plan : Plan) (within : IsPlan plan) where
   few-events s t =
       let half = sums-within (λ q. length q.log) (λ q. length (begun q)) s.processes
       (λ i q at. let parts = log-parts q.log in let c = (t.counted i q at).counts in let less =
-          cond-small (is_some q.call) in omega arith) in
+      cond-small (is_some q.call) in omega arith) in
       let calls = calls-within s.processes plan.scripts t.logged.scripts in
       let sums = sum-map (λ q. length (begun q)) s.processes in
       let few = within.few_calls in
@@ -120,7 +120,7 @@ module _ (plan : Plan) (within : IsPlan plan) where
           let other : 0 ≢ word_of a = λ e. omega arith in
           let new = changed a (slice_index s.words (word_of a)) in
           let at : slice_index (slice_set s.words (word_of a) new) 0 ≡ slice_index s.words 0 =
-              get_or-set_other s.words (word_of a) 0 new 0 other in
+          get_or-set_other s.words (word_of a) 0 new 0 other in
           let q' = after_move p (Makes a) (slice_index s.words (word_of a)) q in
           let same : events (slice_set s.processes p q') + length q.log ≡ events s.processes + length q.log =
           sum-changed (λ q. length q.log) s.processes p q q' here in

@@ -151,7 +151,7 @@ module _ (plan : Plan) where
       → Contains (finished last) reply
   answers-stay-on reply [] s t process last one is ends has h =
       subst (λ q. Contains (finished q) reply)
-          (same_Some process last (sym is ∙ (ap (λ u. slice_get u.processes 0) (same_Some t s h) ∙ ends))) has
+      (same_Some process last (sym is ∙ (ap (λ u. slice_get u.processes 0) (same_Some t s h) ∙ ends))) has
   answers-stay-on reply (p ∷ rest) s t process last one is ends has h =
       go (step plan t p) refl h (λ next after. answers-stay-on reply rest s next after last)
     where
@@ -169,19 +169,19 @@ pub starts-are-one : StartsAreOne
 starts-are-one shape variant start words h = (
   λ other k.
       let to = goes-to-end plan h.inserted.schedule k.inserted.schedule (opened plan) h.state k.state h.process refl
-          h.inserted.gives k.inserted.gives
+      h.inserted.gives k.inserted.gives
       h.inserted.is_process h.all in
       let one = (run-lengths plan k.inserted.schedule (opened plan) k.state k.inserted.gives).1 in
       let same = stays-at-end plan to.0 h.state k.state k.process one k.inserted.is_process k.all to.1 in
       h.leaves ∙ (ap (λ s. slice_set s.words clock 0) (sym same) ∙ sym k.leaves),
   λ k.
       let to = goes-to-end plan h.inserted.schedule k.inserted.schedule (opened plan) h.state k.state h.process refl
-          h.inserted.gives k.inserted.gives
+      h.inserted.gives k.inserted.gives
       h.inserted.is_process h.all in
       let one = (run-lengths plan k.inserted.schedule (opened plan) k.state k.inserted.gives).1 in
       All-contains (λ reply. reply ≢ replies.Refused) (finished h.process) replies.Refused h.accepted
       (answers-stay-on plan replies.Refused to.0 h.state k.state k.process h.process one k.inserted.is_process h.inserted.is_process
-          k.refused to.1) refl,
+      k.refused to.1) refl,
 )
   where
     plan : Plan

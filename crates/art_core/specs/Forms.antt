@@ -13,10 +13,10 @@ use Rattle.art_core.specs.Meaning.{Reached, child_on, slot_of}
 abbrev pub HasForm : List ℕ → ℕ → Kind → Type 0
 HasForm words base Four =
     (keys : List ℕ) × (slice_index words (keys_at base) ≡ keys4_word keys) × (length keys ≤ 4) × IsStrictlyIncreasing keys
-        × All (λ x. x < 256) keys
+    × All (λ x. x < 256) keys
 HasForm words base Sixteen =
     (keys : List ℕ) × (slice_index words (keys_at base) ≡ keys16_word keys)
-        × (slice_index words (more_keys_at base) ≡ more_keys16_word keys)
+    × (slice_index words (more_keys_at base) ≡ more_keys16_word keys)
     × (slice_index words (count_at Sixteen base) ≡ length keys) × (length keys ≤ 16) × IsStrictlyIncreasing keys × All (λ x. x < 256) keys
 HasForm words base FortyEight = (slice_index words (count_at FortyEight base) ≤ 48)
     × ((x y e : ℕ) → x < 256 → y < 256 → slot_of words base FortyEight x ≡ Some e → slot_of words base FortyEight y ≡ Some e → x ≡ y)

@@ -51,7 +51,7 @@ MovesAreReached = (shape : Shape) (variant : Variant) (s : State) (schedule : Li
     → Gives (begun_plan shape variant s.processes) (opened (begun_plan shape variant s.processes)) schedule s
     → slice_get s.processes p ≡ Some q → MayMove shape variant q q.call m
     → Gives (begun_plan shape variant (moved s p q m).processes) (opened (begun_plan shape variant (moved s p q m).processes))
-        (schedule ++ p ∷ [])
+    (schedule ++ p ∷ [])
     (moved s p q m)
 
 -- The clock is above all stamps, and counts few of them; what was logged is a history.

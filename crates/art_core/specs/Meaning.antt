@@ -21,7 +21,7 @@ abbrev pub slot_of : List ℕ → ℕ → Kind → ℕ → Option ℕ
 slot_of words base Four x = option_map (child_at Four base) (place_of x (keys4_of (slice_index words (keys_at base))))
 slot_of words base Sixteen x = option_map (child_at Sixteen base)
     (place_of x (keys16_of (slice_index words (count_at Sixteen base)) (slice_index words (keys_at base))
-        (slice_index words (more_keys_at base))))
+    (slice_index words (more_keys_at base))))
 slot_of words base FortyEight x = entry_slot base (slice_index (entries_of (slice_index words (index_at base x))) (x % 8))
 slot_of words base Full x = Some (child_at Full base x)
 

@@ -56,4 +56,4 @@ abbrev pub AreMadeWhole : Plan → List Item → State → ℕ → State → Typ
 AreMadeWhole plan [] first made now = (made ≡ 0) × (first ≡ now)
 AreMadeWhole plan (item ∷ items) first made now =
     (here : ℕ) × (later : ℕ) × (between : State) × IsMadeWhole plan item first here between × AreMadeWhole plan items between later now
-        × (made ≡ here + later)
+    × (made ≡ here + later)

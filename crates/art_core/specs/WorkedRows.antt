@@ -61,16 +61,24 @@ torn_items = Turns 0 3 ∷ End 1 ∷ End 1 ∷ End 0 ∷ []
 -- A remove that lets go of the row above too early works on a row that was replaced.
 unfoldable pub early : Variant → Plan
 early v =
-    record { shape = eights; variant = v; scripts =
-        (Remove 1 ∷ []) ∷ (Insert 1 10 ∷ Insert 2 20 ∷ Insert 3 30 ∷ Insert 4 40 ∷ Insert 5 50 ∷ Get 1 ∷ []) ∷ [] }
+    record {
+      shape = eights;
+      variant = v;
+      scripts =
+          (Remove 1 ∷ []) ∷ (Insert 1 10 ∷ Insert 2 20 ∷ Insert 3 30 ∷ Insert 4 40 ∷ Insert 5 50 ∷ Get 1 ∷ []) ∷ [];
+    }
 
 unfoldable pub early_items : List Item
 early_items = End 1 ∷ End 1 ∷ End 1 ∷ End 1 ∷ Until 0 point.LockRow ∷ End 1 ∷ End 0 ∷ End 1 ∷ []
 
 -- One process and one row of each kind: every kind grows.
 unfoldable pub one_each : ℕ → Plan
-one_each n = record { shape = record { rows4 = 1; rows16 = 1; rows48 = 1; rows256 = 1 }; variant = Optimistic; scripts =
-    (inserts 0 n ++ Get 47 ∷ []) ∷ [] }
+one_each n = record {
+  shape = record { rows4 = 1; rows16 = 1; rows48 = 1; rows256 = 1 };
+  variant = Optimistic;
+  scripts =
+      (inserts 0 n ++ Get 47 ∷ []) ∷ [];
+}
   where
     inserts : ℕ → ℕ → List Call
     inserts k zero = []
@@ -85,8 +93,12 @@ count_events plan k = length (events_of (schedule_run plan 100 (End 0 ∷ End 0 
 
 -- A get ends at a row whose path differs, after an insert of its key has hung a pair over that row: its moment is before.
 unfoldable pub beside : Plan
-beside = record { shape = eights; variant = Optimistic; scripts = (Insert 16777217 1 ∷ Insert 16777218 2 ∷ Get 16908288 ∷ []) ∷ (Insert
-    16908288 3 ∷ []) ∷ [] }
+beside = record {
+  shape = eights;
+  variant = Optimistic;
+  scripts = (Insert 16777217 1 ∷ Insert 16777218 2 ∷ Get 16908288 ∷ []) ∷ (Insert
+      16908288 3 ∷ []) ∷ [];
+}
 
 pub record WorkedRows : Type 0 where
   pub deep_words : words_at deep (End 0 ∷ End 0 ∷ End 0 ∷ []) (6 ∷ 7 ∷ 13 ∷ 14 ∷ 15 ∷ 64 ∷ []) ≡ 268 ∷ 131330 ∷ 260 ∷ 65538 ∷ 21 ∷ 49 ∷ []
@@ -98,21 +110,21 @@ pub record WorkedRows : Type 0 where
       ∷ Invoke 1 (Insert 3 30) ∷ Answer 1 reply.None ∷ Answer 0 (reply.Some 50) ∷ []
   pub lost_unchecked : events (lost LockUnchecked) lost_items
       ≡ Invoke 0 (Insert 5 50) ∷ Invoke 1 (Insert 9 90) ∷ Answer 1 reply.None ∷ Answer 0 reply.None ∷ Invoke 1
-          (Get 9) ∷ Answer 1 reply.None ∷ []
+      (Get 9) ∷ Answer 1 reply.None ∷ []
   pub lost_checked : events (lost Optimistic) lost_items
       ≡ Invoke 0 (Insert 5 50) ∷ Invoke 1 (Insert 9 90) ∷ Answer 1 reply.None ∷ Answer 0 reply.None ∷ Invoke 1 (Get 9) ∷ Answer 1
-          (reply.Some 90) ∷ []
+      (reply.Some 90) ∷ []
   pub torn_unchecked : events (torn ScanUnvalidated) torn_items
       ≡ Invoke 0 (Scan 16777216 33554432) ∷ Invoke 1 (Insert 16777216 1) ∷ Answer 1 reply.None ∷ Invoke 1
-          (Insert 33554432 2) ∷ Answer 1 reply.None
+      (Insert 33554432 2) ∷ Answer 1 reply.None
       ∷ Answer 0 (reply.Pairs ((33554432, 2) ∷ [])) ∷ []
   pub torn_checked : events (torn Optimistic) torn_items
       ≡ Invoke 0 (Scan 16777216 33554432) ∷ Invoke 1 (Insert 16777216 1) ∷ Answer 1 reply.None ∷ Invoke 1
-          (Insert 33554432 2) ∷ Answer 1 reply.None
+      (Insert 33554432 2) ∷ Answer 1 reply.None
       ∷ Answer 0 (reply.Pairs ((16777216, 1) ∷ (33554432, 2) ∷ [])) ∷ []
   pub early_release : events (early EarlyRelease) early_items
       ≡ Invoke 1 (Insert 1 10) ∷ Answer 1 reply.None ∷ Invoke 1 (Insert 2 20) ∷ Answer 1 reply.None ∷ Invoke 1
-          (Insert 3 30) ∷ Answer 1 reply.None
+      (Insert 3 30) ∷ Answer 1 reply.None
       ∷ Invoke 1 (Insert 4 40) ∷ Answer 1 reply.None ∷ Invoke 0 (Remove 1) ∷ Invoke 1 (Insert 5 50) ∷ Answer 1 reply.None
       ∷ Answer 0 (reply.Some 10) ∷ Invoke 1 (Get 1) ∷ Answer 1 (reply.Some 10) ∷ []
   pub grown : words_at (one_each 17) (replicate 17 (End 0)) (0 ∷ 1 ∷ 2 ∷ 3 ∷ 4 ∷ 5 ∷ 12 ∷ 33 ∷ 34 ∷ 35 ∷ 37 ∷ 67 ∷ 116 ∷ 118 ∷ [])

@@ -3,8 +3,9 @@ use Rattle.std.proofs.Common.{◌≡◌, ℕ, zero, suc, ◌<◌, ◌≤◌, Lis
 use Rattle.std.proofs.Common.{true, false}
 use Rattle.std.proofs.Common.{arith, inl, inr, ◌⊎◌}
 use Rattle.std.proofs.lemmas.Bool.{false≢true}
-use Rattle.std.proofs.lemmas.List.{append-nil}
-use Rattle.std.specs.Prelude.{Option, Some, None, slice_index}
+use Rattle.std.proofs.Math.Seq.{get_or-append_seam, take-append_seam}
+use Rattle.std.proofs.lemmas.List.{append-nil, get_or_append_left, take-append-le}
+use Rattle.std.specs.Prelude.{Option, Some, None}
 use Rattle.events.specs.declared.event.Call.{Call}
 use Rattle.events.specs.declared.event.Call.TheVariants.{Get, Insert, Remove, Scan, Replace}
 use Rattle.events.specs.declared.event.Reply.{Reply}
@@ -33,24 +34,6 @@ use Rattle.art_stages.proofs.TurnLemmas.{next}
 use Rattle.art_stages.proofs.StepLemmas.{begins, goes_on}
 use Rattle.art_refusals.proofs.StageLemmas.{refuses, is_add, no_claim, Came, came, answers_refused}
 
-take_before : (i : ℕ) (xs ys : List ℕ) → i ≤ length xs → take i (xs ++ ys) ≡ take i xs
-take_before zero xs ys h = refl
-take_before (suc i) [] ys h = absurd (omega (arith, h))
-take_before (suc i) (x ∷ xs) ys h = ap (λ zs. x ∷ zs) (take_before i xs ys (omega (arith, h)))
-
-take_all : (xs ys : List ℕ) → take (length xs) (xs ++ ys) ≡ xs
-take_all [] ys = refl
-take_all (x ∷ xs) ys = ap (λ zs. x ∷ zs) (take_all xs ys)
-
-index_before : (i : ℕ) (xs ys : List ℕ) → i < length xs → slice_index (xs ++ ys) i ≡ slice_index xs i
-index_before i [] ys h = absurd (omega (arith, h))
-index_before zero (x ∷ xs) ys h = refl
-index_before (suc i) (x ∷ xs) ys h = index_before i xs ys (omega (arith, h))
-
-index_at : (xs : List ℕ) (w : ℕ) → slice_index (xs ++ w ∷ []) (length xs) ≡ w
-index_at [] w = refl
-index_at (x ∷ xs) w = index_at xs w
-
 length_more : (xs : List ℕ) (w : ℕ) → length (xs ++ w ∷ []) ≡ suc (length xs)
 length_more [] w = refl
 length_more (x ∷ xs) w = ap suc (length_more xs w)
@@ -63,7 +46,7 @@ module _ (c : Setting) (pre : List ℕ) (w : ℕ) (stage : Stage) (fits : Fits c
   claim_kept j kind x = record {
     made = omega (arith, x.made, length_more pre w);
     point = x.point;
-    asks = ap (act c.shape c.variant c.call) (take_before j pre (w ∷ []) (omega (arith, x.made))) ∙ x.asks;
+    asks = ap (act c.shape c.variant c.call) (take-append-le j pre (w ∷ []) (omega (arith, x.made))) ∙ x.asks;
   }
 
   claim_before : (j : ℕ) (kind : Kind) → j < length pre → Claims c.shape c.variant c.call (pre ++ w ∷ []) j kind
@@ -71,14 +54,14 @@ module _ (c : Setting) (pre : List ℕ) (w : ℕ) (stage : Stage) (fits : Fits c
   claim_before j kind h x = record {
     made = h;
     point = x.point;
-    asks = ap (act c.shape c.variant c.call) (sym (take_before j pre (w ∷ []) (omega (arith, h)))) ∙ x.asks;
+    asks = ap (act c.shape c.variant c.call) (sym (take-append-le j pre (w ∷ []) (omega (arith, h)))) ∙ x.asks;
   }
 
   claim_last : (j : ℕ) (kind : Kind) → j ≡ length pre → Claims c.shape c.variant c.call (pre ++ w ∷ []) j kind
       → is_add (turn_at c stage) ≡ true
   claim_last j kind e x =
       ap is_add (sym turn)
-      ∙ (ap (λ xs. is_add (act c.shape c.variant c.call xs)) (sym (ap (λ k. take k (pre ++ w ∷ [])) e ∙ take_all pre (w ∷ [])))
+      ∙ (ap (λ xs. is_add (act c.shape c.variant c.call xs)) (sym (ap (λ k. take k (pre ++ w ∷ [])) e ∙ take-append_seam pre (w ∷ [])))
       ∙ ap is_add x.asks)
 
   still_refused : refuses stage ≡ true → RefusedAtCapacity c.shape c.variant c.call pre
@@ -88,7 +71,7 @@ module _ (c : Setting) (pre : List ℕ) (w : ℕ) (stage : Stage) (fits : Fits c
     kind = x.kind;
     claims = claim_kept x.i x.kind x.claims;
     last = λ j kind y. at_most j kind y (less_or_same j (length pre) (omega (arith, y.made, length_more pre w)));
-    full = subst (λ n. rows_of c.shape x.kind ≤ n) (sym (index_before x.i pre (w ∷ []) x.claims.made)) x.full;
+    full = subst (λ n. rows_of c.shape x.kind ≤ n) (sym (get_or_append_left pre (w ∷ []) 0 x.i x.claims.made)) x.full;
   }
     where
       less_or_same : (j n : ℕ) → j ≤ n → (j < n) ⊎ (j ≡ n)
@@ -114,10 +97,10 @@ module _ (c : Setting) (pre : List ℕ) (w : ℕ) (stage : Stage) (fits : Fits c
     claims = record {
       made = omega (arith, length_more pre w);
       point = None;
-      asks = ap (act c.shape c.variant c.call) (take_all pre (w ∷ [])) ∙ (turn ∙ asks);
+      asks = ap (act c.shape c.variant c.call) (take-append_seam pre (w ∷ [])) ∙ (turn ∙ asks);
     };
     last = λ j other y. omega (arith, y.made, length_more pre w);
-    full = subst (λ n. rows_of c.shape kind ≤ n) (sym (index_at pre w)) full;
+    full = subst (λ n. rows_of c.shape kind ≤ n) (sym (get_or-append_seam pre w [] 0)) full;
   }
 
   one_more : (refuses stage ≡ true → RefusedAtCapacity c.shape c.variant c.call pre) → Came c stage w

@@ -243,7 +243,7 @@ insert_unlocked_no c p (Lacks keys) =
 insert_unlocked_no c p (Has slot Empty) = take_no c _
 insert_unlocked_no c p (Has slot (Leaf key value)) =
     either (key == key_of c.call) _ _ (take_no c _)
-        (either (nat_le (keys_differ_at key (key_of c.call)) (row_at p.row).level) _ _ refl (take_no c _))
+    (either (nat_le (keys_differ_at key (key_of c.call)) (row_at p.row).level) _ _ refl (take_no c _))
 insert_unlocked_no c p (Has slot (ChildRow base kind)) = refl
 
 found_no : (l i e : Bool) (c : Setting) (p : Position) (f : Finding) → refuses (found_at l i e c p f) ≡ false
@@ -417,7 +417,7 @@ module _ (c : Setting) (w : ℕ) where
   came l i e (Write k slot word value) h = not_there l i e (Write k slot word value) refl h
   came l i e (ClaimPair k p) h =
       from_claim (ClaimPair k p) (StorePair k p (base_of c.shape Four w) pair_word.Info) k Four
-          (nat_lt w (rows_of c.shape Four)) refl refl refl h
+      (nat_lt w (rows_of c.shape Four)) refl refl refl h
   came l i e (StorePair k p base word) h = not_there l i e (StorePair k p base word) refl h
   came l i e (PutLoad k keys left) h = not_there l i e (PutLoad k keys left) refl h
   came l i e (PutStore k keys left word) h = not_there l i e (PutStore k keys left word) refl h
@@ -426,8 +426,13 @@ module _ (c : Setting) (w : ℕ) where
   came l i e (PutMore k keys) h = not_there l i e (PutMore k keys) refl h
   came l i e (PutCount k keys) h = not_there l i e (PutCount k keys) refl h
   came l i e (ClaimGrow k slot keys) h =
-      from_claim (ClaimGrow k slot keys) (GrowInfo (record { hold = k; slot = slot; keys = keys; base = base_of c.shape
-          (next_kind k.row.kind) w })) k
+      from_claim (ClaimGrow k slot keys) (GrowInfo (record {
+        hold = k;
+        slot = slot;
+        keys = keys;
+        base = base_of c.shape
+            (next_kind k.row.kind) w;
+      })) k
       (next_kind k.row.kind) (nat_lt w (rows_of c.shape (next_kind k.row.kind))) refl refl refl h
   came l i e (GrowInfo g) h = not_there l i e (GrowInfo g) refl h
   came l i e (GrowLoad g place left) h = not_there l i e (GrowLoad g place left) refl h

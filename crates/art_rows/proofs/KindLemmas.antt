@@ -1,8 +1,10 @@
--- Numbers of the kinds of rows: how many words a row has, where its children begin, which word counts its claims.
-use Rattle.std.proofs.Common.{◌≡◌, ℕ, ◌<◌, ◌≤◌, refl, arith}
+-- Numbers of the kinds of rows: how many words a row has, where its children begin, which word counts its claims; the kind at a base.
+use Rattle.std.proofs.Common.{◌≡◌, ℕ, ◌<◌, ◌≤◌, Bool, true, false, Option, Some, if◌then◌else◌, refl, sym, ap, ◌∙◌, arith}
+use Rattle.std.proofs.lemmas.Option.{none-some, same_Some}
+use Rattle.art_rows.specs.declared.table.Shape.{Shape}
 use Rattle.art_rows.specs.declared.table.Kind.{Kind}
 use Rattle.art_rows.specs.declared.table.Kind.TheVariants.{Four, Sixteen, FortyEight, Full}
-use Rattle.art_rows.specs.Table.{row_words, claims_of, first_child}
+use Rattle.art_rows.specs.Table.{row_words, claims_of, first_child, is_base_of, kind_at}
 use Rattle.art_rows.specs.Words.{kind_code}
 
 pub some-words : (kind : Kind) → 0 < row_words kind
@@ -78,3 +80,14 @@ code-few Four = omega arith
 code-few Sixteen = omega arith
 code-few FortyEight = omega arith
 code-few Full = omega arith
+
+-- where a row of some kind begins, its kind has a base
+pub kind_at-is_base : (s : Shape) (base : ℕ) (kind : Kind) → kind_at s base ≡ Some kind → is_base_of s kind base ≡ true
+kind_at-is_base s base kind e =
+    one Four (is_base_of s Four base) refl e λ f. one Sixteen (is_base_of s Sixteen base) refl f λ g.
+    one FortyEight (is_base_of s FortyEight base) refl g λ h. one Full (is_base_of s Full base) refl h λ none. absurd (none-some _ none)
+  where
+    one : (k : Kind) (b : Bool) {rest : Option Kind} → is_base_of s k base ≡ b → (if b then Some k else rest) ≡ Some kind
+        → (rest ≡ Some kind → is_base_of s kind base ≡ true) → is_base_of s kind base ≡ true
+    one k true is h go = ap (λ q. is_base_of s q base) (sym (same_Some _ _ h)) ∙ is
+    one k false is h go = go h

@@ -51,7 +51,7 @@ place_append x (y ∷ ys) zs = go (y == x) (place_append x ys zs)
 
     go : (b : Bool) → place_of x (ys ++ zs) ≡ joined (place_of x ys) (place_of x zs) (length ys)
         → (if b then Some 0 else option_map (λ i. i + 1) (place_of x (ys ++ zs))) ≡ joined
-            (if b then Some 0 else option_map (λ i. i + 1) (place_of x ys))
+        (if b then Some 0 else option_map (λ i. i + 1) (place_of x ys))
         (place_of x zs) (suc (length ys))
     go true e = refl
     go false e = ap (λ o. option_map (λ i. i + 1) o) e ∙ moved (place_of x ys) (place_of x zs) (length ys)

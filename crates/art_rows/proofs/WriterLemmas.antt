@@ -5,7 +5,7 @@ use Rattle.std.proofs.Common.{subst, ◌∙◌, ⊎_elim, Bool, true, false, ari
 use Rattle.std.specs.Prelude.{min, nat_le, nat_lt, if◌then◌else◌}
 use Rattle.std.proofs.Math.Nat.{pow-suc, pow-le-pow_right}
 use Rattle.std.proofs.lemmas.Nat.{div_below}
-use Rattle.std.proofs.lemmas.Bool.{cases_lt}
+use Rattle.std.proofs.lemmas.Bool.{cases_lt, lt-ltb, le-ltb, le-leb, leb-true}
 use Rattle.std.proofs.lemmas.List.{append-nil, length-take}
 use Rattle.art_rows.specs.Words.{packed, low_bytes, new_place, with_key, count_of, entry_of, keys4_of, keys16_of, keys4_word, keys16_word}
 use Rattle.art_rows.specs.Words.{more_keys16_word}
@@ -13,22 +13,19 @@ use Rattle.art_rows.proofs.ReaderLemmas.{bytes_of, take_bytes, most_of}
 
 -- One byte more.
 
+pub less_one : (n : ℕ) → suc n - 1 ≡ n
+less_one n = omega arith
+
 pub byte_below : (n r b : ℕ) → (n ≡ 0 → ⊥) → b < 256 → r < 256 ^ (n - 1) → b + 256 * r < 256 ^ n
 byte_below zero r b some lb lr = absurd (some refl)
 byte_below (suc n) r b some lb lr =
-    let less : r < 256 ^ n = subst (λ k. r < 256 ^ k) (same n) lr in
+    let less : r < 256 ^ n = subst (λ k. r < 256 ^ k) (less_one n) lr in
     omega (arith, pow-suc 256 n, less)
-  where
-    same : (n : ℕ) → suc n - 1 ≡ n
-    same n = omega arith
 
 pub byte_fits : (n r b : ℕ) → n ≤ 7 → b < 256 → r < 256 ^ n → b + 256 * r < 2 ^ 64
 byte_fits n r b few lb lr =
     let most : 256 ^ n ≤ 256 ^ 7 = pow-le-pow_right (omega arith) few in
     omega (arith, most, lr)
-
-less_one : (n : ℕ) → suc n - 1 ≡ n
-less_one n = omega arith
 
 -- a number of few bytes
 pub small : (n r : ℕ) → n ≤ 3 → r < 256 ^ n → r < 256 ^ 3
@@ -68,18 +65,12 @@ new_place_more x (suc n) w r b some t e =
     ap (λ b. if b then suc (new_place x (low_bytes n (w / 256))) else new_place x (low_bytes n (w / 256))) t
     ∙ ap (λ r. if b then suc r else r) (ap (λ k. new_place x (low_bytes k (w / 256))) (sym (less_one n)) ∙ sym e)
 
-less : (a b : ℕ) → a < b → nat_lt a b ≡ true
-less a b h = grind arith
-
-not_less : (a b : ℕ) → b ≤ a → nat_lt a b ≡ false
-not_less a b h = grind arith
-
 pub less_more : (x n w r : ℕ) → (n ≡ 0 → ⊥) → w % 256 < x → r ≡ new_place x (low_bytes (n - 1) (w / 256))
     → r + 1 ≡ new_place x (low_bytes n w)
-less_more x n w r some h e = sym (new_place_more x n w r true some (less (w % 256) x h) e ∙ omega arith)
+less_more x n w r some h e = sym (new_place_more x n w r true some (lt-ltb (w % 256) x h) e ∙ omega arith)
 
 pub less_same : (x n w r : ℕ) → (n ≡ 0 → ⊥) → x ≤ w % 256 → r ≡ new_place x (low_bytes (n - 1) (w / 256)) → r ≡ new_place x (low_bytes n w)
-less_same x n w r some h e = sym (new_place_more x n w r false some (not_less (w % 256) x h) e)
+less_same x n w r some h e = sym (new_place_more x n w r false some (le-ltb (w % 256) x h) e)
 
 pub new_place-append : (x : ℕ) (ys zs : List ℕ) → new_place x (ys ++ zs) ≡ new_place x ys + new_place x zs
 new_place-append x [] zs = omega arith
@@ -87,7 +78,7 @@ new_place-append x (y ∷ ys) zs = go (nat_lt y x) (new_place-append x ys zs)
   where
     go : (b : Bool) → new_place x (ys ++ zs) ≡ new_place x ys + new_place x zs
         → (if b then suc (new_place x (ys ++ zs)) else new_place x (ys ++ zs)) ≡ (if b then suc (new_place x ys) else new_place x
-            ys) + new_place x zs
+        ys) + new_place x zs
     go true e = omega (arith, e)
     go false e = e
 
@@ -120,7 +111,7 @@ put_later x zero w (suc p) r some many e = absurd (many refl)
 put_later x (suc n) w (suc p) r some many e =
     ap (λ r. w % 256 + 256 * r)
     (e ∙ (ap (λ k. packed (put_in x k (low_bytes (suc n - 1) (w / 256)))) (less_one p)
-        ∙ ap (λ k. packed (put_in x p (low_bytes k (w / 256)))) (less_one n)))
+    ∙ ap (λ k. packed (put_in x p (low_bytes k (w / 256)))) (less_one n)))
 
 -- Kind 4.
 
@@ -153,10 +144,7 @@ keys16_as count first second n e =
     take_bytes (count_of 16 count) first second (most_of count) ∙ ap (λ k. bytes_of k first second) (sym e)
 
 pub few_bytes : (n first second : ℕ) → n ≤ 8 → bytes_of n first second ≡ low_bytes n first
-few_bytes n first second h = ap (λ b. if b then low_bytes n first else low_bytes 8 first ++ low_bytes (n - 8) second) (within n 8 h)
-  where
-    within : (a b : ℕ) → a ≤ b → nat_le a b ≡ true
-    within a b h = grind arith
+few_bytes n first second h = ap (λ b. if b then low_bytes n first else low_bytes 8 first ++ low_bytes (n - 8) second) (le-leb n 8 h)
 
 pub many_bytes : (n first second : ℕ) → 8 ≤ n → bytes_of n first second ≡ low_bytes 8 first ++ low_bytes (n - 8) second
 many_bytes n first second h = go (nat_le n 8) refl
@@ -164,12 +152,9 @@ many_bytes n first second h = go (nat_le n 8) refl
     same : (k first second : ℕ) → k ≡ 8 → low_bytes k first ≡ low_bytes 8 first ++ low_bytes (k - 8) second
     same k first second e = subst (λ k. low_bytes k first ≡ low_bytes 8 first ++ low_bytes (k - 8) second) (sym e) refl
 
-    within : (a b : ℕ) → nat_le a b ≡ true → a ≤ b
-    within a b h = grind arith
-
     go : (b : Bool) → nat_le n 8 ≡ b
         → (if b then low_bytes n first else low_bytes 8 first ++ low_bytes (n - 8) second) ≡ low_bytes 8 first ++ low_bytes (n - 8) second
-    go true t = same n first second (omega (arith, within n 8 t))
+    go true t = same n first second (omega (arith, leb-true n 8 t))
     go false t = refl
 
 pub take_whole : (n : ℕ) (ys : List ℕ) → length ys ≤ n → take n ys ≡ ys
@@ -280,7 +265,7 @@ pub bytes4_with : (x w n p r : ℕ) → n ≡ length (keys4_of w) → p ≡ new_
     → r ≡ packed (with_key x (keys4_of w))
 bytes4_with x w n p r e at h =
     h ∙ (ap (λ q. packed (put_in x q (low_bytes n (w / 256)))) at
-        ∙ ap (λ ys. packed (put_in x (new_place x (keys4_of w)) ys)) (sym (keys4_from w n e)))
+    ∙ ap (λ ys. packed (put_in x (new_place x (keys4_of w)) ys)) (sym (keys4_from w n e)))
 
 pub power_most : (n r : ℕ) → n ≤ 4 → r < 256 ^ (n + 1) → r < 256 ^ 5
 power_most n r few h = let most : 256 ^ (n + 1) ≤ 256 ^ 5 =
@@ -291,7 +276,7 @@ pub word4_with : (x w n r : ℕ) → n ≡ length (keys4_of w) → r ≡ packed 
 word4_with x w n r e h =
     ap (λ r. n + 1 + 256 * r) h
     ∙ ap (λ k. k + 256 * packed (with_key x (keys4_of w)))
-        (ap (λ k. k + 1) e ∙ sym (length-put_in x (new_place x (keys4_of w)) (keys4_of w)))
+    (ap (λ k. k + 1) e ∙ sym (length-put_in x (new_place x (keys4_of w)) (keys4_of w)))
 
 pub place16_few : (x count first second n r : ℕ) → n ≡ count_of 16 count → n ≤ 8 → r ≡ new_place x (low_bytes n first)
     → r ≡ new_place x (keys16_of count first second)
@@ -356,7 +341,7 @@ module _ (x count first second n p r : ℕ) (e : n ≡ count_of 16 count) (at : 
   pub second_kept : 8 ≤ n → 16 ≤ p → second < 2 ^ 64 → second ≡ more_keys16_word (with_key x (keys16_of count first second))
   second_kept h behind fits =
       sym (ap (λ ys. packed (take 8 ys)) (ap (drop 8) (many_with h) ∙ second_more x p first (low_bytes (n - 8) second)
-          (omega (arith, behind)))
+      (omega (arith, behind)))
       ∙ (ap (λ k. packed (take 8 (put_in x (p - 8) (low_bytes k second)))) eight
       ∙ (ap (λ k. packed (take 8 (put_in x k (low_bytes 8 second)))) last ∙ packed-low_bytes 8 second fits)))
     where

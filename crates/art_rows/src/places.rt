@@ -1,19 +1,32 @@
 // Where the rows of a table stand.
 ghost use Rattle.std.specs.Prelude.{◌≡◌, ℕ, ◌<◌, ◌≤◌, ◌^◌, true, IfOk};
-ghost use Rattle.art_rows.specs.Table.{first_base, row_words, rows_of, table_words, root_base, is_base_of, kind_at, opening, base_of, IsWithinLimits};
+ghost use Rattle.art_rows.specs.Table.{first_base, row_words, rows_of, table_words, root_base, is_base_of, kind_at, opening, base_of};
+ghost use Rattle.art_rows.specs.Table.{IsWithinLimits};
 ghost use Rattle.art_rows.specs.Words.{child_of as child_in, is_small_child};
 
 use crate::table::{Child, Kind, Shape};
 use std::alloc::{AllocError, Global};
 
+/// The words before the first row: the clock, and the claims of each kind.
+const FIRST_ROW: u64 = 5;
+
+// how many words a row of each kind has
+const WORDS4: u64 = 7;
+
+const WORDS16: u64 = 21;
+
+const WORDS48: u64 = 83;
+
+const WORDS256: u64 = 258;
+
 fn row_size(kind: Kind) -> u64
     ensures { result ≡ row_words kind }
 {
     match kind {
-        Kind::Four => 7,
-        Kind::Sixteen => 21,
-        Kind::FortyEight => 83,
-        Kind::Full => 258,
+        Kind::Four => WORDS4,
+        Kind::Sixteen => WORDS16,
+        Kind::FortyEight => WORDS48,
+        Kind::Full => WORDS256,
     }
 }
 
@@ -34,13 +47,16 @@ impl Shape {
         ensures { result ≡ first_base self.now kind }
     {
         match kind {
-            Kind::Four => 5,
-            Kind::Sixteen => 5 + 7 * u64::from(self.rows4),
-            Kind::FortyEight => 5 + 7 * u64::from(self.rows4) + 21 * u64::from(self.rows16),
+            Kind::Four => FIRST_ROW,
+            Kind::Sixteen => FIRST_ROW + WORDS4 * u64::from(self.rows4),
+            Kind::FortyEight => {
+                FIRST_ROW + WORDS4 * u64::from(self.rows4) + WORDS16 * u64::from(self.rows16)
+            }
             Kind::Full => {
-                5 + 7 * u64::from(self.rows4)
-                    + 21 * u64::from(self.rows16)
-                    + 83 * u64::from(self.rows48)
+                FIRST_ROW
+                    + WORDS4 * u64::from(self.rows4)
+                    + WORDS16 * u64::from(self.rows16)
+                    + WORDS48 * u64::from(self.rows48)
             }
         }
     }
@@ -91,7 +107,7 @@ impl Shape {
     pub fn words(&self) -> usize
         ensures { result ≡ table_words self.now }
     {
-        self.root() + 258 * self.rows256 as usize
+        self.root() + WORDS256 as usize * self.rows256 as usize
     }
 
     /// The words of the table as it is opened.

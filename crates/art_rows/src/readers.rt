@@ -1,6 +1,7 @@
 // What a word says.
 ghost use Rattle.std.specs.Prelude.{◌≡◌, ℕ, ◌≤◌, ◌<◌, ◌%◌, slice_index, unwrap_or, IfSome};
-ghost use Rattle.art_rows.specs.Words.{is_locked, is_obsolete, low_bytes, count_of, entry_of, entries_of, locked_word, released_word, kind_code, info_of, keys4_of, keys16_of, place_of as place_in, first_difference, key_bytes};
+ghost use Rattle.art_rows.specs.Words.{is_locked, is_obsolete, low_bytes, count_of, entry_of, entries_of, locked_word, released_word};
+ghost use Rattle.art_rows.specs.Words.{kind_code, info_of, keys4_of, keys16_of, place_of as place_in, first_difference, key_bytes};
 
 use crate::table::Kind;
 

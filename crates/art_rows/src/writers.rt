@@ -1,7 +1,9 @@
 // The words that say something.
 ghost use Rattle.std.specs.Prelude.{◌≡◌, true, ℕ, ◌+◌, ◌<◌, ◌≤◌, ◌^◌, ◌%◌, [], ◌∷◌, ◌++◌, length, take, drop, map, set};
 ghost use Rattle.art_rows.specs.Table.{capacity};
-ghost use Rattle.art_rows.specs.Words.{packed, low_bytes, key_bytes, obsolete_word, info_word, info_of, keys4_of, keys4_word, keys16_of, keys16_word, more_keys16_word, with_key, new_place, count_of, entry_of, entries_of, entries_word, row_word, child_word, is_small_child};
+ghost use Rattle.art_rows.specs.Words.{packed, low_bytes, key_bytes, obsolete_word, info_word, info_of, keys4_of, keys4_word, keys16_of};
+ghost use Rattle.art_rows.specs.Words.{keys16_word, more_keys16_word, with_key, new_place, count_of, entry_of, entries_of, entries_word};
+ghost use Rattle.art_rows.specs.Words.{row_word, child_word, is_small_child};
 
 use crate::readers::{code, entry, info_level, key_byte, key_count};
 use crate::table::{Child, Kind};

@@ -72,7 +72,7 @@ word_split j k r p e =
     ∙ (ap (λ ys. chosen j p (numbers 0 (8 * j) ++ ys)) (numbers_split (8 * j) k r)
     ∙ (chosen_append j p (numbers 0 (8 * j)) (numbers (8 * j) k ++ numbers (8 * j + k) r)
     ∙ (ap (λ ys. ys ++ chosen j p (numbers (8 * j) k ++ numbers (8 * j + k) r))
-        (none_in j p 0 (8 * j) (λ y a b. before j y (omega (arith, b))))
+    (none_in j p 0 (8 * j) (λ y a b. before j y (omega (arith, b))))
     ∙ (chosen_append j p (numbers (8 * j) k) (numbers (8 * j + k) r)
     ∙ (ap (λ ys. ys ++ chosen j p (numbers (8 * j + k) r)) (all_in j p (8 * j) k (λ y a b. within j y a (omega (arith, b, e))))
     ∙ (ap (λ ys. filter p (numbers (8 * j) k) ++ ys) (none_in j p (8 * j + k) r (λ y a b. behind j y (omega (arith, a, e))))

@@ -4,6 +4,7 @@ use Rattle.std.proofs.lemmas.Bool.{false≢true}
 use Rattle.std.specs.Prelude.{if◌then◌else◌, Option, Some, None, filter}
 use Rattle.art_rows.specs.declared.table.Kind.{Kind}
 use Rattle.art_rows.specs.declared.table.Kind.TheVariants.{Four, Sixteen, FortyEight, Full}
+use Rattle.art_rows.proofs.WriterLemmas.{less_one}
 use Rattle.art_steps.specs.Scan.{bytes_of}
 use Rattle.art_stages.specs.declared.stage.Held.{Held}
 use Rattle.art_stages.specs.declared.stage.Frame.{Frame}
@@ -12,9 +13,6 @@ use Rattle.art_stages.specs.Stages.{row_at}
 use Rattle.art_stages.specs.Scans.{Walk, ScanAt, at, in_word, slot_at, bytes_at, child_from, index_at_list, words_at, frame_at}
 use Rattle.art_scan.proofs.ByteLemmas.{bytes_skip}
 use Rattle.art_scan.specs.Walks.{has_any, frame_test, frame_slot}
-
-less_one : (n : ℕ) → suc n - 1 ≡ n
-less_one n = omega arith
 
 -- index words
 
@@ -107,10 +105,10 @@ pub frame_from : (kind : Kind) (low high : ℕ) (w : Walk) (f : Frame) (d : ℕ)
     → ((y : ℕ) → f.byte ≤ y → y < f.byte + d → frame_test kind low high f y ≡ false)
     → frame_at kind low high w f other
     ≡ bytes_at (frame_test kind low high f) (frame_slot kind f) (child_from w f) (f.byte + d) (f.left - d)
-        (behind_bytes kind low high w f other)
+    (behind_bytes kind low high w f other)
 frame_from kind low high w f d other most h =
     frame_bytes kind low high w f other
     ∙ (ap (λ n. bytes_at (frame_test kind low high f) (frame_slot kind f) (child_from w f) f.byte n (behind_bytes kind low high w f other))
     (omega (arith, most))
     ∙ bytes_skip (frame_test kind low high f) (frame_slot kind f) (child_from w f) f.byte d (f.left - d)
-        (behind_bytes kind low high w f other) h)
+    (behind_bytes kind low high w f other) h)

@@ -1,7 +1,8 @@
 -- The way of a scan, from its lowest row on.
 use Rattle.std.proofs.Common.{◌≡◌, ℕ, List, [], ◌∷◌, refl, ap, sym, ◌∙◌, true, false}
 use Rattle.std.proofs.lemmas.Bool.{false≢true}
-use Rattle.std.specs.Prelude.{Option, Some, None}
+use Rattle.std.proofs.lemmas.Option.{none-some}
+use Rattle.std.specs.Prelude.{None}
 use Rattle.art_rows.specs.declared.table.Kind.TheVariants.{Full}
 use Rattle.art_steps.specs.Rows.{Setting}
 use Rattle.art_steps.specs.Steps.{reply_of}
@@ -54,7 +55,4 @@ asks_on c (SecondKeys n count first) w e = refl
 asks_on c (Index n j m) w e = refl
 asks_on c (Child f slot) w e = refl
 asks_on c (Release n) w e = refl
-asks_on c Over w e = absurd (none_some e)
-  where
-    none_some : {A : Type 0} {y : A} → ◌≡◌ {A = Option A} (Some y) None → ⊥
-    none_some h = cc
+asks_on c Over w e = absurd (none-some _ (sym e))

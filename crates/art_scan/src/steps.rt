@@ -1,6 +1,7 @@
 // What comes after a word that a scan got.
 ghost use Rattle.std.specs.Prelude.{◌≡◌, ◌<◌, true, vec_len, vec_capacity};
-ghost use Rattle.art_stages.specs.Scans.{at, step_after as step_behind, entry_at, keys_after_word, child_after, release_after, scan_start, with_frame};
+ghost use Rattle.art_stages.specs.Scans.{at, step_after as step_behind, entry_at, keys_after_word, child_after, release_after, scan_start};
+ghost use Rattle.art_stages.specs.Scans.{with_frame};
 ghost use Rattle.art_setting.specs.Settings.{setting_of};
 ghost use Rattle.art_scan.specs.Sound.{is_sound_frame, is_sound_step};
 ghost use Rattle.art_scan.specs.Walks.{walk_of, HasRoom};
@@ -82,7 +83,8 @@ fn child_read(
 ) -> ScanStep
     requires room { HasRoom lists.old }
     requires sound { is_sound_frame frame ≡ true }
-    ensures step { at result (walk_of lists.new) ≡ child_after (setting_of setting.now) low high (with_frame (walk_of lists.old) frame) child }
+    ensures step { at result (walk_of lists.new) ≡ child_after (setting_of setting.now) low high
+        (with_frame (walk_of lists.old) frame) child }
     ensures sound { is_sound_step result ≡ true }
 {
     match child {

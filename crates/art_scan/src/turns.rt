@@ -10,7 +10,7 @@ ghost use Rattle.art_steps.specs.declared.access.Access.TheVariants.{Load};
 ghost use Rattle.art_scan.specs.Sound.{is_sound_step, is_over};
 
 use art_rows::{Kind, version_locked, version_released};
-use art_setting::{Setting, count_slot};
+use art_setting::{Setting, count_slot, index_slot, info_slot, keys_slot, more_keys_slot};
 use art_stages::{Entry, Held, ScanStep};
 use art_steps::{Access, Point};
 
@@ -28,7 +28,7 @@ fn first_word(row: Held) -> usize
 {
     match row.kind {
         Kind::Sixteen => count_slot(Kind::Sixteen, row.base),
-        _ => row.base as usize + 2,
+        _ => keys_slot(row.base),
     }
 }
 
@@ -63,11 +63,11 @@ pub fn access_at(setting: &Setting, step: ScanStep) -> Access
             };
         }
         ScanStep::Lock { entry, .. } | ScanStep::Wait { entry } => entry_base(setting, entry),
-        ScanStep::Info { base, .. } => base as usize + 1,
+        ScanStep::Info { base, .. } => info_slot(base),
         ScanStep::Keys { row } => first_word(row),
-        ScanStep::FirstKeys { row, .. } => row.base as usize + 2,
-        ScanStep::SecondKeys { row, .. } => row.base as usize + 3,
-        ScanStep::Index { row, index, .. } => row.base as usize + 2 + index as usize,
+        ScanStep::FirstKeys { row, .. } => keys_slot(row.base),
+        ScanStep::SecondKeys { row, .. } => more_keys_slot(row.base),
+        ScanStep::Index { row, index, .. } => index_slot(row.base, 8 * index),
         ScanStep::Child { slot, .. } => slot,
         ScanStep::Over => unreachable!(),
     };

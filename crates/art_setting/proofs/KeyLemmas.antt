@@ -1,23 +1,15 @@
 -- Keys of the kinds of row that have them, and the entries of a row that grows from one.
-use Rattle.std.proofs.Common.{◌≡◌, ℕ, ◌+◌, ◌%◌, ◌≤◌, List, [], ◌∷◌, ◌++◌, length, refl, ap, sym, ◌∙◌, Bool, true, false, arith}
-use Rattle.std.specs.Prelude.{nat_le, if◌then◌else◌, Some, None, option_map}
+use Rattle.std.proofs.Common.{◌≡◌, ℕ, ◌+◌, List, [], ◌∷◌, ◌++◌, length, refl, ap, sym, ◌∙◌, true, arith}
+use Rattle.std.specs.Prelude.{if◌then◌else◌, Some, None, option_map}
 use Rattle.std.proofs.lemmas.Bool.{eq-eqb, ne_eqb, false≢true}
-use Rattle.art_rows.specs.Words.{keys4_of, place_of}
+use Rattle.art_rows.specs.Words.{place_of}
 use Rattle.art_rows.specs.declared.table.Kind.{Kind}
 use Rattle.art_rows.specs.declared.table.Kind.TheVariants.{Four, Sixteen, FortyEight, Full}
 use Rattle.art_rows.proofs.ReaderLemmas.{joined, place_append}
-use Rattle.art_rows.proofs.WriterLemmas.{length-keys4}
 use Rattle.art_steps.specs.Updates.{new_entry}
 use Rattle.art_stages.specs.Stages.{keys_among, keys_in, count_in}
 use Rattle.art_stages.specs.declared.stage.Keys.{Keys}
 use Rattle.art_setting.specs.Sound.{has_keys}
-
-pub keys4_most : (w : ℕ) → length (keys4_of w) ≤ 4
-keys4_most w = omega (arith, length-keys4 w, few (nat_le (w % 256) 4) refl)
-  where
-    few : (b : Bool) → nat_le (w % 256) 4 ≡ b → (if b then w % 256 else 0) ≤ 4
-    few true e = grind (arith, e)
-    few false e = omega arith
 
 pub in_keys : (kind : Kind) (keys : Keys) → has_keys kind ≡ true → keys_among kind keys ≡ keys_in kind keys
 in_keys Four keys h = refl
@@ -36,13 +28,13 @@ counted Full keys h = absurd (false≢true h)
 pub entry_some : (ks : List ℕ) (x y i : ℕ) → Some i ≡ place_of y ks → i + 1 ≡ new_entry (ks ++ x ∷ []) y
 entry_some ks x y i e =
     let at : place_of y (ks ++ x ∷ []) ≡ Some i = place_append y ks (x ∷ [])
-        ∙ ap (λ o. joined o (place_of y (x ∷ [])) (length ks)) (sym e) in
+    ∙ ap (λ o. joined o (place_of y (x ∷ [])) (length ks)) (sym e) in
     rw at refl
 
 pub entry_new : (ks : List ℕ) (x y : ℕ) → None ≡ place_of y ks → x ≡ y → length ks + 1 ≡ new_entry (ks ++ x ∷ []) y
 entry_new ks x y e h =
     let at : place_of y (ks ++ x ∷ []) ≡ Some (0 + length ks) = place_append y ks (x ∷ [])
-        ∙ (ap (λ o. joined o (place_of y (x ∷ [])) (length ks)) (sym e)
+    ∙ (ap (λ o. joined o (place_of y (x ∷ [])) (length ks)) (sym e)
     ∙ ap (λ b. option_map (λ i. i + length ks) (if b then Some 0 else None)) (eq-eqb x y h)) in
     rw at (omega arith)
 

@@ -6,5 +6,7 @@ mod row_fields;
 mod setting;
 
 pub use keys_read::{count, is_full, key_among};
-pub use row_fields::{child_slot, claims, count_slot, next_kind};
+pub use row_fields::{
+    child_slot, claims, count_slot, index_slot, info_slot, keys_slot, more_keys_slot, next_kind,
+};
 pub use setting::Setting;

@@ -1,6 +1,6 @@
 // Where the words of a row stand, by its kind.
 ghost use Rattle.std.specs.Prelude.{◌≡◌};
-ghost use Rattle.art_rows.specs.Table.{child_at, count_at, claims_of};
+ghost use Rattle.art_rows.specs.Table.{child_at, count_at, claims_of, info_at, keys_at, more_keys_at, index_at};
 ghost use Rattle.art_steps.specs.Updates.{next_kind};
 
 use art_rows::Kind;
@@ -26,6 +26,34 @@ pub fn claims(kind: Kind) -> usize
         Kind::FortyEight => 3,
         Kind::Full => 4,
     }
+}
+
+/// The word of a row's info.
+pub fn info_slot(base: u32) -> usize
+    ensures { result ≡ info_at base }
+{
+    base as usize + 1
+}
+
+/// The key word of a row of kind 4, and the first one of kind 16.
+pub fn keys_slot(base: u32) -> usize
+    ensures { result ≡ keys_at base }
+{
+    base as usize + 2
+}
+
+/// The second key word of a row of kind 16.
+pub fn more_keys_slot(base: u32) -> usize
+    ensures { result ≡ more_keys_at base }
+{
+    base as usize + 3
+}
+
+/// The index word of a byte in a row of kind 48.
+pub fn index_slot(base: u32, byte: u32) -> usize
+    ensures { result ≡ index_at base byte }
+{
+    keys_slot(base) + (byte / 8) as usize
 }
 
 /// The word of child i of a row.

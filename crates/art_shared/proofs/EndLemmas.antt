@@ -52,7 +52,7 @@ idle-once p a zero low high = absurd (omega arith)
 idle-once p a (suc n) low high = ⊎_elim
     (λ e. let x = times-hit p (a, idle) (idle_from (a + 1) n) e in let y = idle-absent p (a + 1) n (omega arith) in omega arith)
     (λ lt. let x = times-miss p (a, idle) (idle_from (a + 1) n) (λ e. omega arith) in let y =
-        idle-once p (a + 1) n (omega arith) (omega arith) in omega arith) (first (cases_lt a p))
+    idle-once p (a + 1) n (omega arith) (omega arith) in omega arith) (first (cases_lt a p))
   where
     first : (a < p) ⊎ (p ≤ a) → (p ≡ a) ⊎ (a < p)
     first (inl lt) = inr lt
@@ -104,7 +104,7 @@ room (x ∷ xs) low high le h within =
     let bottom = here.0 in
     let top = here.1 in
     let rest = room xs (x.0 + 1) high (omega arith) h.1
-        (λ p q t. let lt = above-has x.0 xs p q h.0 t in (omega arith, (within p q (inr t)).1)) in
+    (λ p q t. let lt = above-has x.0 xs p q h.0 t in (omega arith, (within p q (inr t)).1)) in
     omega arith
 
 collected : (i : ℕ) (l : List Numbered) (processes : List Process) → Rises l → length l ≡ length processes
@@ -118,7 +118,7 @@ collected i (x ∷ xs) (r ∷ ps) h long at =
     let within = slice_get_within (r ∷ ps) (x.0 - i) x.1 here.1 in
     let after : (p : ℕ) (q : Process) → Has (p, q) xs → (x.0 + 1 ≤ p) × (p < i + length (r ∷ ps)) =
     λ p q t. let lt = above-has x.0 xs p q h.0 t in let inside =
-        slice_get_within (r ∷ ps) (p - i) q (at p q (inr t)).1 in (omega arith, omega arith) in
+    slice_get_within (r ∷ ps) (p - i) q (at p q (inr t)).1 in (omega arith, omega arith) in
     let few = room xs (x.0 + 1) (i + length (r ∷ ps)) (omega arith) h.1 after in
     let is : x.0 ≡ i = omega arith in
     let none : x.0 - i ≡ 0 = omega arith in
@@ -142,7 +142,7 @@ numbered i (suc n) (x ∷ xs) h long within =
     let few = room xs (x.0 + 1) (i + suc n) (omega arith) h.1 after in
     let is : x.0 ≡ i = omega arith in
     let rest = numbered (i + 1) n xs h.1 (omega arith)
-        (λ p q t. let a = after p q t in let from = a.0 in let to = a.1 in (omega arith, omega arith)) in
+    (λ p q t. let a = after p q t in let from = a.0 in let to = a.1 in (omega arith, omega arith)) in
     ap (λ z. z ∷ numbers_of xs) is ∙ ap (λ zs. i ∷ zs) rest
 
 module _ (setup : Setup) (limits : IsSetup setup) where
@@ -159,12 +159,12 @@ module _ (setup : Setup) (limits : IsSetup setup) where
       let numbers = numbered 0 setup.processes v.view.processes (r.rising id v seen.1) all
       (λ p q t. let below = shown-below setup s.words s.views r id v seen.1 p q t in (omega arith, omega arith)) in
       let its = owned (begun_plan setup.shape setup.variant r.processes)
-          (given-plan setup limits s.words r.processes r.given) r.given.schedule
+      (given-plan setup limits s.words r.processes r.given) r.given.schedule
       (record { words = s.words; processes = r.processes }) r.given.gives in
       let plan = subst (λ l. IsPlan (begun_plan setup.shape setup.variant l)) (sym same)
-          (given-plan setup limits s.words r.processes r.given) in
+      (given-plan setup limits s.words r.processes r.given) in
       let gives = subst (λ l. Gives (begun_plan setup.shape setup.variant l)
-          (opened (begun_plan setup.shape setup.variant l)) r.given.schedule
+      (opened (begun_plan setup.shape setup.variant l)) r.given.schedule
       (record { words = s.words; processes = l })) (sym same) r.given.gives in
       record {
         words = s.words;
@@ -176,8 +176,12 @@ module _ (setup : Setup) (limits : IsSetup setup) where
         own = own-events setup s.words v.view r.processes same many numbers (λ p q t. (r.shows id v seen.1 p q t).1) its;
         run = λ few. record {
           within = plan;
-          start_within = record { rising = AllPairs-nil (λ (a b : ℕ × ℕ). a.0 < b.0); calls = All-nil _; few = omega
-              (arith, plan.few_calls) };
+          start_within = record {
+            rising = AllPairs-nil (λ (a b : ℕ × ℕ). a.0 < b.0);
+            calls = All-nil _;
+            few = omega
+                (arith, plan.few_calls);
+          };
           starts = no-start setup.shape setup.variant;
           gives = gives;
           few_steps = few;

@@ -125,8 +125,12 @@ module _ (setup : Setup) where
         sum-lengths [] = refl
         sum-lengths (x ∷ xs) =
             let r = sum-lengths xs in
-            omega (arith, sum_by-cons (λ (script : List Call). length script) (begun x) (map begun xs), sum_by-cons
-                (λ q. length (begun q)) x xs)
+            omega (
+              arith,
+              sum_by-cons (λ (script : List Call). length script) (begun x) (map begun xs),
+              sum_by-cons
+                  (λ q. length (begun q)) x xs,
+            )
 
         total-few : sum (map (λ script. length script) (map begun processes)) ≤ 4096
         total-few =
@@ -139,6 +143,6 @@ module _ (setup : Setup) where
     pub given-clocked : IsClocked (record { words = words; processes = processes })
     given-clocked =
         clocks-are-ahead (begun_plan setup.shape setup.variant processes) (opening setup.shape) g.schedule
-            (record { words = words; processes = processes })
+        (record { words = words; processes = processes })
         given-plan (opening-length setup.shape)
-            (start-clock setup.shape setup.variant [] (opening setup.shape) (no-start setup.shape setup.variant)) g.gives
+        (start-clock setup.shape setup.variant [] (opening setup.shape) (no-start setup.shape setup.variant)) g.gives

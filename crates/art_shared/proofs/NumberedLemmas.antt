@@ -146,4 +146,4 @@ rises-merge l (x ∷ xs) h once =
     let self = times-hit x.0 x xs refl in
     let both = times-merge x.0 l xs in
     rises-placed x (merge l xs) (omega arith) (rises-merge l xs h (λ p q t. let a = once p q (inr t) in let more = times-more p x
-        xs in omega arith))
+    xs in omega arith))

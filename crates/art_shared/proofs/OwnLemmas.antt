@@ -5,7 +5,7 @@ use Rattle.std.proofs.Common.{eq-eqb, ne_eqb, replicate}
 use Rattle.std.specs.Prelude.{Option, Some, None, All, slice_get, slice_index, slice_set, flat_map}
 use Rattle.std.specs.List.{range_with_len}
 use Rattle.std.proofs.lemmas.List.{length-set, map-set, map-append, append-nil}
-use Rattle.std.proofs.lemmas.List.Elements.{All-nil, All-cons, All-head, All-tail, All-push, filter-append}
+use Rattle.std.proofs.lemmas.List.Elements.{All-nil, All-head, All-tail, All-push, filter-append}
 use Rattle.std.proofs.lemmas.Option.{slice_get_within, same_Some, none-some}
 use Rattle.events.specs.declared.event.Event.{Event}
 use Rattle.events.specs.declared.event.Event.TheVariants.{Invoke, Answer}
@@ -28,6 +28,7 @@ use Rattle.art_shared.specs.declared.view.View.{View}
 use Rattle.art_shared.specs.Views.{Numbered, numbers_of}
 use Rattle.art_shared.specs.Rule.{Has}
 use Rattle.art_shared.specs.Ends.{state_of, HasOwnEvents}
+use Rattle.art_shared.proofs.StepLemmas.{all-has}
 
 abbrev logs_of : List Process → List (List Stamped)
 logs_of ps = map (λ q. q.log) ps
@@ -75,7 +76,7 @@ module _ (ps : List Process) (p : ℕ) (q q' : Process) (here : slice_get ps p �
     known = subst (λ n. All (λ e. process_of e < n) (logged (slice_set ps p q'))) (sym (length-set ps p q'))
         (subst (All (λ e. process_of e < length ps)) (sym more)
         (All-push (λ e. process_of e < length ps) (logged ps) e o.known
-            (let within = slice_get_within ps p q here in omega (arith, its, within))));
+        (let within = slice_get_within ps p q here in omega (arith, its, within))));
   }
     where
       more : logged (slice_set ps p q') ≡ logged ps ++ e ∷ []
@@ -129,7 +130,7 @@ module _ (plan : Plan) (within : IsPlan plan) where
       go (Some next) f l later =
           let m = is-moved plan first p next f in
           let further = run-on-append plan (Some (opened plan)) earlier (p ∷ [])
-              ∙ (ap (λ o. run_on plan o (p ∷ [])) given ∙ ap (λ o. run_on plan o []) f) in
+          ∙ (ap (λ o. run_on plan o (p ∷ [])) given ∙ ap (λ o. run_on plan o []) f) in
           later next further l
           (subst (λ s. AreOwned s.processes) (sym m.is) (owned-move first p m.process m.move m.here (clocked earlier first given) o))
 
@@ -148,10 +149,6 @@ module _ (plan : Plan) (within : IsPlan plan) where
 
 -- A view that has all processes shows it.
 
-each-had : (P : Numbered → Type 0) (l : List Numbered) → ((x : Numbered) → Has x l → P x) → All P l
-each-had P [] h = All-nil P
-each-had P (x ∷ xs) h = All-cons P x xs (h x (inl refl)) (each-had P xs (λ y t. h y (inr t)))
-
 pub own-events : (setup : Setup) (words : List ℕ) (v : View) (ps : List Process) → map (λ (x : Numbered). x.1) v.processes ≡ ps
     → length ps ≡ setup.processes → numbers_of v.processes ≡ range_with_len 0 setup.processes
     → ((p : ℕ) (q : Process) → Has (p, q) v.processes → slice_get ps p ≡ Some q) → AreOwned ps
@@ -161,7 +158,7 @@ own-events setup words v ps same many numbers at o =
     let logs : history_of (state_of words v) ≡ logged ps = ap logged same in
     record {
       numbers = numbers;
-      each = each-had (λ x. events_of x.0 (history_of (state_of words v)) ≡ map (λ (e : Stamped). e.1) x.1.log) v.processes
+      each = all-has (λ x. events_of x.0 (history_of (state_of words v)) ≡ map (λ (e : Stamped). e.1) x.1.log) v.processes
           (λ x t. ap (events_of x.0) logs ∙ o.each x.0 x.1 (at x.0 x.1 t));
       known = subst (All (λ e. process_of e < setup.processes)) (sym logs)
           (subst (λ n. All (λ e. process_of e < n) (logged ps)) many o.known);

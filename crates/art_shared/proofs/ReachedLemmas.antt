@@ -40,14 +40,14 @@ module _ (setup : Setup) (words : List ℕ) (views : List Noted) (r : IsReached 
   reached-noted asked =
       let w : Noted = noted v.view asked in
       let old : (j : ℕ) (u : Noted) → get_elem? (set views id w) j ≡ some u → (k : ℕ) × (o : Noted) × (get_elem? views k ≡ some o)
-          × (o.view ≡ u.view) =
+      × (o.view ≡ u.view) =
       λ j u e. ⊎_elim (λ t. (id, v, at, ap (λ z. z.view) t.1)) (λ t. (j, u, t.1, refl)) (at_set views id j w u e) in
       record {
         processes = r.processes;
         given = r.given;
         shows = λ j u e p q h. let o = old j u e in
             subst (λ z. (z.setup ≡ setup) × (slice_get r.processes p ≡ Some q)) o.3
-                (r.shows o.0 o.1 o.2 p q (subst (λ z. Has (p, q) z.processes) (sym o.3) h));
+            (r.shows o.0 o.1 o.2 p q (subst (λ z. Has (p, q) z.processes) (sym o.3) h));
         once = λ p lt. let t = sum-set (times_in p) views id v w at in let one = r.once p lt in omega arith;
         rising = λ j u e. let o = old j u e in subst (λ z. Rises z.processes) o.3 (r.rising o.0 o.1 o.2);
       }

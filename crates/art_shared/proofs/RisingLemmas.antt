@@ -22,7 +22,7 @@ idle-above : (b a n : ℕ) → b ≤ a → All (λ (x : Numbered). b ≤ x.0) (m
 idle-above b a zero le = All-nil (λ (x : Numbered). b ≤ x.0)
 idle-above b a (suc n) le =
     All-cons (λ (x : Numbered). b ≤ x.0) (a, idle) (map (λ p. (p, idle)) (range_with_len (a + 1) n)) le
-        (idle-above b (a + 1) n (omega arith))
+    (idle-above b (a + 1) n (omega arith))
 
 idle-rises : (a n : ℕ) → AllPairs NotAbove (map (λ p. (p, idle)) (range_with_len a n))
 idle-rises a zero = AllPairs-nil NotAbove
@@ -71,7 +71,7 @@ placed-rises x (y ∷ ys) h = go (nat_lt x.0 y.0) refl (placed-rises x ys (AllPa
         let lt = ltb-true x.0 y.0 e in
         let here : x.0 ≤ y.0 = omega arith in
         AllPairs-cons NotAbove x (y ∷ ys) (All-cons (NotAbove x) y ys here (All-weaker (NotAbove y) (NotAbove x)
-            (λ z le. omega arith) ys later)) h
+        (λ z le. omega arith) ys later)) h
     go false e r = AllPairs-cons NotAbove y (placed x ys) (all-placed (NotAbove y) x ys (ltb-false x.0 y.0 e) later) r
 
 merge-rises : (l m : List Numbered) → AllPairs NotAbove l → AllPairs NotAbove (merge l m)

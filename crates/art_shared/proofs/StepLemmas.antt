@@ -36,7 +36,7 @@ use Rattle.art_shared.specs.Rule.{InvokesAsked, kept_part, given_part, both_part
 use Rattle.art_shared.proofs.GivenLemmas.{MayBegin, given-move, given-clocked}
 use Rattle.art_shared.proofs.ReachedLemmas.{reached-noted, reached-split, reached-join, reached-step, first-there}
 
-all-has : (P : Numbered → Type 0) (l : List Numbered) → ((x : Numbered) → Has x l → P x) → All P l
+pub all-has : (P : Numbered → Type 0) (l : List Numbered) → ((x : Numbered) → Has x l → P x) → All P l
 all-has P [] each = All-nil P
 all-has P (x ∷ xs) each = All-cons P x xs (each x (inl refl)) (all-has P xs (λ y h. each y (inr h)))
 
@@ -125,7 +125,7 @@ pub access-inside : (setup : Setup) → IsSetup setup → (v : View) → v.setup
 access-inside setup limits v same a next words =
     let root : 1 ≤ v.setup.shape.rows256 = subst (λ z. 1 ≤ z.shape.rows256) (sym same) limits.shape.root in
     let here : word_of a < table_words setup.shape =
-        subst (λ z. word_of a < table_words z.shape) same (inside-in v.setup (Makes a) root v.processes next).1 in
+    subst (λ z. word_of a < table_words z.shape) same (inside-in v.setup (Makes a) root v.processes next).1 in
     subst (λ k. word_of a < k) (sym words) here
 
 pub either-if : (b : Bool) (x y : ℕ) → either b x y ≡ (if b then x else y)

@@ -1,4 +1,4 @@
-//! The words, and what places do on them.
+// The words, and what places do on them.
 ghost use Rattle.std.specs.Prelude.{◌≡◌, ◌<◌, ◌≤◌, length, IfOk, IsTrue, Some};
 ghost use Rattle.art_rows.specs.Table.{table_words};
 ghost use Rattle.art_shared.specs.Setups.{IsSetup};

@@ -1,3 +1,4 @@
+// Places of one core, one after another on one thread.
 use crate::{Setup, SharedCore};
 use art_rows::Shape;
 use art_steps::{Access, TreeCall, Variant};

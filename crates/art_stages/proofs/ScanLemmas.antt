@@ -71,7 +71,7 @@ checks_step c lo hi again [] pairs rest l o = refl
 checks_step c lo hi again (n ∷ rows) pairs rest l o =
     ap (λ b. release_rest b c n (record { rows = rows; pairs = pairs; way = [] }) again ends rest) l
     ∙ ap (λ b. ((if b then give tt else check (row_at n)) >> (each (map row_at rows) (check_of c) >> give (reply.Pairs pairs))) again
-        ends rest) (sym o)
+    ends rest) (sym o)
 
 close_step : (c : Setting) (lo hi : ℕ) (again : Rest) (w : Walk) (rest : List ℕ)
     → left c lo hi again (close_at c w) rest ≡ close c (walked w) again ends rest
@@ -80,9 +80,9 @@ close_step c lo hi again w rest = go (locks c.variant) (leaves_out_check c.varia
   where
     go : (l o : Bool) → locks c.variant ≡ l → leaves_out_check c.variant c.call ≡ o
         → left c lo hi again (if l then release_rows w.rows w.pairs else if o then release_rows [] w.pairs else release_rows
-            w.rows w.pairs) rest
+        w.rows w.pairs) rest
         ≡ ((if l then unlock_all (map row_at w.rows) else each (map row_at w.rows) (check_of c)) >> give
-            (reply.Pairs w.pairs)) again ends rest
+        (reply.Pairs w.pairs)) again ends rest
     go true o e f = release_step c lo hi again w.rows w.pairs rest e
     go false true e f = no_checks (map row_at w.rows) (give (reply.Pairs w.pairs)) again rest
         ∙ ap (λ b. (each (map row_at w.rows) (λ n. if b then give tt else check n) >> give (reply.Pairs w.pairs)) again ends rest) (sym f)
@@ -102,21 +102,21 @@ bytes_step : (c : Setting) (lo hi : ℕ) (again : Rest) (test : ℕ → Bool) (s
     → ((rest : List ℕ) → left c lo hi again other rest ≡ after w again ends rest)
     → ((x n slot : ℕ) (rest : List ℕ)
     → left c lo hi again (child x n slot) rest ≡ (walk_slot c lo hi (walk_on c lo hi) slot w >>= λ v. over (some x n) part v >>=
-        after) again ends rest)
+    after) again ends rest)
     → (x n : ℕ) (rest : List ℕ) → left c lo hi again (bytes_at test slot_of child x n other) rest ≡ (over (some x n) part w >>=
-        after) again ends rest
+    after) again ends rest
 bytes_step c lo hi again test slot_of child some part w after other none more same on next x zero rest =
     on rest ∙ ap (λ xs. (over xs part w >>= after) again ends rest) (sym (none x))
 bytes_step c lo hi again test slot_of child some part w after other none more same on next x (suc n) rest =
     go (test x) (slot_of x) (same x) (bytes_step c lo hi again test slot_of child some part w after other none more same on
-        next (x + 1) n rest)
+    next (x + 1) n rest)
     ∙ ap (λ xs. (over xs part w >>= after) again ends rest) (sym (more x n))
   where
     go : (b : Bool) (o : Option ℕ) → part x w ≡ walk_option c lo hi o w
         → left c lo hi again (bytes_at test slot_of child (x + 1) n other) rest ≡ (over (some (x + 1) n) part w >>= after) again ends rest
         → left c lo hi again
         (if b then slot_at o (child (x + 1) n) (bytes_at test slot_of child (x + 1) n other) else bytes_at test slot_of child
-            (x + 1) n other) rest
+        (x + 1) n other) rest
         ≡ (over (if b then x ∷ some (x + 1) n else some (x + 1) n) part w >>= after) again ends rest
     go false o e h = h
     go true None e h = h ∙ ap (λ (p : Part Walked). (p >>= λ v. over (some (x + 1) n) part v >>= after) again ends rest) (sym e)
@@ -133,13 +133,13 @@ unfolding walk_index
 words_step c lo hi again base info kept w other j zero rest on = on rest
 words_step c lo hi again base info kept w other j (suc m) rest on =
     go (filter (in_word j) (bytes_of lo hi (row_at (held base FortyEight info kept)))) refl
-        (words_step c lo hi again base info kept w other (j + 1) m rest on)
+    (words_step c lo hi again base info kept w other (j + 1) m rest on)
   where
     go : (xs : List ℕ) → filter (in_word j) (bytes_of lo hi (row_at (held base FortyEight info kept))) ≡ xs
         → left c lo hi again (words_at lo hi (held base FortyEight info kept) w (j + 1) m other) rest ≡
         (words_rest c lo hi (held base FortyEight info kept) (j + 1) m (walked w) >>= scan_rest c lo hi w.way) again ends rest
         → left c lo hi again (index_at_list (held base FortyEight info kept) w j m xs (words_at lo hi (held base FortyEight info kept) w
-            (j + 1) m other)) rest
+        (j + 1) m other)) rest
         ≡ (walk_index c lo hi (walk_on c lo hi) (row_at (held base FortyEight info kept)) j xs (walked w) >>= λ v. words_rest c lo hi
         (held base FortyEight info kept) (j + 1) m v >>= scan_rest c lo hi w.way) again ends rest
     go [] e h = h
@@ -224,7 +224,7 @@ frame_step : (c : Setting) (lo hi : ℕ) (again : Rest) (base : ℕ) (kind : Kin
 unfolding walk_slot
 frame_step c lo hi again base Four info kept keys byte n index words w other rest on =
     bytes_step c lo hi again (lies lo hi (frame base Four info kept keys byte n index words))
-        (λ x. place_slot Four base (place_of x (keys_among Four keys)))
+    (λ x. place_slot Four base (place_of x (keys_among Four keys)))
     (child_from w (frame base Four info kept keys byte n index words))
     (λ x n. filter (lies lo hi (frame base Four info kept keys byte n index words)) (numbers x n))
     (λ x. walk_place c lo hi (walk_on c lo hi) (row_at (held base Four info kept)) (place_of x (keys_among Four keys))) (walked w)
@@ -234,7 +234,7 @@ frame_step c lo hi again base Four info kept keys byte n index words w other res
 frame_step c lo hi again base Sixteen info kept keys byte n index words w other rest on =
     bytes_step c lo hi again (lies lo hi (frame base Sixteen info kept keys byte n index words))
     (λ x. place_slot Sixteen base (place_of x (keys_among Sixteen keys)))
-        (child_from w (frame base Sixteen info kept keys byte n index words))
+    (child_from w (frame base Sixteen info kept keys byte n index words))
     (λ x n. filter (lies lo hi (frame base Sixteen info kept keys byte n index words)) (numbers x n))
     (λ x. walk_place c lo hi (walk_on c lo hi) (row_at (held base Sixteen info kept)) (place_of x (keys_among Sixteen keys))) (walked w)
     (scan_rest c lo hi w.way) other
@@ -243,10 +243,10 @@ frame_step c lo hi again base Sixteen info kept keys byte n index words w other 
 frame_step c lo hi again base FortyEight info kept keys byte n index words w other rest on =
     bytes_step c lo hi again (word_test lo hi (frame base FortyEight info kept keys byte n index words))
     (entry_slot (frame base FortyEight info kept keys byte n index words))
-        (child_from w (frame base FortyEight info kept keys byte n index words))
+    (child_from w (frame base FortyEight info kept keys byte n index words))
     (λ x n. filter (in_word index) (filter (lies lo hi (frame base FortyEight info kept keys byte n index words)) (numbers x n)))
     (λ y. walk_entry c lo hi (walk_on c lo hi) (row_at (held base FortyEight info kept))
-        (slice_index (entries_of keys.first) (y % 8))) (walked w)
+    (slice_index (entries_of keys.first) (y % 8))) (walked w)
     (λ v. words_rest c lo hi (held base FortyEight info kept) (index + 1) words v >>= scan_rest c lo hi w.way)
     (words_at lo hi (held base FortyEight info kept) w (index + 1) words other)
     (λ x. refl) (λ x n. both (lies lo hi (frame base FortyEight info kept keys byte n index words)) (in_word index) x (numbers (x + 1) n))
@@ -264,7 +264,7 @@ way_step : (c : Setting) (lo hi : ℕ) (again : Rest) (w : Walk) (fs : List Fram
 way_step c lo hi again w [] rest = close_step c lo hi again w rest
 way_step c lo hi again w (f ∷ fs) rest =
     frame_step c lo hi again f.row.base f.row.kind f.row.info f.row.kept f.keys f.byte f.left f.index f.words (on_way w fs)
-        (way_at c lo hi w fs) rest
+    (way_at c lo hi w fs) rest
     (λ rest. way_step c lo hi again w fs rest)
 
 resume_step : (c : Setting) (lo hi : ℕ) (again : Rest) (w : Walk) (rest : List ℕ)
@@ -280,20 +280,20 @@ begins_step : (c : Setting) (lo hi : ℕ) (again : Rest) (base : ℕ) (kind : Ki
 unfolding walk_in walk_keys
 begins_step c lo hi again base Four info kept w xs rest e =
     ap (λ ys. (walk_in c lo hi (walk_on c lo hi) Four (row_at (held base Four info kept)) ys (walked w) >>= scan_rest c lo hi w.way)
-        again ends rest) e
+    again ends rest) e
 begins_step c lo hi again base Sixteen info kept w xs rest e =
     ap (λ ys. (walk_in c lo hi (walk_on c lo hi) Sixteen (row_at (held base Sixteen info kept)) ys (walked w) >>= scan_rest c lo hi w.way)
-        again ends rest) e
+    again ends rest) e
 begins_step c lo hi again base FortyEight info kept w xs rest e =
     words_step c lo hi again base info kept w (resume_at c lo hi w) 0 32 rest (λ rest. way_step c lo hi again w w.way rest)
     ∙ ap (λ ys.
     (walk_in c lo hi (walk_on c lo hi) FortyEight (row_at (held base FortyEight info kept)) ys (walked w) >>= scan_rest c lo hi w.way)
-        again ends rest) e
+    again ends rest) e
 begins_step c lo hi again base Full info kept w xs rest e =
     frame_step c lo hi again base Full info kept (keys_one 0) 0 256 0 0 w (resume_at c lo hi w) rest
-        (λ rest. way_step c lo hi again w w.way rest)
+    (λ rest. way_step c lo hi again w w.way rest)
     ∙ ap (λ ys. (walk_in c lo hi (walk_on c lo hi) Full (row_at (held base Full info kept)) ys (walked w) >>= scan_rest c lo hi w.way)
-        again ends rest) e
+    again ends rest) e
 
 list_step : (c : Setting) (lo hi : ℕ) (again : Rest) (n : Held) (w : Walk) (xs : List ℕ) (rest : List ℕ) → bytes_of lo hi (row_at n) ≡ xs
     → left c lo hi again (visit_list c lo hi n w xs) rest ≡
@@ -316,15 +316,15 @@ visit_step c lo hi again n w rest =
   where
     go : (b : Bool)
         → (walk_on c lo hi (row_at n) (walked (if b then w else record { rows = w.rows ++ n ∷ []; pairs = w.pairs; way = w.way }))
-            >>= scan_rest c lo hi
+        >>= scan_rest c lo hi
         (if b then w else record { rows = w.rows ++ n ∷ []; pairs = w.pairs; way = w.way }).way) again ends rest
         ≡ (walk_on c lo hi (row_at n)
         (if b then walked w else record { rows = map row_at w.rows ++ row_at n ∷ []; pairs = w.pairs }) >>= scan_rest c lo hi
-            w.way) again ends rest
+        w.way) again ends rest
     go true = refl
     go false =
         ap (λ rows. (walk_on c lo hi (row_at n) (record { rows = rows; pairs = w.pairs }) >>= scan_rest c lo hi w.way) again ends rest)
-            (map_snoc w.rows n)
+        (map_snoc w.rows n)
 
 entry_step : (c : Setting) (lo hi : ℕ) (again : Rest) (entry : Entry) (w : Walk) (v : ℕ) (rest : List ℕ)
     → left c lo hi again (entry_at c lo hi entry w v) rest ≡ entry_rest c lo hi entry w v again ends rest
@@ -344,7 +344,7 @@ enter_step c lo hi again entry w rest = go (locks c.variant)
 -- a leaf counts or not
 leaf_same : (lo hi key value : ℕ) (w : Walk)
     → walked (record { rows = w.rows; pairs = (with_leaf lo hi key value (walked w)).pairs; way = w.way }) ≡ with_leaf lo hi
-        key value (walked w)
+    key value (walked w)
 leaf_same lo hi key value w = go (nat_le lo key && nat_le key hi && nat_lt (length w.pairs) pair_limit)
   where
     go : (b : Bool)
@@ -375,7 +375,7 @@ Starts c lo hi again = (rest : List ℕ) → left c lo hi again (scan_start c) r
 
 lock_step : (c : Setting) (lo hi : ℕ) (again : Rest) (entry : Entry) (w : Walk) (word : ℕ) (rest : List ℕ)
     → left c lo hi again (if is_locked word then at (Lock entry false) w else at (Exchange entry word) w) rest ≡ lock_again
-        (entry_base c entry) again
+    (entry_base c entry) again
     (λ v. entry_rest c lo hi entry w v again ends) (word ∷ rest)
 unfolding lock_turn
 lock_step c lo hi again entry w word rest =
@@ -384,14 +384,14 @@ lock_step c lo hi again entry w word rest =
     go : (b : Bool) → left c lo hi again (if b then at (Lock entry false) w else at (Exchange entry word) w) rest
         ≡ (if b then lock_again (entry_base c entry) else
         (swap (entry_base c entry) word (locked_word word) >>= λ was. if was == word then give word else lock_again
-            (entry_base c entry))) again
+        (entry_base c entry))) again
         (λ v. entry_rest c lo hi entry w v again ends) rest
     go true = refl
     go false = refl
 
 exchange_step : (c : Setting) (lo hi : ℕ) (again : Rest) (entry : Entry) (w : Walk) (v word : ℕ) (rest : List ℕ)
     → left c lo hi again (if word == v then entry_at c lo hi entry w v else at (Lock entry false) w) rest ≡ left c lo hi again
-        (at (Exchange entry v) w)
+    (at (Exchange entry v) w)
     (word ∷ rest)
 exchange_step c lo hi again entry w v word rest = go (word == v)
   where
@@ -406,18 +406,18 @@ wait_step : (c : Setting) (lo hi : ℕ) (again : Rest) (starts : Starts c lo hi 
 unfolding wait_turn
 wait_step c lo hi again starts entry w word rest =
     go (is_locked word) (is_obsolete word) ∙ sym (wait-body (entry_base c entry) again (λ v. entry_rest c lo hi entry w v again
-        ends) (word ∷ rest))
+    ends) (word ∷ rest))
   where
     go : (b d : Bool) → left c lo hi again (if b then at (Wait entry) w else if d then scan_start c else entry_at c lo hi entry w word) rest
         ≡ (if b then wait (entry_base c entry) else (if d then start_again else give word)) again
-            (λ v. entry_rest c lo hi entry w v again ends) rest
+        (λ v. entry_rest c lo hi entry w v again ends) rest
     go true d = refl
     go false true = starts rest
     go false false = entry_step c lo hi again entry w word rest
 
 keys_step : (c : Setting) (lo hi : ℕ) (again : Rest) (base : ℕ) (kind : Kind) (info kept : ℕ) (w : Walk) (word : ℕ) (rest : List ℕ)
     → left c lo hi again (keys_after_word kind c lo hi (held base kind info kept) w word) rest ≡ left c lo hi again
-        (at (Keys (held base kind info kept)) w)
+    (at (Keys (held base kind info kept)) w)
     (word ∷ rest)
 keys_step c lo hi again base Four info kept w word rest =
     resume_step c lo hi again (with_frame w (frame_of (held base Four info kept) (keys_one word) 0 0)) rest
@@ -442,11 +442,11 @@ release_rest_step c lo hi again starts n w word false rest e =
     go : (b : Bool)
         → left c lo hi again (if b then close_at c w else scan_start c) rest ≡
         ((if b then give {A = Unit {0}} tt else start_again) >>
-            (each (map row_at w.rows) (check_of c) >> give (reply.Pairs w.pairs))) again ends rest
+        (each (map row_at w.rows) (check_of c) >> give (reply.Pairs w.pairs))) again ends rest
     go true =
         close_step c lo hi again w rest
         ∙ ap (λ b. ((if b then unlock_all (map row_at w.rows) else each (map row_at w.rows) (check_of c)) >> give (reply.Pairs w.pairs))
-            again ends rest) e
+        again ends rest) e
     go false = starts rest
 
 every_step : (c : Setting) (lo hi : ℕ) (again : Rest) (starts : Starts c lo hi again) (step : ScanStep) (w : Walk)

@@ -1,5 +1,6 @@
 -- One step of each stage: what is left behind a word is what is left at the next stage.
 use Rattle.std.proofs.Common.{◌≡◌, ℕ, zero, suc, ◌+◌, ◌-◌, ◌*◌, List, [], ◌∷◌, refl, ap, sym, ◌∙◌, Bool, true, false}
+use Rattle.std.proofs.lemmas.Bool.{false≢true}
 use Rattle.std.specs.Prelude.{if◌then◌else◌, ◌==◌, nat_lt, nat_le, slice_index, Option, Some, None}
 use Rattle.events.specs.declared.event.Call.{Call}
 use Rattle.events.specs.declared.event.Call.TheVariants.{Get, Insert, Remove, Scan, Replace}
@@ -69,6 +70,7 @@ use Rattle.art_stages.specs.Automaton.{indexed_at, find_at}
 use Rattle.art_stages.specs.Automaton.{arrived_at, entered_at, below_at, pair_after, put_keys_after, copies_at, spreads_at, entries_at}
 use Rattle.art_stages.specs.Automaton.{fill_at, leaf_after}
 use Rattle.art_stages.specs.Automaton.{keys_at_after, after_with, stage_after}
+use Rattle.art_stages.proofs.TurnLemmas.{growing_of}
 
 -- what is left at a stage, where the call starts again so
 abbrev pub left : Bool → Bool → Bool → Setting → Rest → Stage → Rest
@@ -77,9 +79,6 @@ left l i e c again stage = part_of l i e c stage again ends
 -- a call that starts again is at its first stage
 abbrev pub Begins : Bool → Bool → Bool → Setting → Rest → Type 0
 Begins l i e c again = (rest : List ℕ) → left l i e c again (start_at l) rest ≡ again rest
-
-false_true : false ≡ true → ⊥
-false_true e = cc
 
 -- Releases
 
@@ -132,14 +131,14 @@ work_step l i e c again h (work.Grow slot keys) rest = refl
 
 take_step : (l i e : Bool) (c : Setting) (again : Rest) (t : Taking) (rest : List ℕ)
     → left l i e c again (take_at c t) rest ≡ (take_row c (rows_at t.held) (row_at t.row) >>= taken c t.held t.below t.work
-        t.row.kind) again ends rest
+    t.row.kind) again ends rest
 unfolding part_of take_row
 take_step l i e c again t rest = go (takes_unchecked c.variant)
   where
     go : (b : Bool) → left l i e c again (if b then Lock (Taken t) true else Take t) rest
         ≡ ((if b then (lock c.shape t.row.base >>= λ v. give (record (row_at t.row) { kept = v }))
         else (first_at (lock_point c.shape t.row.base) (swap t.row.base t.row.kept (locked_word t.row.kept)) >>= λ was. if was ==
-            t.row.kept then give
+        t.row.kept then give
         (row_at t.row) else (unlock_all (rows_at t.held) >> start_again)))
         >>= taken c t.held t.below t.work t.row.kind) again ends rest
     go true = refl
@@ -154,14 +153,14 @@ taken_step l i e c again above (Some m) k n rest = take_step l i e c again (reco
 
 overwrite_step : (c : Setting) (again : Rest) (n : Held) (slot value : ℕ) (o : Option ℕ) (e : Bool) (rest : List ℕ)
     → left true false e c again (overwrite_at n slot value o)
-        rest ≡ (coupled.overwrite slot o >> unlock (row_at n) >> give (reply.Some value)) again ends rest
+    rest ≡ (coupled.overwrite slot o >> unlock (row_at n) >> give (reply.Some value)) again ends rest
 unfolding part_of unlock_all
 overwrite_step c again n slot value None e rest = refl
 overwrite_step c again n slot value (Some word) e rest = refl
 
 seek_coupled_step : (e : Bool) (c : Setting) (again : Rest) (n : Held) (f : Finding) (rest : List ℕ) → releases_early c.variant ≡ e
     → left true false e c again (seek_coupled e c n f) rest ≡ coupled.seek_at c (coupled.seek_from c) (row_at n)
-        (found_of n.kind f) again ends rest
+    (found_of n.kind f) again ends rest
 unfolding part_of coupled.seek_at coupled.step_down unlock_all
 seek_coupled_step e c again n (seen.Lacks keys) rest early = refl
 seek_coupled_step e c again n (seen.Has slot Empty) rest early = refl
@@ -194,7 +193,7 @@ insert_coupled_step e c again n slot (seen.Lacks keys) rest room = go (is_full (
     go : (b : Bool) → (if b then false else true) ≡ true → left true true e c again (insert_coupled c n (seen.Lacks keys)) rest
         ≡ (if b then (grow c [] slot (row_at n) (keys_in n.kind keys) (count_in n.kind keys) >> give reply.None)
         else (put c (row_at n) (keys_in n.kind keys) (count_in n.kind keys) >> (unlock (row_at n) >> give reply.None))) again ends rest
-    go true h = absurd (false_true h)
+    go true h = absurd (false≢true h)
     go false h = work_step true true e c again (hold_alone n) (work.Put keys) rest
 insert_coupled_step e c again n slot (seen.Has s Empty) rest room = refl
 insert_coupled_step e c again n slot (seen.Has s (Leaf key value)) rest room = go (key == key_of c.call)
@@ -202,7 +201,7 @@ insert_coupled_step e c again n slot (seen.Has s (Leaf key value)) rest room = g
     go : (b : Bool)
         → left true true e c again
         (if b then Write (hold_alone n) s (child_word (new_leaf c.call)) (Some value) else work_at c (hold_alone n)
-            (pair_work c s key value)) rest
+        (pair_work c s key value)) rest
         ≡ ((if b then (store_child s (new_leaf c.call) >> give (reply.Some value))
         else (pair_in c (row_at n ∷ []) s (keys_differ_at key (key_of c.call))
         (record { byte = slice_index (key_bytes key) (keys_differ_at key (key_of c.call)); child = Leaf key value }) >> give reply.None))
@@ -226,7 +225,7 @@ unlocked_first : (c : Setting) (again : Rest) (n : Held) (above : Option Held) (
     → (unlock_all (rows_at above) >> coupled.insert_at c (coupled.insert_from c) (record { row = row_at n; above = []; slot = slot })
     (found_of n.kind f)) again ends rest
     ≡ coupled.insert_at c (coupled.insert_from c) (record { row = row_at n; above = rows_at above; slot = slot })
-        (found_of n.kind f) again ends rest
+    (found_of n.kind f) again ends rest
 unfolding coupled.insert_at unlock_all
 unlocked_first c again n above slot (seen.Lacks keys) rest room = go (is_full (row_at n) (count_in n.kind keys)) room
   where
@@ -238,7 +237,7 @@ unlocked_first c again n above slot (seen.Lacks keys) rest room = go (is_full (r
         (if b then (grow c [] slot (row_at n) (keys_in n.kind keys) (count_in n.kind keys) >> give reply.None) else after)) again ends rest
         ≡ (if b then (grow c (rows_at above) slot (row_at n) (keys_in n.kind keys) (count_in n.kind keys) >> give reply.None) else
         (each (rows_at above) unlock >> after)) again ends rest
-    go true h = absurd (false_true h)
+    go true h = absurd (false≢true h)
     go false h = refl
 unlocked_first c again n above slot (seen.Has s Empty) rest room = refl
 unlocked_first c again n above slot (seen.Has s (Leaf key value)) rest room = refl
@@ -252,25 +251,25 @@ unfolding part_of coupled.insert_at
 place_lacks e c again p keys rest true full =
     ap (λ b. left true true e c again
     (if b then ClaimGrow (record { row = p.row; above = p.above }) p.slot keys else let_go_at c p.row p.above p.slot
-        (seen.Lacks keys)) rest) full
+    (seen.Lacks keys)) rest) full
     ∙ ap (λ b. (if b then (grow c (rows_at p.above) p.slot (row_at p.row) (keys_in p.row.kind keys) (count_in p.row.kind keys)
-        >> give reply.None)
+    >> give reply.None)
     else (unlock_all (rows_at p.above) >>
     (put c (row_at p.row) (keys_in p.row.kind keys) (count_in p.row.kind keys) >> (unlock (row_at p.row) >> give reply.None)))) again
-        ends rest) (sym full)
+    ends rest) (sym full)
 place_lacks e c again p keys rest false full =
     ap (λ b. left true true e c again
     (if b then ClaimGrow (record { row = p.row; above = p.above }) p.slot keys else let_go_at c p.row p.above p.slot
-        (seen.Lacks keys)) rest) full
+    (seen.Lacks keys)) rest) full
     ∙ let_go_step e c again p.row p.above p.slot (seen.Lacks keys) rest (ap (λ b. if b then false else true) full)
     ∙ unlocked_first c again p.row p.above p.slot (seen.Lacks keys) rest (ap (λ b. if b then false else true) full)
 
 place_coupled_step : (e : Bool) (c : Setting) (again : Rest) (p : Position) (f : Finding) (rest : List ℕ)
     → left true true e c again (place_coupled c p f) rest ≡ coupled.insert_at c (coupled.insert_from c) (place_at p)
-        (found_of p.row.kind f) again ends rest
+    (found_of p.row.kind f) again ends rest
 place_coupled_step e c again p (seen.Has slot child) rest =
     let_go_step e c again p.row p.above p.slot (seen.Has slot child) rest refl
-        ∙ unlocked_first c again p.row p.above p.slot (seen.Has slot child) rest refl
+    ∙ unlocked_first c again p.row p.above p.slot (seen.Has slot child) rest refl
 place_coupled_step e c again p (seen.Lacks keys) rest =
     place_lacks e c again p keys rest (is_full (row_at p.row) (count_in p.row.kind keys)) refl
 
@@ -285,7 +284,7 @@ overwrite_unlocked_step e c again n slot value (Some word) rest =
 
 seek_unlocked_step : (e : Bool) (c : Setting) (again : Rest) (n : Held) (f : Finding) (rest : List ℕ)
     → left false false e c again (seek_unlocked c n f) rest ≡ optimistic.seek_at c (optimistic.seek_from c) (row_at n)
-        (found_of n.kind f) again ends rest
+    (found_of n.kind f) again ends rest
 unfolding part_of optimistic.seek_at optimistic.step_down
 seek_unlocked_step e c again n (seen.Lacks keys) rest = refl
 seek_unlocked_step e c again n (seen.Has slot Empty) rest = refl
@@ -294,7 +293,7 @@ seek_unlocked_step e c again n (seen.Has slot (Leaf key value)) rest = go (key =
     go : (b : Bool) → left false false e c again (if b then overwrite_unlocked c n slot value
         (overwriting c.call value) else Over no_value) rest
         ≡ (if b then (optimistic.overwrite c (row_at n) slot (overwriting c.call value) >> give (reply.Some value)) else give
-            reply.None) again ends rest
+        reply.None) again ends rest
     go true = overwrite_unlocked_step e c again n slot value (overwriting c.call value) rest
     go false = refl
 seek_unlocked_step e c again n (seen.Has slot (ChildRow base kind)) rest = refl
@@ -323,7 +322,7 @@ insert_unlocked_step e c again begins p (seen.Lacks keys) rest = go (is_full (ro
         (work.Put keys)) rest
         ≡ (if b then
         (optimistic.take_above c (rows_at p.above) >>= λ held. take_row c held (row_at p.row) >>= λ m. grow c held p.slot m
-            (keys_in p.row.kind keys)
+        (keys_in p.row.kind keys)
         (count_in p.row.kind keys) >> give reply.None)
         else (take_row c [] (row_at p.row) >>= λ m. put c m (keys_in p.row.kind keys) (count_in p.row.kind keys) >>
         (unlock m >> give reply.None))) again ends rest
@@ -342,7 +341,7 @@ insert_unlocked_step e c again begins p (seen.Has slot (Leaf key value)) rest =
     go : (b d : Bool)
         → left false true e c again
         (if b then take_alone c p.row (leaf_work c slot (Some value)) else if d then Wait Root else take_alone c p.row
-            (pair_work c slot key value)) rest
+        (pair_work c slot key value)) rest
         ≡ (if b then leaf b else (if d then start_again else leaf b)) again ends rest
     go true d = take_alone_step e c again p.row (leaf_work c slot (Some value)) rest
     go false true = begins rest
@@ -420,10 +419,10 @@ indexed_step l i e c again begins base info kept above slot w entry rest early =
     go : (b d : Bool)
         → left l i e c again
         (if b then (if d then FindCount p w else checked_at l i e c p (seen.Lacks (keys_one w))) else Slot p
-            (child_at FortyEight base (entry - 1))) rest
+        (child_at FortyEight base (entry - 1))) rest
         ≡ ((if b then
         (if d then (load (count_at FortyEight base) >>= λ count. give (Lacks (entries_of w) (count_of 48 count))) else give
-            (Lacks (entries_of w) 0))
+        (Lacks (entries_of w) 0))
         else find_child c (child_at FortyEight base (entry - 1))) >>= checked_then l i c (place_at p)) again ends rest
     go true true = refl
     go true false = checked_step l i e c again begins p (seen.Lacks (keys_one w)) rest early
@@ -443,7 +442,7 @@ find_step l i e c again begins base FortyEight info kept above slot w rest early
     indexed_step l i e c again begins base info kept above slot w _ rest early
 find_step l i e c again begins base Full info kept above slot w rest early =
     checked_step l i e c again begins (record { row = held base Full info kept; above = above; slot = slot })
-        (seen.Has _ (child_of c.shape w)) rest early
+    (seen.Has _ (child_of c.shape w)) rest early
 
 -- the law of the descents
 descend-body : (l i : Bool) (c : Setting) (again : Rest) (p : Position) (rest : List ℕ)
@@ -502,7 +501,7 @@ below_step false true e c again begins d m (Some x) rest = go (nat_le x (row_at 
     go : (b : Bool) → left false true e c again (if b then Wait Root else take_alone c d.above (beside_work d.slot m x)) rest
         ≡ (if b then start_again else
         (take_row c [] (row_at d.above) >>= λ held. insert_beside c (held ∷ []) d.slot (row_at m) x >>= λ r. unlock held >> give
-            r)) again ends rest
+        r)) again ends rest
     go true = begins rest
     go false = take_alone_step e c again d.above (beside_work d.slot m x) rest
 
@@ -510,7 +509,7 @@ below_step false true e c again begins d m (Some x) rest = go (nat_le x (row_at 
 
 lock_step : (l i e : Bool) (c : Setting) (again : Rest) (t : Target) (w : ℕ) (rest : List ℕ)
     → left l i e c again (if is_locked w then Lock t false else Exchange t w) rest ≡ lock_again (target_base c t) again
-        (λ v. entered l i e c t v again ends)
+    (λ v. entered l i e c t v again ends)
     (w ∷ rest)
 unfolding part_of lock_turn
 lock_step l i e c again t w rest = go (is_locked w)
@@ -535,7 +534,7 @@ exchange_step l i e c again t v w rest = go (w == v)
 
 wait_step : (l i e : Bool) (c : Setting) (again : Rest) (begins : Begins l i e c again) (t : Target) (w : ℕ) (rest : List ℕ)
     → left l i e c again (if is_locked w then Wait t else if is_obsolete w then start_at l else entered_at l i e c t w) rest ≡ left l i
-        e c again (Wait t)
+    e c again (Wait t)
     (w ∷ rest)
 unfolding part_of wait_turn
 wait_step l i e c again begins t w rest =
@@ -549,14 +548,14 @@ wait_step l i e c again begins t w rest =
 
 taken_by : (l i e : Bool) (c : Setting) (again : Rest) (begins : Begins l i e c again) (t : Taking) (w : ℕ) (rest : List ℕ)
     → left l i e c again (if w == t.row.kept then taken_at c t.held t.below t.work t.row else release_at l t.held None) rest ≡ left l i
-        e c again (Take t)
+    e c again (Take t)
     (w ∷ rest)
 unfolding part_of unlock_all
 taken_by l i e c again begins t w rest = go (w == t.row.kept)
   where
     go : (b : Bool) → left l i e c again (if b then taken_at c t.held t.below t.work t.row else release_at l t.held None) rest
         ≡ ((if b then give (row_at t.row) else (unlock_all (rows_at t.held) >> start_again)) >>= taken c t.held t.below t.work
-            t.row.kind) again ends rest
+        t.row.kind) again ends rest
     go true = taken_step l i e c again t.held t.below t.work t.row rest
     go false = release_step l i e c again begins t.held None rest
 
@@ -612,23 +611,28 @@ put_keys_step l i e c again begins base Sixteen info kept above keys w rest = re
 put_keys_step l i e c again begins base FortyEight info kept above keys w rest = refl
 put_keys_step l i e c again begins base Full info kept above keys w rest = release_step l i e c again begins above (Some no_value) rest
 
-abbrev growing_of : ℕ → Kind → ℕ → ℕ → Option Held → ℕ → Keys → ℕ → Growing
-growing_of old kind info kept above slot keys base =
-    record { hold = record { row = held old kind info kept; above = above }; slot = slot; keys = keys; base = base }
-
 claim_grow_step : (l i e : Bool) (c : Setting) (again : Rest) (old : ℕ) (kind : Kind) (info kept : ℕ) (above : Option Held) (slot : ℕ)
     (keys : Keys) (w : ℕ)
     (b : Bool) (rest : List ℕ)
     → left l i e c again (if b
     then GrowInfo
-    (record { hold = record { row = held old kind info kept; above = above }; slot = slot; keys = keys; base =
-        base_of c.shape (next_kind kind) w })
+    (record {
+      hold = record { row = held old kind info kept; above = above };
+      slot = slot;
+      keys = keys;
+      base =
+          base_of c.shape (next_kind kind) w;
+    })
     else Unlock (record { row = held old kind info kept; above = above }) (Some Refused)) rest
     ≡ ((if b then give (base_of c.shape (next_kind kind) w) else (unlock_all (row_of old kind info kept ∷ rows_at above) >>
-        answer reply.Refused))
+    answer reply.Refused))
     >>= λ base. part_of l i e c
-    (GrowInfo (record { hold = record { row = held old kind info kept; above = above }; slot = slot; keys = keys; base = base
-        }))) again ends rest
+    (GrowInfo (record {
+      hold = record { row = held old kind info kept; above = above };
+      slot = slot;
+      keys = keys;
+      base = base;
+    }))) again ends rest
 unfolding part_of
 claim_grow_step l i e c again old kind info kept above slot keys w true rest = refl
 claim_grow_step l i e c again old kind info kept above slot keys w false rest = refl
@@ -670,7 +674,7 @@ entries_step l i e c again s x (suc n) rest = go (slice_index (entries_of s.word
     go : (b : Bool) → left l i e c again (entries_at s (x + 1) n) rest ≡ spread_rest c s (x + 1) n again ends rest
         → left l i e c again (if b then entries_at s (x + 1) n else SpreadLoad s x n) rest
         ≡ ((if b then give {A = Unit {0}} tt else copy_child c
-            (child_at FortyEight s.growing.hold.row.base (slice_index (entries_of s.word) x - 1))
+        (child_at FortyEight s.growing.hold.row.base (slice_index (entries_of s.word) x - 1))
         (child_at Full s.growing.base (8 * s.place + x)))
         >> spread_rest c s (x + 1) n) again ends rest
     go true on = on
@@ -817,7 +821,7 @@ procedure_step false e c again (Replace k old new) rest locked s =
     ap (λ b. (if b then coupled.seek c else optimistic.seek c) again ends rest) (sym locked)
 procedure_step false e c again (Insert k v) rest locked s =
     ap (λ b. (if b then coupled.insert c else optimistic.insert c) again ends rest) (sym locked)
-procedure_step l e c again (Scan lo hi) rest locked s = absurd (false_true (sym s))
+procedure_step l e c again (Scan lo hi) rest locked s = absurd (false≢true (sym s))
 
 -- A call on a key that has made no access is at its first stage.
 pub begins : (c : Setting) (rest : List ℕ) → is_scan c.call ≡ false
@@ -833,4 +837,4 @@ pub goes_on : (c : Setting) (stage : Stage) (w : ℕ) (rest : List ℕ) → is_s
 unfolding rest_in
 goes_on c stage w rest s =
     step (locks c.variant) (is_insert c.call) (releases_early c.variant) c (act c.shape c.variant c.call)
-        (λ rest. begins c rest s) stage w rest refl
+    (λ rest. begins c rest s) stage w rest refl

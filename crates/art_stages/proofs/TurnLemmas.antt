@@ -37,7 +37,7 @@ between_next false i e c d kept again = refl
 
 find_next : (c : Setting) (base : ℕ) (kind : Kind) (info kept : ℕ) (above : Option Held) (slot : ℕ)
     → rest_in c (Find (record { row = held base kind info kept; above = above; slot = slot })) [] ≡ find_turn kind c
-        (held base kind info kept)
+    (held base kind info kept)
 unfolding rest_in part_of find find_in
 find_next c base Four info kept above slot = refl
 find_next c base Sixteen info kept above slot = refl
@@ -61,7 +61,7 @@ put_keys_next c base Sixteen info kept above keys = refl
 put_keys_next c base FortyEight info kept above keys = refl
 put_keys_next c base Full info kept above keys = refl
 
-abbrev growing_of : ℕ → Kind → ℕ → ℕ → Option Held → ℕ → Keys → ℕ → Growing
+abbrev pub growing_of : ℕ → Kind → ℕ → ℕ → Option Held → ℕ → Keys → ℕ → Growing
 growing_of old kind info kept above slot keys base =
     record { hold = record { row = held old kind info kept; above = above }; slot = slot; keys = keys; base = base }
 
@@ -82,7 +82,7 @@ grow_keys_next c old Full info kept above slot keys base j left = refl
 
 grow_leaf_next : (c : Setting) (old : ℕ) (kind : Kind) (info kept : ℕ) (above : Option Held) (slot : ℕ) (keys : Keys) (base : ℕ)
     → rest_in c (GrowLeaf (growing_of old kind info kept above slot keys base)) [] ≡ grow_leaf_turn kind c
-        (growing_of old kind info kept above slot keys base)
+    (growing_of old kind info kept above slot keys base)
 unfolding rest_in part_of
 grow_leaf_next c old Four info kept above slot keys base = refl
 grow_leaf_next c old Sixteen info kept above slot keys base = refl
@@ -91,7 +91,7 @@ grow_leaf_next c old Full info kept above slot keys base = refl
 
 grow_count_next : (c : Setting) (old : ℕ) (kind : Kind) (info kept : ℕ) (above : Option Held) (slot : ℕ) (keys : Keys) (base : ℕ)
     → rest_in c (GrowCount (growing_of old kind info kept above slot keys base)) [] ≡ grow_count_turn kind
-        (growing_of old kind info kept above slot keys base)
+    (growing_of old kind info kept above slot keys base)
 unfolding rest_in part_of
 grow_count_next c old Four info kept above slot keys base = refl
 grow_count_next c old Sixteen info kept above slot keys base = refl

@@ -84,7 +84,7 @@ put_keys_turn Four c h keys = store_of (keys_at h.row.base) (keys4_word (keys_af
 put_keys_turn Sixteen c h keys = store_of (keys_at h.row.base) (keys16_word (keys_after c h keys))
 put_keys_turn FortyEight c h keys =
     store_of (index_at h.row.base (byte_in c h.row))
-        (entries_word (set (keys_before h keys) (byte_in c h.row % 8) (count_in FortyEight keys + 1)))
+    (entries_word (set (keys_before h keys) (byte_in c h.row % 8) (count_in FortyEight keys + 1)))
 put_keys_turn Full c h keys = unlock_of h.row
 
 abbrev pub grow_keys_turn : Kind → Setting → Growing → ℕ → Turn
@@ -93,7 +93,7 @@ grow_keys_turn Four c g j =
     else store_of (more_keys_at g.base) (more_keys16_word (keys_after c g.hold g.keys))
 grow_keys_turn kind c g j =
     store_of (index_at g.base (8 * j)) (entries_word (map (new_entry (keys_before g.hold g.keys ++ byte_in c g.hold.row ∷ []))
-        (numbers (8 * j) 8)))
+    (numbers (8 * j) 8)))
 
 abbrev pub grow_leaf_turn : Kind → Setting → Growing → Turn
 grow_leaf_turn Four c g = store_of (child_at Sixteen g.base (place_in c g.hold g.keys)) (child_word (new_leaf c.call))
@@ -275,7 +275,7 @@ grow_unlocked c n (Some above) slot keys = take_at c (record { row = above; held
 abbrev pub insert_unlocked : Setting → Position → Finding → Stage
 insert_unlocked c p (Lacks keys) =
     if is_full (row_at p.row) (count_in p.row.kind keys) then grow_unlocked c p.row p.above p.slot keys else take_alone c
-        p.row (work.Put keys)
+    p.row (work.Put keys)
 insert_unlocked c p (Has slot Empty) = take_alone c p.row (leaf_work c slot None)
 insert_unlocked c p (Has slot (Leaf key value)) =
     if key == key_of c.call then take_alone c p.row (leaf_work c slot (Some value))

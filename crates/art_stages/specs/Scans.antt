@@ -78,7 +78,7 @@ frame_rest Full c lo hi f w = over (filter (lies lo hi f) (numbers f.byte f.left
     (child_at Full f.row.base x)) w
 frame_rest kind c lo hi f w =
     over (filter (lies lo hi f) (numbers f.byte f.left))
-        (λ x. walk_place c lo hi (walk_on c lo hi) (row_at f.row) (place_of x (keys_among kind f.keys))) w
+    (λ x. walk_place c lo hi (walk_on c lo hi) (row_at f.row) (place_of x (keys_among kind f.keys))) w
 
 -- of the way,
 abbrev pub way_rest : Setting → ℕ → ℕ → List Frame → Walked → Part Walked
@@ -226,7 +226,7 @@ abbrev pub bytes_at : (ℕ → Bool) → (ℕ → Option ℕ) → (ℕ → ℕ �
 bytes_at test slot_of child x zero other = other
 bytes_at test slot_of child x (suc n) other =
     if test x then slot_at (slot_of x) (child (x + 1) n) (bytes_at test slot_of child (x + 1) n other) else bytes_at test slot_of
-        child (x + 1) n other
+    child (x + 1) n other
 
 -- the next index word that holds one of the bytes
 abbrev pub index_at_list : Held → Walk → ℕ → ℕ → List ℕ → ScanAt → ScanAt
@@ -249,8 +249,15 @@ place_slot kind base None = None
 place_slot kind base (Some i) = Some (child_at kind base i)
 
 abbrev pub child_from : Walk → Frame → ℕ → ℕ → ℕ → ScanAt
-child_from w f x n slot = at (LoadChild (record { row = f.row; keys = f.keys; byte = x; left = n; index = f.index; words =
-    f.words }) slot) w
+child_from w f x n slot = at (LoadChild (record {
+  row = f.row;
+  keys = f.keys;
+  byte = x;
+  left = n;
+  index = f.index;
+  words =
+      f.words;
+}) slot) w
 
 abbrev pub word_test : ℕ → ℕ → Frame → ℕ → Bool
 word_test lo hi f x = lies lo hi f x && in_word f.index x
@@ -262,7 +269,7 @@ frame_at FortyEight lo hi w f other =
 frame_at Full lo hi w f other = bytes_at (lies lo hi f) (λ x. Some (child_at Full f.row.base x)) (child_from w f) f.byte f.left other
 frame_at kind lo hi w f other =
     bytes_at (lies lo hi f) (λ x. place_slot f.row.kind f.row.base (place_of x (keys_among kind f.keys))) (child_from w f)
-        f.byte f.left other
+    f.byte f.left other
 
 abbrev pub way_at : Setting → ℕ → ℕ → Walk → List Frame → ScanAt
 way_at c lo hi w [] = close_at c w

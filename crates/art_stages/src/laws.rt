@@ -16,12 +16,14 @@ pub fn stages_ask()
 
 /// What is left of a call on a key behind a word is what is left at the next stage.
 pub fn stages_go_on()
-    ensures { (c : Setting) (stage : Stage) (word : ℕ) (rest : List ℕ) → is_scan c.call ≡ false → rest_in c (stage_after c stage word) rest ≡ rest_in c stage (word ∷ rest) }
+    ensures { (c : Setting) (stage : Stage) (word : ℕ) (rest : List ℕ) → is_scan c.call ≡ false
+        → rest_in c (stage_after c stage word) rest ≡ rest_in c stage (word ∷ rest) }
 {}
 
 /// The same of a scan.
 pub fn scans_go_on()
-    ensures { (c : Setting) (low high : ℕ) (scan : ScanAt) (word : ℕ) (rest : List ℕ) → c.call ≡ Scan low high → scan_in c low high (scan_after c low high scan word) rest ≡ scan_in c low high scan (word ∷ rest) }
+    ensures { (c : Setting) (low high : ℕ) (scan : ScanAt) (word : ℕ) (rest : List ℕ) → c.call ≡ Scan low high
+        → scan_in c low high (scan_after c low high scan word) rest ≡ scan_in c low high scan (word ∷ rest) }
 {}
 
 /// Every list of words got leaves every call of every variant at a stage, and what is left there is what the call does next.

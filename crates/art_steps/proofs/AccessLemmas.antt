@@ -3,7 +3,7 @@ use Rattle.std.proofs.Common.{◌≡◌, ℕ, ◌+◌, ◌-◌, ◌*◌, ◌/◌
 use Rattle.std.proofs.Common.{true, false}
 use Rattle.std.specs.Prelude.{min, ◌==◌, ◌&&◌, nat_lt, nat_le, slice_index, Option, Some, None, filter, if◌then◌else◌}
 use Rattle.std.proofs.lemmas.List.{length-append}
-use Rattle.std.proofs.lemmas.Bool.{false≢true}
+use Rattle.std.proofs.lemmas.Bool.{false≢true, ltb-true}
 use Rattle.events.specs.declared.event.Call.{Call}
 use Rattle.events.specs.declared.event.Call.TheVariants.{Get, Insert, Remove, Scan, Replace}
 use Rattle.events.specs.declared.event.Reply.{Reply}
@@ -71,7 +71,7 @@ pub lock-within : (s : Shape) (base : ℕ) → Inside s base → Within s Any (l
 unfolding lock lock_again
 lock-within s base h = first_at-within (lock_point s base) (repeat-within s Any
     (λ self. load base >>= λ v. if is_locked v then self else (exchange base v (locked_word v) >>= λ was. if was ==
-        v then give v else self))
+    v then give v else self))
     (λ self k. bind-within (load-within s base h) λ v _. if-within (is_locked v) (λ _. k)
     (λ _. bind-within (exchange-within s base v (locked_word v) h) λ was _. if-within (was == v) (λ _. give-within s Any v tt) (λ _. k))))
 
@@ -109,7 +109,7 @@ unfolding take_row
 take_row-within c held n hs h = if-within (takes_unchecked c.variant)
     (λ _. bind-within (lock-within c.shape n.base (in-base h)) λ v _. give-within c.shape (IsRow c.shape) (record n { kept = v }) h)
     (λ _. bind-within (first_at-within (lock_point c.shape n.base) (exchange-within c.shape n.base n.kept (locked_word n.kept)
-        (in-base h))) λ was _.
+    (in-base h))) λ was _.
     if-within (was == n.kept) (λ _. give-within c.shape (IsRow c.shape) n h)
     (λ _. then-within (unlock_all-within c.shape held hs) (again-within c.shape (IsRow c.shape))))
 
@@ -160,7 +160,7 @@ find_in-within c base Sixteen level path kept x lx h =
     bind-within (load-within c.shape (keys_at base) (omega (arith, h.begins, h.fits))) λ a _.
     bind-within (load-within c.shape (more_keys_at base) (omega (arith, h.begins, h.fits))) λ b _.
     find_among-within c (row base Sixteen level path kept) (keys16_of count a b) (place_of x (keys16_of count a b)) h
-        (refl, keys16-few count a b)
+    (refl, keys16-few count a b)
     (λ i e. omega (arith, (place-within x (keys16_of count a b) i e).0, keys16-few count a b))
 find_in-within c base FortyEight level path kept x lx h =
     bind-within (load-within c.shape (index_at base x) (omega (arith, h.begins, h.fits, lx))) λ w _. indexed w
@@ -180,7 +180,7 @@ find_in-within c base FortyEight level path kept x lx h =
         less n l e = grind arith
 find_in-within c base Full level path kept x lx h =
     bind-within (load-within c.shape (child_at Full base x) (omega (arith, h.begins, h.fits, lx))) λ w _. give-within c.shape
-        (IsGoodFound c.shape Full) _
+    (IsGoodFound c.shape Full) _
     (omega (arith, h.begins, h.fits, lx), child_of-good c.shape w)
 
 pub find-within : (c : Setting) (n : Row) → IsRow c.shape n → Within c.shape (IsGoodFound c.shape n.kind) (find c n)
@@ -192,12 +192,10 @@ pub claim-within : (c : Setting) (held : List Row) (kind : Kind) → 5 ≤ table
 unfolding claim
 claim-within c held kind few hs = bind-within (add-within c.shape (claims_of kind) (small kind)) λ number _. if-within
     (nat_lt number (rows_of c.shape kind))
-    (λ e. give-within c.shape (λ base. IsIn c.shape base kind) _ (base_of-fits c.shape kind number (below number (rows_of c.shape kind) e)))
+    (λ e. give-within c.shape (λ base. IsIn c.shape base kind) _
+    (base_of-fits c.shape kind number (ltb-true number (rows_of c.shape kind) e)))
     (λ _. then-within (unlock_all-within c.shape held hs) (answer-within c.shape (λ base. IsIn c.shape base kind) _ (omega arith)))
   where
-    below : (a b : ℕ) → nat_lt a b ≡ true → a < b
-    below a b e = grind arith
-
     small : (kind : Kind) → Inside c.shape (claims_of kind)
     small Four = omega (arith, few)
     small Sixteen = omega (arith, few)
@@ -231,7 +229,7 @@ make_room-within : (c : Setting) (n : Row) (i count : ℕ) → IsRow c.shape n �
 unfolding make_room
 make_room-within c n i count h le lt = each-within c.shape (λ j. j < i + (count - i)) _
     (λ j l. copy_child-within c _ _ (in-child h j (omega (arith, l, le, lt))) (in-child h (j + 1) (omega (arith, l, le, lt))))
-        (numbers_down i (count - i))
+    (numbers_down i (count - i))
     (numbers_down-each i (count - i))
 
 pub not_full : (a b : ℕ) → (a == b) ≡ false → a ≤ b → a < b
@@ -281,7 +279,7 @@ spread_entry-within : (c : Setting) (n : Row) (base j : ℕ) (es : List ℕ) (i 
 unfolding spread_entry
 spread_entry-within c n base j es i h hb lj les li = if-within (slice_index es i == 0) (λ _. give-within c.shape Any tt tt)
     (λ e. copy_child-within c _ _ (in-child h (slice_index es i - 1) (less (slice_index es i) (les i) e))
-        (in-child hb (8 * j + i) (omega arith)))
+    (in-child hb (8 * j + i) (omega arith)))
   where
     less : (n : ℕ) → n ≤ 48 → (n == 0) ≡ false → n - 1 < 48
     less n l e = grind arith
@@ -310,7 +308,7 @@ fill-within c old Four level path kept base x keys count lx h hb g =
     then-within
     (each-within c.shape (λ i. i < 0 + count) _
     (λ i li. copy_child-within c _ _ (in-child h i (omega arith))
-        (in-child hb _ (shifted i (new_place x keys) (omega arith)))) (numbers 0 count)
+    (in-child hb _ (shifted i (new_place x keys) (omega arith)))) (numbers 0 count)
     (numbers-each 0 count))
     (then-within (store-within c.shape _ _ (in-child hb (new_place x keys) (omega arith)))
     (then-within (store-within c.shape (keys_at base) _ (omega (arith, hb.begins, hb.fits)))
@@ -331,7 +329,7 @@ fill-within c old Sixteen level path kept base x keys count lx h hb g =
     (then-within (store-within c.shape _ _ (in-child hb 16 (omega arith)))
     (then-within
     (each-within c.shape (λ j. j < 32) (store_index base (keys ++ x ∷ []))
-        (λ j lj. store_index-within c base (keys ++ x ∷ []) j hb lj) (numbers 0 32)
+    (λ j lj. store_index-within c base (keys ++ x ∷ []) j hb lj) (numbers 0 32)
     (numbers-each 0 32))
     (store-within c.shape (count_at FortyEight base) _ (omega (arith, hb.begins, hb.fits)))))
 fill-within c old FortyEight level path kept base x keys count lx h hb g =
@@ -349,7 +347,7 @@ unfolding grow row
 grow-within c above slot n keys count few hs hl h g = bind-within (claim-within c (n ∷ above) (next_kind n.kind) few (h, hs)) λ base hb.
     then-within (store-within c.shape (info_at base) _ (in-info hb))
     (then-within (fill-within c n.base n.kind n.level n.path n.kept base (byte_at c n.level) keys count
-        (key_byte-small (key_of c.call) n.level) h hb g)
+    (key_byte-small (key_of c.call) n.level) h hb g)
     (then-within (store-within c.shape slot _ hl)
     (then-within (unlock_obsolete-within c.shape n h) (unlock_all-within c.shape above hs))))
 
@@ -433,20 +431,20 @@ insert_at-within : (c : Setting) (go : Place → Part Reply) → 5 ≤ table_wor
 unfolding coupled.insert_at
 insert_at-within c go few k p (Lacks keys count) h g = if-within (is_full p.row count)
     (λ _. then-within (grow-within c p.above p.slot p.row keys count few h.above h.slot h.row g)
-        (give-within c.shape IsSmall _ (omega arith)))
+    (give-within c.shape IsSmall _ (omega arith)))
     (λ f. then-within (unlock_all-within c.shape p.above h.above)
     (then-within (put-within c p.row keys count h.row g f)
-        (then-within (unlock-within c.shape p.row h.row) (give-within c.shape IsSmall _ (omega arith)))))
+    (then-within (unlock-within c.shape p.row h.row) (give-within c.shape IsSmall _ (omega arith)))))
 insert_at-within c go few k p (Has slot Empty) h g = then-within (unlock_all-within c.shape p.above h.above)
     (bind-within (insert_in-within c (p.row ∷ []) slot Empty few (h.row, tt) g.0) λ r hr. then-within (unlock-within c.shape p.row h.row)
     (give-within c.shape IsSmall r hr))
 insert_at-within c go few k p (Has slot (Leaf key value)) h g = then-within (unlock_all-within c.shape p.above h.above)
     (bind-within (insert_in-within c (p.row ∷ []) slot (Leaf key value) few (h.row, tt) g.0) λ r hr. then-within
-        (unlock-within c.shape p.row h.row)
+    (unlock-within c.shape p.row h.row)
     (give-within c.shape IsSmall r hr))
 insert_at-within c go few k p (Has slot (ChildRow base kind)) h g = then-within (unlock_all-within c.shape p.above h.above)
     (bind-within (lock_row c base kind g.1) λ v _. bind-within (load-within c.shape (info_at base) (in-info g.1)) λ info _. below
-        (row_of base kind info v)
+    (row_of base kind info v)
     (path_differs_at c (row_of base kind info v)) g.1)
   where
     below : (m : Row) (o : Option ℕ) → IsRow c.shape m → Within c.shape IsSmall (coupled.insert_below c go p.row slot m o)
@@ -504,7 +502,7 @@ unfolding optimistic.seek optimistic.seek_from
 seek_optimistic-within c r = bind-within (wait_row c (root_base c.shape) Full (root_in c r)) λ v _.
     recursive-within c.shape IsSmall (IsRow c.shape) (λ go n. find c n >>= λ found. check_of c n >> optimistic.seek_at c go n found)
     (λ go k n h. bind-within (find-within c n h) λ found g. then-within (check_of-within c n h)
-        (seek_at_optimistic-within c go k n found h g)) (root_row c v)
+    (seek_at_optimistic-within c go k n found h g)) (root_row c v)
     (root_in c r)
 
 insert_leaf-within : (c : Setting) (n : Row) (slot : ℕ) (child : Child) → 5 ≤ table_words c.shape → IsRow c.shape n → Inside c.shape slot
@@ -521,9 +519,9 @@ unfolding take_row
 take_row-same c held n hs h = if-within (takes_unchecked c.variant)
     (λ _. bind-within (lock-within c.shape n.base (in-base h)) λ v _. give-within c.shape _ (record n { kept = v }) (h, refl))
     (λ _. bind-within (first_at-within (lock_point c.shape n.base) (exchange-within c.shape n.base n.kept (locked_word n.kept)
-        (in-base h))) λ was _.
+    (in-base h))) λ was _.
     if-within (was == n.kept) (λ _. give-within c.shape _ n (h, refl))
-        (λ _. then-within (unlock_all-within c.shape held hs) (again-within c.shape _)))
+    (λ _. then-within (unlock_all-within c.shape held hs) (again-within c.shape _)))
 
 insert_at_optimistic-within : (c : Setting) (go : Place → Part Reply) → 5 ≤ table_words c.shape
     → ((p : Place) → IsPlace c.shape p → Within c.shape IsSmall (go p)) → (p : Place) (found : Found) → IsPlace c.shape p
@@ -541,7 +539,7 @@ insert_at_optimistic-within c go few k p (Lacks keys count) h g = if-within (is_
     (λ f. bind-within (take_row-same c [] p.row tt h.row) λ held hh.
     then-within
     (put-within c held keys count hh.0 (subst (λ k. IsGoodLacks k keys count) (sym hh.1) g)
-        (subst (λ k. (count == capacity k) ≡ false) (sym hh.1) f))
+    (subst (λ k. (count == capacity k) ≡ false) (sym hh.1) f))
     (then-within (unlock-within c.shape held hh.0) (give-within c.shape IsSmall _ (omega arith))))
 insert_at_optimistic-within c go few k p (Has slot Empty) h g = insert_leaf-within c p.row slot Empty few h.row g.0
 insert_at_optimistic-within c go few k p (Has slot (Leaf key value)) h g = if-within (key == key_of c.call)
@@ -555,7 +553,7 @@ insert_at_optimistic-within c go few k p (Has slot (ChildRow base kind)) h g =
     below m None hm = k _ (record { row = hm; above = (h.row, tt); slot = g.0 })
     below m (Some d) hm =
         if-within (nat_le d p.row.level) (λ _. again-within c.shape IsSmall)
-            (λ _. bind-within (take_row-within c [] p.row tt h.row) λ held hh.
+        (λ _. bind-within (take_row-within c [] p.row tt h.row) λ held hh.
         bind-within (insert_beside-within c (held ∷ []) slot m d few (hh, tt) g.0) λ r hr. then-within (unlock-within c.shape held hh)
         (give-within c.shape IsSmall r hr))
 
@@ -563,7 +561,7 @@ insert_optimistic-within : (c : Setting) → 1 ≤ c.shape.rows256 → Within c.
 unfolding optimistic.insert optimistic.insert_from
 insert_optimistic-within c r = bind-within (wait_row c (root_base c.shape) Full (root_in c r)) λ v _.
     recursive-within c.shape IsSmall (IsPlace c.shape)
-        (λ go p. find c p.row >>= λ found. check_of c p.row >> optimistic.insert_at c go p found)
+    (λ go p. find c p.row >>= λ found. check_of c p.row >> optimistic.insert_at c go p found)
     (λ go k p h. bind-within (find-within c p.row h.row) λ found g. then-within (check_of-within c p.row h.row)
     (insert_at_optimistic-within c go (few_in c r) k p found h g))
     (record { row = root_row c v; above = []; slot = root_base c.shape }) (root_place c v r)
@@ -578,7 +576,7 @@ filter-each P p (x ∷ xs) h = go (p x) (filter-each P p xs h.1)
     go true k = (h.0, k)
     go false k = k
 
-each-append : {A : Type 0} (P : A → Type 0) (xs : List A) (y : A) → Each P xs → P y → Each P (xs ++ y ∷ [])
+pub each-append : {A : Type 0} (P : A → Type 0) (xs : List A) (y : A) → Each P xs → P y → Each P (xs ++ y ∷ [])
 each-append P [] y h k = (k, tt)
 each-append P (x ∷ xs) y h k = (h.0, each-append P xs y h.1 k)
 
@@ -601,14 +599,11 @@ with_leaf-rows s lo hi key value w h = go (nat_le lo key && nat_le key hi && nat
     last true false c e = absurd (false≢true e)
     last false b c e = absurd (false≢true e)
 
-    less : (a b : ℕ) → nat_lt a b ≡ true → a < b
-    less a b e = grind arith
-
     go : (b : Bool) → (nat_le lo key && nat_le key hi && nat_lt (length w.pairs) pair_limit) ≡ b
         → IsWalk s (if b then record { rows = w.rows; pairs = w.pairs ++ (key, value) ∷ [] } else w)
     go true e =
         let room : length w.pairs < pair_limit =
-        less (length w.pairs) pair_limit (last (nat_le lo key) (nat_le key hi) (nat_lt (length w.pairs) pair_limit) e) in
+        ltb-true (length w.pairs) pair_limit (last (nat_le lo key) (nat_le key hi) (nat_lt (length w.pairs) pair_limit) e) in
         record { rows = h.rows; few = omega (arith, length-append w.pairs ((key, value) ∷ []), room) }
     go false e = h
 
@@ -643,7 +638,7 @@ module _ (c : Setting) (lo hi : ℕ) (walk : Row → Walked → Part Walked)
   unfolding walk_keys
   walk_keys-within n keys xs w hn l h = over-within c.shape Any (IsWalk c.shape) _
       (λ x v _ hv. walk_place-within n (place_of x keys) v hn (λ i e. omega (arith, (place-within x keys i e).0, l)) hv)
-          xs (anything xs) w h
+      xs (anything xs) w h
     where
       anything : (xs : List ℕ) → Each Any xs
       anything [] = tt
@@ -654,7 +649,7 @@ module _ (c : Setting) (lo hi : ℕ) (walk : Row → Walked → Part Walked)
   unfolding walk_entry
   walk_entry-within n base e w eb hn l h = if-within (e == 0) (λ _. give-within c.shape (IsWalk c.shape) w h)
       (λ f. walk_slot-within _ w (subst (λ b. Inside c.shape (child_at FortyEight b (e - 1))) (sym eb)
-          (in-child hn (e - 1) (less e l f))) h)
+      (in-child hn (e - 1) (less e l f))) h)
     where
       less : (n : ℕ) → n ≤ 48 → (n == 0) ≡ false → n - 1 < 48
       less n l e = grind arith
@@ -666,10 +661,10 @@ module _ (c : Setting) (lo hi : ℕ) (walk : Row → Walked → Part Walked)
   walk_index-within n base j [] w eb hn l h = give-within c.shape (IsWalk c.shape) w h
   walk_index-within n base j (x ∷ xs) w eb hn l h =
       bind-within (load-within c.shape (index_at n.base (8 * j))
-          (subst (λ b. Inside c.shape (index_at b (8 * j))) (sym eb) (index-in hn j l))) λ es _.
+      (subst (λ b. Inside c.shape (index_at b (8 * j))) (sym eb) (index-in hn j l))) λ es _.
       over-within c.shape Any (IsWalk c.shape) _
       (λ y v _ hv. walk_entry-within n base (slice_index (entries_of es) (y % 8)) v eb hn (entries-most es (y % 8)) hv) (x ∷ xs)
-          (anything (x ∷ xs)) w h
+      (anything (x ∷ xs)) w h
     where
       anything : (xs : List ℕ) → Each Any xs
       anything [] = tt
@@ -691,7 +686,7 @@ module _ (c : Setting) (lo hi : ℕ) (walk : Row → Walked → Part Walked)
   walk_in-within base FortyEight level path kept xs w hn b h = over-within c.shape (λ j. j < 32) (IsWalk c.shape)
       (λ j. walk_index c lo hi walk (row base FortyEight level path kept) j (filter (λ x. x / 8 == j) xs))
       (λ j v lj hv. walk_index-within (row base FortyEight level path kept) base j (filter (λ x. x / 8 == j) xs) v refl hn lj
-          hv) (numbers 0 32)
+      hv) (numbers 0 32)
       (numbers-each 0 32) w h
   walk_in-within base Full level path kept xs w hn b h = over-within c.shape (λ x. x < 256) (IsWalk c.shape) _
       (λ x v lx hv. walk_slot-within (child_at Full base x) v (in-child hn x lx) hv) xs b w h
@@ -718,15 +713,21 @@ unfolding walk_from bytes
 walk_from-within c lo hi at h = recursive-within c.shape (IsWalk c.shape) (IsAt c.shape)
     (λ walk at. walk_bytes c lo hi (λ m w. walk (record { row = m; walked = w })) at.row (bytes_of lo hi at.row) at.walked)
     (λ walk k a ha. walk_bytes-within c lo hi (λ m w. walk (record { row = m; walked = w }))
-        (λ m w hm hw. k _ (record { row = hm; walked = hw })) a.row
+    (λ m w hm hw. k _ (record { row = hm; walked = hw })) a.row
     (bytes_of lo hi a.row) a.walked ha.row
     (filter-each (λ x. x < 256) (can_lie lo hi a.row) bytes bytes-each) ha.walked) at h
 
 pub scan-within : (c : Setting) (lo hi : ℕ) → 1 ≤ c.shape.rows256 → Within c.shape (λ pairs. length pairs ≤ pair_limit) (scan c lo hi)
 unfolding scan
 scan-within c lo hi r = bind-within (enter-within c (root_base c.shape) Full (root_in c r)) λ v _.
-    bind-within (walk_from-within c lo hi _ (record { row = root_in c r; walked = record { rows = (root_in c r, tt); few = omega
-        arith } })) λ w hw.
+    bind-within (walk_from-within c lo hi _ (record {
+      row = root_in c r;
+      walked = record {
+        rows = (root_in c r, tt);
+        few = omega
+            arith;
+      };
+    })) λ w hw.
     then-within
     (if-within (locks c.variant) (λ _. unlock_all-within c.shape w.rows hw.rows)
     (λ _. each-within c.shape (IsRow c.shape) (check_of c) (check_of-within c) w.rows hw.rows))
@@ -756,7 +757,7 @@ unfolding act
 act-stays shape variant call r =
     let c : Setting = record { shape = shape; variant = variant; call = call } in
     λ got a p e. parts (word_of a) (table_words shape)
-        ((from_start-stays shape (procedure c call) (procedure-within c call r)).at got a p e)
+    ((from_start-stays shape (procedure c call) (procedure-within c call r)).at got a p e)
   where
     parts : (word words : ℕ) → 0 < min word (words - word) → (0 < word) × (word < words)
     parts word words h = (omega (arith, h), omega (arith, h))

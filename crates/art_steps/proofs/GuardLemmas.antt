@@ -219,7 +219,7 @@ fill-keeps n Sixteen c r base x keys count =
     then-keeps (each-keeps n _ (λ i. copy_child-keeps n c _ _) (numbers 0 count))
     (then-keeps (store-keeps n _ _)
     (then-keeps (each-keeps n (store_index base (keys ++ x ∷ [])) (store_index-keeps n base (keys ++ x ∷ [])) (numbers 0 32))
-        (store-keeps n _ _)))
+    (store-keeps n _ _)))
 fill-keeps n FortyEight c r base x keys count =
     then-keeps (each-keeps n (spread_index c r base) (spread_index-keeps n c r base) (numbers 0 32)) (store-keeps n _ _)
 fill-keeps n Full c r base x keys count = give-keeps n tt
@@ -311,13 +311,13 @@ unfolding coupled.insert_at
 insert_at-keeps n c go go' k p (Lacks keys count) = if-keeps (is_full p.row count)
     (then-keeps (grow-keeps n c p.above p.slot p.row keys count) (give-keeps n _))
     (then-keeps (unlock_all-keeps n p.above) (then-keeps (put-keeps n c p.row keys count) (then-keeps (unlock-keeps n p.row)
-        (give-keeps n _))))
+    (give-keeps n _))))
 insert_at-keeps n c go go' k p (Has slot Empty) =
     then-keeps (unlock_all-keeps n p.above) (bind-keeps (insert_in-keeps n c _ slot Empty) λ r. then-keeps
-        (unlock-keeps n p.row) (give-keeps n _))
+    (unlock-keeps n p.row) (give-keeps n _))
 insert_at-keeps n c go go' k p (Has slot (Leaf key value)) =
     then-keeps (unlock_all-keeps n p.above) (bind-keeps (insert_in-keeps n c _ slot (Leaf key value)) λ r. then-keeps
-        (unlock-keeps n p.row) (give-keeps n _))
+    (unlock-keeps n p.row) (give-keeps n _))
 insert_at-keeps n c go go' k p (Has slot (ChildRow base kind)) =
     then-keeps (unlock_all-keeps n p.above) (bind-keeps (lock-keeps n c.shape base) λ v. bind-keeps (load-keeps n _) λ info.
     insert_below-keeps n c go go' k p.row slot (row_of base kind info v) (path_differs_at c (row_of base kind info v)))
@@ -409,14 +409,14 @@ insert_below_optimistic-keeps : (n : ℕ) (c : Setting) (go go' : Place → Part
 insert_below_optimistic-keeps n c go go' k r slot m None = k _
 insert_below_optimistic-keeps n c go go' k r slot m (Some d) = if-keeps (nat_le d r.level) (again-keeps n)
     (bind-keeps (take_row-keeps n c [] r) λ held. bind-keeps (insert_beside-keeps n c _ slot m d) λ reply. then-keeps
-        (unlock-keeps n held) (give-keeps n _))
+    (unlock-keeps n held) (give-keeps n _))
 
 insert_leaf-keeps : (n : ℕ) (c : Setting) (r : Row) (slot : ℕ) (child : Child)
     → Keeps n (optimistic.insert_leaf c r slot child) (optimistic.insert_leaf c r slot child)
 unfolding optimistic.insert_leaf
 insert_leaf-keeps n c r slot child =
     bind-keeps (take_row-keeps n c [] r) λ held. bind-keeps (insert_in-keeps n c _ slot child) λ reply. then-keeps
-        (unlock-keeps n held) (give-keeps n _)
+    (unlock-keeps n held) (give-keeps n _)
 
 insert_at_optimistic-keeps : (n : ℕ) (c : Setting) (go go' : Place → Part Reply) → ((p : Place) → Keeps n (go p) (go' p))
     → (p : Place) (found : Found)
@@ -426,14 +426,14 @@ insert_at_optimistic-keeps n c go go' k p (Lacks keys count) = if-keeps (is_full
     (bind-keeps (over-keeps n _ _ (λ q held. bind-keeps (take_row-keeps n c held q) λ h. give-keeps n _) p.above []) λ above.
     bind-keeps (take_row-keeps n c above p.row) λ held. then-keeps (grow-keeps n c above p.slot held keys count) (give-keeps n _))
     (bind-keeps (take_row-keeps n c [] p.row) λ held. then-keeps (put-keeps n c held keys count)
-        (then-keeps (unlock-keeps n held) (give-keeps n _)))
+    (then-keeps (unlock-keeps n held) (give-keeps n _)))
 insert_at_optimistic-keeps n c go go' k p (Has slot Empty) = insert_leaf-keeps n c p.row slot Empty
 insert_at_optimistic-keeps n c go go' k p (Has slot (Leaf key value)) = if-keeps (key == key_of c.call)
     (insert_leaf-keeps n c p.row slot _)
     (if-keeps (nat_le (keys_differ_at key (key_of c.call)) p.row.level) (again-keeps n) (insert_leaf-keeps n c p.row slot _))
 insert_at_optimistic-keeps n c go go' k p (Has slot (ChildRow base kind)) =
     bind-keeps (step_down_optimistic-keeps n c p.row base kind) λ m. insert_below_optimistic-keeps n c go go' k p.row slot m
-        (path_differs_at c m)
+    (path_differs_at c m)
 
 insert_turn_optimistic : Setting → (Place → Part Reply) → Place → Part Reply
 insert_turn_optimistic c go p = do
@@ -504,10 +504,10 @@ module _ (n : ℕ) (c : Setting) (lo hi : ℕ) (walk walk' : Row → Walked → 
   walk_in-keeps Four r xs w = Delays-more (bind-delays (load-delays n _) λ keys. walk_keys-keeps r _ xs w)
   walk_in-keeps Sixteen r xs w =
       Delays-more (bind-delays (load-delays n _) λ count. bind-keeps (load-keeps n _) λ a. bind-keeps (load-keeps n _) λ b.
-          walk_keys-keeps r _ xs w)
+      walk_keys-keeps r _ xs w)
   walk_in-keeps FortyEight r xs w =
       over-keeps (suc n) (λ j. walk_index c lo hi walk r j (filter (λ x. x / 8 == j) xs))
-          (λ j. walk_index c lo hi walk' r j (filter (λ x. x / 8 == j) xs))
+      (λ j. walk_index c lo hi walk' r j (filter (λ x. x / 8 == j) xs))
       (λ j. walk_index-keeps r j (filter (λ x. x / 8 == j) xs)) (numbers 0 32) w
   walk_in-keeps Full r xs w = over-keeps (suc n) _ _ (λ x s. Delays-more (walk_slot-delays (child_at Full r.base x) s)) xs w
 
@@ -528,7 +528,7 @@ walk_turn-keeps c lo hi n f g k a = walk_bytes-keeps n c lo hi _ _ (λ r w. k _)
 pub walk_from-body : (c : Setting) (lo hi : ℕ) (at : At) (again : Rest) (after : Walked → Rest) (got : List ℕ)
     → walk_from c lo hi at again after got
     ≡ walk_bytes c lo hi (λ m w. walk_from c lo hi (record { row = m; walked = w })) at.row (bytes_of lo hi at.row)
-        at.walked again after got
+    at.walked again after got
 unfolding walk_from walk_turn
 walk_from-body c lo hi = recursive-body (walk_turn c lo hi) (walk_turn-keeps c lo hi)
 
@@ -540,7 +540,7 @@ scan-delays : (n : ℕ) (c : Setting) (lo hi : ℕ) → Delays n (scan c lo hi) 
 unfolding scan
 scan-delays n c lo hi = bind-delays (enter-delays n c _) λ v. bind-keeps (walk_from-keeps n c lo hi _) λ w.
     then-keeps (if-keeps (locks c.variant) (unlock_all-keeps n w.rows) (each-keeps n (check_of c) (check_of-keeps n c) w.rows))
-        (give-keeps n w.pairs)
+    (give-keeps n w.pairs)
 
 -- Calls
 

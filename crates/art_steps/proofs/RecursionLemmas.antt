@@ -27,8 +27,10 @@ pub record Delays {A : Type 0} (n : ℕ) (m m' : Part A) : Type 0 where
       → Same (suc n) (m again after) (m' again' after')
 
 pub Delays-keeps : {A : Type 0} {n : ℕ} {m m' : Part A} → Delays n m m' → Keeps n m m'
-Delays-keeps {n = n} d = record { rest = λ again again' after after' s t. Same-less n (suc n) (omega arith)
-    (d.rest again again' after after' s t) }
+Delays-keeps {n = n} d = record {
+  rest = λ again again' after after' s t. Same-less n (suc n) (omega arith)
+      (d.rest again again' after after' s t);
+}
 
 pub Delays-more : {A : Type 0} {n : ℕ} {m m' : Part A} → Delays n m m' → Keeps (suc n) m m'
 Delays-more {n = n} d =
@@ -48,7 +50,7 @@ module _ {S A : Type 0} (body : (S → Part A) → S → Part A)
     rest = λ again again' after after' sa sb. record {
       at = λ got h.
           ((guarded n (calls_of a body) (calls_of b body) (calls-agree n a b (omega arith) (omega arith)) s).rest again again' after
-              after' sa sb).at got h;
+          after' sa sb).at got h;
     };
   }
 
@@ -73,7 +75,7 @@ module _ {S A : Type 0} (body : (S → Part A) → S → Part A)
     rest = λ again again' after after' sa sb. record {
       at = λ got h.
           ((calls-agree (suc (length got)) (suc (length got)) (suc (length got)) (omega arith) (omega arith) s).rest again
-              again' after after'
+          again' after after'
           (Same-less (suc (length got)) n h sa) (λ x. Same-less (suc (length got)) n h (sb x))).at got (omega arith);
     };
   }
@@ -152,8 +154,12 @@ pub add-delays : (n word : ℕ) → Delays n (add word) (add word)
 add-delays n word = record { rest = λ again again' after after' sa sb. record { at = access-same _ _ n after after' sb } }
 
 pub store-delays : (n word value : ℕ) → Delays n (store word value) (store word value)
-store-delays n word value = record { rest = λ again again' after after' sa sb. record { at = access-same _ _ n (λ _. after tt)
-    (λ _. after' tt) (λ _. sb tt) } }
+store-delays n word value = record {
+  rest = λ again again' after after' sa sb. record {
+    at = access-same _ _ n (λ _. after tt)
+        (λ _. after' tt) (λ _. sb tt);
+  };
+}
 
 pub store_at-delays : (p : Point) (n word value : ℕ) → Delays n (store_at p word value) (store_at p word value)
 store_at-delays p n word value =
@@ -166,8 +172,12 @@ first_at-same p n d again again' after after' sa sb [] h = ap (marked p) ((d.res
 first_at-same p n d again again' after after' sa sb (w ∷ got) h = (d.rest again again' after after' sa sb).at (w ∷ got) h
 
 pub first_at-delays : {A : Type 0} (p : Point) (n : ℕ) {m m' : Part A} → Delays n m m' → Delays n (first_at p m) (first_at p m')
-first_at-delays p n d = record { rest = λ again again' after after' sa sb. record { at = first_at-same p n d again again'
-    after after' sa sb } }
+first_at-delays p n d = record {
+  rest = λ again again' after after' sa sb. record {
+    at = first_at-same p n d again again'
+        after after' sa sb;
+  };
+}
 
 pub each-keeps : {A : Type 0} (n : ℕ) (f : A → Part (Unit {0})) → ((x : A) → Keeps n (f x) (f x)) → (xs : List A)
     → Keeps n (each xs f) (each xs f)

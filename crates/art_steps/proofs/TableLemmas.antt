@@ -12,6 +12,7 @@ use Rattle.art_rows.specs.declared.table.Child.{Child}
 use Rattle.art_rows.specs.declared.table.Child.TheVariants.{Empty, Row as ChildRow, Leaf}
 use Rattle.art_rows.specs.Table.{row_words, rows_of, table_words, base_of, is_base_of, kind_at}
 use Rattle.art_rows.specs.Words.{child_of, row_child}
+use Rattle.art_rows.proofs.KindLemmas.{kind_at-is_base}
 use Rattle.art_steps.specs.declared.access.Access.{Access}
 use Rattle.art_steps.specs.declared.access.Point.{Point}
 use Rattle.art_steps.specs.Steps.{Turn, Asks, Answers, Rest, Part, ◌>>=◌, ◌>>◌, give, start_again, answer, access, load, load_at, store}
@@ -59,13 +60,20 @@ again-within s P = record { rest = λ again after sa sb. sa }
 
 pub answer-within : {A : Type 0} (s : Shape) (P : A → Type 0) (r : Reply) → IsSmall r → Within s P (answer r)
 answer-within s P r small =
-    record { rest = λ again after sa sb. record { at = λ got a p e. absurd (answers-asks e); says = λ got q e. subst IsSmall
-        (answers-same e) small } }
+    record {
+      rest = λ again after sa sb. record {
+        at = λ got a p e. absurd (answers-asks e);
+        says = λ got q e. subst IsSmall
+            (answers-same e) small;
+      };
+    }
 
 pub bind-within : {A B : Type 0} {s : Shape} {P : A → Type 0} {Q : B → Type 0} {m : Part A} {f : A → Part B} → Within s P m
     → ((x : A) → P x → Within s Q (f x)) → Within s Q (m >>= f)
-bind-within {f = f} k l = record { rest = λ again after sa sb. k.rest again (λ a. f a again after) sa
-    (λ a h. (l a h).rest again after sa sb) }
+bind-within {f = f} k l = record {
+  rest = λ again after sa sb. k.rest again (λ a. f a again after) sa
+      (λ a h. (l a h).rest again after sa sb);
+}
 
 pub then-within : {A B : Type 0} {s : Shape} {P : A → Type 0} {Q : B → Type 0} {m : Part A} {p : Part B} → Within s P m → Within s Q p
     → Within s Q (m >> p)
@@ -96,8 +104,13 @@ store_at-within s p word value h = record { rest = λ again after sa sb. access-
 
 pub first_at-within : {A : Type 0} {s : Shape} {P : A → Type 0} {m : Part A} (p : Point) → Within s P m → Within s P (first_at p m)
 first_at-within {A = A} {s = s} {m = m} p k =
-    record { rest = λ again after sa sb. record { at = go again after (k.rest again after sa sb); says = said again after
-        (k.rest again after sa sb) } }
+    record {
+      rest = λ again after sa sb. record {
+        at = go again after (k.rest again after sa sb);
+        says = said again after
+            (k.rest again after sa sb);
+      };
+    }
   where
     unmark : (t : Turn) (a : Access) (q : Option Point) → marked p t ≡ Asks a q → (r : Option Point) × (t ≡ Asks a r)
     unmark (Asks b r) a q e = (r, ap (λ x. Asks x r) (asks-same e))
@@ -178,9 +191,11 @@ numbers-each first (suc n) = (omega arith, each-more (first + 1) n (first + suc 
 
 pub numbers_down-each : (first n : ℕ) → Each (λ i. i < first + n) (numbers_down first n)
 numbers_down-each first zero = tt
-numbers_down-each first (suc n) =
-    (omega arith, each-weaker (λ i. i < first + n) (λ i. i < first + suc n) (λ i l. omega (arith, l)) (numbers_down first n)
-        (numbers_down-each first n))
+numbers_down-each first (suc n) = (
+  omega arith,
+  each-weaker (λ i. i < first + n) (λ i. i < first + suc n) (λ i l. omega (arith, l)) (numbers_down first n)
+      (numbers_down-each first n),
+)
   where
     each-weaker : (P Q : ℕ → Type 0) → ((i : ℕ) → P i → Q i) → (xs : List ℕ) → Each P xs → Each Q xs
     each-weaker P Q w [] e = tt
@@ -200,37 +215,7 @@ is_base-fits s FortyEight base e = record { begins = grind arith; fits = grind a
 is_base-fits s Full base e = record { begins = grind arith; fits = grind arith }
 
 pub kind_at-fits : (s : Shape) (base : ℕ) (kind : Kind) → kind_at s base ≡ Some kind → IsIn s base kind
-kind_at-fits s base kind e = four (is_base_of s Four base) refl e
-  where
-    some_same : {x y : Kind} → ◌≡◌ {A = Option Kind} (Some x) (Some y) → x ≡ y
-    some_same h = cc
-
-    none_some : {y : Kind} → ◌≡◌ {A = Option Kind} None (Some y) → ⊥
-    none_some h = cc
-
-    full : (b : Bool) → is_base_of s Full base ≡ b → (if b then Some Full else None) ≡ Some kind → IsIn s base kind
-    full true t h = subst (λ k. IsIn s base k) (some_same h) (is_base-fits s Full base t)
-    full false t h = absurd (none_some h)
-
-    forty_eight : (b : Bool) → is_base_of s FortyEight base ≡ b
-        → (if b then Some FortyEight else if is_base_of s Full base then Some Full else None) ≡ Some kind → IsIn s base kind
-    forty_eight true t h = subst (λ k. IsIn s base k) (some_same h) (is_base-fits s FortyEight base t)
-    forty_eight false t h = full (is_base_of s Full base) refl h
-
-    sixteen : (b : Bool) → is_base_of s Sixteen base ≡ b
-        → (if b then Some Sixteen else if is_base_of s FortyEight base then Some FortyEight else if is_base_of s Full
-            base then Some Full else None) ≡
-        Some kind → IsIn s base kind
-    sixteen true t h = subst (λ k. IsIn s base k) (some_same h) (is_base-fits s Sixteen base t)
-    sixteen false t h = forty_eight (is_base_of s FortyEight base) refl h
-
-    four : (b : Bool) → is_base_of s Four base ≡ b
-        → (if b then Some Four else if is_base_of s Sixteen base then Some Sixteen else if is_base_of s FortyEight base then Some
-            FortyEight else if
-        is_base_of s Full base then Some Full else None) ≡ Some kind
-        → IsIn s base kind
-    four true t h = subst (λ k. IsIn s base k) (some_same h) (is_base-fits s Four base t)
-    four false t h = sixteen (is_base_of s Sixteen base) refl h
+kind_at-fits s base kind e = is_base-fits s kind base (kind_at-is_base s base kind e)
 
 abbrev pub IsGood : Shape → Child → Type 0
 IsGood s Empty = Unit {0}
@@ -250,7 +235,7 @@ child_of-good s w = one (w % 4 == 1)
 
     one : (b : Bool)
         → IsGood s (if b then row_child (w / 4)
-            (kind_at s (w / 4)) else (if w % 4 == 2 then Leaf (w / 4294967296) (w % 4294967296 / 4) else Empty))
+        (kind_at s (w / 4)) else (if w % 4 == 2 then Leaf (w / 4294967296) (w % 4294967296 / 4) else Empty))
     one true = row_child-good s (w / 4) (kind_at s (w / 4)) refl
     one false = two (w % 4 == 2)
 

@@ -1,10 +1,12 @@
 -- What one turn of a call says of another that is the same: which access it asks for, and whether it asks at all.
-use Rattle.std.specs.Prelude.{◌≡◌, ℕ, Option}
+use Rattle.std.specs.Prelude.{◌≡◌, ℕ, Option, Some}
+use Rattle.std.proofs.Common.{ap}
+use Rattle.std.proofs.lemmas.Option.{none-some, same_Some}
 use Rattle.events.specs.declared.event.Reply.{Reply}
 use Rattle.art_steps.specs.declared.access.Access.{Access}
 use Rattle.art_steps.specs.declared.access.Access.TheVariants.{Load, Store, Exchange, Add}
 use Rattle.art_steps.specs.declared.access.Point.{Point}
-use Rattle.art_steps.specs.Steps.{Asks, Answers}
+use Rattle.art_steps.specs.Steps.{Turn, Asks, Answers, access_of, reply_of}
 
 pub asks-answers : {a : Access} {m : Option Point} {r : Reply} → Asks a m ≡ Answers r → ⊥
 asks-answers e = cc
@@ -66,3 +68,13 @@ add-store e = cc
 
 pub add-exchange : {word other v w : ℕ} {m l : Option Point} → Asks (Add word) m ≡ Asks (Exchange other v w) l → ⊥
 add-exchange e = cc
+
+-- the turn that makes an access, and the one that answers
+
+pub asks-of : (t : Turn) (a : Access) → access_of t ≡ Some a → (m : Option Point) × (t ≡ Asks a m)
+asks-of (Asks b m) a e = (m, ap (λ x. Asks x m) (same_Some b a e))
+asks-of (Answers r) a e = absurd (none-some a e)
+
+pub answers-of : (t : Turn) (r : Reply) → reply_of t ≡ Some r → t ≡ Answers r
+answers-of (Asks a m) r e = absurd (none-some r e)
+answers-of (Answers q) r e = ap (λ y. Answers y) (same_Some q r e)

@@ -1,8 +1,9 @@
 -- A log grows by an event that is stamped higher than all others: so does the history.
 use Rattle.std.proofs.Common.{◌≡◌, ℕ, zero, suc, ◌<◌, ◌≤◌, true, false, List, [], ◌∷◌, ◌++◌, map, arith, refl, sym, ap, ◌∙◌, append_assoc}
 use Rattle.std.proofs.Common.{subst}
-use Rattle.std.specs.Prelude.{nat_le, if◌then◌else◌, Option, Some, None, slice_get, slice_set, flat_map}
+use Rattle.std.specs.Prelude.{nat_le, if◌then◌else◌, Some, slice_get, slice_set, flat_map}
 use Rattle.std.proofs.lemmas.Bool.{le-leb, lt-leb}
+use Rattle.std.proofs.lemmas.Option.{none-some, same_Some}
 use Rattle.logs.specs.Logs.{Stamped, placed, by_stamp, history_of_logs}
 
 -- each event is stamped lower
@@ -61,15 +62,9 @@ record Parts (logs : List (List Stamped)) (p : ℕ) (log : List Stamped) (e : St
   old : flat_map (λ log. log) logs ≡ front ++ back
   new : flat_map (λ log. log) (slice_set logs p (log ++ e ∷ [])) ≡ front ++ e ∷ back
 
-none-some : {A : Type 0} {y : A} → ◌≡◌ {A = Option A} None (Some y) → ⊥
-none-some h = cc
-
-some-same : {A : Type 0} {x y : A} → ◌≡◌ {A = Option A} (Some x) (Some y) → x ≡ y
-some-same h = cc
-
 parts-at : (logs : List (List Stamped)) (p : ℕ) (log : List Stamped) (e : Stamped) → slice_get logs p ≡ Some log → Parts logs p log e
-parts-at [] p log e h = absurd (none-some h)
-parts-at (l ∷ ls) zero log e h = subst (λ log. Parts (l ∷ ls) zero log e) (some-same h) (record {
+parts-at [] p log e h = absurd (none-some _ h)
+parts-at (l ∷ ls) zero log e h = subst (λ log. Parts (l ∷ ls) zero log e) (same_Some _ _ h) (record {
   front = l;
   back = flat_map (λ log. log) ls;
   old = refl;

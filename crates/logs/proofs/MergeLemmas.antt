@@ -1,9 +1,9 @@
 -- Events that are put by rising stamp: what a filter keeps of them, and what is counted of them.
-use Rattle.std.proofs.Common.{◌≡◌, ℕ, ◌+◌, ◌≤◌, Bool, true, false, cond, ◌&&◌, List, [], ◌∷◌, map, filter, IsTrue, refl, sym, ap, ◌∙◌}
+use Rattle.std.proofs.Common.{◌≡◌, ℕ, ◌+◌, ◌≤◌, Bool, true, false, cond, List, [], ◌∷◌, filter, refl, sym, ap, ◌∙◌}
 use Rattle.std.proofs.Common.{arith}
 use Rattle.std.specs.Prelude.{nat_le, if◌then◌else◌, sum_by}
 use Rattle.std.specs.List.{list_all}
-use Rattle.std.proofs.lemmas.Bool.{leb-true, leb-false, le-leb}
+use Rattle.std.proofs.lemmas.Bool.{leb-true, le-leb, and_parts}
 use Rattle.std.proofs.lemmas.List.Sums.{sum_by-cons}
 use Rattle.logs.specs.Logs.{Stamped, placed, by_stamp}
 use Rattle.logs.proofs.SortLemmas.{rises, by_stamp_rises}
@@ -55,31 +55,23 @@ module _ (f : Stamped → Bool) where
       filter-placed 0 e (by_stamp es) (by_stamp_rises es)
       ∙ (ap (λ fs. cond (f e) (placed e fs) fs) (filter-by_stamp es)
       ∙ elim (f e) as (λ b. cond b (placed e (by_stamp (filter f es))) (by_stamp (filter f es)) ≡ by_stamp
-          (cond b (e ∷ filter f es) (filter f es))) [
+      (cond b (e ∷ filter f es) (filter f es))) [
         | true ↦ refl
         | false ↦ refl
       ])
-
-  and-left : (a b : Bool) → (a && b) ≡ true → a ≡ true
-  and-left true b h = refl
-  and-left false b h = cc
-
-  and-right : (a b : Bool) → (a && b) ≡ true → b ≡ true
-  and-right true b h = h
-  and-right false b h = cc
 
   all-placed : (e : Stamped) (es : List Stamped) → f e ≡ true → list_all f es ≡ true → list_all f (placed e es) ≡ true
   all-placed e [] passes h = rw passes refl
   all-placed e (g ∷ gs) passes h = elim (nat_le e.0 g.0) as (λ b. list_all f (if b then e ∷ g ∷ gs else g ∷ placed e gs) ≡ true) [
     | true ↦ rw passes h
-    | false ↦ rw (and-left (f g) (list_all f gs) h) (all-placed e gs passes (and-right (f g) (list_all f gs) h))
+    | false ↦ let parts = and_parts (f g) (list_all f gs) h in rw parts.0 (all-placed e gs passes parts.1)
   ]
 
   -- what passes for all events passes for all of them by rising stamp
   pub all-by_stamp : (es : List Stamped) → list_all f es ≡ true → list_all f (by_stamp es) ≡ true
   all-by_stamp [] h = refl
-  all-by_stamp (e ∷ es) h = all-placed e (by_stamp es) (and-left (f e) (list_all f es) h)
-      (all-by_stamp es (and-right (f e) (list_all f es) h))
+  all-by_stamp (e ∷ es) h =
+      let parts = and_parts (f e) (list_all f es) h in all-placed e (by_stamp es) parts.0 (all-by_stamp es parts.1)
 
 module _ (f : Stamped → ℕ) where
   sum-placed : (e : Stamped) (es : List Stamped) → sum_by f (placed e es) ≡ f e + sum_by f es

@@ -2,7 +2,7 @@
 use Rattle.std.proofs.Common.{◌≡◌, ℕ, zero, suc, ◌+◌, ◌<◌, List, [], ◌∷◌, ◌++◌, arith, length, refl, ap, sym, subst, ◌∙◌}
 use Rattle.std.specs.Prelude.{Option, Some, None, is_some, slice_get, slice_index, slice_set, IsSome, IsSomeAnd}
 use Rattle.std.proofs.lemmas.List.{length-set}
-use Rattle.std.proofs.lemmas.Option.{slice_get_within}
+use Rattle.std.proofs.lemmas.Option.{slice_get_within, none-some, same_Some}
 use Rattle.std.proofs.Math.Logic.{∥∥₁_elim, ∥∥₁_map}
 use Rattle.std.proofs.Props.{props}
 use Rattle.list_laws.proofs.NumberLemmas.{slice_get-below}
@@ -27,17 +27,11 @@ use Rattle.machine.specs.Refusals.{HasMove}
 use Rattle.machine.specs.UnderWay.{IsUnderWay}
 use Rattle.machine.specs.Working.{HasNothingToDo}
 
-none-some : {A : Type 0} {y : A} → ◌≡◌ {A = Option A} None (Some y) → ⊥
-none-some h = cc
-
-some-same : {A : Type 0} {x y : A} → ◌≡◌ {A = Option A} (Some x) (Some y) → x ≡ y
-some-same h = cc
-
 -- what holds at each place of a list still holds where one item is changed for one of which it holds
 pub item-set : {A : Type 0} (R : ℕ → A → Type 0) (xs : List A) (p : ℕ) (x : A) → R p x → ((i : ℕ) (a : A) → slice_get xs i ≡ Some a → R i a)
     → (i : ℕ) (a : A) → slice_get (slice_set xs p x) i ≡ Some a → R i a
-item-set R [] p x h old i a e = absurd (none-some e)
-item-set R (u ∷ xs) zero x h old zero a e = subst (R zero) (some-same e) h
+item-set R [] p x h old i a e = absurd (none-some _ e)
+item-set R (u ∷ xs) zero x h old zero a e = subst (R zero) (same_Some _ _ e) h
 item-set R (u ∷ xs) zero x h old (suc i) a e = old (suc i) a e
 item-set R (u ∷ xs) (suc p) x h old zero a e = old zero a e
 item-set R (u ∷ xs) (suc p) x h old (suc i) a e = item-set (λ j. R (suc j)) xs p x h (λ j. old (suc j)) i a e
@@ -46,15 +40,13 @@ item-set R (u ∷ xs) (suc p) x h old (suc i) a e = item-set (λ j. R (suc j)) x
 pub items-set : {A B : Type 0} (R : ℕ → A → B → Type 0) (xs : List A) (ys : List B) (p : ℕ) (x : A) (y : B) → R p x y
     → ((i : ℕ) (a : A) (b : B) → slice_get xs i ≡ Some a → slice_get ys i ≡ Some b → R i a b)
     → (i : ℕ) (a : A) (b : B) → slice_get (slice_set xs p x) i ≡ Some a → slice_get (slice_set ys p y) i ≡ Some b → R i a b
-items-set R [] ys p x y h old i a b e f = absurd (none-some e)
-items-set R (u ∷ xs) [] p x y h old i a b e f = absurd (none-some f)
-items-set R (u ∷ xs) (v ∷ ys) zero x y h old zero a b e f = subst (λ a. R zero a b) (some-same e) (subst (λ b. R zero x b) (some-same f) h)
+items-set R [] ys p x y h old i a b e f = absurd (none-some _ e)
+items-set R (u ∷ xs) [] p x y h old i a b e f = absurd (none-some _ f)
+items-set R (u ∷ xs) (v ∷ ys) zero x y h old zero a b e f =
+    subst (λ a. R zero a b) (same_Some _ _ e) (subst (λ b. R zero x b) (same_Some _ _ f) h)
 items-set R (u ∷ xs) (v ∷ ys) zero x y h old (suc i) a b e f = old (suc i) a b e f
 items-set R (u ∷ xs) (v ∷ ys) (suc p) x y h old zero a b e f = old zero a b e f
 items-set R (u ∷ xs) (v ∷ ys) (suc p) x y h old (suc i) a b e f = items-set (λ j. R (suc j)) xs ys p x y h (λ j. old (suc j)) i a b e f
-
-pub get-within : {A : Type 0} (xs : List A) (p : ℕ) → p < length xs → (x : A) × (slice_get xs p ≡ Some x)
-get-within xs p h = slice_get-below xs p h
 
 IsFor-prop : (shape : Shape) (doing : Doing) → IsProp (IsFor shape doing)
 IsFor-prop shape Idle = Prim.hlevel props
@@ -85,7 +77,7 @@ module _ (shape : Shape) (variant : Variant) (old : List ℕ) (runners : List Ru
   pub process-at : (plan : Plan) (s : State) → ShowsState plan shape variant old runners s
       → (q : Process) × (slice_get s.processes p ≡ Some q) × FitsProcess plan p r q
   process-at plan s shows =
-      let x = get-within s.processes p (subst (λ n. p < n) (sym shows.many) (slice_get_within runners p r here)) in
+      let x = slice_get-below s.processes p (subst (λ n. p < n) (sym shows.many) (slice_get_within runners p r here)) in
       (x.0, x.1, shows.fits p r x.0 here x.1)
 
   pub steps : (plan : Plan) (s : State) (new : List ℕ) (r2 : Runner) → ShowsState plan shape variant old runners s

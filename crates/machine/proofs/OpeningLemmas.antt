@@ -1,7 +1,7 @@
 -- What a machine begins with.
-use Rattle.std.proofs.Common.{◌≡◌, ℕ, zero, suc, ◌+◌, ◌<◌, ◌^◌, List, [], ◌∷◌, ◌++◌, length, map, sum, arith, refl, ap, sym, subst, ◌∙◌}
+use Rattle.std.proofs.Common.{◌≡◌, ℕ, suc, ◌+◌, ◌<◌, ◌^◌, List, [], ◌∷◌, ◌++◌, length, map, sum, arith, refl, ap, sym, subst, ◌∙◌}
 use Rattle.std.proofs.Common.{append_assoc}
-use Rattle.std.specs.Prelude.{Option, Some, None, slice_get, replicate}
+use Rattle.std.specs.Prelude.{Some, None, slice_get, replicate}
 use Rattle.std.specs.List.{AllZip}
 use Rattle.std.proofs.lemmas.List.Sums.{sum-map}
 use Rattle.std.proofs.lemmas.List.Folds.{sum_by-replicate}
@@ -11,6 +11,7 @@ use Rattle.art_rows.specs.declared.table.Shape.{Shape}
 use Rattle.art_steps.specs.declared.variant.Variant.{Variant}
 use Rattle.art_core.specs.declared.process.Process.{Process}
 use Rattle.art_core.specs.Core.{idle}
+use Rattle.art_core.proofs.HistoryLemmas.{all-idle}
 use Rattle.machine.specs.declared.runner.Runner.{Runner}
 use Rattle.art.specs.Doings.{FitsDoing, IsFor}
 use Rattle.machine.specs.Fitting.{FitsProcess, AreFor}
@@ -45,17 +46,6 @@ zip-length [] [] h = refl
 zip-length [] (y ∷ ys) h = absurd h
 zip-length (x ∷ xs) [] h = absurd h
 zip-length (x ∷ xs) (y ∷ ys) h = ap suc (zip-length xs ys h.1)
-
-some-same : {A : Type 0} {x y : A} → ◌≡◌ {A = Option A} (Some x) (Some y) → x ≡ y
-some-same h = cc
-
-none-some : {A : Type 0} {y : A} → ◌≡◌ {A = Option A} None (Some y) → ⊥
-none-some h = cc
-
-all-idle : (n i : ℕ) (q : Process) → slice_get (replicate n idle) i ≡ Some q → q ≡ idle
-all-idle zero i q e = absurd (none-some e)
-all-idle (suc n) zero q e = sym (some-same e)
-all-idle (suc n) (suc i) q e = all-idle n i q e
 
 pub fits-idle : (shape : Shape) (variant : Variant) (scripts : List (List Call)) (runners : List Runner) → AllZip IsFresh scripts runners
     → (i : ℕ) (r : Runner) (q : Process) → slice_get runners i ≡ Some r → slice_get (replicate (length scripts) idle) i ≡ Some q

@@ -31,8 +31,14 @@ use Rattle.machine.specs.UnderWay.{IsUnderWay}
 is-run : (shape : Shape) (variant : Variant) (start : Contents) (left : ℕ) (words : List ℕ) (runners : List Runner)
     (u : IsUnderWay shape variant start left words runners) → IsRun u.plan start u.first u.schedule u.state
 is-run shape variant start left words runners u =
-    record { within = u.within; start_within = u.start_within; starts = u.starts; gives = u.gives; few_steps = let few =
-        u.few in omega arith }
+    record {
+      within = u.within;
+      start_within = u.start_within;
+      starts = u.starts;
+      gives = u.gives;
+      few_steps = let few =
+          u.few in omega arith;
+    }
 
 pub reached : (m : Machine) → ∥ IsReached m ∥₁
 reached m = ∥∥₁_map m.under_way (λ (u : IsUnderWay m.shape m.variant m.start.items m.left m.words.items m.runners.items). record {
@@ -67,7 +73,7 @@ recorded-history m = ∥∥₁_elim m.under_way (Prim.hlevel props)
     (λ (u : IsUnderWay m.shape m.variant m.start.items m.left m.words.items m.runners.items).
     subst AreHistoryEvents (shown-history u.plan m u.state u.shows)
     (logs-are-history u.plan m.start.items u.first u.schedule u.state
-        (is-run m.shape m.variant m.start.items m.left m.words.items m.runners.items u)))
+    (is-run m.shape m.variant m.start.items m.left m.words.items m.runners.items u)))
 
 -- the starting pairs are some that a history may start with
 pub recorded-start : (m : Machine) → IsStart m.start.items
@@ -91,7 +97,7 @@ does-the-map serial m h is = ∥∥₁_map (reached m) go
     go r full serial_h =
         let same : h ≡ record { start = start_of m; events = history_of r.state } = is r.plan r.state r.shows in
         let (legal, unlocked, means) = serial r.plan (start_of m) r.first r.schedule r.state r.run
-            (subst (λ v. (v ≡ Coupled) ⊎ (v ≡ Optimistic))
+        (subst (λ v. (v ≡ Coupled) ⊎ (v ≡ Optimistic))
         (sym r.shows.variant) full)
         (subst IsSerial (ap (λ h. h.events) same) serial_h) in (
           subst (λ (h : HistoryView). Legal h.start h.events) (sym same) legal,

@@ -134,7 +134,7 @@ all-more plan items item s left m next h k = record {
 pub all-stopped : (plan : Plan) (items : List Item) (place : ℕ) (item : Item) (s : State) (left : ℕ) (fault : MachineFault)
     (m next : Machine)
     (h : HasMadeAll plan (take place items) s left m) → slice_get items place ≡ Some item
-        → HasStoppedIn plan item h.state (turns_left m) fault next
+    → HasStoppedIn plan item h.state (turns_left m) fault next
     → HasStoppedAt plan items s left place fault next
 all-stopped plan items place item s left fault m next h is stops = record {
   item = item;

@@ -38,7 +38,7 @@ module _ (log : List Stamped) (i : ℕ) (e : Stamped) (within : i < length log) 
   pub refusal-found : answered e.1 ≡ Some replies.Refused → Contains (filter_map (λ e. answered e.1) log) replies.Refused
   refusal-found a =
       Contains-filter_map (λ e. answered e.1) log e replies.Refused
-          (subst (λ x. Contains log x) (sym is) (Contains-get_or log i e within)) a
+      (subst (λ x. Contains log x) (sym is) (Contains-get_or log i e within)) a
 
   pub no-refusal-yet : (Contains (filter_map (λ e. answered e.1) (take i log)) replies.Refused → ⊥)
       → (answered e.1 ≡ Some replies.Refused → ⊥)
@@ -104,7 +104,7 @@ module _ (shape : Shape) (variant : Variant) (start : Contents) where
         → HasStoppedIn plan all_turns (opened plan) left fault next → IsNotOpened shape variant start fault
     not-opened ends within enough faults.NoProcess other h =
         let one = (run-lengths plan (replicate h.made 0) (opened plan) h.state h.turns.gives).1 in let none =
-            h.refused in absurd (omega (arith, one, none))
+        h.refused in absurd (omega (arith, one, none))
     not-opened ends within enough faults.NothingToDo other h = absurd (other refl)
     not-opened ends within enough faults.TurnLimit other h =
         let costs = h.costs in

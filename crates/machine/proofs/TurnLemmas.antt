@@ -104,7 +104,7 @@ invokes plan p q r call task old new r2 fits idle next rest wrote logged script 
       move = Invokes call;
       is_next =
           ap (move_from plan p q) none ∙ ap invocation (ap (λ o. next_in o (length (begun q))) fits.script ∙ (ap (slice_get r.script.items)
-              fits.begun ∙ next));
+          fits.begun ∙ next));
       words = wrote;
       fits = record {
         doing = subst (λ doing. FitsDoing plan.shape plan.variant doing (Some call) []) (sym going) (call, refl, rest);

@@ -15,7 +15,8 @@ impl Machine {
     /// then shows, each scan that was answered has a moment within it at which all that it read stands still; so has each get, for
     /// the last row that it read.
     pub fn turn(&mut self, alloc: Global, p: usize) -> Result<(), MachineFault>
-        ensures moved { (plan : Plan) (s : State) → Shows plan self.old s → OnOk result (IsSomeAnd (step plan s p) (λ next. Shows plan self.new next)) }
+        ensures moved { (plan : Plan) (s : State) → Shows plan self.old s
+            → OnOk result (IsSomeAnd (step plan s p) (λ next. Shows plan self.new next)) }
         ensures left { OnOk result (turns_left self.new + 1 ≡ turns_left self.old) }
         ensures kept { (plan : Plan) (s : State) → Shows plan self.old s → OnErr result (Shows plan self.new s) }
         ensures same_start { start_of self.new ≡ start_of self.old }

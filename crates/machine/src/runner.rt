@@ -1,3 +1,4 @@
+// A process as a machine runs it.
 ghost use Rattle.std.specs.Prelude.{◌≡◌, ◌≤◌, false, vec_len};
 ghost use Rattle.art.specs.Doings.{is_late};
 

@@ -20,7 +20,8 @@ impl Machine {
     /// refused one moves nothing. In every schedule of the optimistic tree that gives what the machine then shows, each scan that
     /// was answered has a moment within it at which all that it read stands still; so has each get, for the last row that it read.
     pub fn run(&mut self, alloc: Global, schedule: &[Item]) -> Result<(), RunFault>
-        ensures made { (plan : Plan) (s : State) → Shows plan self.old s → OnOk result (HasMadeAll plan schedule.now s (turns_left self.old) self.new) }
+        ensures made { (plan : Plan) (s : State) → Shows plan self.old s
+            → OnOk result (HasMadeAll plan schedule.now s (turns_left self.old) self.new) }
         ensures stopped { (plan : Plan) (s : State) → Shows plan self.old s
             → IfErr result (λ e. HasStoppedAt plan schedule.now s (turns_left self.old) e.item e.fault self.new) }
         ensures same_start { start_of self.new ≡ start_of self.old }
@@ -39,7 +40,8 @@ impl Machine {
 
     /// Makes the turns that an item names, up to the first that is refused.
     pub(crate) fn make(&mut self, alloc: Global, item: Item) -> Result<(), MachineFault>
-        ensures made { (plan : Plan) (s : State) → Shows plan self.old s → OnOk result (HasMadeItem plan item s (turns_left self.old) self.new) }
+        ensures made { (plan : Plan) (s : State) → Shows plan self.old s
+            → OnOk result (HasMadeItem plan item s (turns_left self.old) self.new) }
         ensures stopped { (plan : Plan) (s : State) → Shows plan self.old s
             → IfErr result (λ fault. HasStoppedIn plan item s (turns_left self.old) fault self.new) }
         ensures same_start { start_of self.new ≡ start_of self.old }

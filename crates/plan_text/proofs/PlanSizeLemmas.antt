@@ -88,7 +88,7 @@ size-calls later (call ∷ calls) h =
 -- all scripts, with the closing bracket
 size-scripts : (later : Bool) (scripts : List (List Call)) → AreTreeCalls scripts
     → length (items_text later (items_of (map script_data scripts))) ≤ 45 * sum (map (λ script. length script) scripts) + 3
-        * length scripts + 1
+    * length scripts + 1
 size-scripts later [] h = omega arith
 size-scripts later (script ∷ scripts) h =
     let text = compact_text (script_data script) in

@@ -43,8 +43,11 @@ any_call call h = rw (h) refl
 
 any_script : (calls : List Call) → All IsTreeCall calls → is_script true calls ≡ true
 any_script [] h = refl
-any_script (call ∷ calls) h = rw (any_call call (All-head IsTreeCall call calls h), any_script calls
-    (All-tail IsTreeCall call calls h)) refl
+any_script (call ∷ calls) h = rw (
+  any_call call (All-head IsTreeCall call calls h),
+  any_script calls
+      (All-tail IsTreeCall call calls h),
+) refl
 
 any_scripts : (scripts : List (List Call)) → AreTreeCalls scripts → are_scripts true scripts ≡ true
 any_scripts [] h = refl
@@ -65,14 +68,21 @@ plain_scripts : (scripts : List (List Call)) → AreTreeCalls scripts → are_pl
 plain_scripts [] h plain = refl
 plain_scripts (calls ∷ scripts) h plain =
     let parts = and_parts (is_plain_script calls) (are_plain_scripts scripts) plain in
-    rw (plain_script calls (All-head (All IsTreeCall) calls scripts h) parts.0, plain_scripts scripts
-        (All-tail (All IsTreeCall) calls scripts h) parts.1) refl
+    rw (
+      plain_script calls (All-head (All IsTreeCall) calls scripts h) parts.0,
+      plain_scripts scripts
+          (All-tail (All IsTreeCall) calls scripts h) parts.1,
+    ) refl
 
 -- the text that a plan is written as spells it
 pub Spells-written : (text : List ℕ) (scripts : List (List Call)) → AreTreeCalls scripts → IsJson text (written_data scripts)
     → SpellsPlan text scripts
-Spells-written text scripts calls json = record { value = written_data scripts; json = json; spelled = either
-    (are_plain_scripts scripts) refl }
+Spells-written text scripts calls json = record {
+  value = written_data scripts;
+  json = json;
+  spelled = either
+      (are_plain_scripts scripts) refl;
+}
   where
     either : (plain : Bool) → are_plain_scripts scripts ≡ plain → SpellsPlanAs (plan_data (not plain) scripts) scripts
     either true h = record { may_replace = false; value = refl; standing = plain_scripts scripts calls h }

@@ -20,4 +20,4 @@ HasOnePlanFault =
 abbrev pub FaultySpellsNoPlan : Type 0
 FaultySpellsNoPlan =
     (text : List ℕ) (f : PlanFault) (scripts : List (List Call)) → IsPlanTextFault text f → f ≢ faults.Memory → SpellsPlan text scripts
-        → AreFew scripts → ⊥
+    → AreFew scripts → ⊥

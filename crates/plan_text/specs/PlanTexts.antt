@@ -15,7 +15,8 @@ version_of true = 2
 
 -- the value of a text with these scripts, of the version that may hold a replace or of the other
 abbrev pub plan_data : Bool → List (List Call) → Data
-plan_data may_replace scripts = object_of_two (codes "scripts") (scripts_data scripts) (codes "version") (number_data (version_of may_replace))
+plan_data may_replace scripts =
+    object_of_two (codes "scripts") (scripts_data scripts) (codes "version") (number_data (version_of may_replace))
 
 -- whether no call of a script is a replace, and none of any script
 abbrev pub is_plain_script : List Call → Bool

@@ -1,3 +1,4 @@
+// Texts of plans that were written and are read again, and texts with one fault each.
 use crate::{read_plan, scripts_of, write_plan};
 use art_steps::TreeCall;
 use events::Call;

@@ -1,3 +1,4 @@
+// Why there is no plan or no machine, and why a run stops.
 use events::Memory;
 
 /// Why there is no plan: the arguments from which one is drawn, or the text from which one is read, allow none.

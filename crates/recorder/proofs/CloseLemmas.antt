@@ -124,7 +124,7 @@ module _ (r : Recorder) (passes : List Pass) (own : All (IsPassOf r) passes) whe
   all-history all = ⊎_elim
       (λ none. AreHistoryEvents-nothing passes (no-draws none))
       (λ some. AreHistoryEvents-apart passes (are-apart some all)
-          (let a = all.draws_are in let b = r.quota in let c = r.few in omega arith))
+      (let a = all.draws_are in let b = r.quota in let c = r.few in omega arith))
       (none-or-some (calls_for_each r))
 
   -- in which each process has the events of its pass

@@ -89,7 +89,7 @@ own-kept : (q : ℕ) (p : Pass) → process_number p ≡ q → filter (is_of q) 
 own-kept q p same =
     filter_all (is_of q) (log_of p)
     (All-weaker (λ e. process_of e.1 ≡ process_number p) (λ e. is_of q e ≡ true) (λ e own. eq-eqb (process_of e.1) q (own ∙ same))
-        (log_of p) p.recorded.own)
+    (log_of p) p.recorded.own)
 
 others-dropped : (q : ℕ) (p : Pass) → process_number p ≢ q → filter (is_of q) (log_of p) ≡ []
 others-dropped q p other =
@@ -115,7 +115,7 @@ one-log q [] apart = inl refl
 one-log q (p ∷ passes) apart = elim (eqb_tells (process_number p) q) [
   | inl h ↦
       let others = All-weaker (λ b. process_number p ≢ process_number b) (λ b. process_number b ≢ q)
-          (λ b ne same. ne (h.1 ∙ sym same)) passes
+      (λ b ne same. ne (h.1 ∙ sym same)) passes
       (AllPairs-head Differ p passes apart) in
       inr (
         p,
@@ -238,4 +238,4 @@ own-nothing passes none = All-from_contains (λ p. events_of (process_number p) 
     let same = ap draws_of there.2 in
     let empty : length (log_of p) ≡ 0 = let a = draws-are p in let b = p.draws in omega arith in
     ap (λ es. events_of (process_number p) (events_by_stamp es)) (nothing-together passes none)
-        ∙ sym (ap events_in (nil_from_length (log_of p) empty)))
+    ∙ sym (ap events_in (nil_from_length (log_of p) empty)))

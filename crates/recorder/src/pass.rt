@@ -1,4 +1,4 @@
-//! What one process records with.
+// What one process records with.
 ghost use Rattle.std.specs.Prelude.{◌≡◌, ◌+◌, ◌*◌, map, length};
 ghost use Rattle.tickets.specs.Hands.{drawn_by, left_of};
 ghost use Rattle.recorder.specs.Records.{IsRecord};

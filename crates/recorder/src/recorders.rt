@@ -1,4 +1,4 @@
-//! The shared part of a recorder.
+// The shared part of a recorder.
 ghost use Rattle.std.specs.Prelude.{◌≡◌, ◌*◌, ◌≤◌};
 ghost use Rattle.tickets.specs.Hands.{quota_of};
 ghost use Rattle.events.specs.Limits.{process_limit, call_limit};

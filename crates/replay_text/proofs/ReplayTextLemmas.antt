@@ -78,7 +78,7 @@ pub none_as : {E : Type 0} (d : Data) (p : Parts) (pairs : Contents) (r : Result
     → IfOk r (λ found. IfNone found (SpellsNoReplay d))
 none_as d p pairs r h starts none = none-follows r (λ no x spells.
     let here : ArePartsOf p x = subst (λ (q : Parts). ArePartsOf q x) (document_injective spells.parts p
-        (sym spells.value ∙ h)) spells.spelled in
+    (sym spells.value ∙ h)) spells.spelled in
     no p.start x refl (starts x here.start) here) none
 
 -- ---- one replay
@@ -239,7 +239,7 @@ view_of limit shape variant start scripts schedule =
 
 same_view : (a b : ReplayView) → a.limit ≡ b.limit → a.shape ≡ b.shape → a.variant ≡ b.variant → a.start ≡ b.start → a.scripts ≡ b.scripts
     → a.schedule ≡ b.schedule → view_of a.limit a.shape a.variant a.start a.scripts a.schedule ≡ view_of b.limit b.shape b.variant b.start
-        b.scripts b.schedule
+    b.scripts b.schedule
 same_view a b limit shape variant start scripts schedule = rw (limit, shape, variant, start, scripts, schedule) refl
 
 -- parts are those of one replay only
@@ -257,7 +257,7 @@ pub one_replay : SpellsOneReplay
 one_replay text a b first second =
     let values = same_value text first.value second.value first.json second.json in
     let same = document_injective second.spelled.parts first.spelled.parts
-        (sym second.spelled.value ∙ (sym values ∙ first.spelled.value)) in
+    (sym second.spelled.value ∙ (sym values ∙ first.spelled.value)) in
     same_replay first.spelled.parts a b first.spelled.spelled (subst (λ (q : Parts). ArePartsOf q b) same second.spelled.spelled)
 
 -- ---- one fault

@@ -14,7 +14,7 @@ SpellsOneReplay = (text : List ℕ) (a b : ReplayView) → SpellsReplay text a �
 abbrev pub HasOneReplayFault : Type 0
 HasOneReplayFault =
     (text : List ℕ) (f g : MachineFault) → IsReplayTextFault text f → IsReplayTextFault text g → f ≢ faults.Memory
-        → g ≢ faults.Memory → f ≡ g
+    → g ≢ faults.Memory → f ≡ g
 
 -- a text with a fault spells no replay
 abbrev pub FaultySpellsNoReplay : Type 0

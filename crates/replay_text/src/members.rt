@@ -12,7 +12,14 @@ pub fn members_alone<'a>(
     value: &'a Value,
 ) -> Option<(&'a Value, &'a Value, &'a Value, &'a Value, &'a Value)>
     ensures some { IfSome result (λ p. view value.now
-        ≡ document (record { limit = view p.0.now; rows = view p.1.now; schedule = view p.2.now; scripts = view p.3.now; start = None; variant = view p.4.now })) }
+        ≡ document (record {
+          limit = view p.0.now;
+          rows = view p.1.now;
+          schedule = view p.2.now;
+          scripts = view p.3.now;
+          start = None;
+          variant = view p.4.now;
+        })) }
     ensures none { IfNone result ((limit rows schedule scripts variant : Data) → view value.now
         ≡ document (record { limit = limit; rows = rows; schedule = schedule; scripts = scripts; start = None; variant = variant }) → ⊥) }
 {
@@ -35,9 +42,24 @@ pub fn members_with_start<'a>(
     ),
 >
     ensures some { IfSome result (λ p. view value.now
-        ≡ document (record { limit = view p.0.now; rows = view p.1.now; schedule = view p.2.now; scripts = view p.3.now; start = Some (view p.4.now); variant = view p.5.now })) }
+        ≡ document (record {
+          limit = view p.0.now;
+          rows = view p.1.now;
+          schedule = view p.2.now;
+          scripts = view p.3.now;
+          start = Some
+              (view p.4.now);
+          variant = view p.5.now;
+        })) }
     ensures none { IfNone result ((limit rows schedule scripts start variant : Data) → view value.now
-        ≡ document (record { limit = limit; rows = rows; schedule = schedule; scripts = scripts; start = Some start; variant = variant }) → ⊥) }
+        ≡ document (record {
+          limit = limit;
+          rows = rows;
+          schedule = schedule;
+          scripts = scripts;
+          start = Some start;
+          variant = variant;
+        }) → ⊥) }
 {
     let (limit, rows, schedule, scripts, others) = first_four(value)?;
     let (start, variant) = start_and_last_two(others)?;

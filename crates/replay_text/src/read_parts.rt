@@ -37,9 +37,23 @@ pub fn replay_with(
     requires rising { IsRising start.items }
     requires calls { All (λ call. IsTrue (is_tree_call call)) (inserts start.items) }
     ensures some { IfOk result (λ found. IfSome found (λ r. (s : Option Data) → is_some s ≡ may_replace → SpellsStart s start.items
-        → ArePartsOf (record { limit = view limit.now; rows = view rows.now; schedule = view schedule.now; scripts = view scripts.now; start = s; variant = view variant.now }) (shown r))) }
+        → ArePartsOf (record {
+          limit = view limit.now;
+          rows = view rows.now;
+          schedule = view schedule.now;
+          scripts = view scripts.now;
+          start = s;
+          variant = view variant.now;
+        }) (shown r))) }
     ensures none { IfOk result (λ found. IfNone found ((s : Option Data) (r : ReplayView) → is_some s ≡ may_replace → r.start ≡ start.items
-        → ArePartsOf (record { limit = view limit.now; rows = view rows.now; schedule = view schedule.now; scripts = view scripts.now; start = s; variant = view variant.now }) r → ⊥)) }
+        → ArePartsOf (record {
+          limit = view limit.now;
+          rows = view rows.now;
+          schedule = view schedule.now;
+          scripts = view scripts.now;
+          start = s;
+          variant = view variant.now;
+        }) r → ⊥)) }
 {
     let Some(limit) = turns_of(limit) else {
         return Ok(None);
@@ -92,7 +106,8 @@ fn few_beside(pairs: usize, scripts: Vec<Vec<TreeCall>>) -> Option<Vec<Vec<TreeC
     requires { AreTreeCalls (map (λ script. script.items) scripts.items) }
     ensures same { IfSome result (λ found. map (λ script. script.items) found.items ≡ map (λ script. script.items) scripts.items) }
     ensures plan { IfSome result (λ found. AreScripts (map (λ script. script.items) found.items)) }
-    ensures room { IfSome result (λ found. pairs + sum (map (λ script. length script) (map (λ script. script.items) found.items)) ≤ call_limit) }
+    ensures room { IfSome result (λ found. pairs + sum (map (λ script. length script)
+        (map (λ script. script.items) found.items)) ≤ call_limit) }
     ensures none { IfNone result (AreFew (map (λ script. script.items) scripts.items)
         → pairs + sum (map (λ script. length script) (map (λ script. script.items) scripts.items)) ≤ call_limit → ⊥) }
 {

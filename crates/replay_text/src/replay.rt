@@ -1,3 +1,4 @@
+// A replay, as its text spells it.
 ghost use Rattle.std.specs.Prelude.{map};
 ghost use Rattle.replay_text.specs.Replays.{IsReplay};
 
@@ -20,5 +21,13 @@ pub struct Replay {
     pub scripts: Vec<Vec<TreeCall>>,
     /// Whose turns are made, item after item.
     pub schedule: Vec<Item>,
-    pub ghost within: { IsReplay (record { limit = limit; shape = shape; variant = variant; start = start.items; scripts = map (λ script. script.items) scripts.items; schedule = schedule.items }) },
+    pub ghost within: { IsReplay (record {
+      limit = limit;
+      shape = shape;
+      variant = variant;
+      start = start.items;
+      scripts = map
+          (λ script. script.items) scripts.items;
+      schedule = schedule.items;
+    }) },
 }

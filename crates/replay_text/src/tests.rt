@@ -1,3 +1,4 @@
+// Texts of replays, whole ones and with one fault each.
 use crate::read_replay;
 use art_core::Item;
 use art_rows::Shape;

@@ -1,3 +1,4 @@
+// Why a replay gives no history.
 use plans::{MachineFault, RunFault};
 
 /// Why a text of a replay gives no history.

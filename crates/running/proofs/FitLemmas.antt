@@ -1,9 +1,9 @@
 -- Processes that fit: the calls left to the first one, and lists of them, made one or cut in two.
-use Rattle.std.proofs.Common.{◌≡◌, ℕ, zero, suc, ◌+◌, Bool, true, false, List, [], ◌∷◌, ◌++◌, length, map, take, drop, refl, sym, ap, subst}
+use Rattle.std.proofs.Common.{◌≡◌, ℕ, suc, ◌+◌, Bool, true, false, List, [], ◌∷◌, ◌++◌, length, map, take, drop, refl, sym, ap, subst}
 use Rattle.std.proofs.Common.{◌∙◌, arith}
 use Rattle.std.specs.Prelude.{None, if◌then◌else◌, nat_lt}
 use Rattle.std.specs.List.{range_with_len}
-use Rattle.std.proofs.lemmas.List.{map-append}
+use Rattle.std.proofs.lemmas.List.FromFn.{map-range_with_len_more}
 use Rattle.art.specs.declared.doing.Doing.TheVariants.{Idle}
 use Rattle.art.specs.Doings.{FitsDoing}
 use Rattle.art_core.specs.Core.{begun, idle}
@@ -62,18 +62,6 @@ fit-cut setup (x ∷ xs) (r ∷ rs) given fit = let rest = fit-cut setup xs rs g
 
 -- All processes, before the first step.
 
-from-push : (a n : ℕ) → range_with_len a n ++ (a + n) ∷ [] ≡ range_with_len a (suc n)
-from-push a zero = let same : a + 0 ≡ a = omega arith in ap (λ k. k ∷ []) same
-from-push a (suc n) =
-    let same : a + suc n ≡ a + 1 + n = omega arith in
-    ap (λ l. a ∷ l) (ap (λ k. range_with_len (a + 1) n ++ k ∷ []) same ∙ from-push (a + 1) n)
-
-range-push : (n : ℕ) → range_with_len 0 n ++ n ∷ [] ≡ range_with_len 0 (n + 1)
-range-push n =
-    let first : n ≡ 0 + n = omega arith in
-    let last : suc n ≡ n + 1 = omega arith in
-    ap (λ k. range_with_len 0 n ++ k ∷ []) first ∙ (from-push 0 n ∙ ap (range_with_len 0) last)
-
 abbrev pub first_process : ℕ → Numbered
 first_process p = (p, idle)
 
@@ -90,6 +78,5 @@ pub fit-idle-more : (setup : Setup) (n : ℕ) (rs : List Run) (r : Run) → Fit 
     → FitsProcess setup (n, idle) r
     → Fit setup (map first_process (range_with_len 0 (n + 1))) (rs ++ r ∷ [])
 fit-idle-more setup n rs r fit f =
-    subst (λ xs. Fit setup xs (rs ++ r ∷ [])) (sym (map-append first_process (range_with_len 0 n) (n ∷ [])) ∙ ap
-        (map first_process) (range-push n))
+    subst (λ xs. Fit setup xs (rs ++ r ∷ [])) (sym (map-range_with_len_more first_process 0 n n (omega arith)))
     (fit-push setup (map first_process (range_with_len 0 n)) rs (n, idle) r fit f)

@@ -125,7 +125,7 @@ module _ (v : View) (number : ℕ) (r : Runner) (reply : Reply) (first : IsFirst
       left =
           ap (λ k. k + new.left)
           (ap (λ l. length l) (filter_map-append (λ (e : Stamped). invoked e.1) p.log ((n, Answer number reply) ∷ [])
-              ∙ append-nil (begun p)))
+          ∙ append-nil (begun p)))
           ∙ (ap (λ k. length (begun p) + k) left ∙ first.fits.left);
       log = ap (λ l. l ++ (n, Answer number reply) ∷ []) first.fits.log ∙ sym log;
     })

@@ -1,4 +1,4 @@
-//! The shared part of the running trees.
+// The shared part of the running trees.
 use art_shared::SharedCore;
 
 /// The words of one tree, which the threads of all processes share. A pass is used only with the arena that it came from.

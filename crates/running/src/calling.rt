@@ -1,4 +1,4 @@
-//! Calls, one step after another.
+// Calls, one step after another.
 ghost use Rattle.std.specs.Prelude.{◌≡◌, ◌<◌, IsTrue, IfOk, OnOk, OnErr};
 ghost use Rattle.art_shared.specs.Views.{is_idle, calls_left};
 ghost use Rattle.running.specs.Passes.{shows, IsPassOf};

@@ -1,4 +1,4 @@
-//! An arena ends, and what its processes did becomes a history.
+// An arena ends, and what its processes did becomes a history.
 ghost use Rattle.std.specs.Prelude.{◌≡◌, flat_map, IfOk, IfErr, OnOk};
 ghost use Rattle.art_shared.specs.Ends.{HasOwnEvents};
 ghost use Rattle.running.specs.Passes.{shows, opened_for, IsPassOf};

@@ -1,4 +1,4 @@
-//! Why an arena was not closed.
+// Why an arena was not closed.
 use crate::arena::Arena;
 use crate::pass::Pass;
 

@@ -1,4 +1,4 @@
-//! An arena, and the pass with all its processes.
+// An arena, and the pass with all its processes.
 ghost use Rattle.std.specs.Prelude.{◌≡◌, ◌*◌, ◌≤◌, IfOk, vec_len, vec_capacity};
 ghost use Rattle.art_rows.specs.Table.{IsWithinLimits};
 ghost use Rattle.art_shared.specs.Views.{all_idle};

@@ -1,4 +1,4 @@
-//! Processes go to passes of their own, and come back.
+// Processes go to passes of their own, and come back.
 ghost use Rattle.std.specs.Prelude.{◌≡◌, ◌+◌, ◌≤◌, length, IfOk, OnOk, OnErr};
 ghost use Rattle.art_shared.specs.Views.{without_last, last_alone, merged};
 ghost use Rattle.running.specs.Passes.{shows, IsPassOf};

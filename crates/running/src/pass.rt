@@ -1,4 +1,4 @@
-//! What a thread runs processes with.
+// What a thread runs processes with.
 use crate::runner::Runner;
 use art_shared::{Place, Setup};
 

@@ -1,4 +1,4 @@
-//! How far a call has come.
+// How far a call has come.
 use events::Reply;
 
 /// How far an open call has come.

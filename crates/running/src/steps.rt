@@ -98,7 +98,8 @@ impl Runner {
         ensures first { IsFirst (shown place.new) number self.new }
         ensures beside { IsBeside (shown place.old) (shown place.new) }
         ensures made { OnOk result ((found : ℕ) × (shown place.new ≡ advanced (shown place.old) found)) }
-        ensures told { IfOk result (λ told. MatchOption told (IsTrue (is_open (shown place.new))) (λ reply. HasReplied reply (shown place.new))) }
+        ensures told { IfOk result (λ told. MatchOption told (IsTrue (is_open (shown place.new)))
+            (λ reply. HasReplied reply (shown place.new))) }
         ensures kept { OnErr result (shown place.new ≡ shown place.old) }
     {
         match &mut self.doing {

@@ -82,7 +82,7 @@ module _ (quota word : ℕ) (all : List Holding) (shared : IsSharedOut quota wor
     IsSharedOut-note part =
         let new = noted h part in
         let same : (f : Holding → ℕ) → f new ≡ f h → sum_by f (set all i new) ≡ sum_by f all = λ f e. let a =
-            sum_by-replaced f all i h new at in omega arith in
+        sum_by-replaced f all i h new at in omega arith in
         IsSharedOut-same _ (same drawn_count refl) (same left_count refl) (λ x. same (times_drawn x) refl)
         (All-set (λ k. k.floor ≤ word) all i new floor-le shared.floors)
 

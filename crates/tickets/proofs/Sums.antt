@@ -22,7 +22,7 @@ module _ {X : Type 0} where
     pub sum_by-replaced : (xs : List X) (i : ℕ) (x y : X) → get_elem? xs i ≡ some x → sum_by f (set xs i y) + f x ≡ sum_by f xs + f y
     sum_by-replaced xs i x y at =
         let there = read-within xs i x at in subst (λ z. sum_by f (set xs i y) + f z ≡ sum_by f xs + f y) there.1
-            (sum_by-set f xs i y x there.0)
+        (sum_by-set f xs i y x there.0)
 
     -- one item is within the sum
     pub read-le-sum_by : (xs : List X) (i : ℕ) (x : X) → get_elem? xs i ≡ some x → f x ≤ sum_by f xs

@@ -1,4 +1,4 @@
-//! A share of the draws.
+// A share of the draws.
 ghost use Rattle.std.specs.Prelude.{◌≡◌, ◌+◌, ◌^◌, ◌<◌, ◌≤◌, [], length, All};
 
 use crate::rule::Holding;

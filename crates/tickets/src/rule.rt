@@ -1,4 +1,4 @@
-//! What a hand holds, the rule of the shared word, and what each atomic step tells. All of it is for the proofs alone.
+// What a hand holds, the rule of the shared word, and what each atomic step tells. All of it is for the proofs alone.
 ghost use Rattle.std.specs.Prelude.{[]};
 ghost use Rattle.tickets.specs.Holdings.{holding, KeepsCount, Draws, SetsAside, StaysWithin, kept_part, given_part, both_parts, no_part};
 

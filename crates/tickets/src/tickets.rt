@@ -1,4 +1,4 @@
-//! The shared counter, and what is done with its hands.
+// The shared counter, and what is done with its hands.
 ghost use Rattle.std.specs.Prelude.{◌≡◌, ◌+◌, ◌-◌, ◌^◌, ◌<◌, ◌≤◌, ◌↔◌, [], ◌∷◌, ◌++◌, max, All, IfOk, IfErr, IsOk};
 
 use crate::hand::Hand;
@@ -84,7 +84,8 @@ impl Tickets {
         requires own { counter_of hand.old ≡ counter self.now }
         requires other { counter_of other ≡ counter self.now }
         ensures own { counter_of hand.new ≡ counter_of hand.old }
-        ensures both { Holds hand.new (drawn_by hand.old ++ drawn_by other) (left_of hand.old + left_of other) (max (floor_of hand.old) (floor_of other)) }
+        ensures both { Holds hand.new (drawn_by hand.old ++ drawn_by other) (left_of hand.old + left_of other)
+            (max (floor_of hand.old) (floor_of other)) }
     {
         let Hand { seat, left, drawn } = other;
         self.table.shared.join_seat::<Part>(&mut hand.seat, seat);

@@ -1,3 +1,5 @@
+// What calls are drawn.
+
 /// What calls are drawn: how many of a hundred are of each kind, and the least and the greatest of their keys.
 #[derive(Clone, Copy, Debug, PartialEq, Eq)]
 pub struct Mix {

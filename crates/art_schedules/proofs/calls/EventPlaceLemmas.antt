@@ -41,7 +41,7 @@ abbrev pub IsNextAnswer : ℕ → ℕ → List Event → ℕ → Option Response
 IsNextAnswer p i events place None = (k : ℕ) (reply : Reply) → place < k → HasAt i events k (Answer p reply) → ⊥
 IsNextAnswer p i events place (Some r) =
     (place < r.res) × HasAt i events r.res (Answer p r.reply)
-        × ((k : ℕ) (reply : Reply) → place < k → k < r.res → HasAt i events k (Answer p reply) → ⊥)
+    × ((k : ℕ) (reply : Reply) → place < k → k < r.res → HasAt i events k (Answer p reply) → ⊥)
 
 no_answer : (i p q : ℕ) (call : Call) (events : List Event) (k : ℕ) (reply : Reply)
     → HasAt i (Invoke q call ∷ events) k (Answer p reply) → i < k
@@ -74,7 +74,7 @@ first_answer p i (Answer q answer ∷ events) = by_test (q == p) refl (response_
     )
     by_test false other None h =
         λ k reply is. h k reply (earlier i (Answer q answer) events k (Answer p reply) (other_answer i p q answer events k
-            reply other is) is)
+        reply other is) is)
     by_test false other (Some r) h = (
       later i (Answer q answer) events r.res (Answer p r.reply) h.0,
       λ k reply less is. h.1 k reply less (earlier i (Answer q answer) events k (Answer p reply) (other_answer i p q answer events k
@@ -128,10 +128,10 @@ call_from i (Invoke p call ∷ events) (suc n) a here =
     }
 call_from i (Invoke p call ∷ events) zero a here =
     subst (IsCallAt i (Invoke p call ∷ events)) (same_Some (operation_of p call i events) a here) (record {
-  process = p;
-  invoked = at_first i (Invoke p call) events;
-  response = next_first p i (Invoke p call) events (response_from p (suc i) events) (first_answer p (suc i) events);
-})
+      process = p;
+      invoked = at_first i (Invoke p call) events;
+      response = next_first p i (Invoke p call) events (response_from p (suc i) events) (first_answer p (suc i) events);
+    })
 
 pub call_at : (events : List Event) (n : ℕ) (a : Operation) → slice_get (operations events) n ≡ Some a → IsCallAt 0 events a
 call_at events n a here = call_from 0 events n a here

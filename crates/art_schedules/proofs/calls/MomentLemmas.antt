@@ -51,8 +51,14 @@ moment-before plan first (x ∷ schedule) (suc t) next h = go (step plan first x
     go None e rest k = absurd (nowhere plan (take (suc t) schedule) next k)
     go (Some s) e rest k = ⊎_elim
         (λ over. let short = over.1 in inl (ap (λ o. run_on plan o (take t schedule)) e ∙ over.0, omega arith))
-        (λ r. inr (record { before = r.before; at = ap (λ o. run_on plan o (take t schedule)) e ∙ r.at; turn = r.turn; here = r.here; is =
-            r.is })) (rest s k)
+        (λ r. inr (record {
+          before = r.before;
+          at = ap (λ o. run_on plan o (take t schedule)) e ∙ r.at;
+          turn = r.turn;
+          here = r.here;
+          is =
+              r.is;
+        })) (rest s k)
 
 -- the move that logs an event
 abbrev pub logging : Event → Move
@@ -200,10 +206,10 @@ module _ (plan : Plan) (first : State) (schedule : List ℕ) (p : ℕ) where
       (λ later. ⊎_elim
       (λ over. goes-on t begun_at calls call now later over.0 begins (λ u reply low high. silent u reply low (omega arith)))
       (λ r. one-more r (goes-on t begun_at calls call r.before later r.at begins (λ u reply low high. silent u reply low
-          (omega arith))) later)
+      (omega arith))) later)
       (moment-before plan first schedule t now at))
       (λ same. let e : t ≡ begun_at = omega arith in begins now (subst (λ i. At plan first schedule (suc i) now) e at))
-          (cases_lt begun_at t)
+      (cases_lt begun_at t)
     where
       one-more : (r : StepAt plan first schedule t now) → IsIn r.before p calls call → begun_at < t → IsIn now p calls call
       one-more r is later =
@@ -300,8 +306,13 @@ begun-before plan words schedule (suc t) now p calls call at is = ⊎_elim
         → (IsIn r.before p calls call
         → (u : ℕ) × (l : LogsAt plan (opened_on plan words) schedule u (Invoke p call)) × (length (begun l.process) + 1 ≡ calls))
         → (u : ℕ) × (l : LogsAt plan (opened_on plan words) schedule u (Invoke p call)) × (length (begun l.process) + 1 ≡ calls)
-    by_step r w own (Stays same count) rest = rest (record { process = w; own = own; count = sym count ∙ is.count; is_open = sym
-        same ∙ is.is_open })
+    by_step r w own (Stays same count) rest = rest (record {
+      process = w;
+      own = own;
+      count = sym count ∙ is.count;
+      is_open = sym
+          same ∙ is.is_open;
+    })
     by_step r w own (Begins other turn next open_now count) rest =
         let same : other ≡ call = same_Some other call (sym open_now ∙ is.is_open) in (
           t,

@@ -71,7 +71,7 @@ module _ (plan : Plan) (words schedule : List ℕ) (s : State) (trace : Traced p
   places-go-up i j t u e f here there less = ⊎_elim
       (λ same. let k = same-step i j t u e f here there same in absurd (omega arith))
       (λ differ. ⊎_elim (λ before. before) (λ after. let k = steps-go-up j i u t f e there here after in absurd (omega arith))
-          differ) (cases_order i j)
+      differ) (cases_order i j)
 
   same-place : (i j t u : ℕ) (e f : Event) → IsDated i t e → IsDated j u f → t ≡ u → i ≡ j
   same-place i j t u e f here there same = ⊎_elim (λ equal. equal)
@@ -152,7 +152,7 @@ module _ (plan : Plan) (words schedule : List ℕ) (s : State) (trace : Traced p
     during : (t : ℕ) (now : State) → At plan first schedule t now → IsWithin run_call t → IsIn now p calls a.call
     during t now at within =
         goes-on plan first schedule p t begins calls a.call now within.0 at next-moment
-            (λ u reply low high logs. silent t u reply low high within.1 logs)
+        (λ u reply low high logs. silent t u reply low high within.1 logs)
 
     -- the response
     ending : (r : Response) (e : ℕ) → a.response ≡ Some r → ends ≡ Some e → IsDated r.res e (Answer p r.reply) → a.inv < r.res
@@ -182,7 +182,7 @@ module _ (plan : Plan) (words schedule : List ℕ) (s : State) (trace : Traced p
         let within = slice_get_within schedule e p le.turn in
         let (next, next_at) = earlier-moment plan first schedule t (suc e) now (omega arith) at in
         let same = same-process plan first schedule p e ended.before le.now ended.is_in.process le.process ended.at le.at
-            ended.is_in.own le.own in
+        ended.is_in.own le.own in
         ⊎_elim (λ over. omega arith)
         (λ b.
         let turn : b.turn ≡ p = same_Some b.turn p (sym b.here ∙ le.turn) in
@@ -194,7 +194,7 @@ module _ (plan : Plan) (words schedule : List ℕ) (s : State) (trace : Traced p
         let count : length (begun le.process) ≡ calls = ap (λ q. length (begun q)) (sym same) ∙ ended.is_in.count in
         let count_now = in_it.count in
         let up = stage-rises plan first schedule p (suc e) t next now (after_move p (Responds r.reply) m.word le.process) in_it.process
-            (omega arith) next_at at
+        (omega arith) next_at at
         m.own in_it.own in
         omega arith) (moment-before plan first schedule e next next_at)
 
@@ -213,7 +213,7 @@ module _ (plan : Plan) (words schedule : List ℕ) (s : State) (trace : Traced p
             let low = stage-idle logs.process idle in
             let count = in_it.count in
             let up = stage-rises plan first schedule p t begins now logs.now in_it.process logs.process more at logs.at
-                in_it.own logs.own in
+            in_it.own logs.own in
             absurd (omega arith)) (cases_lt begins t)
 
         until : (response : Option Response) → a.response ≡ response → (o : Option ℕ) → ends ≡ o → IsNextAnswer p 0 history a.inv response
@@ -295,14 +295,14 @@ module _ (plan : Plan) (words schedule : List ℕ) (s : State) (trace : Traced p
         let f = each m a here in
         let g = each n b there in
         let place = same-place a.inv b.inv (call_of m).begins (call_of n).begins (Invoke (call_of m).process a.call)
-            (Invoke (call_of n).process b.call)
+        (Invoke (call_of n).process b.call)
         f.begun_at g.begun_at same in
         ⊎_elim (λ equal. equal)
         (λ differ. ⊎_elim
         (λ before. let less = AllPairs-at (λ a b. a.inv < b.inv) (operations history) m n a b (inv_rises history) before here
-            there in absurd (omega arith))
+        there in absurd (omega arith))
         (λ after. let less = AllPairs-at (λ a b. a.inv < b.inv) (operations history) n m b a (inv_rises history) after there
-            here in absurd (omega arith))
+        here in absurd (omega arith))
         differ) (cases_order m n)
 
     distinct : (m n : ℕ) → m < length (operations history) → n < length (operations history) → (call_of m).process ≡ (call_of n).process
@@ -377,4 +377,4 @@ run-has-calls plan start words schedule s run =
     let end : At plan (opened_on plan words) schedule (length schedule) s =
     subst (λ xs. Gives plan (opened_on plan words) xs s) (sym (take-length schedule)) run.gives in
     calls-of-run plan words schedule s (traced plan words schedule s run.within long zeroed run.gives run.few_steps
-        (length schedule) s end) end
+    (length schedule) s end) end

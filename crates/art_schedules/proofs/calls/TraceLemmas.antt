@@ -68,9 +68,11 @@ module _ (plan : Plan) (first : State) (schedule : List ℕ) (t : ℕ) (s next :
       let own : process_of e ≡ p = same_Some (process_of e) p (sym logs.turn ∙ turn) in
       let state = same_Some logs.now s (sym logs.at ∙ at) in
       let process = same_Some logs.process q
-      (sym logs.own ∙ (ap (λ z. slice_get z.processes (process_of e)) state ∙ (ap (slice_get s.processes) own ∙ here))) in
-      (own, same_Some (logging e) m (sym logs.next ∙ (ap (λ w. next_move plan (process_of e) w) process
-          ∙ (ap (λ i. next_move plan i q) own ∙ is_next))))
+      (sym logs.own ∙ (ap (λ z. slice_get z.processes (process_of e)) state ∙ (ap (slice_get s.processes) own ∙ here))) in (
+        own,
+        same_Some (logging e) m (sym logs.next ∙ (ap (λ w. next_move plan (process_of e) w) process
+            ∙ (ap (λ i. next_move plan i q) own ∙ is_next))),
+      )
 
   -- past the end of the schedule
   past-end : length schedule ≤ t → Traced plan first schedule (suc t) s
@@ -91,7 +93,7 @@ module _ (plan : Plan) (first : State) (schedule : List ℕ) (t : ℕ) (s next :
     events = h.events;
     history = ap (λ z. logged z.processes) is
         ∙ (ap history_of_logs (map-same (λ q. q.log) s.processes p q
-            (after_move p (Makes a) (slice_index s.words (word_of_move (Makes a))) q) here refl)
+        (after_move p (Makes a) (slice_index s.words (word_of_move (Makes a))) q) here refl)
         ∙ h.history);
     rising = h.rising;
     early = λ k d within. let before = h.early k d within in omega arith;
@@ -99,7 +101,7 @@ module _ (plan : Plan) (first : State) (schedule : List ℕ) (t : ℕ) (s next :
     complete = λ u e before logs. ⊎_elim (λ less. h.complete u e less logs)
         (λ more. let same : u ≡ t = omega arith in
         absurd (no-event e a (logs-now p q (Makes a) e turn at here is_next (subst (λ i. LogsAt plan first schedule i e) same
-            logs)).1)) (cases_lt u t);
+        logs)).1)) (cases_lt u t);
     is_logged = logged_next;
   }
 
@@ -127,7 +129,7 @@ module _ (plan : Plan) (first : State) (schedule : List ℕ) (t : ℕ) (s next :
         rising =
             AllPairs-append (λ (x y : Dated). x.0 < y.0) h.events (last ∷ []) h.rising
             (AllPairs-cons (λ (x y : Dated). x.0 < y.0) last [] (All-nil (λ (y : Dated). t < y.0))
-                (AllPairs-nil (λ (x y : Dated). x.0 < y.0)))
+            (AllPairs-nil (λ (x y : Dated). x.0 < y.0)))
             (All-from_contains (λ (x : Dated). All (λ (y : Dated). x.0 < y.0) (last ∷ [])) h.events
             (λ x among. All-cons (λ (y : Dated). x.0 < y.0) last [] (All-contains (λ (x : Dated). x.0 < t) h.events x h.early among)
             (All-nil (λ (y : Dated). x.0 < y.0))));

@@ -1,8 +1,8 @@
 -- What calm_after makes of each word.
 use Rattle.std.proofs.Common.{◌≡◌, ℕ, zero, suc, ◌+◌, ◌*◌, ◌-◌, ◌/◌, ◌<◌, ◌≤◌, Bool, true, false, List, length, refl, ap, sym, subst, ◌∙◌}
 use Rattle.std.proofs.Common.{inl, inr, arith}
-use Rattle.std.specs.Prelude.{◌⊎◌, ◌||◌, ◌&&◌, nat_lt, map, slice_index, Option, Some, None, if◌then◌else◌}
-use Rattle.std.proofs.lemmas.Bool.{cases_lt, cases_Bool, lt-ltb, ltb-true}
+use Rattle.std.specs.Prelude.{◌⊎◌, ◌&&◌, nat_lt, map, slice_index, Option, Some, None, if◌then◌else◌}
+use Rattle.std.proofs.lemmas.Bool.{cases_lt, cases_Bool, lt-ltb, ltb-true, or_left, or_right, or_from}
 use Rattle.std.proofs.lemmas.List.{get_or_past}
 use Rattle.art_rows.specs.declared.table.Shape.{Shape}
 use Rattle.art_rows.specs.declared.table.Kind.{Kind}
@@ -18,20 +18,10 @@ as-many : (f : ℕ → ℕ) (first n : ℕ) → length (map f (numbers first n))
 as-many f first zero = refl
 as-many f first (suc n) = ap suc (as-many f (first + 1) n)
 
-both-false : (x y : Bool) → x ≡ false → y ≡ false → (x || y) ≡ false
-both-false x y e f = ap (λ b. b || y) e ∙ f
-
-left-true : (x y : Bool) → x ≡ true → (x || y) ≡ true
-left-true x y e = ap (λ b. b || y) e
-
-right-true : (x y : Bool) → y ≡ true → (x || y) ≡ true
-right-true true y e = refl
-right-true false y e = e
-
 module _ (shape : Shape) (words : List ℕ) (word : ℕ) where
   low-false : word < 5 → (n : ℕ) → n ≤ suc word → lies_below shape words word n ≡ false
   low-false low zero h = refl
-  low-false low (suc n) h = both-false (lies_at words word n (kind_at shape n)) (lies_below shape words word n)
+  low-false low (suc n) h = or_from (lies_at words word n (kind_at shape n)) (lies_below shape words word n)
       (here (kind_at shape n) refl)
       (low-false low n (omega (arith, h)))
     where
@@ -43,8 +33,8 @@ module _ (shape : Shape) (words : List ℕ) (word : ℕ) where
     busy-true : is_busy (slice_index words base) ≡ true → (n : ℕ) → base < n → lies_below shape words word n ≡ true
     busy-true busy zero h = absurd (omega (arith, h))
     busy-true busy (suc n) h = elim (cases_lt base n) [
-      | inl less ↦ right-true (lies_at words word n (kind_at shape n)) (lies_below shape words word n) (busy-true busy n less)
-      | inr more ↦ left-true (lies_at words word n (kind_at shape n)) (lies_below shape words word n) (here n (omega (arith, more, h)))
+      | inl less ↦ or_right (lies_at words word n (kind_at shape n)) (lies_below shape words word n) (busy-true busy n less)
+      | inr more ↦ or_left (lies_at words word n (kind_at shape n)) (lies_below shape words word n) (here n (omega (arith, more, h)))
     ]
       where
         at-base : lies_at words word base (kind_at shape base) ≡ true
@@ -56,7 +46,7 @@ module _ (shape : Shape) (words : List ℕ) (word : ℕ) where
 
     free-false : is_busy (slice_index words base) ≡ false → (n : ℕ) → n ≤ suc word → lies_below shape words word n ≡ false
     free-false free zero h = refl
-    free-false free (suc n) h = both-false (lies_at words word n (kind_at shape n)) (lies_below shape words word n)
+    free-false free (suc n) h = or_from (lies_at words word n (kind_at shape n)) (lies_below shape words word n)
         (here (kind_at shape n) refl)
         (free-false free n (omega (arith, h)))
       where
@@ -127,7 +117,7 @@ module _ (shape : Shape) (calm later : List ℕ) where
       → SameWords calm (calm_after shape calm later) base kind
   after-busy long base kind row busy word low high =
       after-at word (omega (arith, row_ends shape base kind row, long, high))
-          ∙ ap (chosen word) (of-busy shape later word base kind row low high busy)
+      ∙ ap (chosen word) (of-busy shape later word base kind row low high busy)
 
   -- each is one of both
   pub after-either : (word : ℕ) → (slice_index (calm_after shape calm later) word ≡ slice_index calm word)

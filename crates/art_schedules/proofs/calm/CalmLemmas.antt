@@ -66,7 +66,7 @@ zero-free v e = ap is_busy e
 
 module _ (variant : Variant) (shape : Shape) (n m : ℕ) (s later : State) (h : IsSound variant shape n s) (k : IsSound variant shape m later)
     (steady : IsSteady variant shape s later) (p : ℕ) (change : RowChange variant shape s p later)
-        (settled-then : BusySettled variant shape later)
+    (settled-then : BusySettled variant shape later)
     (first calm : List ℕ) (c : IsCalm variant shape first s calm) where
   abbrev after : List ℕ
   after = calm_after shape calm later.words
@@ -102,7 +102,7 @@ module _ (variant : Variant) (shape : Shape) (n m : ℕ) (s later : State) (h : 
       → (variant ≡ Optimistic) ⊎ (is_obsolete x.kept ≡ false) → slice_index after x.base ≡ x.kept
   held r call w o x a known =
       busy-row x.base x.kind row (locked-busy (slice_index later.words x.base) locked) x.base (omega arith)
-          (omega (arith, some-words x.kind))
+      (omega (arith, some-words x.kind))
       ∙ go (version-change variant shape n s h p later x.base x.kind row change)
     where
       kept : IsKept (locks variant) (IsSettled variant shape later) x
@@ -138,7 +138,7 @@ module _ (variant : Variant) (shape : Shape) (n m : ℕ) (s later : State) (h : 
   children word = elim (after-either shape calm later.words word) [
     | inl e ↦ subst (IsGoodAt (IsSettled variant shape later) shape word) (sym e)
         (good-more (IsSettled variant shape s) (IsSettled variant shape later) shape steady.settled word (slice_index calm word)
-            (c.children word))
+        (c.children word))
     | inr e ↦ subst (IsGoodAt (IsSettled variant shape later) shape word) (sym e) (k.children word)
   ]
 
@@ -234,7 +234,7 @@ module _ (variant : Variant) (shape : Shape) (n m : ℕ) (s later : State) (h : 
         inside : (r : IsOfRow shape word) → r.base ≡ x.base → IsOutside x.base x.kind word → ⊥
         inside r e out =
             let same = rows_apart shape r.base x.base r.kind x.kind x.base r.row its-row (omega (arith, e))
-                (omega (arith, e, some-words r.kind)) (omega arith)
+            (omega (arith, e, some-words r.kind)) (omega arith)
             (omega (arith, some-words x.kind)) in
             let words = ap row_words same.1 in
             elim out [
@@ -284,7 +284,7 @@ module _ (variant : Variant) (shape : Shape) (n m : ℕ) (s later : State) (h : 
   calm-change settled (RowReleased x value asks rest with then kept written is others) = elim written [
     | inl w ↦ subst (λ v. (a : AsksFor variant shape s p (Store x.base v)) → IsWith x rest (held_by variant shape a.call a.process)
         → HoldsThen variant shape later p a.call rest → CalmChange variant shape s p later calm after) (sym w)
-            (released (is ∙ w)) asks with then
+        (released (is ∙ w)) asks with then
     | inr w ↦ CalmStays (all-stay x kept others (obsolete-busy (slice_index later.words x.base)
         (ap is_obsolete (is ∙ w) ∙ obsolete_obsolete x.kept)))
   ]
@@ -299,7 +299,7 @@ module _ (variant : Variant) (shape : Shape) (n m : ℕ) (s later : State) (h : 
         | inr alive ↦ CalmReleased x a rest b d kept alive
             (free-row x.base x.kind (its-row x kept others) (free-busy (slice_index later.words x.base)
             (ap is_locked now ∙ released-free x.kept (version-free (locks variant) x.kept kept.0))
-                (ap is_obsolete now ∙ (obsolete_released x.kept ∙ alive))))
+            (ap is_obsolete now ∙ (obsolete_released x.kept ∙ alive))))
             (rest-stay x kept others)
       ]
 

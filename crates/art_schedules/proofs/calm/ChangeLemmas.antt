@@ -62,7 +62,7 @@ module _ (variant : Variant) (shape : Shape) (root : 1 ≤ shape.rows256) (n : �
   low-word : (m : Move) → word_of_move m < 5 → Changed m
   low-word m low = RowsStay
       (λ word high. index-other s.words (word_of_move m) (new_word m (slice_index s.words (word_of_move m))) word
-          (λ e. omega (arith, e, low, high)))
+      (λ e. omega (arith, e, low, high)))
 
   module _ (call : Call) (is-open : q.call ≡ Some call) where
     abbrev c : Setting
@@ -94,31 +94,45 @@ module _ (variant : Variant) (shape : Shape) (root : 1 ≤ shape.rows256) (n : �
 
     holds-then : (a : Access) (rows : List Held) → holds c (stage_of variant shape call (later a)) ≡ rows
         → HoldsThen variant shape (moved s p q (Makes a)) p call rows
-    holds-then a rows e = record { process = later a; is_open = record { own = set-here s.processes p q (later a) here; is_open =
-        is-open }; holds = e }
+    holds-then a rows e = record {
+      process = later a;
+      is_open = record {
+        own = set-here s.processes p q (later a) here;
+        is_open =
+            is-open;
+      };
+      holds = e;
+    }
 
     -- a row whose version it kept is none that it holds
     apart : (x y : Held) → IsKept (locks variant) P x → slice_index s.words x.base ≡ x.kept → IsAmong y (holds c place) → y.base ≢ x.base
     apart x y k is a same =
         let locked = h.locked p call q (record { own = here; is_open = is-open }) y a in
         let kept = held-is-kept P c place (h.knows p call q (record { own = here; is_open = is-open })) y a in
-        omega (arith, ap (slice_index s.words) same, is, locked, version-free (locks variant) x.kept k.0, version-free
-            (locks variant) y.kept kept.0)
+        omega (
+          arith,
+          ap (slice_index s.words) same,
+          is,
+          locked,
+          version-free (locks variant) x.kept k.0,
+          version-free
+              (locks variant) y.kept kept.0,
+        )
 
     access : (a : Access) (mark : Option Point) → call_turn c place ≡ Asks a mark → AccessDoes P c place → Changed (Makes a)
     access a mark e (Reads word at turn after) = subst (λ a. Changed (Makes a)) (asks-same (sym turn ∙ e))
         (RowsStay (λ x high. same-words s.words word x (in-table (Load word) at turn)))
     access a mark e (Writes x word value at turn among kept behind good after) = subst (λ a. Changed (Makes a)) (asks-same (sym turn ∙ e))
         (RowWritten word value (asks-for (Store word value) at turn) x among kept behind
-            (stored-at s.words word value (in-table (Store word value) at turn))
+        (stored-at s.words word value (in-table (Store word value) at turn))
         (λ other d. index-other s.words word value other d))
     access a mark e (Fills b k word value at turn filled behind row good after) = subst (λ a. Changed (Makes a)) (asks-same (sym turn ∙ e))
         (RowFilled word value (asks-for (Store word value) at turn) b k filled row behind
-            (stored-at s.words word value (in-table (Store word value) at turn))
+        (stored-at s.words word value (in-table (Store word value) at turn))
         (λ other d. index-other s.words word value other d))
     access a mark e (Ends b k word value at turn filled behind row good after) = subst (λ a. Changed (Makes a)) (asks-same (sym turn ∙ e))
         (RowFilled word value (asks-for (Store word value) at turn) b k filled row behind
-            (stored-at s.words word value (in-table (Store word value) at turn))
+        (stored-at s.words word value (in-table (Store word value) at turn))
         (λ other d. index-other s.words word value other d))
     access a mark e (Releases x rest value at turn hold none written kept after) = subst (λ a. Changed (Makes a)) (asks-same (sym turn ∙ e))
         (RowReleased x value (asks-for (Store x.base value) at turn) rest hold

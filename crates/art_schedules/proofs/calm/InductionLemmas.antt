@@ -67,7 +67,7 @@ module _ (plan : Plan) (start : Contents) (words : List ℕ) (Holds : List ℕ �
   on [] earlier s t run e here =
       subst (λ l. Holds l t) (sym (append-nil earlier))
       (subst (Holds earlier) (same_Some s t (sym e ∙ subst (λ l. run_on plan (Some (opened_on plan words)) l ≡ Some t)
-          (append-nil earlier) run.gives)) here)
+      (append-nil earlier) run.gives)) here)
   on (p ∷ later) earlier s t run e here = go (step plan s p) refl (on later (earlier ++ p ∷ []))
     where
       again : earlier ++ (p ∷ later) ≡ (earlier ++ p ∷ []) ++ later
@@ -83,11 +83,11 @@ module _ (plan : Plan) (start : Contents) (words : List ℕ) (Holds : List ℕ �
           → Holds (earlier ++ (p ∷ later)) t
       go None f rest =
           absurd (nowhere plan later t (ap (λ o. run_on plan o later) (sym f) ∙ later-part plan (opened_on plan words) s t earlier
-              (p ∷ later) e run.gives))
+          (p ∷ later) e run.gives))
       go (Some u) f rest =
           let gives : Gives plan (opened_on plan words) (earlier ++ p ∷ []) u =
           run-on-append plan (Some (opened_on plan words)) earlier (p ∷ [])
-              ∙ (ap (λ o. run_on plan o (p ∷ [])) e ∙ ap (λ o. run_on plan o []) f) in
+          ∙ (ap (λ o. run_on plan o (p ∷ [])) e ∙ ap (λ o. run_on plan o []) f) in
           let first = run-begins plan start words earlier (p ∷ later) s t run e in
           let next = run-begins plan start words (earlier ++ p ∷ []) later u t whole gives in
           subst (λ l. Holds l t) (sym again) (rest u t whole gives (at-step earlier p s u first next f here))
@@ -111,7 +111,7 @@ step-of-run variant full plan start words schedule p s t run v e =
     let steps = run-steps plan schedule (opened_on plan words) s run.gives in
     let few : begun.steps + length schedule < 2 ^ 62 = omega (arith, begun.few, steps, run.few_steps) in
     let here = (run-sound variant full plan v run.within.shape.root schedule begun.steps (opened_on plan words) s few
-        begun.sound run.gives).0 in
+    begun.sound run.gives).0 in
     let one = one-step variant full plan v run.within.shape.root (begun.steps + length schedule) few s here p t e in
     record {
       count = begun.steps + length schedule;

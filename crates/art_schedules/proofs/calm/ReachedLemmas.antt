@@ -37,7 +37,7 @@ module _ (P : OfRows) (shape : Shape) (is_row : (b : ℕ) (k : Kind) → P b k �
       go None f g = absurd (empty-row g)
       go (Some slot) f g =
           (subst (λ c. Each (IsNamed P) (child_rows c)) g
-              (good slot base kind (is_row base kind here) (slot-of-row words base kind x slot byte f))).0
+          (good slot base kind (is_row base kind here) (slot-of-row words base kind x slot byte f))).0
 
   pub reached-good : (base : ℕ) (kind : Kind) → Reached shape words base kind → P base kind
   reached-good base kind root = top

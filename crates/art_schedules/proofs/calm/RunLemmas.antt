@@ -1,5 +1,6 @@
 -- Calm along a run.
 use Rattle.std.proofs.Common.{◌≡◌, ℕ, ◌+◌, List, [], ◌∷◌, ◌++◌, refl, ap, sym, subst, ◌∙◌}
+use Rattle.std.proofs.lemmas.Option.{same_Some}
 use Rattle.std.specs.Prelude.{Option, Some, None}
 use Rattle.map_object.specs.MapObject.{Contents}
 use Rattle.art_core.specs.Core.{Plan, State, opened_on, step}
@@ -21,24 +22,21 @@ on-append : (plan : Plan) (schedule : List ℕ) (p : ℕ) (s t : State) (calm : 
     → calm_on plan (Some s) calm (schedule ++ p ∷ []) ≡ calm_behind plan.shape (calm_on plan (Some s) calm schedule) (step plan t p)
 on-append plan [] p s t calm e = go (step plan s p) refl
   where
-    same-state : {s t : State} → ◌≡◌ {A = Option State} (Some s) (Some t) → s ≡ t
-    same-state e = cc
-
     go : (o : Option State) → step plan s p ≡ o
         → calm_on plan (step plan s p) (calm_behind plan.shape calm (step plan s p)) [] ≡ calm_behind plan.shape calm (step plan t p)
     go None f =
         ap (λ o. calm_on plan o (calm_behind plan.shape calm o) []) f
-        ∙ (ap (calm_behind plan.shape calm) (sym f) ∙ ap (λ u. calm_behind plan.shape calm (step plan u p)) (same-state e))
+        ∙ (ap (calm_behind plan.shape calm) (sym f) ∙ ap (λ u. calm_behind plan.shape calm (step plan u p)) (same_Some _ _ e))
     go (Some u) f =
         ap (λ o. calm_on plan o (calm_behind plan.shape calm o) []) f
-        ∙ (ap (calm_behind plan.shape calm) (sym f) ∙ ap (λ u. calm_behind plan.shape calm (step plan u p)) (same-state e))
+        ∙ (ap (calm_behind plan.shape calm) (sym f) ∙ ap (λ u. calm_behind plan.shape calm (step plan u p)) (same_Some _ _ e))
 on-append plan (q ∷ schedule) p s t calm e = go (step plan s q) refl (λ u. on-append plan schedule p u t)
   where
     go : (o : Option State) → step plan s q ≡ o
         → ((u : State) (calm : List ℕ) → run_on plan (Some u) schedule ≡ Some t
         → calm_on plan (Some u) calm (schedule ++ p ∷ []) ≡ calm_behind plan.shape (calm_on plan (Some u) calm schedule) (step plan t p))
         → calm_on plan (Some s) calm ((q ∷ schedule) ++ p ∷ []) ≡ calm_behind plan.shape
-            (calm_on plan (Some s) calm (q ∷ schedule)) (step plan t p)
+        (calm_on plan (Some s) calm (q ∷ schedule)) (step plan t p)
     go None f rest = absurd (nowhere plan schedule t (ap (λ o. run_on plan o schedule) (sym f) ∙ e))
     go (Some u) f rest =
         ap (λ o. calm_on plan o (calm_behind plan.shape calm o) (schedule ++ p ∷ [])) f
@@ -52,7 +50,7 @@ pub calm-next : (plan : Plan) (words schedule : List ℕ) (p : ℕ) (s t : State
 unfolding calm_of
 calm-next plan words schedule p s t e f =
     on-append plan schedule p (opened_on plan words) s words e
-        ∙ ap (calm_behind plan.shape (calm_on plan (Some (opened_on plan words)) words schedule)) f
+    ∙ ap (calm_behind plan.shape (calm_on plan (Some (opened_on plan words)) words schedule)) f
 
 pub calm-goes : (plan : Plan) (words : List ℕ) → CalmGoes plan words
 unfolding calm_of
@@ -95,7 +93,7 @@ calm-at plan start words schedule s run full = along plan start words Holds firs
         (calm-kept plan.variant plan.shape made.count (made.count + 1) u v made.before made.behind made.steady p made.rows
         (settled-at plan.variant full plan start words (earlier ++ p ∷ []) v behind refl) words (calm_of plan words earlier) here
         (fresh-at plan.variant full plan start words (earlier ++ p ∷ []) v behind refl)
-            (small-words plan start words (earlier ++ p ∷ []) v behind))
+        (small-words plan start words (earlier ++ p ∷ []) v behind))
 
 pub step-at : (plan : Plan) (start : Contents) (words schedule : List ℕ) (p : ℕ) (s t : State)
     → IsRun plan start words (schedule ++ p ∷ []) t
@@ -122,7 +120,7 @@ along-calm plan start words full Holds first next schedule s run =
     along plan start words (λ earlier u. Holds earlier u (calm_of plan words earlier))
     (subst (Holds [] (opened_on plan words)) (sym (calm-goes plan words).first) first)
     (λ earlier p u v before behind e here. next earlier p u v (calm_of plan words earlier)
-        (calm_of plan words (earlier ++ p ∷ [])) before behind e
+    (calm_of plan words (earlier ++ p ∷ [])) before behind e
     (calm-at plan start words earlier u before full) (calm-at plan start words (earlier ++ p ∷ []) v behind full)
     (step-at plan start words earlier p u v behind full before.gives) here)
     schedule s run

@@ -41,7 +41,7 @@ settled-run variant full plan v root (p ∷ schedule) n first s few h k e =
         let made = one-step variant full plan v root n (omega (arith, few)) first h p next f in
         later next (omega (arith, few)) made.0
         (busy-settled-step variant plan.shape n first next p h made.1
-            (row-change variant full plan v root n (omega (arith, few)) first h p next f) k) l
+        (row-change variant full plan v root n (omega (arith, few)) first h p next f) k) l
 
 -- at the opening no row is busy
 opening-settled : (variant : Variant) (shape : Shape) (some : 1 ≤ shape.rows256) (s : State) → s.words ≡ opening shape
@@ -51,7 +51,7 @@ opening-settled variant shape some s is base kind row busy = absurd (true-false 
     behind : base ≢ root_base shape + 1
     behind same =
         let apart = rows_apart shape base (root_base shape) kind Full (root_base shape + 1) row (root-row variant shape some)
-            (omega (arith, same))
+        (omega (arith, same))
         (omega (arith, same, some-words kind)) (omega arith) (omega arith) in
         omega (arith, same, apart.0)
 

@@ -86,7 +86,7 @@ module _ (plan : Plan) (limits : IsWithinLimits plan.shape) (calls : AreTreeCall
     goes-on : (m : Move) → new_word m (slice_index s.words (word_of_move m)) < 2 ^ 64
         → ((call : Call) → (after_move p m (slice_index s.words (word_of_move m)) q).call ≡ Some call
         → (is_tree_call call ≡ true) × SmallAt (stage_of plan.variant plan.shape call
-            (after_move p m (slice_index s.words (word_of_move m)) q)))
+        (after_move p m (slice_index s.words (word_of_move m)) q)))
         → Small m
     goes-on m few own = record {
       words = All-set (λ w. w < 2 ^ 64) s.words (word_of_move m) (new_word m (slice_index s.words (word_of_move m))) few h.words;
@@ -125,7 +125,7 @@ module _ (plan : Plan) (limits : IsWithinLimits plan.shape) (calls : AreTreeCall
         begins (Some call) f g = subst Small (same_Some (Invokes call) m g) (goes-on (Invokes call) (omega arith) (λ other i.
             let same = same_Some call other i in
             subst (λ x. (is_tree_call x ≡ true)
-                × SmallAt (stage_of plan.variant plan.shape x (after_move p (Invokes call) (slice_index s.words 0) q))) same (
+            × SmallAt (stage_of plan.variant plan.shape x (after_move p (Invokes call) (slice_index s.words 0) q))) same (
               next-tree plan calls p q call f,
               begun-small (setting plan.shape plan.variant call)
                   (fine call (next-tree plan calls p q call f)) call,
@@ -153,7 +153,7 @@ module _ (plan : Plan) (limits : IsWithinLimits plan.shape) (calls : AreTreeCall
             let same = same_Some call other (sym e ∙ i) in
             subst
             (λ x. (is_tree_call x ≡ true) × SmallAt (stage_of plan.variant plan.shape x
-                (after_move p (Makes a) (slice_index s.words (word_of a)) q)))
+            (after_move p (Makes a) (slice_index s.words (word_of a)) q)))
             same (
               tree,
               subst SmallAt (sym (after-more (setting plan.shape plan.variant call)
@@ -161,7 +161,7 @@ module _ (plan : Plan) (limits : IsWithinLimits plan.shape) (calls : AreTreeCall
                   (told a (slice_index s.words (word_of a)))))
                   (call-after-small (setting plan.shape plan.variant call) (fine call tree) (stage_of plan.variant plan.shape call q)
                   (told a (slice_index s.words (word_of a)))
-                      (told-small a (slice_index s.words (word_of a)) (small_at s.words (word_of a) h.words))
+                  (told-small a (slice_index s.words (word_of a)) (small_at s.words (word_of a) h.words))
                   (h.stages p call q opens)),
             ))
 
@@ -197,7 +197,7 @@ opening-small : (shape : Shape) → AreSmall (opening shape)
 opening-small shape =
     All-set (λ w. w < 2 ^ 64) (slice_set (replicate (table_words shape) 0) 4 1) (info_at (root_base shape)) 3 (omega arith)
     (All-set (λ w. w < 2 ^ 64) (replicate (table_words shape) 0) 4 1 (omega arith)
-        (All-replicate (λ w. w < 2 ^ 64) (table_words shape) 0 (omega arith)))
+    (All-replicate (λ w. w < 2 ^ 64) (table_words shape) 0 (omega arith)))
 
 -- Words are small in every run, of any variant.
 pub small-words : (plan : Plan) (start : Contents) (words schedule : List ℕ) (s : State) → IsRun plan start words schedule s

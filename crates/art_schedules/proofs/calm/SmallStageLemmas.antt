@@ -243,16 +243,16 @@ module _ (c : Setting) (fine : IsFine c) where
   inserts-unlocked : (p : Position) (f : Finding) → SmallFinding f → SmallStage (insert_unlocked c p f)
   inserts-unlocked p (Lacks keys) s =
       if-small (is_full (row_at p.row) (count_in p.row.kind keys)) (grow_unlocked c p.row p.above p.slot keys)
-          (take_alone c p.row (work.Put keys))
+      (take_alone c p.row (work.Put keys))
       (grows-unlocked p.row p.above p.slot keys) (small-alone p.row (work.Put keys) tt)
   inserts-unlocked p (Has slot Empty) s = small-alone p.row (leaf_work c slot None) fine.leaf
   inserts-unlocked p (Has slot (Leaf key value)) s =
       if-small (key == key_of c.call) (take_alone c p.row (leaf_work c slot (Some value)))
       (if nat_le (keys_differ_at key (key_of c.call)) (row_at p.row).level then Wait Root else take_alone c p.row
-          (pair_work c slot key value))
+      (pair_work c slot key value))
       (small-alone p.row (leaf_work c slot (Some value)) fine.leaf)
       (if-small (nat_le (keys_differ_at key (key_of c.call)) (row_at p.row).level) (Wait Root)
-          (take_alone c p.row (pair_work c slot key value)) tt
+      (take_alone c p.row (pair_work c slot key value)) tt
       (small-alone p.row (pair_work c slot key value) (small-pair slot key value s)))
   inserts-unlocked p (Has slot (ChildRow base kind)) s = s
 
@@ -361,8 +361,12 @@ module _ (c : Setting) (fine : IsFine c) where
 
   small-claimed-row : (h : Hold) (slot : ℕ) (keys : KeyWords) (w : ℕ) (b : Bool) → nat_lt w (rows_of c.shape (next_kind h.row.kind)) ≡ b
       → SmallStage
-      (if b then GrowInfo (record { hold = h; slot = slot; keys = keys; base = base_of c.shape (next_kind h.row.kind) w
-          }) else Unlock h (Some Refused))
+      (if b then GrowInfo (record {
+        hold = h;
+        slot = slot;
+        keys = keys;
+        base = base_of c.shape (next_kind h.row.kind) w;
+      }) else Unlock h (Some Refused))
   small-claimed-row h slot keys w true e = fine.rows (next_kind h.row.kind) w (ltb-true w (rows_of c.shape (next_kind h.row.kind)) e)
   small-claimed-row h slot keys w false e = tt
 
@@ -377,7 +381,7 @@ module _ (c : Setting) (fine : IsFine c) where
   small-after false i e (Between d kept) w few s = if-small (w == d.above.kept) (Info d kept) (Wait Root) s tt
   small-after l i e (Info d kept) w few s =
       small-below l i d (held d.base d.kind w kept) (path_differs_at c (row_at (held d.base d.kind w kept))) s
-          (differs-few (held d.base d.kind w kept))
+      (differs-few (held d.base d.kind w kept))
   small-after l i e (Find p) w few s = small-find l i e p.row.kind p w few
   small-after l i e (FindKeys p count) w few s = tt
   small-after l i e (FindMore p count first) w few s = small-words l i e p (record { first = first; second = w; count = count })
@@ -389,7 +393,7 @@ module _ (c : Setting) (fine : IsFine c) where
   small-after l i e (LetGo above p f) w few s = small-found l i e p f s
   small-after l i e (Take t) w few s =
       if-small (w == t.row.kept) (taken_at c t.held t.below t.work t.row) (release_at l t.held None)
-          (small-taken t.held t.below t.work t.row s)
+      (small-taken t.held t.below t.work t.row s)
       (small-release l t.held None)
   small-after l i e (Write h slot word value) w few s = tt
   small-after l i e (ClaimPair h p) w few s = small-claimed-pair h p w (nat_lt w (rows_of c.shape Four)) refl s

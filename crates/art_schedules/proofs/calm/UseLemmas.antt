@@ -49,7 +49,7 @@ module _ (variant : Variant) (shape : Shape) (n : ℕ) (s : State) (h : IsSound 
   its-turn a asks =
       subst (λ x. call_turn (setting shape variant x) (stage_of variant shape x q) ≡ Asks a asks.mark) (its-call a asks)
       (subst (λ w. call_turn (setting shape variant asks.call) (stage_of variant shape asks.call w) ≡ Asks a asks.mark)
-          (its-process a asks) asks.turn)
+      (its-process a asks) asks.turn)
 
   its-filling : (a : Access) (asks : AsksFor variant shape s p a) (base : ℕ) (kind : Kind)
       → filled_by variant shape asks.call asks.process ≡ (base, kind) ∷ []
@@ -93,7 +93,7 @@ module _ (variant : Variant) (shape : Shape) (n : ℕ) (s : State) (h : IsSound 
             let its = its-filling (Store other v) asks base kind filled in
             let same = its-word other v asks in
             let one = rows_apart shape x.base base x.kind kind word row
-                (claimed-row shape s.words base kind (h.filled p call q o base kind its))
+            (claimed-row shape s.words base kind (h.filled p call q o base kind its))
             (omega (arith, behind.0)) behind.1 (omega (arith, same, within.0)) (omega (arith, same, within.1)) in
             absurd (kept.1.unfilled p call q o base kind its one.0)
         go (CalmReleased y asks rest with then held alive its others) =

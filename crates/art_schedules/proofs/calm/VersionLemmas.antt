@@ -45,7 +45,7 @@ pub not-behind : (shape : Shape) (base b word : ℕ) (kind k : Kind) → kind_at
     → base ≢ word
 not-behind shape base b word kind k e row behind same =
     let one = rows_apart shape base b kind k word e row (omega (arith, same)) (omega (arith, same, some-words kind))
-        (omega (arith, behind.0)) behind.1 in
+    (omega (arith, behind.0)) behind.1 in
     omega (arith, same, one.0, behind.0)
 
 module _ (variant : Variant) (shape : Shape) (n : ℕ) (s : State) (h : IsSound variant shape n s) where
@@ -97,7 +97,7 @@ module _ (variant : Variant) (shape : Shape) (n : ℕ) (s : State) (h : IsSound 
   version-change (RowReleased x value asks rest with then kept written is others) = elim (cases_eq base x.base) [
     | inl e ↦ IsReleased x.kept (version-free (locks variant) x.kept kept.0)
         (ap (slice_index s.words) e ∙ h.locked p asks.call asks.process asks.is_open x (with-here x rest (held_by variant shape asks.call
-            asks.process) with))
+        asks.process) with))
         (elim written [
           | inl w ↦ inl (ap (slice_index later.words) e ∙ (is ∙ w))
           | inr w ↦ inr (ap (slice_index later.words) e ∙ (is ∙ w))

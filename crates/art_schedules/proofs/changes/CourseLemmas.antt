@@ -34,7 +34,7 @@ ways-stay s calm last effects t u key base kind x course order within stays lead
 pub rows-stay : RowsStay
 rows-stay s calm last effects t u base kind course order within stays reached =
     let (there, same) = lasts (λ i. Reached s (calm i) base kind × (slice_index (calm i) (info_at base) ≡ slice_index (calm t)
-        (info_at base))) t u order
+    (info_at base))) t u order
     (reached, refl) (λ i low high before.
     let (n, pairs, follows) = course i (omega (arith, high, within)) in
     ((follows.rows base kind).1 (inl (before.0, stays i low high)), follows.info base kind before.0 ∙ before.1)) in

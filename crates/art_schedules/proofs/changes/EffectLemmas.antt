@@ -113,7 +113,7 @@ module _ (s : Shape) (n claims : ℕ) (calm later : List ℕ) (m : Contents) (re
       → Follows s claims calm later (put key value m) (IsGoneBy None) (ComesInBy None)
   put-follows puts x key value is = leaf-follows (put key value m) is.leads.reached is.row.info
       (puts s calm later m key value base kind x rest.tree means is.leads is.free
-          (changes s n calm later rest base kind one x (Leaf key value) is.row))
+      (changes s n calm later rest base kind one x (Leaf key value) is.row))
 
   removed-follows : LeavesAreRemoved → (x key : ℕ) → IsRemovedFrom s calm later base kind x key
       → Follows s claims calm later (below key m ++ above key m) (IsGoneBy None) (ComesInBy None)
@@ -191,7 +191,7 @@ module _ (s : Shape) (n claims : ℕ) (calm later : List ℕ) (m : Contents) (re
     grown-hung =
         let change = changes s n calm later rest base kind one x (Row row larger) is.row in
         hangs s calm later m key value base kind x full full_kind y row larger rest.tree means is.above is.hangs is.leads
-            later-grown (record {
+        later-grown (record {
           others = λ b k r ne but. change.others b k r ne;
           info = change.info;
           form = change.form;
@@ -213,7 +213,7 @@ module _ (trees : SameTreesAreOne) (puts : LeavesArePut) (removes : LeavesAreRem
   effects-follow s n claims calm later m (Fills base kind) rest means one few (own, none) =
       kept-trees-follow trees s n claims calm later m rest means
       (keeps s n claims calm later m rest means few base kind one own
-          (unreached s n claims calm later m rest means few base kind one none)) few
+      (unreached s n claims calm later m rest means few base kind one none)) few
   effects-follow s n claims calm later m (PutsLeaf base kind x key value) rest means one few is =
       put-follows s n claims calm later m rest means few base kind one puts x key value is
   effects-follow s n claims calm later m (RemovesLeaf base kind x key) rest means one few is =

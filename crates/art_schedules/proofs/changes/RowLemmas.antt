@@ -73,14 +73,14 @@ module _ (s : Shape) (n : ℕ) (calm later : List ℕ) (rest : IsAtRest s n calm
   fresh own k number above low word from to = ⊎_elim
       (λ here.
       let (kinds, numbers, bases, places) = sits-part s (base_of s k number) base 0 0 k kind
-          (record { number = number; low = low; is = refl })
+      (record { number = number; low = low; is = refl })
       (claimed-sits s later base kind own) (omega (arith, two-words k)) (omega (arith, two-words kind)) (ap (λ i. i + 0) here) in
       absurd (omega (arith, above, numbers, subst (λ q. own.number < slice_index later (claims_of q)) (sym kinds) own.claimed)))
       (λ apart.
       let (j, high, is) = offset (base_of s k number) (row_words k) word from to in
       ap (λ w. slice_index later w) is
       ∙ (one.others (base_of s k number) k j (sits-kind_at s (base_of s k number) k
-          (record { number = number; low = low; is = refl })) apart high
+      (record { number = number; low = low; is = refl })) apart high
       ∙ (ap (λ w. slice_index calm w) (sym is)
       ∙ rest.fresh k number (omega (arith, above, one.claims k)) low word from to))) (cases_eq (base_of s k number) base)
 

@@ -42,15 +42,15 @@ written-leaves-are-put s calm later words written base kind x key value leads fr
 pub written-pairs-are-hung : ChildrenAreRead → WrittenPairsAreHung
 written-pairs-are-hung read s n calm later written base kind x slot key value fresh d a rest one leads parts slotted pair same
     new filled = record {
-  leads = leads;
-  parts = parts;
-  pair = pairs-are-fresh s written calm key value fresh d a (child_on s calm base kind x) pair same
-      (parted-small calm key d a (child_on s calm base kind x) parts) new;
-  filled = filled;
-  row = slots-are-written read s n calm later base kind x slot (Row fresh Four) rest leads.reached one
-      (way_byte s calm key base kind x leads) slotted.at
-      slotted.others (sits-kind_at s fresh Four (claimed-sits s later fresh Four filled.claimed)) slotted.here;
-}
+      leads = leads;
+      parts = parts;
+      pair = pairs-are-fresh s written calm key value fresh d a (child_on s calm base kind x) pair same
+          (parted-small calm key d a (child_on s calm base kind x) parts) new;
+      filled = filled;
+      row = slots-are-written read s n calm later base kind x slot (Row fresh Four) rest leads.reached one
+          (way_byte s calm key base kind x leads) slotted.at
+          slotted.others (sits-kind_at s fresh Four (claimed-sits s later fresh Four filled.claimed)) slotted.here;
+    }
 
 pub written-rows-are-hung : ChildrenAreRead → WrittenRowsAreHung
 written-rows-are-hung read s n calm later words written base kind x slot key value full full_kind y fresh larger rest one above hangs leads

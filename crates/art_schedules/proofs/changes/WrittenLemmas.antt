@@ -36,7 +36,7 @@ hung-rows-are-slots s n words written calm later base kind x slot fresh larger r
   at = at;
   others = λ j low high ne. after j low high
       ∙ (hung.same (base + j) (omega (arith, (sits-inside s base j kind place high).0)) ne
-          (outside j high (split (base + j) fresh (row_words larger)))
+      (outside j high (split (base + j) fresh (row_words larger)))
       ∙ sym (before j low high));
   here = ap (λ w. slice_index later w) its-place.is
       ∙ (after its-place.place (omega (arith, first-some kind, its-place.low)) its-place.high
@@ -56,7 +56,7 @@ hung-rows-are-slots s n words written calm later base kind x slot fresh larger r
     outside j high (inr (inl more)) = inr more
     outside j high (inr (inr (i, within, same))) =
         let (kinds, numbers, bases, places) = sits-part s base fresh j i kind larger place (claimed-sits s later fresh larger claimed)
-            high within same in
+        high within same in
         absurd (new kind (subst (λ b. Reached s calm b kind) bases reached))
 
 pub children-are-of-rows : ChildrenAreOfRows

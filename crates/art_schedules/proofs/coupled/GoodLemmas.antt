@@ -69,7 +69,7 @@ module _ (plan : Plan) (start : Contents) (words schedule : List ℕ) (p : ℕ) 
     as-good y kind reached alive base kept =
         let its : kind ≡ x.kind = same_Some kind x.kind
         (sym (reached-kind plan.shape s t p words calm after f claims h.rests y.base kind reached)
-            ∙ (ap (kind_at plan.shape) base ∙ row)) in
+        ∙ (ap (kind_at plan.shape) base ∙ row)) in
         record {
           reached = subst (λ b. Reached plan.shape calm b x.kind) base (subst (Reached plan.shape calm y.base) its reached);
           live = ap is_obsolete (sym kept) ∙ alive;

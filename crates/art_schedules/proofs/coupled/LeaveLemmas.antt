@@ -116,7 +116,7 @@ module _ (shape : Shape) (root : 1 ≤ shape.rows256) (s t : State) (p : ℕ) (f
       → is_locked (slice_index t.words x.base) ≡ true
   held-locked r call q o x a =
       let kept = held-is-kept (IsSettled Coupled shape t) (setting shape Coupled call) (stage_of Coupled shape call q)
-          (f.behind.knows r call q o) x a in
+      (f.behind.knows r call q o) x a in
       ap is_locked (f.behind.locked r call q o x a) ∙ taken-locked x.kept (version-free true x.kept kept.0)
 
   pub held-from : (r : ℕ) (call : Call) (q : Process) → IsOpen t r call q → (x : Held) → IsAmong x (held_by Coupled shape call q)
@@ -126,7 +126,7 @@ module _ (shape : Shape) (root : 1 ≤ shape.rows256) (s t : State) (p : ℕ) (f
       row : kind_at shape x.base ≡ Some x.kind
       row = settled-row Coupled shape t x.base x.kind
           (held-is-kept (IsSettled Coupled shape t) (setting shape Coupled call) (stage_of Coupled shape call q)
-              (f.behind.knows r call q o) x a).1
+          (f.behind.knows r call q o) x a).1
 
       version : slice_index t.words x.base ≡ x.kept + 2
       version = f.behind.locked r call q o x a
@@ -142,7 +142,7 @@ module _ (shape : Shape) (root : 1 ≤ shape.rows256) (s t : State) (p : ℕ) (f
       go (RowsStay same) = stayed (same x.base (row_begins shape x.base x.kind row))
       go (RowWritten word value asks y among kept behind is others) =
           stayed (others x.base (not-behind shape x.base y.base word x.kind y.kind row (settled-row Coupled shape s y.base
-              y.kind kept.1) behind))
+          y.kind kept.1) behind))
       go (RowFilled word value asks b k filled its behind is others) =
           stayed (others x.base (not-behind shape x.base b word x.kind k row its behind))
       go (RowTaken y asks rows with then kept was is others) = elim (cases_eq x.base y.base) [
@@ -187,7 +187,7 @@ module _ (shape : Shape) (root : 1 ≤ shape.rows256) (s t : State) (p : ℕ) (f
         go (RowsStay same) = stayed (same base (row_begins shape base kind row))
         go (RowWritten word value asks y among kept behind is others) =
             stayed (others base (not-behind shape base y.base word kind y.kind row (settled-row Coupled shape s y.base
-                y.kind kept.1) behind))
+            y.kind kept.1) behind))
         go (RowFilled word value asks b k filled its behind is others) =
             stayed (others base (not-behind shape base b word kind k row its behind))
         go (RowTaken y asks rows with then kept before is others) = elim (cases_eq base y.base) [
@@ -214,7 +214,7 @@ module _ (shape : Shape) (root : 1 ≤ shape.rows256) (s t : State) (p : ℕ) (f
             by : Releases shape asks.call x y.base value → base ≡ y.base → is_obsolete value ≡ true → MadeBy base kind
             by (ByUnlock n among same) e dead =
                 absurd (false≢true (sym (ap is_obsolete same ∙ (obsolete_released n.kept ∙ live p asks.call asks.process asks.is_open
-                    (lock_of n) among)) ∙ dead))
+                (lock_of n) among)) ∙ dead))
             by (ByObsolete h is same) e dead = record {
               call = asks.call;
               hold = h;
@@ -231,11 +231,11 @@ module _ (shape : Shape) (root : 1 ≤ shape.rows256) (s t : State) (p : ℕ) (f
                     absurd (not-behind shape y.base held.row.base word y.kind held.row.kind y-row
                     (settled-row Coupled shape s held.row.base held.row.kind
                     (kept-row shape s t p first calm after f p asks.call asks.process asks.is_open held.row held.among)) held.behind
-                        (store-word (sym asks.turn
+                    (store-word (sym asks.turn
                     ∙ turn)))
                 touched (StoresOwn word v mark turn (inr fill)) = absurd (not-behind shape y.base fill.base word y.kind fill.kind y-row
                     (claimed-row shape s.words fill.base fill.kind
-                        (f.sound.filled p asks.call asks.process asks.is_open fill.base fill.kind fill.filled))
+                    (f.sound.filled p asks.call asks.process asks.is_open fill.base fill.kind fill.filled))
                     fill.behind
                     (store-word (sym asks.turn ∙ turn)))
                 touched (ClaimsRow k mark turn may) = absurd (add-store (sym turn ∙ asks.turn))
@@ -349,7 +349,7 @@ module _ (plan : Plan) (start : Contents) (words schedule : List ℕ) (p : ℕ) 
         kinds : x.hold.row.kind ≡ kind
         kinds = same_Some x.hold.row.kind kind (sym (settled-row Coupled plan.shape s x.hold.row.base x.hold.row.kind
             (kept-row plan.shape s t p words calm after f p x.call x.at.process x.at.is_open (lock_of x.hold.row)
-                (held-there (lock_of x.hold.row) (inl refl))))
+            (held-there (lock_of x.hold.row) (inl refl))))
             ∙ (ap (kind_at plan.shape) (sym x.is) ∙ row))
 
         then : IsAtStage Coupled plan.shape t p x.call (OnKey (Unlock (hold_alone y.0.above) (Some no_value)))
@@ -389,9 +389,9 @@ module _ (plan : Plan) (start : Contents) (words schedule : List ℕ) (p : ℕ) 
     takes-live-rows x asks is =
         let turn = ap (call_turn (setting plan.shape Coupled call)) (sym at-stage.at)
         ∙ its-turn plan.shape s t p words calm after f call at-stage.process at-stage.is_open
-            (Swap x.base x.kept (locked_word x.kept)) asks in
+        (Swap x.base x.kept (locked_word x.kept)) asks in
         live-taken plan.shape s t p words calm after f claims h.rests leaving leave call at-stage.process at-stage.is_open found stage
-            at-stage.at k.way x.base
+        at-stage.at k.way x.base
         x.kept
         asks.mark turn is
 
@@ -408,7 +408,7 @@ work-takes-live plan start words schedule p s t claims m call stage h at w x ask
     touches : TouchesOwn (setting plan.shape Coupled call) (OnKey stage)
     touches = work-own Coupled (inl refl) plan.shape call h.run.before.within.shape.root stage w
         (subst (Knows (RowsOf plan.shape) (setting plan.shape Coupled call)) at.at
-            (rows-known Coupled plan.shape known.count s p call at.process known.sound
+        (rows-known Coupled plan.shape known.count s p call at.process known.sound
         at.is_open))
 
     turn : turn_at (setting plan.shape Coupled call) stage ≡ Asks (Swap x.base x.kept (locked_word x.kept)) asks.mark

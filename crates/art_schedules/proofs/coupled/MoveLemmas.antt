@@ -78,6 +78,7 @@ use Rattle.art_schedules.proofs.coupled.RowLemmas.{kept-row, others-same, held-c
 use Rattle.art_schedules.proofs.coupled.RowLemmas.{keeps-released}
 use Rattle.art_schedules.proofs.work.LockedLemmas.{among-lock}
 use Rattle.art_schedules.proofs.effects.KeptLemmas.{begins-kept}
+use Rattle.art_schedules.proofs.effects.ValueLemmas.{byte-in-small}
 
 -- ---- accesses and stages
 
@@ -168,9 +169,6 @@ fills-none (Some r) c i calm stage k = absurd k
 
 -- ---- the row that a call on its way takes
 
-byte-in-small : (c : Setting) (h : Held) → byte_in c h < 256
-byte-in-small c h = key_byte-small (key_of c.call) (row_at h).level
-
 reached-by : (c : Setting) (table : List ℕ) (d : Down) → IsBelow c table d → Reached c.shape table d.base d.kind
 reached-by c table d k = below k.0.leads.reached (byte_in c d.above) (byte-in-small c d.above)
     (ap (child_in c.shape table) k.1.at ∙ k.1.has)
@@ -228,7 +226,7 @@ module _ (shape : Shape) (s t : State) (p : ℕ) (first calm after : List ℕ) (
         let process : l.at.process ≡ q = same_Some l.at.process q (sym l.at.is_open.own ∙ (ap (slice_get s.processes) same ∙ o.own)) in
         let its : l.call ≡ call = same_Some l.call call (sym l.at.is_open.is_open ∙ (ap (λ w. w.call) process ∙ o.is_open)) in
         exchange-unlock (sym l.at.at ∙ (ap (λ w. stage_of Coupled shape l.call w) process
-            ∙ (ap (λ x. stage_of Coupled shape x q) its ∙ at)))
+        ∙ (ap (λ x. stage_of Coupled shape x q) its ∙ at)))
 
     its-row : (base : ℕ) (kind : Kind) (l : IsLeaving shape s calm leaving base kind)
         → IsAmong (lock_of l.hold.row) (held_by Coupled shape l.call l.at.process)
@@ -250,7 +248,7 @@ module _ (shape : Shape) (s t : State) (p : ℕ) (first calm after : List ℕ) (
         let same = (rest.tree.once l.hold.row.base d.above.base l.byte (byte_in c d.above) d.base l.hold.row.kind d.above.kind d.kind
         l.reached k.0.leads.reached l.is_byte small (l.hangs ∙ ap (ChildRow d.base) kinds) hangs).0 in
         not-there (Below d) v at d.base kind l
-            (f.sound.apart l.process p l.call call l.at.process q l.at.is_open o (lock_of l.hold.row) (lock_of d.above)
+        (f.sound.apart l.process p l.call call l.at.process q l.at.is_open o (lock_of l.hold.row) (lock_of d.above)
         (its-row d.base kind l) (subst (λ x. IsAmong (lock_of d.above) (holds c x)) (sym at) (inl refl)) same)
     takes-live (Taken t) v at k kind r dead = absurd k
 
@@ -377,7 +375,7 @@ module _ (shape : Shape) (s t : State) (p : ℕ) (first calm after : List ℕ) (
             let access : a ≡ Store h.base (released_word h.kept) = asks-same (sym turn ∙ x) in
             let inside : h.base < length s.words = omega (arith, row-inside shape h.base h.kind row, f.sound.long) in
             keeps-released shape s t p first calm after f call q o claims rest small (lock_of h) held-here
-                (record { same = own.same; live = own.live })
+            (record { same = own.same; live = own.live })
             (words-stay found stage at k.way h.base h.kind row)
             (ap (λ ws. slice_index ws h.base) words
             ∙ (ap (λ b. slice_index (slice_set s.words (word_of b) (changed b (slice_index s.words (word_of b)))) h.base) access
@@ -445,8 +443,12 @@ module _ (plan : Plan) (start : Contents) (words schedule : List ℕ) (p : ℕ) 
     access-made = made plan p s t call at.process a mark h.coupled h.run.made at.is_open (ap (call_turn its) at.at ∙ turn)
 
     next-at : IsAtStage Coupled plan.shape t p call (OnKey (stage_after its stage got))
-    next-at = record { process = access-made.process; is_open = access-made.is_open; at = access-made.at ∙ ap
-        (λ x. call_after its x got) at.at }
+    next-at = record {
+      process = access-made.process;
+      is_open = access-made.is_open;
+      at = access-made.at ∙ ap
+          (λ x. call_after its x got) at.at;
+    }
 
     keeps-tree : KeepsTree plan.shape calm after
     keeps-tree = tree-stays plan.shape s t p words calm after f claims h.rests leaving leave call at.process at.is_open found stage a mark
@@ -499,7 +501,7 @@ calls-go-on trees ways leaves plan start words schedule p s t claims m leaving c
     let c = setting plan.shape Coupled call in
     let x = stage-asks c refl (is_insert call) (calm_of plan words schedule) stage k.way in
     let fits = (knows-key plan.shape s t p words _ _ (f plan start words schedule p s t claims m h) claims h.rests leaving leave call
-        at.process at.is_open
+    at.process at.is_open
     stage at.at).fits in
     record {
       next = stage_after c stage _;
@@ -507,7 +509,7 @@ calls-go-on trees ways leaves plan start words schedule p s t claims m leaving c
       keeps = keeps-tree plan start words schedule p s t claims m h leaving leave call stage at None k x.0 x.1 x.2;
       goes = goes-then plan start words schedule p s t claims m h leaving leave call stage at None k x.0 x.1 x.2 trees
           (ways-go-on ways leaves plan.shape call claims (calm_of plan words schedule) s.words m stage _ tree key-call
-              h.rests h.means fits k
+          h.rests h.means fits k
           (own-gets plan start words schedule p s t claims m h leaving leave call stage at None k x.0 x.1 x.2));
     }
 
@@ -578,7 +580,7 @@ seekers-are-not-answered shape call table words stage reply k turn =
 pub ways-take-reached : WaysTakeReached
 ways-take-reached plan start words schedule p s t claims m call stage found h at k x asks is =
     row-swapped found (setting plan.shape Coupled call) refl (is_insert call) (calm_of plan words schedule) stage k.way x.base x.kept
-        (locked_word x.kept)
+    (locked_word x.kept)
     asks.mark
     (ap (call_turn (setting plan.shape Coupled call)) (sym at.at)
     ∙ its-turn plan.shape s t p words _ _ (f plan start words schedule p s t claims m h) call at.process at.is_open

@@ -71,7 +71,7 @@ pub own-word : (calm words : List ℕ) (n : Held) → IsHeldLive calm words n �
 own-word calm words n own word behind =
     let is : n.base + (word - n.base) ≡ word = omega (arith, behind.0) in
     sym (ap (slice_index words) is) ∙ (own.same (word - n.base) (omega (arith, behind.0)) (omega (arith, behind.0, behind.1)) ∙ ap
-        (slice_index calm) is)
+    (slice_index calm) is)
 
 module _ (shape : Shape) (call : Call) (tree : is_tree_call call ≡ true) (key-call : is_scan call ≡ false) (n : ℕ)
     (calm words : List ℕ) (m : Contents)
@@ -220,7 +220,7 @@ module _ (shape : Shape) (call : Call) (tree : is_tree_call call ≡ true) (key-
       where
         go : (b : Bool) → (count_in p.row.kind keys == capacity p.row.kind) ≡ b
             → To (if b then ClaimGrow (record { row = p.row; above = p.above }) p.slot keys else let_go_at c p.row p.above
-                p.slot (Lacks keys))
+            p.slot (Lacks keys))
         go true full = grows p.row p.above p.slot keys on own up under at (eqb-true _ _ full)
         go false room = lets-go p.row p.above p.slot (Lacks keys) up on own at (not_full _ _ room (count-most p.row.kind keys))
 
@@ -278,7 +278,7 @@ module _ (shape : Shape) (call : Call) (tree : is_tree_call call ≡ true) (key-
       let p = place base Sixteen info was above slot in
       let x = byte_in c (held base Sixteen info was) in
       let same : keys16_of count first second ≡ keys16_of (slice_index calm (count_at Sixteen base))
-          (slice_index calm (keys_at base)) (slice_index calm
+      (slice_index calm (keys_at base)) (slice_index calm
       (more_keys_at base)) =
       ap (λ v. keys16_of v first second) a ∙ (ap (λ v. keys16_of (slice_index calm (count_at Sixteen base)) v second) b
       ∙ ap (λ v. keys16_of (slice_index calm (count_at Sixteen base)) (slice_index calm (keys_at base)) v) d) in
@@ -293,7 +293,7 @@ module _ (shape : Shape) (call : Call) (tree : is_tree_call call ≡ true) (key-
       → To (find_at true i false FortyEight c (place base FortyEight info was above slot) w)
   indexed i e base info was above slot w on own under is =
       subst (λ j. To (if entry == 0 then (if j then FindCount p w else found_at true i false c p (Lacks (keys_one w))) else Slot p
-          (child_at FortyEight base
+      (child_at FortyEight base
       (entry - 1))))
       (sym e) (go (entry == 0) refl)
     where
@@ -311,7 +311,7 @@ module _ (shape : Shape) (call : Call) (tree : is_tree_call call ≡ true) (key-
           1)))
       slot-is b f =
           ap (λ v. if slice_index (entries_of v) (x % 8) == 0 then None else Some
-              (child_at FortyEight base (slice_index (entries_of v) (x % 8) - 1))) (sym is)
+          (child_at FortyEight base (slice_index (entries_of v) (x % 8) - 1))) (sym is)
           ∙ ap (λ b. if b then None else Some (child_at FortyEight base (entry - 1))) f
 
       none-at : (i : Bool) → is_insert call ≡ i → KnowsPlace i c calm p → Each Own (held_at_place true i p)
@@ -322,7 +322,7 @@ module _ (shape : Shape) (call : Call) (tree : is_tree_call call ≡ true) (key-
 
       go : (b : Bool) → (entry == 0) ≡ b
           → To (if b then (if i then FindCount p w else found_at true i false c p (Lacks (keys_one w))) else Slot p
-              (child_at FortyEight base (entry - 1)))
+          (child_at FortyEight base (entry - 1)))
       go true f = none-at i e on own (slot-is true f)
       go false f = GoesOn (knows i e None _ (on, slot-is false f) own)
 
@@ -344,13 +344,13 @@ module _ (shape : Shape) (call : Call) (tree : is_tree_call call ≡ true) (key-
       go Four on own under got = four i e base info was above slot w on own under
           (got.loads (keys_at base) None refl
           ∙ own-word calm words (held base Four info was) (first i (place base Four info was above slot) own) (keys_at base)
-              (omega arith, omega arith))
+          (omega arith, omega arith))
       go Sixteen on own under got = GoesOn (knows i e None _ (
         on,
         refl,
         got.loads (count_at Sixteen base) None refl
             ∙ own-word calm words (held base Sixteen info was) (first i (place base Sixteen info was above slot) own)
-                (count_at Sixteen base) (
+            (count_at Sixteen base) (
               omega arith,
               omega arith,
             ),
@@ -522,7 +522,7 @@ module _ (shape : Shape) (call : Call) (tree : is_tree_call call ≡ true) (key-
     where
       go : (b : Bool) → (count_in p.row.kind keys == capacity p.row.kind) ≡ b
           → To (if b then ClaimGrow (record { row = p.row; above = p.above }) p.slot keys else let_go_at c p.row p.above
-              p.slot (Lacks keys))
+          p.slot (Lacks keys))
       go true full = absurd (full-not-less _ _ full room)
       go false less = subst (λ o. To (let_go_at c p.row o p.slot (Lacks keys))) (sym none) (alone e p.row (Lacks keys) on own at room)
 
@@ -573,7 +573,7 @@ module _ (shape : Shape) (call : Call) (tree : is_tree_call call ≡ true) (key-
       subst (λ v. To (below_at true i c d (held d.base d.kind v kept) (path_differs_at c (row_at (held d.base d.kind v kept)))))
       (sym (got.loads (info_at d.base) None refl
       ∙ own-word calm words (held d.base d.kind 0 kept) (below-own d kept i own) (info_at d.base)
-          (omega arith, omega (arith, seven-words d.kind))))
+      (omega arith, omega (arith, seven-words d.kind))))
       (arrives i e d kept k own)
   next i e (Find p) w k own fits got = finds i e p.row.base p.row.kind p.row.info p.row.kept p.above p.slot w k own fits got
   next i e (FindKeys p count) w k own fits got = GoesOn (knows i e None _ (
@@ -587,7 +587,7 @@ module _ (shape : Shape) (call : Call) (tree : is_tree_call call ≡ true) (key-
       more i e p.row.base p.row.kind p.row.info p.row.kept p.above p.slot count first w k.1 k.0 k.2 k.3
       (got.loads (more_keys_at p.row.base) None refl
       ∙ own-word calm words p.row (first-own i p own) (more_keys_at p.row.base)
-          (omega arith, omega (arith, seven-words p.row.kind))) own fits
+      (omega arith, omega (arith, seven-words p.row.kind))) own fits
   next i e (FindCount p index) w k own fits got =
       counted i e p.row.base p.row.kind p.row.info p.row.kept p.above p.slot index w k.1 k.0 k.2 k.3 own fits got
   next i e (Slot p slot) w k own fits got = child-read i e p slot w k.0 k.1 own fits got

@@ -51,7 +51,7 @@ module _ (shape : Shape) (s t : State) (p : ℕ) (first calm after : List ℕ) (
       → IsSettled Coupled shape s x.base x.kind
   kept-row r call q o x a =
       (held-is-kept (IsSettled Coupled shape s) (setting shape Coupled call) (stage_of Coupled shape call q)
-          (f.sound.knows r call q o) x a).1
+      (f.sound.knows r call q o) x a).1
 
   -- Behind its version a row keeps its words, where the step writes to no such word of it.
   pub rows-same : (base : ℕ) (kind : Kind) → kind_at shape base ≡ Some kind
@@ -71,7 +71,7 @@ module _ (shape : Shape) (s t : State) (p : ℕ) (first calm after : List ℕ) (
       go (RowWritten word value asks x among kept its is others) = elim (cases_eq (base + j) word) [
         | inl e ↦ absurd (written word value asks x among its (rows_apart shape x.base base x.kind kind word
             (settled-row Coupled shape s x.base x.kind kept.1) row (omega (arith, its.0)) its.1 (omega (arith, e))
-                (omega (arith, e, high))).0)
+            (omega (arith, e, high))).0)
         | inr d ↦ others (base + j) d
       ]
       go (RowFilled word value asks b k fills its behind is others) = elim (cases_eq (base + j) word) [
@@ -98,7 +98,7 @@ module _ (shape : Shape) (s t : State) (p : ℕ) (first calm after : List ℕ) (
       → SameRow calm after x.base x.kind
   held-calm r call q o x a =
       let settled = (held-is-kept (IsSettled Coupled shape t) (setting shape Coupled call) (stage_of Coupled shape call q)
-          (f.behind.knows r call q o) x a).1 in
+      (f.behind.knows r call q o) x a).1 in
       steady-row calm after x.base x.kind (f.goes.held x.base x.kind (settled-row Coupled shape t x.base x.kind settled)
       (record { holder = r; call = call; process = q; is_open = o; row = x; among = a; is = refl }))
 
@@ -123,7 +123,7 @@ module _ (shape : Shape) (s t : State) (p : ℕ) (first calm after : List ℕ) (
     its-turn a asks =
         subst (λ x. call_turn (setting shape Coupled x) (stage_of Coupled shape x q) ≡ Asks a asks.mark) (its-call a asks)
         (subst (λ w. call_turn (setting shape Coupled asks.call) (stage_of Coupled shape asks.call w) ≡ Asks a asks.mark)
-            (its-process a asks) asks.turn)
+        (its-process a asks) asks.turn)
 
     its-filling : (a : Access) (asks : AsksFor Coupled shape s p a) (base : ℕ) (kind : Kind)
         → filled_by Coupled shape asks.call asks.process ≡ (base, kind) ∷ []
@@ -211,7 +211,7 @@ module _ (shape : Shape) (s t : State) (p : ℕ) (first calm after : List ℕ) (
             → slice_index after (base + j) ≡ slice_index calm (base + j)
         outside base kind its d j high =
             with-released Coupled shape f.count s f.sound p t calm after f.goes call q o x.base (released_word x.kept) mark e
-                x a refl (base + j)
+            x a refl (base + j)
             (omega (arith, row_begins shape base kind its)) (apart-from base kind its d j high)
 
         rows : (base : ℕ) (kind : Kind) → kind_at shape base ≡ Some kind → SameRow calm after base kind

@@ -3,8 +3,8 @@ use Rattle.std.proofs.Common.{◌≡◌, ℕ, zero, suc, ◌+◌, ◌-◌, ◌*�
 use Rattle.std.proofs.Common.{Bool, true, false}
 use Rattle.std.proofs.Common.{arith}
 use Rattle.std.proofs.Common.{eqb-true, if◌then◌else◌, option_map}
-use Rattle.std.specs.Prelude.{◌&&◌, map, filter, slice_index, Option, Some, None}
-use Rattle.std.proofs.lemmas.Bool.{false≢true}
+use Rattle.std.specs.Prelude.{map, filter, slice_index, Option, Some, None}
+use Rattle.std.proofs.lemmas.Bool.{and_parts}
 use Rattle.std.proofs.lemmas.Option.{none-some}
 use Rattle.events.specs.declared.event.Call.TheVariants.{Scan}
 use Rattle.art_rows.specs.declared.table.Shape.{Shape}
@@ -70,8 +70,10 @@ module _ (shape : Shape) (low high n : ℕ) (calm : List ℕ) (rest : IsAtRest s
       slot-good : (o : Option ℕ) → test x ≡ true → slots x ≡ o → Good rest-of → Good (slot_at o (child_from w f (x + 1) n) rest-of)
       slot-good None t e later = later
       slot-good (Some slot) t e later = record {
-        step = (record { reached = k.reached; words = k.words; fits = omega (arith, few); few = k.few },
-            (x, omega (arith, few), is x slot t e));
+        step = (
+          record { reached = k.reached; words = k.words; fits = omega (arith, few); few = k.few },
+          (x, omega (arith, few), is x slot t e),
+        );
         way = way;
       }
 
@@ -96,10 +98,6 @@ module _ (shape : Shape) (low high n : ℕ) (calm : List ℕ) (rest : IsAtRest s
       → option_map (child_at kind base) o ≡ Some slot
   place-slots kind base slot None e = absurd (none-some slot e)
   place-slots kind base slot (Some i) e = e
-
-  and-right : (a b : Bool) → (a && b) ≡ true → b ≡ true
-  and-right true b e = e
-  and-right false b e = absurd (false≢true e)
 
   abbrev frame : ℕ → Kind → ℕ → ℕ → KeyWords → ℕ → ℕ → ℕ → ℕ → Frame
   frame base kind info kept keys byte left index words = record {
@@ -132,16 +130,15 @@ module _ (shape : Shape) (low high n : ℕ) (calm : List ℕ) (rest : IsAtRest s
     where
       slots : (y slot : ℕ) → word_test low high (frame base FortyEight info was keys byte left index words) y ≡ true
           → (if slice_index (entries_of keys.first) (y % 8) == 0 then None else Some
-              (child_at FortyEight base (slice_index (entries_of keys.first) (y % 8) -
+          (child_at FortyEight base (slice_index (entries_of keys.first) (y % 8) -
           1))) ≡ Some slot
           → slot_of calm base FortyEight y ≡ Some slot
       slots y slot t e =
-          let same : y / 8 ≡ index = eqb-true (y / 8) index (and-right (lies low high (frame base FortyEight info was keys byte left index
-              words) y) (in_word
-          index y) t) in
+          let same : y / 8 ≡ index = eqb-true (y / 8) index (and_parts (lies low high (frame base FortyEight info was keys byte left index
+          words) y) (in_word index y) t).1 in
           let word : index_at base y ≡ index_at base (8 * index) = omega (arith, same) in
           ap (λ v. if slice_index (entries_of v) (y % 8) == 0 then None else Some
-              (child_at FortyEight base (slice_index (entries_of v) (y % 8) - 1)))
+          (child_at FortyEight base (slice_index (entries_of v) (y % 8) - 1)))
           (ap (slice_index calm) word ∙ sym k.words) ∙ e
   frame-good w base Full info was keys byte left index words other k way rest =
       bytes-good _ _ w (frame base Full info was keys byte left index words) byte left other k way (λ y slot t e. e) k.fits rest
@@ -157,7 +154,7 @@ module _ (shape : Shape) (low high n : ℕ) (calm : List ℕ) (rest : IsAtRest s
   way-good w [] k = closed w
   way-good w (f ∷ fs) k =
       frame-good (on_way w fs) f.row.base f.row.kind f.row.info f.row.kept f.keys f.byte f.left f.index f.words
-          (way_at c low high w fs) k.0 k.1
+      (way_at c low high w fs) k.0 k.1
       (way-good w fs k.1)
 
   resumed : (w : Walk) → Known w.way → Good (resume_at c low high w)
@@ -170,7 +167,7 @@ module _ (shape : Shape) (low high n : ℕ) (calm : List ℕ) (rest : IsAtRest s
   begins base FortyEight info was w reached way = words-good (held base FortyEight info was) w 0 32 _ reached refl way (resumed w way)
   begins base Full info was w reached way =
       frame-good w base Full info was (keys_one 0) 0 256 0 0 _
-          (record { reached = reached; words = tt; fits = omega arith; few = omega arith }) way (resumed w
+      (record { reached = reached; words = tt; fits = omega arith; few = omega arith }) way (resumed w
       way)
 
   listed : (r : Held) (w : Walk) (xs : List ℕ) → Reached shape calm r.base r.kind → Known w.way → Good (visit_list c low high r w xs)
@@ -203,8 +200,11 @@ module _ (shape : Shape) (low high n : ℕ) (calm : List ℕ) (rest : IsAtRest s
       → ((base : ℕ) (kind : Kind) → child ≡ ChildRow base kind → HangsOnHeld shape calm w.rows base kind)
       → Good (child_after c low high w child)
   child-good w Empty way hangs = resumed w way
-  child-good w (Leaf key value) way hangs = resumed (record { rows = w.rows; pairs = (with_leaf low high key value (walked w)).pairs;
-      way = w.way }) way
+  child-good w (Leaf key value) way hangs = resumed (record {
+    rows = w.rows;
+    pairs = (with_leaf low high key value (walked w)).pairs;
+    way = w.way;
+  }) way
   child-good w (ChildRow base kind) way hangs = record { step = hangs base kind refl; way = way }
 
   abbrev Gets : ScanAt → ℕ → Type 0
@@ -221,7 +221,7 @@ module _ (shape : Shape) (low high n : ℕ) (calm : List ℕ) (rest : IsAtRest s
   keys-good base FortyEight info was w word reached way got =
       let none : keys_at base ≡ index_at base (8 * 0) = omega arith in
       framed w base FortyEight info was (keys_one word) 0 0 reached
-          (got (keys_at base) None refl refl ∙ ap (slice_index calm) none) (omega arith) way
+      (got (keys_at base) None refl refl ∙ ap (slice_index calm) none) (omega arith) way
   keys-good base Full info was w word reached way got = framed w base Full info was (keys_one word) 0 0 reached tt (omega arith) way
 
   second-good : (base : ℕ) (kind : Kind) (info was : ℕ) (w : Walk) (count first word : ℕ) → kind ≡ Sixteen → Reached shape calm base kind
@@ -230,7 +230,7 @@ module _ (shape : Shape) (low high n : ℕ) (calm : List ℕ) (rest : IsAtRest s
       → Good (resume_at c low high (with_frame w (frame_of (held base kind info was) (keys16 count first word) 0 0)))
   second-good base kind info was w count first word is reached a b d way =
       framed w base kind info was (keys16 count first word) 0 0 reached
-          (subst (λ k. KnowsWords k calm base (keys16 count first word) 0) (sym is) (a, b, d))
+      (subst (λ k. KnowsWords k calm base (keys16 count first word) 0) (sym is) (a, b, d))
       (omega arith) way
 
   index-good : (base : ℕ) (kind : Kind) (info was : ℕ) (w : Walk) (j m word : ℕ) → kind ≡ FortyEight → Reached shape calm base kind

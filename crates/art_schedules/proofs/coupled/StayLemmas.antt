@@ -56,7 +56,7 @@ module _ (c : Setting) (n : ℕ) (calm after : List ℕ) (pairs : Contents) (gon
   info-still true d kept still k = hangs-still c follows d.above d.slot (ChildRow d.base d.kind) still.1.0 k
   info-still false d kept still k =
       subst (λ l. LeadsTo c.shape after (key_of c.call) d.base d.kind (slice_index (key_bytes (key_of c.call)) l))
-          (sym (follows.level d.base d.kind k.reached))
+      (sym (follows.level d.base d.kind k.reached))
       (follows.ways (key_of c.call) d.base d.kind _ k still.0.1)
 
   passed-still : (i : Bool) (d : Down) (kept : ℕ) → Each Still (held_at_stage true i (Info d kept)) → IsPassed i c calm d

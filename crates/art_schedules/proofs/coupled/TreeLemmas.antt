@@ -100,9 +100,15 @@ module _ (shape : Shape) (claims n : ℕ) (calm after : List ℕ) (pairs : Conte
       (x.1, is, a ∙ sym (row 4 (omega arith) (omega arith)), b ∙ sym (row 2 (omega arith) (omega arith)))
   step-still (Index r j m) reads info (k, is, small) = ((walked-still r reads k).1, is, small)
   step-still (LoadChild f slot) reads info (k, (x, small, is)) =
-      let row = walked-still f.row reads k.reached in
-      (frame-still f reads k, (x, small, slot-same calm after f.row.base f.row.kind x small (row-keys calm after f.row.base
-          f.row.kind row.0) ∙ is))
+      let row = walked-still f.row reads k.reached in (
+        frame-still f reads k,
+        (
+          x,
+          small,
+          slot-same calm after f.row.base f.row.kind x small (row-keys calm after f.row.base
+              f.row.kind row.0) ∙ is,
+        ),
+      )
   step-still (Release r) reads info k = tt
   step-still Over reads info k = tt
 

@@ -55,7 +55,7 @@ set-word words later word v x long same = go (cases_eq x word) (cases_lt word (l
         ∙ (sym (stored-at words word v within) ∙ ap (slice_index (slice_set words word v)) (sym e)))
     go (inl e) (inr past) =
         ap (λ xs. slice_index xs x) (past-set later word v (omega (arith, past, long)))
-            ∙ (same ∙ ap (λ xs. slice_index xs x) (sym (past-set words word v
+        ∙ (same ∙ ap (λ xs. slice_index xs x) (sym (past-set words word v
         past)))
     go (inr d) most = index-other later word v x d ∙ (same ∙ sym (index-other words word v x d))
 
@@ -124,13 +124,13 @@ module _ (shape : Shape) (low high : ℕ) where
       → r ≡ reply.Pairs pairs
   release-answers [] n pairs way now last r runs = over-answers (record { rows = []; pairs = pairs; way = [] }) _ last r
       (runs-behind c (OnScan low high (at (scan.Release n) (record { rows = []; pairs = pairs; way = way }))) refl
-          (Store n.base (released_word n.kept)) (Some
+      (Store n.base (released_word n.kept)) (Some
       point.Unlock) refl
       now 0 (slice_set now n.base (released_word n.kept)) last r refl refl runs)
   release-answers (y ∷ rows) n pairs way now last r runs =
       release-answers rows y pairs [] (slice_set now n.base (released_word n.kept)) last r
       (runs-behind c (OnScan low high (at (scan.Release n) (record { rows = y ∷ rows; pairs = pairs; way = way }))) refl
-          (Store n.base (released_word n.kept))
+      (Store n.base (released_word n.kept))
       (Some point.Unlock) refl now 0 (slice_set now n.base (released_word n.kept)) last r refl refl runs)
 
   ended : (step : ScanStep) (w : Walk) (now last : List ℕ) (r : Reply) → IsOver step

@@ -22,4 +22,4 @@ led-are-linearizable starts trees orders shape scripts start words Scans led sch
 pub coupled-runs-are-linearizable : LawsOfParts → CoupledIsLinearizable
 coupled-runs-are-linearizable laws =
     coupled-is-linearizable laws (scans-are-kept laws)
-        (led-are-linearizable laws.starts_are_at_rest laws.kept_trees_follow laws.stories_give_orders)
+    (led-are-linearizable laws.starts_are_at_rest laws.kept_trees_follow laws.stories_give_orders)

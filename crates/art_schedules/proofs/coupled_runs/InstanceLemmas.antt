@@ -105,7 +105,7 @@ module _ (laws : LawsOfParts) (shape : Shape) (scripts : List (List Call)) (star
         → (call : Call) (q later : Process) (a : Access) (status : Status) → MakesAccess plan s p t call q later a
         → CoupledFits shape Scans g schedule s x p call q status
         → OwnStep plan words schedule tale p t x y call q status
-            (λ effect now. IsLedOn Ghosts World (CoupledFits shape Scans) g schedule p s t x y
+        (λ effect now. IsLedOn Ghosts World (CoupledFits shape Scans) g schedule p s t x y
         (λ next. CoupledFits shape Scans next (schedule ++ p ∷ []) t y p call later now))
 
     pub owns : OwnClause here there
@@ -125,7 +125,7 @@ module _ (laws : LawsOfParts) (shape : Shape) (scripts : List (List Call)) (star
     pub begins : BeginClause here there
     begins told world all call q later b goes =
         led.led laws shape scripts start words Scans scans schedule tale p s t g told world all None makes (λ b k x. absurd x) None None
-            (led.NoFresh refl)
+        (led.NoFresh refl)
         (led.leaves-off laws shape scripts start words Scans scans schedule tale p s t g told world all off makes)
         (λ ghost. CoupledFits shape Scans ghost (schedule ++ p ∷ []) t there p call later Before)
         (record {
@@ -141,7 +141,7 @@ module _ (laws : LawsOfParts) (shape : Shape) (scripts : List (List Call)) (star
         off : (other : Call) (stage : Stage) → IsAtStage Coupled shape s p other (OnKey stage) → ⊥
         off other stage y =
             none-some other (sym b.idle ∙ (ap (λ (x : Process). x.call) (same_Some q y.process (sym b.own ∙ y.is_open.own))
-                ∙ y.is_open.is_open))
+            ∙ y.is_open.is_open))
 
         rows : HoldsGood shape there call later
         rows h a = absurd (subst (IsAmong h) (ap (holds (setting shape Coupled call)) b.stage ∙ begun-holds shape call) a)
@@ -172,7 +172,7 @@ module _ (laws : LawsOfParts) (shape : Shape) (scripts : List (List Call)) (star
     pub answers : AnswerClause here there
     answers told world all call q status reply x f goes =
         led.led laws shape scripts start words Scans scans schedule tale p s t g told world all None makes (λ b k x. absurd x) None None
-            (led.NoFresh refl)
+        (led.NoFresh refl)
         leaves
         (λ ghost. HasItsReply plan words schedule tale p call q status reply) (go f.fit)
       where
@@ -184,7 +184,7 @@ module _ (laws : LawsOfParts) (shape : Shape) (scripts : List (List Call)) (star
         at-answer other b y =
             ap (call_turn (setting shape Coupled other)) (sym y.at ∙ same-stage Coupled shape s p other call y.process q y.is_open x.here)
             ∙ (ap (λ z. call_turn (setting shape Coupled z) (stage_of Coupled shape call q))
-                (same-call s p other call y.process q y.is_open x.here)
+            (same-call s p other call y.process q y.is_open x.here)
             ∙ x.answers)
 
         leaves : LeavesBy shape s t p here None g.leaving (set_at g.leaving p None)
@@ -215,7 +215,7 @@ module _ (laws : LawsOfParts) (shape : Shape) (scripts : List (List Call)) (star
           ⊎_elim
               (λ k. subst (λ y. HasReply y reply) (sym k) (end-answers shape s.words here call known reply stage end (turn stage at)))
               (λ k. subst (λ y. HasReply y reply) (sym k.1)
-                  (sym k.0 ∙ end-answers shape s.words here call known reply stage end (turn stage at))) e,
+              (sym k.0 ∙ end-answers shape s.words here call known reply stage end (turn stage at))) e,
         )
         go (Walks low high at none stage y) = scans.answers schedule tale p s t here there told call q status reply x y
 
@@ -232,13 +232,13 @@ module _ (laws : LawsOfParts) (shape : Shape) (scripts : List (List Call)) (star
     );
     begins = λ schedule tale p s t calm after g told.
         at-calm schedule tale p s t g (BeginClause schedule tale p s t g) (begins schedule tale p s t g) calm after told.calm_is
-            told.after_is told;
+        told.after_is told;
     own = λ schedule tale p s t calm after g told.
         at-calm schedule tale p s t g (OwnClause schedule tale p s t g) (owns schedule tale p s t g) calm after told.calm_is
-            told.after_is told;
+        told.after_is told;
     answers = λ schedule tale p s t calm after g told.
         at-calm schedule tale p s t g (AnswerClause schedule tale p s t g) (answers schedule tale p s t g) calm after told.calm_is
-            told.after_is told;
+        told.after_is told;
   }
 
 -- Every run of the coupled tree is linearizable: from the laws, from what fits its scans and is kept, and from what stories give where what

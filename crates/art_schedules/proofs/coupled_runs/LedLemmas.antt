@@ -64,7 +64,7 @@ module _ (laws : LawsOfParts) (shape : Shape) (scripts : List (List Call)) (star
   module _ (schedule : List ℕ) (tale : Tale) (p : ℕ) (s t : State) (g : Ghosts)
       (told : IsToldStep plan start words schedule tale p s t (calm_of plan words schedule) (calm_of plan words (schedule ++ p ∷ [])))
       (world : IsWorld shape g s (calm_of plan words schedule))
-          (all : AllFit (CoupledFits shape Scans g) schedule s (calm_of plan words schedule)) where
+      (all : AllFit (CoupledFits shape Scans g) schedule s (calm_of plan words schedule)) where
     abbrev calm : List ℕ
     calm = calm_of plan words schedule
 
@@ -133,7 +133,7 @@ module _ (laws : LawsOfParts) (shape : Shape) (scripts : List (List Call)) (star
         none-asked h x =
             none h.base h.kept (locked_word h.kept) x.mark
             (ap (λ y. call_turn (setting shape Coupled y) (stage_of Coupled shape call q))
-                (same-call s p call x.call q x.process o x.is_open)
+            (same-call s p call x.call q x.process o x.is_open)
             ∙ (ap (call_turn (setting shape Coupled x.call)) (same-stage Coupled shape s p call x.call q x.process o x.is_open) ∙ x.turn))
 
     -- ---- what fits the other calls
@@ -228,13 +228,13 @@ module _ (laws : LawsOfParts) (shape : Shape) (scripts : List (List Call)) (star
           mixed r row (NoFresh e) x y = absurd (none-some row (sym e ∙ x))
           mixed r row (NewFresh new e not there) x y =
               absurd (not (subst (λ (y : Named). IsClaimed shape s.words y.0 y.1) (sym (same_Some new row (sym e ∙ x)))
-                  (world.claimed r row y)))
+              (world.claimed r row y)))
 
           apart : (q r : ℕ) (row : Named) → set_at g.fresh p f q ≡ Some row → set_at g.fresh p f r ≡ Some row → q ≡ r
           apart q r row a b = ⊎_elim
               (λ x. ⊎_elim (λ y. x.0 ∙ sym y.0) (λ y. x.0 ∙ mixed r row fresh (sym x.1 ∙ a) (sym y.1 ∙ b)) (set-cases g.fresh p f r))
               (λ x. ⊎_elim (λ y. sym (y.0 ∙ mixed q row fresh (sym y.1 ∙ b) (sym x.1 ∙ a)))
-                  (λ y. world.apart q r row (sym x.1 ∙ a) (sym y.1 ∙ b))
+              (λ y. world.apart q r row (sym x.1 ∙ a) (sym y.1 ∙ b))
               (set-cases g.fresh p f r))
               (set-cases g.fresh p f q)
 

@@ -113,7 +113,7 @@ module _ (laws : LawsOfParts) (shape : Shape) (scripts : List (List Call)) (star
     abbrev Behind : Option Effect → Status → Type 0
     Behind effect now =
         IsLedOn Ghosts (λ g schedule s calm. IsWorld shape g s calm) (CoupledFits shape Scans) g schedule p s t calm after
-            (λ next. Fit next now)
+        (λ next. Fit next now)
 
     abbrev Answer : Type 0
     Answer = OwnStep plan words schedule tale p t calm after call q status Behind
@@ -141,14 +141,14 @@ module _ (laws : LawsOfParts) (shape : Shape) (scripts : List (List Call)) (star
     plain next makes how leaves takes fit =
         Keeps next (led.makes-goes laws shape scripts start words Scans scans schedule tale p s t g told world all None makes) how
         (led.led laws shape scripts start words Scans scans schedule tale p s t g told world all None makes (λ b k x. absurd x) None None
-            (led.NoFresh refl)
+        (led.NoFresh refl)
         leaves (λ ghost. Fit ghost next) (record { tree = tree; rows = good None makes takes; fit = fit }))
 
     leaves-plain : (stage : Stage) → stage_of Coupled shape call q ≡ OnKey stage → Makes Coupled shape s p calm after m None
         → ((h : Hold) → stage ≡ Obsolete h → ⊥) → g.leaving p ≡ None → LeavesBy shape s t p calm None g.leaving (set_at g.leaving p None)
     leaves-plain stage at makes keeps none =
         led.leaves-of laws shape scripts start words Scans scans schedule tale p s t g told world all call q made.here stage
-            at None makes None
+        at None makes None
         (λ h e. absurd (keeps h e)) (λ h outcome base e x. absurd (none-some base (sym none ∙ x))) (λ base kind x. absurd x)
 
     -- ---- on its way
@@ -222,7 +222,7 @@ module _ (laws : LawsOfParts) (shape : Shape) (scripts : List (List Call)) (star
         go (goes.GoesOn k) = plain Before makes keeps-status leaves takes (Seeks from.next on none-now there k refl)
         go (goes.Finds reply does k) =
             plain (Found reply) makes (FindsNow reply (subst HasNotChanged (sym e) tt) refl does) leaves takes
-                (Finds from.next reply none-now there k refl)
+            (Finds from.next reply none-now there k refl)
         go (goes.Works h w f begins each) =
             plain Before makes keeps-status leaves takes (Works from.next there
             (subst (λ y. IsWorking shape t.words after call from.next y (set_at g.leaving p None p)) (sym (set-here g.fresh p None))
@@ -268,7 +268,7 @@ module _ (laws : LawsOfParts) (shape : Shape) (scripts : List (List Call)) (star
         (leaves-plain stage at from.makes (λ h f. end-keeps shape s.words calm call reply h
         (subst (AtEnd (setting shape Coupled call) s.words calm reply) f end)) none.1)
         (led.takes-none-live laws shape scripts start words Scans scans schedule tale p s t g told world all call q made.here
-            (λ word v w mark k.
+        (λ word v w mark k.
         end-swaps shape s.words calm call reply stage end word v w mark (ap (call_turn (setting shape Coupled call)) (sym at) ∙ k)))
         (Ends from.next reply none-now (at-next from.at.process from.at.is_open from.next from.at.at) from.ends e)
       where
@@ -306,13 +306,13 @@ module _ (laws : LawsOfParts) (shape : Shape) (scripts : List (List Call)) (star
         go : WorkerStep plan s p t calm after m call stage (g.fresh p) (g.leaving p) → Answer
         go (WorksOn next fresh there work goes makes, (left, marked)) =
             Keeps Before (led.makes-goes laws shape scripts start words Scans scans schedule tale p s t g told world all None
-                makes) (Stays (sym e))
+            makes) (Stays (sym e))
             (led.led laws shape scripts start words Scans scans schedule tale p s t g told world all None makes (λ b k x. absurd x) fresh
-                (obsolete_by stage)
+            (obsolete_by stage)
             (⊎_elim (λ x. led.SameFresh x) (λ x. led.NewFresh x.0 x.1 (x.2 x.0.1)
             (work-claimed (setting shape Coupled call) t.words after fresh next work x.0 x.1)) goes)
             (led.leaves-of laws shape scripts start words Scans scans schedule tale p s t g told world all call q made.here
-                stage at None makes
+            stage at None makes
             (obsolete_by stage) obsoletes (λ h outcome base f x. absurd (none-some base (sym left ∙ x))) (λ base kind x. absurd x))
             (λ ghost. Fit ghost Before)
             (record {
@@ -320,7 +320,7 @@ module _ (laws : LawsOfParts) (shape : Shape) (scripts : List (List Call)) (star
               rows = good None makes takes;
               fit = Works next (at-next there.process there.is_open next there.at)
                   (subst (λ y. IsWorking shape t.words after call next y (set_at g.leaving p (obsolete_by stage) p))
-                      (sym (set-here g.fresh p fresh))
+                  (sym (set-here g.fresh p fresh))
                   (subst (IsWorking shape t.words after call next fresh) (sym (set-here g.leaving p (obsolete_by stage))) (work, marked)))
                   refl;
             }))
@@ -331,12 +331,12 @@ module _ (laws : LawsOfParts) (shape : Shape) (scripts : List (List Call)) (star
             (Ends next Refused none-now (at-next there.process there.is_open next there.at) end (inr (refl, refl)))
         go (TakesEffect next effect reply there end makes fresh pairs legal accepted live, (left, named)) =
             Changes effect reply (led.makes-goes laws shape scripts start words Scans scans schedule tale p s t g told world all
-                (Some effect) makes) unchanged
+            (Some effect) makes) unchanged
             (legal, pairs) accepted
             (led.led laws shape scripts start words Scans scans schedule tale p s t g told world all (Some effect) makes
             (fresh-is effect (g.fresh p) fresh) None None (led.NoFresh refl)
             (led.leaves-of laws shape scripts start words Scans scans schedule tale p s t g told world all call q made.here stage at
-                (Some effect) makes None
+            (Some effect) makes None
             (λ h f. absurd (obsolete-named stage h f named)) (λ h outcome base f x. left base x) live)
             (λ ghost. Fit ghost (Changed reply))
             (record {
@@ -358,7 +358,7 @@ module _ (laws : LawsOfParts) (shape : Shape) (scripts : List (List Call)) (star
         from : ScanStep plan words schedule tale p s t calm after call q later status Scans
         from =
             scans.own schedule tale p s t calm after g.leaving told world.obsolete call q later a status made
-                ((all p call q made.here).1.rows) low high at
+            ((all p call q made.here).1.rows) low high at
             stage x
 
         makes : Makes Coupled shape s p calm after m None

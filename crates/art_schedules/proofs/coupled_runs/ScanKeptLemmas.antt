@@ -108,7 +108,7 @@ module _ (laws : LawsOfParts) (shape : Shape) (scripts : List (List Call)) (star
 
       module _ (leaving : ℕ → Option ℕ) (leave : ObsoleteLeave shape s here leaving) (low high : ℕ) (q later : Process) (a : Access)
           (made : MakesAccess plan s p t (Scan low high) q later a) (x : ScanAt)
-              (at : stage_of Coupled shape (Scan low high) q ≡ OnScan low high x) where
+          (at : stage_of Coupled shape (Scan low high) q ≡ OnScan low high x) where
         abbrev its : Call
         its = Scan low high
 
@@ -156,7 +156,7 @@ module _ (laws : LawsOfParts) (shape : Shape) (scripts : List (List Call)) (star
                 (walking, comes.goes.walked, comes.tree walking)
         own-scan (Found reply) k =
             steps (Found reply) (Found reply) stays.next (λ open-yet. absurd (open-yet k.walked)) stays.at stays.keeps
-                (Stays refl) stays.found
+            (Stays refl) stays.found
           where
             stays : ScanStays shape low high t p here there reply
             stays = laws.found_scans_stay plan start words schedule p s t told.claims m low high x reply a made.mark is-step in-scan k
@@ -196,7 +196,7 @@ module _ (laws : LawsOfParts) (shape : Shape) (scripts : List (List Call)) (star
     abbrev BeginClause : List ℕ → List ℕ → Type 0
     BeginClause calm after =
         IsToldStep plan start words schedule tale p s t calm after → (low high : ℕ) (q later : Process)
-            → BeginsCall plan s p t (Scan low high) q later
+        → BeginsCall plan s p t (Scan low high) q later
         → Scans (schedule ++ p ∷ []) t after p (Scan low high) later Before
 
     pub begins : (calm after : List ℕ) → BeginClause calm after
@@ -205,9 +205,9 @@ module _ (laws : LawsOfParts) (shape : Shape) (scripts : List (List Call)) (star
     abbrev OwnClause : List ℕ → List ℕ → Type 0
     OwnClause calm after =
         (leaving : ℕ → Option ℕ) → IsToldStep plan start words schedule tale p s t calm after
-            → ObsoleteLeave shape s calm leaving → (call : Call)
+        → ObsoleteLeave shape s calm leaving → (call : Call)
         (q later : Process) (a : Access) (status : Status) → MakesAccess plan s p t call q later a → HoldsGood shape calm call q
-            → (low high : ℕ) (at : ScanAt)
+        → (low high : ℕ) (at : ScanAt)
         → stage_of Coupled shape call q ≡ OnScan low high at → Scans schedule s calm p call q status
         → ScanStep plan words schedule tale p s t calm after call q later status Scans
 
@@ -257,10 +257,10 @@ module _ (laws : LawsOfParts) (shape : Shape) (scripts : List (List Call)) (star
         → Scans schedule s calm p call q status → HasItsReply plan words schedule tale p call q status reply
     answers calm call q status reply ended x =
         subst (λ y. call_turn (setting shape Coupled y) (stage_of Coupled shape y q) ≡ Answers reply
-            → stage_of Coupled shape y q ≡ OnScan x.low x.high x.at
+        → stage_of Coupled shape y q ≡ OnScan x.low x.high x.at
         → HasItsReply plan words schedule tale p y q status reply) (sym x.is)
         (λ turn at. answer x.low x.high calm q reply x.at status
-            (ap (call_turn (setting shape Coupled (Scan x.low x.high))) (sym at) ∙ turn) x.knows)
+        (ap (call_turn (setting shape Coupled (Scan x.low x.high))) (sym at) ∙ turn) x.knows)
         ended.answers x.stage
 
 -- What fits open scans is kept by each step of a run.

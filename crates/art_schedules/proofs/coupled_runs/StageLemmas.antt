@@ -17,7 +17,7 @@ pub work-claimed : (c : Setting) (real calm : List ℕ) (fresh : Option Named) (
 work-claimed c real calm fresh stage (Claiming none x) row e = absurd (none-some row (sym none ∙ e))
 work-claimed c real calm fresh stage (Going x) row e =
     let new : HasNew c real calm x.words x.hold x.work stage (Some row) =
-        subst (HasNew c real calm x.words x.hold x.work stage) e x.new in new.claimed
+    subst (HasNew c real calm x.words x.hold x.work stage) e x.new in new.claimed
 work-claimed c real calm fresh stage (Hanging x) row e = go x.effect x.pending (sym x.fresh_row ∙ e)
   where
     go : (effect : Effect) → IsPending c real calm effect x.old → fresh_of effect ≡ Some row → IsClaimed c.shape real row.0 row.1

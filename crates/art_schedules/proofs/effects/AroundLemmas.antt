@@ -154,7 +154,7 @@ module _ (plan : Plan) (p : ℕ) (s t : State) (calm after : List ℕ) (x : Arou
           (x.before.apart r y.holder call y.call w y.process o y.is_open h y.row among y.among (sym y.is) ∙ is)
       go (inr (inl (e, taken))) = ne
           (x.behind.apart r taken.0.holder call taken.0.call w taken.0.process then-open taken.0.is_open h taken.0.row among
-              taken.0.among (sym taken.0.is)
+          taken.0.among (sym taken.0.is)
           ∙ taken.1)
       go (inr (inr f)) = kept.1.unfilled p f.call f.process f.is_open h.base f.kind f.fills refl
 

@@ -1,6 +1,7 @@
 -- What is so where work begins.
 use Rattle.std.proofs.Common.{◌≡◌, ℕ, List, true, false, refl, sym, inl, inr}
-use Rattle.std.specs.Prelude.{Option, Some, None}
+use Rattle.std.proofs.lemmas.Option.{none-some}
+use Rattle.std.specs.Prelude.{Option, Some}
 use Rattle.events.specs.declared.event.Call.{Call}
 use Rattle.events.specs.declared.event.Call.TheVariants.{Get, Insert, Remove, Scan, Replace}
 use Rattle.art_rows.specs.declared.table.Child.{Child}
@@ -21,14 +22,11 @@ inserts-do-not-scan (Remove key) e = refl
 inserts-do-not-scan (Scan low high) e = sym e
 inserts-do-not-scan (Replace key old new) e = refl
 
-none-some : {word : ℕ} → ◌≡◌ {A = Option ℕ} None (Some word) → ⊥
-none-some e = cc
-
 overwrites-do-not-scan : (call : Call) (value word : ℕ) → overwriting call value ≡ Some word → is_scan call ≡ false
 overwrites-do-not-scan (Insert key v) value word e = refl
 overwrites-do-not-scan (Get key) value word e = refl
 overwrites-do-not-scan (Remove key) value word e = refl
-overwrites-do-not-scan (Scan low high) value word e = absurd (none-some e)
+overwrites-do-not-scan (Scan low high) value word e = absurd (none-some _ e)
 overwrites-do-not-scan (Replace key old new) value word e = refl
 
 overwritten : (c : Setting) (word : ℕ) (old : Option ℕ) (child : Child) → IsOverwritten c word old child → is_scan c.call ≡ false

@@ -59,7 +59,7 @@ use Rattle.art_schedules.specs.work.Ways.{IsInTree, IsSame}
 
 module _ (read : ChildrenAreRead) (trees : KeptTreesFollow) (effects : EffectsFollow) (plan : Plan) (p : ℕ) (s t : State)
     (calm after : List ℕ) (x : Around plan p s t calm after) (k : ℕ) (rest : IsAtRest plan.shape k calm) (m : Contents)
-        (means : Means plan.shape calm m)
+    (means : Means plan.shape calm m)
     (call : Call) (q : Process) (o : IsOpen s p call q) (stage : Stage) (at : stage_of plan.variant plan.shape call q ≡ OnKey stage) where
   abbrev variant : Variant
   variant = plan.variant
@@ -106,9 +106,9 @@ module _ (read : ChildrenAreRead) (trees : KeptTreesFollow) (effects : EffectsFo
       (turn : turn_at c (work_at c h work) ≡ Asks (Add (claims_of kind)) None)
       (begin : ℕ → Stage)
       (next : (number : ℕ) → stage_after c (work_at c h work) number ≡ (if nat_lt number (rows_of shape kind) then begin number else Unlock
-          h (Some Refused)))
+      h (Some Refused)))
       (place : (number : ℕ) → hold_at (begin number) ≡ Some h)
-          (fills : (number : ℕ) → FillsAt h work (base_of shape kind number) kind (begin number))
+      (fills : (number : ℕ) → FillsAt h work (base_of shape kind number) kind (begin number))
       (begins : BeginsWork c calm h work) (rows : Each (IsInTree c.shape calm) (rows_of_hold h))
       (same : Each (IsSame calm s.words) (rows_of_hold h)) where
     abbrev number : ℕ
@@ -243,6 +243,10 @@ module _ (read : ChildrenAreRead) (trees : KeptTreesFollow) (effects : EffectsFo
           (λ number. (refl, inl (pair_word.Info, refl))) begins g.rows g.same
       go (work.Put keys) is e begins = absurd (true-false e refl)
       go (work.Grow slot keys) is e begins = claim-step g.hold (work.Grow slot keys) is (next_kind g.hold.row.kind) refl
-          (λ number. GrowInfo (record { hold = g.hold; slot = slot; keys = keys; base = base_of shape (next_kind g.hold.row.kind) number
-              })) (λ number. refl)
+          (λ number. GrowInfo (record {
+            hold = g.hold;
+            slot = slot;
+            keys = keys;
+            base = base_of shape (next_kind g.hold.row.kind) number;
+          })) (λ number. refl)
           (λ number. refl) (λ number. (refl, refl)) begins g.rows g.same

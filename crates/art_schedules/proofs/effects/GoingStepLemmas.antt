@@ -128,9 +128,9 @@ fills-next c h (work.Pair p) b l stage w (is, inr e) = inr (ap (λ z. hold_at (s
 fills-next c h (work.Put keys) b l stage w none = absurd none
 fills-next c h (work.Grow slot keys) b l stage w (is, growing) =
     elim (grow-next c stage w (record { hold = h; slot = slot; keys = keys; base = b }) growing) [
-  | inl later ↦ inl (is, later)
-  | inr hang ↦ inr (ap (λ z. hold_at (stage_after c z w)) hang.1)
-]
+      | inl later ↦ inl (is, later)
+      | inr hang ↦ inr (ap (λ z. hold_at (stage_after c z w)) hang.1)
+    ]
 
 -- the row that is filled at its stage
 fills-new : (h : Hold) (work : Work) (b : ℕ) (l : Kind) (stage : Stage) → FillsAt h work b l stage → (d : ℕ) (i : Kind)
@@ -143,9 +143,9 @@ fills-new h (work.Pair p) b l stage (is, inr e) d i f = absurd (no-items (sym (a
 fills-new h (work.Put keys) b l stage none d i f = absurd none
 fills-new h (work.Grow slot keys) b l stage (is, growing) d i f =
     elim (grow-fills stage (record { hold = h; slot = slot; keys = keys; base = b }) growing) [
-  | inl own ↦ first-item (sym f ∙ (own ∙ ap (λ z. (b, z) ∷ []) (sym is)))
-  | inr hang ↦ absurd (no-items (sym (ap (λ z. fills (OnKey z)) hang) ∙ f))
-]
+      | inl own ↦ first-item (sym f ∙ (own ∙ ap (λ z. (b, z) ∷ []) (sym is)))
+      | inr hang ↦ absurd (no-items (sym (ap (λ z. fills (OnKey z)) hang) ∙ f))
+    ]
 
 -- a release is no stage of all rows
 release-none : (h : Hold) (at : Stage) → IsRelease h at → hold_at at ≡ None
@@ -175,9 +175,9 @@ may-not (hang_stage g e) = refl
 module _ (read : ChildrenAreRead) (trees : KeptTreesFollow) (effects : EffectsFollow) (done : WorkIsDone) (plan : Plan)
     (p : ℕ) (s t : State)
     (calm after : List ℕ) (x : Around plan p s t calm after) (k : ℕ) (rest : IsAtRest plan.shape k calm) (m : Contents)
-        (means : Means plan.shape calm m)
+    (means : Means plan.shape calm m)
     (call : Call) (q : Process) (o : IsOpen s p call q) (stage : Stage) (at : stage_of plan.variant plan.shape call q ≡ OnKey stage)
-        (fresh : Option Named)
+    (fresh : Option Named)
     (g : IsGoing (setting plan.shape plan.variant call) s.words calm fresh stage) where
   abbrev variant : Variant
   variant = plan.variant
@@ -283,7 +283,7 @@ module _ (read : ChildrenAreRead) (trees : KeptTreesFollow) (effects : EffectsFo
       let own : OwnAccess plan p s t call q (Load word) = own-access plan p s t x.move call q o (Load word) mark asks in
       let real : t.words ≡ s.words = own.words ∙ load-same word s.words in
       let stays = without-store variant shape x.count s x.before p t calm after x.changes call q o
-          (λ w value mk e. load-store (sym asks ∙ e)) in
+      (λ w value mk e. load-store (sym asks ∙ e)) in
       let told = word-same g.words s.words rows g.same held.row (subst (IsAmong held.row) is-holds held.among) word held.behind in
       record {
         made = made-stays stays;
@@ -347,11 +347,11 @@ module _ (read : ChildrenAreRead) (trees : KeptTreesFollow) (effects : EffectsFo
         stored (made-stays stays) (calms-stay stays)
         (λ b l new. new-stays stays now b l new (λ j low high. index-other g.words word value (b + j)
         (λ e. new-apart b l new held.row held.among word (omega (arith, e)) (omega (arith, e, high))
-            (omega (arith, held.behind.0)) held.behind.1))
+        (omega (arith, held.behind.0)) held.behind.1))
         (ap (λ ws. slice_index ws b) own.words
         ∙ index-other s.words word value b
         (λ e. new-apart b l new held.row held.among word (omega (arith, e)) (omega (arith, e, some-words l))
-            (omega (arith, held.behind.0)) held.behind.1)))
+        (omega (arith, held.behind.0)) held.behind.1)))
 
     stored-filled : (b : ℕ) (l : Kind) → FillsFresh c s.words calm g.words g.hold g.work stage b l → fills (OnKey stage) ≡ (b, l) ∷ []
         → IsBehindVersion b l word
@@ -378,7 +378,7 @@ module _ (read : ChildrenAreRead) (trees : KeptTreesFollow) (effects : EffectsFo
         calms = each-with (IsInTree c.shape calm) (IsSame calm after) rows
             (λ y among inside j low high. others (y.base + j) (omega (arith, late y inside))
             (λ e. new-apart b l new (lock_of y) (subst (IsAmong (lock_of y)) (sym is-holds) among) word (omega (arith, behind.0)) behind.1
-                (omega (arith, e))
+            (omega (arith, e))
             (omega (arith, e, high)))) g.rows
 
         version : slice_index t.words b ≡ slice_index calm b
@@ -493,7 +493,7 @@ module _ (read : ChildrenAreRead) (trees : KeptTreesFollow) (effects : EffectsFo
           (omega (arith, g.first_long)) g.knows
           (fits-kept c g.hold g.work calm g.first g.begins.byte
           (way_byte shape calm (key_of call) (upper_row g.hold).base (upper_row g.hold).kind g.begins.byte g.begins.leads)
-              before g.begins.finds
+          before g.begins.finds
           g.begins.words)
           mv.solo release
 

@@ -205,7 +205,7 @@ module _ (c : Setting) (n : ℕ) (real after first words : List ℕ) (rest : IsA
         inl (children-are-of-rows s first words after real h.row.base h.row.kind (byte_in c h.row) (Leaf key insert.value)
             (puts-are-children s first words h.row.base h.row.kind (byte_in c h.row) (Leaf key insert.value)
             (subst (HasPut s first words h.row.base h.row.kind (byte_in c h.row)) (leaf-is insert.key insert.value insert.is)
-                has_put)) was.0 same.0
+            has_put)) was.0 same.0
             (key_byte-small key (row_at h.row).level)),
       );
       does = insert-does insert.key insert.value insert.is (PutsLeaf h.row.base h.row.kind (byte_in c h.row) key insert.value) None
@@ -243,7 +243,7 @@ module _ (c : Setting) (n : ℕ) (real after first words : List ℕ) (rest : IsA
         same.0 j low high
         ∙ (others (h.row.base + j)
         (λ eq. apart a e ((rows_apart s h.row.base up.base h.row.kind up.kind slot row up-row (omega (arith, sym eq))
-            (omega (arith, sym eq, high))
+        (omega (arith, sym eq, high))
         (omega (arith, place.0)) place.1).0 ∙ is-up)) (out (h.row.base + j) (omega arith) (omega (arith, high)) row)
         ∙ sym (was.0 j low high))
       where
@@ -283,7 +283,7 @@ module _ (c : Setting) (n : ℕ) (real after first words : List ℕ) (rest : IsA
             ∙ ap (λ z. Unlock (record { row = h.row; above = Some z }) (Some no_value)) (sym (ap (upper_of h.row) e))))
             rows.0
             (lower-same byte p.slot fresh Four leads has_slot insert ready filled apart
-                (λ word ne out. hung.same word ne out) hung.hangs a e)
+            (λ word ne out. hung.same word ne out) hung.hangs a e)
             (λ b gone. gone)
 
     pub pair-hangs : IsHanging c real after (Some (fresh, Four)) at
@@ -323,7 +323,7 @@ module _ (c : Setting) (n : ℕ) (real after first words : List ℕ) (rest : IsA
       (own : LeadsTo s after key h.row.base h.row.kind (byte_in c h.row)) (info : slice_index after (info_at h.row.base) ≡ h.row.info)
       (insert : IsInsert c.call)
       (absent : slot_of after h.row.base h.row.kind (byte_in c h.row) ≡ None)
-          (child : child_of s (slice_index after slot) ≡ Row h.row.base h.row.kind)
+      (child : child_of s (slice_index after slot) ≡ Row h.row.base h.row.kind)
       (larger : kind ≡ next_kind h.row.kind)
       (ready : HasFilledFresh c real after fresh kind) (filled : SameRow words after fresh kind)
       (apart : (a : Held) → h.above ≡ Some a → h.row.base ≢ a.base)

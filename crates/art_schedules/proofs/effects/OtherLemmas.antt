@@ -84,9 +84,9 @@ holds-claiming c h (work.Grow slot keys) e = refl
 
 module _ (read : ChildrenAreRead) (plan : Plan) (p : ℕ) (s t : State) (calm after : List ℕ) (x : Around plan p s t calm after) (k : ℕ)
     (rest : IsAtRest plan.shape k calm) (m : Contents) (effect : Option Effect)
-        (made : Makes plan.variant plan.shape s p calm after m effect)
+    (made : Makes plan.variant plan.shape s p calm after m effect)
     (all-reached : HoldsReached plan.variant plan.shape s p calm) (r : ℕ) (ne : r ≢ p) (call : Call) (w : Process)
-        (o : IsOpen s r call w) where
+    (o : IsOpen s r call w) where
   abbrev variant : Variant
   variant = plan.variant
 
@@ -147,7 +147,7 @@ module _ (read : ChildrenAreRead) (plan : Plan) (p : ℕ) (s t : State) (calm af
           (way_byte shape calm key b2 k2 x2 by.has.above) hangs its in
           let taken = by.held in
           ne (x.before.apart r taken.0.holder call taken.0.call w taken.0.process o taken.0.is_open (lock_of row) taken.0.row
-              among taken.0.among
+          among taken.0.among
           (sym is ∙ (one.0 ∙ sym taken.0.is)) ∙ taken.1)
 
   -- ---- a fresh row
@@ -198,7 +198,7 @@ module _ (read : ChildrenAreRead) (plan : Plan) (p : ℕ) (s t : State) (calm af
       no-version : (d : ℕ) (i : Kind) (word : ℕ) → kind_at shape d ≡ Some i → IsBehindVersion d i word → b ≢ word
       no-version d i word its within e =
           let one = (rows_apart shape b d l i word row its (omega (arith, e)) (omega (arith, e, some-words l))
-              (omega (arith, within.0)) within.1).0 in
+          (omega (arith, within.0)) within.1).0 in
           omega (arith, one, e, within.0)
 
       go : RowChange variant shape s p t → is_obsolete (slice_index t.words b) ≡ false
@@ -209,7 +209,7 @@ module _ (read : ChildrenAreRead) (plan : Plan) (p : ℕ) (s t : State) (calm af
       go (RowTaken h asks rows with then kept was is others) = elim (cases_eq b h.base) [
         | inl e ↦ ap (λ z. is_obsolete (slice_index t.words z)) e
             ∙ (ap is_obsolete is ∙ (locked-same h.kept ∙ (ap is_obsolete (sym was) ∙ (ap (λ z. is_obsolete (slice_index s.words z))
-                (sym e) ∙ live))))
+            (sym e) ∙ live))))
         | inr differs ↦ as-before (others b differs)
       ]
       go (RowReleased h value asks rows with then kept version is others) =
@@ -218,8 +218,13 @@ module _ (read : ChildrenAreRead) (plan : Plan) (p : ℕ) (s t : State) (calm af
 
   claims-rise : (b : ℕ) (l : Kind) → IsClaimed shape s.words b l → IsClaimed shape t.words b l
   claims-rise b l claimed =
-      record { number = claimed.number; claimed = omega (arith, claimed.claimed, x.steady.claims l); within =
-          claimed.within; is = claimed.is }
+      record {
+        number = claimed.number;
+        claimed = omega (arith, claimed.claimed, x.steady.claims l);
+        within =
+            claimed.within;
+        is = claimed.is;
+      }
 
   new-stays : (b : ℕ) (l : Kind) → HasFilledFresh c s.words calm b l → IsOwned b l → (ComesInBy effect b l → ⊥)
       → HasFilledFresh c t.words after b l × SameRow calm after b l
@@ -491,7 +496,7 @@ module _ (read : ChildrenAreRead) (plan : Plan) (p : ℕ) (s t : State) (calm af
         let held : holds c (OnKey stage) ≡ locks_of (rows_of_hold h) = ap (λ z. holds c (OnKey z)) unlock in
         Leaving out h is unlock (rows-on h held rows)
         (each-with (IsSame calm s.words) (IsSame after t.words) (rows_of_hold h)
-            (λ row among same. same-on row (holds-row h held row among) same) same)
+        (λ row among same. same-on row (holds-row h held row among) same) same)
 
     pub stays-at : IsAtStage variant shape t r call (OnKey stage)
     stays-at = record { process = w; is_open = other-open plan p s t x.move r ne call w o; at = at }
@@ -513,7 +518,7 @@ pub others-keep-marked : ChildrenAreRead → OthersKeepMarked
 others-keep-marked read plan start words schedule p s t n m effect last rest made reached r ne call stage fresh left is other work marked =
     let kept = work-stays read plan p s t (calm_of plan words schedule) (calm_of plan words (schedule ++ p ∷ []))
     (around plan start words schedule p s t last) n rest m effect made reached r ne call is.process is.is_open stage is.at
-        fresh other work in
+    fresh other work in
     (kept.0, kept.1 left marked)
 
 pub others-keep-ends : ChildrenAreRead → OthersKeepEnds

@@ -65,7 +65,7 @@ use Rattle.art_schedules.specs.work.Ways.{IsInTree, IsSame}
 module _ (read : ChildrenAreRead) (trees : KeptTreesFollow) (effects : EffectsFollow) (says : WaysSayValues) (plan : Plan)
     (p : ℕ) (s t : State)
     (calm after : List ℕ) (x : Around plan p s t calm after) (k : ℕ) (rest : IsAtRest plan.shape k calm) (m : Contents)
-        (means : Means plan.shape calm m)
+    (means : Means plan.shape calm m)
     (call : Call) (q : Process) (o : IsOpen s p call q) (stage : Stage) (at : stage_of plan.variant plan.shape call q ≡ OnKey stage) where
   abbrev variant : Variant
   variant = plan.variant
@@ -94,7 +94,7 @@ module _ (read : ChildrenAreRead) (trees : KeptTreesFollow) (effects : EffectsFo
 
   module _ (lower upper : Held) (is : holds c (OnKey stage) ≡ locks_of (rows_of_hold (record { row = lower; above = Some upper })))
       (live : is_obsolete lower.kept ≡ false) (value : ℕ) (mark : Option Point)
-          (turn : turn_at c stage ≡ Asks (Store lower.base value) mark) where
+      (turn : turn_at c stage ≡ Asks (Store lower.base value) mark) where
     abbrev both : Hold
     both = record { row = lower; above = Some upper }
 
@@ -124,7 +124,7 @@ module _ (read : ChildrenAreRead) (trees : KeptTreesFollow) (effects : EffectsFo
       calm-other : (word : ℕ) → b ≤ word → word < b + row_words l → slice_index after word ≡ slice_index calm word
       calm-other word low high =
           outside-same read trees effects plan p s t calm after x k rest m means call q o stage at lower lower-held live
-              value mark turn word
+          value mark turn word
           (omega (arith, row_begins shape b l row, low)) (outside word low high)
 
       calm-other-row : SameRow calm after b l
@@ -133,9 +133,9 @@ module _ (read : ChildrenAreRead) (trees : KeptTreesFollow) (effects : EffectsFo
       real-other-row : SameRow s.words t.words b l
       real-other-row j low high =
           elsewhere read trees effects plan p s t calm after x k rest m means call q o stage at lower lower-held live
-              value mark turn (b + j)
+          value mark turn (b + j)
           (λ e. ne (rows_apart shape lower.base b lower.kind l lower.base lower-row row (omega arith)
-              (omega (arith, some-words lower.kind)) (omega (arith, e))
+          (omega (arith, some-words lower.kind)) (omega (arith, e))
           (omega (arith, e, high))).0)
 
   -- where the call is behind the release
@@ -187,7 +187,7 @@ module _ (read : ChildrenAreRead) (trees : KeptTreesFollow) (effects : EffectsFo
           let ins : Each (IsInTree c.shape calm) (rows_of_hold both) = subst (λ z. Each (IsInTree c.shape calm) (rows_of_hold z)) whole
           rows in
           let sames : Each (IsSame calm s.words) (rows_of_hold both) =
-              subst (λ z. Each (IsSame calm s.words) (rows_of_hold z)) whole same in
+          subst (λ z. Each (IsSame calm s.words) (rows_of_hold z)) whole same in
           let ne = distinct h.row a held ins.0.live (released_word h.row.kept) (Some point.Unlock) turn in
           let row = its-row read trees effects plan p s t calm after x k rest m means call q o stage at a
           (upper-held h.row a held ins.0.live (released_word h.row.kept) (Some point.Unlock) turn) ins.1.0.live in
@@ -259,7 +259,7 @@ module _ (read : ChildrenAreRead) (trees : KeptTreesFollow) (effects : EffectsFo
         → SameRow words later (base_of_effect g.effect) (kind_of_effect g.effect)
     on-row words later same =
         subst (λ b. SameRow words later b (kind_of_effect g.effect)) (sym g.base)
-            (subst (λ l. SameRow words later g.row.base l) (sym g.kind) same)
+        (subst (λ l. SameRow words later g.row.base l) (sym g.kind) same)
 
     -- the lower row is released
     lower-released : (lower : Held) → holds c (OnKey stage) ≡ locks_of (rows_of_hold (record { row = lower; above = Some g.row }))
@@ -277,7 +277,7 @@ module _ (read : ChildrenAreRead) (trees : KeptTreesFollow) (effects : EffectsFo
         let calms = calm-other-row lower g.row is here.live value mark turn g.row.base g.row.kind row ne in
         let reals = real-other-row lower g.row is here.live value mark turn g.row.base g.row.kind row ne in
         let fresh-words =
-            λ (b : ℕ) (l : Kind) (its : kind_at shape b ≡ Some l) (none : IsUnreached shape calm b) (word : ℕ) (low : b ≤ word)
+        λ (b : ℕ) (l : Kind) (its : kind_at shape b ≡ Some l) (none : IsUnreached shape calm b) (word : ℕ) (low : b ≤ word)
         (high : word < b + row_words l). calm-other lower g.row is here.live value mark turn b l its
         (λ e. none lower.kind (subst (λ z. Reached shape calm z lower.kind) e here.reached)) word low high in
         let fresh-versions = λ (b : ℕ) (l : Kind) (none : IsUnreached shape calm b).
@@ -325,25 +325,25 @@ module _ (read : ChildrenAreRead) (trees : KeptTreesFollow) (effects : EffectsFo
                   (Answering (Value g.old) refl refl) made g.fresh_row so.0 so.1 (value_answers g.old)
                   (fresh-live g.effect g.old g.pending (λ b l ready.
                   ap is_obsolete (elsewhere read trees effects plan p s t calm after x k rest m means call q o stage at g.row
-                      among g.inside.live
+                  among g.inside.live
                   (released_word g.row.kept) (Some point.Unlock) turn b
                   (λ e. ready.unreached g.row.kind (subst (λ z. Reached shape calm z g.row.kind) (sym e) g.inside.reached)))
-                      ∙ ready.live_now)),
+                  ∙ ready.live_now)),
               (marks, unlocks (hold_alone g.row) (Some (Value g.old)) is),
             )
         go (Lower lower is here same none) marks =
             let held : holds c (OnKey stage) ≡ locks_of (rows_of_hold (record { row = lower; above = Some g.row })) =
-                ap (λ z. holds c (OnKey z)) is in
+            ap (λ z. holds c (OnKey z)) is in
             let turn : turn_at c stage ≡ Asks (Store lower.base (released_word lower.kept)) (Some point.Unlock) = ap (turn_at c) is in
             let made = kept-unchanged read trees effects plan p s t calm after x k rest m means call q o stage at lower
             (lower-held lower g.row held here.live (released_word lower.kept) (Some point.Unlock) turn) here.live
-                (Some point.Unlock) turn same in
+            (Some point.Unlock) turn same in
             lower-released lower held here (released_word lower.kept) (Some point.Unlock) turn made (ap (λ z. stage_after c z 0) is)
             (λ b l reached gone. absurd (none b gone)) (λ b gone. absurd (none b gone)) marks
             (λ b some. absurd (none-some b (sym (unlocks (record { row = lower; above = Some g.row }) (Some (Value g.old)) is) ∙ some)))
         go (Gone lower is value here leaves only) marks =
             let held : holds c (OnKey stage) ≡ locks_of (rows_of_hold (record { row = lower; above = Some g.row })) =
-                ap (λ z. holds c (OnKey z)) is in
+            ap (λ z. holds c (OnKey z)) is in
             let turn : turn_at c stage ≡ Asks (Store lower.base (obsolete_word lower.kept)) (Some point.Unlock) = ap (turn_at c) is in
             let among = lower-held lower g.row held here.live (obsolete_word lower.kept) (Some point.Unlock) turn in
             let made = kept-obsolete read trees effects plan p s t calm after x k rest m means call q o stage at lower among here.live
@@ -359,7 +359,7 @@ module _ (read : ChildrenAreRead) (trees : KeptTreesFollow) (effects : EffectsFo
             ))
             (λ b gone. ap (λ z. is_obsolete (slice_index t.words z)) (only b gone)
             ∙ is-obsolete read trees effects plan p s t calm after x k rest m means call q o stage at lower among here.live
-                (Some point.Unlock) turn) marks
+            (Some point.Unlock) turn) marks
             (λ b some. subst (IsGone g.effect) (same_Some lower.base b (sym (ap obsolete_by is) ∙ some)) leaves)
 
 -- The row above one that goes is the row that changes, which the call holds.

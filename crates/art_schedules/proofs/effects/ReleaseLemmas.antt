@@ -108,14 +108,14 @@ pending-effect read c n real calm after (HangsPair base kind y key value fresh d
     (leads, none, parts, slot, ready, pair) =
     written-pairs-are-hung read c.shape n calm after calm base kind y slot.0 key value fresh d a rest one leads parts
     (slot-later calm real after base kind y slot.0 (row_word fresh) (way_byte c.shape calm key base kind y leads) same slot.1) pair
-        (λ j low high. refl)
+    (λ j low high. refl)
     ready.unreached (record { claimed = claims fresh Four ready.claimed; live = ready.live })
 pending-effect read c n real calm after (HangsGrown base kind y key value full full_kind z fresh larger) old rest one same claims
     (above, none, hangs, leads, empty, slot, ready, copy) =
     written-rows-are-hung read c.shape n calm after calm calm base kind y slot.0 key value full full_kind z fresh larger rest one
-        above hangs leads empty
+    above hangs leads empty
     (slot-later calm real after base kind y slot.0 (row_word fresh) (way_byte c.shape calm key base kind y above) same slot.1) copy
-        (λ j low high. refl)
+    (λ j low high. refl)
     (λ j low high. refl) ready.unreached (record { claimed = claims fresh larger ready.claimed; live = ready.live })
 
 module _ (read : ChildrenAreRead) (trees : KeptTreesFollow) (effects : EffectsFollow) (plan : Plan) (p : ℕ) (s t : State)
@@ -167,7 +167,7 @@ module _ (read : ChildrenAreRead) (trees : KeptTreesFollow) (effects : EffectsFo
       → OneRow shape calm after base kind
   one-row base kind row same live =
       rows-are-by-words shape calm after base kind row as-long x.calm_behind.small claims-rise same
-          (x.calm_behind.unlocked base kind row) live
+      (x.calm_behind.unlocked base kind row) live
 
   -- a row that calm's tree does not reach has changed behind its version
   pub kept-filled : (base : ℕ) (kind : Kind) → IsClaimed shape s.words base kind → kind_at shape base ≡ Some kind
@@ -271,7 +271,7 @@ module _ (read : ChildrenAreRead) (trees : KeptTreesFollow) (effects : EffectsFo
           subst (λ b. OneRow shape calm after b (kind_of_effect e)) (sym base) (subst (OneRow shape calm after row.base) (sym kind) one) in
           let same : SameRow s.words after (base_of_effect e) (kind_of_effect e) =
           subst (λ b. SameRow s.words after b (kind_of_effect e)) (sym base)
-              (subst (SameRow s.words after row.base) (sym kind) real-after) in
+          (subst (SameRow s.words after row.base) (sym kind) real-after) in
           let has = pending-effect read c k s.words calm after e old rest its same claimed-then pending in
           record {
             goes = record {

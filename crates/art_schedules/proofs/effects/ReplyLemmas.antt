@@ -46,7 +46,7 @@ module _ (says : WaysSayValues) (c : Setting) (n : ℕ) (real calm : List ℕ) (
       says c.shape n calm m key base kind y old rest means leads (old-said c calm key base kind y old was)
   value-before (HangsPair base kind y key value fresh d a) old (leads, none, parts, slot, ready, pair) =
       says c.shape n calm m key base kind y None rest means leads
-          (parted-said calm key d a (child_on c.shape calm base kind y) parts) ∙ sym none
+      (parted-said calm key d a (child_on c.shape calm base kind y) parts) ∙ sym none
   value-before (HangsGrown base kind y key value full full_kind z fresh larger) old (above, none, hangs, leads, empty, slot, ready, copy) =
       says c.shape n calm m key full full_kind z None rest means leads (subst (IsSaidBy calm key None) (sym empty) refl) ∙ sym none
 

@@ -58,13 +58,13 @@ module _ (c : Setting) {n : ℕ} {calm : List ℕ} {m : Contents} (rest : IsAtRe
       → value_at m (key_of c.call) ≡ Some v
   own-leaf h slot k v on at is =
       ((ways c.shape calm m (key_of c.call) h.base h.kind (byte_in c h) rest.tree means on.leads).1 k v
-          (hangs-on c h slot (Leaf k v) at)).0 is
+      (hangs-on c h slot (Leaf k v) at)).0 is
 
   pub other-leaf : (h : Held) (slot k v : ℕ) → IsOnWay c calm h → HasChild c calm h slot (Leaf k v) → k ≢ key_of c.call
       → value_at m (key_of c.call) ≡ None
   other-leaf h slot k v on at is =
       ((ways c.shape calm m (key_of c.call) h.base h.kind (byte_in c h) rest.tree means on.leads).1 k v
-          (hangs-on c h slot (Leaf k v) at)).1 is
+      (hangs-on c h slot (Leaf k v) at)).1 is
 
   pub other-row : (h : Held) (slot base d : ℕ) (kind : Kind) → IsOnWay c calm h → HasChild c calm h slot (ChildRow base kind)
       → first_difference (path_in calm base kind) (key_bytes (key_of c.call)) ≡ Some d → value_at m (key_of c.call) ≡ None

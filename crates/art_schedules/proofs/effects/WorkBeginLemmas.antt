@@ -1,5 +1,6 @@
 -- A call whose work begins is at work; and what it holds is in calm's tree.
 use Rattle.std.proofs.Common.{◌≡◌, inl, inr, ℕ, zero, suc, ◌-◌, List, [], ◌∷◌, length, true, false, refl, sym, ap, ◌∙◌, subst}
+use Rattle.std.proofs.lemmas.Option.{none-some}
 use Rattle.std.specs.Prelude.{Option, Some, None}
 use Rattle.events.specs.declared.event.Reply.{Reply}
 use Rattle.art_rows.specs.declared.table.Kind.{Kind}
@@ -32,9 +33,6 @@ use Rattle.art_schedules.specs.effects.AtWork.{AtEnd, Answering, Leaving}
 use Rattle.art_schedules.proofs.effects.OtherLemmas.{each-of, holds-claiming}
 use Rattle.art_schedules.proofs.effects.StageLemmas.{place-work, work-place}
 use Rattle.art_schedules.specs.work.Ways.{IsInTree, IsSame}
-
-some-none : {x : ℕ} → ◌≡◌ {A = Option ℕ} (Some x) None → ⊥
-some-none e = cc
 
 module _ (c : Setting) (real calm : List ℕ) (long : length calm ≡ table_words c.shape) (h : Hold) where
   going : (work : Work) → Knows (RowsOf c.shape) c (OnKey (work_at c h work)) → claims_row work ≡ false
@@ -69,10 +67,10 @@ module _ (c : Setting) (real calm : List ℕ) (long : length calm ≡ table_word
   put-place Four keys some x none = work-place (moves-next h keys (count_in Four keys - place_in c h keys))
   put-place Sixteen keys some x none = work-place (moves-next h keys (count_in Sixteen keys - place_in c h keys))
   put-place FortyEight keys some x none = refl
-  put-place Full keys some x none = absurd (some-none none)
+  put-place Full keys some x none = absurd (none-some _ (sym none))
 
   not-full : (kind : Kind) (x : ℕ) → slot_of calm h.row.base kind x ≡ None → kind ≡ Full → ⊥
-  not-full Full x none e = some-none none
+  not-full Full x none e = none-some _ (sym none)
   not-full Four x none e = differ e
     where
       differ : Four ≡ Full → ⊥
@@ -94,7 +92,7 @@ module _ (c : Setting) (real calm : List ℕ) (long : length calm ≡ table_word
   put-writes Four keys x none = moves-write keys (count_in Four keys - place_in c h keys)
   put-writes Sixteen keys x none = moves-write keys (count_in Sixteen keys - place_in c h keys)
   put-writes FortyEight keys x none = refl
-  put-writes Full keys x none = absurd (some-none none)
+  put-writes Full keys x none = absurd (none-some _ (sym none))
 
   pub work-begins : (work : Work) → Knows (RowsOf c.shape) c (OnKey (work_at c h work)) → BeginsWork c calm h work
       → Each (IsInTree c.shape calm) (rows_of_hold h) → Each (IsSame calm real) (rows_of_hold h)

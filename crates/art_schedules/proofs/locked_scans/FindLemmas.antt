@@ -15,8 +15,17 @@ use Rattle.art_schedules.specs.locked_scans.Walking.{unwaited, rows_of_scan}
 use Rattle.art_schedules.specs.locked_scans.Laws.{ScansBegin, WalkedScansFind, FoundScansAnswer}
 
 pub scans-begin : ScansBegin
-scans-begin shape low high calm words long = (refl, record { now = calm; alone = here; long = long; same = λ word of.
-    absurd of.1; own = tt })
+scans-begin shape low high calm words long = (
+  refl,
+  record {
+    now = calm;
+    alone = here;
+    long = long;
+    same = λ word of.
+        absurd of.1;
+    own = tt;
+  },
+)
 
 walked-unwaited : (step : ScanStep) (w : Walk) → IsOver step → unwaited (at step w) ≡ at step w
 walked-unwaited (Release n) w k = refl

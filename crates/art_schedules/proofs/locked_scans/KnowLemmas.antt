@@ -92,9 +92,10 @@ module _ (shape : Shape) (low high : ℕ) (calm after : List ℕ) (effect : Opti
     (left : (h : Held) → IsAmong h (rows_of_scan shape low high x) → IsGoneBy effect h.base → ⊥) where
   stays-at : (h : Held) → IsAmong (lock_of h) (rows_of_scan shape low high x) → StaysAt shape calm after effect h.base
   stays-at h a kind e =
-      let is : h.kind ≡ kind = same_Some h.kind kind (sym (kinds (lock_of h) a) ∙ e) in
-      (subst (λ k. SameRow calm after h.base k) is (λ j from to. same (h.base + j) (lock_of h, a, omega arith, omega (arith, to))),
-          left (lock_of h) a)
+      let is : h.kind ≡ kind = same_Some h.kind kind (sym (kinds (lock_of h) a) ∙ e) in (
+        subst (λ k. SameRow calm after h.base k) is (λ j from to. same (h.base + j) (lock_of h, a, omega arith, omega (arith, to))),
+        left (lock_of h) a,
+      )
 
   tree-stays : (claims n : ℕ) (pairs : Contents) → IsAtRest shape claims calm
       → Follows shape n calm after pairs (IsGoneBy effect) (ComesInBy effect)

@@ -182,7 +182,7 @@ module _ (plan : Plan) (start : Contents) (words schedule : List ℕ) (p : ℕ) 
     locked-of y a =
         let kept = held-is-kept Settled its (OnScan low high x) knows y a in
         ap is_locked (f.sound.locked p call here.process here.is_open y (among-here y a))
-            ∙ taken-locked y.kept (version-free true y.kept kept.0)
+        ∙ taken-locked y.kept (version-free true y.kept kept.0)
 
     no-filling : (b : ℕ) (k : Kind) → filled_by Coupled shape call here.process ≡ (b, k) ∷ [] → ⊥
     no-filling b k e = no-items (sym (ap fills here.at) ∙ e)
@@ -252,7 +252,7 @@ module _ (plan : Plan) (start : Contents) (words schedule : List ℕ) (p : ℕ) 
             go (Reads other l e has) =
                 let is : other ≡ word = load-word (sym e ∙ turns) in
                 let value : slice_index s.words other ≡ got = ap (slice_index s.words) is
-                    ∙ sym (ap (λ b. told b (slice_index s.words (word_of b))) load) in
+                ∙ sym (ap (λ b. told b (slice_index s.words (word_of b))) load) in
                 subst (λ v. holds its (call_after its (OnScan low high x) v) ≡ holds its (OnScan low high x)) value
                 (has (slice_index s.words other) (f.sound.children other)).1
             go (Writes y other v l e among kept behind good has) = absurd (load-store (sym turns ∙ e))
@@ -267,14 +267,14 @@ module _ (plan : Plan) (start : Contents) (words schedule : List ℕ) (p : ℕ) 
         reads k =
             let of : IsOfRows mine (word_of a) =
             subst (IsOfRows mine) (sym (ap word_of load))
-                (held-word.row, held-word.among, omega (arith, held-word.behind.0), held-word.behind.1) in
+            (held-word.row, held-word.among, omega (arith, held-word.behind.0), held-word.behind.1) in
             let alone = subst (λ y. Alone its mine (call_begun its) calm (OnScan low high y) k.now)
-                (reads-unwaited shape low high step w read) k.alone in
+            (reads-unwaited shape low high step w read) k.alone in
             let y = follows its (call_begun its) calm mine s.words a mark alone k.long k.same turn of in
             let same : t.words ≡ s.words = access.words ∙ (ap (λ b. words_after b s.words) load ∙ load-same word s.words) in
             goes (λ other v l e. load-store (ap (λ b. Asks b mark) (sym load) ∙ e))
             (build shape low high calm t.words (words_after a k.now) next mine held-same
-                (plain-unwaited next (reads-plain shape low high step w got read))
+            (plain-unwaited next (reads-plain shape low high step w got read))
             y.0 (ap length access.words ∙ y.2) (subst (SameOn mine (words_after a k.now)) (sym access.words) y.1)
             (subst (λ ws. Each (IsHeldLive calm ws) mine) (sym same) k.own))
 
@@ -303,7 +303,7 @@ module _ (plan : Plan) (start : Contents) (words schedule : List ℕ) (p : ℕ) 
         let made = access (Lock entry first) w here a mark turn in
         goes (Lock entry first) w here a mark turn (λ other v l e. load-store e)
         (subst (λ ws. HasWalked shape low high calm ws
-            (step_after its low high (Lock entry first) w (slice_index s.words (entry_base its entry))))
+        (step_after its low high (Lock entry first) w (slice_index s.words (entry_base its entry))))
         (sym (made.words ∙ load-same (entry_base its entry) s.words)) (go (is_locked (slice_index s.words (entry_base its entry)))))
       where
         go : (b : Bool) → HasWalked shape low high calm s.words
@@ -333,7 +333,7 @@ module _ (plan : Plan) (start : Contents) (words schedule : List ℕ) (p : ℕ) 
       fails e = subst (λ b. HasWalked shape low high calm t.words (if b then entry_at its low high entry w v else at
           (Lock entry false) w)) (sym e)
           (subst (λ ws. HasWalked shape low high calm ws (at (Lock entry false) w))
-              (sym (swapped.words ∙ failed-keeps base v (locked_word v) s.words e))
+          (sym (swapped.words ∙ failed-keeps base v (locked_word v) s.words e))
           (again s.words v k))
 
       module _ (got : (slice_index s.words base == v) ≡ true) where
@@ -381,7 +381,7 @@ module _ (plan : Plan) (start : Contents) (words schedule : List ℕ) (p : ℕ) 
           outside : (word : ℕ) → y.base ≤ word → word < y.base + row_words y.kind → IsOfRows old word → ⊥
           outside word from to (z, a, low-end, high-end) =
               apart z a (rows_apart shape z.base y.base z.kind y.kind word (row-of (Exchange entry v) w here z a) row low-end
-                  high-end from to).0
+              high-end from to).0
 
           -- alone on calm the row has the words of the run
           same-now : SameOn all k.now s.words
@@ -431,9 +431,9 @@ module _ (plan : Plan) (start : Contents) (words schedule : List ℕ) (p : ℕ) 
               build shape low high calm t.words (words_after swap (words_after (Load base) k.now)) last all holding
               (plain-unwaited last (entered shape low high entry w v))
               (subst (λ u. Alone its all (call_begun its) calm (OnScan low high u)
-                  (words_after swap (words_after (Load base) k.now))) to-last z.0)
+              (words_after swap (words_after (Load base) k.now))) to-last z.0)
               (ap length swapped.words ∙ z.2) (subst (SameOn all (words_after swap (words_after (Load base) k.now)))
-                  (sym swapped.words) z.1) own-then
+              (sym swapped.words) z.1) own-then
 
         takes : HasWalked shape low high calm t.words (if slice_index s.words base == v then last else at (Lock entry false) w)
         takes = subst (HasWalked shape low high calm t.words) (sym to-last) (go (does (Exchange entry v) w here))

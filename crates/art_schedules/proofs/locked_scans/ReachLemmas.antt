@@ -64,5 +64,5 @@ scans-take-reached plan start words schedule p s t claims m low high x step here
     taken-reached plan.shape (calm_of plan words schedule) low high x.step x.walk k h.base h.kept (locked_word h.kept) asks.mark
     (ap (call_turn (setting plan.shape Coupled (Scan low high))) (sym here.at)
     ∙ its-turn plan.shape s t p words (calm_of plan words schedule) (calm_of plan words (schedule ++ p ∷ [])) f (Scan low high)
-        here.process here.is_open
+    here.process here.is_open
     (Swap h.base h.kept (locked_word h.kept)) asks)

@@ -65,7 +65,7 @@ module _ (shape : Shape) (s t : State) (p : ℕ) (first calm after : List ℕ) (
   pub calm-on : (r : ℕ) (call : Call) (q : Process) → IsOpen t r call q → SameOn (held_by Coupled shape call q) calm after
   calm-on r call q o word (h, a, from, to) =
       let settled = (held-is-kept (IsSettled Coupled shape t) (setting shape Coupled call) (stage_of Coupled shape call q)
-          (f.behind.knows r call q o) h a).1 in
+      (f.behind.knows r call q o) h a).1 in
       f.goes.held h.base h.kind (settled-row Coupled shape t h.base h.kind settled)
       (record { holder = r; call = call; process = q; is_open = o; row = h; among = a; is = refl }) word from to
 
@@ -90,7 +90,7 @@ others-leave-scans plan start words schedule p s t claims m r low high x h apart
     let then = others-open plan p r s t (Scan low high) at.process h.run.made apart at.is_open in
     let c = setting plan.shape Coupled (Scan low high) in
     let on = subst (λ y. SameOn (holds c y) calm after) at.at
-        (calm-on plan.shape s t p words calm after f r (Scan low high) at.process then) in
+    (calm-on plan.shape s t p words calm after f r (Scan low high) at.process then) in
     let real = subst (λ y. SameOn (holds c y) s.words t.words) at.at
     (others-on plan.shape s t p words calm after f r (Scan low high) at.process apart at.is_open then) in (
       record { process = at.process; is_open = then; at = at.at },

@@ -63,7 +63,7 @@ module _ (shape : Shape) (s t : State) (p : ℕ) (first calm after : List ℕ) (
         let call : l.call ≡ Scan low high =
         same_Some l.call (Scan low high) (sym l.at.is_open.is_open ∙ (ap (λ w. w.call) process ∙ here.is_open.is_open)) in
         key-scan (sym l.at.at ∙ (ap (λ w. stage_of Coupled shape l.call w) process
-            ∙ (ap (λ y. stage_of Coupled shape y here.process) call ∙ here.at)))
+        ∙ (ap (λ y. stage_of Coupled shape y here.process) call ∙ here.at)))
 
     its-row : (base : ℕ) (kind : Kind) (l : IsLeaving shape s calm leaving base kind)
         → IsAmong (lock_of l.hold.row) (held_by Coupled shape l.call l.at.process)
@@ -87,10 +87,10 @@ module _ (shape : Shape) (s t : State) (p : ℕ) (first calm after : List ℕ) (
         l.reached k.reached l.is_byte k.is_byte l.hangs k.hangs).0 in
         not-there (at (Exchange (Below base kind) v) w) here base kind l
         (f.sound.apart l.process p l.call (Scan low high) l.at.process here.process l.at.is_open here.is_open (lock_of l.hold.row)
-            (lock_of k.walked.0)
+        (lock_of k.walked.0)
         (its-row (at (Exchange (Below base kind) v) w) here base kind l)
         (subst (λ y. IsAmong (lock_of k.walked.0) (holds its y)) (sym here.at) (among-lock k.walked.0 w.rows k.walked.1))
-            (same ∙ sym k.walked.2))
+        (same ∙ sym k.walked.2))
 
     live-step : (step : ScanStep) → IsAtStage Coupled shape s p (Scan low high) (OnScan low high (at step w))
         → ((IsOver step → ⊥) → KnowsTree shape calm (at step w)) → (h : Held)
@@ -101,7 +101,7 @@ module _ (shape : Shape) (s t : State) (p : ℕ) (first calm after : List ℕ) (
     live-step (Lock entry false) here k h l e is dead = load-exchange e
     live-step (Exchange entry u) here k h l e is dead =
         dead-entry u entry here (k (λ walked. walked)).step
-            (ap (λ b. is_obsolete (slice_index s.words b)) (exchange-word e) ∙ (ap is_obsolete is ∙ dead))
+        (ap (λ b. is_obsolete (slice_index s.words b)) (exchange-word e) ∙ (ap is_obsolete is ∙ dead))
     live-step (Wait entry) here k h l e is dead = load-exchange e
     live-step (Info base kind kept) here k h l e is dead = load-exchange e
     live-step (Keys n) here k h l e is dead = keys-swap n.kind n h.base h.kept (locked_word h.kept) l e

@@ -124,7 +124,7 @@ module _ (shape : Shape) (call : Call) (P : OfRows) (is-row : (b : ℕ) (k : Kin
   put-keys FortyEight h keys word value mark row e =
       let small = key_byte-small (Rattle.art_steps.specs.Rows.key_of call) (row_at h.row).level in
       to (index_at h.row.base (byte_in c h.row)) word (store-word e)
-          (away h.row.base FortyEight _ row (omega arith) (omega (arith, small)) (λ f. omega
+      (away h.row.base FortyEight _ row (omega arith) (omega (arith, small)) (λ f. omega
       (arith, f)))
   put-keys Full h keys word value mark row e =
       to h.row.base word (store-word e) (away h.row.base Full _ row (omega arith) (omega arith) (λ f. omega
@@ -136,7 +136,7 @@ module _ (shape : Shape) (call : Call) (P : OfRows) (is-row : (b : ℕ) (k : Kin
       → IsAway shape word
   grown Four g place left word value mark row copied less e =
       to (new_child_at Four c g place) word (store-word e)
-          (away-slot g.base Sixteen _ row (_, moved (nat_lt place (place_in c g.hold g.keys)) less, refl))
+      (away-slot g.base Sixteen _ row (_, moved (nat_lt place (place_in c g.hold g.keys)) less, refl))
     where
       moved : (b : Bool) → place + left < 4 → (if b then place else place + 1) < 16
       moved true h = omega (arith, h)
@@ -160,12 +160,20 @@ module _ (shape : Shape) (call : Call) (P : OfRows) (is-row : (b : ℕ) (k : Kin
       to (child_at FortyEight g.base 16) word (store-word e) (away-slot g.base FortyEight _ row (16, omega arith, refl))
   grown-leaf FortyEight g word value mark is row e =
       to (child_at Full g.base (byte_in c g.hold.row)) word (store-word e)
-      (away-slot g.base Full _ row (byte_in c g.hold.row, key_byte-small (Rattle.art_steps.specs.Rows.key_of call)
-          (row_at g.hold.row).level, refl))
+      (away-slot g.base Full _ row (
+        byte_in c g.hold.row,
+        key_byte-small (Rattle.art_steps.specs.Rows.key_of call)
+            (row_at g.hold.row).level,
+        refl,
+      ))
   grown-leaf Full g word value mark is row e =
       to (child_at Full g.base (byte_in c g.hold.row)) word (store-word e)
-      (away-slot g.base Full _ row (byte_in c g.hold.row, key_byte-small (Rattle.art_steps.specs.Rows.key_of call)
-          (row_at g.hold.row).level, refl))
+      (away-slot g.base Full _ row (
+        byte_in c g.hold.row,
+        key_byte-small (Rattle.art_steps.specs.Rows.key_of call)
+            (row_at g.hold.row).level,
+        refl,
+      ))
 
   grown-keys : (kind : Kind) (g : Growing) (place left word value : ℕ) (mark : Option Point)
       → kind_at shape g.base ≡ Some (next_kind kind) → IsCopied kind
@@ -182,7 +190,7 @@ module _ (shape : Shape) (call : Call) (P : OfRows) (is-row : (b : ℕ) (k : Kin
           (λ f. omega (arith, f)))
   grown-keys Sixteen g place left word value mark row copied less e =
       to (index_at g.base (8 * place)) word (store-word e)
-          (away g.base FortyEight _ row (omega arith) (omega (arith, less)) (λ f. omega (arith, f)))
+      (away g.base FortyEight _ row (omega arith) (omega (arith, less)) (λ f. omega (arith, f)))
   grown-keys FortyEight g place left word value mark row copied less e = absurd copied
   grown-keys Full g place left word value mark row copied less e = absurd copied
 
@@ -238,7 +246,7 @@ module _ (shape : Shape) (call : Call) (P : OfRows) (is-row : (b : ℕ) (k : Kin
   aims (PutKeys h keys) k word value mark e = inl (put-keys h.row.kind h keys word value mark (is-row h.row.base h.row.kind k.kept.0.1) e)
   aims (PutMore h keys) k word value mark e = inl (to (more_keys_at h.row.base) word (store-word e)
       (away h.row.base Sixteen _ (is-row h.row.base h.row.kind k.kept.0.1 ∙ ap Some k.fits) (omega arith) (omega arith)
-          (λ f. omega (arith, f))))
+      (λ f. omega (arith, f))))
   aims (PutCount h keys) k word value mark e = inl (elim k.fits [
     | inl is ↦ counts h.row Sixteen is (is-row h.row.base h.row.kind k.kept.0.1) word value mark _ (omega arith) (omega arith) e
     | inr is ↦ counts h.row FortyEight is (is-row h.row.base h.row.kind k.kept.0.1) word value mark _ (omega arith) (omega arith) e
@@ -296,7 +304,7 @@ module _ (shape : Shape) (n : ℕ) (s : State) (sound : IsSound Optimistic shape
         (sound.knows p asks.call asks.process asks.is_open) h among word value asks.mark asks.turn) [
           | inl a ↦ a.other (sym e
               ∙ ap info_at (sym (info-row base kind a.base a.kind word (settled-row Optimistic shape s base kind settled) a.row
-                  a.from a.within e)))
+              a.from a.within e)))
           | inr f ↦ unfilled base kind settled p asks.call asks.process asks.is_open f.0 f.1 f.2 (omega (arith, e, f.3))
         ])
     | inr d ↦ others (info_at base) d
@@ -340,7 +348,7 @@ module _ (shape : Shape) (n : ℕ) (s : State) (sound : IsSound Optimistic shape
       go true e =
           let x = was e (version-change Optimistic shape n s sound p t base kind row made.rows) in
           made.busy base kind row e (info_at base) (omega arith) (omega (arith, seven-words kind))
-              ∙ (here base kind x ∙ sym (info-stays made.rows base kind x))
+          ∙ (here base kind x ∙ sym (info-stays made.rows base kind x))
 
 -- ---- runs
 

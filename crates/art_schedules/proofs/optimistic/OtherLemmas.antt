@@ -41,7 +41,7 @@ taken-live v e = ne_eqb ((v + 2) % 2) 1 (λ f. omega (arith, e, f))
 
 module _ (shape : Shape) (n k : ℕ) (s t : State) (before : IsSound Optimistic shape n s) (behind : IsSound Optimistic shape k t) (mover : ℕ)
     (writes : WritesOwn Optimistic shape s mover t) (calm after : List ℕ) (made : CalmStep Optimistic shape s mover t calm after)
-        (effect : Option Effect)
+    (effect : Option Effect)
     (leaving : (base : ℕ) → IsGoneBy effect base → is_obsolete (slice_index t.words base) ≡ true)
     (p : ℕ) (call : Call) (q : Process) (other : p ≢ mover) (was : IsOpen s p call q) (is : IsOpen t p call q) where
   -- a row that the process holds

@@ -81,7 +81,7 @@ leaf-child e = cc
 module _ (shape : Shape) (call : Call) (tree : is_tree_call call ≡ true) (key-call : is_scan call ≡ false) (n : ℕ)
     (calm words : List ℕ) (m : Contents)
     (rest : IsAtRest shape n calm) (means : Means shape calm m) (agrees : Agrees shape words calm) (ways : WaysLeadToValues)
-        (leaves : LeavesAreSmall) where
+    (leaves : LeavesAreSmall) where
   abbrev c : Setting
   c = setting shape Optimistic call
 
@@ -229,8 +229,14 @@ module _ (shape : Shape) (call : Call) (tree : is_tree_call call ≡ true) (key-
             let d = keys_differ_at k (key_of call) in
             takes p.row (pair_work c slot k v) past.0 (record {
               call = tree;
-              words = (insert-of call tree e, at.has, leaf-child, key_byte-small k d, first-differs (key_bytes k)
-                  (key_bytes (key_of call)) d (parts apart));
+              words = (
+                insert-of call tree e,
+                at.has,
+                leaf-child,
+                key_byte-small k d,
+                first-differs (key_bytes k)
+                    (key_bytes (key_of call)) d (parts apart),
+              );
               byte = byte_in c p.row;
               leads = on.leads;
               finds = (at.at, (parts apart, refl));
@@ -238,7 +244,7 @@ module _ (shape : Shape) (call : Call) (tree : is_tree_call call ≡ true) (key-
 
         go : (b : Bool) → (k == key_of call) ≡ b → To (if b then take_alone c p.row (leaf_work c slot (Some v))
             else if nat_le (keys_differ_at k (key_of call)) (row_at p.row).level then Wait Root else take_alone c p.row
-                (pair_work c slot k v))
+            (pair_work c slot k v))
         go true same = takes p.row (leaf_work c slot (Some v)) past.0
             (overwritten c tree p.row slot (Leaf k v) (child_word (new_leaf call)) (Some v) on at
             (eqb-true k (key_of call) same, refl, inl (e, refl)))
@@ -274,7 +280,7 @@ module _ (shape : Shape) (call : Call) (tree : is_tree_call call ≡ true) (key-
   -- the slot of a byte is that of its place among the keys
   among : (i : Bool) → is_insert call ≡ i → (p : Position) (keys : Keys) → AtRow p
       → (Stands words p.row → slot_in c calm p.row ≡ option_map (child_at p.row.kind p.row.base) (place_of (byte_in c p.row)
-          (keys_among p.row.kind keys)))
+      (keys_among p.row.kind keys)))
       → (Stands words p.row → slot_in c calm p.row ≡ None → LacksByte c p.row keys calm) → To (words_at false i false c p keys)
   among i e p keys k is lack = go (place_of (byte_in c p.row) (keys_among p.row.kind keys)) is
     where
@@ -300,8 +306,13 @@ module _ (shape : Shape) (call : Call) (tree : is_tree_call call ≡ true) (key-
       let x = byte_in c (held base Four info was) in
       among i e p (keys_one w) k
       (λ st. ap (λ v. option_map (child_at Four base) (place_of x (keys4_of v))) (sym (is st)))
-      (λ st none. record { form = form-of p k st; absent = none; keys = ap keys4_of (is st); count = ap
-          (λ v. length (keys4_of v)) (is st) })
+      (λ st none. record {
+        form = form-of p k st;
+        absent = none;
+        keys = ap keys4_of (is st);
+        count = ap
+            (λ v. length (keys4_of v)) (is st);
+      })
 
   sixteen : (i : Bool) → is_insert call ≡ i → (base info was : ℕ) (above : Option Held) (slot count first second : ℕ)
       → AtRow (place base Sixteen info was above slot)
@@ -332,7 +343,7 @@ module _ (shape : Shape) (call : Call) (tree : is_tree_call call ≡ true) (key-
       → To (find_at false i false FortyEight c (place base FortyEight info was above slot) w)
   indexed i e base info was above slot w k is =
       subst (λ j. To (if entry == 0 then (if j then FindCount p w else Check p (Lacks (keys_one w))) else Slot p
-          (child_at FortyEight base (entry - 1))))
+      (child_at FortyEight base (entry - 1))))
       (sym e) (go (entry == 0) refl)
     where
       p : Position
@@ -348,7 +359,7 @@ module _ (shape : Shape) (call : Call) (tree : is_tree_call call ≡ true) (key-
           → slot_in c calm (held base FortyEight info was) ≡ (if b then None else Some (child_at FortyEight base (entry - 1)))
       slot-is b f st =
           ap (λ v. if slice_index (entries_of v) (x % 8) == 0 then None else Some
-              (child_at FortyEight base (slice_index (entries_of v) (x % 8) - 1)))
+          (child_at FortyEight base (slice_index (entries_of v) (x % 8) - 1)))
           (sym (is st)) ∙ ap (λ b. if b then None else Some (child_at FortyEight base (entry - 1))) f
 
       none-at : (i : Bool) → is_insert call ≡ i → (entry == 0) ≡ true → To (if i then FindCount p w else Check p (Lacks (keys_one w)))
@@ -408,7 +419,7 @@ module _ (shape : Shape) (call : Call) (tree : is_tree_call call ≡ true) (key-
       differ e = cc
   counted i e base FortyEight info was above slot index w kinds k seen got =
       sees i e (place base FortyEight info was above slot) (Lacks (record { first = index; second = 0; count = w })) k
-          (λ st. knows-keys i e st)
+      (λ st. knows-keys i e st)
     where
       knows-keys : (i : Bool) → is_insert call ≡ i → Stands words (held base FortyEight info was)
           → KnowsKeys i c calm (held base FortyEight info was) (record { first = index; second = 0; count = w })
@@ -499,8 +510,11 @@ module _ (shape : Shape) (call : Call) (tree : is_tree_call call ≡ true) (key-
   hangs-pair : is_insert call ≡ true → (d : Down) (kept x : ℕ) → IsBelow c calm words d
       → first_difference (path_in words d.base d.kind) (key_bytes (key_of call)) ≡ Some x → Past d.above
       → To (take_alone c d.above (beside_work d.slot (row-below d kept) x))
-  hangs-pair e d kept x k differs past = GoesOn (knows true e None _ ((λ st. (k st).0.leads.reached), tt,
-      (λ st. begins (k st))) (past, tt) tt)
+  hangs-pair e d kept x k differs past = GoesOn (knows true e None _ (
+    (λ st. (k st).0.leads.reached),
+    tt,
+    (λ st. begins (k st)),
+  ) (past, tt) tt)
     where
       begins : HangsOnWay c calm d.above d.slot (ChildRow d.base d.kind)
           → BeginsWork c calm (hold_alone d.above) (beside_work d.slot (row-below d kept) x)
@@ -518,8 +532,14 @@ module _ (shape : Shape) (call : Call) (tree : is_tree_call call ≡ true) (key-
             );
             byte = byte_in c d.above;
             leads = hang.0.leads;
-            finds = (hang.1.at, (ap (λ xs. first_difference xs (key_bytes (key_of call))) same ∙ differs, ap
-                (λ xs. slice_index xs x) (sym same)));
+            finds = (
+              hang.1.at,
+              (
+                ap (λ xs. first_difference xs (key_bytes (key_of call))) same ∙ differs,
+                ap
+                    (λ xs. slice_index xs x) (sym same),
+              ),
+            );
           }
 
   arrives : (i : Bool) → is_insert call ≡ i → (d : Down) (kept : ℕ) → KnowsStage i c calm words (Info d kept)
@@ -584,7 +604,7 @@ module _ (shape : Shape) (call : Call) (tree : is_tree_call call ≡ true) (key-
       go false same = again
   next i e (Info d was) w k kept fits past own got =
       subst (λ v. To (below_at false i c d (held d.base d.kind v was) (path_differs_at c (row_at (held d.base d.kind v was)))))
-          (sym (got _ _ refl))
+      (sym (got _ _ refl))
       (arrives i e d was k past)
   next i e (Find p) w k kept fits past own got =
       finds i e p.row.base p.row.kind p.row.info p.row.kept p.above p.slot w (at-row p k kept.0 past) got
@@ -623,7 +643,7 @@ module _ (shape : Shape) (call : Call) (tree : is_tree_call call ≡ true) (key-
 pub ways-go-on : WaysLeadToValues → LeavesAreSmall → WaysGoOn
 ways-go-on ways leaves shape call n calm words m stage w tree key-call rest means agrees rows k got =
     next shape call tree key-call n calm words m rest means agrees ways leaves (is_insert call) refl stage w k.way rows.kept
-        rows.fits k.kept k.rows got
+    rows.fits k.kept k.rows got
 
 -- ---- a call that has found what it will answer
 
@@ -662,9 +682,9 @@ module _ (shape : Shape) (call : Call) (calm words : List ℕ) (r : Reply) where
 pub findings-stay : FindingsStay
 findings-stay shape call calm words stage w r k got =
     elim (answers shape call calm words r (is_insert call) stage w (k.way, k.kept, k.rows) got) [
-  | inl x ↦ inl (record { way = x.0; kept = x.1; rows = x.2 })
-  | inr x ↦ inr (record { way = x.0; kept = x.1; rows = x.2 })
-]
+      | inl x ↦ inl (record { way = x.0; kept = x.1; rows = x.2 })
+      | inr x ↦ inr (record { way = x.0; kept = x.1; rows = x.2 })
+    ]
 
 pub ways-begin : WaysBegin
 ways-begin shape call calm words = record { way = go (is_insert call); kept = tt; rows = tt }

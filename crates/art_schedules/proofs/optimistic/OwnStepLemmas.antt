@@ -404,7 +404,7 @@ module _ (plan : Plan) (start : Contents) (first schedule : List ℕ) (p : ℕ) 
             steps-on _ did (keeps n rest calm-is),
             subst (λ y. To (stage_after c y value)) (sym is)
                 (subst (λ b. To (if b then taken_at c x.held x.below x.work x.row else release_at false x.held None))
-                    (sym (eq-eqb value x.row.kept st))
+                (sym (eq-eqb value x.row.kept st))
                 (taken x.held x.below x.work knows-taking.1 knows-taking.2 kept-rows past-rows own-rows fits)),
           )
 
@@ -464,7 +464,7 @@ module _ (plan : Plan) (start : Contents) (first schedule : List ℕ) (p : ℕ) 
             with-released Optimistic shape made.count s made.before p t calm after change call at.process at.is_open h.row.base
             (released_word h.row.kept) (Some point.Unlock)
             (its-turn _ _ let-go) (lock_of h.row) among refl (b + j) (omega (arith, row_begins shape b kind there))
-                (outside (b + j) (omega arith)
+            (outside (b + j) (omega arith)
             (omega (arith, less)))
           where
             outside : (word : ℕ) → b ≤ word → word < b + row_words kind → IsOutside h.row.base h.row.kind word
@@ -483,7 +483,7 @@ module _ (plan : Plan) (start : Contents) (first schedule : List ℕ) (p : ℕ) 
         low-same word small =
             is-calm.low word small ∙ (ap (λ l. slice_index l word) did-go.words
             ∙ (index-other s.words h.row.base (released_word h.row.kept) word
-                (λ f. omega (arith, f, small, row_begins shape h.row.base h.row.kind here))
+            (λ f. omega (arith, f, small, row_begins shape h.row.base h.row.kind here))
             ∙ sym (was-calm.low word small)))
 
         same-tree : (b : ℕ) (kind : Kind) → Reached shape calm b kind → SameRow calm after b kind

@@ -48,8 +48,12 @@ scans-store-nothing shape call low high scan word value mark e = go scan.step sc
 pub quiet-steps-keep-trees : QuietStepsKeepTrees
 quiet-steps-keep-trees plan start words schedule p s t h quiet n rest =
     low-words-keep plan.shape n calm after rest (there.long ∙ sym here.long) there.small
-    (λ kind. omega (arith, here.low (claims_of kind) (claims-few kind), there.low (claims_of kind) (claims-few kind),
-        made.steady.claims kind))
+    (λ kind. omega (
+      arith,
+      here.low (claims_of kind) (claims-few kind),
+      there.low (claims_of kind) (claims-few kind),
+      made.steady.claims kind,
+    ))
     (stays change.change)
   where
     calm : List ℕ

@@ -82,7 +82,7 @@ module _ (shape : Shape) (call : Call) (n : ℕ) (calm after : List ℕ) (pairs 
       row j low high =
           agree-then.free h.base h.kind here (ap is_busy st ∙ free) (h.base + j) (omega arith) (omega (arith, high))
           ∙ (steady.stands h.base h.kind kept.1 (st ∙ sym stood)
-              (ap Rattle.art_rows.specs.Words.is_locked stood ∙ (free-parts h.kept free).0)
+          (ap Rattle.art_rows.specs.Words.is_locked stood ∙ (free-parts h.kept free).0)
           (h.base + j) (omega arith) (omega (arith, high))
           ∙ sym (agree.free h.base h.kind here (ap is_busy stood ∙ free) (h.base + j) (omega arith) (omega (arith, high))))
 
@@ -204,9 +204,12 @@ module _ (shape : Shape) (call : Call) (n : ℕ) (calm after : List ℕ) (pairs 
     place-kept p kept past k.0,
     says p.row kept.0 past.0 _ _ (λ x a. finding-still c follows i p.row f x a) k.1,
   )
-  stage-kept i (Take x) kept past still k =
-      (here-kept x.row kept.0 past.0 k.0, under-kept x.row x.held x.below kept past k.1, taking-kept x.row x.held x.below x.work
-          kept past still k.2)
+  stage-kept i (Take x) kept past still k = (
+    here-kept x.row kept.0 past.0 k.0,
+    under-kept x.row x.held x.below kept past k.1,
+    taking-kept x.row x.held x.below x.work
+        kept past still k.2,
+  )
   stage-kept i (Unlock h outcome) kept past still k = k
   stage-kept i stage kept past still k = absurd k
 

@@ -140,9 +140,12 @@ module _ (laws : LawsOfParts) (shape : Shape) (scripts : List (List Call)) (star
             (record { process = q; is_open = x.here; at = at }) tree scan told.claims m
             told.rests told.means k in
             absurd (closed from.0.at.process from.0.at.is_open)
-        go (Finds stage found scan none at k e) =
-            (status, Stays refl, subst (λ y. HasReply y reply) (sym e)
-                (found-answers shape calm s.words call found reply stage k (turn stage at)))
+        go (Finds stage found scan none at k e) = (
+          status,
+          Stays refl,
+          subst (λ y. HasReply y reply) (sym e)
+              (found-answers shape calm s.words call found reply stage k (turn stage at)),
+        )
         go (Works stage at w e) = absurd (works stage at w)
         go (Ends stage known none at end e) = (
           status,
@@ -150,6 +153,6 @@ module _ (laws : LawsOfParts) (shape : Shape) (scripts : List (List Call)) (star
           ⊎_elim
               (λ k. subst (λ y. HasReply y reply) (sym k) (end-answers shape s.words calm call known reply stage end (turn stage at)))
               (λ k. subst (λ y. HasReply y reply) (sym k.1)
-                  (sym k.0 ∙ end-answers shape s.words calm call known reply stage end (turn stage at))) e,
+              (sym k.0 ∙ end-answers shape s.words calm call known reply stage end (turn stage at))) e,
         )
         go (Walks low high at none is stage e) = walks low high is e

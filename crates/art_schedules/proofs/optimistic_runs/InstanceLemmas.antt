@@ -54,7 +54,7 @@ module _ (laws : LawsOfParts) (shape : Shape) (scripts : List (List Call)) (star
         → (call : Call) (q later : Process) (a : Access) (status : Status) → MakesAccess plan s p t call q later a
         → OptimisticFits shape g schedule s x p call q status
         → OwnStep plan words schedule tale p t x y call q status
-            (λ effect now. IsLedOn Ghosts World (OptimisticFits shape) g schedule p s t x y
+        (λ effect now. IsLedOn Ghosts World (OptimisticFits shape) g schedule p s t x y
         (λ next. OptimisticFits shape next (schedule ++ p ∷ []) t y p call later now))
 
     pub owns : OwnClause here there
@@ -67,7 +67,7 @@ module _ (laws : LawsOfParts) (shape : Shape) (scripts : List (List Call)) (star
         → (call : Call) (q later : Process) → BeginsCall plan s p t call q later
         → TreeGoesOn shape t.words x y (tale.pairs (length schedule)) None
         → IsLedOn Ghosts World (OptimisticFits shape) g schedule p s t x y
-            (λ next. OptimisticFits shape next (schedule ++ p ∷ []) t y p call later Before)
+        (λ next. OptimisticFits shape next (schedule ++ p ∷ []) t y p call later Before)
 
     pub begins : BeginClause here there
     begins told world all call q later b goes =
@@ -115,13 +115,13 @@ module _ (laws : LawsOfParts) (shape : Shape) (scripts : List (List Call)) (star
     );
     begins = λ schedule tale p s t calm after g told.
         at-calm schedule tale p s t g (BeginClause schedule tale p s t g) (begins schedule tale p s t g) calm after told.calm_is
-            told.after_is told;
+        told.after_is told;
     own = λ schedule tale p s t calm after g told.
         at-calm schedule tale p s t g (OwnClause schedule tale p s t g) (owns schedule tale p s t g) calm after told.calm_is
-            told.after_is told;
+        told.after_is told;
     answers = λ schedule tale p s t calm after g told.
         at-calm schedule tale p s t g (AnswerClause schedule tale p s t g) (answers schedule tale p s t g) calm after told.calm_is
-            told.after_is told;
+        told.after_is told;
   }
 
 -- Every run of the optimistic tree is linearizable.

@@ -134,8 +134,10 @@ module _ (laws : LawsOfParts) (shape : Shape) (scripts : List (List Call)) (star
         works h w f begins each =
             subst (AtWork (setting shape Optimistic call) t.words after None) (sym f)
             (laws.work_begins (setting shape Optimistic call) t.words after h w told.calm_behind.long known begins
-            (each-map (λ (x : Held) y. record { reached = y.0.1; live = kept-live Optimistic (RowsOf shape) x y.1 (inl refl)
-                }) (rows_of_hold h)
+            (each-map (λ (x : Held) y. record {
+              reached = y.0.1;
+              live = kept-live Optimistic (RowsOf shape) x y.1 (inl refl);
+            }) (rows_of_hold h)
             (each-both (IsHeldReached shape after t.words) (IsKept false (RowsOf shape)) (rows_of_hold h) each kept))
             (each-map (λ (x : Held) y. y.0) (rows_of_hold h) each))
           where
@@ -143,7 +145,7 @@ module _ (laws : LawsOfParts) (shape : Shape) (scripts : List (List Call)) (star
             known =
                 subst (Knows (RowsOf shape) (setting shape Optimistic call)) (there ∙ ap OnKey f)
                 (rows-known Optimistic shape _ t p call later
-                    (led.fact laws shape scripts start words schedule tale p s t g told world all).behind made.behind)
+                (led.fact laws shape scripts start words schedule tale p s t g told world all).behind made.behind)
 
             kept : Each (IsKept false (RowsOf shape)) (rows_of_hold h)
             kept = subst (Each (IsKept false (RowsOf shape))) (work-kept (is_insert call) (setting shape Optimistic call) h w) known.kept
@@ -229,7 +231,7 @@ module _ (laws : LawsOfParts) (shape : Shape) (scripts : List (List Call)) (star
             (Ends next Refused none-now (at-next there.process there.is_open next there.at) end (inr (refl, refl)))
         go (outcomes.TakesEffect next effect reply there end makes fresh pairs legal accepted live) =
             Changes effect reply (led.makes-goes laws shape scripts start words schedule tale p s t g told world all (Some effect) makes)
-                (unchanged-before e)
+            (unchanged-before e)
             (legal, pairs) accepted
             (led.led laws shape scripts start words schedule tale p s t g told world all (Some effect) makes fresh None (led.NoFresh refl)
             (λ ghost. Fit ghost (Changed reply))

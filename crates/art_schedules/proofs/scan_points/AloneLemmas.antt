@@ -70,7 +70,7 @@ module _ (plan : Plan) (call : Call) (words : List ℕ) where
             let is : i ≡ length before = omega (arith, new, less, length-append before (got_by a words ∷ [])) in
             let whole : take i (before ++ got_by a words ∷ []) ≡ before =
             ap (λ k. take k (before ++ got_by a words ∷ [])) is
-                ∙ (take-more (length before) before (got_by a words) (omega arith) ∙ take-length before) in
+            ∙ (take-more (length before) before (got_by a words) (omega arith) ∙ take-length before) in
             let same : a ≡ Load word = asks-same (sym f ∙ (ap turn-of (sym whole) ∙ e)) in
             ap (slice_index (before ++ got_by a words ∷ [])) is ∙ (index-last before (got_by a words) ∙ ap (λ x. got_by x words) same)
       ]
@@ -111,7 +111,7 @@ module _ (plan : Plan) (lo hi : ℕ) (v : plan.variant ≡ Optimistic) (some : 1
       is : act plan.shape plan.variant scan got ≡ scan_turn set here
       is = turn-is plan lo hi v some got ∙ (sym (ap (call_turn set) (all-fold plan.shape some lo hi (scan_start set) got))
           ∙ ap (call_turn set) (ap (after_all set (call_begun set)) x.all ∙ (all-append plan.shape some lo hi (call_begun set)
-              x.earlier x.attempt
+          x.earlier x.attempt
           ∙ (ap (λ y. after_all set y x.attempt) x.begins ∙ all-fold plan.shape some lo hi (scan_start set) x.attempt))))
 
       keys : (kind : Kind) (n : Held) → act plan.shape plan.variant scan got ≡ keys_turn kind n → LoadsOrAnswers got
@@ -164,7 +164,7 @@ module _ (plan : Plan) (lo hi : ℕ) (v : plan.variant ≡ Optimistic) (some : 1
           let row = x.reads i word r in
           free row.base row.kind row.enters.row
           (ap is_busy (sym (was row.entry row.base row.enters.reads)) ∙ unmarked-free (slice_index x.attempt row.entry) row.free) word
-              row.from row.below
+          row.from row.below
           ∙ sym (was i word r)
 
   -- It runs alone, and changes no word.
@@ -190,7 +190,7 @@ module _ (plan : Plan) (lo hi : ℕ) (v : plan.variant ≡ Optimistic) (some : 1
               let one : alone (suc i) plan scan calm ≡ before ++ slice_index calm word ∷ [] = ap (λ t. before ++ next_word t calm) f in
               goes (Load word) mark (ap (act plan.shape plan.variant scan) (append-nil before) ∙ f)
               (subst (λ (w : List ℕ). RunsAlone
-                  (λ got. act plan.shape plan.variant scan (before ++ (slice_index calm word ∷ got))) w calm reply)
+              (λ got. act plan.shape plan.variant scan (before ++ (slice_index calm word ∷ got))) w calm reply)
               (sym (set-get_or calm word 0))
               (same-runs (λ got. act plan.shape plan.variant scan (before ++ (slice_index calm word ∷ got)))
               (λ got. ap (act plan.shape plan.variant scan)

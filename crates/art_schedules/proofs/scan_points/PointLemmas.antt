@@ -11,9 +11,10 @@ use Rattle.events.specs.declared.event.Reply.{Reply}
 use Rattle.events.specs.Operations.{operations}
 use Rattle.map_object.specs.MapObject.{Contents, Does, reply_to}
 use Rattle.art_steps.specs.Act.{act}
+use Rattle.art_steps.proofs.TurnLemmas.{answers-of}
 use Rattle.art_core.specs.Core.{Plan, State, begun, history_of, known_reply, opened_on}
 use Rattle.art_core.specs.Runs.{At}
-use Rattle.art_versions.proofs.moments.MomentLemmas.{scan-has-moment, answers-of}
+use Rattle.art_versions.proofs.moments.MomentLemmas.{scan-has-moment}
 use Rattle.art_serial.proofs.alone.AloneLemmas.{runs-once}
 use Rattle.art_schedules.specs.calls.RunCalls.{IsIn, HasCalls}
 use Rattle.art_schedules.specs.calls.Laws.{FrontsHaveMoments, MomentsEndRuns, RunsHaveCalls}
@@ -33,9 +34,9 @@ one-call plan first schedule s h t u p calls now past call other at-t at-u here 
     let (a, is) = slice_get-below (operations (history_of s)) n within in
     let c = h.call_of n in
     let one : IsIn now c.process c.calls call =
-        subst (λ i. IsIn now i c.calls call) (sym process) (subst (λ i. IsIn now p i call) (sym number) here) in
+    subst (λ i. IsIn now i c.calls call) (sym process) (subst (λ i. IsIn now p i call) (sym number) here) in
     let two : IsIn past c.process c.calls other =
-        subst (λ i. IsIn past i c.calls other) (sym process) (subst (λ i. IsIn past p i other) (sym number) there) in
+    subst (λ i. IsIn past i c.calls other) (sym process) (subst (λ i. IsIn past p i other) (sym number) there) in
     ((h.each n a is).within t now call at-t one).1 ∙ sym ((h.each n a is).within u past other at-u two).1
 
 -- the map's reply to a scan is legal, and leaves the map
@@ -67,7 +68,7 @@ scan-point fronts ends calls maps plan start words schedule s run v u past at p 
     let there : IsIn past p (length (begun q)) (Scan low high) = record { process = q; own = own; count = refl; is_open = is } in
     let same : h.within.call ≡ Scan low high =
     one-call plan first schedule s (calls plan start words schedule s run) (min h.t u) u p (length (begun q)) h.now past
-        h.within.call (Scan low high)
+    h.within.call (Scan low high)
     at-now at here there in
     let more = has-more plan low high v some first (take u schedule) q.got p (length (begun q)) reply h answers in
     let earlier : min h.t u < u = sooner (min h.t u) u (omega arith) (λ last.
@@ -84,6 +85,6 @@ scan-point fronts ends calls maps plan start words schedule s run v u past at p 
       has_got = h.within;
       replies = λ n m few rest means.
           let is-map : reply ≡ reply_to m (Scan low high) =
-              (runs-once runs-so (maps plan.shape plan.variant n calm m low high few rest means).runs).1 in
+          (runs-once runs-so (maps plan.shape plan.variant n calm m low high few rest means).runs).1 in
           (is-map, does-scan m low high reply is-map);
     }

@@ -19,5 +19,5 @@ module _ (starts : StartsAreAtRest) (trees : KeptTreesFollow) (orders : StoriesG
       → plan.variant ≡ Optimistic → IsLed plan start words) → OptimisticIsLinearizable
   optimistic-from-ghosts led plan start words schedule s run is =
       orders-of-ghosts starts trees plan (inr is) start words Ghost (World plan start words) (Fits plan start words)
-          (led plan start words schedule s run is)
+      (led plan start words schedule s run is)
       orders schedule s run

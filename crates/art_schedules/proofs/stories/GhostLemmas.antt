@@ -172,7 +172,7 @@ module _ (starts : StartsAreAtRest) (trees : KeptTreesFollow) (plan : Plan) (ful
       claims = told.claims;
       follows = trees plan.shape told.claims told.claims calm after m told.rests told.means
           (low-words-keep plan.shape told.claims calm after told.rests (told.calm_behind.long ∙ sym told.calm_before.long)
-              told.calm_behind.small
+          told.calm_behind.small
           (λ k. let e = claims k in omega arith) (stays told.change.change))
           (λ k. let e = claims k in omega (arith, told.rests.claims k));
       gone = λ b gone. absurd gone;
@@ -260,9 +260,12 @@ module _ (starts : StartsAreAtRest) (trees : KeptTreesFollow) (plan : Plan) (ful
         story = its-story;
         means = more-means (story-few plan start words longer t later behind its-story);
         fits = λ r call q o.
-            let (status, f, has) = fits r call q o in
-            (status, f, subst (λ i. HasStatus plan first longer later i r (length (begun q)) call status)
-                (sym (length-append schedule (p ∷ []))) has);
+            let (status, f, has) = fits r call q o in (
+              status,
+              f,
+              subst (λ i. HasStatus plan first longer later i r (length (begun q)) call status)
+                  (sym (length-append schedule (p ∷ []))) has,
+            );
       }
         where
           c : Continues n h.tale later change next
@@ -320,7 +323,7 @@ module _ (starts : StartsAreAtRest) (trees : KeptTreesFollow) (plan : Plan) (ful
       none-asked : (a : Access) → AsksFor plan.variant plan.shape s p a → ⊥
       none-asked a asks =
           none-some asks.call (sym idle ∙ (ap (λ (x : Process). x.call) (one-process w asks.process asks.call own asks.is_open)
-              ∙ asks.is_open.is_open))
+          ∙ asks.is_open.is_open))
 
       stays : TreeGoesOn plan.shape t.words calm after m None
       stays = low-goes w own (Invokes call) refl is none-asked
@@ -345,7 +348,7 @@ module _ (starts : StartsAreAtRest) (trees : KeptTreesFollow) (plan : Plan) (ful
       begins-call : IsTold (schedule ++ p ∷ []) t
       begins-call =
           told-more w own (Invokes call) is false None stays
-              (λ g. Fits g (schedule ++ p ∷ []) t after p call begun-as Before) on (λ e. refl)
+          (λ g. Fits g (schedule ++ p ∷ []) t after p call begun-as Before) on (λ e. refl)
           (λ e. absurd (false≢true e))
           (λ other e. subst (λ x. IsFitBehind w own (Invokes call) is false None stays on.next p x begun-as) (same_Some call other e) (
             Before,
@@ -355,11 +358,11 @@ module _ (starts : StartsAreAtRest) (trees : KeptTreesFollow) (plan : Plan) (ful
                 (length (begun begun-as)) call w own idle count,
           ))
           (λ other q reply o known. absurd
-              (none-some other (sym idle ∙ (ap (λ (x : Process). x.call) (one-process w q other own o) ∙ o.is_open))))
+          (none-some other (sym idle ∙ (ap (λ (x : Process). x.call) (one-process w q other own o) ∙ o.is_open))))
 
     module _ (w : Process) (own : slice_get s.processes p ≡ Some w) (reply : Reply) (is-next : next_move plan p w ≡ Some (Responds reply))
         (is : t ≡ moved s p w (Responds reply)) (call : Call) (opens : w.call ≡ Some call)
-            (known : known_reply plan w.got (Some call) ≡ Some reply) where
+        (known : known_reply plan w.got (Some call) ≡ Some reply) where
       not-asked : (a : Access) → AsksFor plan.variant plan.shape s p a → ⊥
       not-asked a asks =
           let is-w = one-process w asks.process asks.call own asks.is_open in
@@ -404,7 +407,7 @@ module _ (starts : StartsAreAtRest) (trees : KeptTreesFollow) (plan : Plan) (ful
             let now = status-goes plan start first schedule p h.tale (length (begun w)) call status next goes
             (in-now plan start first schedule p s before.gives p call w (record { own = own; is_open = opens })) has in
             subst (λ c. HasAnswer c q r) is-call
-                (subst (λ x. HasAnswer call x r) is-w (refl, next, now, subst (HasReply next) same has-reply))
+            (subst (λ x. HasAnswer call x r) is-w (refl, next, now, subst (HasReply next) same has-reply))
 
         answers-call : IsTold (schedule ++ p ∷ []) t
         answers-call =
@@ -445,7 +448,7 @@ module _ (starts : StartsAreAtRest) (trees : KeptTreesFollow) (plan : Plan) (ful
           let turn : act plan.shape plan.variant call w.got ≡ Answers reply =
           subst (λ c. act plan.shape plan.variant c w.got ≡ Answers reply) (sym is-call)
           (subst (λ (x : Process). act plan.shape plan.variant other x.got ≡ Answers reply) (sym is-w)
-              (answers-known plan v.got other reply known)) in
+          (answers-known plan v.got other reply known)) in
           asks-answers (sym asks ∙ turn)
 
       module _ (status : Status) (has : HasStatus plan first schedule h.tale n p calls call status) where
@@ -456,7 +459,7 @@ module _ (starts : StartsAreAtRest) (trees : KeptTreesFollow) (plan : Plan) (ful
             m) p calls call next
             (λ x. refl)
             (status-goes plan start first schedule p h.tale calls call status next how
-                (in-now plan start first schedule p s before.gives p call w here) has)
+            (in-now plan start first schedule p s before.gives p call w here) has)
 
         abbrev OwnFits : Status → Ghost → Type 0
         OwnFits now g = Fits g (schedule ++ p ∷ []) t after p call q now
@@ -477,7 +480,7 @@ module _ (starts : StartsAreAtRest) (trees : KeptTreesFollow) (plan : Plan) (ful
             told-more w own (Makes a) is true (Some effect) tree (OwnFits (Changed reply)) on (λ e. absurd (false≢true (sym e)))
             (λ e. (i.now, calls, call, i.at, i.is_in))
             (λ other e. subst (λ x. IsFitBehind w own (Makes a) is true (Some effect) tree on.next p x q)
-                (same_Some call other (sym opens ∙ e)) (
+            (same_Some call other (sym opens ∙ e)) (
               Changed reply,
               on.own,
               status-changed plan start first schedule p h.tale changed-tale true after-it c calls call reply refl

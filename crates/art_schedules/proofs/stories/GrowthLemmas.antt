@@ -31,8 +31,11 @@ pub record Continues (n : ℕ) (tale later : Tale) (change : Bool) (next : Conte
   pub behind : later.pairs (n + 1) ≡ next
 
 abbrev pub continued : ℕ → Tale → Bool → Contents → Tale
-continued n tale change next = record { pairs = λ u. cond (nat_lt n u) next (tale.pairs u); changes = λ u. cond (nat_lt u n)
-    (tale.changes u) change }
+continued n tale change next = record {
+  pairs = λ u. cond (nat_lt n u) next (tale.pairs u);
+  changes = λ u. cond (nat_lt u n)
+      (tale.changes u) change;
+}
 
 pub continues : (n : ℕ) (tale : Tale) (change : Bool) (next : Contents) → Continues n tale (continued n tale change next) change next
 continues n tale change next = record {
@@ -155,8 +158,14 @@ module _ (plan : Plan) (start : Contents) (first : State) (schedule : List ℕ) 
         go : (status : Status) → HasStatus plan first longer later n r calls call status
             → HasStatus plan first longer later (n + 1) r calls call status
         go Before k = kept k
-        go (Found reply) k = record { kept = kept k.kept; moment = k.moment; until = omega (arith, k.until); within =
-            k.within; finds = k.finds }
+        go (Found reply) k = record {
+          kept = kept k.kept;
+          moment = k.moment;
+          until = omega (arith, k.until);
+          within =
+              k.within;
+          finds = k.finds;
+        }
         go (Changed reply) k = record {
           step = k.step;
           until = omega (arith, k.until);
@@ -192,7 +201,7 @@ module _ (plan : Plan) (start : Contents) (first : State) (schedule : List ℕ) 
       status-begun calls call w own idle count u less its =
           let i = front-in u p calls call (omega arith) its.1 in
           let rises = stage-rises plan first schedule p u n i.now s i.is_in.process w (omega arith) i.at (at-last s gives)
-              i.is_in.own own in
+          i.is_in.own own in
           let opens = stage-open i.is_in.process call i.is_in.is_open in
           let rests = stage-idle w idle in
           absurd (omega (arith, rises, opens, rests, i.is_in.count, count))

@@ -26,4 +26,4 @@ pub same-stage : (variant : Variant) (shape : Shape) (s : State) (p : ℕ) (call
     → stage_of variant shape call q ≡ stage_of variant shape other w
 same-stage variant shape s p call other q w o x =
     ap (λ y. stage_of variant shape y q) (same-call s p call other q w o x)
-        ∙ ap (stage_of variant shape other) (same-process s p call other q w o x)
+    ∙ ap (stage_of variant shape other) (same-process s p call other q w o x)

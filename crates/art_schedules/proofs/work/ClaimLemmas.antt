@@ -2,7 +2,7 @@
 use Rattle.std.proofs.Common.{◌≡◌, ℕ, ◌+◌, ◌%◌, ◌^◌, ◌<◌, ◌≤◌, List, ◌∷◌, length, refl, ap, sym, subst, ◌∙◌, Bool, true, false, inl, inr}
 use Rattle.std.proofs.Common.{arith}
 use Rattle.std.specs.Prelude.{◌≢◌, ◌⊎◌, nat_lt, slice_index, slice_set, Option, Some, None, if◌then◌else◌}
-use Rattle.std.proofs.lemmas.Bool.{cases_lt}
+use Rattle.std.proofs.lemmas.Bool.{cases_lt, true≢false, lt-ltb, le-ltb}
 use Rattle.events.specs.declared.event.Reply.{Reply}
 use Rattle.art_rows.specs.declared.table.Shape.{Shape}
 use Rattle.art_rows.specs.declared.table.Kind.{Kind}
@@ -25,7 +25,6 @@ use Rattle.art_stages.specs.Stages.{rest_in}
 use Rattle.art_stages.specs.Automaton.{turn_at, stage_after}
 use Rattle.art_stages.specs.Calls.{CallAt, OnKey, call_turn, call_after}
 use Rattle.art_serial.specs.alone.Alone.{RunsAlone}
-use Rattle.art_serial.proofs.words.KeyLemmas.{less, not_less}
 use Rattle.art_serial.proofs.words.TableLemmas.{row_ends}
 use Rattle.art_serial.specs.writes.Writes.{IsOutside}
 use Rattle.art_serial.proofs.writes.StoreLemmas.{stored-at, stored-other, stored-long}
@@ -49,9 +48,6 @@ step-claim c kind mark asks (loads w m h) = absurd (load-add (sym h ∙ asks))
 step-claim c kind mark asks (stores w v m h) = absurd (store-add (sym h ∙ asks))
 step-claim c {words = words} kind mark asks (claims k n m h u) =
     (n, refl, refl, subst (λ k. IsUnused c.shape words k n) (claims-once k kind (add-word (sym h ∙ asks))) u)
-
-true-false : true ≡ false → ⊥
-true-false e = cc
 
 -- the words with a number in the claims word of a kind, and with one claim more
 abbrev pub with_number : List ℕ → Kind → ℕ → List ℕ
@@ -113,7 +109,7 @@ module _ (c : Setting) (full : IsFull c.variant) (some : 1 ≤ c.shape.rows256) 
     (b : Bool) (claim : Stage)
     (a1 : ℕ → Stage) (w0 : List ℕ) (asks : turn_at c claim ≡ Asks (Add (claims_of kind)) None)
     (after : (number : ℕ) → stage_after c claim number ≡ (if nat_lt number (rows_of c.shape kind) then a1 number else Unlock
-        h (Some Refused)))
+    h (Some Refused)))
     (begins : (number : ℕ) → number < rows_of c.shape kind → Next h b (a1 number) × KnowsKey (RowsOf c.shape) c (a1 number))
     (busy : is_release claim ≡ false) where
   abbrev more : ℕ → List ℕ
@@ -135,7 +131,7 @@ module _ (c : Setting) (full : IsFull c.variant) (some : 1 ≤ c.shape.rows256) 
   claimed number unused next later e f = elim (cases_lt number (rows_of c.shape kind)) [
     | inl l ↦
         let stage : next ≡ OnKey (a1 number) =
-        e ∙ ap OnKey (after number ∙ ap (λ x. if x then a1 number else Unlock h (Some Refused)) (less number (rows_of c.shape kind) l)) in
+        e ∙ ap OnKey (after number ∙ ap (λ x. if x then a1 number else Unlock h (Some Refused)) (lt-ltb number (rows_of c.shape kind) l)) in
         let begin = begins number l in
         inr (inl (
           number,
@@ -151,7 +147,7 @@ module _ (c : Setting) (full : IsFull c.variant) (some : 1 ≤ c.shape.rows256) 
     | inr l ↦
         let stage : next ≡ OnKey (Unlock h (Some Refused)) =
         e ∙ ap OnKey (after number ∙ ap (λ x. if x then a1 number else Unlock h (Some Refused))
-            (not_less number (rows_of c.shape kind) l)) in
+        (le-ltb number (rows_of c.shape kind) l)) in
         inr (inr (Unlock h (Some Refused), stage, inl (refl, (number, unused, l, f))))
   ]
 
@@ -191,9 +187,13 @@ module _ (c : Setting) (full : IsFull c.variant) (some : 1 ≤ c.shape.rows256) 
       refused stage e (inr x) = absurd (behind-no h at r (subst (IsBehind h) (sym e) x))
 
       go : IsAt (OnKey at) words → (number : ℕ) × IsUnused c.shape w0 kind number × EndsBy number at words
-      go (inl e) = absurd (true-false (sym (releases h at r) ∙ (ap is_release (key-same e.0) ∙ busy)))
-      go (inr (inl i)) = let end = at-release c full some key h b (a1 i.0) w0 (more i.0) at words i.2 r in (i.0, i.1.unused, inr
-          (i.1, end.0, end.1))
+      go (inl e) = absurd (true≢false (sym (releases h at r) ∙ (ap is_release (key-same e.0) ∙ busy)))
+      go (inr (inl i)) = let end = at-release c full some key h b (a1 i.0) w0 (more i.0) at words i.2 r in (
+        i.0,
+        i.1.unused,
+        inr
+            (i.1, end.0, end.1),
+      )
       go (inr (inr i)) = refused i.0 (key-same i.1) i.2
 
   -- the run from the claim, on words that have the number there, is one from the stage behind it
@@ -203,7 +203,7 @@ module _ (c : Setting) (full : IsFull c.variant) (some : 1 ≤ c.shape.rows256) 
       let told : slice_index (with_number w0 kind number) (claims_of kind) ≡ number = stored-at w0 (claims_of kind) number (omega
       (arith, long, claims-few kind)) in
       subst (λ x. RunsAlone (rest_in c x) (more number) last reply)
-      (after number ∙ ap (λ x. if x then a1 number else Unlock h (Some Refused)) (less number (rows_of c.shape kind) room))
+      (after number ∙ ap (λ x. if x then a1 number else Unlock h (Some Refused)) (lt-ltb number (rows_of c.shape kind) room))
       (runs-behind c (OnKey claim) key (Add (claims_of kind)) None asks (with_number w0 kind number) number (more number) last reply told
       (ap (λ n. slice_set (with_number w0 kind number) (claims_of kind) ((n + 1) % 2 ^ 64)) told) run)
 
@@ -218,7 +218,7 @@ module _ (c : Setting) (full : IsFull c.variant) (some : 1 ≤ c.shape.rows256) 
         let r = run claim-made in
         let first : Solo c (OnKey claim) w0 (OnKey (a1 number)) w0 =
         subst (λ x. Solo c (OnKey claim) w0 (OnKey x) w0)
-        (after number ∙ ap (λ x. if x then a1 number else Unlock h (Some Refused)) (less number (rows_of c.shape kind) l)) made in
+        (after number ∙ ap (λ x. if x then a1 number else Unlock h (Some Refused)) (lt-ltb number (rows_of c.shape kind) l)) made in
         let going = going-first c full some key h b (a1 number) w0 (more number) begin.0 begin.1 (more-long c.shape w0 kind number)
         (λ word plain. more-other c.shape w0 kind number word plain.behind) in
         let end = going-ends c full some key h b (a1 number) w0 (more number) r.2 (a1 number) w0 first going (λ got. refl) refl begin.0 in
@@ -227,7 +227,7 @@ module _ (c : Setting) (full : IsFull c.variant) (some : 1 ≤ c.shape.rows256) 
       Unlock h (Some Refused),
       w0,
       subst (λ x. Solo c (OnKey claim) w0 (OnKey x) w0)
-          (after number ∙ ap (λ x. if x then a1 number else Unlock h (Some Refused)) (not_less number (rows_of c.shape kind) l)) made,
+          (after number ∙ ap (λ x. if x then a1 number else Unlock h (Some Refused)) (le-ltb number (rows_of c.shape kind) l)) made,
       inl (Some Refused, refl),
       inl (record { full = l; is = refl; same = refl }),
     )

@@ -23,9 +23,9 @@ use Rattle.art_stages.specs.Stages.{put_moves, part_of}
 use Rattle.art_stages.specs.Stages.{rest_in}
 use Rattle.art_stages.specs.Automaton.{no_value, moves_at, put_at}
 use Rattle.art_stages.specs.Calls.{OnKey}
-use Rattle.art_serial.specs.alone.Alone.{RunsAlone, Comes}
+use Rattle.art_serial.specs.alone.Alone.{RunsAlone, Comes, unlocked_rows}
 use Rattle.art_serial.proofs.alone.AloneLemmas.{same-runs, give-comes, then-comes, store-comes}
-use Rattle.art_serial.proofs.alone.RowRunLemmas.{with_unlocked, unlock_all-comes}
+use Rattle.art_serial.proofs.alone.RowRunLemmas.{unlock_all-comes}
 use Rattle.art_serial.proofs.words.TableLemmas.{row_ends}
 use Rattle.art_serial.specs.writes.Writes.{HasPut, IsBeside}
 use Rattle.art_serial.proofs.writes.StoreLemmas.{stored-other, stored-long}
@@ -49,14 +49,14 @@ module _ (c : Setting) (full : IsFull c.variant) (some : 1 ≤ c.shape.rows256) 
   -- ---- a slot is overwritten
 
   write-runs : (slot word : ℕ) (value : Option ℕ) (words : List ℕ)
-      → RunsAlone (rest_in c (Write h slot word value)) words (with_unlocked (rows_held h) (slice_set words slot word)) (value_reply value)
+      → RunsAlone (rest_in c (Write h slot word value)) words (unlocked_rows (rows_held h) (slice_set words slot word)) (value_reply value)
   unfolding rest_in part_of
   write-runs slot word value words =
       comes-run (store slot word >> (unlock_all (rows_held h) >> give (value_reply value))) (act c.shape c.variant c.call)
-          (value_reply value)
+      (value_reply value)
       (then-comes {n = unlock_all (rows_held h) >> give (value_reply value)} (store-comes slot word words)
       (then-comes {n = give (value_reply value)} (unlock_all-comes (rows_held h) (slice_set words slot word))
-      (give-comes (value_reply value) (with_unlocked (rows_held h) (slice_set words slot word)))))
+      (give-comes (value_reply value) (unlocked_rows (rows_held h) (slice_set words slot word)))))
 
   pub write-comes : (slot word : ℕ) (value : Option ℕ) (w0 : List ℕ) → KnowsKey (RowsOf c.shape) c (Write h slot word value)
       → (at : Stage) × (words : List ℕ) × Solo c (OnKey (Write h slot word value)) w0 (OnKey at) words × IsRelease h at
@@ -148,14 +148,14 @@ module _ (c : Setting) (full : IsFull c.variant) (some : 1 ≤ c.shape.rows256) 
 
   put-runs : (keys : Keys) (w0 : List ℕ) → table_words c.shape ≤ length w0 → kind_at c.shape h.row.base ≡ Some h.row.kind
       → FitsWords c h (work.Put keys) w0
-      → (later : List ℕ) × RunsAlone (rest_in c (put_at h.row.kind c h keys)) w0 (with_unlocked (rows_held h) later) reply.None
+      → (later : List ℕ) × RunsAlone (rest_in c (put_at h.row.kind c h keys)) w0 (unlocked_rows (rows_held h) later) reply.None
       × HasPut c.shape w0 later h.row.base h.row.kind (byte_in c h.row) (new_leaf c.call)
   unfolding put
   put-runs keys w0 long row fits =
       let x = byte_in c h.row in
       let seen = fits.1 in
       let did = leaf_put c (row_at h.row) w0 x fits.0.key fits.0.value fits.0.is fits.0.small
-          (omega (arith, row_ends c.shape h.row.base h.row.kind row, long))
+      (omega (arith, row_ends c.shape h.row.base h.row.kind row, long))
       seen.form (byte_at-small c (row_at h.row).level) seen.absent (omega (arith, seen.count, fits.2)) in
       let comes : Comes (put c (row_at h.row) (keys_in h.row.kind keys) (count_in h.row.kind keys)) w0 tt did.0 =
       subst (λ ks. Comes (put c (row_at h.row) ks (count_in h.row.kind keys)) w0 tt did.0) (sym seen.keys)

@@ -3,6 +3,7 @@ use Rattle.std.proofs.Common.{◌≡◌, ℕ, ◌≤◌, List, length, refl, ap,
 use Rattle.std.specs.Prelude.{◌⊎◌, slice_index, slice_set, Option, Some, None}
 use Rattle.std.proofs.lemmas.List.{ext_get_or}
 use Rattle.std.proofs.lemmas.Option.{none-some}
+use Rattle.std.proofs.lemmas.Bool.{true≢false}
 use Rattle.events.specs.declared.event.Reply.{Reply}
 use Rattle.events.specs.declared.event.Reply.TheVariants as reply
 use Rattle.art_rows.specs.declared.table.Shape.{Shape}
@@ -19,10 +20,10 @@ use Rattle.art_stages.specs.declared.stage.Stage.TheVariants.{Obsolete, Unlock, 
 use Rattle.art_stages.specs.Stages.{row_at, rows_at, rows_held, value_reply, reply_for, finish, ends, part_of, rest_in}
 use Rattle.art_stages.specs.Automaton.{no_value}
 use Rattle.art_stages.specs.Calls.{OnKey}
-use Rattle.art_serial.specs.alone.Alone.{RunsAlone, Comes}
+use Rattle.art_serial.specs.alone.Alone.{RunsAlone, Comes, unlocked_rows}
 use Rattle.art_serial.specs.alone.Alone as alone
 use Rattle.art_serial.proofs.alone.AloneLemmas.{runs-once, give-comes, then-comes}
-use Rattle.art_serial.proofs.alone.RowRunLemmas.{with_unlocked, unlock_all-comes, unlock_obsolete-comes}
+use Rattle.art_serial.proofs.alone.RowRunLemmas.{unlock_all-comes, unlock_obsolete-comes}
 use Rattle.art_serial.proofs.writes.StoreLemmas.{stored-other}
 use Rattle.art_versions.specs.versions.Locking.{all_of, rows_of_hold}
 use Rattle.art_versions.specs.versions.Holding.{Each, IsKept, KnowsKey}
@@ -37,20 +38,20 @@ pub comes-run : (m : Part Reply) (again : Rest) {words later : List ℕ} (r : Re
     → RunsAlone (m again ends) words later r
 comes-run m again {words = words} {later = later} r h = h.runs again ends later r (alone.ends refl)
 
-pub finish-comes : (rows : List Row) (words : List ℕ) → Comes (finish rows) words reply.None (with_unlocked rows words)
-finish-comes rows words = then-comes {n = give reply.None} (unlock_all-comes rows words) (give-comes reply.None (with_unlocked rows words))
+pub finish-comes : (rows : List Row) (words : List ℕ) → Comes (finish rows) words reply.None (unlocked_rows rows words)
+finish-comes rows words = then-comes {n = give reply.None} (unlock_all-comes rows words) (give-comes reply.None (unlocked_rows rows words))
 
 unlock-runs : (c : Setting) (h : Hold) (o : Outcome) (words : List ℕ)
-    → RunsAlone (rest_in c (Unlock h (Some o))) words (with_unlocked (rows_held h) words) (reply_for o)
+    → RunsAlone (rest_in c (Unlock h (Some o))) words (unlocked_rows (rows_held h) words) (reply_for o)
 unfolding rest_in part_of
 unlock-runs c h o words =
     comes-run (unlock_all (rows_held h) >> give (reply_for o)) (act c.shape c.variant c.call) (reply_for o)
     (then-comes {n = give (reply_for o)} (unlock_all-comes (rows_held h) words)
-        (give-comes (reply_for o) (with_unlocked (rows_held h) words)))
+    (give-comes (reply_for o) (unlocked_rows (rows_held h) words)))
 
 obsolete-runs : (c : Setting) (h : Hold) (words : List ℕ)
     → RunsAlone (rest_in c (Obsolete h)) words
-        (with_unlocked (rows_at h.above) (slice_set words h.row.base (obsolete_word h.row.kept))) reply.None
+    (unlocked_rows (rows_at h.above) (slice_set words h.row.base (obsolete_word h.row.kept))) reply.None
 unfolding rest_in part_of
 obsolete-runs c h words =
     comes-run (unlock_obsolete (row_at h.row) >> finish (rows_at h.above)) (act c.shape c.variant c.call) reply.None
@@ -110,9 +111,6 @@ words-by s words target first long plain rest other = ext_get_or 0 words target 
   | inr n ↦ rest i (not-plain s i n) ∙ sym (other i (not-plain s i n))
 ])
 
-true-false : true ≡ false → ⊥
-true-false e = cc
-
 unlock-hold : {h x : Hold} {o p : Option Outcome} → Unlock h o ≡ Unlock x p → h ≡ x
 unlock-hold e = cc
 
@@ -145,7 +143,7 @@ module _ (c : Setting) (full : IsFull c.variant) (some : 1 ≤ c.shape.rows256) 
   Goes = Going c full some key h
 
   at-place : (b : Bool) (at : Stage) → IsRelease h at → Next h b at → IsEnd h b at
-  at-place b at r (inl work) = absurd (true-false (sym (releases h at r) ∙ (at-work work).3))
+  at-place b at r (inl work) = absurd (true≢false (sym (releases h at r) ∙ (at-work work).3))
   at-place b at r (inr e) = e
 
   -- the stage of the first release
@@ -162,13 +160,13 @@ module _ (c : Setting) (full : IsFull c.variant) (some : 1 ≤ c.shape.rows256) 
   -- these.
   pub unlock-end : (a1 : Stage) (w0 other : List ℕ) (at : Stage) (words target : List ℕ) (answer : Reply) → Goes false a1 w0 other at words
       → IsEnd h false at
-      → RunsAlone (rest_in c a1) other (with_unlocked (rows_held h) target) answer
+      → RunsAlone (rest_in c a1) other (unlocked_rows (rows_held h) target) answer
       → (o : Outcome) × (at ≡ Unlock h (Some o)) × (reply_for o ≡ answer)
       × ((word : ℕ) → IsPlain c.shape word → slice_index words word ≡ slice_index target word)
   unlock-end a1 w0 other at words target answer g e run =
-      let mine = g.runs (with_unlocked (rows_held h) g.now) (reply_for e.0)
-      (subst (λ x. RunsAlone (rest_in c x) g.now (with_unlocked (rows_held h) g.now) (reply_for e.0)) (sym e.1)
-          (unlock-runs c h e.0 g.now)) in
+      let mine = g.runs (unlocked_rows (rows_held h) g.now) (reply_for e.0)
+      (subst (λ x. RunsAlone (rest_in c x) g.now (unlocked_rows (rows_held h) g.now) (reply_for e.0)) (sym e.1)
+      (unlock-runs c h e.0 g.now)) in
       let same = runs-once mine run in
       let knows : KnowsKey (RowsOf c.shape) c (Unlock h (Some e.0)) = subst (KnowsKey (RowsOf c.shape) c) e.1 g.knows in
       let rows = held-rows c.shape (locks c.variant) h knows.kept in (
@@ -181,12 +179,12 @@ module _ (c : Setting) (full : IsFull c.variant) (some : 1 ≤ c.shape.rows256) 
 
   pub obsolete-end : (a1 : Stage) (w0 other : List ℕ) (at : Stage) (words target : List ℕ)
       → Goes true a1 w0 other at words → IsEnd h true at
-      → RunsAlone (rest_in c a1) other (with_unlocked (rows_at h.above) (slice_set target h.row.base (obsolete_word h.row.kept))) reply.None
+      → RunsAlone (rest_in c a1) other (unlocked_rows (rows_at h.above) (slice_set target h.row.base (obsolete_word h.row.kept))) reply.None
       → (word : ℕ) → IsPlain c.shape word → slice_index words word ≡ slice_index target word
   obsolete-end a1 w0 other at words target g e run word plain =
       let version = obsolete_word h.row.kept in
-      let mine = g.runs (with_unlocked (rows_at h.above) (slice_set g.now h.row.base version)) reply.None
-      (subst (λ x. RunsAlone (rest_in c x) g.now (with_unlocked (rows_at h.above) (slice_set g.now h.row.base version)) reply.None) (sym e)
+      let mine = g.runs (unlocked_rows (rows_at h.above) (slice_set g.now h.row.base version)) reply.None
+      (subst (λ x. RunsAlone (rest_in c x) g.now (unlocked_rows (rows_at h.above) (slice_set g.now h.row.base version)) reply.None) (sym e)
       (obsolete-runs c h g.now)) in
       let same = runs-once mine run in
       let knows : KnowsKey (RowsOf c.shape) c (Obsolete h) = subst (KnowsKey (RowsOf c.shape) c) e g.knows in

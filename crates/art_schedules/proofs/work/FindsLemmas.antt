@@ -67,12 +67,12 @@ module _ (c : Setting) (w0 : List ℕ) where
 
   four : (base info was : ℕ) (above : Option Held) (slot : ℕ)
       → Comes-to (place base Four info was above slot)
-          (words_at l i e c (place base Four info was above slot) (keys_one (at-word (keys_at base))))
+      (words_at l i e c (place base Four info was above slot) (keys_one (at-word (keys_at base))))
   four base info was above slot = go (place_of (byte base Four info was) (keys4_of (at-word (keys_at base)))) refl
     where
       go : (o : Option ℕ) → place_of (byte base Four info was) (keys4_of (at-word (keys_at base))) ≡ o
           → Comes-to (place base Four info was above slot)
-              (among_at l i e c (place base Four info was above slot) (keys_one (at-word (keys_at base))) o)
+          (among_at l i e c (place base Four info was above slot) (keys_one (at-word (keys_at base))) o)
       go None f = inr (
         Lacks (keys_one (at-word (keys_at base))),
         sym (ap (λ o. found_of_slot c.shape w0 (keys4_of (at-word (keys_at base))) (length (keys4_of (at-word (keys_at base)))) (option_map
@@ -138,8 +138,14 @@ module _ (c : Setting) (w0 : List ℕ) where
           (if b then (if j then FindCount (place base FortyEight info was above slot) (index base info was)
           else checked_stage c (place base FortyEight info was above slot) (Lacks (keys_one (index base info was))))
           else Slot (place base FortyEight info was above slot) (child_at FortyEight base (entry base info was - 1)))
-      go true true f g = inl (refl, refl, refl, ap (λ b. if b then None else Some (child_at FortyEight base
-          (entry base info was - 1))) f, g)
+      go true true f g = inl (
+        refl,
+        refl,
+        refl,
+        ap (λ b. if b then None else Some (child_at FortyEight base
+            (entry base info was - 1))) f,
+        g,
+      )
       go true false f g = inr (
         Lacks (keys_one (index base info was)),
         sym (ap (λ b. found_of_slot c.shape w0 (entries_of (index base info was))
@@ -155,7 +161,7 @@ module _ (c : Setting) (w0 : List ℕ) where
       → word ≡ at-word (index_at base (byte base kind info was))
       → slot_of w0 base FortyEight (byte base kind info was) ≡ None → is_insert c.call ≡ true
       → IsSeen c (place base kind info was above slot) w0
-          (Lacks (record { first = word; second = 0; count = at-word (count_at FortyEight base) }))
+      (Lacks (record { first = word; second = 0; count = at-word (count_at FortyEight base) }))
   counted base Four info was above slot word is a none insert = absurd (no is)
     where
       no : Four ≡ FortyEight → ⊥
@@ -190,15 +196,24 @@ module _ (c : Setting) (w0 : List ℕ) where
     child_at Full base (byte base Full info was),
     None,
     refl,
-    inr (Has (child_at Full base (byte base Full info was))
-        (child_of c.shape (at-word (child_at Full base (byte base Full info was)))), refl, refl),
+    inr (
+      Has (child_at Full base (byte base Full info was))
+          (child_of c.shape (at-word (child_at Full base (byte base Full info was)))),
+      refl,
+      refl,
+    ),
   )
 
   leads : (p : Position) (stage : Stage) → Facts p stage → Leads p stage
   leads p (Find q) f =
       subst (λ x. Leads p (Find x)) (sym f) (first-leads p.row.base p.row.kind p.row.info p.row.kept p.above p.slot)
-  leads p (FindKeys q count) f = (keys_at q.row.base, None, refl, inl
-      (f.0, f.1, f.2, ap (λ (x : Position). at-word (keys_at x.row.base)) f.0))
+  leads p (FindKeys q count) f = (
+    keys_at q.row.base,
+    None,
+    refl,
+    inl
+        (f.0, f.1, f.2, ap (λ (x : Position). at-word (keys_at x.row.base)) f.0),
+  )
   leads p (FindMore q count first) f =
       subst (λ x. Leads p (FindMore x count first)) (sym f.0) (
         more_keys_at p.row.base,

@@ -21,10 +21,9 @@ use Rattle.art_stages.specs.declared.stage.Stage.TheVariants.{Obsolete, Unlock, 
 use Rattle.art_stages.specs.Stages.{reply_for, rest_in}
 use Rattle.art_stages.specs.Automaton.{turn_at, stage_after, hold_alone, release_at, no_value}
 use Rattle.art_stages.specs.Calls.{CallAt, OnKey, call_turn, call_after}
-use Rattle.art_serial.specs.alone.Alone.{RunsAlone}
+use Rattle.art_serial.specs.alone.Alone.{RunsAlone, unlocked_rows}
 use Rattle.art_serial.specs.alone.Alone as alone
 use Rattle.art_serial.proofs.alone.AloneLemmas.{load-same}
-use Rattle.art_serial.proofs.alone.RowRunLemmas.{with_unlocked}
 use Rattle.art_serial.proofs.writes.StoreLemmas.{stored-at, stored-other, stored-long}
 use Rattle.art_versions.specs.versions.Holding.{KnowsKey}
 use Rattle.art_versions.specs.versions.Laws.{IsFull}
@@ -81,7 +80,7 @@ AreRows s (n ∷ rows) = (kind_at s n.base ≡ Some n.kind) × AreRows s rows
 
 -- a plain word stays while rows are unlocked
 pub unlocked-plain : (s : Shape) (rows : List Row) (words : List ℕ) (word : ℕ) → AreRows s rows → IsPlain s word
-    → slice_index (with_unlocked rows words) word ≡ slice_index words word
+    → slice_index (unlocked_rows rows words) word ≡ slice_index words word
 unlocked-plain s [] words word are plain = refl
 unlocked-plain s (n ∷ rows) words word are plain =
     unlocked-plain s rows (slice_set words n.base (released_word n.kept)) word are.1 plain
@@ -130,7 +129,7 @@ module _ (c : Setting) (full : IsFull c.variant) (some : 1 ≤ c.shape.rows256) 
         → (after : Stage) × (next ≡ OnKey after) × IsBehind h after
     behind-on stage {words = words} {later = later} {next = next} (inl e) step =
         let own : Step c (OnKey (Unlock (hold_alone e.0) (Some e.1))) words next later =
-            subst (λ x. Step c (OnKey x) words next later) e.3 step in
+        subst (λ x. Step c (OnKey x) words next later) e.3 step in
         (Over e.1, (step-store c _ _ _ refl own).0, inr (e.1, refl))
     behind-on stage {words = words} {later = later} {next = next} (inr e) step =
         absurd (step-none c (reply_for e.0) refl (subst (λ x. Step c (OnKey x) words next later) e.1 step))

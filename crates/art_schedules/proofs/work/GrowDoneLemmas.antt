@@ -1,15 +1,15 @@
 -- What is left where a grown row was hung.
-use Rattle.std.proofs.Common.{◌≡◌, ℕ, ◌+◌, ◌<◌, ◌≤◌, List, [], ◌∷◌, length, refl, ap, sym, subst, ◌∙◌, true, false, inl, inr, arith}
+use Rattle.std.proofs.Common.{◌≡◌, ℕ, ◌+◌, ◌<◌, ◌≤◌, List, length, refl, ap, sym, subst, ◌∙◌, true, false, inl, inr, arith}
 use Rattle.std.specs.Prelude.{◌≢◌, slice_index, slice_set, Some}
 use Rattle.events.specs.declared.event.Reply.TheVariants as reply
 use Rattle.art_rows.specs.declared.table.Kind.{Kind}
 use Rattle.art_rows.specs.declared.table.Kind.TheVariants.{Four, Sixteen, FortyEight, Full}
 use Rattle.art_rows.specs.declared.table.Child.TheVariants.{Empty, Row as ChildRow}
 use Rattle.art_rows.specs.Table.{row_words, rows_of, table_words, claims_of, base_of, info_at, kind_at}
-use Rattle.art_rows.specs.Words.{info_word, row_word, released_word, obsolete_word}
+use Rattle.art_rows.specs.Words.{info_word, row_word, obsolete_word}
 use Rattle.art_rows.proofs.KindLemmas.{two-words}
 use Rattle.art_steps.specs.Steps.{◌>>◌, give}
-use Rattle.art_steps.specs.Rows.{Setting, Row, is_scan, locks}
+use Rattle.art_steps.specs.Rows.{Setting, is_scan, locks}
 use Rattle.art_steps.specs.Updates.{grow, new_leaf, next_kind}
 use Rattle.art_steps.specs.Act.{act}
 use Rattle.art_stages.specs.declared.stage.Keys.{Keys}
@@ -20,11 +20,10 @@ use Rattle.art_stages.specs.declared.stage.Stage.{Stage}
 use Rattle.art_stages.specs.declared.stage.Stage.TheVariants.{ClaimGrow, GrowInfo}
 use Rattle.art_stages.specs.Stages.{row_at, rows_at, byte_in, keys_in, count_in, part_of, rest_in}
 use Rattle.art_stages.specs.Calls.{OnKey}
-use Rattle.art_serial.specs.alone.Alone.{RunsAlone, Comes}
+use Rattle.art_serial.specs.alone.Alone.{RunsAlone, Comes, unlocked_rows}
 use Rattle.art_serial.proofs.alone.AloneLemmas.{give-comes, then-comes}
-use Rattle.art_serial.proofs.alone.RowRunLemmas.{with_unlocked}
 use Rattle.art_serial.proofs.words.TableLemmas.{row_begins, kind_at-base_of}
-use Rattle.art_serial.specs.writes.Writes.{HasSameFields, HasFresh, IsOutside, unlocked_rows}
+use Rattle.art_serial.specs.writes.Writes.{HasSameFields, HasFresh, IsOutside}
 use Rattle.art_serial.proofs.writes.StoreLemmas.{stored-at, stored-other, stored-long}
 use Rattle.art_serial.proofs.writes.PairLemmas.{byte_at-small}
 use Rattle.art_serial.proofs.writes.SameLemmas.{keys-same, count-same, slot-same, child-same, form-same}
@@ -43,10 +42,6 @@ use Rattle.art_schedules.proofs.work.ClaimLemmas.{with_number, with_more, number
 use Rattle.art_schedules.proofs.work.ClaimLemmas.{EndsBy, claim-end}
 use Rattle.art_schedules.proofs.work.ClaimLemmas.{claim-runs}
 use Rattle.art_schedules.proofs.work.ClaimLemmas.{claim-comes}
-
-unlocked-same : (rows : List Row) (words : List ℕ) → unlocked_rows rows words ≡ with_unlocked rows words
-unlocked-same [] words = refl
-unlocked-same (n ∷ rows) words = unlocked-same rows (slice_set words n.base (released_word n.kept))
 
 empty-row : {base : ℕ} {kind : Kind} → ChildRow base kind ≡ Empty → ⊥
 empty-row e = cc
@@ -123,7 +118,7 @@ module _ (c : Setting) (full : IsFull c.variant) (some : 1 ≤ c.shape.rows256) 
         let seen = found.1 in
         let did = row_grown c (rows_at h.above) slot (row_at h.row) first found.0.key found.0.value found.0.is found.0.small
         (subst (λ n. n < rows_of c.shape next) (sym told) claim.room)
-            (omega (arith, long, stored-long w0 (claims_of next) number)) knows.kept.0.1
+        (omega (arith, long, stored-long w0 (claims_of next) number)) knows.kept.0.1
         (λ word low high. zeros word (omega (arith, low, ap base told)) (omega (arith, high, ap base told)))
         (form-same w0 first h.row.base h.row.kind same-row seen.form)
         (slot-same w0 first h.row.base h.row.kind x same-row byte ∙ seen.absent)
@@ -144,7 +139,7 @@ module _ (c : Setting) (full : IsFull c.variant) (some : 1 ≤ c.shape.rows256) 
         zeros : (word : ℕ) → base number ≤ word → word < base number + row_words next → slice_index first word ≡ 0
         zeros word low high =
             number-other c.shape w0 next number word (omega (arith, low, row_begins c.shape (base number) next row))
-                ∙ claim.unused claim.room word low high
+            ∙ claim.unused claim.room word low high
 
     abbrev target : List ℕ
     target = slice_set grown.0 slot (row_word (base number))
@@ -152,15 +147,12 @@ module _ (c : Setting) (full : IsFull c.variant) (some : 1 ≤ c.shape.rows256) 
     abbrev last : List ℕ
     last = slice_set target h.row.base (obsolete_word h.row.kept)
 
-    grow-runs : RunsAlone (rest_in c (ClaimGrow h slot keys)) first (with_unlocked (rows_at h.above) last) reply.None
+    grow-runs : RunsAlone (rest_in c (ClaimGrow h slot keys)) first (unlocked_rows (rows_at h.above) last) reply.None
     unfolding rest_in part_of
     grow-runs =
         comes-run (grow c (rows_at h.above) slot (row_at h.row) (keys_in h.row.kind keys) (count_in h.row.kind keys) >> give reply.None)
         (act c.shape c.variant c.call) reply.None
-        (subst (λ ws. Comes (grow c (rows_at h.above) slot (row_at h.row) (keys_in h.row.kind keys)
-        (count_in h.row.kind keys) >> give reply.None) first reply.None ws)
-        (unlocked-same (rows_at h.above) last)
-        (then-comes {n = give reply.None} grown.1 (give-comes reply.None (unlocked_rows (rows_at h.above) last))))
+        (then-comes {n = give reply.None} grown.1 (give-comes reply.None (unlocked_rows (rows_at h.above) last)))
 
     -- a word of the fresh row
     in-fresh : (word : ℕ) → base number ≤ word → word < base number + row_words next → slice_index target word ≡ slice_index grown.0 word
@@ -209,11 +201,11 @@ module _ (c : Setting) (full : IsFull c.variant) (some : 1 ≤ c.shape.rows256) 
       refl number at words
 
   run-of : (number : ℕ) (claim : IsClaim c.shape w0 next number)
-      → RunsAlone (rest_in c (behind number)) (with_more w0 next number) (with_unlocked (rows_at h.above) (last number claim)) reply.None
+      → RunsAlone (rest_in c (behind number)) (with_more w0 next number) (unlocked_rows (rows_at h.above) (last number claim)) reply.None
   run-of number claim =
       claim-runs c full some key h next true (ClaimGrow h slot keys) behind w0 refl (λ number. refl) begins refl number claim.room
-          (omega (arith, long))
-      (with_unlocked (rows_at h.above) (last number claim)) reply.None (grow-runs number claim)
+      (omega (arith, long))
+      (unlocked_rows (rows_at h.above) (last number claim)) reply.None (grow-runs number claim)
 
   done-by : (number : ℕ) (at : Stage) (words : List ℕ) → ClaimEnds number at words → IsDoneBy c h (work.Grow slot keys) number w0 at words
   done-by number at words (inl refused) = inl refused
@@ -233,5 +225,5 @@ module _ (c : Setting) (full : IsFull c.variant) (some : 1 ≤ c.shape.rows256) 
       × IsDoneBy c h (work.Grow slot keys) number w0 at words
   grow-comes number unused =
       let end = claim-comes c full some key h next true (ClaimGrow h slot keys) behind w0 refl (λ number. refl) begins refl number unused
-      (λ claim. (with_unlocked (rows_at h.above) (last number claim), reply.None, run-of number claim)) in
+      (λ claim. (unlocked_rows (rows_at h.above) (last number claim), reply.None, run-of number claim)) in
       (end.0, end.1, end.2, end.3, done-by number end.0 end.1 end.4)

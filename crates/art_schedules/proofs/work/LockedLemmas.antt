@@ -58,8 +58,12 @@ module _ (shape : Shape) (call : Call) (some : 1 ≤ shape.rows256) where
       → TouchesOwn c (OnKey (Find (record { row = held base kind info was; above = above; slot = slot })))
   find-own base Four info was above slot =
       let p : Position = record { row = held base Four info was; above = above; slot = slot } in
-      LoadsHeld (keys_at base) None refl (record { row = held base Four 0 was; among = place-among (is_insert call) p; behind =
-          (omega arith, omega arith) })
+      LoadsHeld (keys_at base) None refl (record {
+        row = held base Four 0 was;
+        among = place-among (is_insert call) p;
+        behind =
+            (omega arith, omega arith);
+      })
   find-own base Sixteen info was above slot =
       let p : Position = record { row = held base Sixteen info was; above = above; slot = slot } in
       LoadsHeld (count_at Sixteen base) None refl
@@ -68,8 +72,12 @@ module _ (shape : Shape) (call : Call) (some : 1 ≤ shape.rows256) where
       let p : Position = record { row = held base FortyEight info was; above = above; slot = slot } in
       let small = key_byte-small (key_of call) (row_at (held base FortyEight info was)).level in
       LoadsHeld (index_at base (byte_in c (held base FortyEight info was))) None refl
-      (record { row = held base FortyEight 0 was; among = place-among (is_insert call) p; behind =
-          (omega (arith, small), omega (arith, small)) })
+      (record {
+        row = held base FortyEight 0 was;
+        among = place-among (is_insert call) p;
+        behind =
+            (omega (arith, small), omega (arith, small));
+      })
   find-own base Full info was above slot =
       let p : Position = record { row = held base Full info was; above = above; slot = slot } in
       let small = key_byte-small (key_of call) (row_at (held base Full info was)).level in
@@ -131,7 +139,7 @@ module _ (shape : Shape) (call : Call) (some : 1 ≤ shape.rows256) where
         → IsWalked (held base kind info was) w.rows → TouchesOwn c (OnScan low high (at (scan.Keys (held base kind info was)) w))
     keys-own base Four info was k r = LoadsHeld (keys_at base) None refl
         (walked-word (scan.Keys (held base Four info was)) (held base Four info was) (keys_at base) refl r k.kept k.known.0
-            (omega arith, omega arith))
+        (omega arith, omega arith))
     keys-own base Sixteen info was k r = LoadsHeld (count_at Sixteen base) None refl
         (walked-word (scan.Keys (held base Sixteen info was)) (held base Sixteen info was) (count_at Sixteen base) refl r k.kept k.known.0
         (omega arith, omega arith))
@@ -140,7 +148,7 @@ module _ (shape : Shape) (call : Call) (some : 1 ≤ shape.rows256) where
         (omega arith, omega arith))
     keys-own base Full info was k r = LoadsHeld (keys_at base) None refl
         (walked-word (scan.Keys (held base Full info was)) (held base Full info was) (keys_at base) refl r k.kept k.known.0
-            (omega arith, omega arith))
+        (omega arith, omega arith))
 
     scan-own : (step : ScanStep) → KnowsScanRows (RowsOf shape) true (at step w) → ReadsHeld (OnScan low high (at step w))
         → is_lock (OnScan low high (at step w)) ≡ false → TouchesOwn c (OnScan low high (at step w))
@@ -157,11 +165,11 @@ module _ (shape : Shape) (call : Call) (some : 1 ≤ shape.rows256) where
         (walked-word (scan.FirstKeys n count) n (keys_at n.base) refl r.0 k.kept k.known.0 (omega arith, omega (arith, seven-words n.kind)))
     scan-own (scan.SecondKeys n count first) k r e = LoadsHeld (more_keys_at n.base) None refl
         (walked-word (scan.SecondKeys n count first) n (more_keys_at n.base) refl r.0 k.kept k.known.0
-            (omega arith, omega (arith, seven-words n.kind)))
+        (omega arith, omega (arith, seven-words n.kind)))
     scan-own (scan.Index n index words) k r e = LoadsHeld (index_at n.base (8 * index)) None refl
         (walked-word (scan.Index n index words) n (index_at n.base (8 * index)) refl r.0 k.kept k.known.0
         (subst (λ kind. IsBehindVersion n.base kind (index_at n.base (8 * index))) (sym k.fits.0)
-            (omega (arith, k.fits.1), omega (arith, k.fits.1))))
+        (omega (arith, k.fits.1), omega (arith, k.fits.1))))
     scan-own (scan.Child f slot) k r e = LoadsHeld slot None refl
         (walked-word (scan.Child f slot) f.row slot refl r.0 k.kept k.fits.0.0 (slot-behind f.row.base f.row.kind slot k.fits.1))
     scan-own (scan.Release n) k r e = ReleasesHeld (lock_of n) _ _ refl (inl refl) refl

@@ -18,9 +18,8 @@ use Rattle.art_stages.specs.declared.stage.Stage.{Stage}
 use Rattle.art_stages.specs.declared.stage.Stage.TheVariants.{ClaimPair, StorePair, Unlock}
 use Rattle.art_stages.specs.Stages.{rows_held, old_child, new_child, finish, part_of, rest_in}
 use Rattle.art_stages.specs.Calls.{OnKey}
-use Rattle.art_serial.specs.alone.Alone.{RunsAlone, Comes}
+use Rattle.art_serial.specs.alone.Alone.{RunsAlone, Comes, unlocked_rows}
 use Rattle.art_serial.proofs.alone.AloneLemmas.{then-comes}
-use Rattle.art_serial.proofs.alone.RowRunLemmas.{with_unlocked}
 use Rattle.art_serial.specs.words.Stored.{IsStored}
 use Rattle.art_serial.proofs.words.WordLemmas.{child_of-stored}
 use Rattle.art_serial.proofs.words.TableLemmas.{kind_at-base_of}
@@ -49,7 +48,7 @@ five-words s words long = omega (arith, long)
 module _ (c : Setting) (full : IsFull c.variant) (some : 1 ≤ c.shape.rows256) (key : is_scan c.call ≡ false) (h : Hold)
     (p : Pair) (w0 : List ℕ)
     (long : table_words c.shape ≤ length w0) (knows : KnowsKey (RowsOf c.shape) c (ClaimPair h p))
-        (found : FitsWords c h (work.Pair p) w0) where
+    (found : FitsWords c h (work.Pair p) w0) where
   abbrev base : ℕ → ℕ
   base number = base_of c.shape Four number
 
@@ -87,9 +86,9 @@ module _ (c : Setting) (full : IsFull c.variant) (some : 1 ≤ c.shape.rows256) 
     hung : (later : List ℕ) × Comes (pair_in c (rows_held h) p.slot p.level (old_child p)) first tt later × Hung later
     hung =
         let did = pair_is_hung c (rows_held h) p.slot p.level (old_child p) first found.0.key found.0.value found.0.is found.0.small
-            stored found.3 found.4
+        stored found.3 found.4
         (subst (λ n. n < rows_of c.shape Four) (sym told) claim.room)
-            (omega (arith, long, stored-long w0 (claims_of Four) number)) slot-is.0.behind
+        (omega (arith, long, stored-long w0 (claims_of Four) number)) slot-is.0.behind
         (omega (arith, slot-is.1, stored-long w0 (claims_of Four) number))
         (subst (λ n. IsOutside (base n) Four p.slot) (sym told) outside) in (
           did.0,
@@ -97,11 +96,11 @@ module _ (c : Setting) (full : IsFull c.variant) (some : 1 ≤ c.shape.rows256) 
           subst (λ n. HasPair c.shape first did.0 (base n) p.slot p.level (take p.level (key_bytes (key_of c.call))) (old_child p)
               (new_child c p)) told
               (subst (λ k. HasPair c.shape first did.0 (base (slice_index first (claims_of Four))) p.slot p.level
-                  (take p.level (key_bytes (key_of k)))
+              (take p.level (key_bytes (key_of k)))
               (old_child p) (record { byte = byte_at c p.level; child = new_leaf k })) (sym found.0.is) did.2),
         )
 
-    pair-runs : RunsAlone (rest_in c (ClaimPair h p)) first (with_unlocked (rows_held h) hung.0) reply.None
+    pair-runs : RunsAlone (rest_in c (ClaimPair h p)) first (unlocked_rows (rows_held h) hung.0) reply.None
     unfolding rest_in part_of
     pair-runs = comes-run (pair_in c (rows_held h) p.slot p.level (old_child p) >> finish (rows_held h))
         (act c.shape c.variant c.call) reply.None
@@ -140,17 +139,17 @@ module _ (c : Setting) (full : IsFull c.variant) (some : 1 ≤ c.shape.rows256) 
       refl number at words
 
   run-of : (number : ℕ) (claim : IsClaim c.shape w0 Four number)
-      → RunsAlone (rest_in c (behind number)) (with_more w0 Four number) (with_unlocked (rows_held h) (hung number claim).0) reply.None
+      → RunsAlone (rest_in c (behind number)) (with_more w0 Four number) (unlocked_rows (rows_held h) (hung number claim).0) reply.None
   run-of number claim =
       claim-runs c full some key h Four false (ClaimPair h p) behind w0 refl (λ number. refl) begins refl number claim.room
-          (five-words c.shape w0 long)
-      (with_unlocked (rows_held h) (hung number claim).0) reply.None (pair-runs number claim)
+      (five-words c.shape w0 long)
+      (unlocked_rows (rows_held h) (hung number claim).0) reply.None (pair-runs number claim)
 
   done-by : (number : ℕ) (at : Stage) (words : List ℕ) → ClaimEnds number at words → IsDoneBy c h (work.Pair p) number w0 at words
   done-by number at words (inl refused) = inl refused
   done-by number at words (inr did) =
       let end = unlock-end c full some key h (behind number) w0 (with_more w0 Four number) at words (hung number did.0).0
-          reply.None did.1 did.2
+      reply.None did.1 did.2
       (run-of number did.0) in
       inr (did.0.room, end.1 ∙ ap (λ o. Unlock h (Some o)) (none-outcome end.0 end.2), hangs number did.0 at words did.1 end.3)
 
@@ -165,5 +164,5 @@ module _ (c : Setting) (full : IsFull c.variant) (some : 1 ≤ c.shape.rows256) 
       × IsDoneBy c h (work.Pair p) number w0 at words
   pair-comes number unused =
       let end = claim-comes c full some key h Four false (ClaimPair h p) behind w0 refl (λ number. refl) begins refl number unused
-      (λ claim. (with_unlocked (rows_held h) (hung number claim).0, reply.None, run-of number claim)) in
+      (λ claim. (unlocked_rows (rows_held h) (hung number claim).0, reply.None, run-of number claim)) in
       (end.0, end.1, end.2, end.3, done-by number end.0 end.1 end.4)

@@ -148,7 +148,7 @@ own-by c stage w k a (Ends b kind word value mark asks filled behind row good af
 own-by c stage w k a (Releases h rest value mark asks with none is kept after) =
     ReleasesHeld h value mark asks (with-here h rest _ with)
     (released c stage w k (subst (IsAllowed c stage) asks a) (with-length h rest _ with ∙ ap (λ xs. length xs + 1) (sym after.1))
-        (is_release stage) refl)
+    (is_release stage) refl)
 own-by c stage w k a (Takes h all mark asks with none kept after other) = absurd (subst (IsAllowed c stage) asks a)
 own-by c stage w k a (Claims kind mark asks none after other) = ClaimsRow kind mark asks (subst (IsAllowed c stage) asks a)
 own-by c stage w k a (Answered reply asks none) = Replies reply asks
@@ -232,7 +232,7 @@ claims-first c (ClaimPair h p) w k v = neither (nat_lt v (rows_of c.shape Four))
 claims-first c (ClaimGrow h slot keys) w k v =
     neither (nat_lt v (rows_of c.shape (next_kind h.row.kind)))
     (GrowInfo (record { hold = h; slot = slot; keys = keys; base = base_of c.shape (next_kind h.row.kind) v }))
-        (Unlock h (Some Refused)) refl refl
+    (Unlock h (Some Refused)) refl refl
 claims-first c (Obsolete h) w k v = release-first (locks c.variant) h.above (Some no_value)
 claims-first c (Unlock h outcome) w k v = release-first (locks c.variant) h.above outcome
 claims-first c (Over outcome) w k v = refl

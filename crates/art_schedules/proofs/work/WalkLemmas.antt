@@ -85,10 +85,10 @@ module _ (shape : Shape) (call : Call) (lo hi : ℕ) where
       → Good (frame_at kind lo hi w f other)
   frame-good Four w f other here ways rest =
       bytes-good (lies lo hi f) (λ x. place_slot f.row.kind f.row.base (place_of x (keys_among Four f.keys))) w f f.byte f.left
-          other here ways rest
+      other here ways rest
   frame-good Sixteen w f other here ways rest =
       bytes-good (lies lo hi f) (λ x. place_slot f.row.kind f.row.base (place_of x (keys_among Sixteen f.keys))) w f f.byte f.left
-          other here ways rest
+      other here ways rest
   frame-good FortyEight w f other here ways rest =
       bytes-good (word_test lo hi f) (entry_slot f) w f f.byte f.left (words_at lo hi f.row w (f.index + 1) f.words other) here ways
       (words-good f.row w (f.index + 1) f.words other here ways rest)

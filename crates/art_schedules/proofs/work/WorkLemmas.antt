@@ -3,7 +3,7 @@ use Rattle.std.proofs.Common.{◌≡◌, ℕ, zero, suc, ◌+◌, ◌<◌, ◌�
 use Rattle.std.proofs.Common.{inr, arith}
 use Rattle.std.specs.Prelude.{◌≢◌, ◌⊎◌, ◌==◌, slice_index, Option, Some, None, if◌then◌else◌}
 use Rattle.std.proofs.lemmas.Option.{none-some}
-use Rattle.std.proofs.lemmas.Bool.{cases_lt}
+use Rattle.std.proofs.lemmas.Bool.{cases_lt, true≢false}
 use Rattle.art_rows.specs.declared.table.Shape.{Shape}
 use Rattle.art_rows.specs.declared.table.Kind.{Kind}
 use Rattle.art_rows.specs.declared.table.Kind.TheVariants.{Four, Sixteen, FortyEight, Full}
@@ -267,16 +267,13 @@ module _ (c : Setting) (full : IsFull c.variant) (some : 1 ≤ c.shape.rows256) 
   with-rows b k row base kind (inl e) = e
   with-rows b k row base kind (inr e) = ap (kind_at s) e.0 ∙ (row ∙ ap Some (sym e.1))
 
-  true-false : true ≡ false → ⊥
-  true-false e = cc
-
   acts-by : {h : Hold} {b : Bool} {stage : Stage} → AtWork h b stage → KnowsKey (RowsOf s) c stage → IsAllowed c stage (turn_at c stage)
       → AccessDoes (RowsOf s) c (OnKey stage) → Acts c stage
   acts-by {stage = stage} w k a (Reads word mark asks after) =
       let held : IsHeldWord c (OnKey stage) word = subst (IsAllowed c stage) asks a in
       let row = (held-is-kept (RowsOf s) c (OnKey stage) k held.row held.among).1 in
       Loading word mark asks (behind-plain s held.row.base held.row.kind word row held.behind)
-          (λ value. (after value (all-good s word value)).0)
+      (λ value. (after value (all-good s word value)).0)
   acts-by {stage = stage} w k a (Writes x word value mark asks among kept behind good after) =
       Storing word value mark asks (behind-plain s x.base x.kind word kept.1 behind) after.0
   acts-by {stage = stage} w k a (Fills base kind word value mark asks filled behind row good after) =
@@ -289,8 +286,8 @@ module _ (c : Setting) (full : IsFull c.variant) (some : 1 ≤ c.shape.rows256) 
       absurd (omega (arith, with-length x rest (holds c (OnKey stage)) with, ap length (holds-work c w), ap length now, ap length after.1))
   acts-by {stage = stage} w k a (Takes x all mark asks with none kept after other) = absurd (subst (IsAllowed c stage) asks a)
   acts-by {stage = stage} w k a (Claims kind mark asks none after other) =
-      absurd (true-false (sym (subst (IsAllowed c stage) asks a) ∙ (at-work w).1))
-  acts-by {stage = stage} w k a (Answered reply asks none) = absurd (true-false (sym (subst (IsAllowed c stage) asks a) ∙ (at-work w).2))
+      absurd (true≢false (sym (subst (IsAllowed c stage) asks a) ∙ (at-work w).1))
+  acts-by {stage = stage} w k a (Answered reply asks none) = absurd (true≢false (sym (subst (IsAllowed c stage) asks a) ∙ (at-work w).2))
 
   pub acts : {h : Hold} {b : Bool} {stage : Stage} → AtWork h b stage → KnowsKey (RowsOf s) c stage → Acts c stage
   acts {stage = stage} w k =

@@ -53,6 +53,6 @@ WrittenRowsAreHung = (s : Shape) (n : ℕ) (calm later words written : List ℕ)
     → child_on s calm base kind x ≡ Row full full_kind → LeadsTo s calm key full full_kind y → child_on s calm full full_kind y ≡ Empty
     → HasWordAt calm later base kind x slot (row_word fresh)
     → IsCopy s words written full full_kind fresh larger (info_word larger (level_in calm full full_kind) (path_in calm full full_kind))
-        y (Leaf key value)
+    y (Leaf key value)
     → SameRow words calm full full_kind → SameRow written calm fresh larger → IsUnreached s calm fresh → IsFilled s calm later fresh larger
     → HasEffect s calm later (HangsGrown base kind x key value full full_kind y fresh larger)

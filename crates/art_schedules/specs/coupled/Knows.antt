@@ -72,10 +72,10 @@ KnowsStage i c calm (FindKeys p count) = KnowsPlace i c calm p × (p.row.kind �
     × (count ≡ slice_index calm (count_at Sixteen p.row.base))
 KnowsStage i c calm (FindMore p count first) =
     KnowsPlace i c calm p × (p.row.kind ≡ Sixteen) × (count ≡ slice_index calm (count_at Sixteen p.row.base))
-        × (first ≡ slice_index calm (keys_at p.row.base))
+    × (first ≡ slice_index calm (keys_at p.row.base))
 KnowsStage i c calm (FindCount p index) =
     KnowsPlace i c calm p × (p.row.kind ≡ FortyEight) × (index ≡ slice_index calm (index_at p.row.base (byte_in c p.row)))
-        × (slot_in c calm p.row ≡ None)
+    × (slot_in c calm p.row ≡ None)
 KnowsStage i c calm (Slot p slot) = KnowsPlace i c calm p × (slot_in c calm p.row ≡ Some slot)
 KnowsStage i c calm (LetGo above p f) = IsOnWay c calm p.row × KnowsFinding i c calm p.row f × Reached c.shape calm above.base above.kind
 KnowsStage i c calm stage = ⊥

@@ -69,7 +69,7 @@ KnowsStep shape calm rows (scan.FirstKeys n count) =
     Reached shape calm n.base n.kind × (n.kind ≡ Sixteen) × (count ≡ slice_index calm (count_at Sixteen n.base))
 KnowsStep shape calm rows (scan.SecondKeys n count first) =
     Reached shape calm n.base n.kind × (n.kind ≡ Sixteen) × (count ≡ slice_index calm (count_at Sixteen n.base))
-        × (first ≡ slice_index calm (keys_at n.base))
+    × (first ≡ slice_index calm (keys_at n.base))
 KnowsStep shape calm rows (scan.Index n index words) = Reached shape calm n.base n.kind × (n.kind ≡ FortyEight) × (index < 32)
 KnowsStep shape calm rows (scan.Child f slot) =
     KnowsFrame shape calm f × ((byte : ℕ) × (byte < 256) × (slot_of calm f.row.base f.row.kind byte ≡ Some slot))

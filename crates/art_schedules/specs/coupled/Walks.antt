@@ -51,7 +51,7 @@ WalksAreTheMaps = (shape : Shape) (low high n : ℕ) (calm now : List ℕ) (m : 
     → IsAtRest shape n calm
     → Means shape calm m
     → length m ≤ pair_limit → Alone (setting shape Coupled (Scan low high)) rows (call_begun (setting shape Coupled (Scan low high))) calm
-        (OnScan low high at)
+    (OnScan low high at)
     now
     → IsOver at.step → reply_to m (Scan low high) ≡ reply.Pairs at.walk.pairs
 

@@ -197,7 +197,7 @@ IsPending c real calm (HangsGrown base kind x key value full full_kind y fresh l
     × LeadsTo c.shape calm key full full_kind y × (child_on c.shape calm full full_kind y ≡ Empty)
     × ((slot : ℕ) × HasWordAt calm real base kind x slot (row_word fresh)) × HasFilledFresh c real calm fresh larger
     × IsCopy c.shape calm calm full full_kind fresh larger (info_word larger (level_in calm full full_kind) (path_in calm full full_kind))
-        y (Leaf key value)
+    y (Leaf key value)
 
 abbrev pub key_of_effect : Effect → ℕ
 key_of_effect (Keeps base kind) = 0

@@ -36,7 +36,7 @@ IsOverwritten c word old (Row base kind) = ⊥
 abbrev pub FindsSlot : Setting → List ℕ → Hold → Work → ℕ → Type 0
 FindsSlot c calm h (work.Write slot word old) x =
     (h.above ≡ None) × (slot_of calm h.row.base h.row.kind x ≡ Some slot)
-        × IsOverwritten c word old (child_on c.shape calm h.row.base h.row.kind x)
+    × IsOverwritten c word old (child_on c.shape calm h.row.base h.row.kind x)
 FindsSlot c calm h (work.Pair p) x =
     (slot_of calm (upper_row h).base (upper_row h).kind x ≡ Some p.slot) × Parts calm (key_of c.call) p.level p.byte p.child
 FindsSlot c calm h (work.Put keys) x = (h.above ≡ None) × (slice_index calm (info_at h.row.base) ≡ h.row.info)

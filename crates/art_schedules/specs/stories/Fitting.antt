@@ -164,7 +164,7 @@ pub record AreLed (plan : Plan) (start : Contents) (words : List ℕ) (Ghost : T
       → Fits ghost schedule s calm p call q status
       → OwnStep plan words schedule tale p t calm after call q status
       (λ effect now. IsLedOn Ghost World Fits ghost schedule p s t calm after
-          (λ next. Fits next (schedule ++ p ∷ []) t after p call later now))
+      (λ next. Fits next (schedule ++ p ∷ []) t after p call later now))
   pub answers : (schedule : List ℕ) (tale : Tale) (p : ℕ) (s t : State) (calm after : List ℕ) (ghost : Ghost)
       → IsToldStep plan start words schedule tale p s t calm after → World ghost schedule s calm → AllFit (Fits ghost) schedule s calm
       → (call : Call) (q : Process) (status : Status) (reply : Reply) → AnswersCall plan s p t call q reply

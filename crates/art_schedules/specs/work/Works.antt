@@ -51,7 +51,7 @@ abbrev pub FitsWords : Setting → Hold → Work → List ℕ → Type 0
 FitsWords c h (work.Write slot word reply) words = Unit {0}
 FitsWords c h (work.Pair p) words =
     IsInsert c.call × (child_of c.shape (slice_index words p.slot) ≡ p.child) × (p.child ≢ Empty) × (p.byte < 256)
-        × (p.byte ≢ byte_at c p.level)
+    × (p.byte ≢ byte_at c p.level)
 FitsWords c h (work.Put keys) words = IsInsert c.call × LacksByte c h.row keys words × (count_in h.row.kind keys < capacity h.row.kind)
 FitsWords c h (work.Grow slot keys) words =
     IsInsert c.call × LacksByte c h.row keys words × (count_in h.row.kind keys ≡ capacity h.row.kind)
@@ -106,7 +106,7 @@ IsDoneBy c h (work.Write slot word reply) number words at later = (at ≡ Unlock
 IsDoneBy c h (work.Pair p) number words at later =
     IsRefusal c h Four number words at later ⊎ ((number < rows_of c.shape Four) × (at ≡ Unlock h (Some no_value))
     × PairHangs c.shape words later (base_of c.shape Four number) p.slot p.level (take p.level (key_bytes (key_of c.call)))
-        (old_child p) (new_child c p))
+    (old_child p) (new_child c p))
 IsDoneBy c h (work.Put keys) number words at later =
     (at ≡ Unlock h (Some no_value)) × HasPut c.shape words later h.row.base h.row.kind (byte_in c h.row) (new_leaf c.call)
 IsDoneBy c h (work.Grow slot keys) number words at later =

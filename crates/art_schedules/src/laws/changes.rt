@@ -1,10 +1,13 @@
 // Laws of changes of a calm tree: each function only carries its clause.
-ghost use Rattle.art_schedules.specs.changes.Laws.{EffectsFollow, KeptTreesFollow, LowWordsKeep, RowsAreByWords, SlotsAreChildren, SlotsAreWritten};
+ghost use Rattle.art_schedules.specs.changes.Laws.{EffectsFollow, KeptTreesFollow, LowWordsKeep, RowsAreByWords, SlotsAreChildren};
+ghost use Rattle.art_schedules.specs.changes.Laws.{SlotsAreWritten};
 ghost use Rattle.art_schedules.specs.changes.Laws.{WaysSayValues, WaysArePaths, SameRowsSayTheSame};
 ghost use Rattle.art_schedules.specs.changes.Courses.{RowsStay, WaysStay};
-ghost use Rattle.art_schedules.specs.changes.Written.{StoresAreSlots, HungRowsAreSlots, ChildrenAreOfRows, PutsAreChildren, PairsAreFresh, CopiesAreFresh};
+ghost use Rattle.art_schedules.specs.changes.Written.{StoresAreSlots, HungRowsAreSlots, ChildrenAreOfRows, PutsAreChildren, PairsAreFresh};
+ghost use Rattle.art_schedules.specs.changes.Written.{CopiesAreFresh};
 ghost use Rattle.art_schedules.specs.changes.Written.{WrittenPairsAreRows, WrittenRowsAreCopies};
-ghost use Rattle.art_schedules.specs.changes.Worked.{StoredLeavesArePut, StoredZerosRemove, WrittenLeavesArePut, WrittenPairsAreHung, WrittenRowsAreHung};
+ghost use Rattle.art_schedules.specs.changes.Worked.{StoredLeavesArePut, StoredZerosRemove, WrittenLeavesArePut, WrittenPairsAreHung};
+ghost use Rattle.art_schedules.specs.changes.Worked.{WrittenRowsAreHung};
 
 use art_serial::{
     children_are_read, grown_rows_are_hung, leaves_are_put, leaves_are_removed, pairs_are_hung,

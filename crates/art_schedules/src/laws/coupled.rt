@@ -1,6 +1,8 @@
 // Laws of calls under lock coupling: each function only carries its clause.
-ghost use Rattle.art_schedules.specs.coupled.Laws.{HeldRowsLive, ObsoleteRowsLeave, RestsHaveNone, WaysHoldReached, WaysTakeLive, WorkTakesLive};
-ghost use Rattle.art_schedules.specs.coupled.Laws.{CallsBegin, CallsGoOn, CallsStay, FindingsStay, FoundIsAnswered, OthersLeaveWays, WaysGoOn};
+ghost use Rattle.art_schedules.specs.coupled.Laws.{HeldRowsLive, ObsoleteRowsLeave, RestsHaveNone, WaysHoldReached, WaysTakeLive};
+ghost use Rattle.art_schedules.specs.coupled.Laws.{WorkTakesLive};
+ghost use Rattle.art_schedules.specs.coupled.Laws.{CallsBegin, CallsGoOn, CallsStay, FindingsStay, FoundIsAnswered, OthersLeaveWays};
+ghost use Rattle.art_schedules.specs.coupled.Laws.{WaysGoOn};
 ghost use Rattle.art_schedules.specs.coupled.Good.{GoodRowsStay, OthersLeaveGood, SeekersAreNotAnswered, WaysTakeReached};
 ghost use Rattle.art_schedules.specs.coupled.Stays.{WaysAreKept};
 ghost use Rattle.art_schedules.specs.coupled.Scanning.{ScansKeepTrees, ScansKnowTrees};

@@ -1,8 +1,10 @@
 // Laws of the work of a call in a run: each function only carries its clause.
-ghost use Rattle.art_schedules.specs.effects.Laws.{LeaversHoldReached, LeaversStep, OthersKeepEnds, OthersKeepWork, WorkBegins, WorkersDoNotScan};
+ghost use Rattle.art_schedules.specs.effects.Laws.{LeaversHoldReached, LeaversStep, OthersKeepEnds, OthersKeepWork, WorkBegins};
+ghost use Rattle.art_schedules.specs.effects.Laws.{WorkersDoNotScan};
 ghost use Rattle.art_schedules.specs.effects.Laws.{WorkersHoldReached};
 ghost use Rattle.art_schedules.specs.effects.Laws.{EffectsBringTheirs, FreshIsClaimed, FreshRowsStayApart, HangersHoldAbove, WorkersStep};
-ghost use Rattle.art_schedules.specs.effects.Laws.{EndersGoOn, ObsoleteRowsHang, OthersKeepMarked, WorkersGoOn, WorkersMayHaveNoMark, WorkersOnlyWork};
+ghost use Rattle.art_schedules.specs.effects.Laws.{EndersGoOn, ObsoleteRowsHang, OthersKeepMarked, WorkersGoOn, WorkersMayHaveNoMark};
+ghost use Rattle.art_schedules.specs.effects.Laws.{WorkersOnlyWork};
 
 use crate::laws::changes::{effects_follow, kept_trees_follow, ways_say_values};
 use crate::laws::work::work_is_done;

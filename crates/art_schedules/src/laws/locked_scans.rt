@@ -1,5 +1,6 @@
 // Laws of scans under lock coupling: each function only carries its clause.
-ghost use Rattle.art_schedules.specs.locked_scans.Laws.{FoundScansAnswer, FoundScansStay, OthersLeaveScans, ScansBegin, ScansGoOn, WalkedScansFind};
+ghost use Rattle.art_schedules.specs.locked_scans.Laws.{FoundScansAnswer, FoundScansStay, OthersLeaveScans, ScansBegin, ScansGoOn};
+ghost use Rattle.art_schedules.specs.locked_scans.Laws.{WalkedScansFind};
 ghost use Rattle.art_schedules.specs.locked_scans.Laws.{OthersLeaveTrees, ScansComeOn, ScansTakeLive, ScansTakeReached, WalkingScansAsk};
 
 use crate::laws::changes::kept_trees_follow;

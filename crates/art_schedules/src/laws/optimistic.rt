@@ -1,6 +1,7 @@
 // Laws of calls of the optimistic tree: each function only carries its clause.
 ghost use Rattle.art_schedules.specs.optimistic.Laws.{CalmAgrees, FindingsStay, InfosStayInRuns, WaysAreKept, WaysBegin, WaysGoOn};
-ghost use Rattle.art_schedules.specs.optimistic.Steps.{OtherStepsKeepWays, OwnFindingsStay, OwnStepsGoOn, QuietStepsKeepTrees, ScansStoreNothing};
+ghost use Rattle.art_schedules.specs.optimistic.Steps.{OtherStepsKeepWays, OwnFindingsStay, OwnStepsGoOn, QuietStepsKeepTrees};
+ghost use Rattle.art_schedules.specs.optimistic.Steps.{ScansStoreNothing};
 
 use art_serial::{leaves_are_small, ways_lead_to_values};
 

@@ -1,5 +1,6 @@
 // Laws of the work in held rows: each function only carries its clause.
-ghost use Rattle.art_schedules.specs.work.Laws.{FindsAreSeen, LockedRowsAreRead, LockedTouchesOwn, RowsAreKnown, SolosAreOne, SolosFollow, SolosGoOn};
+ghost use Rattle.art_schedules.specs.work.Laws.{FindsAreSeen, LockedRowsAreRead, LockedTouchesOwn, RowsAreKnown, SolosAreOne, SolosFollow};
+ghost use Rattle.art_schedules.specs.work.Laws.{SolosGoOn};
 ghost use Rattle.art_schedules.specs.work.Laws.{SolosRunAlone};
 ghost use Rattle.art_schedules.specs.work.Laws.{OwnCanFollow, SeenIsThere, WorkClaimsFirst, WorkComesToRelease, WorkIsDone, WorkTouchesOwn};
 

@@ -52,7 +52,7 @@ runs-once (ends h) (goes a p k r) = absurd (asks-answers (sym k ∙ h))
 runs-once (goes a p h r) (ends k) = absurd (asks-answers (sym h ∙ k))
 runs-once {rest = rest} {words = words} {last2 = last2} {reply2 = reply2} (goes a p h r) (goes b q k s) =
     runs-once r (subst (λ (x : Access). RunsAlone (λ got. rest (got_by x words ∷ got)) (words_after x words) last2 reply2)
-        (asks-same (sym k ∙ h)) s)
+    (asks-same (sym k ∙ h)) s)
 
 -- by as many accesses
 pub accesses-once : {rest : Rest} {words last last2 : List ℕ} {reply reply2 : Reply} (r : RunsAlone rest words last reply)
@@ -62,7 +62,7 @@ accesses-once (ends h) (goes a p k r) = absurd (asks-answers (sym k ∙ h))
 accesses-once (goes a p h r) (ends k) = absurd (asks-answers (sym h ∙ k))
 accesses-once {rest = rest} {words = words} {last2 = last2} {reply2 = reply2} (goes a p h r) (goes b q k s) =
     ap (λ n. 1 + n) (accesses-once r (subst (λ (x : Access). RunsAlone (λ got. rest (got_by x words ∷ got))
-        (words_after x words) last2 reply2)
+    (words_after x words) last2 reply2)
     (asks-same (sym k ∙ h)) s)
     ∙ moved (λ (x : Access) got. rest (got_by x words ∷ got)) (λ x. words_after x words) (asks-same (sym k ∙ h)) s)
 
@@ -80,7 +80,7 @@ pub access-accesses : (a : Access) (p : Option Point) (after : ℕ → Rest) (wo
 unfolding access-runs
 access-accesses a p after words {later = later} {last = last} {reply = reply} g l r =
     ap (λ n. 1 + n) (moved (λ (w : List ℕ). after (got_by a words)) (λ w. w) (sym l)
-        (subst (λ (n : ℕ). RunsAlone (after n) later last reply) (sym g) r)
+    (subst (λ (n : ℕ). RunsAlone (after n) later last reply) (sym g) r)
     ∙ moved after (λ (n : ℕ). later) (sym g) r)
 
 -- ---- parts
@@ -108,7 +108,7 @@ bind-comes {f = f} {a = a} h k = record {
   runs = λ again after last reply r. h.runs again (λ x. f x again after) last reply (k.runs again after last reply r);
   long = λ again after last reply r.
       both h.steps k.steps (accesses r) (h.long again (λ x. f x again after) last reply (k.runs again after last reply r))
-          (k.long again after last reply r);
+      (k.long again after last reply r);
 }
 
 unfoldable pub then-comes : {A B : Type 0} {m : Part A} {n : Part B} {words between later : List ℕ} {a : A} {b : B}
@@ -142,14 +142,22 @@ then-ends {n = n} {later = later} {reply = reply} h k = record {
 pub ends-bind : {A B : Type 0} {m : Part A} {f : A → Part B} {words later : List ℕ} {reply : Reply} → Ends m words reply later
     → Ends (m >>= f) words reply later
 ends-bind {f = f} h =
-    record { steps = h.steps; runs = λ again after. h.runs again (λ x. f x again after); long =
-        λ again after. h.long again (λ x. f x again after) }
+    record {
+      steps = h.steps;
+      runs = λ again after. h.runs again (λ x. f x again after);
+      long =
+          λ again after. h.long again (λ x. f x again after);
+    }
 
 pub ends-then : {A B : Type 0} {m : Part A} {n : Part B} {words later : List ℕ} {reply : Reply} → Ends m words reply later
     → Ends (m >> n) words reply later
 ends-then {n = n} h =
-    record { steps = h.steps; runs = λ again after. h.runs again (λ x. n again after); long =
-        λ again after. h.long again (λ x. n again after) }
+    record {
+      steps = h.steps;
+      runs = λ again after. h.runs again (λ x. n again after);
+      long =
+          λ again after. h.long again (λ x. n again after);
+    }
 
 -- parts that are the same on each list of words
 unfoldable pub same-comes : {A : Type 0} {m n : Part A} {words later : List ℕ} {a : A}
@@ -290,7 +298,7 @@ pub act-comes : (shape : Shape) (variant : Variant) (call : Call) {words later :
     → RunsAlone (act shape variant call) words later reply
 act-comes shape variant call {later = later} {reply = reply} h =
     same-runs (act shape variant call) (act-body shape variant call)
-        (h.runs (act shape variant call) (λ r got. Answers r) later reply (ends refl))
+    (h.runs (act shape variant call) (λ r got. Answers r) later reply (ends refl))
 
 -- as many accesses as the procedure makes
 
@@ -320,7 +328,7 @@ steps-once {later = later} {later2 = later2} h k =
     let one = h.long stop (λ a. stop) later replies.None (ends refl) in
     let two = k.long stop (λ a. stop) later2 replies.None (ends refl) in
     let same = accesses-once (h.runs stop (λ a. stop) later replies.None (ends refl))
-        (k.runs stop (λ a. stop) later2 replies.None (ends refl)) in
+    (k.runs stop (λ a. stop) later2 replies.None (ends refl)) in
     equal one two same
   where
     equal : {a b c d : ℕ} → a ≡ c + 0 → b ≡ d + 0 → a ≡ b → c ≡ d

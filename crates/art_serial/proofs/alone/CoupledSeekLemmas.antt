@@ -56,7 +56,7 @@ module _ (c : Setting) (n : ℕ) (words : List ℕ) (rest : IsAtRest c.shape n w
       → Like c.shape words target now (λ w. w ≡ r.base) → Like c.shape words target (released r now) Nothing
   release r free live reached like =
       like-version c.shape n words rest {held2 = Nothing} (released_word r.kept) like reached (released-small r.kept)
-          (released-live r.kept live)
+      (released-live r.kept live)
       (λ no_one. released-free r.kept free) (λ w h ne. ne h)
 
   -- the row is unlocked, and the key is not there
@@ -157,7 +157,7 @@ module _ (c : Setting) (n : ℕ) (words : List ℕ) (rest : IsAtRest c.shape n w
       subst (λ (w : ℕ). Comes (load (info_at m) >>= λ info. give (row_of m k info v)) now (row_of m k w v) now)
       (like-row c.shape n words rest like reached 1 (omega arith) (two-words k))
       (bind-comes {f = λ info. give (row_of m k info v)} (load-comes (info_at m) now)
-          (give-comes (row_of m k (slice_index now (info_at m)) v) now))
+      (give-comes (row_of m k (slice_index now (info_at m)) v) now))
 
   down : (r : Row) (now : List ℕ) (a : IsAt r now) (m : ℕ) (k : Kind)
       → child_on c.shape words r.base r.kind (byte_at c r.level) ≡ ChildRow m k
@@ -186,7 +186,7 @@ module _ (c : Setting) (n : ℕ) (words : List ℕ) (rest : IsAtRest c.shape n w
                 (unlock-comes r now)
                 (bind-comes {f = λ v. load (info_at m) >>= λ info. give (row_of m k info v)}
                 (lock-comes c.shape m (released r now) (like-free c.shape n words rest free_now reached (λ h. h)))
-                    (info-comes v held reached)));
+                (info-comes v held reached)));
             like = held;
             free = like-free c.shape n words rest free_now reached (λ h. h);
             live = like-live c.shape n words rest free_now reached;
@@ -203,7 +203,7 @@ module _ (c : Setting) (n : ℕ) (words : List ℕ) (rest : IsAtRest c.shape n w
             comes = if_false-comes early e (bind-comes {f = λ v. unlock r >> (load (info_at m) >>= λ info. give (row_of m k info v))}
                 (lock-comes c.shape m now (like-free c.shape n words rest a.like reached other))
                 (then-comes {n = load (info_at m) >>= λ info. give (row_of m k info v)} (unlock-comes r (with_lock now m))
-                    (info-comes v one reached)));
+                (info-comes v one reached)));
             like = one;
             free = like-free c.shape n words rest a.like reached other;
             live = like-live c.shape n words rest a.like reached;
@@ -301,7 +301,7 @@ module _ (c : Setting) (n : ℕ) (words : List ℕ) (rest : IsAtRest c.shape n w
       finds : Comes (find c r) now (found_of_slot c.shape words keys count (slot_of words r.base r.kind x)) now
       finds = subst (λ f. Comes (find c r) now f now)
           (found-same words now r.base c r.kind x (key_byte-small key r.level) (like-row c.shape n words rest a.like a.leads.reached))
-              (find-comes c r now)
+          (find-comes c r now)
 
       lacks : slot_of words r.base r.kind x ≡ None → Seeks c.shape words c.call (unlock r >> give reply.None) now
       lacks e = none r now a Empty (ap (λ o. child_in c.shape words o) e) (λ like. (refl, like))

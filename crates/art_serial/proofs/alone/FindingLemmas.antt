@@ -47,7 +47,7 @@ find_indexed-comes c n entries e words = go (e == 0) (is_insert c.call)
 
 find_in-comes : (kind : Kind) (c : Setting) (base level : ℕ) (path : List ℕ) (kept x : ℕ) (words : List ℕ)
     → Comes (find_in kind c (record { base = base; kind = kind; level = level; path = path; kept = kept }) x) words
-        (found_in c words base kind x) words
+    (found_in c words base kind x) words
 unfolding find_in
 find_in-comes Four c base level path kept x words =
     let n : Row = record { base = base; kind = Four; level = level; path = path; kept = kept } in
@@ -56,16 +56,16 @@ find_in-comes Four c base level path kept x words =
 find_in-comes Sixteen c base level path kept x words =
     let n : Row = record { base = base; kind = Sixteen; level = level; path = path; kept = kept } in
     bind-comes (load-comes (count_at Sixteen base) words)
-        (bind-comes (load-comes (keys_at base) words) (bind-comes (load-comes (more_keys_at base) words)
+    (bind-comes (load-comes (keys_at base) words) (bind-comes (load-comes (more_keys_at base) words)
     (find_among-comes c n (keys_in_row words base Sixteen x) (place_of x (keys_in_row words base Sixteen x)) words)))
 find_in-comes FortyEight c base level path kept x words =
     let n : Row = record { base = base; kind = FortyEight; level = level; path = path; kept = kept } in
     bind-comes {f = λ w. find_indexed c n (entries_of w) (slice_index (entries_of w) (x % 8))} (load-comes (index_at base x) words)
     (find_indexed-comes c n (entries_of (slice_index words (index_at base x)))
-        (slice_index (entries_of (slice_index words (index_at base x))) (x % 8)) words)
+    (slice_index (entries_of (slice_index words (index_at base x))) (x % 8)) words)
 find_in-comes Full c base level path kept x words =
     bind-comes {f = λ w. give (Has (child_at Full base x) (child_of c.shape w))} (load-comes (child_at Full base x) words)
-        (give-comes _ words)
+    (give-comes _ words)
 
 -- What is found of the call's byte in a row, and the words stay.
 pub find-comes : (c : Setting) (n : Row) (words : List ℕ)

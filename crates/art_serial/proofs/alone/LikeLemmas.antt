@@ -121,15 +121,20 @@ module _ (s : Shape) (n : ℕ) (words : List ℕ) (rest : IsAtRest s n words) wh
       other w ne (inl e) = inl (get_or-set_other now slot w value 0 ne ∙ (e ∙ sym (get_or-set_other words slot w value 0 ne)))
       other w ne (inr v) =
           let same : slice_index (slice_set now slot value) w ≡ slice_index now w = get_or-set_other now slot w value 0 ne in
-          inr (record { kind = v.kind; reached = v.reached; live = ap is_obsolete same ∙ v.live; free = λ no_one. ap is_locked same
-              ∙ v.free no_one })
+          inr (record {
+            kind = v.kind;
+            reached = v.reached;
+            live = ap is_obsolete same ∙ v.live;
+            free = λ no_one. ap is_locked same
+                ∙ v.free no_one;
+          })
 
       go : (w : ℕ) (b : Bool) → (w == slot) ≡ b
           → (slice_index (slice_set now slot value) w ≡ slice_index (slice_set words slot value) w)
           ⊎ IsVersion s words (slice_set now slot value) held w
       go w true e =
           inl (subst (λ (w : ℕ). slice_index (slice_set now slot value) w ≡ slice_index (slice_set words slot value) w)
-              (sym (eqb-true w slot e)) here)
+          (sym (eqb-true w slot e)) here)
       go w false e = other w (eqb-false w slot e) (like.word w)
 
   -- ---- what they say
@@ -169,13 +174,13 @@ module _ (s : Shape) (n : ℕ) (words : List ℕ) (rest : IsAtRest s n words) wh
     elsewhere : {b : ℕ} {k : Kind} → Reached s words b k → (j : ℕ) → j < row_words k → b + j ≡ slot → (b ≡ base) × (j ≡ is-slot.place)
     elsewhere {b} {k} r j high e =
         let (kinds, numbers, bases, places) = sits-part s b base j is-slot.place k kind (sits r) (sits reached) high is-slot.high
-            (e ∙ is-slot.is) in
+        (e ∙ is-slot.is) in
         (bases, places)
 
     same-keys : SameKeys words later base kind
     same-keys j low high =
         untouched reached j low (keys-within kind j high) λ e. omega
-            (arith, (elsewhere reached j (keys-within kind j high) e).1, is-slot.low, high)
+        (arith, (elsewhere reached j (keys-within kind j high) e).1, is-slot.low, high)
 
     pub slot-changes : HasForm words base kind → (child : Child) → child_of s value ≡ child → ChangesAt s words later base kind x child
     slot-changes form child is = record {

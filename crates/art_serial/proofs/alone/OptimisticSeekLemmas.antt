@@ -117,7 +117,7 @@ module _ (c : Setting) (n : ℕ) (words : List ℕ) (rest : IsAtRest c.shape n w
     where
       go : (b : Bool) → (k == key) ≡ b
           → Seeks c.shape words c.call (if b then (overwrite c r slot (overwriting c.call value) >> give
-              (reply.Some value)) else give reply.None) words
+          (reply.Some value)) else give reply.None) words
       go false other = none r a (Leaf k value) at (inr (eqb-false k key other, refl, nothing))
       go true same =
           let o = overwrites r a slot e (overwriting c.call value) (small value) in
@@ -144,7 +144,7 @@ module _ (c : Setting) (n : ℕ) (words : List ℕ) (rest : IsAtRest c.shape n w
   unfolding step_down
   down-comes r m k kept reached =
       bind-comes {f = λ v. check_of c r >> (load (info_at m) >>= λ info. give (row_of m k info v))}
-          (wait-comes m words (free-at reached) (live-at reached))
+      (wait-comes m words (free-at reached) (live-at reached))
       (then-comes {n = load (info_at m) >>= λ info. give (row_of m k info (slice_index words m))} (check_of-comes c r words kept)
       (bind-comes {f = λ info. give (row_of m k info (slice_index words m))} (load-comes (info_at m) words)
       (give-comes (row_of m k (slice_index words (info_at m)) (slice_index words m)) words)))
@@ -179,8 +179,12 @@ module _ (c : Setting) (n : ℕ) (words : List ℕ) (rest : IsAtRest c.shape n w
 
       go : (o : Option ℕ) → path_differs_at c found ≡ o
           → Seeks c.shape words c.call (step_down c r m k >>= λ q. seek_below c (seek_from c) q (path_differs_at c q)) words
-      go None e = after None e (more found (record { level = refl; leads = leads-below c.shape n words rest a.leads byte
-          at e; kept = refl })
+      go None e = after None e (more found (record {
+        level = refl;
+        leads = leads-below c.shape n words rest a.leads byte
+            at e;
+        kept = refl;
+      })
           (omega (arith, enough, deeper)))
       go (Some i) e = after (Some i) e (record {
         reply = reply.None;

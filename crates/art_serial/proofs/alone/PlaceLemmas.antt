@@ -1,10 +1,11 @@
 -- Rows of a table lie apart from one another and from the words before them.
-use Rattle.std.proofs.Common.{◌≡◌, ℕ, ◌+◌, ◌-◌, ◌*◌, ◌/◌, ◌<◌, ◌≤◌, Option, Some, None, Bool, true, false, refl, sym, ap, ◌∙◌, subst, arith}
+use Rattle.std.proofs.Common.{◌≡◌, ℕ, ◌+◌, ◌-◌, ◌*◌, ◌/◌, ◌<◌, ◌≤◌, Some, None, Bool, true, false, refl, sym, ap, ◌∙◌, subst, arith}
 use Rattle.std.proofs.Common.{if◌then◌else◌}
 use Rattle.art_rows.specs.declared.table.Shape.{Shape}
 use Rattle.art_rows.specs.declared.table.Kind.{Kind}
 use Rattle.art_rows.specs.declared.table.Kind.TheVariants.{Four, Sixteen, FortyEight, Full}
 use Rattle.art_rows.specs.Table.{row_words, rows_of, table_words, base_of, is_base_of, kind_at}
+use Rattle.art_rows.proofs.KindLemmas.{kind_at-is_base}
 use Rattle.art_serial.proofs.words.TableLemmas.{is_base}
 
 -- the base is that of a row of the kind, with this number
@@ -44,7 +45,7 @@ pub sits-part : (s : Shape) (a b i j : ℕ) (k l : Kind) → (x : Sits s a k) �
     → (k ≡ l) × (x.number ≡ y.number) × (a ≡ b) × (i ≡ j)
 sits-part s a b i j k l x y li lj e =
     let (kinds, numbers, places) = rows-part s k l x.number y.number i j x.low y.low li lj (ap (λ n. n + i) (sym x.is)
-        ∙ (e ∙ ap (λ n. n + j) y.is)) in
+    ∙ (e ∙ ap (λ n. n + j) y.is)) in
     (kinds, numbers, x.is ∙ (ap (λ n. base_of s k n) numbers ∙ (ap (λ q. base_of s q y.number) kinds ∙ sym y.is)), places)
 
 -- ---- in the table, behind the counts of claims
@@ -68,37 +69,7 @@ is_base-sits s Full base e =
     record { number = (base - (5 + 7 * s.rows4 + 21 * s.rows16 + 83 * s.rows48)) / 258; low = grind arith; is = grind arith }
 
 pub kind_at-sits : (s : Shape) (base : ℕ) (kind : Kind) → kind_at s base ≡ Some kind → Sits s base kind
-kind_at-sits s base kind e = four (is_base_of s Four base) refl e
-  where
-    some_same : {x y : Kind} → ◌≡◌ {A = Option Kind} (Some x) (Some y) → x ≡ y
-    some_same h = cc
-
-    none_some : {y : Kind} → ◌≡◌ {A = Option Kind} None (Some y) → ⊥
-    none_some h = cc
-
-    full : (b : Bool) → is_base_of s Full base ≡ b → (if b then Some Full else None) ≡ Some kind → Sits s base kind
-    full true t h = subst (λ k. Sits s base k) (some_same h) (is_base-sits s Full base t)
-    full false t h = absurd (none_some h)
-
-    forty_eight : (b : Bool) → is_base_of s FortyEight base ≡ b
-        → (if b then Some FortyEight else if is_base_of s Full base then Some Full else None) ≡ Some kind → Sits s base kind
-    forty_eight true t h = subst (λ k. Sits s base k) (some_same h) (is_base-sits s FortyEight base t)
-    forty_eight false t h = full (is_base_of s Full base) refl h
-
-    sixteen : (b : Bool) → is_base_of s Sixteen base ≡ b
-        → (if b then Some Sixteen else if is_base_of s FortyEight base then Some FortyEight else if is_base_of s Full
-            base then Some Full else None) ≡
-        Some kind → Sits s base kind
-    sixteen true t h = subst (λ k. Sits s base k) (some_same h) (is_base-sits s Sixteen base t)
-    sixteen false t h = forty_eight (is_base_of s FortyEight base) refl h
-
-    four : (b : Bool) → is_base_of s Four base ≡ b
-        → (if b then Some Four else if is_base_of s Sixteen base then Some Sixteen else if is_base_of s FortyEight base then Some
-            FortyEight else if
-        is_base_of s Full base then Some Full else None) ≡ Some kind
-        → Sits s base kind
-    four true t h = subst (λ k. Sits s base k) (some_same h) (is_base-sits s Four base t)
-    four false t h = sixteen (is_base_of s Sixteen base) refl h
+kind_at-sits s base kind e = is_base-sits s kind base (kind_at-is_base s base kind e)
 
 -- ---- and a row's base has its kind
 

@@ -70,7 +70,7 @@ module _ (s : Shape) (n : ℕ) (words : List ℕ) (rest : IsAtRest s n words) wh
     base-out : (b : ℕ) (k : Kind) → Sits s b k → IsInside b → ⊥
     base-out b k x (c, l, j, r, low, high, is) =
         let (kinds, numbers, bases, places) = sits-part s b c 0 j k l x (sits s n words rest r) (omega (arith, two-words k)) high
-            (omega (arith, is)) in
+        (omega (arith, is)) in
         omega (arith, places, low)
 
     behind-claims : (k l : Kind) (b : ℕ) → Reached s words b l → claims_of k < b

@@ -13,7 +13,7 @@ use Rattle.art_steps.specs.Rows.{unlock_all, wait}
 use Rattle.art_steps.specs.Rows.{check}
 use Rattle.art_steps.specs.Rows.{check_of, take_row, claim}
 use Rattle.art_steps.proofs.GuardLemmas.{lock_turn, lock_again-body, wait_turn, wait-body}
-use Rattle.art_serial.specs.alone.Alone.{Comes, Ends}
+use Rattle.art_serial.specs.alone.Alone.{Comes, Ends, unlocked_rows}
 use Rattle.art_serial.proofs.alone.AloneLemmas.{give-comes, answer-ends, bind-comes, bind-ends, then-ends, if_true-comes, if_false-comes}
 use Rattle.art_serial.proofs.alone.AloneLemmas.{if_false-ends}
 use Rattle.art_serial.proofs.alone.AloneLemmas.{same-comes}
@@ -35,7 +35,7 @@ lock_again-comes base words e =
     same-comes (lock_again-body base) (bind-comes {f = λ v. if is_locked v then lock_again base
     else (exchange base v (locked_word v) >>= λ was. if was == v then give v else lock_again base)} (load-comes base words)
     (if_false-comes (lock_again base) e (bind-comes {f = λ was. if was == v then give v else lock_again base}
-        (exchange-comes base v (locked_word v) words refl)
+    (exchange-comes base v (locked_word v) words refl)
     (if_true-comes (lock_again base) (eq-eqb v v refl) (give-comes v (with_lock words base))))))
 
 unfoldable pub lock-comes : (s : Shape) (base : ℕ) (words : List ℕ) → is_locked (slice_index words base) ≡ false
@@ -57,12 +57,7 @@ pub unlock_obsolete-comes : (n : Row) (words : List ℕ) → Comes (unlock_obsol
 unfolding unlock_obsolete
 unlock_obsolete-comes n words = store_at-comes point.Unlock n.base (obsolete_word n.kept) words
 
--- the words with these rows unlocked, the first one first
-abbrev pub with_unlocked : List Row → List ℕ → List ℕ
-with_unlocked [] words = words
-with_unlocked (n ∷ rows) words = with_unlocked rows (slice_set words n.base (released_word n.kept))
-
-pub unlock_all-comes : (rows : List Row) (words : List ℕ) → Comes (unlock_all rows) words tt (with_unlocked rows words)
+pub unlock_all-comes : (rows : List Row) (words : List ℕ) → Comes (unlock_all rows) words tt (unlocked_rows rows words)
 unfolding unlock_all
 unlock_all-comes [] words = each_none-comes unlock words
 unlock_all-comes (n ∷ rows) words =
@@ -122,7 +117,7 @@ take_row-comes c held n words e free = go (takes_unchecked c.variant)
     taken = bind-comes {f = λ was. if was == n.kept then give n else (unlock_all held >> start_again)}
         (first_at-comes (lock_point c.shape n.base) (exchange-comes n.base n.kept (locked_word n.kept) words e))
         (if_true-comes (unlock_all held >> start_again) (eq-eqb n.kept n.kept refl)
-            (give-comes n (slice_set words n.base (locked_word n.kept))))
+        (give-comes n (slice_set words n.base (locked_word n.kept))))
 
     go : (b : Bool) → Comes (if b then unchecked else checked) words n (slice_set words n.base (locked_word n.kept))
     go true = bind-comes {f = λ v. give (record n { kept = v })} locked (give-comes n (slice_set words n.base (locked_word n.kept)))
@@ -141,17 +136,17 @@ pub claim-comes : (c : Setting) (held : List Row) (kind : Kind) (words : List �
 unfolding claim
 claim-comes c held kind words e =
     bind-comes {f = λ number. if nat_lt number (rows_of c.shape kind) then give (base_of c.shape kind number) else (unlock_all held >>
-        answer reply.Refused)}
+    answer reply.Refused)}
     (add-comes (claims_of kind) words) (if_true-comes (unlock_all held >> answer reply.Refused) e (give-comes _ _))
 
 -- where there is none, the held rows are unlocked and the call is refused.
 pub claim-ends : (c : Setting) (held : List Row) (kind : Kind) (words : List ℕ)
     → nat_lt (slice_index words (claims_of kind)) (rows_of c.shape kind) ≡ false
-    → Ends (claim c held kind) words reply.Refused (with_unlocked held (with_claim words kind))
+    → Ends (claim c held kind) words reply.Refused (unlocked_rows held (with_claim words kind))
 unfolding claim
 claim-ends c held kind words e =
     bind-ends {f = λ number. if nat_lt number (rows_of c.shape kind) then give (base_of c.shape kind number) else (unlock_all held >>
-        answer reply.Refused)}
+    answer reply.Refused)}
     (add-comes (claims_of kind) words)
     (if_false-ends (give (base_of c.shape kind (slice_index words (claims_of kind)))) e
     (then-ends {n = answer reply.Refused} (unlock_all-comes held (with_claim words kind)) (answer-ends reply.Refused _)))

@@ -74,7 +74,7 @@ module _ (same : SameTreesAreOne) (ways : WaysLeadToValues) (puts : LeavesArePut
     present value is (Remove key) b leads at has (slot, slot_at, like) =
         wrote (Remove key) slot 0 (below key m ++ above key m) (is ∙ ap value_reply (sym has)) leads.reached slot_at like
         (removes s words later m key base kind x rest.tree means leads (inr (value, at))
-            (changes slot 0 Empty leads.reached slot_at like refl)) refl
+        (changes slot 0 Empty leads.reached slot_at like refl)) refl
     present value is (Replace key expected new) b leads at has writes = go (value == expected) refl writes
       where
         says : r ≡ reply_to m (Replace key expected new)

@@ -81,7 +81,7 @@ leaf-small key value k v = omega (arith, k, v)
 pub leaf-read : (s : Shape) (key value : ℕ) → key < 4294967296 → value < 1073741824 → child_of s (leaf_word key value) ≡ Leaf key value
 leaf-read s key value k v =
     ap (λ b. if b then row_child (w / 4) (kind_at s (w / 4)) else (if w % 4 == 2 then Leaf (w / 4294967296)
-        ((w % 4294967296) / 4) else Empty)) no_row
+    ((w % 4294967296) / 4) else Empty)) no_row
     ∙ (ap (λ b. if b then Leaf (w / 4294967296) ((w % 4294967296) / 4) else Empty) is_leaf
     ∙ (ap (λ i. Leaf i ((w % 4294967296) / 4)) (omega (arith, k, v)) ∙ ap (λ i. Leaf key i) (omega (arith, k, v))))
   where

@@ -97,9 +97,9 @@ module _ (words later : List ℕ) (base : ℕ) where
   keys-same Sixteen x byte same =
       ap (λ w. keys16_of w (slice_index later (keys_at base)) (slice_index later (more_keys_at base))) (same 4 (omega arith) (omega arith))
       ∙ (ap (λ w. keys16_of (slice_index words (count_at Sixteen base)) w (slice_index later (more_keys_at base)))
-          (same 2 (omega arith) (omega arith))
+      (same 2 (omega arith) (omega arith))
       ∙ ap (λ w. keys16_of (slice_index words (count_at Sixteen base)) (slice_index words (keys_at base)) w)
-          (same 3 (omega arith) (omega arith)))
+      (same 3 (omega arith) (omega arith)))
   keys-same FortyEight x byte same = ap entries_of (index_same x byte same)
   keys-same Full x byte same = refl
 
@@ -130,7 +130,7 @@ module _ (words later : List ℕ) (base : ℕ) where
   )
   form-same FortyEight same (few, once, each, below) =
       let count : slice_index later (count_at FortyEight base) ≡ slice_index words (count_at FortyEight base) =
-          same 34 (omega arith) (omega arith) in
+      same 34 (omega arith) (omega arith) in
       let slot = λ (x : ℕ) (byte : x < 256). slot-same FortyEight x byte same in (
         subst (λ n. n ≤ 48) (sym count) few,
         λ x y e byte other here there. once x y e byte other (sym (slot x byte) ∙ here) (sym (slot y other) ∙ there),

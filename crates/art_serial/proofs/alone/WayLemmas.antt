@@ -111,7 +111,7 @@ EndsAt s words call r later base kind x (Leaf key value) =
     ⊎ ((key ≢ key_of call) × (r ≡ reply.None) × Like s words words later Nothing)
 EndsAt s words call r later base kind x (ChildRow m k) =
     (d : ℕ) × (first_difference (path_in words m k) (key_bytes (key_of call)) ≡ Some d) × (r ≡ reply.None)
-        × Like s words words later Nothing
+    × Like s words words later Nothing
 
 -- The call's way ends at a byte of a row, where it has this reply and leaves these words.
 pub record Arrives (s : Shape) (words : List ℕ) (call : Call) (r : Reply) (later : List ℕ) : Type 0 where

@@ -3,6 +3,7 @@ use Rattle.std.proofs.Common.{◌≡◌, ◌⊎◌, inl, inr, ℕ, zero, suc, �
 use Rattle.std.proofs.Common.{None}
 use Rattle.std.proofs.Common.{Bool, true, false, refl, sym, ap, ◌∙◌, subst, arith, eqb-true, if◌then◌else◌}
 use Rattle.std.proofs.lemmas.Bool.{eqb-false}
+use Rattle.std.proofs.lemmas.Option.{none-some}
 use Rattle.events.specs.declared.event.Call.TheVariants.{Insert}
 use Rattle.events.specs.declared.event.Reply.{Reply}
 use Rattle.events.specs.declared.event.Reply.TheVariants as reply
@@ -26,10 +27,10 @@ use Rattle.art_steps.proofs.GuardLemmas.{insert_from-body}
 use Rattle.art_core.specs.Meaning.{Reached, Means, root, below, child_in, child_on, slot_of}
 use Rattle.art_core.specs.Forms.{level_in, path_in}
 use Rattle.art_serial.specs.trees.Trees.{IsAtRest, LeadsTo}
-use Rattle.art_serial.specs.alone.Alone.{Comes, Ends}
+use Rattle.art_serial.specs.alone.Alone.{Comes, Ends, unlocked_rows}
 use Rattle.art_serial.specs.alone.Finding.{keys_in_row, count_in_row, found_of_slot}
 use Rattle.art_serial.proofs.alone.AloneLemmas.{give-comes, bind-comes, ends-bind, then-comes, ends-then, load-comes}
-use Rattle.art_serial.proofs.alone.RowRunLemmas.{unlock-comes, unlock_all-comes, lock-comes, with_lock, with_unlocked}
+use Rattle.art_serial.proofs.alone.RowRunLemmas.{unlock-comes, unlock_all-comes, lock-comes, with_lock}
 use Rattle.art_serial.proofs.alone.FindingLemmas.{find-comes}
 use Rattle.art_serial.proofs.alone.LikeLemmas.{Nothing, sits, like-start, like-free, like-live}
 use Rattle.art_serial.proofs.alone.VersionLemmas.{locked-live, released-live, released-free, released-small, locked-small}
@@ -104,11 +105,11 @@ module _ (g : Given) (s : Shape) (variant : Variant) (n : ℕ) (words : List ℕ
   -- ---- the rows above are unlocked
 
   above-near : (rows : List Row) (r : Row) (slot : ℕ) → IsAbove rows r slot → (now : List ℕ) → Holding (r ∷ rows) now
-      → Holding (r ∷ []) (with_unlocked rows now)
+      → Holding (r ∷ []) (unlocked_rows rows now)
   above-near [] r slot h now near = near
   above-near (a ∷ []) r slot h now near =
       near-version s n words rest {held2 = Among s n words rest (r ∷ [])} {dead2 = Nothing} (released_word a.kept) near
-          h.at-above.leads.reached
+      h.at-above.leads.reached
       (released-small a.kept)
       (λ d. released-live a.kept h.at-above.held.live) (λ d. released-free a.kept h.at-above.held.free) keep (λ w d ne. d)
     where
@@ -141,7 +142,7 @@ module _ (g : Given) (s : Shape) (variant : Variant) (n : ℕ) (words : List ℕ
       after-part g s variant n words rest few bounded m means key value key_small value_small
       {f = λ _. insert_in c (r ∷ []) slot child >>= λ q. unlock r >> give q}
       (unlock_all-comes rows now) (unlock-few rows r above h now)
-      (ends-in g s variant n words rest few bounded m means key value key_small value_small r (with_unlocked rows now) a.held
+      (ends-in g s variant n words rest few bounded m means key value key_small value_small r (unlocked_rows rows now) a.held
       (above-near rows r above h now near)
       (byte_at c r.level) a.leads (byte r) slot at child on no_row)
 
@@ -157,16 +158,16 @@ module _ (g : Given) (s : Shape) (variant : Variant) (n : ℕ) (words : List ℕ
   unfolding put
   put-row rows r above h a now near none room =
       let (last, comes, outcome) = put-outcome g.puts g.put_written g.read s variant n words rest m means key value key_small value_small r
-      (with_unlocked rows now) a.held
+      (unlocked_rows rows now) a.held
       (above-near rows r above h now near) (byte_at c r.level) a.leads (byte r) none room (absent-at r a none) in
       after-part g s variant n words rest few bounded m means key value key_small value_small {f = λ _. put c r (keys-of r) (count-of r) >>
       (unlock r >> give reply.None)}
       (unlock_all-comes rows now) (unlock-few rows r above h now)
-          (ended g s variant n words rest few bounded m means key value key_small value_small 41
+      (ended g s variant n words rest few bounded m means key value key_small value_small 41
       (then-short (put-short c r (keys-of r) (count-of r) (omega (arith, room))) (then-short (unlock-short r) (give-short reply.None)))
-      reply.None (with_unlocked (r ∷ []) last)
+      reply.None (unlocked_rows (r ∷ []) last)
       (inl (then-comes {n = unlock r >> give reply.None} comes
-          (then-comes {n = give reply.None} (unlock-comes r last) (give-comes reply.None _)))) outcome)
+      (then-comes {n = give reply.None} (unlock-comes r last) (give-comes reply.None _)))) outcome)
 
   grow-row : (p r : Row) (slot : ℕ) (a : IsAt r) → Has-below p r slot → (now : List ℕ) → Holding (r ∷ p ∷ []) now
       → slot_of words r.base r.kind (byte_at c r.level) ≡ None → count-of r ≡ capacity r.kind
@@ -206,7 +207,7 @@ module _ (g : Given) (s : Shape) (variant : Variant) (n : ℕ) (words : List ℕ
       → slot_of words r.base r.kind (byte_at c r.level) ≡ Some slot → child_on s words r.base r.kind (byte_at c r.level) ≡ ChildRow b k
       → q.path ≡ path_in words b k → q.base ≡ b → q.kind ≡ k → first_difference (path_in words b k) (key_bytes key) ≡ Some d
       → Does 10 ((pair_in c (q ∷ r ∷ []) slot d (record { byte = slice_index (path_in words b k) d; child = ChildRow b k })
-          >> give reply.None)
+      >> give reply.None)
       >>= λ x. unlock q >> (unlock r >> give x)) now
   beside r q a q_held now near slot b k d at on path base kind differ = go h.comes
     where
@@ -226,21 +227,23 @@ module _ (g : Given) (s : Shape) (variant : Variant) (n : ℕ) (words : List ℕ
           >>= λ x. unlock q >> (unlock r >> give x))
       short_part =
           short-more 10
-              (bind-short (then-short (pair_in-short c (q ∷ r ∷ []) slot d (record { byte = slice_index (path_in words b k) d;
-              child = ChildRow b k }))
+          (bind-short (then-short (pair_in-short c (q ∷ r ∷ []) slot d (record {
+            byte = slice_index (path_in words b k) d;
+            child = ChildRow b k;
+          }))
           (give-short reply.None)) (λ x. then-short (unlock-short q) (then-short (unlock-short r) (give-short x)))) (omega arith)
 
       go : (Comes (pair_in c (q ∷ r ∷ []) slot d (record { byte = slice_index (path_in words b k) d; child = ChildRow b k })) now tt h.after
-          × Outcome s n words rest m means key value reply.None (with_unlocked (q ∷ r ∷ []) h.after))
+          × Outcome s n words rest m means key value reply.None (unlocked_rows (q ∷ r ∷ []) h.after))
           ⊎ (Ends (pair_in c (q ∷ r ∷ []) slot d (record { byte = slice_index (path_in words b k) d; child = ChildRow b k })) now
-              reply.Refused h.after
+          reply.Refused h.after
           × Outcome s n words rest m means key value reply.Refused h.after)
           → Does 10 ((pair_in c (q ∷ r ∷ []) slot d (record { byte = slice_index (path_in words b k) d; child = ChildRow b k })
-              >> give reply.None)
+          >> give reply.None)
           >>= λ x. unlock q >> (unlock r >> give x)) now
       go (inl (e, o)) =
           ended g s variant n words rest few bounded m means key value key_small value_small 10 short_part reply.None
-              (with_unlocked (q ∷ r ∷ []) h.after)
+          (unlocked_rows (q ∷ r ∷ []) h.after)
           (inl (bind-comes {f = λ x. unlock q >> (unlock r >> give x)} (then-comes {n = give reply.None} e (give-comes reply.None h.after))
           (then-comes {n = unlock r >> give reply.None} (unlock-comes q h.after) (then-comes {n = give reply.None} (unlock-comes r _)
           (give-comes reply.None _))))) o
@@ -259,22 +262,22 @@ module _ (g : Given) (s : Shape) (variant : Variant) (n : ℕ) (words : List ℕ
       → slot_of words r.base r.kind (byte_at c r.level) ≡ Some slot
       → child_on s words r.base r.kind (byte_at c r.level) ≡ ChildRow b k
       → Does (704 + 10 * fuel) (unlock_all rows >> (lock s b >>= λ v. load (info_at b) >>= λ info. insert_below c (insert_from c) r slot
-          (row_of b k info v)
+      (row_of b k info v)
       (path_differs_at c (row_of b k info v)))) now
   unfolding insert_beside
   row fuel more rows r above h a now near enough slot b k at on =
       within g s variant n words rest few bounded m means key value key_small value_small (704 + 10 * fuel)
       (after-part g s variant n words rest few bounded m means key value key_small value_small
-          {f = λ _. lock s b >>= λ v. load (info_at b) >>= λ info.
+      {f = λ _. lock s b >>= λ v. load (info_at b) >>= λ info.
       insert_below c (insert_from c) r slot (row_of b k info v) (path_differs_at c (row_of b k info v))} (unlock_all-comes rows now)
       (unlock-few rows r above h now)
       (after-part g s variant n words rest few bounded m means key value key_small value_small {f = λ v. load (info_at b) >>= λ info.
       insert_below c (insert_from c) r slot (row_of b k info v) (path_differs_at c (row_of b k info v))}
-          (lock-comes s b (with_unlocked rows now) b_free)
-      (lock-few s b (with_unlocked rows now) b_free)
+      (lock-comes s b (unlocked_rows rows now) b_free)
+      (lock-few s b (unlocked_rows rows now) b_free)
       (after-part g s variant n words rest few bounded m means key value key_small value_small {f = λ info.
-      insert_below c (insert_from c) r slot (row_of b k info (slice_index (with_unlocked rows now) b))
-      (path_differs_at c (row_of b k info (slice_index (with_unlocked rows now) b)))} info-comes
+      insert_below c (insert_from c) r slot (row_of b k info (slice_index (unlocked_rows rows now) b))
+      (path_differs_at c (row_of b k info (slice_index (unlocked_rows rows now) b)))} info-comes
       (short-comes (load-short (info_at b)) info-comes) (go (path_differs_at c found) refl)))) (omega arith)
     where
       reached : Reached s words b k
@@ -283,52 +286,52 @@ module _ (g : Given) (s : Shape) (variant : Variant) (n : ℕ) (words : List ℕ
       other : b ≡ r.base → ⊥
       other = below-other s n words rest a.leads.reached (byte r) on
 
-      one : Holding (r ∷ []) (with_unlocked rows now)
+      one : Holding (r ∷ []) (unlocked_rows rows now)
       one = above-near rows r above h now near
 
       not-held : (b ≡ r.base) ⊎ ⊥ → ⊥
       not-held (inl e) = other e
       not-held (inr e) = e
 
-      b_free : is_locked (slice_index (with_unlocked rows now) b) ≡ false
+      b_free : is_locked (slice_index (unlocked_rows rows now) b) ≡ false
       b_free = near-free one reached not-held
 
-      b_live : is_obsolete (slice_index (with_unlocked rows now) b) ≡ false
+      b_live : is_obsolete (slice_index (unlocked_rows rows now) b) ≡ false
       b_live = near-live s n words rest one reached (λ d. d) (λ o. o)
 
       found : Row
-      found = row_of b k (slice_index words (info_at b)) (slice_index (with_unlocked rows now) b)
+      found = row_of b k (slice_index words (info_at b)) (slice_index (unlocked_rows rows now) b)
 
-      two : Holding (found ∷ r ∷ []) (with_lock (with_unlocked rows now) b)
+      two : Holding (found ∷ r ∷ []) (with_lock (unlocked_rows rows now) b)
       two = near-version s n words rest {held2 = Among s n words rest (found ∷ r ∷ [])} {dead2 = Nothing}
-          (locked_word (slice_index (with_unlocked rows now) b)) one reached (locked-small (slice_index (with_unlocked rows now) b))
-          (λ d. locked-live (slice_index (with_unlocked rows now) b) b_live) (λ no_one. absurd (no_one (inl refl)))
-              (λ w d ne. inr d) (λ w d ne. d)
+          (locked_word (slice_index (unlocked_rows rows now) b)) one reached (locked-small (slice_index (unlocked_rows rows now) b))
+          (λ d. locked-live (slice_index (unlocked_rows rows now) b) b_live) (λ no_one. absurd (no_one (inl refl)))
+          (λ w d ne. inr d) (λ w d ne. d)
 
       found_held : IsHeld s n words rest found
       found_held = record { kind = k; reached = reached; free = b_free; live = b_live }
 
-      info-comes : Comes (load (info_at b)) (with_lock (with_unlocked rows now) b) (slice_index words (info_at b))
-          (with_lock (with_unlocked rows now) b)
-      info-comes = subst (λ w. Comes (load (info_at b)) (with_lock (with_unlocked rows now) b) w (with_lock (with_unlocked rows now) b))
+      info-comes : Comes (load (info_at b)) (with_lock (unlocked_rows rows now) b) (slice_index words (info_at b))
+          (with_lock (unlocked_rows rows now) b)
+      info-comes = subst (λ w. Comes (load (info_at b)) (with_lock (unlocked_rows rows now) b) w (with_lock (unlocked_rows rows now) b))
           (near-row s n words rest two reached 1 (omega arith) (two-words k))
-              (load-comes (info_at b) (with_lock (with_unlocked rows now) b))
+          (load-comes (info_at b) (with_lock (unlocked_rows rows now) b))
 
       lower : level_in words r.base r.kind < level_in words b k
       lower = (rest.tree.row r.base b (byte_at c r.level) r.kind k a.leads.reached (byte r) on).0
 
       by : (o : Option ℕ) → path_differs_at c found ≡ o
-          → Does (700 + 10 * fuel) (insert_below c (insert_from c) r slot found o) (with_lock (with_unlocked rows now) b)
-      by None e = more (record { row = found; above = r ∷ []; slot = slot }) (with_lock (with_unlocked rows now) b)
+          → Does (700 + 10 * fuel) (insert_below c (insert_from c) r slot found o) (with_lock (unlocked_rows rows now) b)
+      by None e = more (record { row = found; above = r ∷ []; slot = slot }) (with_lock (unlocked_rows rows now) b)
           (record { level = refl; path = refl; leads = leads-below s n words rest a.leads (byte r) on e; held = found_held })
           (record { at-above = a; slot-above = at; hangs = on }) two (omega (arith, enough, lower, a.level))
       by (Some d) e = within g s variant n words rest few bounded m means key value key_small value_small (700 + 10 * fuel)
-          (beside r found a found_held (with_lock (with_unlocked rows now) b) two slot b k d at on refl refl refl e) (omega arith)
+          (beside r found a found_held (with_lock (unlocked_rows rows now) b) two slot b k d at on refl refl refl e) (omega arith)
 
       go : (o : Option ℕ) → path_differs_at c found ≡ o
           → Does (700 + 10 * fuel) (insert_below c (insert_from c) r slot found (path_differs_at c found))
-              (with_lock (with_unlocked rows now) b)
-      go o e = subst (λ o. Does (700 + 10 * fuel) (insert_below c (insert_from c) r slot found o) (with_lock (with_unlocked rows now)
+          (with_lock (unlocked_rows rows now) b)
+      go o e = subst (λ o. Does (700 + 10 * fuel) (insert_below c (insert_from c) r slot found o) (with_lock (unlocked_rows rows now)
           b)) (sym e) (by o e)
 
   -- ---- the whole way
@@ -364,11 +367,8 @@ module _ (g : Given) (s : Shape) (variant : Variant) (n : ℕ) (words : List ℕ
           → Does 600 (grow c rows p.slot p.row (keys-of p.row) (count-of p.row) >> give reply.None) now
       full [] kind near all = absurd (full_has p.row.kind kind none)
         where
-          some_none : {i : ℕ} → ◌≡◌ {A = Option ℕ} (Some i) None → ⊥
-          some_none h = cc
-
           full_has : (k : Kind) → k ≡ Full → slot_of words p.row.base k (byte_at c p.row.level) ≡ None → ⊥
-          full_has k is h = some_none (subst (λ k. slot_of words p.row.base k (byte_at c p.row.level) ≡ None) is h)
+          full_has k is h = none-some _ (sym (subst (λ k. slot_of words p.row.base k (byte_at c p.row.level) ≡ None) is h))
       full (q ∷ []) h near all = grow-row q p.row p.slot a h now near none all
       full (q ∷ (q2 ∷ rows)) h near all = absurd h
 
@@ -398,7 +398,7 @@ module _ (g : Given) (s : Shape) (variant : Variant) (n : ℕ) (words : List ℕ
           within g s variant n words rest few bounded m means key value key_small value_small (700 + 10 * suc fuel)
           (same-part g s variant n words rest few bounded m means key value key_small value_small (insert_from-body c p)
           (after-part g s variant n words rest few bounded m means key value key_small value_small {f = insert_at c (insert_from c) p}
-              finds (short-comes (find-short c p.row) finds)
+          finds (short-comes (find-short c p.row) finds)
           (subst (λ o. Does (704 + 10 * fuel) (insert_at c (insert_from c) p (found_of_slot s words (keys-of p.row) (count-of p.row) o))
           now) (sym e) i)))
           (omega arith)
@@ -419,7 +419,7 @@ module _ (g : Given) (s : Shape) (variant : Variant) (n : ℕ) (words : List ℕ
   unfolding insert
   inserts-coupled =
       within g s variant n words rest few bounded m means key value key_small value_small 1000
-          (after-part g s variant n words rest few bounded m means key value key_small value_small
+      (after-part g s variant n words rest few bounded m means key value key_small value_small
       {f = λ v. insert_from c (record { row = root_row c v; above = []; slot = root_base s })} (lock-comes s (root_base s) words free)
       (lock-few s (root_base s) words free)
       (does-from 4 (record { row = root_row c v; above = []; slot = root_base s }) (with_lock words (root_base s))
@@ -431,7 +431,7 @@ module _ (g : Given) (s : Shape) (variant : Variant) (n : ℕ) (words : List ℕ
       }) refl
       (near-version s n words rest {held2 = Among s n words rest (root_row c v ∷ [])} {dead2 = Nothing} {kind = Full} (locked_word v)
       (near-like s n words rest (like-start s n words rest Nothing)) root (locked-small v) (λ d. locked-live v live)
-          (λ no_one. absurd (no_one (inl refl)))
+      (λ no_one. absurd (no_one (inl refl)))
       (λ w d ne. absurd d) (λ w d ne. d)) (omega arith))) (omega arith)
     where
       v : ℕ

@@ -3,7 +3,7 @@
 use Rattle.std.proofs.Common.{◌≡◌, ◌≢◌, ◌⊎◌, inl, inr, ℕ, ◌+◌, ◌-◌, ◌%◌, ◌<◌, ◌≤◌}
 use Rattle.std.proofs.Common.{◌==◌, List, [], ◌∷◌, length, slice_index, slice_set, All, Bool, true, false, Some, None}
 use Rattle.std.proofs.Common.{refl, sym, ap, ◌∙◌, subst, arith, eqb-true, nat_lt}
-use Rattle.std.proofs.lemmas.Bool.{eqb-false}
+use Rattle.std.proofs.lemmas.Bool.{eqb-false, ltb-true}
 use Rattle.std.proofs.lemmas.List.Elements.{All-set}
 use Rattle.std.proofs.lemmas.List.{length-set, get_or-set_same, get_or-set_other}
 use Rattle.events.specs.declared.event.Call.TheVariants.{Insert}
@@ -25,10 +25,10 @@ use Rattle.art_serial.specs.trees.Trees.{IsAtRest, LeadsTo, IsGrown, ChangesAt, 
 use Rattle.art_serial.specs.words.Laws.{WordsAreReadBack, VersionsSay, WordsAreSmall}
 use Rattle.art_serial.specs.writes.Writes.{HasGrown, IsApart}
 use Rattle.art_serial.specs.writes.Laws.{RowsAreFilled}
-use Rattle.art_serial.specs.alone.Alone.{Comes, Ends}
+use Rattle.art_serial.specs.alone.Alone.{Comes, Ends, unlocked_rows}
 use Rattle.art_serial.specs.alone.Finding.{keys_in_row, count_in_row}
 use Rattle.art_serial.proofs.alone.AloneLemmas.{ends-bind, bind-comes, then-comes, store-comes}
-use Rattle.art_serial.proofs.alone.RowRunLemmas.{with_unlocked, with_claim, claim-ends, claim-comes, unlock_obsolete-comes}
+use Rattle.art_serial.proofs.alone.RowRunLemmas.{with_claim, claim-ends, claim-comes, unlock_obsolete-comes}
 use Rattle.art_serial.proofs.alone.RowRunLemmas.{unlock_all-comes}
 use Rattle.art_serial.proofs.alone.PlaceLemmas.{Sits, sits-part, sits-inside, sits-kind_at}
 use Rattle.art_serial.proofs.alone.SlotLemmas.{slot-is, form-same, row-keys, slot-same, keys-same, count-same, IsChildWord}
@@ -42,7 +42,6 @@ use Rattle.art_serial.proofs.inserts.OutcomeLemmas.{split, child-same, no-row, C
 use Rattle.art_serial.proofs.inserts.HungLemmas.{word-changes}
 use Rattle.art_serial.proofs.inserts.SmallLemmas.{path_byte-small}
 use Rattle.art_serial.proofs.inserts.SettledLemmas.{settled-words-rest}
-use Rattle.art_serial.proofs.words.KeyLemmas.{is_less}
 use Rattle.art_serial.proofs.words.ByteLemmas.{bytes-small}
 
 obsolete-small : (v : ℕ) → obsolete_word v < 18446744073709551616
@@ -54,7 +53,7 @@ some-more i h = grind (arith, h)
 module _ (trees : SameTreesAreOne) (hangs : GrownRowsAreHung) (written : RowsAreFilled) (read : WordsAreReadBack) (versions : VersionsSay)
     (sized : WordsAreSmall) (s : Shape)
     (variant : Variant) (n : ℕ) (words : List ℕ) (rest : IsAtRest s n words) (few : n < 4611686018427387904)
-        (bounded : table_words s < 2305843009213693952)
+    (bounded : table_words s < 2305843009213693952)
     (m : Contents) (means : Means s words m)
     (key value : ℕ) (key_small : key < 4294967296) (value_small : value < 1073741824) where
   abbrev c : Setting
@@ -71,7 +70,7 @@ module _ (trees : SameTreesAreOne) (hangs : GrownRowsAreHung) (written : RowsAre
       (y slot : ℕ) (above : LeadsTo s words key a.base a.kind y) (y_byte : y < 256) (at : slot_of words a.base a.kind y ≡ Some slot)
       (hanging : child_on s words a.base a.kind y ≡ ChildRow r.base r.kind)
       (leads : LeadsTo s words key r.base r.kind (byte_at c r.level)) (byte : byte_at c r.level < 256)
-          (level : r.level ≡ level_in words r.base r.kind)
+      (level : r.level ≡ level_in words r.base r.kind)
       (path : r.path ≡ path_in words r.base r.kind) (none : slot_of words r.base r.kind (byte_at c r.level) ≡ None)
       (all : count_in_row (Insert key value) words r.base r.kind (byte_at c r.level) ≡ capacity r.kind)
       (absent : value_at m key ≡ None) where
@@ -96,7 +95,7 @@ module _ (trees : SameTreesAreOne) (hangs : GrownRowsAreHung) (written : RowsAre
     full : nat_lt number (rows_of s larger) ≡ false → Grows (grow c (a ∷ []) slot r keys count) now
     unfolding grow
     full e = record {
-      after = with_unlocked (r ∷ a ∷ []) (with_claim now larger);
+      after = unlocked_rows (r ∷ a ∷ []) (with_claim now larger);
       comes = inr (
         ends-bind {A = ℕ} {B = Unit {0}} (claim-ends c (r ∷ a ∷ []) larger now e),
         refused s n words rest m means key value trees few larger (r ∷ a ∷ []) now (r_held, (a_held, tt)) near,
@@ -127,7 +126,7 @@ module _ (trees : SameTreesAreOne) (hangs : GrownRowsAreHung) (written : RowsAre
       slot-elsewhere : (b j : ℕ) (k : Kind) → Reached s words b k → j < row_words k → b + j ≡ slot → (b ≡ a.base) × (j ≡ is-slot.place)
       slot-elsewhere b j k q lj e =
           let (kinds, numbers, bases, places) =
-              sits-part s b a.base j is-slot.place k a.kind (sits s n words rest q) (sits s n words rest above.reached) lj
+          sits-part s b a.base j is-slot.place k a.kind (sits s n words rest q) (sits s n words rest above.reached) lj
           is-slot.high (e ∙ is-slot.is) in
           (bases, places)
 
@@ -172,9 +171,9 @@ module _ (trees : SameTreesAreOne) (hangs : GrownRowsAreHung) (written : RowsAre
       info-small =
           let long = (rest.tree.info r.base r.kind leads.reached).0 in
           sized.info larger r.level r.path (omega (arith, level, level-most words r.base r.kind))
-              (ap (λ p. length p) path ∙ (long ∙ sym level))
+          (ap (λ p. length p) path ∙ (long ∙ sym level))
           (subst (λ p. All (λ x. x < 256) p) (sym path)
-              (bytes-small (path_in words r.base r.kind) (λ i. path_byte-small words r.base r.kind i)))
+          (bytes-small (path_in words r.base r.kind) (λ i. path_byte-small words r.base r.kind i)))
 
       row-small : row < 2305843009213693952
       row-small = omega (arith, bounded, (sits-inside s row 0 larger row-sits (omega (arith, two-words larger))).1)
@@ -183,7 +182,7 @@ module _ (trees : SameTreesAreOne) (hangs : GrownRowsAreHung) (written : RowsAre
       near1 = near-out s n words rest near (length-set now (claims_of larger) ((number + 1) % 18446744073709551616))
           (All-set (λ w. w < 18446744073709551616) now (claims_of larger) ((number + 1) % 18446744073709551616) (omega arith) near.small)
           (λ w. set-changed now (claims_of larger) ((number + 1) % 18446744073709551616) (inl refl) w (w == claims_of larger)
-              refl) (λ w o. absurd o)
+          refl) (λ w o. absurd o)
 
       near2 : Near s n words rest Out (Among s n words rest (r ∷ a ∷ [])) Nothing begun
       near2 = near-out s n words rest near1 (length-set claimed (info_at row) info)
@@ -259,7 +258,7 @@ module _ (trees : SameTreesAreOne) (hangs : GrownRowsAreHung) (written : RowsAre
       freed = slice_set hung r.base (obsolete_word r.kept)
 
       abbrev later : List ℕ
-      later = with_unlocked (a ∷ []) freed
+      later = unlocked_rows (a ∷ []) freed
 
       near3 : Near s n words rest Out (Among s n words rest (r ∷ a ∷ [])) Nothing filled
       near3 = near-out s n words rest near2 has.long (has.small near2.small (key_small, value_small))
@@ -310,8 +309,12 @@ module _ (trees : SameTreesAreOne) (hangs : GrownRowsAreHung) (written : RowsAre
           (subst (λ w. Sits s w k) is-slot.is q)
 
       slot-inside : slot < length filled
-      slot-inside = omega (arith, (sits-inside s a.base is-slot.place a.kind (sits s n words rest above.reached) is-slot.high).1,
-          is-slot.is, near3.long)
+      slot-inside = omega (
+        arith,
+        (sits-inside s a.base is-slot.place a.kind (sits s n words rest above.reached) is-slot.high).1,
+        is-slot.is,
+        near3.long,
+      )
 
       slot-now : slice_index later slot ≡ row_word row
       slot-now =
@@ -369,17 +372,17 @@ module _ (trees : SameTreesAreOne) (hangs : GrownRowsAreHung) (written : RowsAre
       changes = word-changes s n words rest later a.base slot (row_word row) y a.kind above.reached y_byte at
           (λ b k q j one high ne. near-behind s n words rest near6 q j one high (not-written b k q j high ne)) slot-now
           (rest.tree.form a.base a.kind above.reached) (ChildRow row larger)
-              (read.child s (ChildRow row larger) (sits-kind_at s row larger row-sits))
+          (read.child s (ChildRow row larger) (sits-kind_at s row larger row-sits))
 
       tree : IsTree s later × HasRowInPlace s words later r.base row larger × Means s later (put key value m)
       tree = hangs s words later m key value a.base a.kind y r.base r.kind x row larger rest.tree means above hanging leads
           is-grown (record {
-        others = λ b k q ne nb. changes.others b k q ne;
-        info = changes.info;
-        form = changes.form;
-        other_bytes = changes.other_bytes;
-        here = changes.here;
-      })
+            others = λ b k q ne nb. changes.others b k q ne;
+            info = changes.info;
+            form = changes.form;
+            other_bytes = changes.other_bytes;
+            here = changes.here;
+          })
 
       old-or-new : (b : ℕ) (k : Kind) → (Reached s words b k × (b ≢ r.base)) ⊎ ((b ≡ row) × (k ≡ larger))
           → (Reached s words b k × (is_obsolete (slice_index later b) ≡ false)) ⊎ IsNewRow s words later b k
@@ -407,7 +410,7 @@ module _ (trees : SameTreesAreOne) (hangs : GrownRowsAreHung) (written : RowsAre
           bind-comes {A = ℕ} {B = Unit {0}} {f = λ base. store (info_at base) info >> (fill r.kind c r base x keys count
               >> (store slot (row_word base) >> (unlock_obsolete r >> unlock_all (a ∷ []))))} (claim-comes c (r ∷ a ∷ []) larger now e)
               (then-comes {n = fill r.kind c r row x keys count >> (store slot (row_word row) >>
-                  (unlock_obsolete r >> unlock_all (a ∷ [])))}
+              (unlock_obsolete r >> unlock_all (a ∷ [])))}
               (store-comes (info_at row) info claimed)
               (then-comes {n = store slot (row_word row) >> (unlock_obsolete r >> unlock_all (a ∷ []))} fill-comes
               (then-comes {n = unlock_obsolete r >> unlock_all (a ∷ [])} (store-comes slot (row_word row) filled)
@@ -421,5 +424,5 @@ module _ (trees : SameTreesAreOne) (hangs : GrownRowsAreHung) (written : RowsAre
     grows = go (nat_lt number (rows_of s larger)) refl
       where
         go : (b : Bool) → nat_lt number (rows_of s larger) ≡ b → Grows (grow c (a ∷ []) slot r keys count) now
-        go true e = grown (is_less number (rows_of s larger) e) e
+        go true e = grown (ltb-true number (rows_of s larger) e) e
         go false e = full e

@@ -24,7 +24,7 @@ module _ (s : Shape) (n : ℕ) (words : List ℕ) (rest : IsAtRest s n words) (l
   elsewhere : {b : ℕ} {k : Kind} → Reached s words b k → (j : ℕ) → j < row_words k → b + j ≡ slot → (b ≡ base) × (j ≡ is-slot.place)
   elsewhere {b} {k} r j high e =
       let (kinds, numbers, bases, places) = sits-part s b base j is-slot.place k kind (sits s n words rest r)
-          (sits s n words rest reached) high is-slot.high
+      (sits s n words rest reached) high is-slot.high
       (e ∙ is-slot.is) in
       (bases, places)
 

@@ -26,10 +26,10 @@ use Rattle.art_serial.specs.trees.Trees.{LeavesArePut, PairsAreHung, GrownRowsAr
 use Rattle.art_serial.specs.words.Laws.{WordsAreReadBack, VersionsSay, WordsAreSmall}
 use Rattle.art_serial.specs.words.Stored.{IsStored, IsShort}
 use Rattle.art_serial.specs.writes.Laws as writes
-use Rattle.art_serial.specs.alone.Alone.{Comes, Ends}
+use Rattle.art_serial.specs.alone.Alone.{Comes, Ends, unlocked_rows}
 use Rattle.art_serial.proofs.alone.AloneLemmas.{give-comes, bind-comes, bind-ends, then-comes, store-comes, ends-bind, ends-then}
 use Rattle.art_serial.proofs.alone.AloneLemmas.{same-comes, same-ends}
-use Rattle.art_serial.proofs.alone.RowRunLemmas.{with_unlocked, unlock-comes}
+use Rattle.art_serial.proofs.alone.RowRunLemmas.{unlock-comes}
 use Rattle.art_serial.proofs.alone.LikeLemmas.{Nothing}
 use Rattle.art_serial.proofs.inserts.NearLemmas.{Near, Among, IsHeld}
 use Rattle.art_serial.proofs.inserts.OutcomeLemmas.{Outcome}
@@ -111,11 +111,23 @@ module _ (g : Given) (s : Shape) (variant : Variant) (n : ℕ) (words : List ℕ
     where
       go : (o : Comes (f a) between i.reply i.later ⊎ Ends (f a) between i.reply i.later) → steps_of o ≤ k → Inserts (j + k) (p >>= f) now
       go (inl c) lc =
-          record { reply = i.reply; later = i.later; comes = inl (bind-comes {f = f} h c); brief =
-              bind-few f h c le lc; outcome = i.outcome }
+          record {
+            reply = i.reply;
+            later = i.later;
+            comes = inl (bind-comes {f = f} h c);
+            brief =
+                bind-few f h c le lc;
+            outcome = i.outcome;
+          }
       go (inr c) lc =
-          record { reply = i.reply; later = i.later; comes = inr (bind-ends {f = f} h c); brief =
-              bind-ends-few f h c le lc; outcome = i.outcome }
+          record {
+            reply = i.reply;
+            later = i.later;
+            comes = inr (bind-ends {f = f} h c);
+            brief =
+                bind-ends-few f h c le lc;
+            outcome = i.outcome;
+          }
 
   -- a part that is the same on each list of words
   pub same-part : {part other : Part Reply} {now : List ℕ} {k : ℕ} → ((again : Rest) (after : Reply → Rest) (got : List ℕ)
@@ -133,7 +145,7 @@ module _ (g : Given) (s : Shape) (variant : Variant) (n : ℕ) (words : List ℕ
   module _ (r : Row) (now : List ℕ) (held : IsHeld s n words rest r)
       (near : Near s n words rest Nothing (Among s n words rest (r ∷ [])) Nothing now)
       (x : ℕ) (leads : LeadsTo s words key r.base r.kind x) (byte : x < 256) (slot : ℕ)
-          (at : slot_of words r.base r.kind x ≡ Some slot) where
+      (at : slot_of words r.base r.kind x ≡ Some slot) where
     -- a pair in the slot of the held row, and the row is unlocked
     pub pair-in : (d a : ℕ) (child : Child) → child_on s words r.base r.kind x ≡ child → Parts words key d a child → IsStored s child
         → IsShort child → a < 256
@@ -152,31 +164,31 @@ module _ (g : Given) (s : Shape) (variant : Variant) (n : ℕ) (words : List ℕ
             unlock r >> give q)
         short_part =
             short-more 8 (bind-short (then-short (pair_in-short c (r ∷ []) slot d (record { byte = a; child = child }))
-                (give-short reply.None))
+            (give-short reply.None))
             (λ q. then-short (unlock-short r) (give-short q))) (omega arith)
 
         go : (Comes (pair_in c (r ∷ []) slot d (record { byte = a; child = child })) now tt h.after
-            × Outcome s n words rest m means key value reply.None (with_unlocked (r ∷ []) h.after))
+            × Outcome s n words rest m means key value reply.None (unlocked_rows (r ∷ []) h.after))
             ⊎ (Ends (pair_in c (r ∷ []) slot d (record { byte = a; child = child })) now reply.Refused h.after
             × Outcome s n words rest m means key value reply.Refused h.after)
             → Inserts 8 ((pair_in c (r ∷ []) slot d (record { byte = a; child = child }) >> give reply.None) >>= λ q.
-                unlock r >> give q) now
-        go (inl (k, o)) = ended 8 short_part reply.None (with_unlocked (r ∷ []) h.after)
+            unlock r >> give q) now
+        go (inl (k, o)) = ended 8 short_part reply.None (unlocked_rows (r ∷ []) h.after)
             (inl (bind-comes {f = λ q. unlock r >> give q} (then-comes {n = give reply.None} k (give-comes reply.None h.after))
-            (then-comes {n = give reply.None} (unlock-comes r h.after) (give-comes reply.None (with_unlocked (r ∷ []) h.after))))) o
+            (then-comes {n = give reply.None} (unlock-comes r h.after) (give-comes reply.None (unlocked_rows (r ∷ []) h.after))))) o
         go (inr (k, o)) = ended 8 short_part reply.Refused h.after
             (inr (ends-bind {f = λ q. unlock r >> give q} (ends-then {n = give reply.None} k))) o
 
     -- the leaf in the slot of the held row, and the row is unlocked
     leaf-in : (o : Option ℕ) (q : Reply) → value_at m key ≡ o
-        → Outcome s n words rest m means key value q (with_unlocked (r ∷ []) (slice_set now slot (leaf_word key value)))
+        → Outcome s n words rest m means key value q (unlocked_rows (r ∷ []) (slice_set now slot (leaf_word key value)))
         → Inserts 8 ((store slot (leaf_word key value) >> give q) >>= λ q. unlock r >> give q) now
     leaf-in o q has out = ended 8
         (short-more 8 (bind-short (then-short (store-short slot (leaf_word key value)) (give-short q))
-            (λ q. then-short (unlock-short r) (give-short q)))
-        (omega arith)) q (with_unlocked (r ∷ []) (slice_set now slot (leaf_word key value)))
+        (λ q. then-short (unlock-short r) (give-short q)))
+        (omega arith)) q (unlocked_rows (r ∷ []) (slice_set now slot (leaf_word key value)))
         (inl (bind-comes {f = λ q. unlock r >> give q}
-            (then-comes {n = give q} (store-comes slot (leaf_word key value) now) (give-comes q _))
+        (then-comes {n = give q} (store-comes slot (leaf_word key value) now) (give-comes q _))
         (then-comes {n = give q} (unlock-comes r (slice_set now slot (leaf_word key value))) (give-comes q _)))) out
 
     -- An insert in a slot of the held row that has no row in it.
@@ -186,7 +198,7 @@ module _ (g : Given) (s : Shape) (variant : Variant) (n : ℕ) (words : List ℕ
     ends-in Empty on no_row =
         leaf-in None reply.None absent
         (leaf-outcome g.puts g.put_written g.read s variant n words rest m means key value key_small value_small r now held near x
-            leads byte slot at
+        leads byte slot at
         (inl on) None absent)
       where
         absent : value_at m key ≡ None
@@ -196,7 +208,7 @@ module _ (g : Given) (s : Shape) (variant : Variant) (n : ℕ) (words : List ℕ
       where
         go : (b : Bool) → (k == key) ≡ b → Inserts 8 ((if b then (store slot (leaf_word key value) >> give (reply.Some old))
             else (pair_in c (r ∷ []) slot (keys_differ_at k key)
-                (record { byte = slice_index (key_bytes k) (keys_differ_at k key); child = Leaf k old })
+            (record { byte = slice_index (key_bytes k) (keys_differ_at k key); child = Leaf k old })
             >> give reply.None)) >>= λ q. unlock r >> give q) now
         go true e =
             let own : k ≡ key = eqb-true k key e in
@@ -211,6 +223,6 @@ module _ (g : Given) (s : Shape) (variant : Variant) (n : ℕ) (words : List ℕ
             let at_i : keys_differ_at k key ≡ i = ap (λ o. unwrap_or o 0) is in
             let differ = is ∙ ap Some (sym at_i) in
             pair-in (keys_differ_at k key) (slice_index (key_bytes k) (keys_differ_at k key)) (Leaf k old) on (differ, refl) old_small
-                (k_small, old_small)
+            (k_small, old_small)
             (key_byte-small k (keys_differ_at k key)) (first-differs (key_bytes k) (key_bytes key) (keys_differ_at k key) differ)
             (((g.ways s words m key r.base r.kind x rest.tree means leads).1 k old on).1 other)

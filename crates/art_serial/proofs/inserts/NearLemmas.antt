@@ -15,8 +15,8 @@ use Rattle.art_core.specs.Meaning.{Reached}
 use Rattle.art_serial.specs.trees.Trees.{IsAtRest, SameRow}
 use Rattle.art_serial.proofs.alone.PlaceLemmas.{Sits, sits-part, sits-inside}
 use Rattle.art_serial.proofs.alone.LikeLemmas.{Like, IsVersion, Nothing, sits}
-use Rattle.art_serial.proofs.alone.RowRunLemmas.{with_unlocked}
 use Rattle.art_serial.proofs.alone.VersionLemmas.{released-live, released-free, released-small}
+use Rattle.art_serial.specs.alone.Alone.{unlocked_rows}
 
 module _ (s : Shape) (n : ℕ) (words : List ℕ) (rest : IsAtRest s n words) where
   -- the word is the version of a row that is reached: of a live one, unless it is dead, and unlocked, unless it is held
@@ -116,7 +116,7 @@ module _ (s : Shape) (n : ℕ) (words : List ℕ) (rest : IsAtRest s n words) wh
       go (inr (inr o)) = absurd (ne o)
       go (inr (inl v)) =
           let (kinds, numbers, bases, places) =
-              sits-part s base (base + j) j 0 kind v.kind (sits s n words rest reached) (sits s n words rest v.reached) high
+          sits-part s base (base + j) j 0 kind v.kind (sits s n words rest reached) (sits s n words rest v.reached) high
           (omega (arith, two-words v.kind)) (omega arith) in
           absurd (omega (arith, places, low))
 
@@ -167,11 +167,11 @@ module _ (s : Shape) (n : ℕ) (words : List ℕ) (rest : IsAtRest s n words) wh
 
   -- they are unlocked
   pub near-unlocked : {out dead : ℕ → Type 0} (rows : List Row) {now : List ℕ} → AreHeld rows → Near out (Among rows) dead now
-      → Near out Nothing dead (with_unlocked rows now)
+      → Near out Nothing dead (unlocked_rows rows now)
   near-unlocked [] held near = near
   near-unlocked {out} {dead} (r ∷ rows) {now} (h, held) near =
       near-unlocked rows held (near-version {held2 = Among rows} {dead2 = dead} (released_word r.kept) near h.reached
-          (released-small r.kept)
+      (released-small r.kept)
       (λ no_one. released-live r.kept h.live) (λ no_one. released-free r.kept h.free) go (λ w d ne. d))
     where
       go : (w : ℕ) → (w ≡ r.base) ⊎ Among rows w → (w ≡ r.base → ⊥) → Among rows w
@@ -180,7 +180,7 @@ module _ (s : Shape) (n : ℕ) (words : List ℕ) (rest : IsAtRest s n words) wh
 
   -- no row's words behind its version change where rows are unlocked
   pub unlocked-other : (rows : List Row) (now : List ℕ) → AreHeld rows → (w : ℕ) → ((kind : Kind) → Sits s w kind → ⊥)
-      → slice_index (with_unlocked rows now) w ≡ slice_index now w
+      → slice_index (unlocked_rows rows now) w ≡ slice_index now w
   unlocked-other [] now held w plain = refl
   unlocked-other (r ∷ rows) now (h, held) w plain =
       unlocked-other rows (slice_set now r.base (released_word r.kept)) held w plain
@@ -194,5 +194,5 @@ module _ (s : Shape) (n : ℕ) (words : List ℕ) (rest : IsAtRest s n words) wh
       omega (arith, places, low)
 
   pub unlocked-row : (rows : List Row) (now : List ℕ) → AreHeld rows → (base : ℕ) (kind : Kind) → Sits s base kind
-      → SameRow now (with_unlocked rows now) base kind
+      → SameRow now (unlocked_rows rows now) base kind
   unlocked-row rows now held base kind x = λ j low high. unlocked-other rows now held (base + j) (behind-plain base j kind x low high)

@@ -5,8 +5,9 @@ use Rattle.std.proofs.Common.{slice_set}
 use Rattle.std.proofs.Common.{Option, Some, None}
 use Rattle.std.proofs.Common.{Bool, true, false, refl, sym, ap, ◌∙◌, subst, arith, eqb-true, if◌then◌else◌}
 use Rattle.std.specs.Prelude.{unwrap_or}
-use Rattle.std.proofs.lemmas.Bool.{eqb-false}
+use Rattle.std.proofs.lemmas.Bool.{eqb-false, lt-leb}
 use Rattle.std.proofs.lemmas.List.{get_or-set_other}
+use Rattle.std.proofs.lemmas.Option.{none-some}
 use Rattle.events.specs.declared.event.Call.TheVariants.{Insert}
 use Rattle.events.specs.declared.event.Reply.{Reply}
 use Rattle.events.specs.declared.event.Reply.TheVariants as reply
@@ -29,11 +30,11 @@ use Rattle.art_steps.proofs.GuardLemmas.{insert_from_optimistic-body}
 use Rattle.art_core.specs.Meaning.{Reached, Means, root, below, child_in, child_on, slot_of}
 use Rattle.art_core.specs.Forms.{level_in, path_in}
 use Rattle.art_serial.specs.trees.Trees.{IsAtRest, LeadsTo}
-use Rattle.art_serial.specs.alone.Alone.{Comes, Ends}
+use Rattle.art_serial.specs.alone.Alone.{Comes, Ends, unlocked_rows}
 use Rattle.art_serial.specs.alone.Finding.{keys_in_row, count_in_row, found_of_slot}
 use Rattle.art_serial.proofs.alone.AloneLemmas.{give-comes, bind-comes, then-comes, ends-then}
 use Rattle.art_serial.proofs.alone.AloneLemmas.{load-comes, over-comes, over_none-comes}
-use Rattle.art_serial.proofs.alone.RowRunLemmas.{unlock-comes, wait-comes, check_of-comes, take_row-comes, with_unlocked}
+use Rattle.art_serial.proofs.alone.RowRunLemmas.{unlock-comes, wait-comes, check_of-comes, take_row-comes}
 use Rattle.art_serial.proofs.alone.FindingLemmas.{find-comes}
 use Rattle.art_serial.proofs.alone.LikeLemmas.{Like, Nothing, sits, like-start, like-free, like-live}
 use Rattle.art_serial.proofs.alone.VersionLemmas.{locked-live, locked-small}
@@ -50,7 +51,6 @@ use Rattle.art_serial.proofs.inserts.ShortLemmas.{bind-few, as-few, wait-few, ta
 use Rattle.art_serial.proofs.inserts.InsertEndLemmas.{Given, Inserts, ended, within, after-part, same-part, pair-in, ends-in, first-differs}
 use Rattle.art_serial.proofs.inserts.LevelLemmas.{differ-behind, count-most}
 use Rattle.art_serial.proofs.trees.Bytes.{one_more}
-use Rattle.art_serial.proofs.words.ByteLemmas.{not_less_equal}
 
 module _ (g : Given) (s : Shape) (variant : Variant) (n : ℕ) (words : List ℕ) (rest : IsAtRest s n words) (few : n < 4611686018427387904)
     (bounded : table_words s < 2305843009213693952) (m : Contents)
@@ -106,7 +106,7 @@ module _ (g : Given) (s : Shape) (variant : Variant) (n : ℕ) (words : List ℕ
       → Near s n words rest Nothing (Among s n words rest (r ∷ rows)) Nothing (taken r now)
   take-near rows r a now near =
       near-version s n words rest {held2 = Among s n words rest (r ∷ rows)} {dead2 = Nothing} (locked_word r.kept) near a.leads.reached
-          (locked-small r.kept)
+      (locked-small r.kept)
       (λ h. locked-live r.kept (is-held r a).live) (λ no_one. absurd (no_one (inl refl))) (λ w h ne. inr h) (λ w d ne. d)
 
   none-near : Near s n words rest Nothing (Among s n words rest []) Nothing words
@@ -155,17 +155,17 @@ module _ (g : Given) (s : Shape) (variant : Variant) (n : ℕ) (words : List ℕ
   unfolding put
   put-row r a none room =
       let (last, comes, outcome) = put-outcome g.puts g.put_written g.read s variant n words rest m means key value key_small
-          value_small r (taken r words)
+      value_small r (taken r words)
       (is-held r a)
       (one-near r a) (byte_at c r.level) a.leads (byte r) none room
       ((g.ways s words m key r.base r.kind (byte_at c r.level) rest.tree means a.leads).0 (ap (λ o. child_in s words o) none)) in
       after-part g s variant n words rest few bounded m means key value key_small value_small (take-comes [] r a)
-          (take-few [] r a (omega arith))
+      (take-few [] r a (omega arith))
       (ended g s variant n words rest few bounded m means key value key_small value_small 41
       (then-short (put-short c r (keys-of r) (count-of r) (omega (arith, room))) (then-short (unlock-short r) (give-short reply.None)))
-      reply.None (with_unlocked (r ∷ []) last)
+      reply.None (unlocked_rows (r ∷ []) last)
       (inl (then-comes {n = unlock r >> give reply.None} comes
-          (then-comes {n = give reply.None} (unlock-comes r last) (give-comes reply.None _)))) outcome)
+      (then-comes {n = give reply.None} (unlock-comes r last) (give-comes reply.None _)))) outcome)
 
   abbrev grow-part : Row → Row → ℕ → List ℕ → ℕ → Part Reply
   grow-part p r slot keys count = take_above c (p ∷ []) >>= λ above. take_row c above r >>= λ held. grow c above slot held keys count
@@ -178,7 +178,7 @@ module _ (g : Given) (s : Shape) (variant : Variant) (n : ℕ) (words : List ℕ
       after-part g s variant n words rest few bounded m means key value key_small value_small {f = λ above. take_row c above r >>= λ held.
       grow c above slot held (keys-of r) (count-of r) >> give reply.None} above-comes above-few
       (after-part g s variant n words rest few bounded m means key value key_small value_small
-          {f = λ held. grow c (p ∷ []) slot held (keys-of r)
+      {f = λ held. grow c (p ∷ []) slot held (keys-of r)
       (count-of r) >> give reply.None}
       row-comes row-few
       (go done.comes))
@@ -251,7 +251,7 @@ module _ (g : Given) (s : Shape) (variant : Variant) (n : ℕ) (words : List ℕ
   below-part r a d part now more i =
       same-part g s variant n words rest few bounded m means key value key_small value_small
       (λ again after got. ap (λ (b : Bool). (if b then start_again else part) again after got)
-          (not_less_equal d r.level (omega (arith, more, a.level)))) i
+      (lt-leb d r.level (omega (arith, more, a.level)))) i
 
   -- ---- the row below
 
@@ -260,7 +260,7 @@ module _ (g : Given) (s : Shape) (variant : Variant) (n : ℕ) (words : List ℕ
   unfolding step_down
   down-comes r q k kept reached =
       bind-comes {f = λ v. check_of c r >> (load (info_at q) >>= λ info. give (row_of q k info v))}
-          (wait-comes q words (free-at reached) (live-at reached))
+      (wait-comes q words (free-at reached) (live-at reached))
       (then-comes {n = load (info_at q) >>= λ info. give (row_of q k info (slice_index words q))} (check_of-comes c r words kept)
       (bind-comes {f = λ info. give (row_of q k info (slice_index words q))} (load-comes (info_at q) words)
       (give-comes (row_of q k (slice_index words (info_at q)) (slice_index words q)) words)))
@@ -305,7 +305,7 @@ module _ (g : Given) (s : Shape) (variant : Variant) (n : ℕ) (words : List ℕ
       → Does (704 + 10 * fuel) (step_down c r b k >>= λ q. insert_below c (insert_from c) r slot q (path_differs_at c q)) words
   row fuel more r a enough slot b k at on =
       within g s variant n words rest few bounded m means key value key_small value_small (704 + 10 * fuel)
-          (after-part g s variant n words rest few bounded m means key value key_small value_small
+      (after-part g s variant n words rest few bounded m means key value key_small value_small
       {f = λ q. insert_below c (insert_from c) r slot q (path_differs_at c q)}
       (down-comes r b k a.kept reached) (down-few r b k a.kept reached) (go (path_differs_at c found) refl)) (omega arith)
     where
@@ -361,7 +361,7 @@ module _ (g : Given) (s : Shape) (variant : Variant) (n : ℕ) (words : List ℕ
           let (k_small, old_small) = g.leaves s words p.row.base p.row.kind (byte_at c p.row.level) k old rest.small at in
           let (i, is) = g.part k key k_small key_small (eqb-false k key other) in
           let differ : first_difference (key_bytes k) (key_bytes key) ≡ Some (keys_differ_at k key) = is
-              ∙ ap Some (sym (ap (λ o. unwrap_or o 0) is)) in
+          ∙ ap Some (sym (ap (λ o. unwrap_or o 0) is)) in
           below-part p.row a (keys_differ_at k key) (insert_leaf c p.row slot (Leaf k old)) words
           (differ-behind (level_in words p.row.base p.row.kind + 1) (key_bytes k) (key_bytes key) (keys_differ_at k key)
           (rest.tree.leaf p.row.base (byte_at c p.row.level) k old p.row.kind a.leads.reached (byte p.row) at ∙ sym (alike p.row a))
@@ -378,11 +378,8 @@ module _ (g : Given) (s : Shape) (variant : Variant) (n : ℕ) (words : List ℕ
           (count-of p.row) >> give reply.None) words
       full [] kind all = absurd (full_has p.row.kind kind none)
         where
-          some_none : {i : ℕ} → ◌≡◌ {A = Option ℕ} (Some i) None → ⊥
-          some_none h = cc
-
           full_has : (k : Kind) → k ≡ Full → slot_of words p.row.base k (byte_at c p.row.level) ≡ None → ⊥
-          full_has k is h = some_none (subst (λ k. slot_of words p.row.base k (byte_at c p.row.level) ≡ None) is h)
+          full_has k is h = none-some _ (sym (subst (λ k. slot_of words p.row.base k (byte_at c p.row.level) ≡ None) is h))
       full (q ∷ []) h all = grow-row q p.row p.slot a h none all
       full (q ∷ (q2 ∷ rows)) h all = absurd h
 
@@ -432,7 +429,7 @@ module _ (g : Given) (s : Shape) (variant : Variant) (n : ℕ) (words : List ℕ
   unfolding insert
   inserts-optimistic =
       within g s variant n words rest few bounded m means key value key_small value_small 1000
-          (after-part g s variant n words rest few bounded m means key value key_small value_small
+      (after-part g s variant n words rest few bounded m means key value key_small value_small
       {f = λ v. insert_from c (record { row = root_row c v; above = []; slot = root_base s })}
       (wait-comes (root_base s) words (free-at {kind = Full} root) (live-at {kind = Full} root))
       (wait-few (root_base s) words (free-at {kind = Full} root) (live-at {kind = Full} root))

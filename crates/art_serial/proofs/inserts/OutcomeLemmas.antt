@@ -20,11 +20,12 @@ use Rattle.art_serial.specs.trees.Trees.{IsAtRest, SameRow, SameTreesAreOne, Has
 use Rattle.art_serial.proofs.alone.PlaceLemmas.{Sits, sits-inside}
 use Rattle.art_serial.proofs.alone.SlotLemmas.{slot-is, slot-same, row-keys}
 use Rattle.art_serial.proofs.alone.LikeLemmas.{Nothing, sits}
-use Rattle.art_serial.proofs.alone.RowRunLemmas.{with_unlocked, with_claim}
+use Rattle.art_serial.proofs.alone.RowRunLemmas.{with_claim}
 use Rattle.art_serial.specs.inserts.Settled.{IsInside, IsNew, IsReleased, IsAfterInsert}
 use Rattle.art_serial.proofs.inserts.NearLemmas.{Near, Version, near-out, near-plain, near-live, near-behind, near-unlocked, Among, AreHeld}
 use Rattle.art_serial.proofs.inserts.NearLemmas.{unlocked-other}
 use Rattle.art_serial.proofs.inserts.SettledLemmas.{settled-words-rest}
+use Rattle.art_serial.specs.alone.Alone.{unlocked_rows}
 
 -- ---- words and rows
 
@@ -48,7 +49,7 @@ pub child-same : (s : Shape) (words later : List ℕ) (base : ℕ) (kind : Kind)
     → child_on s later base kind x ≡ child_on s words base kind x
 child-same s words later base kind x byte same =
     ap (λ o. child_in s later o) (slot-same words later base kind x byte (row-keys words later base kind same))
-        ∙ go (slot_of words base kind x) refl
+    ∙ go (slot_of words base kind x) refl
   where
     early : (k : Kind) (j : ℕ) → 2 ≤ j → 1 ≤ j
     early k j h = omega (arith, h)
@@ -58,7 +59,7 @@ child-same s words later base kind x byte same =
     go (Some slot) e =
         let at = slot-is words base kind x slot byte e in
         ap (λ w. child_of s w) (ap (λ n. slice_index later n) at.is
-            ∙ (same at.place (early kind at.place (omega (arith, first kind, at.low))) at.high
+        ∙ (same at.place (early kind at.place (omega (arith, first kind, at.low))) at.high
         ∙ ap (λ n. slice_index words n) (sym at.is)))
       where
         first : (k : Kind) → 2 ≤ first_child k
@@ -154,17 +155,20 @@ module _ (s : Shape) (n : ℕ) (words : List ℕ) (rest : IsAtRest s n words) wh
     -- A claim found no row: the rows that were held are unlocked.
     pub refused : SameTreesAreOne → n < 4611686018427387904 → (kind : Kind) (rows : List Row) (now : List ℕ) → AreHeld s n words rest rows
         → Near s n words rest Nothing (Among s n words rest rows) Nothing now
-        → Outcome reply.Refused (with_unlocked rows (with_claim now kind))
+        → Outcome reply.Refused (unlocked_rows rows (with_claim now kind))
     refused trees few kind rows now held near = record {
       legal = inl refl;
       rests = settled-words-rest s n words later rest (settle-claimed kind later near3 count (λ w e. absurd e)) hung.tree
-          (λ b k r. inl ((hung.rows b k).0 r, near-live s n words rest near3 ((hung.rows b k).0 r) (λ h. h)
-              (λ o. out-base b k ((hung.rows b k).0 r) o)));
+          (λ b k r. inl (
+            (hung.rows b k).0 r,
+            near-live s n words rest near3 ((hung.rows b k).0 r) (λ h. h)
+                (λ o. out-base b k ((hung.rows b k).0 r) o),
+          ));
       meant = hung.means;
     }
       where
         later : List ℕ
-        later = with_unlocked rows (with_claim now kind)
+        later = unlocked_rows rows (with_claim now kind)
 
         new : ℕ
         new = (slice_index now (claims_of kind) + 1) % 18446744073709551616
@@ -177,7 +181,7 @@ module _ (s : Shape) (n : ℕ) (words : List ℕ) (rest : IsAtRest s n words) wh
         near2 : Near s n words rest (Claimed kind Nothing) (Among s n words rest rows) Nothing (with_claim now kind)
         near2 = near-out s n words rest near (length-set now (claims_of kind) new)
             (All-set (λ w. w < 18446744073709551616) now (claims_of kind) new (omega arith) near.small)
-                (λ w. set w (w == claims_of kind) refl)
+            (λ w. set w (w == claims_of kind) refl)
             (λ w o. absurd o)
 
         near3 : Near s n words rest (Claimed kind Nothing) Nothing Nothing later

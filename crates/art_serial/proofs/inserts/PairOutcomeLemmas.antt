@@ -1,7 +1,7 @@
 -- PAIR, of an insert that runs alone on words like those at rest: a pair is hung, or the call is refused.
 use Rattle.std.proofs.Common.{◌≡◌, ◌≢◌, ◌⊎◌, inl, inr, ℕ, ◌+◌, ◌<◌, ◌≤◌, ◌==◌, List, take, slice_index, Bool, true, false, Some, None}
 use Rattle.std.proofs.Common.{refl, sym, ap, ◌∙◌, subst, arith, eqb-true, nat_lt}
-use Rattle.std.proofs.lemmas.Bool.{eqb-false}
+use Rattle.std.proofs.lemmas.Bool.{eqb-false, ltb-true}
 use Rattle.std.proofs.lemmas.List.Elements.{All-take}
 use Rattle.events.specs.declared.event.Call.TheVariants.{Insert}
 use Rattle.events.specs.declared.event.Reply.TheVariants as reply
@@ -26,9 +26,9 @@ use Rattle.art_serial.specs.words.Laws.{WordsAreReadBack, WordsAreSmall}
 use Rattle.art_serial.specs.words.Stored.{IsStored, IsShort}
 use Rattle.art_serial.specs.writes.Writes.{HasPair, IsOutside}
 use Rattle.art_serial.specs.writes.Laws as writes
-use Rattle.art_serial.specs.alone.Alone.{Comes, Ends}
+use Rattle.art_serial.specs.alone.Alone.{Comes, Ends, unlocked_rows}
 use Rattle.art_serial.proofs.alone.AloneLemmas.{ends-bind}
-use Rattle.art_serial.proofs.alone.RowRunLemmas.{with_unlocked, with_claim, claim-ends}
+use Rattle.art_serial.proofs.alone.RowRunLemmas.{with_claim, claim-ends}
 use Rattle.art_serial.proofs.alone.PlaceLemmas.{Sits, sits-part, sits-inside, sits-kind_at}
 use Rattle.art_serial.proofs.alone.SlotLemmas.{slot-is, form-same, row-keys, IsChildWord}
 use Rattle.art_serial.proofs.alone.LikeLemmas.{Nothing, sits}
@@ -39,14 +39,13 @@ use Rattle.art_serial.proofs.inserts.OutcomeLemmas.{split, child-same, no-row, C
 use Rattle.art_serial.proofs.inserts.HungLemmas.{word-changes}
 use Rattle.art_serial.proofs.inserts.SmallLemmas.{parts-level, taken-long}
 use Rattle.art_serial.proofs.inserts.SettledLemmas.{settled-words-rest}
-use Rattle.art_serial.proofs.words.KeyLemmas.{is_less}
 use Rattle.art_serial.proofs.words.ByteLemmas.{key_bytes-small}
 
 module _ (trees : SameTreesAreOne) (hangs : PairsAreHung) (written : writes.PairsAreWritten) (read : WordsAreReadBack)
     (sized : WordsAreSmall) (s : Shape)
     (variant : Variant)
     (n : ℕ) (words : List ℕ) (rest : IsAtRest s n words) (few : n < 4611686018427387904)
-        (bounded : table_words s < 2305843009213693952) (m : Contents)
+    (bounded : table_words s < 2305843009213693952) (m : Contents)
     (means : Means s words m) (key value : ℕ)
     (key_small : key < 4294967296) (value_small : value < 1073741824) where
   abbrev c : Setting
@@ -55,7 +54,7 @@ module _ (trees : SameTreesAreOne) (hangs : PairsAreHung) (written : writes.Pair
   -- a part of an insert runs alone to a value, or the call is refused, and what is left when the rows are unlocked is an outcome
   pub record Hangs (part : Part (Unit {0})) (rows : List Row) (now : List ℕ) : Type 0 where
     pub after : List ℕ
-    pub comes : (Comes part now tt after × Outcome s n words rest m means key value reply.None (with_unlocked rows after))
+    pub comes : (Comes part now tt after × Outcome s n words rest m means key value reply.None (unlocked_rows rows after))
         ⊎ (Ends part now reply.Refused after × Outcome s n words rest m means key value reply.Refused after)
 
   module _ (rows : List Row) (now : List ℕ) (held : AreHeld s n words rest rows)
@@ -63,7 +62,7 @@ module _ (trees : SameTreesAreOne) (hangs : PairsAreHung) (written : writes.Pair
       (base : ℕ) (kind : Kind) (x slot d a : ℕ) (child : Child) (leads : LeadsTo s words key base kind x) (byte : x < 256)
       (at : slot_of words base kind x ≡ Some slot) (hanging : child_on s words base kind x ≡ child) (parts : Parts words key d a child)
       (stored : IsStored s child) (short : IsShort child) (a_byte : a < 256) (apart : a ≢ slice_index (key_bytes key) d)
-          (absent : value_at m key ≡ None) where
+      (absent : value_at m key ≡ None) where
     abbrev old : Under
     old = record { byte = a; child = child }
 
@@ -71,14 +70,14 @@ module _ (trees : SameTreesAreOne) (hangs : PairsAreHung) (written : writes.Pair
     was = near-plain s n words rest (claims_of Four) near (no-row s n words rest (claims_of Four) (claims-few Four)) (λ o. o)
 
     pair-ends : (new : Under) → nat_lt (slice_index now (claims_of Four)) (rows_of s Four) ≡ false
-        → Ends (pair c rows d old new) now reply.Refused (with_unlocked rows (with_claim now Four))
+        → Ends (pair c rows d old new) now reply.Refused (unlocked_rows rows (with_claim now Four))
     unfolding pair
     pair-ends new e = ends-bind {A = ℕ} {B = ℕ} (claim-ends c rows Four now e)
 
     full : nat_lt (slice_index now (claims_of Four)) (rows_of s Four) ≡ false → Hangs (pair_in c rows slot d old) rows now
     unfolding pair_in
     full e = record {
-      after = with_unlocked rows (with_claim now Four);
+      after = unlocked_rows rows (with_claim now Four);
       comes = inr (
         ends-bind {A = ℕ} {B = Unit {0}} {f = λ word. store slot word}
             (pair-ends (record { byte = byte_at c d; child = Leaf key value }) e),
@@ -125,7 +124,7 @@ module _ (trees : SameTreesAreOne) (hangs : PairsAreHung) (written : writes.Pair
 
       run : (after : List ℕ) × Comes (pair_in c rows slot d old) now tt after
           × HasPair s now after row slot d (take d (key_bytes key)) old
-              (record { byte = slice_index (key_bytes key) d; child = Leaf key value })
+          (record { byte = slice_index (key_bytes key) d; child = Leaf key value })
       run = written c rows slot d old now key value refl value_small stored a_byte apart low (omega (arith, near.long)) inside.0
           (omega (arith, inside.1, near.long)) slot-outside
 
@@ -137,7 +136,7 @@ module _ (trees : SameTreesAreOne) (hangs : PairsAreHung) (written : writes.Pair
       has = run.2
 
       abbrev later : List ℕ
-      later = with_unlocked rows after
+      later = unlocked_rows rows after
 
       -- what was written beside the count of claims
       abbrev Extra : ℕ → Type 0
@@ -174,7 +173,7 @@ module _ (trees : SameTreesAreOne) (hangs : PairsAreHung) (written : writes.Pair
       near2 = near-out s n words rest near has.long
           (has.small near.small short (key_small, value_small) (omega (arith, bounded, (sits-inside s row 0 Four row-sits (omega arith)).1))
           (sized.info Four d (take d (key_bytes key)) (parts-level words key d a child parts)
-              (taken-long d key (parts-level words key d a child parts))
+          (taken-long d key (parts-level words key d a child parts))
           (All-take (λ x. x < 256) d (key_bytes key) (key_bytes-small key)))) changed (λ w o. absurd o)
 
       near3 : Near s n words rest (Claimed s n words rest Four Extra) Nothing Nothing later
@@ -204,7 +203,7 @@ module _ (trees : SameTreesAreOne) (hangs : PairsAreHung) (written : writes.Pair
       base-plain : (b : ℕ) (k : Kind) → Reached s words b k → b + 0 ≡ slot → ⊥
       base-plain b k r e =
           let (kinds, numbers, bases, places) =
-              sits-part s b base 0 is-slot.place k kind (sits s n words rest r) (sits s n words rest leads.reached)
+          sits-part s b base 0 is-slot.place k kind (sits s n words rest r) (sits s n words rest leads.reached)
           (omega (arith, two-words k)) is-slot.high (e ∙ is-slot.is) in
           omega (arith, places, early)
 
@@ -235,7 +234,7 @@ module _ (trees : SameTreesAreOne) (hangs : PairsAreHung) (written : writes.Pair
           (word-changes s n words rest later base slot (row_word row) x kind leads.reached byte at
           (λ b k r j one high ne. near-behind s n words rest near3 r j one high (not-written b k r j high ne))
           (unlocked-other s n words rest rows after held slot slot-plain ∙ has.hangs) (rest.tree.form base kind leads.reached)
-              (ChildRow row Four)
+          (ChildRow row Four)
           (read.child s (ChildRow row Four) (sits-kind_at s row Four row-sits)))
 
       old-or-new : (b : ℕ) (k : Kind) → Reached s words b k ⊎ ((b ≡ row) × (k ≡ Four))
@@ -244,7 +243,7 @@ module _ (trees : SameTreesAreOne) (hangs : PairsAreHung) (written : writes.Pair
         r,
         near-live s n words rest near3 r (λ h. h)
             (λ o. not-written b k r 0 (omega (arith, two-words k)) (base-plain b k r)
-                (subst (λ w. Claimed s n words rest Four Extra w) (omega arith) o)),
+            (subst (λ w. Claimed s n words rest Four Extra w) (omega arith) o)),
       )
       old-or-new b k (inr (is, kinds)) = inr (subst (λ b. IsNewRow s words later b k) (sym is)
           (subst (λ k. IsNewRow s words later row k) (sym kinds) new))
@@ -268,5 +267,5 @@ module _ (trees : SameTreesAreOne) (hangs : PairsAreHung) (written : writes.Pair
     hangs-pair = go (nat_lt (slice_index now (claims_of Four)) (rows_of s Four)) refl
       where
         go : (b : Bool) → nat_lt (slice_index now (claims_of Four)) (rows_of s Four) ≡ b → Hangs (pair_in c rows slot d old) rows now
-        go true e = hung (is_less (slice_index now (claims_of Four)) (rows_of s Four) e)
+        go true e = hung (ltb-true (slice_index now (claims_of Four)) (rows_of s Four) e)
         go false e = full e

@@ -22,9 +22,8 @@ use Rattle.art_serial.specs.trees.Trees.{IsAtRest, LeadsTo, IsFree, HasRows, Cha
 use Rattle.art_serial.specs.words.Laws.{WordsAreReadBack}
 use Rattle.art_serial.specs.writes.Writes.{HasPut}
 use Rattle.art_serial.specs.writes.Laws as writes
-use Rattle.art_serial.specs.alone.Alone.{Comes}
+use Rattle.art_serial.specs.alone.Alone.{Comes, unlocked_rows}
 use Rattle.art_serial.specs.alone.Finding.{keys_in_row, count_in_row}
-use Rattle.art_serial.proofs.alone.RowRunLemmas.{with_unlocked}
 use Rattle.art_serial.proofs.alone.PlaceLemmas.{Sits, sits-part, sits-inside}
 use Rattle.art_serial.proofs.alone.SlotLemmas.{slot-is, form-same, row-keys, slot-same, keys-same, count-same, IsChildWord}
 use Rattle.art_serial.proofs.alone.LikeLemmas.{Nothing, sits}
@@ -37,7 +36,7 @@ use Rattle.art_serial.proofs.inserts.SettledLemmas.{settled-words-rest}
 
 module _ (puts : LeavesArePut) (written : writes.PutsWriteLeaves) (read : WordsAreReadBack) (s : Shape) (variant : Variant)
     (n : ℕ) (words : List ℕ) (rest : IsAtRest s n words) (m : Contents) (means : Means s words m) (key value : ℕ)
-        (key_small : key < 4294967296)
+    (key_small : key < 4294967296)
     (value_small : value < 1073741824) where
   abbrev c : Setting
   c = record { shape = s; variant = variant; call = Insert key value }
@@ -53,14 +52,17 @@ module _ (puts : LeavesArePut) (written : writes.PutsWriteLeaves) (read : WordsA
       plain b k r e =
           let (b2, l, j, r2, low, high, is) = within b e in
           let (kinds, numbers, bases, places) =
-              sits-part s b b2 0 j k l (sits s n words rest r) (sits s n words rest r2) (omega (arith, two-words k)) high
+          sits-part s b b2 0 j k l (sits s n words rest r) (sits s n words rest r2) (omega (arith, two-words k)) high
           (omega (arith, is)) in
           omega (arith, places, low)
 
       rests : IsAtRest s (n + 1) later
       rests = settled-words-rest s n words later rest (settle-plain s n words rest later near within) hung.tree
-          (λ b k r. inl ((hung.rows b k).0 r, near-live s n words rest near ((hung.rows b k).0 r) (λ h. h)
-              (plain b k ((hung.rows b k).0 r))))
+          (λ b k r. inl (
+            (hung.rows b k).0 r,
+            near-live s n words rest near ((hung.rows b k).0 r) (λ h. h)
+                (plain b k ((hung.rows b k).0 r)),
+          ))
 
       go : (o : Option ℕ) → value_at m key ≡ o → Outcome s n words rest m means key value (value_reply o) later
       go None e = record { legal = inr (ap value_reply (sym e)); rests = rests; meant = hung.means }
@@ -81,7 +83,7 @@ module _ (puts : LeavesArePut) (written : writes.PutsWriteLeaves) (read : WordsA
       stored = slice_set now slot (leaf_word key value)
 
       abbrev leaf_later : List ℕ
-      leaf_later = with_unlocked (r ∷ []) stored
+      leaf_later = unlocked_rows (r ∷ []) stored
 
       set : (w : ℕ) (b : Bool) → (w == slot) ≡ b → (slice_index stored w ≡ slice_index now w) ⊎ (w ≡ slot)
       set w true e = inr (eqb-true w slot e)
@@ -98,15 +100,19 @@ module _ (puts : LeavesArePut) (written : writes.PutsWriteLeaves) (read : WordsA
           (subst (λ w. Sits s w k) is-slot.is y)
 
       inside : slot < length now
-      inside = omega (arith, (sits-inside s r.base is-slot.place r.kind (sits s n words rest leads.reached) is-slot.high).1,
-          is-slot.is, near.long)
+      inside = omega (
+        arith,
+        (sits-inside s r.base is-slot.place r.kind (sits s n words rest leads.reached) is-slot.high).1,
+        is-slot.is,
+        near.long,
+      )
 
       leaf-hung : HasRows s words leaf_later (put key value m)
       leaf-hung = puts s words leaf_later m key value r.base r.kind x rest.tree means leads free
           (word-changes s n words rest leaf_later r.base slot (leaf_word key value) x r.kind leads.reached byte at
           (λ b k q j one high ne. near-behind s n words rest leaf-near q j one high ne)
           (unlocked-other s n words rest (r ∷ []) stored (held, tt) slot slot-plain
-              ∙ get_or-set_same now slot (leaf_word key value) 0 inside)
+          ∙ get_or-set_same now slot (leaf_word key value) 0 inside)
           (rest.tree.form r.base r.kind leads.reached) (Leaf key value) (read.child s (Leaf key value) value_small))
 
       -- The leaf is stored in the slot, and the row is unlocked.
@@ -148,7 +154,7 @@ module _ (puts : LeavesArePut) (written : writes.PutsWriteLeaves) (read : WordsA
       has-put = run.2
 
       abbrev put_later : List ℕ
-      put_later = with_unlocked (r ∷ []) after
+      put_later = unlocked_rows (r ∷ []) after
 
       -- the keys and the children of the row
       abbrev Extra : ℕ → Type 0
@@ -180,7 +186,7 @@ module _ (puts : LeavesArePut) (written : writes.PutsWriteLeaves) (read : WordsA
       put-changes = record {
         others = λ b k q ne j low high. near-behind s n words rest put-near q j low high
             (λ (i, two, li, e). ne (sits-part s b r.base j i k r.kind (sits s n words rest q)
-                (sits s n words rest leads.reached) high li e).2);
+            (sits s n words rest leads.reached) high li e).2);
         info = near-behind s n words rest put-near leads.reached 1 (omega arith) (two-words r.kind)
             (λ (i, two, li, e). omega (arith, two, e));
         form = form-same after put_later r.base r.kind (row-keys after put_later r.base r.kind same-after) has-put.form;
@@ -196,7 +202,7 @@ module _ (puts : LeavesArePut) (written : writes.PutsWriteLeaves) (read : WordsA
       -- The leaf is put in the row, and the row is unlocked.
       pub put-outcome : (last : List ℕ) × Comes (put_in r.kind c r x (keys_in_row words r.base r.kind x) (count_in_row
           (Insert key value) words r.base r.kind x)) now tt last
-          × Outcome s n words rest m means key value reply.None (with_unlocked (r ∷ []) last)
+          × Outcome s n words rest m means key value reply.None (unlocked_rows (r ∷ []) last)
       put-outcome = (
         after,
         subst (λ k. Comes (put_in r.kind c r x (keys_in_row words r.base r.kind x) k) now tt after) count

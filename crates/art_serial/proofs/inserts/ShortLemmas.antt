@@ -61,7 +61,7 @@ stops = record { at = λ got long. tt }
 pub short-comes : {A : Type 0} {k : ℕ} {m : Part A} {words later : List ℕ} {a : A} → Short k m → (h : Comes m words a later) → h.steps ≤ k
 short-comes {k = k} {m = m} {later = later} s h =
     let some = few (m stop (λ a. stop)) (k + 0) (s.rest 0 stop (λ a. stop) stops (λ a. stops))
-        (h.runs stop (λ a. stop) later reply.None (ends refl)) in
+    (h.runs stop (λ a. stop) later reply.None (ends refl)) in
     let all = h.long stop (λ a. stop) later reply.None (ends refl) in
     omega (arith, some, all)
 
@@ -265,7 +265,7 @@ take_row-few c held n words e free h = go (takes_unchecked c.variant) h
         let gives = give-comes (record n { kept = slice_index words n.base }) (with_lock words n.base) in
         let le = as-few h (bind-comes {f = λ v. give (record n { kept = v })} locks gives)
         (bind-few (λ v. give (record n { kept = v })) locks gives (lock-few c.shape n.base words unlocked)
-            (short-comes (give-short _) gives)) in
+        (short-comes (give-short _) gives)) in
         omega (arith, le)
     go false h = let le = short-comes (exchange_row-short (lock_point c.shape n.base) held n (locked_word n.kept)) h in omega (arith, le)
 
@@ -288,7 +288,7 @@ find_indexed-short : (c : Setting) (n : Row) (entries : List ℕ) (e : ℕ) → 
 unfolding find_indexed
 find_indexed-short c n entries e =
     if-short (e == 0) (if-short (is_insert c.call) (bind-short (load-short _) (λ count. give-short _)) (give-short _))
-        (find_child-short c _)
+    (find_child-short c _)
 
 find_in-short : (kind : Kind) (c : Setting) (n : Row) (x : ℕ) → Short 4 (find_in kind c n x)
 unfolding find_in
@@ -333,7 +333,7 @@ put_in-short Four c n x keys count le =
     short-more 40 (then-short (make_room-short c n _ count) (then-short (store-short _ _) (store-short _ _))) (omega (arith, le))
 put_in-short Sixteen c n x keys count le =
     short-more 40 (then-short (make_room-short c n _ count) (then-short (store-short _ _) (then-short (store-short _ _)
-        (then-short (store-short _ _)
+    (then-short (store-short _ _)
     (store-short _ _))))) (omega (arith, le))
 put_in-short FortyEight c n x keys count le =
     short-more 40 (then-short (store-short _ _) (then-short (store-short _ _) (store-short _ _))) (omega arith)
@@ -355,7 +355,7 @@ spread_index-short : (c : Setting) (n : Row) (base j : ℕ) → Short 17 (spread
 unfolding spread_index
 spread_index-short c n base j =
     bind-short (load-short _) (λ w. each-short (spread_entry c n base j (entries_of w)) (spread_entry-short c n base j
-        (entries_of w)) (numbers 0 8))
+    (entries_of w)) (numbers 0 8))
 
 fill-short : (kind : Kind) (c : Setting) (n : Row) (base x : ℕ) (keys : List ℕ) (count : ℕ) → count ≤ capacity kind
     → Short 560 (fill kind c n base x keys count)
@@ -364,18 +364,18 @@ fill-short Four c n base x keys count le =
     let e = total-numbers 2 0 count in
     let f = times-two count in
     short-more 560 (then-short (each-short _ (λ i. copy_child-short c _ _) (numbers 0 count)) (then-short (store-short _ _)
-        (then-short (store-short _ _)
+    (then-short (store-short _ _)
     (then-short (store-short _ _) (store-short _ _))))) (omega (arith, e, f, le))
 fill-short Sixteen c n base x keys count le =
     let e = total-numbers 2 0 count in
     let f = times-two count in
     short-more 560 (then-short (each-short _ (λ i. copy_child-short c _ _) (numbers 0 count)) (then-short (store-short _ _)
     (then-short (each-short (store_index base (keys ++ x ∷ [])) (store_index-short base (keys ++ x ∷ [])) (numbers 0 32))
-        (store-short _ _))))
+    (store-short _ _))))
     (omega (arith, e, f, le))
 fill-short FortyEight c n base x keys count le =
     short-more 560 (then-short (each-short (spread_index c n base) (spread_index-short c n base) (numbers 0 32))
-        (store-short _ _)) (omega arith)
+    (store-short _ _)) (omega arith)
 fill-short Full c n base x keys count le = short-more 560 (give-short tt) (omega arith)
 
 -- a row of the next kind, where one row is held above
@@ -384,5 +384,5 @@ pub grow-short : (c : Setting) (p : Row) (slot : ℕ) (n : Row) (keys : List ℕ
 unfolding grow
 grow-short c p slot n keys count le =
     short-more 600 (bind-short (claim-short c (n ∷ p ∷ []) _) (λ base. then-short (store-short _ _)
-        (then-short (fill-short n.kind c n base _ keys count le)
+    (then-short (fill-short n.kind c n base _ keys count le)
     (then-short (store-short _ _) (then-short (unlock_obsolete-short n) (unlock_all-short (p ∷ []))))))) (omega arith)

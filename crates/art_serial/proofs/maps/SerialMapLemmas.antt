@@ -75,7 +75,7 @@ module _ (same : SameTreesAreOne) (s : Shape) where
         done variant n words m (Remove key) h (seeks s variant (n + 1) words m (Remove key) tree refl h.rest h.means)
     each variant n words m (Replace key expected value) tree few h =
         done variant n words m (Replace key expected value) h
-            (seeks s variant (n + 1) words m (Replace key expected value) tree refl h.rest h.means)
+        (seeks s variant (n + 1) words m (Replace key expected value) tree refl h.rest h.means)
     each variant n words m (Scan low high) tree few h =
         done variant n words m (Scan low high) h (scans s variant (n + 1) words m low high (omega (arith, h.few, few)) h.rest h.means)
     each variant n words m (Insert key value) tree few h =
@@ -101,6 +101,6 @@ serial-is-map opens same seeks scans inserts plan start words schedule s run ful
     let within = run.within.shape in
     let opened = opens plan.shape within.root in
     let k = serial-run-keeps plan start words schedule s (IsMap plan.shape) run serial
-        (is-kept same plan.shape within seeks scans inserts plan.variant)
+    (is-kept same plan.shape within seeks scans inserts plan.variant)
     (record { rest = opened.0; means = opened.1; few = omega arith }) in
     (k.0, k.1.rest.unlocked, k.1.means)

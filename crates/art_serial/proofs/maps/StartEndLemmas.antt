@@ -50,7 +50,7 @@ module _ (opens : TablesOpenAtRest) (same : SameTreesAreOne) (seeks : SeeksAreTh
   end =
       let (rests, means) = opens shape within.shape.root in
       ends-script shape variant (inserts start) (IsMap shape) (is-kept same shape within.shape seeks scans puts variant) (inserts start)
-          (opening shape) []
+      (opening shape) []
       idle refl refl tree (briefs start tree)
       (let few = within.few_calls in omega (arith, few)) (record { rest = rests; means = means; few = omega arith })
 

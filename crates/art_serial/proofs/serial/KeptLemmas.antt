@@ -122,7 +122,7 @@ module _ (shape : Shape) (variant : Variant) (claim : Said) (kept : IsKept shape
   run-keeps done words (more {done = before} {words = earlier} {last = last} call reply run alone) calls few =
       let longer = length-append before ((call, reply) ∷ []) in
       let ih = run-keeps before earlier run (All-front (λ call. IsTrue (is_tree_call call.0)) before ((call, reply) ∷ [])
-          calls) (omega arith) in
+      calls) (omega arith) in
       let m = after_done start before in
       let tree = All-at (λ call. IsTrue (is_tree_call call.0)) ((call, reply) ∷ []) 0 (call, reply)
       (All-back (λ call. IsTrue (is_tree_call call.0)) before ((call, reply) ∷ []) calls) refl in
@@ -151,7 +151,7 @@ serial-keeps plan first schedule s claim made start run serial room kept said =
     let done = alone.0 in
     let h = alone.1 in
     let k = run-keeps plan.shape plan.variant claim kept made first start said done s.words h.run h.calls
-        (let few = h.few in omega arith) in (
+    (let few = h.few in omega arith) in (
       all-legal start (operations (history_of s)) done h.operations k.legal,
       subst (λ n. claim (made + n) s.words (after_calls start (operations (history_of s))))
           (sym (as-long (operations (history_of s)) done h.operations))

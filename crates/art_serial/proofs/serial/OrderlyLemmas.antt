@@ -191,7 +191,7 @@ module _ (plan : Plan) (first : List ℕ) (within : IsPlan plan) (s : State) (p 
           calls = subst AreTreeCalls (sym done)
               (All-append (λ call. IsTrue (is_tree_call call.0)) (calls_of c.before) ((call, reply) ∷ []) c.calls
               (All-cons (λ call. IsTrue (is_tree_call call.0)) (call, reply) [] c.of_tree
-                  (All-nil (λ call. IsTrue (is_tree_call call.0)))));
+              (All-nil (λ call. IsTrue (is_tree_call call.0)))));
         })
 
   pub one-more : (o : Option Call) (m : Move) → q.call ≡ o → move_from plan p q o ≡ Some m → IsOrderly plan first s
@@ -202,7 +202,7 @@ module _ (plan : Plan) (first : List ℕ) (within : IsPlan plan) (s : State) (p 
       go None f l = absurd (none-some m l)
       go (Some call) f l =
           subst (λ m. IsOrderly plan first (moved s p q m)) (same_Some (Invokes call) m l)
-              (begins call e (next-of-tree plan within p q call f) orderly)
+          (begins call e (next-of-tree plan within p q call f) orderly)
   one-more (Some call) m e k orderly = go (act plan.shape plan.variant call q.got) refl k
     where
       go : (t : Turn) → act plan.shape plan.variant call q.got ≡ t → ◌≡◌ {A = Option Move} (Some (move_of t)) (Some m)

@@ -149,14 +149,14 @@ module _ (shape : Shape) (variant : Variant) (script : List Call) where
       let next : next_move plan 0 q ≡ Some (Invokes call) = ap (move_from plan 0 q) free ∙ ap invocation at in
       let run = replies call asks (act shape variant call) refl (λ more. refl) r in
       let answer : next_move plan 0 run.to ≡ Some (Responds reply) = ap (move_from plan 0 run.to) run.asked
-          ∙ ap (λ t. Some (move_of t)) run.replied in
+      ∙ ap (λ t. Some (move_of t)) run.replied in
       record {
         to = after_move 0 (Responds reply) (slice_index last 0) run.to;
         leads = on (moves words q (Invokes call) next) (on run.leads (moves last run.to (Responds reply) answer));
         free = refl;
         begins = begun-more run.to (slice_index last 0, Answer 0 reply)
             ∙ (append-nil (begun run.to) ∙ (ap (λ log. begun (record run.to { log = log })) run.log ∙ begun-more q
-                (slice_index words 0, Invoke 0 call)));
+            (slice_index words 0, Invoke 0 call)));
       }
 
   -- A state in which nothing is left to do, after so many steps at most.
@@ -185,17 +185,17 @@ module _ (shape : Shape) (variant : Variant) (script : List Call) where
     ends-script (call ∷ left) words m q free all tree briefs few said =
         let at = ap (λ calls. slice_get calls (length (begun q))) all ∙ call-at (begun q) left call in
         let may = kept.calls (length (begun q)) (ticked words) m call (All-head (λ call. IsTrue (is_tree_call call)) call left tree)
-            (omega (arith, few))
+        (omega (arith, few))
         (kept.stamps (length (begun q)) words m said) in
         let brief = All-head (IsBrief shape variant claim) call left briefs (length (begun q)) (ticked words) m (omega (arith, few))
         (kept.stamps (length (begun q)) words m said) may.last may.reply may.runs in
         let one = does words q call free at may.runs in
         let more : length (begun one.to) ≡ length (begun q) + 1 = ap (λ calls. length calls) one.begins
-            ∙ length-append (begun q) (call ∷ []) in
+        ∙ length-append (begun q) (call ∷ []) in
         let rest = ends-script left (ticked may.last) (after_reply m call may.reply) one.to one.free
         (all ∙ (sym (append_assoc (begun q) (call ∷ []) left) ∙ ap (λ calls. calls ++ left) (sym one.begins)))
         (All-tail (λ call. IsTrue (is_tree_call call)) call left tree) (All-tail (IsBrief shape variant claim) call left briefs)
-            (omega (arith, few, more))
+        (omega (arith, few, more))
         (subst (λ n. claim n (ticked may.last) (after_reply m call may.reply)) (sym more)
         (kept.stamps (length (begun q) + 1) may.last (after_reply m call may.reply) may.keeps)) in
         let later = rest.few in

@@ -83,8 +83,12 @@ calls-counted (Invoke i c ∷ []) h = absurd h
 calls-counted (Invoke i c ∷ Invoke j b ∷ es) h = absurd h
 calls-counted (Invoke i c ∷ Answer j r ∷ es) h =
     let rest = calls-counted es h.1 in
-    omega (arith, sum_by-cons (λ e. cond (is_invocation e) 1 0) (Invoke i c) (Answer j r ∷ es), sum_by-cons
-        (λ e. cond (is_invocation e) 1 0) (Answer j r) es)
+    omega (
+      arith,
+      sum_by-cons (λ e. cond (is_invocation e) 1 0) (Invoke i c) (Answer j r ∷ es),
+      sum_by-cons
+          (λ e. cond (is_invocation e) 1 0) (Answer j r) es,
+    )
 
 -- they are the history's, in its order
 pub calls-are-done : (i : ℕ) (es : List Event) → IsSerial es → AllZip IsDone (operations_from i es) (calls_of es)

@@ -69,6 +69,6 @@ pub serial-runs-alone : SerialSchedulesRunAlone
 unfolding history_of
 serial-runs-alone plan first schedule s h serial =
     let run = along plan (λ t. IsLogged plan t × IsOrderly plan first t) (orderly-step plan first h.within) schedule
-        (opened_on plan first) s
+    (opened_on plan first) s
     h.gives h.few_steps (opened-logged plan first h.table h.clock_zero, opened-orderly plan first) in
     (calls_of (logged s.processes), runs-alone plan first s run.0 run.1 serial)

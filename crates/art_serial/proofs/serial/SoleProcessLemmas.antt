@@ -86,7 +86,7 @@ module _ (shape : Shape) (variant : Variant) (script : List Call) (first : List 
     begins-call call free next =
         let q' = after_move p (Invokes call) (slice_index s.words 0) q in
         let at : slice_get script (length (begun q)) ≡ Some call =
-            ap (λ i. next_in (slice_get (script ∷ []) i) (length (begun q))) (sym is-zero) ∙ next in
+        ap (λ i. next_in (slice_get (script ∷ []) i) (length (begun q))) (sym is-zero) ∙ next in
         let later = rest-at (begun q) sole.left call (ap (λ l. slice_get l (length (begun q))) (sym sole.begins) ∙ at) in
         record {
           processes = set-sole q';
@@ -190,14 +190,15 @@ unfolding history_of
 sole-runs-script shape variant script first schedule s q run here end =
     let plan = sole_plan shape variant script in
     let h = along plan (HasSole shape variant script first run.within) (sole-step shape variant script first run.within) schedule
-        (opened_on plan first) s
-    run.gives run.few_steps
-    ((opened-logged plan first run.table run.clock_zero, opened-orderly plan first),
-        (idle, opened-sole shape variant script first run.within)) in
+    (opened_on plan first) s
+    run.gives run.few_steps (
+      (opened-logged plan first run.table run.clock_zero, opened-orderly plan first),
+      (idle, opened-sole shape variant script first run.within),
+    ) in
     let same : h.1.0 ≡ q = same_Some h.1.0 q (ap (λ ps. slice_get ps 0) (sym h.1.1.processes) ∙ here) in
     let sole = subst (IsSole script s) same h.1.1 in
     let serial = rests shape variant script first run.within s 0 q h.0.0 h.0.1 here sole (free-at-end shape variant script first
-        run.within q end) in
+    run.within q end) in
     let at-end = all-begun shape variant script first run.within q end in
     let none-left = no-rest (begun q) sole.left (ap (λ l. slice_get l (length (begun q))) (sym sole.begins) ∙ at-end) in (
       calls_of (logged s.processes),

@@ -101,7 +101,7 @@ module _ (claim : Said) where
         few_steps = i.few_steps;
       } in
       let sole = sole-runs-script shape variant (inserts start) (opening shape) i.schedule starts.state starts.process run
-          i.is_process starts.all in
+      i.is_process starts.all in
       let done = sole.0 in
       let h = sole.1 in
       let as-many : length done ≡ length start = sym (length-map done (λ c. c.0))
@@ -109,10 +109,10 @@ module _ (claim : Said) where
       let few : 0 + length done ≤ call_limit = omega (arith, h.alone.few, within.few_calls) in
       let k = run-keeps shape variant claim kept 0 (opening shape) [] said done starts.state.words h.alone.run h.alone.calls few in
       let pairs = after-inserts [] start done h.calls
-          (subst (All (λ reply. reply ≢ replies.Refused)) (sym h.replies) starts.accepted) rising in
+      (subst (All (λ reply. reply ≢ replies.Refused)) (sym h.replies) starts.accepted) rising in
       let at-end : claim (length start) starts.state.words start =
       subst (λ n. claim n starts.state.words start) (omega (arith, as-many))
-          (subst (claim (0 + length done) starts.state.words) pairs k.is_said) in
+      (subst (claim (0 + length done) starts.state.words) pairs k.is_said) in
       subst (λ w. claim (length start) w start) (sym starts.leaves) (kept.resets (length start) starts.state.words start at-end)
 
 -- The history of a serial run from starting pairs is legal, and what is said of an empty table stays so.

@@ -117,7 +117,7 @@ parts_at (x ∷ xs) (y ∷ ys) d h = go (x == y) refl (λ k is. parts_at xs ys k
 pub deeper : (xs ys : List ℕ) (level d : ℕ) → PartsAt xs ys d → take (level + 1) xs ≡ take (level + 1) ys → level < d
 deeper xs ys level d parts alike = ⊎_elim
     (λ low. absurd (parts.apart (sym (byte_less d (level + 1) xs low) ∙ (ap (λ zs. slice_index zs d) alike ∙ byte_less d
-        (level + 1) ys low))))
+    (level + 1) ys low))))
     (λ high. omega (arith, high)) (cases_lt d (level + 1))
 
 -- the byte at which they part, behind what they have alike

@@ -32,7 +32,7 @@ row_read s base kind h =
 leaf_read : (s : Shape) (key value : ℕ) → key < 2 ^ 32 → value < 2 ^ 30 → child_of s (leaf_word key value) ≡ Leaf key value
 leaf_read s key value low high =
     ap₂ (λ a b. said s (leaf_word key value) a b) (ne_eqb (leaf_word key value % 4) 1 (λ e. omega (arith, e, form)))
-        (eq-eqb (leaf_word key value % 4) 2 form)
+    (eq-eqb (leaf_word key value % 4) 2 form)
     ∙ ap₂ (λ k v. Leaf k v) key_back value_back
   where
     form : leaf_word key value % 4 ≡ 2
@@ -66,7 +66,7 @@ no_place x y z first second =
 pub rows-have-two : RowsHaveTwo
 rows-have-two s words base x y less high word =
     let small = All-cons (λ z. z < 256) x (y ∷ []) (omega (arith, less, high))
-        (All-cons (λ z. z < 256) y [] high (All-nil (λ z. z < 256))) in
+    (All-cons (λ z. z < 256) y [] high (All-nil (λ z. z < 256))) in
     let read = λ (z : ℕ). keys-of-four words base z (x ∷ y ∷ []) (omega arith) small word in (
       (x ∷ y ∷ [], word, omega arith, rises, small),
       ap (λ o. child_in s words o) (read x ∙ ap (λ o. option_map (λ i. child_at Four base i) o) (first_place x y)),

@@ -56,7 +56,7 @@ ways-go-down s words key tree = (
 pub small_at : (words : List ℕ) (i : ℕ) → All (λ w. w < 2 ^ 64) words → slice_index words i < 2 ^ 64
 small_at words i small = ⊎_elim
     (λ within. small i 0 within) (λ past. subst (λ w. w < 2 ^ 64) (sym (get_or_past words i 0 past)) (omega arith))
-        (cases_lt i (length words))
+    (cases_lt i (length words))
 
 leaf_small : (s : Shape) (w key value : ℕ) → w < 2 ^ 64 → child_of s w ≡ Leaf key value → (key < 2 ^ 32) × (value < 2 ^ 30)
 leaf_small s w key value small h = go (w % 4 == 1) (w % 4 == 2) h

@@ -94,7 +94,7 @@ module _ (s : Shape) (words later : List ℕ) (key value high : ℕ) (above : Ki
   its_place m n z c j r small on same =
       let kinds = one_kind s words tree base j kind (subst (λ c. Reached s words c j) same (below r z small on)) leads.reached in
       let (here, byte) = tree.once m high z y base n above kind r down.reached small y_small (on ∙ ap₂ (λ c j. Row c j)
-          same kinds) on_high in
+      same kinds) on_high in
       (here, one_kind s words tree high n above (subst (λ m. Reached s words m n) here r) down.reached, byte)
 
   not_row : (m : ℕ) (n : Kind) (z c : ℕ) (j : Kind) → Reached s words m n → z < 256 → child_on s words m n z ≡ Row c j → c ≢ row
@@ -164,9 +164,11 @@ module _ (s : Shape) (words later : List ℕ) (key value high : ℕ) (above : Ki
   -- what hangs there may
   row_hangs : MayHang above (slice_index words (info_at high)) y larger word
   row_hangs =
-      let (lower, begins) = tree.row high base y above kind down.reached y_small on_high in
-      (subst (λ n. level_in words high above < n) (sym row_level) lower, ap (λ zs. take (level_in words high above + 1) zs)
-          row_path ∙ begins)
+      let (lower, begins) = tree.row high base y above kind down.reached y_small on_high in (
+        subst (λ n. level_in words high above < n) (sym row_level) lower,
+        ap (λ zs. take (level_in words high above + 1) zs)
+            row_path ∙ begins,
+      )
 
   child_hangs : (z c : ℕ) (j : Kind) → z < 256 → child_on s words base kind z ≡ Row c j
       → MayHang larger word z j (slice_index words (info_at c))
@@ -187,7 +189,7 @@ module _ (s : Shape) (words later : List ℕ) (key value high : ℕ) (above : Ki
       let before = sym same ∙ on in
       let stays = same_info c j (below old.0 z small before) (not_base m n z c j old.0 small before on) in
       subst₂ (λ w v. MayHang n w z j v) (sym (same_info m n old.0 old.1)) (sym stays) (tree.row m c z n j old.0 small before))
-          (spot m n z old.0 old.1 small))
+      (spot m n z old.0 old.1 small))
       (λ (new : (m ≡ row) × (n ≡ larger)).
       let before = row_on z c j small (sym (ap₂ (λ m n. child_on s later m n z) new.0 new.1) ∙ on) in
       let stays = same_info c j (below leads.reached z small before) (not_itself s words tree base kind z c j leads.reached small before) in
@@ -323,7 +325,7 @@ module _ (s : Shape) (words later : List ℕ) (key value high : ℕ) (above : Ki
             is_byte = h.is_byte;
             leaf = ⊎_elim
                 (λ at. absurd
-                    (row-leaf base kind k v (sym on_high ∙ (sym (child_there s words high above y h.base h.kind h.byte at) ∙ h.leaf))))
+                (row-leaf base kind k v (sym on_high ∙ (sym (child_there s words high above y h.base h.kind h.byte at) ∙ h.leaf))))
                 (λ same. same ∙ h.leaf) (spot h.base h.kind h.byte h.reached apart h.is_byte);
           }) (cases_eq h.base base)
 

@@ -39,7 +39,7 @@ module _ (s : Shape) (words later : List ℕ) (tree : IsTree s words) (keeps : K
       let there = keeps.earlier b k x m j old byte on in
       subst (λ w. MayHang k w x j (slice_index later (info_at m))) (sym (keeps.same b k old))
       (subst (λ v. MayHang k (slice_index words (info_at b)) x j v) (sym (keeps.same m j (below old x byte there)))
-          (tree.row b m x k j old byte there))
+      (tree.row b m x k j old byte there))
 
   pub kept_tree : IsTree s later
   kept_tree = record {
@@ -56,5 +56,5 @@ module _ (s : Shape) (words later : List ℕ) (tree : IsTree s words) (keeps : K
         let old = reached_before a ka ra in
         let beside = reached_before b kb rb in
         tree.once a b x y m ka kb j old beside byte other (keeps.earlier a ka x m j old byte here)
-            (keeps.earlier b kb y m j beside other there);
+        (keeps.earlier b kb y m j beside other there);
   }

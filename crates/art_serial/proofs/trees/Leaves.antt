@@ -27,7 +27,7 @@ own_leaf key value child is = (λ c j row. row-leaf c j key value (sym row ∙ i
 
 module _ (s : Shape) (words later : List ℕ) (key base : ℕ) (kind : Kind) (x : ℕ) (child : Child) (tree : IsTree s words)
     (leads : LeadsTo s words key base kind x) (free : IsOwn key (child_on s words base kind x))
-        (change : ChangesAt s words later base kind x child)
+    (change : ChangesAt s words later base kind x child)
     (own : IsOwn key child) where
   rows_kept : KeepsRows s words later
   rows_kept = record {
@@ -42,7 +42,7 @@ module _ (s : Shape) (words later : List ℕ) (key base : ℕ) (kind : Kind) (x 
     leaves = λ b k y other v r byte on. ⊎_elim
         (λ at. leaf_there b k y at other (own.1 other v (sym change.here ∙ (sym (child_there s later base kind x b k y at) ∙ on))))
         (λ same. tree.leaf b y other v k r byte (sym same ∙ on))
-            (elsewhere s words later base kind x child tree leads.reached change b k y r byte);
+        (elsewhere s words later base kind x child tree leads.reached change b k y r byte);
   }
     where
       leaf_there : (b : ℕ) (k : Kind) (y : ℕ) → (b ≡ base) × (k ≡ kind) × (y ≡ x) → (other : ℕ) → other ≡ key
@@ -52,7 +52,7 @@ module _ (s : Shape) (words later : List ℕ) (key base : ℕ) (kind : Kind) (x 
           (subst (λ k. LeafMayHang k (slice_index words (info_at base)) y other) (sym kinds)
           (subst (λ y. LeafMayHang kind (slice_index words (info_at base)) y other) (sym byte)
           (subst (λ other. LeafMayHang kind (slice_index words (info_at base)) x other) (sym same)
-              (way_leaf s words key base kind x leads))))
+          (way_leaf s words key base kind x leads))))
 
   other_leaves : HasOtherLeaves s words later key
   other_leaves k v other = (before, after)
@@ -68,9 +68,9 @@ module _ (s : Shape) (words later : List ℕ) (key base : ℕ) (kind : Kind) (x 
             is_byte = h.is_byte;
             leaf = ⊎_elim
                 (λ at. absurd
-                    (other (own.1 k v (sym change.here ∙ (sym (child_there s later base kind x h.base h.kind h.byte at) ∙ h.leaf)))))
+                (other (own.1 k v (sym change.here ∙ (sym (child_there s later base kind x h.base h.kind h.byte at) ∙ h.leaf)))))
                 (λ same. sym same ∙ h.leaf) (elsewhere s words later base kind x child tree leads.reached change h.base h.kind
-                    h.byte old h.is_byte);
+                h.byte old h.is_byte);
           }
 
       after : Hangs s words k v → Hangs s later k v
@@ -83,7 +83,7 @@ module _ (s : Shape) (words later : List ℕ) (key base : ℕ) (kind : Kind) (x 
         leaf = ⊎_elim
             (λ at. absurd (other (free.1 k v (sym (child_there s words base kind x h.base h.kind h.byte at) ∙ h.leaf))))
             (λ same. same ∙ h.leaf) (elsewhere s words later base kind x child tree leads.reached change h.base h.kind h.byte
-                h.reached h.is_byte);
+            h.reached h.is_byte);
       }
 
   later_tree : IsTree s later
@@ -109,13 +109,13 @@ leaves-are-put s words later m key value base kind x tree means leads free chang
       rows = rows;
       means = means_put s words later m key means (other_leaves s words later key base kind x (Leaf key value) tree leads own change leaf)
           value after (record {
-        base = base;
-        kind = kind;
-        reached = (rows base kind).1 leads.reached;
-        byte = x;
-        is_byte = way_byte s words key base kind x leads;
-        leaf = change.here;
-      });
+            base = base;
+            kind = kind;
+            reached = (rows base kind).1 leads.reached;
+            byte = x;
+            is_byte = way_byte s words key base kind x leads;
+            leaf = change.here;
+          });
     }
 
 pub leaves-are-removed : LeavesAreRemoved

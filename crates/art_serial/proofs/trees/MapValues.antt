@@ -18,7 +18,7 @@ no_value [] key none = refl
 no_value ((k, v) ∷ m) key none =
     let other : k ≢ key = λ same. none v (subst (λ j. Contains ((k, v) ∷ m) (j, v)) same (Contains-first (k, v) m)) in
     ap (λ t. if t then Some v else value_at m key) (ne_eqb k key other)
-        ∙ no_value m key (λ value is. none value (Contains-later (k, v) m (key, value) is))
+    ∙ no_value m key (λ value is. none value (Contains-later (k, v) m (key, value) is))
 
 -- the value of a pair of a map
 pub value_of : (m : Contents) (key value : ℕ) → IsRising m → Contains m (key, value) → value_at m key ≡ Some value
@@ -28,7 +28,7 @@ value_of ((k, v) ∷ m) key value rising is = ⊎_elim
     ap (λ t. if t then Some v else value_at m key) (eq-eqb k key (ap (λ (p : ℕ × ℕ). p.0) same)) ∙ ap (λ (p : ℕ × ℕ). Some p.1) same)
     (λ later.
     let low : k < key = All-contains (λ (b : ℕ × ℕ). k < b.0) m (key, value) (AllPairs-head (λ (a : ℕ × ℕ) (b : ℕ × ℕ). a.0 < b.0) (k, v)
-        m rising) later in
+    m rising) later in
     let other : k ≢ key = λ same. omega (arith, same, low) in
     ap (λ t. if t then Some v else value_at m key) (ne_eqb k key other)
     ∙ value_of m key value (AllPairs-tail (λ (a : ℕ × ℕ) (b : ℕ × ℕ). a.0 < b.0) (k, v) m rising) later)
@@ -91,7 +91,7 @@ module _ (m : Contents) (key : ℕ) where
   put_other value k v other is = ⊎_elim
       (λ low. Contains-append_left (below key m) ((key, value) ∷ above key m) (k, v) low)
       (λ high. Contains-append_right (below key m) ((key, value) ∷ above key m) (k, v)
-          (Contains-later (key, value) (above key m) (k, v) high))
+      (Contains-later (key, value) (above key m) (k, v) high))
       (others k v other is)
 
   pub rising_with : (value : ℕ) → IsRising m → IsRising (put key value m)

@@ -13,7 +13,7 @@ same_first : (x : ℕ × ℕ) (xs : Contents) (y : ℕ × ℕ) (ys : Contents) �
     → Contains (x ∷ xs) y → x ≡ y
 same_first x xs y ys low_x low_y in_ys in_xs =
     ⊎_elim (λ is. sym is) (λ later. ⊎_elim (λ is. is) (λ back. clash later back) (Contains-cases x xs y in_xs))
-        (Contains-cases y ys x in_ys)
+    (Contains-cases y ys x in_ys)
   where
     clash : Contains ys x → Contains xs y → x ≡ y
     clash later back = absurd (omega (arith, All-contains (Less y) ys x low_y later, All-contains (Less x) xs y low_x back))

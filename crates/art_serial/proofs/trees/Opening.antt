@@ -41,8 +41,11 @@ module _ (s : Shape) (base : ℕ) where
 
   is_apart : (kind : Kind) → is_base_of s kind base ≡ true → (base ≢ 4) × (base ≢ info_at (root_base s))
   is_apart Four h = let (low, even, few) = base_parts Four h in (λ is. omega (arith, is, low), λ is. omega (arith, is, low, even, few))
-  is_apart Sixteen h = let (low, even, few) = base_parts Sixteen h in (λ is. omega (arith, is, low), λ is. omega
-      (arith, is, low, even, few))
+  is_apart Sixteen h = let (low, even, few) = base_parts Sixteen h in (
+    λ is. omega (arith, is, low),
+    λ is. omega
+        (arith, is, low, even, few),
+  )
   is_apart FortyEight h = let (low, even, few) =
       base_parts FortyEight h in (λ is. omega (arith, is, low), λ is. omega (arith, is, low, even, few))
   is_apart Full h = let (low, even, few) = base_parts Full h in (λ is. omega (arith, is, low), λ is. omega (arith, is, low, even, few))
@@ -50,7 +53,7 @@ module _ (s : Shape) (base : ℕ) where
   base_apart : (kind : Kind) → kind_at s base ≡ Some kind → (base ≢ 4) × (base ≢ info_at (root_base s))
   base_apart kind h =
       first (is_base_of s Four base) (is_base_of s Sixteen base) (is_base_of s FortyEight base) (is_base_of s Full base)
-          refl refl refl refl h
+      refl refl refl refl h
     where
       first : (a b c d : Bool) → is_base_of s Four base ≡ a → is_base_of s Sixteen base ≡ b → is_base_of s FortyEight base ≡ c
           → is_base_of s Full base ≡ d

@@ -60,7 +60,7 @@ module _ (s : Shape) (words : List ℕ) (key base : ℕ) (kind : Kind) (x d a b 
 module _ (s : Shape) (words later : List ℕ) (key value base : ℕ) (kind : Kind) (x row d a b : ℕ) (tree : IsTree s words)
     (leads : LeadsTo s words key base kind x) (parts : Parts words key d a (child_on s words base kind x))
     (pair : IsPair s words later key value row d a b (child_on s words base kind x))
-        (change : ChangesAt s words later base kind x (Row row Four)) where
+    (change : ChangesAt s words later base kind x (Row row Four)) where
   abbrev child : Child
   child = child_on s words base kind x
 
@@ -116,7 +116,7 @@ module _ (s : Shape) (words later : List ℕ) (key value base : ℕ) (kind : Kin
       let up = reached_after m n r in
       ⊎_elim
       (λ at. below (below up y small (at_place m n y at)) a where_parted.small
-          (pair.old ∙ (sym (child_there s words base kind x m n y at) ∙ on)))
+      (pair.old ∙ (sym (child_there s words base kind x m n y at) ∙ on)))
       (λ same. below up y small (same ∙ on)) (spot m n y r small)
 
   row_reached : Reached s later row Four
@@ -185,14 +185,14 @@ module _ (s : Shape) (words later : List ℕ) (key value base : ℕ) (kind : Kin
       (λ same.
       let before = sym same ∙ on in
       subst₂ (λ w v. MayHang n w y j v) (sym (same_info m n old)) (sym (same_info c j (below old y small before)))
-          (tree.row m c y n j old small before))
+      (tree.row m c y n j old small before))
       (spot m n y old small))
       (λ (new : (m ≡ row) × (n ≡ Four)).
       let (at, before) = row_on y c j small (sym (ap₂ (λ m n. child_on s later m n y) new.0 new.1) ∙ on) in
       let hangs = subst₂ (λ y v. MayHang Four word y j v) (sym at) (sym (same_info c j (below leads.reached x way_small before)))
-          (child_hangs c j before) in
+      (child_hangs c j before) in
       subst₂ (λ m n. MayHang n (slice_index later (info_at m)) y j (slice_index later (info_at c))) (sym new.0) (sym new.1) hangs)
-          (reached_before m n r)
+      (reached_before m n r)
     where
       new_hangs : IsPlace base kind x m n y → Row c j ≡ Row row Four → Reached s words m n
           → MayHang n (slice_index later (info_at m)) y j (slice_index later (info_at c))
@@ -209,7 +209,7 @@ module _ (s : Shape) (words later : List ℕ) (key value base : ℕ) (kind : Kin
       (λ old. ⊎_elim
       (λ at. absurd (row-leaf row Four k v (sym (at_place m n y at) ∙ on)))
       (λ same. subst (λ w. LeafMayHang n w y k) (sym (same_info m n old)) (tree.leaf m y k v n old small (sym same ∙ on)))
-          (spot m n y old small))
+      (spot m n y old small))
       (λ (new : (m ≡ row) × (n ≡ Four)). subst₂ (λ m n. LeafMayHang n (slice_index later (info_at m)) y k) (sym new.0) (sym new.1)
       (⊎_elim
       (λ (at : (y ≡ a) × (child ≡ Leaf k v)). subst (λ y. LeafMayHang Four word y k) (sym at.0) (child_leaf k v at.1))
@@ -293,10 +293,10 @@ module _ (s : Shape) (words later : List ℕ) (key value base : ℕ) (kind : Kin
           })
           (λ (new : (h.base ≡ row) × (h.kind ≡ Four)). ⊎_elim
           (λ (at : (h.byte ≡ a) × (child ≡ Leaf k v)). record
-              { base = base; kind = kind; reached = leads.reached; byte = x; is_byte = way_small; leaf = at.1 })
+          { base = base; kind = kind; reached = leads.reached; byte = x; is_byte = way_small; leaf = at.1 })
           (λ (at : (h.byte ≡ b) × (k ≡ key)). absurd (other at.1))
           (leaf_on h.byte k v h.is_byte (sym (ap₂ (λ m n. child_on s later m n h.byte) new.0 new.1) ∙ h.leaf)))
-              (reached_before h.base h.kind h.reached)
+          (reached_before h.base h.kind h.reached)
 
       after : Hangs s words k v → Hangs s later k v
       after h = ⊎_elim

@@ -9,7 +9,7 @@ use Rattle.std.proofs.lemmas.List.Kept.{AllPairs-cons, AllPairs-from_increasing}
 use Rattle.std.proofs.lemmas.Option.{none-some}
 use Rattle.list_laws.proofs.Lists.{AllPairs-nil, AllPairs-head, AllPairs-tail}
 use Rattle.art_rows.specs.Words.{place_of, new_place, with_key}
-use Rattle.art_rows.proofs.WriterLemmas.{length-put_in}
+use Rattle.art_rows.proofs.WriterLemmas.{length-put_in, put_in}
 use Rattle.art_serial.specs.trees.Keys.{KeysArePutIn}
 
 -- each of the numbers has the property, and so has the one that is put in
@@ -52,7 +52,7 @@ absent_first x y ys h = (
   ⊎_elim
       (λ same. absurd (none-some 0 (sym h ∙ ap (λ b. if b then Some 0 else option_map (λ i. i + 1) (place_of x ys)) (eq-eqb y x same))))
       (λ apart. rest (place_of x ys) (sym (ap (λ b. if b then Some 0 else option_map (λ i. i + 1) (place_of x ys)) (ne_eqb y x apart))
-          ∙ h)) (cases_eq y x),
+      ∙ h)) (cases_eq y x),
 )
   where
     rest : (o : Option ℕ) → option_map (λ i. i + 1) o ≡ None → o ≡ None
@@ -65,10 +65,6 @@ place_first x ys = ap (λ b. if b then Some 0 else option_map (λ i. i + 1) (pla
 place_later : (x y : ℕ) (ys : List ℕ) → y ≢ x → place_of x (y ∷ ys) ≡ option_map (λ i. i + 1) (place_of x ys)
 place_later x y ys apart = ap (λ b. if b then Some 0 else option_map (λ i. i + 1) (place_of x ys)) (ne_eqb y x apart)
 
--- the list with the byte at a place
-abbrev put_at : ℕ → ℕ → List ℕ → List ℕ
-put_at x p ys = take p ys ++ x ∷ drop p ys
-
 module _ (x : ℕ) where
   rises : (ys : List ℕ) → AllPairs (λ a b. a < b) ys → place_of x ys ≡ None → AllPairs (λ a b. a < b) (with_key x ys)
   rises [] up none = AllPairs-cons (λ a b. a < b) x [] (All-nil (λ b. x < b)) (AllPairs-nil (λ a b. a < b))
@@ -79,9 +75,9 @@ module _ (x : ℕ) where
       let later = rises ys rest none_later in
       ⊎_elim
       (λ (before : (y < x) × (new_place x (y ∷ ys) ≡ suc (new_place x ys))). subst
-          (λ p. AllPairs (λ a b. a < b) (put_at x p (y ∷ ys))) (sym before.1)
+      (λ p. AllPairs (λ a b. a < b) (put_in x p (y ∷ ys))) (sym before.1)
       (AllPairs-cons (λ a b. a < b) y (with_key x ys) (all_with (λ b. y < b) x (new_place x ys) ys before.0 low) later))
-      (λ (behind : (x < y) × (new_place x (y ∷ ys) ≡ 0)). subst (λ p. AllPairs (λ a b. a < b) (put_at x p (y ∷ ys))) (sym behind.1)
+      (λ (behind : (x < y) × (new_place x (y ∷ ys) ≡ 0)). subst (λ p. AllPairs (λ a b. a < b) (put_in x p (y ∷ ys))) (sym behind.1)
       (AllPairs-cons (λ a b. a < b) x (y ∷ ys) (All-cons (λ b. x < b) y ys behind.0 (λ k d within.
       let more = low k d within in
       omega (arith, behind, more))) up)) (first_of x y ys low apart)
@@ -93,10 +89,10 @@ module _ (x : ℕ) where
       let later = here ys (AllPairs-tail (λ a b. a < b) y ys up) none_later in
       ⊎_elim
       (λ (before : (y < x) × (new_place x (y ∷ ys) ≡ suc (new_place x ys))).
-      subst (λ p. place_of x (put_at x p (y ∷ ys)) ≡ Some p) (sym before.1)
+      subst (λ p. place_of x (put_in x p (y ∷ ys)) ≡ Some p) (sym before.1)
       (place_later x y (with_key x ys) apart ∙ (ap (λ o. option_map (λ i. i + 1) o) later ∙ ap Some (one_more (new_place x ys)))))
-      (λ (behind : (x < y) × (new_place x (y ∷ ys) ≡ 0)). subst (λ p. place_of x (put_at x p (y ∷ ys)) ≡ Some p) (sym behind.1)
-          (place_first x (y ∷ ys)))
+      (λ (behind : (x < y) × (new_place x (y ∷ ys) ≡ 0)). subst (λ p. place_of x (put_in x p (y ∷ ys)) ≡ Some p) (sym behind.1)
+      (place_first x (y ∷ ys)))
       (first_of x y ys (AllPairs-head (λ a b. a < b) y ys up) apart)
     where
       one_more : (n : ℕ) → n + 1 ≡ suc n
@@ -128,15 +124,15 @@ module _ (x : ℕ) where
       let later = other y ys not (AllPairs-tail (λ a b. a < b) z ys up) none_later in
       ⊎_elim
       (λ (before : (z < x) × (new_place x (z ∷ ys) ≡ suc (new_place x ys))).
-      subst (λ p. place_of y (put_at x p (z ∷ ys)) ≡ moved_place p (place_of y (z ∷ ys))) (sym before.1)
+      subst (λ p. place_of y (put_in x p (z ∷ ys)) ≡ moved_place p (place_of y (z ∷ ys))) (sym before.1)
       (⊎_elim
       (λ same. at_first z (with_key x ys) same
-          ∙ (first_stays (new_place x ys) ∙ sym (ap (λ o. moved_place (suc (new_place x ys)) o) (at_first z ys same))))
+      ∙ (first_stays (new_place x ys) ∙ sym (ap (λ o. moved_place (suc (new_place x ys)) o) (at_first z ys same))))
       (λ differ. place_later y z (with_key x ys) differ
-          ∙ (ap (λ o. option_map (λ i. i + 1) o) later ∙ (moved_more (new_place x ys) (place_of y ys)
+      ∙ (ap (λ o. option_map (λ i. i + 1) o) later ∙ (moved_more (new_place x ys) (place_of y ys)
       ∙ sym (ap (λ o. moved_place (suc (new_place x ys)) o) (place_later y z ys differ))))) (cases_eq z y)))
       (λ (behind : (x < z) × (new_place x (z ∷ ys) ≡ 0)).
-      subst (λ p. place_of y (put_at x p (z ∷ ys)) ≡ moved_place p (place_of y (z ∷ ys))) (sym behind.1)
+      subst (λ p. place_of y (put_in x p (z ∷ ys)) ≡ moved_place p (place_of y (z ∷ ys))) (sym behind.1)
       (place_later y x (z ∷ ys) (λ same. not (sym same)) ∙ sym (moved_none (place_of y (z ∷ ys)))))
       (first_of x z ys (AllPairs-head (λ a b. a < b) z ys up) apart)
     where

@@ -35,7 +35,7 @@ module _ (s : Shape) (words later : List ℕ) (base : ℕ) (kind : Kind) (x : �
     where
       go : (b : Bool) → nat_lt i (new_place x keys) ≡ b
           → child_of s (slice_index later (child_at kind base (if b then i else i + 1))) ≡ child_of s
-              (slice_index words (child_at kind base i))
+          (slice_index words (child_at kind base i))
       go true e = room.before i (grind (arith, e))
       go false e = room.behind i (grind (arith, e)) few
 

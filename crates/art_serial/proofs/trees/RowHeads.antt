@@ -23,14 +23,14 @@ module _ (words later : List ℕ) (base : ℕ) where
   head_slot Four x byte same = ap (λ w. option_map (child_at Four base) (place_of x (keys4_of w))) (same 2 (omega arith) (omega arith))
   head_slot Sixteen x byte same =
       ap (λ w. option_map (child_at Sixteen base)
-          (place_of x (keys16_of w (slice_index later (keys_at base)) (slice_index later (more_keys_at base)))))
+      (place_of x (keys16_of w (slice_index later (keys_at base)) (slice_index later (more_keys_at base)))))
       (same 4 (omega arith) (omega arith))
       ∙ (ap (λ w. option_map (child_at Sixteen base)
       (place_of x (keys16_of (slice_index words (count_at Sixteen base)) w (slice_index later (more_keys_at base)))))
-          (same 2 (omega arith) (omega arith))
+      (same 2 (omega arith) (omega arith))
       ∙ ap (λ w. option_map (child_at Sixteen base)
       (place_of x (keys16_of (slice_index words (count_at Sixteen base)) (slice_index words (keys_at base)) w)))
-          (same 3 (omega arith) (omega arith)))
+      (same 3 (omega arith) (omega arith)))
   head_slot FortyEight x byte same =
       ap (λ w. entry_slot base (slice_index (entries_of w) (x % 8))) (index_same (2 + x / 8) at (omega arith) (omega (arith, byte)))
     where
@@ -55,7 +55,7 @@ module _ (words later : List ℕ) (base : ℕ) where
   )
   head_form FortyEight same (few, once, each, below) =
       let count : slice_index later (count_at FortyEight base) ≡ slice_index words (count_at FortyEight base) =
-          same 34 (omega arith) (omega arith) in
+      same 34 (omega arith) (omega arith) in
       let slot = λ (x : ℕ) (byte : x < 256). head_slot FortyEight x byte same in (
         subst (λ n. n ≤ 48) (sym count) few,
         λ x y e byte other here there. once x y e byte other (sym (slot x byte) ∙ here) (sym (slot y other) ∙ there),

@@ -15,7 +15,7 @@ keys-of-four words base x keys few small word =
 pub keys-of-sixteen : KeysOfSixteenAreRead
 keys-of-sixteen words base x keys few small first second count =
     ap (λ w. option_map (child_at Sixteen base)
-        (place_of x (keys16_of w (slice_index words (keys_at base)) (slice_index words (more_keys_at base))))) count
+    (place_of x (keys16_of w (slice_index words (keys_at base)) (slice_index words (more_keys_at base))))) count
     ∙ (ap (λ w. option_map (child_at Sixteen base) (place_of x (keys16_of (length keys) w (slice_index words (more_keys_at base))))) first
     ∙ (ap (λ w. option_map (child_at Sixteen base) (place_of x (keys16_of (length keys) (keys16_word keys) w))) second
     ∙ ap (λ zs. option_map (child_at Sixteen base) (place_of x zs)) (keys16_back keys few small)))

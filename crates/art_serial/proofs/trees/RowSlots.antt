@@ -97,7 +97,7 @@ one_slot words base Four x y slot form low high here there =
 one_slot words base Sixteen x y slot form low high here there =
     one_byte x y (base + 5)
     (keys16_of (slice_index words (count_at Sixteen base)) (slice_index words (keys_at base))
-        (slice_index words (more_keys_at base))) slot here there
+    (slice_index words (more_keys_at base))) slot here there
 one_slot words base FortyEight x y slot form low high here there = form.1 x y slot low high here there
 one_slot words base Full x y slot form low high here there =
     omega (arith, same_Some (child_at Full base x) slot here, same_Some (child_at Full base y) slot there)
@@ -117,10 +117,10 @@ child_slot words base Four x slot h = shifted base Four 3 (place_of x (keys4_of 
 child_slot words base Sixteen x slot h =
     shifted base Sixteen 5
     (place_of x (keys16_of (slice_index words (count_at Sixteen base)) (slice_index words (keys_at base))
-        (slice_index words (more_keys_at base)))) slot refl h
+    (slice_index words (more_keys_at base)))) slot refl h
 child_slot words base FortyEight x slot h =
     go (slice_index (entries_of (slice_index words (index_at base x))) (x % 8) == 0)
-        (slice_index (entries_of (slice_index words (index_at base x))) (x % 8)) h
+    (slice_index (entries_of (slice_index words (index_at base x))) (x % 8)) h
   where
     go : (b : Bool) (e : ℕ) → (if b then None else Some (child_at FortyEight base (e - 1))) ≡ Some slot → IsChild base FortyEight slot
     go true e k = absurd (none-some slot k)

@@ -148,7 +148,7 @@ module _ (s : Shape) (words : List ℕ) (tree : IsTree s words) (small : All (λ
   found_leaf key value h =
       subst (λ ps. Contains ps (key, value)) (sym (row_more 0 s words h.base h.kind))
       (found_at (λ x. pairs_in (pairs_below 0 s words) (child_on s words h.base h.kind x)) 0 256 h.byte (key, value) (omega arith)
-          (omega (arith, h.is_byte))
+      (omega (arith, h.is_byte))
       (subst (λ child. Contains (pairs_in (pairs_below 0 s words) child) (key, value)) (sym h.leaf) (Contains-first (key, value) [])))
 
   walk_means : (top : ℕ) → 4 ≤ top → Means s words (pairs_below top s words (root_base s) Full)

@@ -14,7 +14,7 @@ use Rattle.art_serial.proofs.trees.Ways.{found_at, empty-leaf, empty-row, row-le
 pub ways-lead-to-values : WaysLeadToValues
 ways-lead-to-values s words m key base kind x tree means leads =
     let absent = λ (none : (value : ℕ) → Hangs s words key value → ⊥). no_value m key
-        (λ value is. none value ((means.all key value).0 is)) in
+    (λ value is. none value ((means.all key value).0 is)) in
     let found = λ (value : ℕ) (h : Hangs s words key value). found_at s words tree key value base kind x leads h in (
       λ empty. absent (λ value h. ⊎_elim
           (λ leaf. empty-leaf key value (sym empty ∙ leaf)) (λ row. empty-row row.0 row.1 (sym empty ∙ row.2)) (found value h)),
@@ -29,7 +29,7 @@ ways-lead-to-values s words m key base kind x tree means leads =
         })),
         λ other. absent (λ v h. ⊎_elim
             (λ here. other (same_key k value key v (sym leaf ∙ here)))
-                (λ row. row-leaf row.0 row.1 k value (sym row.2 ∙ leaf)) (found v h)),
+            (λ row. row-leaf row.0 row.1 k value (sym row.2 ∙ leaf)) (found v h)),
       ),
       λ b d k row parts. absent (λ value h. ⊎_elim
           (λ leaf. row-leaf b k key value (sym row ∙ leaf))

@@ -91,7 +91,7 @@ module _ (s : Shape) (words bytes : List ℕ) where
         let level = level_in words c j in
         let parts = path_and_byte bytes (path_in words c j) level x (tree.info c j r).0 (omega (arith, few, four))
         (sym (take_less (level + 1) (level_in words b k) bytes (omega (arith, lower)))
-            ∙ (ap (λ zs. take (level + 1) zs) (sym begins) ∙ path)) in
+        ∙ (ap (λ zs. take (level + 1) zs) (sym begins) ∙ path)) in
         let (i, way) = on_way c j r parts.0 in
         (suc i, (c, j, way, subst (λ z. child_on s words c j z ≡ Row b k) parts.1 on, begins))
 
@@ -114,7 +114,7 @@ module _ (s : Shape) (words : List ℕ) (tree : IsTree s words) where
   leads_to_leaf key value h =
       let few = level_small h.kind (slice_index words (info_at h.base)) in
       let parts = path_and_byte (key_bytes key) (path_in words h.base h.kind) (level_in words h.base h.kind) h.byte
-          (tree.info h.base h.kind h.reached).0 few
+      (tree.info h.base h.kind h.reached).0 few
       (tree.leaf h.base h.byte key value h.kind h.reached h.is_byte h.leaf) in
       record { reached = h.reached; path = sym parts.0; byte = parts.1 }
 

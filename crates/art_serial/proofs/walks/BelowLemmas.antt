@@ -81,10 +81,10 @@ module _ (s : Shape) (words : List ℕ) (tree : IsTree s words) where
       go Empty e h = absurd (Contains-nil pair h)
       go (Leaf k v) e h =
           let is : k ≡ pair.0 = ⊎_elim (λ same. ap (λ p. p.0) same) (λ none. absurd (Contains-nil pair none))
-              (Contains-cases (k, v) [] pair h) in
+          (Contains-cases (k, v) [] pair h) in
           let one : level_in words base kind + 1 ≡ suc (length path) = omega (arith, long) in
           subst (λ z. BeginsWith path x z) is (subst (λ n. take n (key_bytes k) ≡ path ++ x ∷ []) one
-              (tree.leaf base x k v kind reached small e))
+          (tree.leaf base x k v kind reached small e))
       go (Row b k) e h =
           let next = begins b k pair (below reached x small e) h in
           let row = tree.row base b x kind k reached small e in
@@ -96,9 +96,11 @@ module _ (s : Shape) (words : List ℕ) (tree : IsTree s words) where
   pub below-begins : (n : ℕ) → Begins (pairs_below n s words)
   below-begins zero base kind pair reached h = absurd (Contains-nil pair h)
   below-begins (suc n) base kind pair reached h =
-      let from = Contains-from_flat_map (pairs_under (pairs_below n s words) base kind) (numbers 0 256) pair h in
-      (from.0, under-begins (pairs_below n s words) base kind from.0 pair (below-begins n) reached
-          ((Contains-from_numbers 0 256 from.0 from.1).1) from.2)
+      let from = Contains-from_flat_map (pairs_under (pairs_below n s words) base kind) (numbers 0 256) pair h in (
+        from.0,
+        under-begins (pairs_below n s words) base kind from.0 pair (below-begins n) reached
+            ((Contains-from_numbers 0 256 from.0 from.1).1) from.2,
+      )
 
   -- all keys that the walk lists are those of a tree
   abbrev pub AreSmall : (ℕ → Kind → Contents) → Type 0
@@ -114,7 +116,7 @@ module _ (s : Shape) (words : List ℕ) (tree : IsTree s words) where
         go Empty e h = absurd (Contains-nil pair h)
         go (Leaf k v) e h =
             ⊎_elim (λ same. subst (λ p. p.0 < 2 ^ 32) same (leaf-small s words small_words base kind x k v e))
-                (λ none. absurd (Contains-nil pair none))
+            (λ none. absurd (Contains-nil pair none))
             (Contains-cases (k, v) [] pair h)
         go (Row b k) e h = small b k pair h
 

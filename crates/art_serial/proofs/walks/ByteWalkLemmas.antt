@@ -55,14 +55,20 @@ module _ (c : Setting) (n : ℕ) (words : List ℕ) (rest : IsAtRest c.shape n w
       let all : flat_map under (x ∷ xs) ≡ under x ++ flat_map under xs = flat_map-cons under x xs in
       let size : length (w.pairs ++ (under x ++ flat_map under xs)) ≤ 4096 = subst (λ p. length (w.pairs ++ p) ≤ 4096) all few in
       let here = walks x w now (Contains-first x xs) walking (free x (Contains-first x xs))
-      (omega (arith, size, length-append w.pairs (under x ++ flat_map under xs), length-append (under x) (flat_map under xs), length-append
-          w.pairs (under x))) in
+      (omega (
+        arith,
+        size,
+        length-append w.pairs (under x ++ flat_map under xs),
+        length-append (under x) (flat_map under xs),
+        length-append
+            w.pairs (under x),
+      )) in
       let frees : (y : ℕ) → Contains xs y → FreeBelow y here.walked.rows =
       λ y h. subst (FreeBelow y) (sym here.rows_are)
       (All-append (λ q. IsBelow y q → ⊥) w.rows here.more (free y (Contains-later x xs y h))
       (All-weaker (IsBelow x) (λ q. IsBelow y q → ⊥)
       (λ q one two. apart x y (All-contains (λ z. x < z) xs y (AllPairs-head (λ a b. a < b) x xs rising) h) q one two)
-          here.more here.below)) in
+      here.more here.below)) in
       let later_few : length (here.walked.pairs ++ flat_map under xs) ≤ 4096 =
       subst (λ p. length (p ++ flat_map under xs) ≤ 4096) (sym here.pairs_are)
       (subst (λ p. length p ≤ 4096) (sym (append_assoc w.pairs (under x) (flat_map under xs))) size) in

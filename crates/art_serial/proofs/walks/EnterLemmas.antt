@@ -10,9 +10,9 @@ use Rattle.art_steps.specs.Steps.{each}
 use Rattle.art_steps.specs.Scan.{has_row, enter}
 use Rattle.art_core.specs.Meaning.{Reached}
 use Rattle.art_serial.specs.trees.Trees.{IsAtRest}
-use Rattle.art_serial.specs.alone.Alone.{Comes}
+use Rattle.art_serial.specs.alone.Alone.{Comes, unlocked_rows}
 use Rattle.art_serial.proofs.alone.AloneLemmas.{if_true-comes, if_false-comes, each_none-comes, each-comes}
-use Rattle.art_serial.proofs.alone.RowRunLemmas.{with_lock, with_unlocked, lock-comes, wait-comes, unlock_all-comes, check_of-comes}
+use Rattle.art_serial.proofs.alone.RowRunLemmas.{with_lock, lock-comes, wait-comes, unlock_all-comes, check_of-comes}
 use Rattle.art_serial.proofs.alone.VersionLemmas.{locked-live, released-live, released-free, locked-small, released-small}
 use Rattle.art_serial.proofs.alone.LikeLemmas.{Like, IsVersion, Nothing, like-version, like-free, like-live}
 
@@ -87,10 +87,10 @@ module _ (c : Setting) (n : ℕ) (words : List ℕ) (rest : IsAtRest c.shape n w
           like = like-version c.shape n words rest {held2 = HeldIn true (rows ++ r ∷ [])} (locked_word v) w.like reached (locked-small v)
               (locked-live v live)
               (λ no_one. absurd (no_one (subst (λ b. has_row b (rows ++ r ∷ []) ≡ true) rb (has_row-last rows r))))
-                  (λ b h ne. has_row-front b rows r h);
+              (λ b h ne. has_row-front b rows r h);
           stand = All-push (Stands true (with_lock now base)) rows r
               (All-weaker (Stands true now) (Stands true (with_lock now base))
-                  (λ q h. stands-locked now (with_lock now base) q h) rows w.stand)
+              (λ q h. stands-locked now (with_lock now base) q h) rows w.stand)
               (stands-new true (with_lock now base) base kind v r rb rk rv reached free live (λ none. absurd (false≢true (sym none))));
         };
       }
@@ -127,7 +127,7 @@ module _ (c : Setting) (n : ℕ) (words : List ℕ) (rest : IsAtRest c.shape n w
       go b (inr v) = inr (record { kind = v.kind; reached = v.reached; live = v.live; free = λ no_one. v.free (λ h. no_one (more b h)) })
 
   -- the words after the locks of all rows were released
-  unlocked-like : (rows : List Row) (now : List ℕ) → Walking true now rows → Like c.shape words words (with_unlocked rows now) Nothing
+  unlocked-like : (rows : List Row) (now : List ℕ) → Walking true now rows → Like c.shape words words (unlocked_rows rows now) Nothing
   unlocked-like [] now w = like-held (λ b h. false≢true h) w.like
   unlocked-like (r ∷ rows) now w =
       let own = All-head (Stands true now) r rows w.stand in
@@ -153,7 +153,7 @@ module _ (c : Setting) (n : ℕ) (words : List ℕ) (rest : IsAtRest c.shape n w
 
   pub lets-go : (locking : Bool) (now : List ℕ) (rows : List Row) → locks c.variant ≡ locking → Walking locking now rows → LetsGo now rows
   lets-go true now rows e w = record {
-    later = with_unlocked rows now;
+    later = unlocked_rows rows now;
     comes = if_true-comes (each rows (check_of c)) e (unlock_all-comes rows now);
     like = unlocked-like rows now w;
   }

@@ -34,7 +34,7 @@ groups-all xs rising small =
       eqb-true (b / 8) j (Contains-from_filter (λ x. x / 8 == j) xs b at_b).1,
     ))) rising
     (λ x h. (let from = Contains-from_flat_map (group xs) (numbers 0 32) x h in (Contains-from_filter
-        (λ z. z / 8 == from.0) xs x from.2).0))
+    (λ z. z / 8 == from.0) xs x from.2).0))
     (λ x h. Contains-flat_map (group xs) (numbers 0 32) (x / 8) x (Contains-numbers 0 32 (x / 8) (omega arith) (omega (arith, small x h)))
     (Contains-filter (λ z. z / 8 == x / 8) xs x h (eq-eqb (x / 8) (x / 8) refl)))
 

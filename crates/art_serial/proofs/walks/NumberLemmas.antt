@@ -11,7 +11,7 @@ Contains-numbers first zero x low high = absurd (omega (arith, low, high))
 Contains-numbers first (suc n) x low high =
     ⊎_elim (λ is. subst (λ y. Contains (first ∷ numbers (first + 1) n) y) is (Contains-first first (numbers (first + 1) n)))
     (λ more. Contains-later first (numbers (first + 1) n) x (Contains-numbers (first + 1) n x (omega (arith, more)) (omega (arith, high))))
-        (eq-or-lt_of_le low)
+    (eq-or-lt_of_le low)
 
 pub Contains-from_numbers : (first n x : ℕ) → Contains (numbers first n) x → (first ≤ x) × (x < first + n)
 Contains-from_numbers first zero x h = absurd (Contains-nil x h)

@@ -11,7 +11,7 @@ module _ {X : Type 0} (R : X → X → Type 0) (asymmetric : (x y : X) → R x y
   same_first x xs y ys low_x low_y in_ys in_xs =
       ⊎_elim (λ is. sym is)
       (λ later. ⊎_elim (λ is. is) (λ back. absurd (asymmetric y x (All-contains (R y) ys x low_y later)
-          (All-contains (R x) xs y low_x back)))
+      (All-contains (R x) xs y low_x back)))
       (Contains-cases x xs y in_xs)) (Contains-cases y ys x in_ys)
 
   -- the members of such a list after its first are those of another with the same first

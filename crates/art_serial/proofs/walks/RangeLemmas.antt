@@ -7,14 +7,13 @@ use Rattle.art_rows.specs.Words.{big_endian}
 use Rattle.art_steps.specs.Rows.{Row}
 use Rattle.art_steps.specs.Scan.{can_lie}
 use Rattle.std.proofs.lemmas.Bool.Decides.{nat_tests}
-use Rattle.std.proofs.lemmas.Bool.{false≢true, false_from_ne_true}
+use Rattle.std.proofs.lemmas.Bool.{false≢true, false_from_ne_true, lt-ltb, le-leb}
 use Rattle.std.proofs.lemmas.List.{length-append}
 use Rattle.std.proofs.lemmas.List.Concat.{flat_map-cons}
 use Rattle.std.proofs.lemmas.List.Elements.{filter-append}
 use Rattle.list_laws.proofs.FilterLemmas.{filter_yes}
 use Rattle.list_laws.proofs.Lists.{Contains-first, Contains-later, filter_none, All-from_contains}
 use Rattle.art_serial.proofs.walks.KeyLemmas.{BeginsWith}
-use Rattle.art_serial.proofs.words.ByteLemmas.{less_equal}
 
 -- the number of the bytes that a key begins with
 pub begins-number : (path : List ℕ) (x key : ℕ) → key < 2 ^ 32 → BeginsWith path x key
@@ -45,12 +44,9 @@ bounds (a ∷ b ∷ c ∷ d ∷ path) x key low high small h le le2 = absurd (om
 abbrev pub in_range : ℕ → ℕ → ℕ → Bool
 in_range low high key = nat_le low key && nat_le key high
 
-tested-lt : (a b : ℕ) → a < b → nat_lt a b ≡ true
-tested-lt a b less = grind (arith, nat_tests, less)
-
 tests-pass : (low high number power : ℕ) → number * power ≤ high → low < (number + 1) * power
     → (nat_le (number * power) high && nat_lt low ((number + 1) * power)) ≡ true
-tests-pass low high number power le less = rw (less_equal (number * power) high le, tested-lt low ((number + 1) * power) less) refl
+tests-pass low high number power le less = rw (le-leb (number * power) high le, lt-ltb low ((number + 1) * power) less) refl
 
 lies : (low high : ℕ) (n : Row) (x key : ℕ) → key < 2 ^ 32 → n.level ≡ length n.path → BeginsWith n.path x key
     → in_range low high key ≡ true

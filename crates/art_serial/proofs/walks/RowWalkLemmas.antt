@@ -40,7 +40,7 @@ module _ (c : Setting) (n : ℕ) (words : List ℕ) (rest : IsAtRest c.shape n w
     (e : locks c.variant ≡ locking)
     (walk : Row → Walked → Part Walked) (depth : ℕ) (walks : WalksRows c n words rest low high locking depth walk) (r : Row)
     (reached : Reached c.shape words r.base r.kind) (level : r.level ≡ level_in words r.base r.kind)
-        (path : r.path ≡ path_in words r.base r.kind)
+    (path : r.path ≡ path_in words r.base r.kind)
     (deep : 4 ≤ suc depth + r.level) where
   -- the pairs of the range under a byte
   abbrev pairs_at : ℕ → Contents
@@ -57,7 +57,7 @@ module _ (c : Setting) (n : ℕ) (words : List ℕ) (rest : IsAtRest c.shape n w
   slot-word now x slot small at like =
       let its = slot-is words r.base r.kind x slot small at in
       ap (slice_index now) its.is ∙ (like-row c.shape n words rest like reached its.place (behind-version r.kind its.place its.low)
-          its.high ∙ ap (slice_index words) (sym its.is))
+      its.high ∙ ap (slice_index words) (sym its.is))
 
   pub walks-slot : (now : List ℕ) (w : Walked) (x slot : ℕ) → x < 256 → slot_of words r.base r.kind x ≡ Some slot
       → Walking c n words rest locking now w.rows → FreeOf c n words rest low high r.path x w.rows → length (w.pairs ++ pairs_at x) ≤ 4096
@@ -67,7 +67,7 @@ module _ (c : Setting) (n : ℕ) (words : List ℕ) (rest : IsAtRest c.shape n w
       let child = child_of c.shape (slice_index words slot) in
       let is : child_on c.shape words r.base r.kind x ≡ child = ap (child_in c.shape words) at in
       let inner = walks-child c n words rest low high locking walk depth now w r x child e walks reached level path deep
-          small is walking free
+      small is walking free
       (subst (λ p. length (w.pairs ++ within low high (pairs_in (pairs_below depth c.shape words) p)) ≤ 4096) is few) in
       let said : child_of c.shape (slice_index now slot) ≡ child = ap (child_of c.shape) (slot-word now x slot small at walking.like) in
       record {
@@ -75,7 +75,7 @@ module _ (c : Setting) (n : ℕ) (words : List ℕ) (rest : IsAtRest c.shape n w
         later = inner.later;
         comes = bind-comes {f = λ p. walk_child c low high walk p w}
             (bind-comes {f = λ v. give (child_of c.shape v)} (load-comes slot now)
-                (give-comes (child_of c.shape (slice_index now slot)) now))
+            (give-comes (child_of c.shape (slice_index now slot)) now))
             (subst (λ p. Comes (walk_child c low high walk p w) now inner.walked inner.later) (sym said) inner.comes);
         walking = inner.walking;
         pairs_are = inner.pairs_are ∙ ap (λ p. w.pairs ++ within low high (pairs_in (pairs_below depth c.shape words) p)) (sym is);
@@ -176,7 +176,7 @@ module _ (c : Setting) (n : ℕ) (words : List ℕ) (rest : IsAtRest c.shape n w
       let word = slice_index words (keys_at r.base) in
       let inner = walks-keys (keys4_of word) xs w now small
       (λ x. subst (λ k. option_map (child_at k r.base) (place_of x (keys4_of word)) ≡ slot_of words r.base k x) (sym is) refl) rising
-          walking free few in
+      walking free few in
       record {
         walked = inner.walked;
         later = inner.later;
@@ -197,15 +197,15 @@ module _ (c : Setting) (n : ℕ) (words : List ℕ) (rest : IsAtRest c.shape n w
   unfolding walk_in
   walks-sixteen is xs w now small rising walking free few =
       let keys = keys16_of (slice_index words (count_at Sixteen r.base)) (slice_index words (keys_at r.base))
-          (slice_index words (more_keys_at r.base)) in
+      (slice_index words (more_keys_at r.base)) in
       let inner = walks-keys keys xs w now small
       (λ x. subst (λ k. option_map (child_at k r.base) (place_of x keys) ≡ slot_of words r.base k x) (sym is) refl) rising
-          walking free few in
+      walking free few in
       let count = row-word now Sixteen 4 is (omega arith) (omega arith) walking.like in
       let first = row-word now Sixteen 2 is (omega arith) (omega arith) walking.like in
       let second = row-word now Sixteen 3 is (omega arith) (omega arith) walking.like in
       let said : keys16_of (slice_index now (count_at Sixteen r.base)) (slice_index now (keys_at r.base))
-          (slice_index now (more_keys_at r.base)) ≡ keys =
+      (slice_index now (more_keys_at r.base)) ≡ keys =
       rw (count, first, second) refl in
       record {
         walked = inner.walked;
@@ -214,13 +214,13 @@ module _ (c : Setting) (n : ℕ) (words : List ℕ) (rest : IsAtRest c.shape n w
             (keys16_of k f s) xs w}
             (load-comes (count_at Sixteen r.base) now)
             (bind-comes {f = λ f. load (more_keys_at r.base) >>= λ s. walk_keys c low high walk r
-                (keys16_of (slice_index now (count_at Sixteen r.base)) f s) xs w}
+            (keys16_of (slice_index now (count_at Sixteen r.base)) f s) xs w}
             (load-comes (keys_at r.base) now)
             (bind-comes {f = λ s. walk_keys c low high walk r (keys16_of (slice_index now (count_at Sixteen r.base))
-                (slice_index now (keys_at r.base)) s) xs w}
+            (slice_index now (keys_at r.base)) s) xs w}
             (load-comes (more_keys_at r.base) now)
             (subst (λ (keys : List ℕ). Comes (walk_keys c low high walk r keys xs w) now inner.walked inner.later)
-                (sym said) inner.comes)));
+            (sym said) inner.comes)));
         walking = inner.walking;
         pairs_are = inner.pairs_are;
         more = inner.more;
@@ -238,7 +238,7 @@ module _ (c : Setting) (n : ℕ) (words : List ℕ) (rest : IsAtRest c.shape n w
       (λ x. walk_slot c low high walk (child_at Full r.base x)) pairs_at xs w now
       (λ x v at h walking free few. walks-slot at v x (child_at Full r.base x) (small x h)
       (subst (λ k. slot_of words r.base k x ≡ Some (child_at Full r.base x)) (sym is) refl) walking free few) rising walking
-          (λ x h. free x) few
+      (λ x h. free x) few
 
   -- ---- kind 48: the index words one after another
 
@@ -260,7 +260,7 @@ module _ (c : Setting) (n : ℕ) (words : List ℕ) (rest : IsAtRest c.shape n w
       → AllPairs (λ a b. a < b) xs → Walking c n words rest locking now w.rows
       → ((x : ℕ) → x / 8 ≡ j → FreeOf c n words rest low high r.path x w.rows) → length (w.pairs ++ flat_map pairs_at xs) ≤ 4096
       → WalksGroup j (over xs (λ y. walk_entry c low high walk r (slice_index (entries_of (slice_index words (index_at r.base (8 * j))))
-          (y % 8))) w) now w xs
+      (y % 8))) w) now w xs
   walks-entries is j xs w now small rising walking free few =
       walks-as refl (λ q h. (h.0, h.1.0, h.1.1))
       (walks-over c n words rest low high InByte (λ x y less q one two. apart x y less q one.1 two.1) locking
@@ -270,7 +270,7 @@ module _ (c : Setting) (n : ℕ) (words : List ℕ) (rest : IsAtRest c.shape n w
       (slot x ((small x h).1)) walking (All-weaker (λ q. InByte x q → ⊥) (λ q. GoesBy c n words rest low high r.path x q.base q.kind → ⊥)
       (λ q none goes. none ((small x h).1, goes)) v.rows free) few)) rising walking
       (λ x h. All-weaker (λ q. GoesBy c n words rest low high r.path x q.base q.kind → ⊥) (λ q. InByte x q → ⊥)
-          (λ q none goes. none goes.1) w.rows
+      (λ q none goes. none goes.1) w.rows
       (free x ((small x h).1))) few)
     where
       InByte : ℕ → Row → Type 0
@@ -278,11 +278,11 @@ module _ (c : Setting) (n : ℕ) (words : List ℕ) (rest : IsAtRest c.shape n w
 
       slot : (x : ℕ) → x / 8 ≡ j
           → entry_slot r.base (slice_index (entries_of (slice_index words (index_at r.base (8 * j)))) (x % 8)) ≡ slot_of
-              words r.base r.kind x
+          words r.base r.kind x
       slot x its =
           let word : index_at r.base (8 * j) ≡ index_at r.base x = omega (arith, its) in
           subst (λ k. entry_slot r.base (slice_index (entries_of (slice_index words (index_at r.base (8 * j)))) (x % 8)) ≡ slot_of words
-              r.base k x) (sym is)
+          r.base k x) (sym is)
           (ap (λ i. entry_slot r.base (slice_index (entries_of (slice_index words i)) (x % 8))) word)
 
   walks-index : r.kind ≡ FortyEight → (j : ℕ) (xs : List ℕ) (w : Walked) (now : List ℕ) → j < 32
@@ -305,7 +305,7 @@ module _ (c : Setting) (n : ℕ) (words : List ℕ) (rest : IsAtRest c.shape n w
         comes = bind-comes {f = λ v. over (x ∷ xs) (λ y. walk_entry c low high walk r (slice_index (entries_of v) (y % 8))) w}
             (load-comes (index_at r.base (8 * j)) now)
             (subst (λ (v : ℕ). Comes (over (x ∷ xs) (λ y. walk_entry c low high walk r (slice_index (entries_of v) (y % 8))) w) now
-                inner.walked inner.later)
+            inner.walked inner.later)
             (sym said) inner.comes);
         walking = inner.walking;
         pairs_are = inner.pairs_are;
@@ -323,14 +323,14 @@ module _ (c : Setting) (n : ℕ) (words : List ℕ) (rest : IsAtRest c.shape n w
       let all = grouped pairs_at xs rising small in
       walks-as all (λ q h. (h.1.0, h.1.2))
       (walks-over c n words rest low high InGroup apart-groups locking (λ j. walk_index c low high walk r j (group xs j))
-          (λ j. flat_map pairs_at (group xs j))
+      (λ j. flat_map pairs_at (group xs j))
       (numbers 0 32) w now
       (λ j v at h walking free few. walks-index is j (group xs j) v at ((Contains-from_numbers 0 32 j h).1)
       (λ x k. (let its = Contains-from_filter (λ z. z / 8 == j) xs x k in (small x its.0, eqb-true (x / 8) j its.1)))
       (AllPairs-filter (λ a b. a < b) (λ z. z / 8 == j) xs rising) walking
       (λ x its. All-weaker (λ q. InGroup j q → ⊥) (λ q. GoesBy c n words rest low high r.path x q.base q.kind → ⊥)
-          (λ q none goes. none (x, its, goes)) v.rows free)
+      (λ q none goes. none (x, its, goes)) v.rows free)
       few) (numbers-rise 0 32) walking
       (λ j h. All-from_contains (λ q. InGroup j q → ⊥) w.rows
-          (λ q k goes. All-contains (λ q. GoesBy c n words rest low high r.path goes.0 q.base q.kind → ⊥) w.rows q
+      (λ q k goes. All-contains (λ q. GoesBy c n words rest low high r.path goes.0 q.base q.kind → ⊥) w.rows q
       (free goes.0) k goes.2)) (subst (λ p. length (w.pairs ++ p) ≤ 4096) (sym all) few))

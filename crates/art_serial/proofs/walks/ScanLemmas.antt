@@ -39,8 +39,11 @@ module _ (c : Setting) (n : ℕ) (words : List ℕ) (rest : IsAtRest c.shape n w
   scans locking e few =
       let base = root_base c.shape in
       let entered = enters c n words rest locking words [] base Full e
-      (record { like = like-start c.shape n words rest (HeldIn c n words rest locking []); stand =
-          All-nil (Stands c n words rest locking words) }) root refl in
+      (record {
+        like = like-start c.shape n words rest (HeldIn c n words rest locking []);
+        stand =
+            All-nil (Stands c n words rest locking words);
+      }) root refl in
       let row = root_row c entered.version in
       let none : Walked = record { rows = []; pairs = [] } in
       let walked : Walked = record { rows = row ∷ []; pairs = [] } in
@@ -48,9 +51,9 @@ module _ (c : Setting) (n : ℕ) (words : List ℕ) (rest : IsAtRest c.shape n w
       let path : [] ≡ path_in words base Full = sym (ap (λ i. i.path) said) in
       let level : 0 ≡ level_in words base Full = sym (ap (λ i. i.level) said) in
       let walk = walks-rows c n words rest low high locking e 4 row walked entered.later root level path (omega arith)
-          (entered.walking row refl refl refl)
+      (entered.walking row refl refl refl)
       (λ y. All-push (λ q. GoesBy c n words rest low high [] y q.base q.kind → ⊥) [] row
-          (All-nil (λ q. GoesBy c n words rest low high [] y q.base q.kind → ⊥))
+      (All-nil (λ q. GoesBy c n words rest low high [] y q.base q.kind → ⊥))
       (goes-longer c n words rest low high [] y base Full path)) few in
       let let_go = lets-go c n words rest locking walk.later walk.walked.rows e walk.walking in
       record {
@@ -59,7 +62,7 @@ module _ (c : Setting) (n : ℕ) (words : List ℕ) (rest : IsAtRest c.shape n w
             (if locks c.variant then unlock_all w.rows else each w.rows (check_of c)) >> give w.pairs} entered.comes
             (bind-comes {f = λ w. (if locks c.variant then unlock_all w.rows else each w.rows (check_of c)) >> give w.pairs} walk.comes
             (then-comes {n = give walk.walked.pairs} let_go.comes
-                (subst (λ (p : Contents). Comes (give walk.walked.pairs) let_go.later p let_go.later) walk.pairs_are
+            (subst (λ (p : Contents). Comes (give walk.walked.pairs) let_go.later p let_go.later) walk.pairs_are
             (give-comes walk.walked.pairs let_go.later))));
         like = let_go.like;
       }
@@ -79,10 +82,15 @@ scans-are-the-maps same one walked s variant n words m low high few rest means =
     let c : Setting = record { shape = s; variant = variant; call = Scan low high } in
     let all : m ≡ pairs_below 4 s words (root_base s) Full = one s words m (pairs_of s words) means (walked s words rest.tree rest.small) in
     let scanned = scans c n words rest low high (locks variant) refl
-    (omega (arith, few, ap (λ (p : Contents). length p) all, filter-shorter (λ pair. in_range low high pair.0)
-        (pairs_below 4 s words (root_base s) Full))) in
+    (omega (
+      arith,
+      few,
+      ap (λ (p : Contents). length p) all,
+      filter-shorter (λ pair. in_range low high pair.0)
+          (pairs_below 4 s words (root_base s) Full),
+    )) in
     let rows : HasRows s words scanned.later m =
-        same s words scanned.later m rest.tree means (λ b k reached. like-row s n words rest scanned.like reached) in
+    same s words scanned.later m rest.tree means (λ b k reached. like-row s n words rest scanned.like reached) in
     record {
       later = scanned.later;
       runs = subst (λ (p : Contents). RunsAlone (act s variant (Scan low high)) words scanned.later

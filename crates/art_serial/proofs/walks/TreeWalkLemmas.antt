@@ -38,7 +38,7 @@ module _ (c : Setting) (n : ℕ) (words : List ℕ) (rest : IsAtRest c.shape n w
 
   module _ (depth : ℕ) (walks : WalksRows c n words rest low high locking depth walk_on) (r : Row)
       (reached : Reached c.shape words r.base r.kind) (level : r.level ≡ level_in words r.base r.kind)
-          (path : r.path ≡ path_in words r.base r.kind)
+      (path : r.path ≡ path_in words r.base r.kind)
       (deep : 4 ≤ suc depth + r.level) where
     abbrev pairs_at : ℕ → Contents
     pairs_at x = within low high (under c n words rest low high depth r.base r.kind x)
@@ -73,7 +73,7 @@ module _ (c : Setting) (n : ℕ) (words : List ℕ) (rest : IsAtRest c.shape n w
               (below-small c.shape words rest.tree rest.small depth) k,
           subst (λ p. BeginsWith p x pair.0) (sym path)
               (under-begins c.shape words rest.tree (pairs_below depth c.shape words) r.base r.kind x pair
-                  (below-begins c.shape words rest.tree depth) reached
+              (below-begins c.shape words rest.tree depth) reached
               ((Contains-from_numbers 0 256 x h).1) k),
         )) (level ∙ sym (ap (λ p. length p) path ∙ (rest.tree.info r.base r.kind reached).0))
 
@@ -82,7 +82,7 @@ module _ (c : Setting) (n : ℕ) (words : List ℕ) (rest : IsAtRest c.shape n w
   walks-rows (suc depth) r w now reached level path deep walking free few =
       let is = listed depth (walks-rows depth) r reached level path deep in
       let inner = walks-bytes depth (walks-rows depth) r reached level path deep (bytes_of low high r) w now (bytes-small r)
-          (bytes-rise r) walking free
+      (bytes-rise r) walking free
       (subst (λ p. length (w.pairs ++ p) ≤ 4096) is few) in
       record {
         walked = inner.walked;

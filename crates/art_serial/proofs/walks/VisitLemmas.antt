@@ -111,7 +111,7 @@ module _ (c : Setting) (n : ℕ) (words : List ℕ) (rest : IsAtRest c.shape n w
 
       counted : (t : Bool) → t ≡ true
           → Walks locking (give (if t then record { rows = w.rows; pairs = w.pairs ++ (key, value) ∷ [] } else w)) now w
-              ((key, value) ∷ []) IsBelow
+          ((key, value) ∷ []) IsBelow
       counted false e = absurd (false≢true e)
       counted true e = record {
         walked = record { rows = w.rows; pairs = w.pairs ++ (key, value) ∷ [] };
@@ -126,7 +126,7 @@ module _ (c : Setting) (n : ℕ) (words : List ℕ) (rest : IsAtRest c.shape n w
 
       go : (a b : Bool) → length (w.pairs ++ (if a && b then (key, value) ∷ [] else [])) ≤ 4096
           → Walks locking (give (if a && b && nat_lt (length w.pairs) pair_limit then record
-              { rows = w.rows; pairs = w.pairs ++ (key, value) ∷ [] } else w)) now w
+          { rows = w.rows; pairs = w.pairs ++ (key, value) ∷ [] } else w)) now w
           (if a && b then (key, value) ∷ [] else []) IsBelow
       go true true few = counted (nat_lt (length w.pairs) pair_limit) (room few)
       go true false few = walks-nothing locking now w IsBelow walking
@@ -180,15 +180,15 @@ module _ (c : Setting) (n : ℕ) (words : List ℕ) (rest : IsAtRest c.shape n w
       let inner : Comes (walk row (with_row row w)) entered.later next.walked next.later =
       subst (λ (b : Bool). Comes (walk row (if b then w else w2)) entered.later next.walked next.later) (sym new) next.comes in
       let said : slice_index entered.later (info_at m) ≡ info =
-          like-row c.shape n words rest walking2.like its 1 (omega arith) (two-words k) in
+      like-row c.shape n words rest walking2.like its 1 (omega arith) (two-words k) in
       record {
         walked = next.walked;
         later = next.later;
         comes = bind-comes {f = λ v. load (info_at m) >>= λ i. walk (row_of m k i v) (with_row (row_of m k i v) w)} entered.comes
             (bind-comes {f = λ i. walk (row_of m k i entered.version) (with_row (row_of m k i entered.version) w)}
-                (load-comes (info_at m) entered.later)
+            (load-comes (info_at m) entered.later)
             (subst (λ (i : ℕ). Comes (walk (row_of m k i entered.version) (with_row (row_of m k i entered.version) w)) entered.later
-                next.walked next.later)
+            next.walked next.later)
             (sym said) inner));
         walking = next.walking;
         pairs_are = next.pairs_are;

@@ -1,9 +1,9 @@
 -- Bytes packed in a word are read back.
 use Rattle.std.proofs.Common.{◌≡◌, ℕ, suc, ◌+◌, ◌-◌, ◌*◌, ◌/◌, ◌%◌, ◌^◌, ◌<◌, ◌≤◌, List, [], ◌∷◌, ◌++◌, length, take, drop, refl, ap, sym}
-use Rattle.std.proofs.Common.{◌∙◌, ⊎_elim, true, false, arith}
+use Rattle.std.proofs.Common.{◌∙◌, ⊎_elim, arith}
 use Rattle.std.specs.Prelude.{nat_le, All, slice_index, if◌then◌else◌}
 use Rattle.std.proofs.Math.Nat.{pow-suc, pow-le-pow_right}
-use Rattle.std.proofs.lemmas.Bool.{cases_lt}
+use Rattle.std.proofs.lemmas.Bool.{cases_lt, le-leb, lt-leb}
 use Rattle.std.proofs.lemmas.List.{take-append-drop, length-take, length-drop}
 use Rattle.std.proofs.lemmas.List.Elements.{All-nil, All-cons, All-head, All-tail, All-take, All-drop}
 use Rattle.art_rows.specs.Words.{packed, low_bytes, key_bytes, count_of, keys4_of, keys16_of, keys4_word, keys16_word, more_keys16_word}
@@ -53,12 +53,6 @@ packed-most n xs h few =
     let most : 256 ^ length xs ≤ 256 ^ n = pow-le-pow_right (omega arith) few in
     omega (arith, most, packed-below xs h)
 
-pub less_equal : (a b : ℕ) → a ≤ b → nat_le a b ≡ true
-less_equal a b h = grind (arith, h)
-
-pub not_less_equal : (a b : ℕ) → b < a → nat_le a b ≡ false
-not_less_equal a b h = grind (arith, h)
-
 -- kind 4
 pub keys4_back : (keys : List ℕ) → length keys ≤ 4 → AreBytes keys → keys4_of (keys4_word keys) ≡ keys
 keys4_back keys few h =
@@ -66,7 +60,7 @@ keys4_back keys few h =
     let r : (length keys + 256 * packed keys) / 256 ≡ packed keys = other_bytes (length keys) (packed keys) (omega (arith, few)) in
     ap (λ k. if nat_le k 4 then low_bytes k ((length keys + 256 * packed keys) / 256) else []) n
     ∙ ap (λ w. if nat_le (length keys) 4 then low_bytes (length keys) w else []) r
-    ∙ ap (λ b. if b then low_bytes (length keys) (packed keys) else []) (less_equal (length keys) 4 few)
+    ∙ ap (λ b. if b then low_bytes (length keys) (packed keys) else []) (le-leb (length keys) 4 few)
     ∙ low_bytes-packed keys h
 
 -- kind 16
@@ -79,18 +73,18 @@ bytes_back keys few h = ⊎_elim many some (cases_lt 8 (length keys))
     some : length keys ≤ 8 → bytes_of (length keys) (keys16_word keys) (more_keys16_word keys) ≡ keys
     some l =
         ap (λ b. if b then low_bytes (length keys) (keys16_word keys)
-        else low_bytes 8 (keys16_word keys) ++ low_bytes (length keys - 8) (more_keys16_word keys)) (less_equal (length keys) 8 l)
+        else low_bytes 8 (keys16_word keys) ++ low_bytes (length keys - 8) (more_keys16_word keys)) (le-leb (length keys) 8 l)
         ∙ ap (λ xs. low_bytes (length keys) (packed xs)) (take_whole 8 keys l)
         ∙ low_bytes-packed keys h
 
     many : 8 < length keys → bytes_of (length keys) (keys16_word keys) (more_keys16_word keys) ≡ keys
     many l =
         ap (λ b. if b then low_bytes (length keys) (keys16_word keys)
-        else low_bytes 8 (keys16_word keys) ++ low_bytes (length keys - 8) (more_keys16_word keys)) (not_less_equal (length keys) 8 l)
+        else low_bytes 8 (keys16_word keys) ++ low_bytes (length keys - 8) (more_keys16_word keys)) (lt-leb (length keys) 8 l)
         ∙ ap (λ xs. xs ++ low_bytes (length keys - 8) (more_keys16_word keys))
         (low_of 8 (take 8 keys) (All-take (λ x. x < 256) 8 keys h) (length-take 8 keys ∙ omega (arith, l)))
         ∙ ap (λ xs. take 8 keys ++ low_bytes (length keys - 8) (packed xs))
-            (take_whole 8 (drop 8 keys) (omega (arith, length-drop 8 keys, few)))
+        (take_whole 8 (drop 8 keys) (omega (arith, length-drop 8 keys, few)))
         ∙ ap (λ xs. take 8 keys ++ xs) (low_of (length keys - 8) (drop 8 keys) (All-drop (λ x. x < 256) 8 keys h) (length-drop 8 keys))
         ∙ take-append-drop 8 keys
 
@@ -98,7 +92,7 @@ pub keys16_back : (keys : List ℕ) → length keys ≤ 16 → AreBytes keys
     → keys16_of (length keys) (keys16_word keys) (more_keys16_word keys) ≡ keys
 keys16_back keys few h =
     take_bytes (count_of 16 (length keys)) (keys16_word keys) (more_keys16_word keys) (most_of (length keys))
-    ∙ ap (λ b. bytes_of (if b then length keys else 0) (keys16_word keys) (more_keys16_word keys)) (less_equal (length keys) 16 few)
+    ∙ ap (λ b. bytes_of (if b then length keys else 0) (keys16_word keys) (more_keys16_word keys)) (le-leb (length keys) 16 few)
     ∙ bytes_back keys few h
 
 -- the words have 64 bits

@@ -6,49 +6,26 @@ use Rattle.std.specs.List.Sorted.{IsStrictlyIncreasing}
 use Rattle.std.proofs.lemmas.Option.{none-some}
 use Rattle.std.proofs.lemmas.List.Elements.{All-head, All-tail, All-cons, All-append, All-take, All-drop, All-weaker}
 use Rattle.std.proofs.lemmas.List.Kept.{AllPairs-cons, AllPairs-from_increasing}
+use Rattle.std.proofs.lemmas.Bool.{lt-ltb, le-ltb, ltb-true, ltb-false, eq-eqb, eqb-false, ne_eqb}
 use Rattle.list_laws.proofs.Lists.{AllPairs-head, AllPairs-tail}
 use Rattle.art_rows.specs.Words.{place_of, new_place, with_key}
 use Rattle.art_rows.proofs.WriterLemmas.{length-put_in}
 use Rattle.art_serial.specs.words.Keys.{place_moved}
 
-pub same_number : (n : ℕ) → (n == n) ≡ true
-same_number n = grind arith
-
-pub other_number : (a b : ℕ) → a ≢ b → (a == b) ≡ false
-other_number a b h = grind (arith, h)
-
-pub number_is : (a b : ℕ) → (a == b) ≡ true → a ≡ b
-number_is a b h = grind (arith, h)
-
-pub number_is_not : (a b : ℕ) → (a == b) ≡ false → a ≢ b
-number_is_not a b h = grind (arith, h)
-
-pub is_less : (a b : ℕ) → nat_lt a b ≡ true → a < b
-is_less a b h = grind (arith, h)
-
-is_not_less : (a b : ℕ) → nat_lt a b ≡ false → b ≤ a
-is_not_less a b h = grind (arith, h)
-
-pub less : (a b : ℕ) → a < b → nat_lt a b ≡ true
-less a b h = grind (arith, h)
-
-pub not_less : (a b : ℕ) → b ≤ a → nat_lt a b ≡ false
-not_less a b h = grind (arith, h)
-
 -- the places that move
 
 pub moved-before : (p i : ℕ) → i < p → place_moved p i ≡ i
-moved-before p i h = ap (λ b. if b then i else i + 1) (less i p h)
+moved-before p i h = ap (λ b. if b then i else i + 1) (lt-ltb i p h)
 
 pub moved-behind : (p i : ℕ) → p ≤ i → place_moved p i ≡ i + 1
-moved-behind p i h = ap (λ b. if b then i else i + 1) (not_less i p h)
+moved-behind p i h = ap (λ b. if b then i else i + 1) (le-ltb i p h)
 
 moved-suc : (p i : ℕ) → place_moved p i + 1 ≡ place_moved (suc p) (i + 1)
 moved-suc p i = go (nat_lt i p) refl
   where
     go : (b : Bool) → nat_lt i p ≡ b → place_moved p i + 1 ≡ place_moved (suc p) (i + 1)
-    go true e = let l = is_less i p e in ap (λ k. k + 1) (moved-before p i l) ∙ sym (moved-before (suc p) (i + 1) (omega (arith, l)))
-    go false e = let l = is_not_less i p e in ap (λ k. k + 1) (moved-behind p i l) ∙ sym (moved-behind (suc p) (i + 1) (omega (arith, l)))
+    go true e = let l = ltb-true i p e in ap (λ k. k + 1) (moved-before p i l) ∙ sym (moved-before (suc p) (i + 1) (omega (arith, l)))
+    go false e = let l = ltb-false i p e in ap (λ k. k + 1) (moved-behind p i l) ∙ sym (moved-behind (suc p) (i + 1) (omega (arith, l)))
 
 -- A place is one of the list's.
 
@@ -57,7 +34,7 @@ place_head x y o h = go (y == x) refl o h
   where
     go : (b : Bool) → (y == x) ≡ b → (o : Option ℕ) → (if b then Some 0 else option_map (λ i. i + 1) o) ≡ None → (y ≢ x) × (o ≡ None)
     go true e o h = absurd (none-some 0 (sym h))
-    go false e None h = (number_is_not y x e, refl)
+    go false e None h = (eqb-false y x e, refl)
     go false e (Some i) h = absurd (none-some (i + 1) (sym h))
 
 -- The keys with one more.
@@ -73,7 +50,7 @@ length-with_key x keys = length-put_in x (new_place x keys) keys
 none_less : (x : ℕ) (ys : List ℕ) → All (λ y. x ≤ y) ys → new_place x ys ≡ 0
 none_less x [] h = refl
 none_less x (y ∷ ys) h =
-    ap (λ b. if b then suc (new_place x ys) else new_place x ys) (not_less y x (All-head (λ y. x ≤ y) y ys h))
+    ap (λ b. if b then suc (new_place x ys) else new_place x ys) (le-ltb y x (All-head (λ y. x ≤ y) y ys h))
     ∙ none_less x ys (All-tail (λ y. x ≤ y) y ys h)
 
 abbrev Rising : List ℕ → Type 0
@@ -84,7 +61,7 @@ later_key : (x y : ℕ) (ys : List ℕ) → y < x → (new_place x (y ∷ ys) �
 later_key x y ys l = (place, ap (λ p. take p (y ∷ ys) ++ x ∷ drop p (y ∷ ys)) place)
   where
     place : new_place x (y ∷ ys) ≡ suc (new_place x ys)
-    place = ap (λ b. if b then suc (new_place x ys) else new_place x ys) (less y x l)
+    place = ap (λ b. if b then suc (new_place x ys) else new_place x ys) (lt-ltb y x l)
 
 first_key : (x y : ℕ) (ys : List ℕ) → Rising (y ∷ ys) → x ≤ y → (new_place x (y ∷ ys) ≡ 0) × (with_key x (y ∷ ys) ≡ x ∷ y ∷ ys)
 first_key x y ys up l = (place, ap (λ p. take p (y ∷ ys) ++ x ∷ drop p (y ∷ ys)) place)
@@ -101,8 +78,8 @@ placed : (x y : ℕ) (ys : List ℕ) → Rising (y ∷ ys) → Place x y ys
 placed x y ys up = go (nat_lt y x) refl
   where
     go : (b : Bool) → nat_lt y x ≡ b → Place x y ys
-    go true e = let l = is_less y x e in let k = later_key x y ys l in behind l k.0 k.1
-    go false e = let l = is_not_less y x e in let k = first_key x y ys up l in before l k.0 k.1
+    go true e = let l = ltb-true y x e in let k = later_key x y ys l in behind l k.0 k.1
+    go false e = let l = ltb-false y x e in let k = first_key x y ys up l in before l k.0 k.1
 
 rising_with : (x : ℕ) (keys : List ℕ) → Rising keys → place_of x keys ≡ None → Rising (with_key x keys)
 rising_with x [] up absent = AllPairs-cons (λ a b. a < b) x [] (λ k d l. absurd (omega (arith, l))) up
@@ -128,7 +105,7 @@ increasing-with_key x keys up absent k l =
     rising_with x keys (AllPairs-from_increasing keys up) absent k (k + 1) 0 (omega arith) l
 
 place_new : (x : ℕ) (keys : List ℕ) → Rising keys → place_of x keys ≡ None → place_of x (with_key x keys) ≡ Some (new_place x keys)
-place_new x [] up absent = ap (λ b. if b then Some 0 else None) (same_number x)
+place_new x [] up absent = ap (λ b. if b then Some 0 else None) (eq-eqb x x refl)
 place_new x (y ∷ ys) up absent =
     go (place_new x ys (AllPairs-tail (λ a b. a < b) y ys up) (place_head x y (place_of x ys) absent).1) (placed x y ys up)
   where
@@ -138,7 +115,7 @@ place_new x (y ∷ ys) up absent =
     go : place_of x (with_key x ys) ≡ Some (new_place x ys) → Place x y ys → place_of x (with_key x (y ∷ ys)) ≡ Some (new_place x (y ∷ ys))
     go more (behind l p e) =
         ap (place_of x) e
-        ∙ ap (λ b. if b then Some 0 else option_map (λ i. i + 1) (place_of x (with_key x ys))) (other_number y x parts.0)
+        ∙ ap (λ b. if b then Some 0 else option_map (λ i. i + 1) (place_of x (with_key x ys))) (ne_eqb y x parts.0)
         ∙ ap (option_map (λ i. i + 1)) more
         ∙ ap Some (suc_is (new_place x ys) ∙ sym p)
       where
@@ -146,7 +123,7 @@ place_new x (y ∷ ys) up absent =
         suc_is n = omega arith
     go more (before l p e) =
         ap (place_of x) e
-        ∙ ap (λ b. if b then Some 0 else option_map (λ i. i + 1) (place_of x (y ∷ ys))) (same_number x)
+        ∙ ap (λ b. if b then Some 0 else option_map (λ i. i + 1) (place_of x (y ∷ ys))) (eq-eqb x x refl)
         ∙ ap Some (sym p)
 
 pub place_of-new : (x : ℕ) (keys : List ℕ) → IsStrictlyIncreasing keys → place_of x keys ≡ None
@@ -155,7 +132,7 @@ place_of-new x keys up absent = place_new x keys (AllPairs-from_increasing keys 
 
 place_old : (x y : ℕ) (keys : List ℕ) → Rising keys → y ≢ x
     → place_of y (with_key x keys) ≡ option_map (place_moved (new_place x keys)) (place_of y keys)
-place_old x y [] up other = ap (λ b. if b then Some 0 else None) (other_number x y (λ e. other (sym e)))
+place_old x y [] up other = ap (λ b. if b then Some 0 else None) (ne_eqb x y (λ e. other (sym e)))
 place_old x y (z ∷ zs) up other = go (place_old x y zs (AllPairs-tail (λ a b. a < b) z zs up) other) (placed x z zs up)
   where
     shift : (p : ℕ) (o : Option ℕ)
@@ -184,7 +161,7 @@ place_old x y (z ∷ zs) up other = go (place_old x y zs (AllPairs-tail (λ a b.
         ∙ ap (λ k. option_map (place_moved k) (place_of y (z ∷ zs))) (sym p)
     go more (before l p e) =
         ap (place_of y) e
-        ∙ ap (λ b. if b then Some 0 else option_map (λ i. i + 1) (place_of y (z ∷ zs))) (other_number x y (λ h. other (sym h)))
+        ∙ ap (λ b. if b then Some 0 else option_map (λ i. i + 1) (place_of y (z ∷ zs))) (ne_eqb x y (λ h. other (sym h)))
         ∙ all (place_of y (z ∷ zs))
         ∙ ap (λ k. option_map (place_moved k) (place_of y (z ∷ zs))) (sym p)
 

@@ -28,8 +28,12 @@ pub kind_at-base_of : (s : Shape) (kind : Kind) (number : ℕ) → number < rows
 kind_at-base_of s Four number h = rw (is_base s Four number h)
 kind_at-base_of s Sixteen number h = rw (behind s Four (base_of s Sixteen number) (omega arith), is_base s Sixteen number h)
 kind_at-base_of s FortyEight number h =
-    rw (behind s Four (base_of s FortyEight number) (omega arith), behind s Sixteen (base_of s FortyEight number) (omega arith), is_base s
-        FortyEight number h)
+    rw (
+      behind s Four (base_of s FortyEight number) (omega arith),
+      behind s Sixteen (base_of s FortyEight number) (omega arith),
+      is_base s
+          FortyEight number h,
+    )
 kind_at-base_of s Full number h =
     rw (
       behind s Four (base_of s Full number) (omega arith),
@@ -152,7 +156,7 @@ same_row s a b kind word m n h k =
     let hm = subst (λ x. IsIn x kind word) m.is h in
     let hn = subst (λ x. IsIn x kind word) n.is k in
     m.is ∙ ap (base_of s kind) (same_numbers (row_words kind) (first_base s kind) m.number n.number word (some-words kind) hm.0 hm.1
-        hn.0 hn.1) ∙ sym n.is
+    hn.0 hn.1) ∙ sym n.is
 
 -- the row that has a word
 pub rows_apart : (s : Shape) (a b : ℕ) (ka kb : Kind) (word : ℕ) → kind_at s a ≡ Some ka → kind_at s b ≡ Some kb

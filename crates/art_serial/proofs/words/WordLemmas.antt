@@ -3,6 +3,7 @@ use Rattle.std.proofs.Common.{◌≡◌, ℕ, ◌+◌, ◌*◌, ◌/◌, ◌%◌
 use Rattle.std.proofs.Common.{◌∙◌, Bool, true, false, arith}
 use Rattle.std.specs.Prelude.{◌==◌, nat_le, All, Option, Some, None, if◌then◌else◌}
 use Rattle.std.proofs.lemmas.List.Elements.{All-head, All-tail, All-weaker}
+use Rattle.std.proofs.lemmas.Bool.{eq-eqb, eqb-true}
 use Rattle.art_rows.specs.declared.table.Shape.{Shape}
 use Rattle.art_rows.specs.declared.table.Kind.{Kind}
 use Rattle.art_rows.specs.declared.table.Child.{Child}
@@ -13,14 +14,13 @@ use Rattle.art_rows.specs.Words.{child_of, child_word}
 use Rattle.art_rows.proofs.KindLemmas.{code-few}
 use Rattle.art_serial.specs.words.Stored.{IsStored, IsShort}
 use Rattle.art_serial.proofs.words.ByteLemmas.{AreBytes, low_bytes-packed, packed-most}
-use Rattle.art_serial.proofs.words.KeyLemmas.{same_number}
 
 -- entries
 entries_small : (es : List ℕ) → All (λ e. e ≤ 48) es → map entry_of es ≡ es
 entries_small [] h = refl
 entries_small (e ∷ es) h =
     ap (λ d. d ∷ map entry_of es) (entry_small e (All-head (λ e. e ≤ 48) e es h))
-        ∙ ap (λ ds. e ∷ ds) (entries_small es (All-tail (λ e. e ≤ 48) e es h))
+    ∙ ap (λ ds. e ∷ ds) (entries_small es (All-tail (λ e. e ≤ 48) e es h))
   where
     within : (e : ℕ) → e ≤ 48 → nat_le e 48 ≡ true
     within e l = grind (arith, l)
@@ -52,8 +52,8 @@ pub info_back : (kind : Kind) (level : ℕ) (path : List ℕ) → level ≤ 3 �
 info_back kind level path few long h =
     let parts = info_as (kind_code kind) level (packed path) (code-few kind) few in
     ap (λ b. if b then info_with ((info_word kind level path / 4) % 4)
-        (low_bytes ((info_word kind level path / 4) % 4) (info_word kind level path / 256))
-    else info_with 0 []) (ap (λ n. n == kind_code kind) parts.0 ∙ same_number (kind_code kind))
+    (low_bytes ((info_word kind level path / 4) % 4) (info_word kind level path / 256))
+    else info_with 0 []) (ap (λ n. n == kind_code kind) parts.0 ∙ eq-eqb (kind_code kind) (kind_code kind) refl)
     ∙ ap (λ n. info_with n (low_bytes n (info_word kind level path / 256))) parts.1
     ∙ ap (λ w. info_with level (low_bytes level w)) parts.2
     ∙ ap (info_with level) (ap (λ n. low_bytes n (packed path)) (sym long) ∙ low_bytes-packed path h)
@@ -90,7 +90,7 @@ child_back s (Leaf key value) h = leaf_back s key value h (key * 2 ^ 32 + value 
         → (w % 4 ≡ 2) × (w / 2 ^ 32 ≡ key) × ((w % 2 ^ 32) / 4 ≡ value) → child_of s w ≡ Leaf key value
     leaf_back s key value h w parts =
         ap (λ n. if n == 1 then row_child (w / 4)
-            (kind_at s (w / 4)) else (if n == 2 then Leaf (w / 2 ^ 32) ((w % 2 ^ 32) / 4) else Empty)) parts.0
+        (kind_at s (w / 4)) else (if n == 2 then Leaf (w / 2 ^ 32) ((w % 2 ^ 32) / 4) else Empty)) parts.0
         ∙ ap (λ k. Leaf k ((w % 2 ^ 32) / 4)) parts.1
         ∙ ap (Leaf key) parts.2
 
@@ -115,7 +115,7 @@ child_of-stored s w = one (w % 4 == 1)
 
     one : (b : Bool)
         → IsStored s (if b then row_child (w / 4) (kind_at s (w / 4)) else (if w % 4 == 2 then Leaf (w / 2 ^ 32)
-            ((w % 2 ^ 32) / 4) else Empty))
+        ((w % 2 ^ 32) / 4) else Empty))
     one true = row_child-stored s (w / 4) (kind_at s (w / 4)) refl
     one false = two (w % 4 == 2)
 
@@ -127,19 +127,16 @@ child_again s w = child_back s (child_of s w) (child_of-stored s w)
 pub again_below : (s : Shape) (w : ℕ) → w < 2 ^ 64 → child_word (child_of s w) < 2 ^ 64
 again_below s w h = one (w % 4 == 1) refl
   where
-    is : (n m : ℕ) → (n == m) ≡ true → n ≡ m
-    is n m e = grind (arith, e)
-
     row : (o : Option Kind) → w % 4 ≡ 1 → child_word (row_child (w / 4) o) < 2 ^ 64
     row None e = omega arith
     row (Some kind) e = omega (arith, h, e)
 
     two : (b : Bool) → (w % 4 == 2) ≡ b → child_word (if b then Leaf (w / 2 ^ 32) ((w % 2 ^ 32) / 4) else Empty) < 2 ^ 64
-    two true e = omega (arith, h, is (w % 4) 2 e)
+    two true e = omega (arith, h, eqb-true (w % 4) 2 e)
     two false e = omega arith
 
     one : (b : Bool) → (w % 4 == 1) ≡ b
         → child_word (if b then row_child (w / 4) (kind_at s (w / 4)) else (if w % 4 == 2 then Leaf (w / 2 ^ 32)
-            ((w % 2 ^ 32) / 4) else Empty)) < 2 ^ 64
-    one true e = row (kind_at s (w / 4)) (is (w % 4) 1 e)
+        ((w % 2 ^ 32) / 4) else Empty)) < 2 ^ 64
+    one true e = row (kind_at s (w / 4)) (eqb-true (w % 4) 1 e)
     one false e = two (w % 4 == 2) refl

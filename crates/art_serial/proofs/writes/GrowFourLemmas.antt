@@ -112,7 +112,7 @@ module _ (s : Shape) (old base : ℕ) (words keys : List ℕ) (x : ℕ) (child :
   moves : HaveMoved s words after_grow4 (old + 3) (base + 5) p (length keys)
   moves =
       moved-stored (moved-stored (moved-stored (moved-new moves0 (child_word child)) (base + 2)
-          (keys16_word (with_key x keys)) (omega arith))
+      (keys16_word (with_key x keys)) (omega arith))
       (base + 3) (more_keys16_word (with_key x keys)) (omega arith)) (base + 4) (length keys + 1) (omega arith)
 
   first_now : slice_index after_grow4 (base + 2) ≡ keys16_word (with_key x keys)
@@ -156,11 +156,11 @@ module _ (s : Shape) (old base : ℕ) (words keys : List ℕ) (x : ℕ) (child :
   beside_now word h =
       stored-other put3 (base + 4) word (length keys + 1) (⊎_elim (λ l e. omega (arith, l, e)) (λ l e. omega (arith, l, e)) h)
       ∙ stored-other put2 (base + 3) word (more_keys16_word (with_key x keys))
-          (⊎_elim (λ l e. omega (arith, l, e)) (λ l e. omega (arith, l, e)) h)
+      (⊎_elim (λ l e. omega (arith, l, e)) (λ l e. omega (arith, l, e)) h)
       ∙ stored-other put1 (base + 2) word (keys16_word (with_key x keys))
-          (⊎_elim (λ l e. omega (arith, l, e)) (λ l e. omega (arith, l, e)) h)
+      (⊎_elim (λ l e. omega (arith, l, e)) (λ l e. omega (arith, l, e)) h)
       ∙ stored-other put0 (base + 5 + p) word (child_word child)
-          (⊎_elim (λ l e. omega (arith, l, e)) (λ l e. omega (arith, l, e, low, few)) h)
+      (⊎_elim (λ l e. omega (arith, l, e)) (λ l e. omega (arith, l, e, low, few)) h)
       ∙ copies-other s (old + 3) (new_slot base p) 0 (length keys) words word
       (λ j a b e. ⊎_elim (λ l. omega (arith, l, e, new_slot-low base p j)) (λ l. omega (arith, l, e, new_slot-high base p j, b, few)) h)
 
@@ -188,7 +188,7 @@ pub grow4-comes : (c : Setting) (old level kept base : ℕ) (path words keys : L
     → Comes (fill Four c (record { base = old; kind = Four; level = level; path = path; kept = kept }) base x keys (length keys)) words tt
     (slice_set (slice_set (slice_set (with_child (with_copies c.shape (old + 3) (new_slot base (new_place x keys)) 0 (length keys) words)
     (base + 5 + new_place x keys) (new_leaf c.call)) (base + 2) (keys16_word (with_key x keys))) (base + 3)
-        (more_keys16_word (with_key x keys)))
+    (more_keys16_word (with_key x keys)))
     (base + 4) (length keys + 1))
 unfolding fill
 grow4-comes c old level kept base path words keys x =

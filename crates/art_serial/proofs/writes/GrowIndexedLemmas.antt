@@ -7,6 +7,7 @@ use Rattle.std.proofs.lemmas.Option.{same_Some, none-some}
 use Rattle.std.proofs.lemmas.List.{length-append, get_or_default}
 use Rattle.std.proofs.lemmas.List.Elements.{All-nil, All-cons, All-append, All-get_or}
 use Rattle.std.proofs.lemmas.List.Kept.{AllPairs-cons, AllPairs-from_increasing}
+use Rattle.std.proofs.lemmas.Bool.{eq-eqb, ne_eqb}
 use Rattle.std.specs.List.Sorted.{IsStrictlyIncreasing}
 use Rattle.list_laws.proofs.Lists.{AllPairs-nil, AllPairs-append}
 use Rattle.art_rows.specs.declared.table.Shape.{Shape}
@@ -24,7 +25,6 @@ use Rattle.art_serial.specs.alone.Alone.{Comes}
 use Rattle.art_serial.proofs.alone.AloneLemmas.{then-comes, store-comes}
 use Rattle.art_serial.specs.words.Stored.{IsStored}
 use Rattle.art_serial.proofs.words.ByteLemmas.{AreBytes}
-use Rattle.art_serial.proofs.words.KeyLemmas.{other_number, same_number}
 use Rattle.art_serial.specs.writes.Writes.{IsBeside, HasGrown}
 use Rattle.art_serial.proofs.writes.StoreLemmas.{small-stored, small-child, stored-at, stored-other, stored-long, with_child, child-stored}
 use Rattle.art_serial.proofs.writes.StoreLemmas.{store_child-comes}
@@ -38,7 +38,7 @@ module _ (s : Shape) (old base : ℕ) (words keys : List ℕ) (x : ℕ) (child :
     (fits : base + 83 ≤ length words)
     (apart : (old + 21 ≤ base) ⊎ (base + 83 ≤ old))
     (read : keys16_of (slice_index words (old + 4)) (slice_index words (old + 2)) (slice_index words (old + 3)) ≡ keys)
-        (full : length keys ≡ 16)
+    (full : length keys ≡ 16)
     (up : IsStrictlyIncreasing keys) (bytes : AreBytes keys) (absent : place_of x keys ≡ None) (small : x < 256) where
   abbrev ks : List ℕ
   ks = keys ++ x ∷ []
@@ -72,13 +72,13 @@ module _ (s : Shape) (old base : ℕ) (words keys : List ℕ) (x : ℕ) (child :
   place_new =
       place_append x keys (x ∷ [])
       ∙ ap (λ o. joined o (place_of x (x ∷ [])) (length keys)) absent
-      ∙ ap (λ b. option_map (λ i. i + length keys) (if b then Some 0 else None)) (same_number x)
+      ∙ ap (λ b. option_map (λ i. i + length keys) (if b then Some 0 else None)) (eq-eqb x x refl)
       ∙ ap Some (omega (arith, full))
 
   place_old : (y : ℕ) → y ≢ x → place_of y ks ≡ place_of y keys
   place_old y other =
       place_append y keys (x ∷ [])
-      ∙ ap (λ b. joined (place_of y keys) (if b then Some 0 else None) (length keys)) (other_number x y (λ e. other (sym e)))
+      ∙ ap (λ b. joined (place_of y keys) (if b then Some 0 else None) (length keys)) (ne_eqb x y (λ e. other (sym e)))
       ∙ no_more (place_of y keys)
     where
       no_more : (o : Option ℕ) → joined o None (length keys) ≡ o
@@ -146,12 +146,12 @@ module _ (s : Shape) (old base : ℕ) (words keys : List ℕ) (x : ℕ) (child :
       ap (child_of s) (behind_index (base + 35 + i) (omega arith)
       ∙ stored-other put0 (base + 35 + 16) (base + 35 + i) (child_word child) (λ e. omega (arith, e, l)))
       ∙ copies-copied s (old + 5) (λ j. base + 35 + j) 0 (length keys) (length keys) words clear (omega arith) i (omega arith)
-          (omega (arith, l, full))
+      (omega (arith, l, full))
 
   new_child : child_of s (slice_index after_grow16 (base + 35 + 16)) ≡ child
   new_child =
       ap (child_of s) (behind_index (base + 35 + 16) (omega arith))
-          ∙ child-stored s put0 (base + 35 + 16) child (omega (arith, fits, long0)) stored
+      ∙ child-stored s put0 (base + 35 + 16) child (omega (arith, fits, long0)) stored
 
   -- the form of the fresh row
   once : (y z slot : ℕ) → y < 256 → z < 256 → slot_of after_grow16 base FortyEight y ≡ Some slot
@@ -201,17 +201,17 @@ module _ (s : Shape) (old base : ℕ) (words keys : List ℕ) (x : ℕ) (child :
         form = form_now;
         others = λ y b other.
             other_child y b other (place_of y keys) refl
-                ∙ ap (λ ks. child_in s words (option_map (λ i. old + 5 + i) (place_of y ks))) (sym read);
+            ∙ ap (λ ks. child_in s words (option_map (λ i. old + 5 + i) (place_of y ks))) (sym read);
         put = ap (child_in s after_grow16) (slot_some x 16 small place_new) ∙ new_child;
         small = λ h short.
             small-stored put2 (base + 34) 17 (index-small base ks 0 32 put1 (omega (arith, long_keys))
             (small-child put0 (base + 35 + 16) child (copies-small s (old + 5) (λ j. base + 35 + j) 0 (length keys) words h)
-                short)) (omega arith);
+            short)) (omega arith);
       }
 
 pub grow16-comes : (c : Setting) (old level kept base : ℕ) (path words keys : List ℕ) (x : ℕ)
     → Comes (fill Sixteen c (record { base = old; kind = Sixteen; level = level; path = path; kept = kept }) base x keys
-        (length keys)) words tt
+    (length keys)) words tt
     (slice_set (with_index base (keys ++ x ∷ []) 0 32 (with_child (with_copies c.shape (old + 5) (λ j. base + 35 + j) 0 (length keys) words)
     (base + 35 + 16) (new_leaf c.call))) (base + 34) 17)
 unfolding fill
@@ -220,7 +220,7 @@ grow16-comes c old level kept base path words keys x =
     let put1 : List ℕ = with_child put0 (base + 35 + 16) (new_leaf c.call) in
     let put2 : List ℕ = with_index base (keys ++ x ∷ []) 0 32 put1 in
     then-comes {n = store_child (base + 35 + 16) (new_leaf c.call) >> (each (numbers 0 32) (store_index base (keys ++ x ∷ [])) >>
-        store (base + 34) 17)}
+    store (base + 34) 17)}
     (copies-come c (old + 5) (λ j. base + 35 + j) 0 (length keys) words)
     (then-comes {n = each (numbers 0 32) (store_index base (keys ++ x ∷ [])) >> store (base + 34) 17}
     (store_child-comes (base + 35 + 16) (new_leaf c.call) put0)

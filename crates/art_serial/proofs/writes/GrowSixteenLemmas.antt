@@ -3,7 +3,7 @@ use Rattle.std.proofs.Common.{◌≡◌, ℕ, zero, suc, ◌+◌, ◌*◌, ◌/�
 use Rattle.std.proofs.Common.{inl, inr}
 use Rattle.std.proofs.Common.{arith}
 use Rattle.std.specs.Prelude.{◌≢◌, ◌⊎◌, slice_index, slice_set, All, AllPairs, Option, Some, None, option_map, if◌then◌else◌}
-use Rattle.std.proofs.lemmas.Bool.{cases_lt}
+use Rattle.std.proofs.lemmas.Bool.{cases_lt, eq-eqb, ne_eqb}
 use Rattle.std.proofs.lemmas.List.{length-map}
 use Rattle.std.proofs.lemmas.List.Elements.{All-nil, All-cons, All-get_or}
 use Rattle.list_laws.proofs.Lists.{AllPairs-head, AllPairs-tail}
@@ -15,7 +15,6 @@ use Rattle.art_steps.specs.Updates.{new_entry, store_index}
 use Rattle.art_serial.specs.alone.Alone.{Comes}
 use Rattle.art_serial.proofs.alone.AloneLemmas.{each_none-comes, each-comes, store-comes}
 use Rattle.art_serial.proofs.words.WordLemmas.{entries_back, entries_below}
-use Rattle.art_serial.proofs.words.KeyLemmas.{other_number, same_number}
 use Rattle.art_serial.specs.writes.Writes.{AreSmall}
 use Rattle.art_serial.proofs.writes.StoreLemmas.{small-stored, stored-at, stored-other, stored-long}
 
@@ -74,7 +73,7 @@ pub index-long : (base : ℕ) (keys : List ℕ) (j n : ℕ) (words : List ℕ) �
 index-long base keys j zero words = refl
 index-long base keys j (suc n) words =
     index-long base keys (j + 1) n (slice_set words (base + 2 + j) (index_word keys j))
-        ∙ stored-long words (base + 2 + j) (index_word keys j)
+    ∙ stored-long words (base + 2 + j) (index_word keys j)
 
 pub index-other : (base : ℕ) (keys : List ℕ) (j n : ℕ) (words : List ℕ) (word : ℕ) → (word < base + 2 + j) ⊎ (base + 2 + (j + n) ≤ word)
     → slice_index (with_index base keys j n words) word ≡ slice_index words word
@@ -116,7 +115,7 @@ pub index-read : (keys : List ℕ) (y : ℕ) → length keys ≤ 48 → slice_in
 index-read keys y few =
     ap (λ es. slice_index es (y % 8))
     (entries_back (map (new_entry keys) (numbers (8 * (y / 8)) 8)) (index-eight keys (y / 8))
-        (index-most keys (numbers (8 * (y / 8)) 8) few))
+    (index-most keys (numbers (8 * (y / 8)) 8) few))
     ∙ entry-at (new_entry keys) (8 * (y / 8)) 8 (y % 8) (omega arith)
     ∙ ap (new_entry keys) whole
   where
@@ -135,10 +134,10 @@ index-small base keys j (suc n) words few h =
 
 pub place-of_at : (keys : List ℕ) → AllPairs (λ a b. a ≢ b) keys → (i : ℕ) → i < length keys → place_of (slice_index keys i) keys ≡ Some i
 place-of_at [] distinct i h = absurd (omega (arith, h))
-place-of_at (y ∷ ys) distinct zero h = ap (λ b. if b then Some 0 else option_map (λ i. i + 1) (place_of y ys)) (same_number y)
+place-of_at (y ∷ ys) distinct zero h = ap (λ b. if b then Some 0 else option_map (λ i. i + 1) (place_of y ys)) (eq-eqb y y refl)
 place-of_at (y ∷ ys) distinct (suc i) h =
     let later : y ≢ slice_index ys i = All-get_or (λ b. y ≢ b) ys i 0 (omega (arith, h)) (AllPairs-head (λ a b. a ≢ b) y ys distinct) in
-    ap (λ b. if b then Some 0 else option_map (λ i. i + 1) (place_of (slice_index ys i) ys)) (other_number y (slice_index ys i) later)
+    ap (λ b. if b then Some 0 else option_map (λ i. i + 1) (place_of (slice_index ys i) ys)) (ne_eqb y (slice_index ys i) later)
     ∙ ap (option_map (λ i. i + 1)) (place-of_at ys (AllPairs-tail (λ a b. a ≢ b) y ys distinct) i (omega (arith, h)))
     ∙ ap Some (one_more i)
   where

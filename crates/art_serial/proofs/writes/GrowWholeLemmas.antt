@@ -1,35 +1,31 @@
 -- GROW whole: a claim, the info, the copy, the slot, and the rows that are released.
-use Rattle.std.proofs.Common.{◌≡◌, ℕ, ◌+◌, ◌%◌, ◌^◌, ◌<◌, ◌≤◌, List, [], ◌∷◌, length, refl, sym, subst, ◌∙◌, ⊎_elim, inl, inr, arith}
+use Rattle.std.proofs.Common.{◌≡◌, ℕ, ◌+◌, ◌%◌, ◌^◌, ◌<◌, ◌≤◌, List, ◌∷◌, length, refl, sym, subst, ◌∙◌, ⊎_elim, inl, inr, arith}
 use Rattle.std.specs.Prelude.{◌≢◌, slice_index, slice_set, Some, None}
 use Rattle.std.proofs.lemmas.Option.{none-some}
+use Rattle.std.proofs.lemmas.Bool.{lt-ltb}
 use Rattle.events.specs.declared.event.Call.TheVariants.{Insert}
 use Rattle.art_rows.specs.declared.table.Shape.{Shape}
 use Rattle.art_rows.specs.declared.table.Kind.{Kind}
 use Rattle.art_rows.specs.declared.table.Kind.TheVariants.{Four, Sixteen, FortyEight, Full}
 use Rattle.art_rows.specs.declared.table.Child.TheVariants.{Leaf}
 use Rattle.art_rows.specs.Table.{row_words, rows_of, table_words, claims_of, capacity, base_of, kind_at}
-use Rattle.art_rows.specs.Words.{info_word, row_word, released_word, obsolete_word}
+use Rattle.art_rows.specs.Words.{info_word, row_word, obsolete_word}
 use Rattle.art_rows.proofs.KindLemmas.{claims-few, two-words}
 use Rattle.art_steps.specs.Steps.{◌>>◌, store}
 use Rattle.art_steps.specs.Rows.{Setting, Row, byte_at, claim, unlock_obsolete, unlock_all}
 use Rattle.art_steps.specs.Updates.{fill, grow, next_kind}
 use Rattle.art_core.specs.Meaning.{slot_of}
 use Rattle.art_core.specs.Forms.{HasForm}
-use Rattle.art_serial.specs.alone.Alone.{Comes}
+use Rattle.art_serial.specs.alone.Alone.{Comes, unlocked_rows}
 use Rattle.art_serial.specs.alone.Finding.{keys_in_row, count_in_row}
 use Rattle.art_serial.proofs.alone.AloneLemmas.{bind-comes, then-comes, store-comes}
-use Rattle.art_serial.proofs.alone.RowRunLemmas.{with_claim, claim-comes, with_unlocked, unlock_obsolete-comes, unlock_all-comes}
-use Rattle.art_serial.proofs.words.KeyLemmas.{less}
+use Rattle.art_serial.proofs.alone.RowRunLemmas.{with_claim, claim-comes, unlock_obsolete-comes, unlock_all-comes}
 use Rattle.art_serial.proofs.words.TableLemmas.{IsNumbered, numbered, kind_at-base_of, row_begins, row_ends}
-use Rattle.art_serial.specs.writes.Writes.{HasSameFields, fresh_base, HasGrown, HasFresh, unlocked_rows}
+use Rattle.art_serial.specs.writes.Writes.{HasSameFields, fresh_base, HasGrown, HasFresh}
 use Rattle.art_serial.proofs.writes.StoreLemmas.{small-stored, stored-at, stored-other, stored-long}
 use Rattle.art_serial.proofs.writes.PairLemmas.{byte_at-small}
 use Rattle.art_serial.proofs.writes.SameLemmas.{keys-same, count-same, slot-same, child-same, form-same}
 use Rattle.art_serial.proofs.writes.GrowLemmas.{row_filled}
-
-unlocked-same : (rows : List Row) (words : List ℕ) → with_unlocked rows words ≡ unlocked_rows rows words
-unlocked-same [] words = refl
-unlocked-same (n ∷ rows) words = unlocked-same rows (slice_set words n.base (released_word n.kept))
 
 -- the rows of a kind are before those of the next one
 before_next : (s : Shape) (kind : Kind) (old number : ℕ) → kind ≢ Full → IsNumbered s old kind
@@ -46,7 +42,7 @@ not_full words base kind x absent e =
 module _ (c : Setting) (above : List Row) (slot : ℕ) (n : Row) (words : List ℕ) (key value : ℕ) (call : c.call ≡ Insert key value)
     (small : value < 2 ^ 30)
     (room : slice_index words (claims_of (next_kind n.kind)) < rows_of c.shape (next_kind n.kind))
-        (fits : table_words c.shape ≤ length words)
+    (fits : table_words c.shape ≤ length words)
     (at : kind_at c.shape n.base ≡ Some n.kind)
     (zeros : (word : ℕ) → fresh_base c.shape words (next_kind n.kind) ≤ word
     → word < fresh_base c.shape words (next_kind n.kind) + row_words (next_kind n.kind) → slice_index words word ≡ 0)
@@ -86,7 +82,7 @@ module _ (c : Setting) (above : List Row) (slot : ℕ) (n : Row) (words : List �
   stays : (word : ℕ) → word ≢ claims_of next → word ≢ base + 1 → slice_index w1 word ≡ slice_index words word
   stays word a b =
       stored-other w0 (base + 1) word info b ∙ stored-other words (claims_of next) word
-          ((slice_index words (claims_of next) + 1) % 2 ^ 64) a
+      ((slice_index words (claims_of next) + 1) % 2 ^ 64) a
 
   same_row : HasSameFields words w1 n.base n.kind
   same_row word low high =
@@ -119,7 +115,7 @@ module _ (c : Setting) (above : List Row) (slot : ℕ) (n : Row) (words : List �
             (omega (arith, claims-few next, fresh_begins, fresh_ends));
         version =
             filled.2.beside base (inl (omega arith))
-                ∙ stays base (λ e. omega (arith, e, claims-few next, fresh_begins)) (λ e. omega (arith, e));
+            ∙ stays base (λ e. omega (arith, e, claims-few next, fresh_begins)) (λ e. omega (arith, e));
         info =
             filled.2.beside (base + 1) (inl (omega arith))
             ∙ stored-at w0 (base + 1) info (omega (
@@ -155,13 +151,13 @@ module _ (c : Setting) (above : List Row) (slot : ℕ) (n : Row) (words : List �
       bind-comes {m = claim c (n ∷ above) next} {f = λ base. store (base + 1) info
       >> (fill n.kind c n base x (keys_in_row words n.base n.kind x) (count_in_row c.call words n.base n.kind x)
       >> (store slot (row_word base) >> (unlock_obsolete n >> unlock_all above)))}
-      (claim-comes c (n ∷ above) next words (less (slice_index words (claims_of next)) (rows_of c.shape next) room))
+      (claim-comes c (n ∷ above) next words (lt-ltb (slice_index words (claims_of next)) (rows_of c.shape next) room))
       (then-comes {n = fill n.kind c n base x (keys_in_row words n.base n.kind x) (count_in_row c.call words n.base n.kind x)
       >> (store slot (row_word base) >> (unlock_obsolete n >> unlock_all above))} (store-comes (base + 1) info w0)
       (then-comes {n = store slot (row_word base) >> (unlock_obsolete n >> unlock_all above)} filled-comes
       (then-comes {n = unlock_obsolete n >> unlock_all above} (store-comes slot (row_word base) filled.0)
       (then-comes {n = unlock_all above} (unlock_obsolete-comes n (slice_set filled.0 slot (row_word base)))
-      (subst (λ ws. Comes (unlock_all above) last tt ws) (unlocked-same above last) (unlock_all-comes above last))))))
+      (unlock_all-comes above last)))))
 
   pub row_grown : (later : List ℕ)
       × Comes (grow c above slot n (keys_in_row words n.base n.kind x) (count_in_row c.call words n.base n.kind x)) words tt

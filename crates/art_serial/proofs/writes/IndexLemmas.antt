@@ -5,11 +5,11 @@ use Rattle.std.specs.Prelude.{◌==◌, nat_le, if◌then◌else◌, slice_index
 use Rattle.std.proofs.lemmas.Option.{same_Some, none-some}
 use Rattle.std.proofs.lemmas.List.{length-map}
 use Rattle.std.proofs.lemmas.List.Elements.{All-nil, All-cons}
+use Rattle.std.proofs.lemmas.Bool.{eqb-false, ne_eqb}
 use Rattle.art_rows.specs.declared.table.Kind.TheVariants.{FortyEight}
 use Rattle.art_rows.specs.Words.{entry_of, entries_of, low_bytes}
 use Rattle.art_rows.proofs.WriterLemmas.{length-low_bytes}
 use Rattle.art_core.specs.Meaning.{entry_slot, slot_of}
-use Rattle.art_serial.proofs.words.KeyLemmas.{number_is_not, other_number}
 
 pub length-entries : (w : ℕ) → length (entries_of w) ≡ 8
 length-entries w = length-map (low_bytes 8 w) entry_of ∙ length-low_bytes 8 w
@@ -31,7 +31,7 @@ entry_in words base y = slice_index (entries_of (slice_index words (base + 2 + y
 
 pub slot-entry : (words : List ℕ) (base y i : ℕ) → entry_in words base y ≡ i + 1 → slot_of words base FortyEight y ≡ Some (base + 35 + i)
 slot-entry words base y i e =
-    ap (entry_slot base) e ∙ ap (λ b. if b then None else Some (base + 35 + (i + 1 - 1))) (other_number (i + 1) 0 (λ h. omega (arith, h)))
+    ap (entry_slot base) e ∙ ap (λ b. if b then None else Some (base + 35 + (i + 1 - 1))) (ne_eqb (i + 1) 0 (λ h. omega (arith, h)))
     ∙ ap (λ k. Some (base + 35 + k)) (less_one i)
   where
     less_one : (i : ℕ) → i + 1 - 1 ≡ i
@@ -49,4 +49,4 @@ entry-named base e slot h = go (e == 0) refl h
     go : (b : Bool) → (e == 0) ≡ b → (if b then None else Some (base + 35 + (e - 1))) ≡ Some slot → IsNamed base e slot
     go true t h = absurd (none-some slot h)
     go false t h =
-        record { place = e - 1; entry = omega (arith, number_is_not e 0 t); is = sym (same_Some (base + 35 + (e - 1)) slot h) }
+        record { place = e - 1; entry = omega (arith, eqb-false e 0 t); is = sym (same_Some (base + 35 + (e - 1)) slot h) }

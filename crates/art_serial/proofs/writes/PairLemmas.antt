@@ -4,6 +4,7 @@ use Rattle.std.proofs.Common.{Bool, true, false, arith}
 use Rattle.std.specs.Prelude.{◌≢◌, nat_lt, slice_index, slice_set, Option, Some, None, option_map, if◌then◌else◌}
 use Rattle.std.specs.List.Sorted.{IsStrictlyIncreasing}
 use Rattle.std.proofs.lemmas.List.Elements.{All-nil, All-cons}
+use Rattle.std.proofs.lemmas.Bool.{lt-ltb, eq-eqb, ne_eqb, ltb-true, ltb-false}
 use Rattle.events.specs.declared.event.Call.{Call}
 use Rattle.events.specs.declared.event.Call.TheVariants.{Insert}
 use Rattle.art_rows.specs.declared.table.Shape.{Shape}
@@ -21,7 +22,6 @@ use Rattle.art_serial.proofs.alone.AloneLemmas.{give-comes, bind-comes, then-com
 use Rattle.art_serial.proofs.alone.RowRunLemmas.{with_claim, claim-comes}
 use Rattle.art_serial.specs.words.Stored.{IsStored}
 use Rattle.art_serial.proofs.words.ByteLemmas.{keys4_below, AreBytes, keys4_back}
-use Rattle.art_serial.proofs.words.KeyLemmas.{less, other_number, same_number}
 use Rattle.art_serial.proofs.words.TableLemmas.{kind_at-base_of, row_begins, row_ends}
 use Rattle.art_serial.specs.writes.Writes.{fresh_base, IsOutside, HasPair}
 use Rattle.art_serial.proofs.writes.StoreLemmas.{small-stored, small-child, stored-at, stored-other, stored-long, with_child, child-stored}
@@ -31,13 +31,13 @@ use Rattle.art_serial.proofs.writes.StoreLemmas.{store_child-comes}
 abbrev pub with_pair : Shape → List ℕ → ℕ → ℕ → ℕ → Under → Under → List ℕ
 with_pair s words slot base info lo hi =
     slice_set (with_child (with_child (slice_set (slice_set (with_claim words Four) (base + 1) info) (base + 2)
-        (keys4_word (lo.byte ∷ hi.byte ∷ [])))
+    (keys4_word (lo.byte ∷ hi.byte ∷ [])))
     (base + 3 + 0) lo.child) (base + 3 + 1) hi.child) slot (row_word base)
 
 module _ (s : Shape) (words : List ℕ) (slot base level : ℕ) (path : List ℕ) (lo hi : Under) (stored_lo : IsStored s lo.child)
     (stored_hi : IsStored s hi.child)
     (order : lo.byte < hi.byte) (small : hi.byte < 256) (begins : 5 ≤ base) (fits : base + 7 ≤ length words) (behind : 5 ≤ slot)
-        (inside : slot < length words)
+    (inside : slot < length words)
     (outside : IsOutside base Four slot) where
   abbrev keys : List ℕ
   keys = lo.byte ∷ hi.byte ∷ []
@@ -118,7 +118,7 @@ module _ (s : Shape) (words : List ℕ) (slot base level : ℕ) (path : List ℕ
   lo_now : child_of s (slice_index w5 (base + 3 + 0)) ≡ lo.child
   lo_now =
       ap (child_of s) (stays5 (base + 3 + 0) (not_slot (base + 3 + 0) (omega arith) (omega arith)) ∙ stays4 (base + 3 + 0)
-          (λ e. omega (arith, e)))
+      (λ e. omega (arith, e)))
       ∙ child-stored s w2 (base + 3 + 0) lo.child (omega (arith, fits, long2)) stored_lo
 
   hi_now : child_of s (slice_index w5 (base + 3 + 1)) ≡ hi.child
@@ -145,7 +145,7 @@ module _ (s : Shape) (words : List ℕ) (slot base level : ℕ) (path : List ℕ
   bytes : AreBytes keys
   bytes =
       All-cons (λ x. x < 256) lo.byte (hi.byte ∷ []) (omega (arith, order, small))
-          (All-cons (λ x. x < 256) hi.byte [] small (All-nil (λ x. x < 256)))
+      (All-cons (λ x. x < 256) hi.byte [] small (All-nil (λ x. x < 256)))
 
   read : keys4_of (slice_index w5 (base + 2)) ≡ keys
   read = ap keys4_of keys_now ∙ keys4_back keys (omega arith) bytes
@@ -158,20 +158,20 @@ module _ (s : Shape) (words : List ℕ) (slot base level : ℕ) (path : List ℕ
 
   on_lo : child_on s w5 base Four lo.byte ≡ lo.child
   on_lo = on lo.byte ∙ ap (λ b. hang (if b then Some 0 else option_map (λ i. i + 1) (place_of lo.byte (hi.byte ∷ []))))
-      (same_number lo.byte) ∙ lo_now
+      (eq-eqb lo.byte lo.byte refl) ∙ lo_now
 
   on_hi : child_on s w5 base Four hi.byte ≡ hi.child
   on_hi =
       on hi.byte
       ∙ ap (λ b. hang (if b then Some 0 else option_map (λ i. i + 1) (place_of hi.byte (hi.byte ∷ []))))
-      (other_number lo.byte hi.byte (λ e. omega (arith, e, order)))
-      ∙ ap (λ b. hang (option_map (λ i. i + 1) (if b then Some 0 else None))) (same_number hi.byte) ∙ hi_now
+      (ne_eqb lo.byte hi.byte (λ e. omega (arith, e, order)))
+      ∙ ap (λ b. hang (option_map (λ i. i + 1) (if b then Some 0 else None))) (eq-eqb hi.byte hi.byte refl) ∙ hi_now
 
   on_other : (z : ℕ) → z ≢ lo.byte → z ≢ hi.byte → child_on s w5 base Four z ≡ Empty
   on_other z a b =
       on z
-      ∙ ap (λ b. hang (if b then Some 0 else option_map (λ i. i + 1) (place_of z (hi.byte ∷ [])))) (other_number lo.byte z (λ e. a (sym e)))
-      ∙ ap (λ b. hang (option_map (λ i. i + 1) (if b then Some 0 else None))) (other_number hi.byte z (λ e. b (sym e)))
+      ∙ ap (λ b. hang (if b then Some 0 else option_map (λ i. i + 1) (place_of z (hi.byte ∷ [])))) (ne_eqb lo.byte z (λ e. a (sym e)))
+      ∙ ap (λ b. hang (option_map (λ i. i + 1) (if b then Some 0 else None))) (ne_eqb hi.byte z (λ e. b (sym e)))
 
   pub pair_hung : HasPair s words (with_pair s words slot base (info_word Four level path) lo hi) base slot level path lo hi
   pair_hung =
@@ -235,19 +235,19 @@ pair-comes c held slot d old words room =
     let w3 : List ℕ = with_child w2 (base + 3 + 0) (lesser old new).child in
     let w4 : List ℕ = with_child w3 (base + 3 + 1) (greater old new).child in
     bind-comes {m = pair c held d old new} {f = λ word. store slot word}
-        (bind-comes {m = claim c held Four} {f = λ base. store (base + 1) info
+    (bind-comes {m = claim c held Four} {f = λ base. store (base + 1) info
     >> (store (base + 2) keys >> (store_child (base + 3 + 0) (lesser old new).child
     >> (store_child (base + 3 + 1) (greater old new).child >> give (row_word base))))}
-    (claim-comes c held Four words (less (slice_index words (claims_of Four)) (rows_of c.shape Four) room))
+    (claim-comes c held Four words (lt-ltb (slice_index words (claims_of Four)) (rows_of c.shape Four) room))
     (then-comes {n = store (base + 2) keys >> (store_child (base + 3 + 0) (lesser old new).child
     >> (store_child (base + 3 + 1) (greater old new).child >> give (row_word base)))} (store-comes (base + 1) info w0)
     (then-comes {n = store_child (base + 3 + 0) (lesser old new).child >> (store_child (base + 3 + 1) (greater old new).child >>
-        give (row_word base))}
+    give (row_word base))}
     (store-comes (base + 2) keys w1)
     (then-comes {n = store_child (base + 3 + 1) (greater old new).child >> give (row_word base)}
-        (store_child-comes (base + 3 + 0) (lesser old new).child w2)
+    (store_child-comes (base + 3 + 0) (lesser old new).child w2)
     (then-comes {n = give (row_word base)} (store_child-comes (base + 3 + 1) (greater old new).child w3)
-        (give-comes (row_word base) w4))))))
+    (give-comes (row_word base) w4))))))
     (store-comes slot (row_word base) w4)
 
 -- whichever of the two bytes is the lesser one
@@ -257,19 +257,13 @@ in_order : (s : Shape) (words : List ℕ) (slot base level : ℕ) (path : List �
     → HasPair s words (with_pair s words slot base (info_word Four level path) (lesser a b) (greater a b)) base slot level path a b
 in_order s words slot base level path a b ha hb other la lb begins fits behind inside outside = go (nat_lt a.byte b.byte) refl
   where
-    is_less : (m n : ℕ) → nat_lt m n ≡ true → m < n
-    is_less m n h = grind (arith, h)
-
-    is_not_less : (m n : ℕ) → nat_lt m n ≡ false → n ≤ m
-    is_not_less m n h = grind (arith, h)
-
     go : (t : Bool) → nat_lt a.byte b.byte ≡ t
         → HasPair s words (with_pair s words slot base (info_word Four level path) (if t then a else b) (if t then b else a)) base
-            slot level path a b
-    go true e = pair_hung s words slot base level path a b ha hb (is_less a.byte b.byte e) lb begins fits behind inside outside
+        slot level path a b
+    go true e = pair_hung s words slot base level path a b ha hb (ltb-true a.byte b.byte e) lb begins fits behind inside outside
     go false e =
-        turned (pair_hung s words slot base level path b a hb ha (omega (arith, is_not_less a.byte b.byte e, other)) la begins fits
-            behind inside outside)
+        turned (pair_hung s words slot base level path b a hb ha (omega (arith, ltb-false a.byte b.byte e, other)) la begins fits
+        behind inside outside)
 
 pub pair_is_hung : (c : Setting) (held : List Row) (slot d : ℕ) (old : Under) (words : List ℕ) (key value : ℕ)
     → c.call ≡ Insert key value → value < 2 ^ 30
@@ -277,7 +271,7 @@ pub pair_is_hung : (c : Setting) (held : List Row) (slot d : ℕ) (old : Under) 
     → table_words c.shape ≤ length words → 5 ≤ slot → slot < length words → IsOutside (fresh_base c.shape words Four) Four slot
     → (later : List ℕ) × Comes (pair_in c held slot d old) words tt later
     × HasPair c.shape words later (fresh_base c.shape words Four) slot d (take d (key_bytes key)) old
-        (record { byte = byte_at c d; child = Leaf key value })
+    (record { byte = byte_at c d; child = Leaf key value })
 pair_is_hung c held slot d old words key value call small stored byte other room fits behind inside outside =
     let base : ℕ = fresh_base c.shape words Four in
     let at = kind_at-base_of c.shape Four (slice_index words (claims_of Four)) room in

@@ -107,7 +107,7 @@ module _ (s : Shape) (base : ℕ) (words : List ℕ) (n x : ℕ) (child : Child)
       → slot_of after_put48 base FortyEight z ≡ Some slot → y ≡ z
   once y z slot b d h k = ⊎_elim (λ e. ⊎_elim (λ f. e ∙ sym f) (λ f. absurd (clash y z b d e f h k)) (cases_eq z x))
       (λ e. ⊎_elim (λ f. absurd (clash z y d b f e k h))
-          (λ f. form.1 y z slot b d (sym (slot_old y b e) ∙ h) (sym (slot_old z d f) ∙ k)) (cases_eq z x))
+      (λ f. form.1 y z slot b d (sym (slot_old y b e) ∙ h) (sym (slot_old z d f) ∙ k)) (cases_eq z x))
       (cases_eq y x)
     where
       clash : (y z : ℕ) → y < 256 → z < 256 → y ≡ x → z ≢ x → slot_of after_put48 base FortyEight y ≡ Some slot
@@ -156,7 +156,7 @@ module _ (s : Shape) (base : ℕ) (words : List ℕ) (n x : ℕ) (child : Child)
       let named = entry-named base (entry_in words base y) slot e in
       let l : named.place < n = below y named.place b (e ∙ ap Some named.is) in
       ap (child_of s) (stays slot (λ h. omega (arith, h, named.is)) (λ h. omega (arith, h, named.is, small))
-          (λ h. omega (arith, h, named.is, l)))
+      (λ h. omega (arith, h, named.is, l)))
 
   pub put48 : HasPut s words after_put48 base FortyEight x child
   put48 =
@@ -172,7 +172,7 @@ module _ (s : Shape) (base : ℕ) (words : List ℕ) (n x : ℕ) (child : Child)
         put = ap (child_in s after_put48) slot_new ∙ new_child;
         small = λ h short.
             small-stored put2 (base + 34) (n + 1)
-                (small-stored put1 (base + 2 + x / 8) (entries_word news) (small-child words (base + 35 + n) child h short)
+            (small-stored put1 (base + 2 + x / 8) (entries_word news) (small-child words (base + 35 + n) child h short)
             (entries_below news (length-set es (x % 8) (n + 1) ∙ length-entries (slice_index words (base + 2 + x / 8)))
             (All-set (λ e. e ≤ 48) es (x % 8) (n + 1) (omega (arith, few)) (entries-most (slice_index words (base + 2 + x / 8))))))
             (omega (arith, few));
@@ -181,7 +181,7 @@ module _ (s : Shape) (base : ℕ) (words : List ℕ) (n x : ℕ) (child : Child)
 pub put48-comes : (c : Setting) (base level kept : ℕ) (path words entries : List ℕ) (x n : ℕ)
     → Comes (put_in FortyEight c (record { base = base; kind = FortyEight; level = level; path = path; kept = kept }) x entries n) words tt
     (slice_set (slice_set (with_child words (base + 35 + n) (new_leaf c.call)) (base + 2 + x / 8)
-        (entries_word (set entries (x % 8) (n + 1))))
+    (entries_word (set entries (x % 8) (n + 1))))
     (base + 34) (n + 1))
 unfolding put_in
 put48-comes c base level kept path words entries x n =

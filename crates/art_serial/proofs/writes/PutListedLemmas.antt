@@ -82,7 +82,7 @@ module _ (s : Shape) (base : ℕ) (words keys : List ℕ) (x : ℕ) (child : Chi
   new_child : child_of s (slice_index after_put4 (base + 3 + new_place x keys)) ≡ child
   new_child =
       ap (child_of s) (stored-other (with_put s (base + 3) (new_place x keys) (length keys) words child) (base + 2)
-          (base + 3 + new_place x keys)
+      (base + 3 + new_place x keys)
       (keys4_word (with_key x keys)) (λ e. omega (arith, e)))
       ∙ put-new s (base + 3) (new_place x keys) (length keys) words child low (omega (arith, fits, few)) stored
 
@@ -120,7 +120,7 @@ module _ (s : Shape) (base : ℕ) (words keys : List ℕ) (x : ℕ) (child : Chi
 pub put4-comes : (c : Setting) (base level kept : ℕ) (path words keys : List ℕ) (x : ℕ)
     → Comes (put_in Four c (record { base = base; kind = Four; level = level; path = path; kept = kept }) x keys (length keys)) words tt
     (slice_set (with_put c.shape (base + 3) (new_place x keys) (length keys) words (new_leaf c.call)) (base + 2)
-        (keys4_word (with_key x keys)))
+    (keys4_word (with_key x keys)))
 unfolding put_in make_room
 put4-comes c base level kept path words keys x =
     then-comes {n = store_child (base + 3 + new_place x keys) (new_leaf c.call) >> store (base + 2) (keys4_word (with_key x keys))}
@@ -220,11 +220,11 @@ module _ (s : Shape) (base : ℕ) (words keys : List ℕ) (x : ℕ) (child : Chi
   beside16 word h =
       stored-other put3 (base + 4) word (length keys + 1) (⊎_elim (λ l e. omega (arith, l, e)) (λ l e. omega (arith, l, e)) h)
       ∙ stored-other put2 (base + 3) word (more_keys16_word (with_key x keys))
-          (⊎_elim (λ l e. omega (arith, l, e)) (λ l e. omega (arith, l, e)) h)
+      (⊎_elim (λ l e. omega (arith, l, e)) (λ l e. omega (arith, l, e)) h)
       ∙ stored-other put1 (base + 2) word (keys16_word (with_key x keys))
-          (⊎_elim (λ l e. omega (arith, l, e)) (λ l e. omega (arith, l, e)) h)
+      (⊎_elim (λ l e. omega (arith, l, e)) (λ l e. omega (arith, l, e)) h)
       ∙ put-other s (base + 5) p (length keys) words child low16 word
-          (⊎_elim (λ l. inl (omega (arith, l))) (λ l. inr (omega (arith, l, few))) h)
+      (⊎_elim (λ l. inl (omega (arith, l))) (λ l. inr (omega (arith, l, few))) h)
 
   pub put16 : HasPut s words after_put16 base Sixteen x child
   put16 =
@@ -248,7 +248,7 @@ module _ (s : Shape) (base : ℕ) (words keys : List ℕ) (x : ℕ) (child : Chi
 
 pub put16-comes : (c : Setting) (base level kept : ℕ) (path words keys : List ℕ) (x : ℕ)
     → Comes (put_in Sixteen c (record { base = base; kind = Sixteen; level = level; path = path; kept = kept }) x keys
-        (length keys)) words tt
+    (length keys)) words tt
     (slice_set (slice_set (slice_set (with_put c.shape (base + 5) (new_place x keys) (length keys) words (new_leaf c.call))
     (base + 2) (keys16_word (with_key x keys))) (base + 3) (more_keys16_word (with_key x keys))) (base + 4) (length keys + 1))
 unfolding put_in make_room

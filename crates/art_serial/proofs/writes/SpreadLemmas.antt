@@ -3,7 +3,7 @@ use Rattle.std.proofs.Common.{◌≡◌, ℕ, zero, suc, ◌+◌, ◌-◌, ◌*�
 use Rattle.std.proofs.Common.{inr}
 use Rattle.std.proofs.Common.{Bool, true, false, arith}
 use Rattle.std.specs.Prelude.{◌⊎◌, ◌==◌, if◌then◌else◌, slice_index, Some, None}
-use Rattle.std.proofs.lemmas.Bool.{cases_lt}
+use Rattle.std.proofs.lemmas.Bool.{cases_lt, eqb-false}
 use Rattle.std.proofs.lemmas.List.Elements.{All-get_or}
 use Rattle.art_rows.specs.declared.table.Kind.TheVariants.{FortyEight, Full}
 use Rattle.art_rows.specs.Table.{index_at}
@@ -15,7 +15,6 @@ use Rattle.art_core.specs.Meaning.{child_in, child_on}
 use Rattle.art_serial.specs.alone.Alone.{Comes}
 use Rattle.art_serial.proofs.alone.AloneLemmas.{give-comes, then-comes, bind-comes, load-comes, each_none-comes, each-comes}
 use Rattle.art_serial.specs.words.Stored.{IsStored}
-use Rattle.art_serial.proofs.words.KeyLemmas.{number_is_not}
 use Rattle.art_serial.specs.writes.Writes.{AreSmall, IsBeside, HasGrown}
 use Rattle.art_serial.proofs.writes.StoreLemmas.{small-copy, small-child, stored-other, stored-long, with_child}
 use Rattle.art_serial.proofs.writes.StoreLemmas.{child-stored, store_child-comes, with_copy, child-copied, copy_child-comes}
@@ -54,7 +53,7 @@ module _ (c : Setting) (n : Row) (base : ℕ) (words : List ℕ) (fits : base + 
       at =
           ap (child_of c.shape) (h.todo y (omega arith) small)
           ∙ sym (ap (λ b. child_in c.shape words (if b then None else Some (n.base + 35 + (entry_in words n.base y - 1))))
-              (ap (λ k. k == 0) is ∙ none))
+          (ap (λ k. k == 0) is ∙ none))
 
       here : (z : ℕ) → z ≡ y → child_of c.shape (slice_index now (base + 2 + z)) ≡ child_on c.shape words n.base FortyEight z
       here z e = subst (λ z. child_of c.shape (slice_index now (base + 2 + z)) ≡ child_on c.shape words n.base FortyEight z) (sym e) at
@@ -66,7 +65,7 @@ module _ (c : Setting) (n : Row) (base : ℕ) (words : List ℕ) (fits : base + 
         long = stored-long now (base + 2 + y) _ ∙ h.long;
         beside = λ word b.
             stored-other now (base + 2 + y) word _ (⊎_elim (λ l e. omega (arith, l, e)) (λ l e. omega (arith, l, e, small)) b)
-                ∙ h.beside word b;
+            ∙ h.beside word b;
         done = λ z l. ⊎_elim
             (λ m. ap (child_of c.shape) (stored-other now (base + 2 + y) (base + 2 + z) _ (λ e. omega (arith, e, m))) ∙ h.done z m)
             (λ m. here z (omega (arith, l, m))) (cases_lt z y);
@@ -78,9 +77,9 @@ module _ (c : Setting) (n : Row) (base : ℕ) (words : List ℕ) (fits : base + 
           ≡ child_on c.shape words n.base FortyEight y
       at =
           child-copied c.shape now (n.base + 35 + (e - 1)) (base + 2 + y) (omega (arith, fits, small, h.long))
-          ∙ ap (child_of c.shape) (old_stays now y (n.base + 35 + (e - 1)) h (omega arith) (omega (arith, most, number_is_not e 0 some)))
+          ∙ ap (child_of c.shape) (old_stays now y (n.base + 35 + (e - 1)) h (omega arith) (omega (arith, most, eqb-false e 0 some)))
           ∙ sym (ap (λ b. child_in c.shape words (if b then None else Some (n.base + 35 + (entry_in words n.base y - 1))))
-              (ap (λ k. k == 0) is ∙ some)
+          (ap (λ k. k == 0) is ∙ some)
           ∙ ap (λ k. child_of c.shape (slice_index words (n.base + 35 + (k - 1)))) is)
 
       here : (z : ℕ) → z ≡ y
@@ -116,7 +115,7 @@ module _ (c : Setting) (n : Row) (base : ℕ) (words : List ℕ) (fits : base + 
 
       go : (b : Bool) → (slice_index es i == 0) ≡ b
           → Spreads (if b then give tt else copy_child c (n.base + 35 + (slice_index es i - 1)) (base + 2 + (8 * j + i)))
-              now (8 * j + i + 1)
+          now (8 * j + i + 1)
       go true e =
           (now, give-comes tt now, is_absent (8 * j + i) (slice_index es i) entry e now h (omega (arith, few, less)))
       go false e = (
@@ -161,7 +160,7 @@ module _ (c : Setting) (n : Row) (base : ℕ) (words : List ℕ) (fits : base + 
         rest.0,
         each-comes j (numbers (j + 1) m) (spread_index c n base) {later = rest.0}
             (bind-comes {f = λ w. each (numbers 0 8) (spread_entry c n base j (entries_of w))}
-                (load-comes (index_at n.base (8 * j)) now) word.1) rest.1,
+            (load-comes (index_at n.base (8 * j)) now) word.1) rest.1,
         subst (IsSpread rest.0) same rest.2,
       )
     where
@@ -179,8 +178,14 @@ module _ (c : Setting) (n : Row) (base : ℕ) (words : List ℕ) (fits : base + 
 
   -- none is spread at first
   none_spread : IsSpread words (8 * 0)
-  none_spread = record { long = refl; beside = λ word b. refl; done = λ z l. absurd (omega (arith, l)); todo = λ z l m. zeros z
-      m; small = λ k. k }
+  none_spread = record {
+    long = refl;
+    beside = λ word b. refl;
+    done = λ z l. absurd (omega (arith, l));
+    todo = λ z l m. zeros z
+        m;
+    small = λ k. k;
+  }
 
   pub all_spread : Spreads (each (numbers 0 32) (spread_index c n base)) words (8 * (0 + 32))
   all_spread = spread_words 0 32 (omega arith) words none_spread
@@ -202,7 +207,7 @@ grow48 c n base words x keys count fits apart zeros small stored =
         long = stored-long now (base + 2 + x) (child_word leaf) ∙ spread.2.long;
         beside = λ word b.
             stored-other now (base + 2 + x) word (child_word leaf)
-                (⊎_elim (λ l e. omega (arith, l, e)) (λ l e. omega (arith, l, e, small)) b)
+            (⊎_elim (λ l e. omega (arith, l, e)) (λ l e. omega (arith, l, e, small)) b)
             ∙ spread.2.beside word b;
         form = tt;
         others = λ y b other.

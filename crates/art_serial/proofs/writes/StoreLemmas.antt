@@ -65,4 +65,4 @@ small-child words slot child h short = small-stored words slot (child_word child
 pub small-copy : (s : Shape) (words : List ℕ) (from to : ℕ) → AreSmall words → AreSmall (with_copy s words from to)
 small-copy s words from to h =
     small-stored words to (child_word (child_of s (slice_index words from))) h
-        (again_below s (slice_index words from) (small_at words from h))
+    (again_below s (slice_index words from) (small_at words from h))

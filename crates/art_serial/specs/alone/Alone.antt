@@ -1,9 +1,11 @@
 -- A call that runs alone: no other process makes an access before it is answered.
-use Rattle.std.specs.Prelude.{◌≡◌, ℕ, ◌+◌, List, [], ◌∷◌, Option}
+use Rattle.std.specs.Prelude.{◌≡◌, ℕ, ◌+◌, List, [], ◌∷◌, Option, slice_set}
 use Rattle.events.specs.declared.event.Reply.{Reply}
+use Rattle.art_rows.specs.Words.{released_word}
 use Rattle.art_steps.specs.declared.access.Access.{Access}
 use Rattle.art_steps.specs.declared.access.Point.{Point}
 use Rattle.art_steps.specs.Steps.{Rest, Part, Asks, Answers}
+use Rattle.art_steps.specs.Rows.{Row}
 use Rattle.art_core.specs.Accesses.{got_by, words_after}
 
 -- What is left of a call, run alone on these words, comes to the last words and is answered so.
@@ -30,3 +32,8 @@ pub record Ends {A : Type 0} (m : Part A) (words : List ℕ) (reply : Reply) (la
   pub steps : ℕ
   pub runs : (again : Rest) (after : A → Rest) → RunsAlone (m again after) words later reply
   pub long : (again : Rest) (after : A → Rest) → accesses (runs again after) ≡ steps
+
+-- the words with these rows unlocked, the first one first
+abbrev pub unlocked_rows : List Row → List ℕ → List ℕ
+unlocked_rows [] words = words
+unlocked_rows (n ∷ rows) words = unlocked_rows rows (slice_set words n.base (released_word n.kept))

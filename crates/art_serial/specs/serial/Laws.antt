@@ -29,7 +29,7 @@ SerialSchedulesCompose = (plan : Plan) (first schedule : List ℕ) (s : State) (
     → IsSerial (history_of s) → made + calls_in plan ≤ call_limit → EachMayBeAnswered plan.shape plan.variant made first start
     → IsLegal start (operations (history_of s))
     × ComesTo plan.shape plan.variant made first start (made + length (operations (history_of s))) s.words
-        (after_calls start (operations (history_of s)))
+    (after_calls start (operations (history_of s)))
 
 -- The same from starting pairs on: an empty table comes to all of it, through the inserts of these pairs.
 abbrev pub SerialRunsCompose : Type 0

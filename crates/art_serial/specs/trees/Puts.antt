@@ -34,7 +34,7 @@ abbrev pub SixteenTakesOneMore : Type 0
 SixteenTakesOneMore = (s : Shape) (words later : List ℕ) (base x : ℕ) (keys : List ℕ) (child : Child) → IsTree s words
     → Reached s words base Sixteen
     → x < 256 → keys ≡ keys16_of (slice_index words (count_at Sixteen base)) (slice_index words (keys_at base))
-        (slice_index words (more_keys_at base))
+    (slice_index words (more_keys_at base))
     → place_of x keys ≡ None → length keys < 16 → HasRoomFor s words later base Sixteen x keys child
     → slice_index later (keys_at base) ≡ keys16_word (with_key x keys)
     → slice_index later (more_keys_at base) ≡ more_keys16_word (with_key x keys)

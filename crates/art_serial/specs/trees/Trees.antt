@@ -150,7 +150,7 @@ HasRowMore s words later row kind =
 abbrev pub PairsAreHung : Type 0
 PairsAreHung =
     (s : Shape) (words later : List ℕ) (m : Contents) (key value base : ℕ) (kind : Kind) (x row d a b : ℕ)
-        → IsTree s words → Means s words m
+    → IsTree s words → Means s words m
     → LeadsTo s words key base kind x → Parts words key d a (child_on s words base kind x)
     → IsPair s words later key value row d a b (child_on s words base kind x) → ChangesAt s words later base kind x (Row row Four)
     → IsTree s later × HasRowMore s words later row Four × Means s later (put key value m)

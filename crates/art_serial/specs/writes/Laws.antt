@@ -12,10 +12,9 @@ use Rattle.art_steps.specs.Updates.{Under, put_in, pair_in, fill, grow, next_kin
 use Rattle.art_core.specs.Meaning.{slot_of, child_on}
 use Rattle.art_core.specs.Forms.{HasForm}
 use Rattle.art_serial.specs.words.Stored.{IsStored}
-use Rattle.art_serial.specs.alone.Alone.{Comes}
+use Rattle.art_serial.specs.alone.Alone.{Comes, unlocked_rows}
 use Rattle.art_serial.specs.alone.Finding.{keys_in_row, count_in_row}
 use Rattle.art_serial.specs.writes.Writes.{HasSameFields, HasPut, fresh_base, IsOutside, HasPair, IsApart, HasGrown, HasFresh}
-use Rattle.art_serial.specs.writes.Writes.{unlocked_rows}
 
 -- A row whose keys and children are the same words has form, and has the same on each byte.
 abbrev pub RowsAreTheirFields : Type 0
@@ -40,7 +39,7 @@ PairsAreWritten = (c : Setting) (held : List Row) (slot d : ℕ) (old : Under) (
     → table_words c.shape ≤ length words → 5 ≤ slot → slot < length words → IsOutside (fresh_base c.shape words Four) Four slot
     → (later : List ℕ) × Comes (pair_in c held slot d old) words tt later
     × HasPair c.shape words later (fresh_base c.shape words Four) slot d (take d (key_bytes key)) old
-        (record { byte = byte_at c d; child = Leaf key value })
+    (record { byte = byte_at c d; child = Leaf key value })
 
 -- What GROW copies, of an insert that runs alone: from a full row that has form and lacks the byte to a row of the next kind
 -- whose words behind its info are 0.
@@ -69,6 +68,6 @@ GrownRowsAreWritten = (c : Setting) (above : List Row) (slot : ℕ) (n : Row) (w
     × Comes (grow c above slot n (keys_in_row words n.base n.kind (byte_at c n.level))
     (count_in_row c.call words n.base n.kind (byte_at c n.level))) words tt
     (unlocked_rows above (slice_set (slice_set filled slot (row_word (fresh_base c.shape words (next_kind n.kind)))) n.base
-        (obsolete_word n.kept)))
+    (obsolete_word n.kept)))
     × HasFresh c.shape words filled n.base n.kind (fresh_base c.shape words (next_kind n.kind)) (next_kind n.kind)
     (info_word (next_kind n.kind) n.level n.path) (byte_at c n.level) (Leaf key value)

@@ -1,13 +1,12 @@
 -- What an insert writes in a row.
-use Rattle.std.specs.Prelude.{◌≡◌, ◌≢◌, ◌⊎◌, ℕ, ◌+◌, ◌%◌, ◌^◌, ◌<◌, ◌≤◌, All, List, [], ◌∷◌, length, slice_index, slice_set}
+use Rattle.std.specs.Prelude.{◌≡◌, ◌≢◌, ◌⊎◌, ℕ, ◌+◌, ◌%◌, ◌^◌, ◌<◌, ◌≤◌, All, List, length, slice_index}
 use Rattle.art_rows.specs.declared.table.Shape.{Shape}
 use Rattle.art_rows.specs.declared.table.Kind.{Kind}
 use Rattle.art_rows.specs.declared.table.Kind.TheVariants.{Four}
 use Rattle.art_rows.specs.declared.table.Child.{Child}
 use Rattle.art_rows.specs.declared.table.Child.TheVariants.{Empty}
 use Rattle.art_rows.specs.Table.{row_words, claims_of, base_of, info_at}
-use Rattle.art_rows.specs.Words.{info_word, row_word, released_word}
-use Rattle.art_steps.specs.Rows.{Row}
+use Rattle.art_rows.specs.Words.{info_word, row_word}
 use Rattle.art_steps.specs.Updates.{Under}
 use Rattle.art_serial.specs.words.Stored.{IsShort}
 use Rattle.art_core.specs.Meaning.{child_on}
@@ -86,8 +85,3 @@ pub record HasFresh (s : Shape) (words later : List ℕ) (old : ℕ) (kind : Kin
   pub others : (y : ℕ) → y < 256 → y ≢ x → child_on s later base next y ≡ child_on s words old kind y
   pub put : child_on s later base next x ≡ child
   pub small : AreSmall words → IsShort child → word_of_info < 2 ^ 64 → AreSmall later
-
--- the words with these rows unlocked, the first one first
-abbrev pub unlocked_rows : List Row → List ℕ → List ℕ
-unlocked_rows [] words = words
-unlocked_rows (n ∷ rows) words = unlocked_rows rows (slice_set words n.base (released_word n.kept))

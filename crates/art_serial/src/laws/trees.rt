@@ -1,5 +1,6 @@
 // Laws of trees: each function only carries its clause.
-ghost use Rattle.art_serial.specs.trees.Trees.{TablesOpenAtRest, WaysGoDown, LeavesAreSmall, KeysPart, SameTreesAreOne, WaysLeadToValues, LeavesArePut};
+ghost use Rattle.art_serial.specs.trees.Trees.{TablesOpenAtRest, WaysGoDown, LeavesAreSmall, KeysPart, SameTreesAreOne, WaysLeadToValues};
+ghost use Rattle.art_serial.specs.trees.Trees.{LeavesArePut};
 ghost use Rattle.art_serial.specs.trees.Trees.{LeavesAreRemoved, PairsAreHung, GrownRowsAreHung, MapsAreOne, TreesAreWalked};
 ghost use Rattle.art_serial.specs.trees.Children.{ChildrenAreRead, RowsHaveTwo};
 ghost use Rattle.art_serial.specs.trees.Puts.{FourTakesOneMore, SixteenTakesOneMore};

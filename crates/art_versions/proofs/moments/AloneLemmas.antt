@@ -3,12 +3,11 @@ use Rattle.std.proofs.Common.{◌≡◌, ℕ, zero, suc, ◌+◌, ◌*◌, ◌<�
 use Rattle.std.proofs.Common.{false}
 use Rattle.std.proofs.Common.{inl, inr, arith}
 use Rattle.std.specs.Prelude.{◌==◌, slice_index, Option, Some, None, if◌then◌else◌}
-use Rattle.std.proofs.lemmas.Bool.{false≢true}
+use Rattle.std.proofs.lemmas.Bool.{false≢true, eqb-true}
 use Rattle.std.proofs.Math.Seq.{take-length}
 use Rattle.events.specs.declared.event.Call.{Call}
 use Rattle.events.specs.declared.event.Call.TheVariants.{Scan}
 use Rattle.events.specs.declared.event.Reply.{Reply}
-use Rattle.art_serial.proofs.words.KeyLemmas.{number_is}
 use Rattle.art_serial.proofs.trees.Bytes.{next_of}
 use Rattle.art_rows.specs.declared.table.Kind.{Kind}
 use Rattle.art_rows.specs.declared.table.Kind.TheVariants.{Four, Sixteen, FortyEight, Full}
@@ -85,7 +84,7 @@ module _ (s : Shape) (some : 1 ≤ s.rows256) (lo hi : ℕ) where
       free = free-unlocked n.kept (h.entered n (h.within n (inl refl))).1.free
 
       other : is_locked v ≡ true → (b : Bool) → (v == n.kept) ≡ b → (if b then close_at c w else scan_start c) ≡ scan_start c
-      other locked true e = absurd (false≢true (sym free ∙ (ap is_locked (sym (number_is v n.kept e)) ∙ locked)))
+      other locked true e = absurd (false≢true (sym free ∙ (ap is_locked (sym (eqb-true v n.kept e)) ∙ locked)))
       other locked false e = refl
 
       go : (b : Bool) → is_locked v ≡ b → Does (Release n) w v
@@ -103,15 +102,15 @@ module _ (s : Shape) (some : 1 ≤ s.rows256) (lo hi : ℕ) where
   does a (FirstKeys n count) w v h =
       Loads (keys_at n.base) None refl
       (inl (row-within s n.base (keys_at n.base) n.kind (its-row a w.rows n.base n.kind h.0 h.2) (omega arith)
-          (omega (arith, some-more n.kind))))
+      (omega (arith, some-more n.kind))))
   does a (SecondKeys n count first) w v h =
       Loads (more_keys_at n.base) None refl
       (inl (row-within s n.base (more_keys_at n.base) n.kind (its-row a w.rows n.base n.kind h.0 h.2) (omega arith)
-          (omega (arith, some-more n.kind))))
+      (omega (arith, some-more n.kind))))
   does a (Index n j m) w v h =
       Loads (index_at n.base (8 * j)) None refl
       (inl (row-within s n.base (index_at n.base (8 * j)) n.kind (its-row a w.rows n.base n.kind h.0 h.2) (omega arith)
-          (index-in n.base j n.kind h.3 h.4)))
+      (index-in n.base j n.kind h.3 h.4)))
     where
       index-in : (base j : ℕ) (kind : Kind) → kind ≡ FortyEight → j < 32 → index_at base (8 * j) < base + row_words kind
       index-in base j kind e less = Rattle.std.proofs.Common.subst (λ k. index_at base (8 * j) < base + row_words k) (sym e)

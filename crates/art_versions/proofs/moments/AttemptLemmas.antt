@@ -56,8 +56,11 @@ module _ (s : Shape) (lo hi : ℕ) where
   pub loads-cases : (attempt : List ℕ) (w i word : ℕ) (mark : Option Point) → Loads (attempt ++ w ∷ []) i word mark
       → (Loads attempt i word mark) ⊎ ((i ≡ length attempt) × (scan_turn c (stage attempt) ≡ Asks (Load word) mark))
   loads-cases attempt w i word mark h = elim (cases_lt i (length attempt)) [
-    | inl less ↦ inl (record { made = less; turn = ap (λ l. scan_turn c (stage l))
-        (sym (take-more i attempt w (omega (arith, less)))) ∙ h.turn })
+    | inl less ↦ inl (record {
+      made = less;
+      turn = ap (λ l. scan_turn c (stage l))
+          (sym (take-more i attempt w (omega (arith, less)))) ∙ h.turn;
+    })
     | inr more ↦
         let is : i ≡ length attempt = omega (arith, more, h.made, length-append attempt (w ∷ [])) in
         inr (
@@ -130,7 +133,7 @@ module _ (s : Shape) (lo hi : ℕ) where
           (k.0, covers-more attempt w rows i word k.1)
       | inr last ↦
           let r = reads word mark last.1 (subst (IsSettledWord word) (ap (slice_index (attempt ++ w ∷ [])) last.0 ∙ index-last
-              attempt w) settled) in
+          attempt w) settled) in
           let n = r.1 in
           let e = h.entered n.0 n.1 in (
             r.0,

@@ -17,9 +17,9 @@ use Rattle.art_rows.proofs.KindLemmas.{some-words}
 use Rattle.art_serial.proofs.words.TableLemmas.{rows_apart}
 use Rattle.art_steps.specs.declared.variant.Variant.TheVariants.{Optimistic}
 use Rattle.art_steps.specs.declared.access.Access.TheVariants.{Load}
-use Rattle.art_steps.specs.Steps.{Turn, Asks, Answers, reply_of}
+use Rattle.art_steps.specs.Steps.{Asks, Answers}
 use Rattle.art_steps.specs.Act.{act}
-use Rattle.art_steps.proofs.TurnLemmas.{asks-same}
+use Rattle.art_steps.proofs.TurnLemmas.{asks-same, answers-of}
 use Rattle.art_stages.specs.Scans.{scan_start, scan_turn}
 use Rattle.art_stages.specs.Calls.{call_turn, call_behind}
 use Rattle.art_core.specs.declared.process.Process.{Process}
@@ -64,10 +64,6 @@ index-behind (x ∷ xs) ys i = ap (slice_index (x ∷ (xs ++ ys))) (plus (length
     plus : (n : ℕ) → suc n + i ≡ suc (n + i)
     plus n = omega arith
 
-pub answers-of : (t : Turn) (r : Reply) → reply_of t ≡ Some r → t ≡ Answers r
-answers-of (Asks a m) r e = absurd (none-some r e)
-answers-of (Answers x) r e = ap (λ y. Answers y) (same_Some x r e)
-
 module _ (plan : Plan) (start : Contents) (words schedule : List ℕ) (s : State) (run : IsRun plan start words schedule s)
     (v : plan.variant ≡ Optimistic) where
   abbrev first : State
@@ -86,21 +82,21 @@ module _ (plan : Plan) (start : Contents) (words schedule : List ℕ) (s : State
   sound-time (suc t) l a h =
       let b = at-before plan first schedule t a (omega (arith, l)) h in
       subst (λ n. IsSound Optimistic plan.shape n a) (omega arith)
-          (one-step Optimistic (inr refl) plan v run.within.shape.root (begun-sound.steps + t) (omega (arith, few, l)) b.state
+      (one-step Optimistic (inr refl) plan v run.within.shape.root (begun-sound.steps + t) (omega (arith, few, l)) b.state
       (sound-time t (omega (arith, l)) b.state b.at) b.turn a b.is).0
 
   steady-time : (d t : ℕ) → t + d ≤ length schedule → (a b : State) → At plan first schedule t a → At plan first schedule (t + d) b
       → IsSteady Optimistic plan.shape a b
   steady-time zero t l a b ha hb =
       subst (IsSteady Optimistic plan.shape a)
-          (same_Some a b (sym ha ∙ subst (λ k. run_on plan (Some first) (take k schedule) ≡ Some b) (zero-more t) hb))
+      (same_Some a b (sym ha ∙ subst (λ k. run_on plan (Some first) (take k schedule) ≡ Some b) (zero-more t) hb))
       (steady-refl Optimistic plan.shape a)
     where
       zero-more : (n : ℕ) → n + zero ≡ n
       zero-more n = omega arith
   steady-time (suc d) t l a b ha hb =
       let m = at-before plan first schedule (t + d) b (omega (arith, l))
-          (subst (λ k. run_on plan (Some first) (take k schedule) ≡ Some b) (more t) hb) in
+      (subst (λ k. run_on plan (Some first) (take k schedule) ≡ Some b) (more t) hb) in
       steady-trans Optimistic plan.shape a m.state b (steady-time d t (omega (arith, l)) a m.state ha m.at)
       (one-step Optimistic (inr refl) plan v run.within.shape.root (begun-sound.steps + (t + d)) (omega (arith, few, l)) m.state
       (sound-time (t + d) (omega (arith, l)) m.state m.at) m.turn b m.is).1
@@ -113,7 +109,7 @@ module _ (plan : Plan) (start : Contents) (words schedule : List ℕ) (s : State
       → IsSteady Optimistic plan.shape a b
   steady-at t u le l a b ha hb =
       steady-time (u - t) t (omega (arith, le, l)) a b ha
-          (subst (λ k. run_on plan (Some first) (take k schedule) ≡ Some b) (rest t u le) hb)
+      (subst (λ k. run_on plan (Some first) (take k schedule) ≡ Some b) (rest t u le) hb)
     where
       rest : (t u : ℕ) → t ≤ u → u ≡ t + (u - t)
       rest t u le = omega (arith, le)
@@ -178,7 +174,7 @@ module _ (plan : Plan) (start : Contents) (words schedule : List ℕ) (s : State
     -- A row that was settled when it was entered, up to a check that found the same version.
     module _ (i j base : ℕ) (kind : Kind) (e : Enters plan call attempt i base kind) (k : Checks plan call attempt j base)
         (same : slice_index attempt j ≡ slice_index attempt i)
-            (settled : IsSettled Optimistic plan.shape (got-at i e.reads.made).state base kind) where
+        (settled : IsSettled Optimistic plan.shape (got-at i e.reads.made).state base kind) where
       abbrev entry : GotAt plan first schedule (length schedule) p q call (le + i)
       entry = got-at i e.reads.made
 
@@ -218,9 +214,9 @@ module _ (plan : Plan) (start : Contents) (words schedule : List ℕ) (s : State
           → i < n → n ≤ j → Stays t now
       stays t n now l at within more most =
           let e-t = later-is (le + n) (le + i) t entry.u now entry.state l (omega (arith, entry.before)) at entry.at within
-              (has-got i e.reads.made) (omega (arith, more)) in
+          (has-got i e.reads.made) (omega (arith, more)) in
           let t-g = later-is (suc (le + j)) (le + n) (suc check.u) t check.after now (omega (arith, check.before)) l check.at_after at
-              check.got_it within (omega (arith, most)) in
+          check.got_it within (omega (arith, most)) in
           stays-at t now (omega (arith, e-t)) (omega (arith, t-g)) at
 
       row-stays : (t u : ℕ) (a b : State) → Stays t a → Stays u b → row_in b.words base kind ≡ row_in a.words base kind
@@ -235,10 +231,10 @@ module _ (plan : Plan) (start : Contents) (words schedule : List ℕ) (s : State
       present t n now l at within more most m word r late soon low high =
           let g = got-at m r.made in
           let e-g = later-is (suc (le + m)) (le + i) (suc g.u) entry.u g.after entry.state (omega (arith, g.before))
-              (omega (arith, entry.before)) g.at_after entry.at
+          (omega (arith, entry.before)) g.at_after entry.at
           g.got_it (has-got i e.reads.made) (omega (arith, late)) in
           let g-j = later-is (suc (le + j)) (le + m) (suc check.u) g.u check.after g.state (omega (arith, check.before))
-              (omega (arith, g.before)) check.at_after g.at
+          (omega (arith, g.before)) check.at_after g.at
           check.got_it (has-got m r.made) (omega (arith, soon)) in
           let back = stays-at g.u g.state (omega (arith, e-g)) (omega (arith, g-j)) g.at in
           let here = stays t n now l at within more most in
@@ -285,13 +281,13 @@ module _ (plan : Plan) (start : Contents) (words schedule : List ℕ) (s : State
         ∙ (ap (act plan.shape plan.variant scan) (g.got ∙ words-of p q scan x.earlier x.attempt in-scan i)
         ∙ (x.begins (take i x.attempt) ∙ e.reads.load)))) in
         let in-it = loads-known plan.shape scan (IsSettled Optimistic plan.shape g.state) sound.root (stage plan.shape lo hi g.process.got)
-            knows base e.reads.mark turn
+        knows base e.reads.mark turn
         e.no_check in
         let same = rows_apart plan.shape in-it.base base in-it.kind kind base
-            (settled-row Optimistic plan.shape g.state in-it.base in-it.kind in-it.known) e.row in-it.from
+        (settled-row Optimistic plan.shape g.state in-it.base in-it.kind in-it.known) e.row in-it.from
         in-it.below (omega arith) (omega (arith, some-words kind)) in
         subst (λ k. IsSettled Optimistic plan.shape g.state base k) same.1
-            (subst (λ b. IsSettled Optimistic plan.shape g.state b in-it.kind) same.0 in-it.known)
+        (subst (λ b. IsSettled Optimistic plan.shape g.state b in-it.kind) same.0 in-it.known)
 
     -- the row that has the word at which an attempt enters one is that row
     entered-row : (i base : ℕ) (kind : Kind) (e : Enters plan scan x.attempt i base kind) → ((x.reads i base e.reads).base ≡ base)
@@ -299,7 +295,7 @@ module _ (plan : Plan) (start : Contents) (words schedule : List ℕ) (s : State
     entered-row i base kind e =
         let row = x.reads i base e.reads in
         rows_apart plan.shape row.base base row.kind kind base row.enters.row e.row row.from row.below (omega arith)
-            (omega (arith, some-words kind))
+        (omega (arith, some-words kind))
 
     has-check : (i base : ℕ) (kind : Kind) → Enters plan scan x.attempt i base kind → (j : ℕ) × Checks plan scan x.attempt j base
     has-check i base kind e =
@@ -309,8 +305,16 @@ module _ (plan : Plan) (start : Contents) (words schedule : List ℕ) (s : State
     has-entry : (i word : ℕ) → Reads plan scan x.attempt i word → IsOfEnteredRow plan scan x.attempt i word
     has-entry i word r =
         let row = x.reads i word r in
-        record { base = row.base; kind = row.kind; entry = row.entry; enters = row.enters; by_then = row.by_then; from =
-            row.from; below = row.below }
+        record {
+          base = row.base;
+          kind = row.kind;
+          entry = row.entry;
+          enters = row.enters;
+          by_then = row.by_then;
+          from =
+              row.from;
+          below = row.below;
+        }
 
     before-checks : (i base : ℕ) (kind : Kind) → Enters plan scan x.attempt i base kind → i < x.m
     before-checks i base kind e = elim (x.parts i base e.reads) [
@@ -367,11 +371,11 @@ module _ (plan : Plan) (start : Contents) (words schedule : List ℕ) (s : State
                 let row = x.reads i word r in
                 present p q scan x.earlier x.attempt in-scan row.entry row.check row.base row.kind row.enters row.checks row.same
                 (scan-settled row.entry row.base row.kind row.enters) t x.m now l at within row.before row.behind i word r row.by_then
-                    row.no_sooner row.from row.below
+                row.no_sooner row.from row.below
 
             stands-still : (i j base : ℕ) (kind : Kind) → Enters plan scan x.attempt i base kind → Checks plan scan x.attempt j base
                 → (i < x.m) × (x.m ≤ j) × StandsFrom plan first schedule p (length (begun q)) (length x.earlier) i j base kind
-                    (row_in now.words base kind)
+                (row_in now.words base kind)
             stands-still i j base kind e k =
                 let same : slice_index x.attempt j ≡ slice_index x.attempt i = sym (holds j base k.reads) ∙ holds i base e.reads in
                 let early = before-checks i base kind e in
@@ -405,12 +409,12 @@ module _ (plan : Plan) (start : Contents) (words schedule : List ℕ) (s : State
         let sound = sound-time g.u (omega (arith, g.before)) g.state g.at in
         let known = sound.knows p get g.process (record { own = g.own; is_open = g.is_open }) in
         let here = ap (call_behind (optimistic plan.shape get)) (g.got ∙ words-of p q get x.earlier x.attempt in-get i)
-            ∙ h.stages (take i x.attempt) in
+        ∙ h.stages (take i x.attempt) in
         entering plan.shape run.within.shape.root key (take i x.attempt)
-            (get-stage plan.shape run.within.shape.root key (take i x.attempt)) base kind e.reads.mark
+        (get-stage plan.shape run.within.shape.root key (take i x.attempt)) base kind e.reads.mark
         (h.seeks i (omega (arith, e.reads.made))) (to-load plan key v run.within.shape.root x.attempt i base e.reads).turn e.no_check e.row
         (IsSettled Optimistic plan.shape g.state) sound.root
-            (subst (Knows (IsSettled Optimistic plan.shape g.state) (optimistic plan.shape get)) here known)
+        (subst (Knows (IsSettled Optimistic plan.shape g.state) (optimistic plan.shape get)) here known)
 
     -- when its last row is checked
     moment-of-get : HasMomentOfLastRow plan first schedule p (length (begun q)) key q.got reply
@@ -424,7 +428,7 @@ module _ (plan : Plan) (start : Contents) (words schedule : List ℕ) (s : State
         → slice_index g.state.words word ≡ slice_index x.attempt i =
         λ i word r late low high.
         present p q get x.earlier x.attempt in-get x.entry x.check x.base x.kind x.enters x.checks x.same settled g.u x.check g.state l
-            g.at within x.behind (omega arith)
+        g.at within x.behind (omega arith)
         i word r late (x.final i word r) low high in
         record {
           earlier = x.earlier;

@@ -37,8 +37,12 @@ pub record Within (n : ℕ) (xs : List ℕ) : Type 0 where
 pub taken-within : (n : ℕ) (xs : List ℕ) → Within n xs
 taken-within n xs = elim (cases_lt n (length xs)) [
   | inl less ↦ record { length' = n; most = omega (arith, less); same = refl }
-  | inr more ↦ record { length' = length xs; most = omega arith; same = take_whole n xs more ∙ Rattle.std.proofs.Common.sym
-      (take-length xs) }
+  | inr more ↦ record {
+    length' = length xs;
+    most = omega arith;
+    same = take_whole n xs more ∙ Rattle.std.proofs.Common.sym
+        (take-length xs);
+  }
 ]
 
 pub row-within : (s : Shape) (base word : ℕ) (kind : Kind) → kind_at s base ≡ Some kind → base < word → word < base + row_words kind

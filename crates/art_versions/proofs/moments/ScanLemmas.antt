@@ -4,9 +4,8 @@ use Rattle.std.proofs.Common.{Bool, true, false}
 use Rattle.std.proofs.Common.{inl, inr, arith, append_assoc}
 use Rattle.std.specs.Prelude.{◌⊎◌, ◌==◌, Option, Some, None, if◌then◌else◌}
 use Rattle.std.proofs.lemmas.List.{length-append, append-nil}
-use Rattle.std.proofs.lemmas.Bool.{cases_lt}
+use Rattle.std.proofs.lemmas.Bool.{cases_lt, eqb-true}
 use Rattle.std.proofs.Math.Seq.{take-length}
-use Rattle.art_serial.proofs.words.KeyLemmas.{number_is}
 use Rattle.events.specs.declared.event.Reply.{Reply}
 use Rattle.art_rows.specs.declared.table.Kind.{Kind}
 use Rattle.art_rows.specs.declared.table.Kind.TheVariants.{Four, Sixteen, FortyEight, Full}
@@ -66,7 +65,7 @@ module _ (s : Shape) (some : 1 ≤ s.rows256) (lo hi : ℕ) where
   keys-go a base FortyEight info kept w word turn h =
       let more = reads-on s some lo hi a word w.rows base FortyEight (keys_at base) h.0 h.2 turn (omega arith) (omega arith) in
       inl (resumes s some lo hi (a ++ word ∷ []) w.rows more
-          (with_frame w (frame_of (held base FortyEight info kept) (keys_one word) 0 0)) refl
+      (with_frame w (frame_of (held base FortyEight info kept) (keys_one word) 0 0)) refl
       ((h.2, omega arith), h.1))
   keys-go a base Full info kept w word turn h =
       let more = reads-on s some lo hi a word w.rows base Full (keys_at base) h.0 h.2 turn (omega arith) (omega arith) in
@@ -113,7 +112,7 @@ module _ (s : Shape) (some : 1 ≤ s.rows256) (lo hi : ℕ) where
 
       one : (b : Bool) → (if b then row_child (word / 4) (kind_at s (word / 4)) else
           (if word % 4 == 2 then Leaf (word / 4294967296) (word % 4294967296 / 4) else Empty)) ≡ ChildRow base kind
-              → kind_at s base ≡ Some kind
+          → kind_at s base ≡ Some kind
       one true e = at-base (kind_at s (word / 4)) refl e
       one false e = two (word % 4 == 2) e
 
@@ -134,8 +133,13 @@ module _ (s : Shape) (some : 1 ≤ s.rows256) (lo hi : ℕ) where
     ];
     checked = λ x among. elim (h.checked x among) [
       | inl none ↦ absurd none
-      | inr done ↦ inr (done.0, done.1, loads-more s lo hi a word done.0 x.base (Some point.Check) done.2, index-more done.0 a word
-          done.2.made ∙ done.3)
+      | inr done ↦ inr (
+        done.0,
+        done.1,
+        loads-more s lo hi a word done.0 x.base (Some point.Check) done.2,
+        index-more done.0 a word
+            done.2.made ∙ done.3,
+      )
     ];
   }
 
@@ -149,16 +153,20 @@ module _ (s : Shape) (some : 1 ≤ s.rows256) (lo hi : ℕ) where
   goes a (Info base kind kept) w word turn h = visits s some lo hi a w base kind kept word turn h
   goes a (Keys n) w word turn h = keys-go a n.base n.kind n.info n.kept w word turn h
   goes a (FirstKeys n count) w word turn h =
-      inl (reads-on s some lo hi a word w.rows n.base n.kind (keys_at n.base) h.0 h.2 turn (omega arith)
-          (omega (arith, some-more n.kind)), h.1, h.2)
+      inl (
+        reads-on s some lo hi a word w.rows n.base n.kind (keys_at n.base) h.0 h.2 turn (omega arith)
+            (omega (arith, some-more n.kind)),
+        h.1,
+        h.2,
+      )
   goes a (SecondKeys n count first) w word turn h =
       let more = reads-on s some lo hi a word w.rows n.base n.kind (more_keys_at n.base) h.0 h.2 turn (omega arith)
-          (omega (arith, some-more n.kind)) in
+      (omega (arith, some-more n.kind)) in
       inl (resumes s some lo hi (a ++ word ∷ []) w.rows more (with_frame w (frame_of n (keys16 count first word) 0 0)) refl
-          ((h.2, omega arith), h.1))
+      ((h.2, omega arith), h.1))
   goes a (Index n j m) w word turn h =
       let more = reads-on s some lo hi a word w.rows n.base n.kind (index_at n.base (8 * j)) h.0 h.2 turn (omega arith)
-          (index-in n.base j n.kind h.3 h.4) in
+      (index-in n.base j n.kind h.3 h.4) in
       inl (resumes s some lo hi (a ++ word ∷ []) w.rows more (with_frame w (frame_of n (keys_one word) j m)) refl ((h.2, omega arith), h.1))
   goes a (LoadChild f slot) w word turn h =
       let behind = slot-behind f.row.base f.row.kind slot h.3 in
@@ -170,8 +178,8 @@ module _ (s : Shape) (some : 1 ≤ s.rows256) (lo hi : ℕ) where
           → (StandsAt s some lo hi (a ++ word ∷ []) (if b then close_at c w else scan_start c))
           ⊎ ((if b then close_at c w else scan_start c) ≡ scan_start c)
       go true e = inl (released s some lo hi (a ++ word ∷ []) w.rows w.pairs
-          (subst (λ v. Releasing s some lo hi (a ++ v ∷ []) w.rows) (sym (number_is word n.kept e))
-              (checks s some lo hi a n w.rows turn h)))
+          (subst (λ v. Releasing s some lo hi (a ++ v ∷ []) w.rows) (sym (eqb-true word n.kept e))
+          (checks s some lo hi a n w.rows turn h)))
       go false e = inr refl
   goes a Over w word turn h = inl (over-goes a w word turn h)
 
@@ -198,7 +206,7 @@ module _ (s : Shape) (some : 1 ≤ s.rows256) (lo hi : ℕ) where
     | inl last ↦
         let all : i ≡ length (attempt ++ w ∷ []) = omega (arith, last, most, length-append attempt (w ∷ [])) in
         subst (λ l. StandsAt s some lo hi l (stage s lo hi l))
-            (sym (ap (λ k. take k (attempt ++ w ∷ [])) all ∙ take-length (attempt ++ w ∷ []))) now
+        (sym (ap (λ k. take k (attempt ++ w ∷ [])) all ∙ take-length (attempt ++ w ∷ []))) now
     | inr old ↦ subst (λ l. StandsAt s some lo hi l (stage s lo hi l)) (sym (take-more i attempt w old)) (h i old)
   ]
 
@@ -224,16 +232,17 @@ module _ (s : Shape) (some : 1 ≤ s.rows256) (lo hi : ℕ) where
       record { earlier = earlier; attempt = attempt; all = ap (λ l. earlier ++ l) (append-nil attempt); begins = begins; stands = stands }
   attempts earlier attempt (w ∷ rest) begins stands =
       elim (goes attempt (stage s lo hi attempt).step (stage s lo hi attempt).walk w refl (at-end attempt stands)) [
-    | inl on ↦ subst Attempted (ap (λ l. earlier ++ l) (append_assoc attempt (w ∷ []) rest))
-        (attempts earlier (attempt ++ w ∷ []) rest begins
-        (one-more attempt w stands (subst (StandsAt s some lo hi (attempt ++ w ∷ []))
+        | inl on ↦ subst Attempted (ap (λ l. earlier ++ l) (append_assoc attempt (w ∷ []) rest))
+            (attempts earlier (attempt ++ w ∷ []) rest begins
+            (one-more attempt w stands (subst (StandsAt s some lo hi (attempt ++ w ∷ []))
             (sym (fold-more s lo hi (scan_start c) attempt w)) on)))
-    | inr again ↦ subst Attempted (append_assoc earlier (attempt ++ w ∷ []) rest ∙ ap (λ l. earlier ++ l)
-        (append_assoc attempt (w ∷ []) rest))
-        (attempts (earlier ++ (attempt ++ w ∷ [])) [] rest
-        (all-append (call_begun c) earlier (attempt ++ w ∷ []) ∙ (ap (λ x. after_all c x (attempt ++ w ∷ [])) begins
-        ∙ (all-fold (scan_start c) (attempt ++ w ∷ []) ∙ ap (OnScan lo hi) (fold-more s lo hi (scan_start c) attempt w ∙ again)))) none-yet)
-  ]
+        | inr again ↦ subst Attempted (append_assoc earlier (attempt ++ w ∷ []) rest ∙ ap (λ l. earlier ++ l)
+            (append_assoc attempt (w ∷ []) rest))
+            (attempts (earlier ++ (attempt ++ w ∷ [])) [] rest
+            (all-append (call_begun c) earlier (attempt ++ w ∷ []) ∙ (ap (λ x. after_all c x (attempt ++ w ∷ [])) begins
+            ∙ (all-fold (scan_start c) (attempt ++ w ∷ [])
+            ∙ ap (OnScan lo hi) (fold-more s lo hi (scan_start c) attempt w ∙ again)))) none-yet)
+      ]
 
   pub attempted : (got : List ℕ) → Attempted got
   attempted got = attempts [] [] got refl none-yet

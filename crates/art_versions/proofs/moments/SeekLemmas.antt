@@ -5,13 +5,12 @@ use Rattle.std.proofs.Common.{Bool, true, false}
 use Rattle.std.proofs.Common.{inl, inr, arith, append_assoc}
 use Rattle.std.specs.Prelude.{◌⊎◌, ◌==◌, slice_index, Option, Some, None, option_map, if◌then◌else◌}
 use Rattle.std.proofs.lemmas.List.{length-append, append-nil}
-use Rattle.std.proofs.lemmas.Bool.{cases_lt, false≢true}
+use Rattle.std.proofs.lemmas.Bool.{cases_lt, false≢true, eqb-true}
 use Rattle.std.proofs.lemmas.Option.{none-some, same_Some}
 use Rattle.std.proofs.Math.Seq.{take-length}
 use Rattle.events.specs.declared.event.Call.TheVariants.{Get}
 use Rattle.events.specs.declared.event.Reply.{Reply}
 use Rattle.events.specs.declared.event.Reply.TheVariants as replies
-use Rattle.art_serial.proofs.words.KeyLemmas.{number_is}
 use Rattle.art_serial.proofs.words.TableLemmas.{kind_at-base_of}
 use Rattle.art_rows.specs.declared.table.Kind.{Kind}
 use Rattle.art_rows.specs.declared.table.Kind.TheVariants.{Four, Sixteen, FortyEight, Full}
@@ -89,8 +88,11 @@ module _ (s : Shape) (some : 1 ≤ s.rows256) (key : ℕ) where
   loads-cases : (attempt : List ℕ) (w i word : ℕ) (mark : Option Point) → Loads (attempt ++ w ∷ []) i word mark
       → (Loads attempt i word mark) ⊎ ((i ≡ length attempt) × (turn_at c (stage attempt) ≡ Asks (Load word) mark))
   loads-cases attempt w i word mark h = elim (cases_lt i (length attempt)) [
-    | inl less ↦ inl (record { made = less; turn = ap (λ l. turn_at c (stage l))
-        (sym (take-more i attempt w (omega (arith, less)))) ∙ h.turn })
+    | inl less ↦ inl (record {
+      made = less;
+      turn = ap (λ l. turn_at c (stage l))
+          (sym (take-more i attempt w (omega (arith, less)))) ∙ h.turn;
+    })
     | inr more ↦
         let is : i ≡ length attempt = omega (arith, more, h.made, length-append attempt (w ∷ [])) in
         inr (is, ap (λ l. turn_at c (stage l)) (sym (ap (λ k. take k (attempt ++ w ∷ [])) is ∙ take-front attempt w)) ∙ h.turn)
@@ -171,8 +173,14 @@ module _ (s : Shape) (some : 1 ≤ s.rows256) (key : ℕ) where
       → turn_at c (stage a) ≡ Asks (Load base) None
       → Last (a ++ w ∷ []) base kind w (length a)
   enters a w base kind row free turn = record {
-    entered = record { row = row; mark = None; loads = last-loads a w base None turn; no_check = no-check; free = ap is_locked
-        (index-last a w) ∙ free };
+    entered = record {
+      row = row;
+      mark = None;
+      loads = last-loads a w base None turn;
+      no_check = no-check;
+      free = ap is_locked
+          (index-last a w) ∙ free;
+    };
     version = index-last a w;
     last = λ i b k e. omega (arith, e.loads.made, length-append a (w ∷ []));
   }
@@ -385,7 +393,7 @@ module _ (s : Shape) (some : 1 ≤ s.rows256) (key : ℕ) where
       is-slot : IsSlotOf (a ++ w ∷ []) entry n (entry_slot base place)
       is-slot words g = ap (λ v. entry_slot base (slice_index (entries_of v) (byte_in c n % 8)))
           (agrees-now a w entry base FortyEight (index_at base (byte_in c n)) None turn (earlier a n entry h) (omega (arith, small))
-              (omega (arith, small)) words g)
+          (omega (arith, small)) words g)
 
       go : (b : Bool) → (place == 0) ≡ b → Seeks (a ++ w ∷ []) (if b then Check p (Lacks (keys_one w)) else Slot p
           (child_at FortyEight base (place - 1)))
@@ -401,7 +409,7 @@ module _ (s : Shape) (some : 1 ≤ s.rows256) (key : ℕ) where
       (λ b k e. is-row w b k e)
       (λ words g. ap (child_of s)
       (agrees-now a w entry base Full (child_at Full base (byte_in c n)) None turn (earlier a n entry h) (omega (arith, small))
-          (omega (arith, small)) words g))
+      (omega (arith, small)) words g))
 
   -- each word leads on, or the get starts again
   abbrev Next : List ℕ → Stage → ℕ → Type 0
@@ -493,7 +501,7 @@ module _ (s : Shape) (some : 1 ≤ s.rows256) (key : ℕ) where
       (reading-more a w p.row entry (keys_at p.row.base) None h turn (omega arith) (omega (arith, seven-words p.row.kind))) is
       (λ words g. counts words (agrees-less a w entry p.row.base p.row.kind words g))
       (agrees-now a w entry p.row.base p.row.kind (keys_at p.row.base) None turn (earlier a p.row entry h) (omega arith)
-          (omega (arith, seven-words p.row.kind))))
+      (omega (arith, seven-words p.row.kind))))
   goes a st w turn (finds_more p count first entry h is counts firsts) =
       inl (words-go (a ++ w ∷ []) p (record { first = first; second = w; count = count }) entry
       (reading-more a w p.row entry (more_keys_at p.row.base) None h turn (omega arith) (omega (arith, seven-words p.row.kind)))
@@ -501,13 +509,13 @@ module _ (s : Shape) (some : 1 ≤ s.rows256) (key : ℕ) where
       (counts words (agrees-less a w entry p.row.base p.row.kind words g))
       (firsts words (agrees-less a w entry p.row.base p.row.kind words g))
       (agrees-now a w entry p.row.base p.row.kind (more_keys_at p.row.base) None turn (earlier a p.row entry h) (omega arith)
-          (omega (arith, seven-words p.row.kind)) words g)))
+      (omega (arith, seven-words p.row.kind)) words g)))
     where
       sixteen : (kind : Kind) → kind ≡ Sixteen → (words : List ℕ) → slice_index words (count_at Sixteen p.row.base) ≡ count
           → slice_index words (keys_at p.row.base) ≡ first → slice_index words (more_keys_at p.row.base) ≡ w
           → slot_of words p.row.base kind (byte_in c p.row)
           ≡ option_map (child_at kind p.row.base)
-              (place_of (byte_in c p.row) (keys_among kind (record { first = first; second = w; count = count })))
+          (place_of (byte_in c p.row) (keys_among kind (record { first = first; second = w; count = count })))
       sixteen Four e words x y z = absurd cc
       sixteen FortyEight e words x y z = absurd cc
       sixteen Full e words x y z = absurd cc
@@ -517,7 +525,7 @@ module _ (s : Shape) (some : 1 ≤ s.rows256) (key : ℕ) where
           ∙ (ap (λ v. option_map (child_at Sixteen p.row.base) (place_of (byte_in c p.row) (Rattle.art_rows.specs.Words.keys16_of count v
           (slice_index words (more_keys_at p.row.base))))) y
           ∙ ap (λ v. option_map (child_at Sixteen p.row.base)
-              (place_of (byte_in c p.row) (Rattle.art_rows.specs.Words.keys16_of count first v))) z)
+          (place_of (byte_in c p.row) (Rattle.art_rows.specs.Words.keys16_of count first v))) z)
   goes a st w turn (at_slot p slot entry h is slots) =
       let behind = slot-behind p.row.base p.row.kind slot is in
       inl (checks p (Has slot (child_of s w)) entry
@@ -525,14 +533,14 @@ module _ (s : Shape) (some : 1 ≤ s.rows256) (key : ℕ) where
       (λ b k e. is-row w b k e)
       (λ words g. ap (child_in s words) (slots words (agrees-less a w entry p.row.base p.row.kind words g))
       ∙ ap (child_of s) (agrees-now a w entry p.row.base p.row.kind slot (Some point.Child) turn (earlier a p.row entry h)
-          (omega (arith, behind.0)) behind.1 words g)))
+      (omega (arith, behind.0)) behind.1 words g)))
   goes a st w turn (checks p f entry h is sees) = go (w == p.row.kept) refl
     where
       go : (b : Bool) → (w == p.row.kept) ≡ b
           → Seeks (a ++ w ∷ []) (if b then seek_unlocked c p.row f else Wait Root)
           ⊎ ((if b then seek_unlocked c p.row f else Wait Root) ≡ Wait Root)
       go true e = inl (seek-go (a ++ w ∷ []) p.row entry
-          (checked-now a w p.row.base p.row.kind p.row.kept entry h.last turn (number_is w p.row.kept e))
+          (checked-now a w p.row.base p.row.kind p.row.kept entry h.last turn (eqb-true w p.row.kept e))
           (info-more a w entry p.row.base p.row.info (earlier a p.row entry h) h.info) h.fits f is
           (λ words g. sees words (agrees-less a w entry p.row.base p.row.kind words g)))
       go false e = inr refl
@@ -545,7 +553,7 @@ module _ (s : Shape) (some : 1 ≤ s.rows256) (key : ℕ) where
         base = n.base;
         kind = n.kind;
         entry = entry;
-        checked = checked-now a w n.base n.kind n.kept entry h turn (number_is w n.kept e);
+        checked = checked-now a w n.base n.kind n.kept entry h turn (eqb-true w n.kept e);
         info = n.info;
         goes_by = info-more a w entry n.base n.info (omega (arith, h.entered.loads.made)) info;
         says = λ words g. ap (λ o. reply_behind o (reply_of_child key (child_on s words n.base n.kind (byte_in c n)))) differs;
@@ -584,10 +592,10 @@ module _ (s : Shape) (some : 1 ≤ s.rows256) (key : ℕ) where
       go st (finds p entry h) e k = find p.row.kind p.row h.last.entered.row e
       go st (finds_keys p count entry h is counts) e k =
           within p.row.base (keys_at p.row.base) p.row.kind h.last.entered.row (loads-same e).0 (omega arith)
-              (omega (arith, seven-words p.row.kind))
+          (omega (arith, seven-words p.row.kind))
       go st (finds_more p count first entry h is counts firsts) e k =
           within p.row.base (more_keys_at p.row.base) p.row.kind h.last.entered.row (loads-same e).0 (omega arith)
-              (omega (arith, seven-words p.row.kind))
+          (omega (arith, seven-words p.row.kind))
       go st (at_slot p slot entry h is slots) e k =
           let behind = slot-behind p.row.base p.row.kind slot is in
           within p.row.base slot p.row.kind h.last.entered.row (loads-same e).0 (omega (arith, behind.0)) behind.1

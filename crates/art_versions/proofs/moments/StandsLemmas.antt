@@ -245,10 +245,10 @@ module _ (s : Shape) (some : 1 ≤ s.rows256) (lo hi : ℕ) where
           let more = joins a [] root h.0 root-row free turn in
           let in-it : In (root ∷ []) (root_base s) Full = (root, inl refl, refl, refl) in
           inl (subst (λ b. StandsAt (a ++ word ∷ [])
-              (visit_list c lo hi root (if b then w else record { rows = w.rows ++ root ∷ []; pairs = w.pairs; way = w.way })
+          (visit_list c lo hi root (if b then w else record { rows = w.rows ++ root ∷ []; pairs = w.pairs; way = w.way })
           (bytes_of lo hi (row_at root)))) (sym (ap (λ l. has_row (root_base s) (map row_at l)) h.1))
           (lists (a ++ word ∷ []) (root ∷ []) more root (record { rows = w.rows ++ root ∷ []; pairs = w.pairs; way = w.way })
-              (bytes_of lo hi (row_at root))
+          (bytes_of lo hi (row_at root))
           (ap (λ l. l ++ root ∷ []) h.1) in-it (no-frames (In (root ∷ [])) w.way h.2)))
 
   pub waits-below : (a : List ℕ) (w : Walk) (base : ℕ) (kind : Kind) (word : ℕ) → scan_turn c (stage s lo hi a) ≡ Asks (Load base) None
@@ -257,7 +257,7 @@ module _ (s : Shape) (some : 1 ≤ s.rows256) (lo hi : ℕ) where
     where
       go : (b d : Bool) → is_locked word ≡ b → is_obsolete word ≡ d
           → (StandsAt (a ++ word ∷ []) (if b then at (Wait (Below base kind)) w else if d then scan_start c else at
-              (Info base kind word) w))
+          (Info base kind word) w))
           ⊎ ((if b then at (Wait (Below base kind)) w else if d then scan_start c else at (Info base kind word) w) ≡ scan_start c)
       go true d e f = inl (waits-on a word w.rows base kind h.0 h.2 e turn, h.1, h.2)
       go false true e f = inr refl
@@ -289,12 +289,12 @@ module _ (s : Shape) (some : 1 ≤ s.rows256) (lo hi : ℕ) where
           let one = reads-on prev kept w.rows base kind base h in-it waited (omega arith) (omega (arith, seven-words kind)) in
           let two = reads-on (prev ++ kept ∷ []) word w.rows base kind (info_at base) one in-it same-turn (omega arith) info-in in
           lists (a ++ word ∷ []) w.rows (subst (λ l. Reading (l ++ word ∷ []) w.rows) (sym is) two) n w
-              (bytes_of lo hi (row_at n)) refl in-it way
+          (bytes_of lo hi (row_at n)) refl in-it way
       go false e =
           let in-it : In (w.rows ++ n ∷ []) base kind = (n, among-last n w.rows, refl, refl) in
           let one = joins prev w.rows n h row free waited in
           let two = reads-on (prev ++ kept ∷ []) word (w.rows ++ n ∷ []) base kind (info_at base) one in-it same-turn
-              (omega arith) info-in in
+          (omega arith) info-in in
           lists (a ++ word ∷ []) (w.rows ++ n ∷ []) (subst (λ l. Reading (l ++ word ∷ []) (w.rows ++ n ∷ [])) (sym is) two) n wider
           (bytes_of lo hi (row_at n)) refl in-it (more-frames w.rows n w.way way)
 
@@ -335,8 +335,13 @@ module _ (s : Shape) (some : 1 ≤ s.rows256) (lo hi : ℕ) where
         index-last a n.kept ∙ ap (λ y. y.kept) (sym is),
       )
       | inl (inr later) ↦ inl later
-      | inr done ↦ inr (done.0, done.1, loads-more s lo hi a n.kept done.0 x.base (Some point.Check) done.2, index-more done.0 a n.kept
-          done.2.made ∙ done.3)
+      | inr done ↦ inr (
+        done.0,
+        done.1,
+        loads-more s lo hi a n.kept done.0 x.base (Some point.Check) done.2,
+        index-more done.0 a n.kept
+            done.2.made ∙ done.3,
+      )
     ];
   }
     where

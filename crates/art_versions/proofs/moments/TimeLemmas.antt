@@ -2,10 +2,10 @@
 use Rattle.std.proofs.Common.{◌≡◌, ℕ, zero, suc, ◌+◌, ◌-◌, ◌<◌, ◌≤◌, List, [], ◌∷◌, ◌++◌, length, take, refl, ap, sym, subst, ◌∙◌, inl, inr}
 use Rattle.std.proofs.Common.{arith}
 use Rattle.std.specs.Prelude.{◌⊎◌, slice_get, slice_index, Option, Some, None}
-use Rattle.std.proofs.lemmas.List.{length-append}
+use Rattle.std.proofs.lemmas.List.{length-append, get_or_append_left}
 use Rattle.std.proofs.lemmas.Bool.{cases_lt}
 use Rattle.std.proofs.lemmas.Option.{same_Some, none-some}
-use Rattle.std.proofs.Math.Seq.{take-length}
+use Rattle.std.proofs.Math.Seq.{take-length, get_or-append_seam}
 use Rattle.events.specs.declared.event.Call.{Call}
 use Rattle.events.specs.declared.event.Event.TheVariants.{Invoke, Answer}
 use Rattle.events.specs.declared.event.Reply.{Reply}
@@ -56,13 +56,10 @@ take-more (suc i) [] w h = absurd (omega (arith, h))
 take-more (suc i) (x ∷ xs) w h = ap (λ zs. x ∷ zs) (take-more i xs w (omega (arith, h)))
 
 pub index-more : (i : ℕ) (xs : List ℕ) (w : ℕ) → i < length xs → slice_index (xs ++ w ∷ []) i ≡ slice_index xs i
-index-more i [] w h = absurd (omega (arith, h))
-index-more zero (x ∷ xs) w h = refl
-index-more (suc i) (x ∷ xs) w h = index-more i xs w (omega (arith, h))
+index-more i xs w h = get_or_append_left xs (w ∷ []) 0 i h
 
 pub index-last : (xs : List ℕ) (w : ℕ) → slice_index (xs ++ w ∷ []) (length xs) ≡ w
-index-last [] w = refl
-index-last (x ∷ xs) w = index-last xs w
+index-last xs w = get_or-append_seam xs w [] 0
 
 -- one step of the process: it is in the same call with a word more, or it begins or ends one
 pub data Goes (plan : Plan) (s : State) (w q : Process) : Type 0 where
@@ -227,7 +224,7 @@ module _ (plan : Plan) (first : State) (schedule : List ℕ) (p : ℕ) where
       inr (ap (λ x. length (begun x)) one, inr (subst (λ x. length w.got ≤ length x.got) one (omega arith)))
   gone (suc d) t l a b ha hb w q ow oq =
       let m = at-before plan first schedule (t + d) b (omega (arith, l))
-          (at-place plan first schedule (t + suc d) (suc (t + d)) b (omega arith) hb) in
+      (at-place plan first schedule (t + suc d) (suc (t + d)) b (omega arith) hb) in
       let x = went plan m.state b m.turn p q m.is oq in
       goes-on plan m.state w x.process q (gone d t (omega (arith, l)) a m.state ha m.at w x.process ow x.own) x.goes
 
@@ -252,5 +249,5 @@ module _ (plan : Plan) (first : State) (schedule : List ℕ) (p : ℕ) where
 pub words-were-got : WordsWereGot
 words-were-got plan words schedule s p q call i gives own is less =
     was-got plan words schedule p (length schedule) (omega arith) s
-        (ap (run_on plan (Some (opened_on plan words))) (take-length schedule) ∙ gives) q own call is i
+    (ap (run_on plan (Some (opened_on plan words))) (take-length schedule) ∙ gives) q own call is i
     less

@@ -84,8 +84,11 @@ module _ (plan : Plan) (lo hi : ℕ) (v : plan.variant ≡ Optimistic) (some : 1
         from = low;
         below = high;
         check = j;
-        checks = record { reads = from-load j n.base (Some point.Check) loads
-            (inr (ap is_locked is ∙ free-unlocked n.kept e.free)); check = refl };
+        checks = record {
+          reads = from-load j n.base (Some point.Check) loads
+              (inr (ap is_locked is ∙ free-unlocked n.kept e.free));
+          check = refl;
+        };
         behind = behind;
         no_sooner = no-sooner;
         same = is ∙ sym e.kept;
@@ -101,7 +104,7 @@ module _ (plan : Plan) (lo hi : ℕ) (v : plan.variant ≡ Optimistic) (some : 1
         | inr x ↦
             let e = h.entered x.2 x.3 in
             let here : L i x.2.base (Some point.Check) =
-                subst (λ m. L i x.2.base m) x.1 (subst (λ y. L i y r.mark) x.4 (to-load i word r)) in
+            subst (λ m. L i x.2.base m) x.1 (subst (λ y. L i y r.mark) x.4 (to-load i word r)) in
             checked-row x.2 i word e.0 e.1 (omega (arith, e.2, x.0)) e.2 (omega (arith, x.4)) (omega (arith, x.4, some-words x.2.kind))
             i x.0 (omega arith) here x.5
       ]

@@ -25,10 +25,10 @@ use Rattle.art_versions.proofs.versions.WordFacts.{place-fits, entry-fits}
 -- Where a walk resumes: whatever is so of the stages that can come is so.
 module _ (s : Shape) (lo hi : ℕ) (rows : List Held) (P : OfRows) (G : ScanAt → Type 0)
     (child : (f : Frame) (slot : ℕ) (w : Walk) → w.rows ≡ rows → FitsFrame P f → IsSlot f.row.base f.row.kind slot
-        → Each (FitsFrame P) w.way
+    → Each (FitsFrame P) w.way
     → G (at (LoadChild f slot) w))
     (index : (n : Held) (j m : ℕ) (w : Walk) → j < 32 → w.rows ≡ rows → n.kind ≡ FortyEight → P n.base n.kind → Each (FitsFrame P) w.way
-        → G (at (Index n j m) w))
+    → G (at (Index n j m) w))
     (keys : (n : Held) (w : Walk) → w.rows ≡ rows → P n.base n.kind → Each (FitsFrame P) w.way → G (at (Keys n) w))
     (done : (pairs : List (ℕ × ℕ)) → G (release_rows rows pairs)) where
   abbrev c : Setting
@@ -93,14 +93,14 @@ module _ (s : Shape) (lo hi : ℕ) (rows : List Held) (P : OfRows) (G : ScanAt �
       → G (frame_at kind lo hi w (frame base kind info kept k byte left index words) other)
   frame-good w base Four info kept k byte left index words other r p few way rest =
       bytes-good _ _ w (frame base Four info kept k byte left index words) byte left other r
-          (λ y slot l e. place-good Four base k y slot e) p few way rest
+      (λ y slot l e. place-good Four base k y slot e) p few way rest
   frame-good w base Sixteen info kept k byte left index words other r p few way rest =
       bytes-good _ _ w (frame base Sixteen info kept k byte left index words) byte left other r
       (λ y slot l e. place-good Sixteen base k y slot e) p few way rest
   frame-good w base FortyEight info kept k byte left index words other r p few way rest =
       bytes-good _ _ w (frame base FortyEight info kept k byte left index words) byte left _ r
       (λ y slot l e. entry-good base k.first y slot e) p few way
-          (words-good (held base FortyEight info kept) w (index + 1) words other r refl p way rest)
+      (words-good (held base FortyEight info kept) w (index + 1) words other r refl p way rest)
   frame-good w base Full info kept k byte left index words other r p few way rest =
       bytes-good _ _ w (frame base Full info kept k byte left index words) byte left other r
       (λ y slot l e. (y, l, sym (same_Some (child_at Full base y) slot e))) p few way rest
@@ -109,7 +109,7 @@ module _ (s : Shape) (lo hi : ℕ) (rows : List Held) (P : OfRows) (G : ScanAt �
   way-good w [] r h = subst (λ l. G (release_rows l w.pairs)) (sym r) (done w.pairs)
   way-good w (f ∷ fs) r h =
       frame-good (on_way w fs) f.row.base f.row.kind f.row.info f.row.kept f.keys f.byte f.left f.index f.words
-          (way_at c lo hi w fs) r h.0.0 h.0.1 h.1
+      (way_at c lo hi w fs) r h.0.0 h.0.1 h.1
       (way-good w fs r h.1)
 
   pub resumed : (w : Walk) → w.rows ≡ rows → Each (FitsFrame P) w.way → G (resume_at c lo hi w)

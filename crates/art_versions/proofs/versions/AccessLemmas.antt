@@ -73,11 +73,11 @@ module _ (variant : Variant) (shape : Shape) (n : ℕ) (s : State) (h : IsSound 
     pub keeps-words : value ≡ slice_index s.words word → Has P c here-now (holds c place) (fills place) → Kept
     keeps-words same has =
         let all : (x : ℕ) → now x ≡ slice_index s.words x =
-            λ x. m.stays variant shape n s h few p q here call is-open word value q' its x (λ e. same) within in
+        λ x. m.stays variant shape n s h few p q here call is-open word value q' its x (λ e. same) within in
         let cl = m.claims-stay variant shape n s h few p q here call is-open word value q' its (fills place) has.2 (inl refl)
-            (λ kind. all (claims_of kind)) in
+        (λ kind. all (claims_of kind)) in
         let more : (b : ℕ) (k : Kind) → P b k → IsSettled variant shape later b k =
-            λ b k x. m.settles variant shape n s h few p q here call is-open word value q' its cl b k x in (
+        λ b k x. m.settles variant shape n s h few p q here call is-open word value q' its cl b k x in (
           m.rows-stay variant shape n s h few p q here call is-open word value q' its cl (fills place)
               (lift (IsSettled variant shape later) here-now (holds c place) (fills place) more has) within
               (λ base kind e. omega (arith, all base, h.versions base kind e))
@@ -103,14 +103,14 @@ module _ (variant : Variant) (shape : Shape) (n : ℕ) (s : State) (h : IsSound 
       claims : (kind : Kind) → now (claims_of kind) ≡ slice_index s.words (claims_of kind)
       claims kind = index-other s.words word value (claims_of kind)
           (m.no-claim variant shape n s h few p q here call is-open word value q' its
-              (omega (arith, row_begins shape b k row, behind.0)) kind)
+          (omega (arith, row_begins shape b k row, behind.0)) kind)
 
       stands : (base : ℕ) (kind : Kind) → P base kind → is_locked (slice_index s.words base) ≡ false
           → SameWords s.words (slice_set s.words word value) base kind
       stands base kind x free y low high = elim (cases_eq y word) [
         | inl e ↦
             let one = rows_apart shape base b kind k word (settled-row variant shape s base kind x) row (omega (arith, low, e))
-                (omega (arith, high, e))
+            (omega (arith, high, e))
             (omega (arith, behind.0)) behind.1 in
             absurd (private kind (subst (λ z. P z kind) one.0 x) (subst (λ z. is_locked (slice_index s.words z) ≡ false) one.0 free))
         | inr e ↦ index-other s.words word value y e
@@ -126,12 +126,12 @@ module _ (variant : Variant) (shape : Shape) (n : ℕ) (s : State) (h : IsSound 
 
       pub keeps-versions : IsGoodAt P shape word value → (filled : List Named) → (filled ≡ fills place) ⊎ (filled ≡ [])
           → (Q : OfRows) → (((base : ℕ) (kind : Kind) → P base kind → IsSettled variant shape later base kind) → (base : ℕ)
-              (kind : Kind) → Q base kind
+          (kind : Kind) → Q base kind
           → IsSettled variant shape later base kind) → Has Q c here-now (holds c place) filled → Kept
       keeps-versions good filled same Q settles has =
           let cl = m.claims-stay variant shape n s h few p q here call is-open word value q' its filled has.2 same claims in
           let more : (b : ℕ) (k : Kind) → P b k → IsSettled variant shape later b k =
-              λ b k x. m.settles variant shape n s h few p q here call is-open word value q' its cl b k x in (
+          λ b k x. m.settles variant shape n s h few p q here call is-open word value q' its cl b k x in (
             m.rows-stay variant shape n s h few p q here call is-open word value q' its cl filled
                 (knows-more Q (IsSettled variant shape later) c (settles more) here-now has.0, has.1, has.2) within
                 (λ base kind e. omega (arith, bases base kind e, h.versions base kind e))
@@ -178,8 +178,11 @@ module _ (variant : Variant) (shape : Shape) (n : ℕ) (s : State) (h : IsSound 
     elsewhere y e = index-other s.words x.base value y e
 
     claims-same : (kind : Kind) → then-at (claims_of kind) ≡ slice_index s.words (claims_of kind)
-    claims-same kind = elsewhere (claims_of kind) (differ (claims_of kind) x.base (omega (arith, row_begins shape x.base x.kind row,
-        claims-few kind)))
+    claims-same kind = elsewhere (claims_of kind) (differ (claims_of kind) x.base (omega (
+      arith,
+      row_begins shape x.base x.kind row,
+      claims-few kind,
+    )))
 
     versions-few : (base : ℕ) (kind : Kind) → kind_at shape base ≡ Some kind → then-at base ≤ 3 * (n + 1)
     versions-few base kind e = elim (cases_eq base x.base) [
@@ -194,7 +197,7 @@ module _ (variant : Variant) (shape : Shape) (n : ℕ) (s : State) (h : IsSound 
         go kind e slot =
             let behind = slot-behind base kind x.base slot in
             let one = rows_apart shape base x.base kind x.kind x.base e row (omega (arith, behind.0)) behind.1 (omega arith)
-                (omega (arith, some-words x.kind)) in
+            (omega (arith, some-words x.kind)) in
             omega (arith, one.0, behind.0)
 
     rising : ((base : ℕ) (kind : Kind) → P base kind → IsSettled variant shape after base kind) → IsSteady variant shape s after
@@ -214,7 +217,7 @@ module _ (variant : Variant) (shape : Shape) (n : ℕ) (s : State) (h : IsSound 
         apart : (base : ℕ) (kind : Kind) → P base kind → base ≢ x.base → (w : ℕ) → base ≤ w → w < base + row_words kind → w ≢ x.base
         apart base kind y other w low high e =
             let one = rows_apart shape base x.base kind x.kind x.base (settled-row variant shape s base kind y) row (omega (arith, low, e))
-                (omega (arith, high, e))
+            (omega (arith, high, e))
             (omega arith) (omega (arith, some-words x.kind)) in
             other one.0
 
@@ -298,17 +301,23 @@ module _ (variant : Variant) (shape : Shape) (n : ℕ) (s : State) (h : IsSound 
       → fills place ≡ []
       → (q' : Process) (its : q'.call ≡ Some call)
       → (((y : Held) → IsAmong y (holds c place) → y.base ≢ x.base) → Has P c (stage_of variant shape call q') all [])
-      → IsSound variant shape (n + 1) (record { words = slice_set s.words x.base (locked_word x.kept); processes = slice_set
-          s.processes p q' })
+      → IsSound variant shape (n + 1) (record {
+        words = slice_set s.words x.base (locked_word x.kept);
+        processes = slice_set
+            s.processes p q';
+      })
       × IsSteady variant shape s (record { words = slice_set s.words x.base (locked_word x.kept); processes = slice_set s.processes p q' })
-      × WritesOwn variant shape s p (record { words = slice_set s.words x.base (locked_word x.kept); processes = slice_set
-          s.processes p q' })
+      × WritesOwn variant shape s p (record {
+        words = slice_set s.words x.base (locked_word x.kept);
+        processes = slice_set
+            s.processes p q';
+      })
   takes x all k is with none q' its has =
       keeps-rising x k (locked_word x.kept) q' its (omega (arith, is, value)) (omega (arith, is, value)) all none
       (has (λ y a. held-apart p call q opens y a))
       (λ y a. locked y (with-split x (holds c place) all y with a)) (λ y a other. with-more x (holds c place) all y with a)
       (λ e. with-here x (holds c place) all with) (distinct-with x (holds c place) all with (h.distinct p call q opens) new)
-          (inr (inl (refl, by-it)))
+      (inr (inl (refl, by-it)))
       (λ r other w away o y z a. apart r other w away o y z (with-split x (holds c place) all y with a)) others
     where
       value : locked_word x.kept ≡ x.kept + 2
@@ -319,8 +328,11 @@ module _ (variant : Variant) (shape : Shape) (n : ℕ) (s : State) (h : IsSound 
       held-apart r other w o y a =
           locked-apart x y k is (m.held-row variant shape n s h few p q here call is-open r other w o y a) (h.locked r other w o y a)
 
-      by-it : IsTakenBy variant shape s p (record { words = slice_set s.words x.base (locked_word x.kept); processes = slice_set
-          s.processes p q' }) x.base
+      by-it : IsTakenBy variant shape s p (record {
+        words = slice_set s.words x.base (locked_word x.kept);
+        processes = slice_set
+            s.processes p q';
+      }) x.base
       by-it = (
         record {
           holder = p;
@@ -363,7 +375,7 @@ module _ (variant : Variant) (shape : Shape) (n : ℕ) (s : State) (h : IsSound 
       × WritesOwn variant shape s p (record { words = slice_set s.words x.base value; processes = slice_set s.processes p q' })
   releases x rest value k with none written q' its has =
       keeps-rising x k value q' its more-than at-most rest none has locked stay (λ e. absurd (true-false e free)) distinct.0
-          (inl by-it) apart others
+      (inl by-it) apart others
     where
       among-x : IsAmong x (holds c place)
       among-x = with-here x rest (holds c place) with

@@ -27,7 +27,6 @@ use Rattle.art_versions.specs.versions.Holding.{rows_of_work, rows_found, FitsPl
 use Rattle.art_versions.proofs.versions.WordFacts.{place-fits, entry-fits}
 use Rattle.art_steps.specs.declared.variant.Variant.{Variant}
 use Rattle.art_versions.specs.versions.Locking.{all_of, held_at_place, locks_of, rows_of_hold, held_at_stage}
-use Rattle.art_serial.proofs.words.KeyLemmas.{less}
 use Rattle.art_stages.specs.declared.stage.Work.TheVariants as work
 
 own-slot : (l : Bool) (h : Hold) (slot : ℕ) → IsSlot h.row.base h.row.kind slot → HasSlot l h slot
@@ -142,7 +141,7 @@ module _ (variant : Variant) (s : Shape) (call : Call) (P : OfRows) (is_row : (b
     indexed : (j : Bool) (p : Position) (index entry : ℕ) → p.row.kind ≡ FortyEight → entry - 1 < 48
         → Each (IsKept l P) (kept_at_place l i p) → FitsPlace p
         → IsAt (held_at_place l i p) (if entry == 0 then (if j then FindCount p index else checked_at l i e c p
-            (Lacks (keys_one index))) else Slot p
+        (Lacks (keys_one index))) else Slot p
         (child_at FortyEight p.row.base (entry - 1)))
     indexed j p index entry is less kept under = go (entry == 0) j
       where
@@ -173,4 +172,4 @@ module _ (variant : Variant) (s : Shape) (call : Call) (P : OfRows) (is_row : (b
         let at : IsSlot base Full (child_at Full base (byte_in c (held base Full info was))) =
         (byte_in c (held base Full info was), key_byte-small (key_of call) (row_at (held base Full info was)).level, refl) in
         checked (place base Full info was above slot) (Has (child_at Full base (byte_in c (held base Full info was))) (child_of s w)) kept
-            under at (good at refl)
+        under at (good at refl)

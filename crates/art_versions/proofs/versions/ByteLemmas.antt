@@ -1,7 +1,7 @@
 -- Index words that a scan loads.
 use Rattle.std.proofs.Common.{◌≡◌, ℕ, zero, suc, ◌+◌, ◌/◌, ◌<◌, ◌≤◌, List, [], ◌∷◌, refl, ap, sym, subst, ◌∙◌, Bool, true, false, arith}
+use Rattle.std.proofs.lemmas.Bool.{eqb-true}
 use Rattle.std.specs.Prelude.{filter, if◌then◌else◌}
-use Rattle.art_serial.proofs.words.KeyLemmas.{number_is}
 use Rattle.art_serial.proofs.alone.DifferLemmas.{heads}
 use Rattle.art_steps.specs.Steps.{numbers}
 use Rattle.art_steps.specs.Rows.{Row}
@@ -42,5 +42,5 @@ index-small lo hi n j x xs e =
     let byte = filter-head (in_word j) (bytes_of lo hi n) x xs e in
     let less = first-each (λ i. i < 256) (filter (in_word j) (bytes_of lo hi n)) x xs e
     (filter-each (in_word j) (λ i. i < 256) (bytes_of lo hi n)
-        (filter-each (can_lie lo hi n) (λ i. i < 256) (numbers 0 256) (numbers-below 0 256 256 (omega arith)))) in
-    omega (arith, number_is (x / 8) j byte, less)
+    (filter-each (can_lie lo hi n) (λ i. i < 256) (numbers 0 256) (numbers-below 0 256 256 (omega arith)))) in
+    omega (arith, eqb-true (x / 8) j byte, less)

@@ -151,7 +151,7 @@ module _ (variant : Variant) (shape : Shape) (n : ℕ) (s : State) (h : IsSound 
             (subst (IsGoodAt (IsSettled variant shape next) shape word) (sym (stored-at s.words word value k.within)) k.good)
         | inr other ↦ subst (IsGoodAt (IsSettled variant shape next) shape x) (sym (index-other s.words word value x other))
             (good-more (IsSettled variant shape s) (IsSettled variant shape next) shape settled-more x
-                (slice_index s.words x) (h.children x))
+            (slice_index s.words x) (h.children x))
       ]
 
       knows-now : (r : ℕ) (call : Call) (w : Process) → IsOpen next r call w

@@ -106,11 +106,11 @@ module _ (s : Shape) (call : Call) (P : OfRows) (is_row : (b : ℕ) (k : Kind) �
     where
       go : (b : Bool) → At true (n ∷ []) (if b then Write (hold_alone n) slot (child_word (new_leaf call)) (Some value) else ClaimPair
           (hold_alone n) (record {
-        slot = slot;
-        level = keys_differ_at key (key_of call);
-        byte = slice_index (key_bytes key) (keys_differ_at key (key_of call));
-        child = Leaf key value;
-      }))
+            slot = slot;
+            level = keys_differ_at key (key_of call);
+            byte = slice_index (key_bytes key) (keys_differ_at key (key_of call));
+            child = Leaf key value;
+          }))
       go true = writes n slot (Some value) kept fits
       go false = (record { kept = (kept, tt); known = tt; fits = inl fits; filled = tt }, refl, refl)
   alone ins n (Has slot (ChildRow base kind)) kept fits room known = goes-down true n slot base kind kept fits known.0
@@ -166,7 +166,7 @@ module _ (s : Shape) (call : Call) (P : OfRows) (is_row : (b : ℕ) (k : Kind) �
       → At true (p.row ∷ []) (place_coupled c p f)
   still-room ins p (Has slot child) none kept fits room known =
       subst (λ o. At true (p.row ∷ []) (let_go_at c p.row o p.slot (Has slot child))) (sym none)
-          (alone ins p.row (Has slot child) kept fits room known)
+      (alone ins p.row (Has slot child) kept fits room known)
   still-room ins p (Lacks keys) none kept fits room known = go (count_in p.row.kind keys == capacity p.row.kind) refl
     where
       go : (b : Bool) → (count_in p.row.kind keys == capacity p.row.kind) ≡ b → At true (p.row ∷ [])
@@ -244,12 +244,12 @@ module _ (s : Shape) (call : Call) (P : OfRows) (is_row : (b : ℕ) (k : Kind) �
       let x = entered i t v k.fits.2 k.kept k.known k.fits.1 in
       Takes x.0 (x.0 ∷ locks_of (rows_of_target t)) _ (turn x.0 x.1 x.2) (inl (refl, refl)) refl x.4
       (λ apart. subst (λ w. Leads P c (OnKey (if w == v then entered_at true i false c t v else Lock t false))
-          (x.0 ∷ locks_of (rows_of_target t)) [])
+      (x.0 ∷ locks_of (rows_of_target t)) [])
       (sym x.2) (subst (λ b. Leads P c (OnKey (if b then entered_at true i false c t v else Lock t false))
-          (x.0 ∷ locks_of (rows_of_target t)) [])
+      (x.0 ∷ locks_of (rows_of_target t)) [])
       (sym (eq-eqb v v refl)) (x.5, x.6, x.7)))
       (λ value other. subst (λ b. Leads P c (OnKey (if b then entered_at true i false c t v else Lock t false))
-          (locks_of (rows_of_target t)) [])
+      (locks_of (rows_of_target t)) [])
       (sym (ne_eqb value v (λ same. other (same ∙ sym x.2)))) again)
     where
       again : At i (rows_of_target t) (Lock t false)

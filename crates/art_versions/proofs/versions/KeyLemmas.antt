@@ -2,6 +2,7 @@
 use Rattle.std.proofs.Common.{◌≡◌, ℕ, zero, suc, ◌+◌, ◌-◌, ◌*◌, ◌<◌, ◌≤◌, List, [], ◌∷◌, ◌++◌, refl, ap, sym, subst, ◌∙◌, Bool, true, false}
 use Rattle.std.proofs.Common.{arith}
 use Rattle.std.proofs.Common.{inl, inr}
+use Rattle.std.proofs.lemmas.Bool.{lt-ltb, le-ltb}
 use Rattle.std.specs.Prelude.{◌⊎◌, nat_lt, ◌==◌, slice_index, Option, Some, None, if◌then◌else◌}
 use Rattle.events.specs.declared.event.Call.{Call}
 use Rattle.art_rows.specs.declared.table.Kind.{Kind}
@@ -15,7 +16,6 @@ use Rattle.art_rows.specs.Words.{entries_of, child_of, row_word, keys16_word, mo
 use Rattle.art_rows.proofs.WriterLemmas.{new_place-most}
 use Rattle.art_rows.proofs.ByteLemmas.{key_byte-small, keys4-few, keys16-few}
 use Rattle.art_serial.proofs.words.TableLemmas.{kind_at-base_of, rows_apart}
-use Rattle.art_serial.proofs.words.KeyLemmas.{less, not_less}
 use Rattle.art_steps.specs.Rows.{Setting, key_of, is_insert, locks, releases_early}
 use Rattle.art_steps.specs.Updates.{new_leaf, lesser, greater, Under, next_kind}
 use Rattle.art_stages.specs.declared.stage.Held.{Held}
@@ -129,13 +129,13 @@ module _ (variant : Variant) (s : Shape) (call : Call) (P : OfRows) (is_row : (b
       let row = is_row base Four k.kept.0.1 in
       let behind : IsBehindVersion base Four (keys_at base) = (omega arith, omega arith) in
       Writes (held base Four 0 was) _ _ _ refl (inl refl) k.kept.0 behind
-          (λ ob ok oe os. absurd (bare l s P base Four (keys_at base) row behind (λ h. omega (arith, h.2)) ob ok oe os))
+      (λ ob ok oe os. absurd (bare l s P base Four (keys_at base) row behind (λ h. omega (arith, h.2)) ob ok oe os))
       (record { kept = k.kept; known = tt; fits = tt; filled = tt }, refl, refl)
   put-keys-does base Sixteen info was above keys k =
       let row = is_row base Sixteen k.kept.0.1 in
       let behind : IsBehindVersion base Sixteen (keys_at base) = (omega arith, omega arith) in
       Writes (held base Sixteen 0 was) _ _ _ refl (inl refl) k.kept.0 behind
-          (λ ob ok oe os. absurd (bare l s P base Sixteen (keys_at base) row behind (λ h. omega (arith, h.2)) ob ok oe os))
+      (λ ob ok oe os. absurd (bare l s P base Sixteen (keys_at base) row behind (λ h. omega (arith, h.2)) ob ok oe os))
       (record { kept = k.kept; known = tt; fits = refl; filled = tt }, refl, refl)
   put-keys-does base FortyEight info was above keys k =
       let row = is_row base FortyEight k.kept.0.1 in
@@ -154,7 +154,7 @@ module _ (variant : Variant) (s : Shape) (call : Call) (P : OfRows) (is_row : (b
       let row = is_row base Sixteen k.kept.0.1 in
       let behind : IsBehindVersion base Sixteen (more_keys_at base) = (omega arith, omega arith) in
       Writes (held base Sixteen 0 was) _ _ _ refl (inl refl) k.kept.0 behind
-          (λ ob ok oe os. absurd (bare l s P base Sixteen (more_keys_at base) row behind (λ h. omega (arith, h.2)) ob ok oe os))
+      (λ ob ok oe os. absurd (bare l s P base Sixteen (more_keys_at base) row behind (λ h. omega (arith, h.2)) ob ok oe os))
       (record { kept = k.kept; known = tt; fits = inl refl; filled = tt }, refl, refl)
   put-more-does base Four info was above keys e k = absurd (differ e)
     where
@@ -213,13 +213,13 @@ module _ (variant : Variant) (s : Shape) (call : Call) (P : OfRows) (is_row : (b
       let row = k.filled.0 in
       let behind : IsBehindVersion base Four (info_at base) = (omega arith, omega arith) in
       Fills base Four _ _ _ refl refl behind row
-          (λ ob ok oe os. absurd (bare l s P base Four (info_at base) row behind (λ x. omega (arith, x.2)) ob ok oe os))
+      (λ ob ok oe os. absurd (bare l s P base Four (info_at base) row behind (λ x. omega (arith, x.2)) ob ok oe os))
       (record { kept = k.kept; known = k.known; fits = k.fits; filled = k.filled }, refl, refl)
   pair-does h p base pair_word.Keys k =
       let row = k.filled.0 in
       let behind : IsBehindVersion base Four (keys_at base) = (omega arith, omega arith) in
       Fills base Four _ _ _ refl refl behind row
-          (λ ob ok oe os. absurd (bare l s P base Four (keys_at base) row behind (λ x. omega (arith, x.2)) ob ok oe os))
+      (λ ob ok oe os. absurd (bare l s P base Four (keys_at base) row behind (λ x. omega (arith, x.2)) ob ok oe os))
       (record { kept = k.kept; known = k.known; fits = k.fits; filled = k.filled }, refl, refl)
   pair-does h p base pair_word.Lesser k =
       let row = k.filled.0 in
@@ -280,9 +280,17 @@ module _ (variant : Variant) (s : Shape) (call : Call) (P : OfRows) (is_row : (b
   -- the new row has all its words
   hangs : (g : Growing) → Each (IsKept l P) (rows_of_hold g.hold) → FitsGrowing g
       → Has (With P g.base (next_kind g.hold.row.kind)) c (OnKey (Hang g)) (locks_of (rows_of_hold g.hold)) []
-  hangs g kept fits =
-      (record { kept = kept-with l s P g.base (next_kind g.hold.row.kind) (rows_of_hold g.hold) kept; known =
-          (inr (refl, refl), tt); fits = fits; filled = tt }, refl, refl)
+  hangs g kept fits = (
+    record {
+      kept = kept-with l s P g.base (next_kind g.hold.row.kind) (rows_of_hold g.hold) kept;
+      known =
+          (inr (refl, refl), tt);
+      fits = fits;
+      filled = tt;
+    },
+    refl,
+    refl,
+  )
 
   info-does : (old : ℕ) (kind : Kind) (info was : ℕ) (above : Option Held) (slot : ℕ) (keys : Keys) (base : ℕ)
       → KnowsKey P c (GrowInfo (growing old kind info was above slot keys base))
@@ -291,9 +299,9 @@ module _ (variant : Variant) (s : Shape) (call : Call) (P : OfRows) (is_row : (b
       let row = k.filled.0 in
       let behind : IsBehindVersion base Sixteen (info_at base) = (omega arith, omega arith) in
       Fills base Sixteen _ _ _ refl refl behind row
-          (λ ob ok oe os. absurd (bare l s P base Sixteen (info_at base) row behind (λ x. omega (arith, x.2)) ob ok oe os))
+      (λ ob ok oe os. absurd (bare l s P base Sixteen (info_at base) row behind (λ x. omega (arith, x.2)) ob ok oe os))
       (copies (growing old Four info was above slot keys base) 0 (count_in Four keys) k.kept k.fits tt
-          (omega (arith, keys4-few keys.first)) row)
+      (omega (arith, keys4-few keys.first)) row)
   info-does old Sixteen info was above slot keys base k =
       let row = k.filled.0 in
       let behind : IsBehindVersion base FortyEight (info_at base) = (omega arith, omega arith) in
@@ -305,13 +313,13 @@ module _ (variant : Variant) (s : Shape) (call : Call) (P : OfRows) (is_row : (b
       let row = k.filled.0 in
       let behind : IsBehindVersion base Full (info_at base) = (omega arith, omega arith) in
       Fills base Full _ _ _ refl refl behind row
-          (λ ob ok oe os. absurd (bare l s P base Full (info_at base) row behind (λ x. omega (arith, x.2)) ob ok oe os))
+      (λ ob ok oe os. absurd (bare l s P base Full (info_at base) row behind (λ x. omega (arith, x.2)) ob ok oe os))
       (record { kept = k.kept; known = tt; fits = (k.fits, refl, omega arith); filled = (row, tt) }, refl, refl)
   info-does old Full info was above slot keys base k =
       let row = k.filled.0 in
       let behind : IsBehindVersion base Full (info_at base) = (omega arith, omega arith) in
       Ends base Full _ _ _ refl refl behind row
-          (λ ob ok oe os. absurd (bare l s P base Full (info_at base) row behind (λ x. omega (arith, x.2)) ob ok oe os))
+      (λ ob ok oe os. absurd (bare l s P base Full (info_at base) row behind (λ x. omega (arith, x.2)) ob ok oe os))
       (hangs (growing old Full info was above slot keys base) k.kept k.fits)
 
   grow-store-does : (old : ℕ) (kind : Kind) (info was : ℕ) (above : Option Held) (slot : ℕ) (keys : Keys) (base place left word : ℕ)
@@ -340,10 +348,20 @@ module _ (variant : Variant) (s : Shape) (call : Call) (P : OfRows) (is_row : (b
   spread-load-does : (old : ℕ) (kind : Kind) (info was : ℕ) (above : Option Held) (slot : ℕ) (keys : Keys)
       (base place left index entry after : ℕ)
       → kind ≡ FortyEight
-      → KnowsKey P c (SpreadLoad (record { growing = growing old kind info was above slot keys base; place = place; left = left; word =
-          index }) entry after)
-      → Doing (SpreadLoad (record { growing = growing old kind info was above slot keys base; place = place; left = left; word =
-          index }) entry after)
+      → KnowsKey P c (SpreadLoad (record {
+        growing = growing old kind info was above slot keys base;
+        place = place;
+        left = left;
+        word =
+            index;
+      }) entry after)
+      → Doing (SpreadLoad (record {
+        growing = growing old kind info was above slot keys base;
+        place = place;
+        left = left;
+        word =
+            index;
+      }) entry after)
   spread-load-does old FortyEight info was above slot keys base place left index entry after e k =
       let at : IsSlot old FortyEight (child_at FortyEight old (slice_index (entries_of index) entry - 1)) =
       (slice_index (entries_of index) entry - 1, entry-fits index entry, refl) in
@@ -373,13 +391,27 @@ module _ (variant : Variant) (s : Shape) (call : Call) (P : OfRows) (is_row : (b
   spread-store-does : (old : ℕ) (kind : Kind) (info was : ℕ) (above : Option Held) (slot : ℕ) (keys : Keys)
       (base place left index entry after word : ℕ)
       → kind ≡ FortyEight
-      → KnowsKey P c (SpreadStore (record { growing = growing old kind info was above slot keys base; place = place; left = left; word =
-          index }) entry after word)
-      → Doing (SpreadStore (record { growing = growing old kind info was above slot keys base; place = place; left = left; word = index
-          }) entry after word)
+      → KnowsKey P c (SpreadStore (record {
+        growing = growing old kind info was above slot keys base;
+        place = place;
+        left = left;
+        word =
+            index;
+      }) entry after word)
+      → Doing (SpreadStore (record {
+        growing = growing old kind info was above slot keys base;
+        place = place;
+        left = left;
+        word = index;
+      }) entry after word)
   spread-store-does old FortyEight info was above slot keys base place left index entry after word e k =
-      let x : Spread = record { growing = growing old FortyEight info was above slot keys base; place = place; left =
-          left; word = index } in
+      let x : Spread = record {
+        growing = growing old FortyEight info was above slot keys base;
+        place = place;
+        left =
+            left;
+        word = index;
+      } in
       let row = k.filled.0 in
       let at : IsSlot base Full (child_at Full base (8 * place + entry)) = (8 * place + entry, omega (arith, k.fits.2, k.fits.3), refl) in
       Fills base Full _ _ _ refl refl (slot-behind base Full _ at) row (λ ob ok oe os. k.known)
@@ -465,14 +497,14 @@ module _ (variant : Variant) (s : Shape) (call : Call) (P : OfRows) (is_row : (b
           (λ ob ok oe os. absurd (bare l s P base Sixteen (keys_at base) k.filled.0 first (λ x. omega (arith, x.2)) ob ok oe os)) after
       go false e = Fills base Sixteen (more_keys_at base) _ _ (ap choose e) refl second k.filled.0
           (λ ob ok oe os. absurd (bare l s P base Sixteen (more_keys_at base) k.filled.0 second (λ x. omega (arith, x.2))
-              ob ok oe os)) after
+          ob ok oe os)) after
   grow-keys-does old Sixteen info was above slot keys base place left k =
       let g = growing old Sixteen info was above slot keys base in
       let row = k.filled.0 in
       let behind : IsBehindVersion base FortyEight (index_at base (8 * place)) = (omega (arith, k.fits.2), omega (arith, k.fits.2)) in
       Fills base FortyEight _ _ _ refl refl behind row
       (λ ob ok oe os. absurd (bare l s P base FortyEight (index_at base (8 * place)) row behind
-          (λ x. omega (arith, x.2, k.fits.2)) ob ok oe os))
+      (λ x. omega (arith, x.2, k.fits.2)) ob ok oe os))
       (keys-after g place left k.kept k.fits.0 tt k.fits.2 row)
   grow-keys-does old FortyEight info was above slot keys base place left k = absurd k.fits.1
   grow-keys-does old Full info was above slot keys base place left k = absurd k.fits.1
@@ -500,7 +532,7 @@ module _ (variant : Variant) (s : Shape) (call : Call) (P : OfRows) (is_row : (b
   hang-does g None e kept fits k = absurd fits
   hang-does g (Some a) e kept fits k =
       Writes (lock_of a) _ _ _ refl (inr (subst (λ o. IsAmong (lock_of a) (locks_of (all_of o))) (sym e) (inl refl))) kept.0
-          (slot-behind a.base a.kind g.slot fits)
+      (slot-behind a.base a.kind g.slot fits)
       (λ ob ok oe os. child-good s P is_row (ChildRow g.base (next_kind g.hold.row.kind)) k.known)
       (record { kept = k.kept; known = tt; fits = tt; filled = tt }, refl, refl)
 
@@ -510,12 +542,12 @@ module _ (variant : Variant) (s : Shape) (call : Call) (P : OfRows) (is_row : (b
       → (value < rows_of s kind → Has P c (OnKey to) rows filled) → value < rows_of s kind
       → Has P c (OnKey (if nat_lt value (rows_of s kind) then to else other)) rows filled
   claim-after kind value to other rows filled h l =
-      subst (λ b. Has P c (OnKey (if b then to else other)) rows filled) (sym (less value (rows_of s kind) l)) (h l)
+      subst (λ b. Has P c (OnKey (if b then to else other)) rows filled) (sym (lt-ltb value (rows_of s kind) l)) (h l)
 
   claim-fails : (kind : Kind) (value : ℕ) (to other : Stage) (rows : List Held) → Has P c (OnKey other) rows [] → rows_of s kind ≤ value
       → Has P c (OnKey (if nat_lt value (rows_of s kind) then to else other)) rows []
   claim-fails kind value to other rows h l =
-      subst (λ b. Has P c (OnKey (if b then to else other)) rows []) (sym (not_less value (rows_of s kind) l)) h
+      subst (λ b. Has P c (OnKey (if b then to else other)) rows []) (sym (le-ltb value (rows_of s kind) l)) h
 
   -- The stages that are not the same in both trees.
   pub record Own : Type 0 where
@@ -538,26 +570,29 @@ module _ (variant : Variant) (s : Shape) (call : Call) (P : OfRows) (is_row : (b
         → Doing (Find (record { row = held base kind info was; above = above; slot = slot }))
     find-does base Four info was above slot k =
         Reads _ _ refl (λ value good. finds variant s call P is_row root own.checked base Four info was above slot value k.kept k.fits
-            (λ at e. absurd (differ e)))
+        (λ at e. absurd (differ e)))
       where
         differ : Four ≡ Full → ⊥
         differ e = cc
     find-does base Sixteen info was above slot k =
         Reads _ _ refl (λ value good. finds variant s call P is_row root own.checked base Sixteen info was above slot value k.kept k.fits
-            (λ at e. absurd (differ e)))
+        (λ at e. absurd (differ e)))
       where
         differ : Sixteen ≡ Full → ⊥
         differ e = cc
     find-does base FortyEight info was above slot k =
         Reads _ _ refl (λ value good. finds variant s call P is_row root own.checked base FortyEight info was above slot value k.kept
-            k.fits (λ at e. absurd (differ e)))
+        k.fits (λ at e. absurd (differ e)))
       where
         differ : FortyEight ≡ Full → ⊥
         differ e = cc
     find-does base Full info was above slot k =
         Reads _ _ refl (λ value good. finds variant s call P is_row root own.checked base Full info was above slot value k.kept k.fits
-        (λ at e. good base Full (is_row base Full (place-row l i P (record { row = held base Full info was; above = above; slot = slot
-            }) k.kept).1) at))
+        (λ at e. good base Full (is_row base Full (place-row l i P (record {
+          row = held base Full info was;
+          above = above;
+          slot = slot;
+        }) k.kept).1) at))
 
     pub key-does : (stage : Stage) → KnowsKey P c stage → Doing stage
     key-does (Leave d) k = absurd k.fits
@@ -571,8 +606,17 @@ module _ (variant : Variant) (s : Shape) (call : Call) (P : OfRows) (is_row : (b
     key-does (LetGo above p f) k = own.let_go above p f k
     key-does (Take t) k = own.take t k
     key-does (Find p) k = find-does p.row.base p.row.kind p.row.info p.row.kept p.above p.slot k
-    key-does (FindKeys p count) k = Reads _ _ refl (λ value good. (record { kept = k.kept; known = tt; fits = k.fits; filled =
-        tt }, refl, refl))
+    key-does (FindKeys p count) k = Reads _ _ refl (λ value good. (
+      record {
+        kept = k.kept;
+        known = tt;
+        fits = k.fits;
+        filled =
+            tt;
+      },
+      refl,
+      refl,
+    ))
     key-does (FindMore p count first) k = Reads _ _ refl (λ value good. among variant s call P is_row root own.checked p _ k.kept k.fits)
     key-does (FindCount p index) k = Reads _ _ refl (λ value good. own.checked p _ k.kept k.fits tt tt)
     key-does (Slot p slot) k = Reads _ _ refl (λ value good.
@@ -586,7 +630,7 @@ module _ (variant : Variant) (s : Shape) (call : Call) (P : OfRows) (is_row : (b
         (λ value l. claim-after Four value _ (Unlock h (Some Refused)) (locks_of (rows_of_hold h)) ((base_of s Four value, Four) ∷ [])
         (λ l. (record { kept = k.kept; known = k.known; fits = k.fits; filled = (kind_at-base_of s Four value l, tt) }, refl, refl)) l)
         (λ value l. claim-fails Four value (StorePair h p (base_of s Four value) pair_word.Info) (Unlock h (Some Refused))
-            (locks_of (rows_of_hold h))
+        (locks_of (rows_of_hold h))
         (record { kept = k.kept; known = tt; fits = tt; filled = tt }, refl, refl) l)
     key-does (StorePair h p base word) k = pair-does h p base word k
     key-does (PutLoad h keys left) k = Reads _ _ refl (λ value good. (
@@ -617,8 +661,16 @@ module _ (variant : Variant) (s : Shape) (call : Call) (P : OfRows) (is_row : (b
     key-does (ClaimGrow h slot keys) k = Claims (next_kind h.row.kind) _ refl refl
         (λ value l. claim-after (next_kind h.row.kind) value _ (Unlock h (Some Refused)) (locks_of (rows_of_hold h))
         ((base_of s (next_kind h.row.kind) value, next_kind h.row.kind) ∷ [])
-        (λ l. (record { kept = k.kept; known = tt; fits = k.fits; filled = (kind_at-base_of s (next_kind h.row.kind) value l, tt)
-            }, refl, refl)) l)
+        (λ l. (
+          record {
+            kept = k.kept;
+            known = tt;
+            fits = k.fits;
+            filled = (kind_at-base_of s (next_kind h.row.kind) value l, tt);
+          },
+          refl,
+          refl,
+        )) l)
         (λ value l. claim-fails (next_kind h.row.kind) value _ (Unlock h (Some Refused)) (locks_of (rows_of_hold h))
         (record { kept = k.kept; known = tt; fits = tt; filled = tt }, refl, refl) l)
     key-does (GrowInfo g) k = info-does g.hold.row.base g.hold.row.kind g.hold.row.info g.hold.row.kept g.hold.above g.slot g.keys g.base k
@@ -638,16 +690,16 @@ module _ (variant : Variant) (s : Shape) (call : Call) (P : OfRows) (is_row : (b
         grow-store-does g.hold.row.base g.hold.row.kind g.hold.row.info g.hold.row.kept g.hold.above g.slot g.keys g.base place left word k
     key-does (SpreadIndex g place left) k = Reads _ _ refl (λ value good.
         entries (record { growing = g; place = place; left = left; word = value }) 0 8 k.kept k.fits.0 k.fits.1 k.fits.2
-            (omega arith) k.filled.0)
+        (omega arith) k.filled.0)
     key-does (SpreadLoad x entry after) k =
         let g = x.growing in
         spread-load-does g.hold.row.base g.hold.row.kind g.hold.row.info g.hold.row.kept g.hold.above g.slot g.keys g.base x.place x.left
-            x.word entry after
+        x.word entry after
         k.fits.1 k
     key-does (SpreadStore x entry after word) k =
         let g = x.growing in
         spread-store-does g.hold.row.base g.hold.row.kind g.hold.row.info g.hold.row.kept g.hold.above g.slot g.keys g.base x.place x.left
-            x.word entry after
+        x.word entry after
         word k.fits.1 k
     key-does (GrowLeaf g) k = grow-leaf-does g.hold.row.base g.hold.row.kind g.hold.row.info g.hold.row.kept g.hold.above
         g.slot g.keys g.base k

@@ -1,7 +1,7 @@
 -- What a call knows stays known, and rows that it holds are rows that it knows.
 use Rattle.std.proofs.Common.{ℕ, List, [], ◌∷◌, sym, subst, Bool, true, false, inl, inr, ◌++◌, refl, ◌≡◌, ◌∙◌, ap, if◌then◌else◌}
 use Rattle.std.specs.Prelude.{◌==◌, map}
-use Rattle.std.proofs.lemmas.Bool.{false≢true}
+use Rattle.std.proofs.lemmas.Bool.{false≢true, eqb-true}
 use Rattle.std.proofs.lemmas.Option.{same_Some}
 use Rattle.events.specs.declared.event.Call.{Call}
 use Rattle.art_rows.specs.declared.table.Kind.{Kind}
@@ -9,7 +9,6 @@ use Rattle.art_steps.specs.Rows.{Setting, is_insert, locks}
 use Rattle.art_steps.specs.Scan.{has_row}
 use Rattle.art_core.specs.declared.process.Process.{Process}
 use Rattle.art_core.specs.Core.{State}
-use Rattle.art_serial.proofs.words.KeyLemmas.{number_is}
 use Rattle.art_stages.specs.declared.stage.Held.{Held}
 use Rattle.art_stages.specs.declared.stage.Frame.{Frame}
 use Rattle.art_stages.specs.declared.stage.ScanStep.{ScanStep}
@@ -159,7 +158,7 @@ found-row base (n ∷ rows) h = go (n.base == base) refl h (found-row base rows)
     go : (b : Bool) → (n.base == base) ≡ b → (if b then true else has_row base (map row_at rows)) ≡ true
         → (has_row base (map row_at rows) ≡ true → (m : Held) × IsAmong m rows × (m.base ≡ base)) → (m : Held)
         × IsAmong m (n ∷ rows) × (m.base ≡ base)
-    go true e k later = (n, inl refl, number_is n.base base e)
+    go true e k later = (n, inl refl, eqb-true n.base base e)
     go false e k later = let r = later k in (r.0, inr r.1, r.2)
 
 pub each-among : (P : Held → Type 0) (hs : List Held) → ((h : Held) → IsAmong h hs → P h) → Each P hs

@@ -167,7 +167,7 @@ module _ (plan : Plan) (n : ℕ) (s : State) (sound : IsSound plan.variant plan.
       other : (h : Held) → IsAmong h (holds c place) → word ≡ h.base → ⊥
       other h a same =
           let one = rows_apart plan.shape h.base b h.kind kind word (row-of h a) row (omega (arith, same))
-              (omega (arith, same, some-words h.kind))
+          (omega (arith, same, some-words h.kind))
           (omega (arith, behind.0)) behind.1 in
           omega (arith, same, one.0, behind.0)
 
@@ -242,9 +242,9 @@ module _ (plan : Plan) (n : ℕ) (s : State) (sound : IsSound plan.variant plan.
       }
   access a mark e (Claims kind at turn none claimed full) =
       subst After (asks-same (sym turn ∙ e)) (elim (cases_lt value (rows_of plan.shape kind)) [
-    | inl low ↦ subst (AreLocked plan call (q.got ++ value ∷ [])) (sym (claimed value low).1) added
-    | inr past ↦ subst (AreLocked plan call (q.got ++ value ∷ [])) (sym (full value past).1) added
-  ])
+        | inl low ↦ subst (AreLocked plan call (q.got ++ value ∷ [])) (sym (claimed value low).1) added
+        | inr past ↦ subst (AreLocked plan call (q.got ++ value ∷ [])) (sym (full value past).1) added
+      ])
     where
       value : ℕ
       value = slice_index s.words (claims_of kind)
@@ -303,9 +303,9 @@ module _ (plan : Plan) (full : IsFull plan.variant) (root : 1 ≤ plan.shape.row
           (held_by plan.variant plan.shape call (after_move p (Makes a) (slice_index s.words (word_of a)) q))
       accesses a mark g call its = subst (λ x. AreLocked plan x (q.got ++ told a (slice_index s.words (word_of a)) ∷ [])
           (held_by plan.variant plan.shape x (after_move p (Makes a) (slice_index s.words (word_of a)) q)))
-              (same_Some open-call call (sym e ∙ its))
+          (same_Some open-call call (sym e ∙ its))
           (subst (λ x. AreLocked plan open-call (q.got ++ told a (slice_index s.words (word_of a)) ∷ [])
-              (holds (setting plan.shape plan.variant open-call) x))
+          (holds (setting plan.shape plan.variant open-call) x))
           (sym (after-more (setting plan.shape plan.variant open-call) (call_begun (setting plan.shape plan.variant open-call)) q.got
           (told a (slice_index s.words (word_of a)))))
           (access plan n s sound p q open-call opens (k p open-call q opens) a mark g doing))
@@ -318,7 +318,7 @@ module _ (plan : Plan) (full : IsFull plan.variant) (root : 1 ≤ plan.shape.row
       goes (Asks a mark) g l = subst (λ m. (call : Call) → (after_move p m (slice_index s.words (word_of_move m)) q).call ≡ Some call
           → AreLocked plan call (after_move p m (slice_index s.words (word_of_move m)) q).got
           (held_by plan.variant plan.shape call (after_move p m (slice_index s.words (word_of_move m)) q))) (same_Some (Makes a) m l)
-              (accesses a mark g)
+          (accesses a mark g)
       goes (Answers reply) g l = subst (λ m. (call : Call) → (after_move p m (slice_index s.words (word_of_move m)) q).call ≡ Some call
           → AreLocked plan call (after_move p m (slice_index s.words (word_of_move m)) q).got
           (held_by plan.variant plan.shape call (after_move p m (slice_index s.words (word_of_move m)) q))) (same_Some (Responds reply) m l)
@@ -328,8 +328,8 @@ module _ (plan : Plan) (full : IsFull plan.variant) (root : 1 ≤ plan.shape.row
   logged-step p later e =
       let m = is-moved plan s p later e in
       subst (Logged plan) (sym m.is)
-          (λ r call w o. elim (changed-at s.processes p (after_move p m.move (slice_index s.words (word_of_move m.move))
-          m.process) r w o.own) [
+      (λ r call w o. elim (changed-at s.processes p (after_move p m.move (slice_index s.words (word_of_move m.move))
+      m.process) r w o.own) [
         | inl t ↦ subst (λ x. AreLocked plan call x.got (held_by plan.variant plan.shape call x)) (sym t.1)
             (own p m.process m.here m.process.call m.move refl m.is_next call (ap (λ x. x.call) (sym t.1) ∙ o.is_open))
         | inr t ↦ k r call w (record { own = t.1; is_open = o.is_open })
@@ -369,7 +369,7 @@ module _ (plan : Plan) (n : ℕ) (few : n < 2 ^ 62) (s : State) (sound : IsSound
   word-is p call q o h a =
       let row = settled-row plan.variant plan.shape s h.base h.kind
       (held-is-kept (IsSettled plan.variant plan.shape s) (setting plan.shape plan.variant call) (stage_of plan.variant plan.shape call q)
-          (sound.knows p call q o) h a).1 in
+      (sound.knows p call q o) h a).1 in
       let is = sound.locked p call q o h a in
       is ∙ sym (locked-small h.kept n (omega (arith, is, sound.versions h.base h.kind row)) few)
 
@@ -396,12 +396,12 @@ module _ (plan : Plan) (n : ℕ) (few : n < 2 ^ 62) (s : State) (sound : IsSound
     locked = λ p base v x.
         let h = holder p base v x in
         ap (slice_index s.words) (sym h.2) ∙ (word-is p x.call x.process (record { own = x.own; is_open = x.is_open }) h.0 h.1
-            ∙ ap locked_word h.3);
+        ∙ ap locked_word h.3);
     one = λ p q base v w x y.
         let h = holder p base v x in
         let g = holder q base w y in
         sound.apart p q x.call y.call x.process y.process (record { own = x.own; is_open = x.is_open })
-            (record { own = y.own; is_open = y.is_open }) h.0 g.0 h.1 g.1
+        (record { own = y.own; is_open = y.is_open }) h.0 g.0 h.1 g.1
         (h.2 ∙ sym g.2);
   }
 

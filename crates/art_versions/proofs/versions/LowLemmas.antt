@@ -28,7 +28,6 @@ use Rattle.art_versions.proofs.versions.KeyLemmas.{slot-behind}
 use Rattle.art_versions.proofs.versions.KnownLemmas.{knows-more, held-is-kept}
 use Rattle.art_versions.proofs.versions.ChangeLemmas.{index-other, held-still, Claims, settled-more, sound-now}
 use Rattle.art_versions.proofs.versions.MoveLemmas.{settled-row, no-items, differ-from}
-use Rattle.art_serial.proofs.words.KeyLemmas.{less}
 use Rattle.art_serial.proofs.writes.StoreLemmas.{stored-at}
 use Rattle.art_serial.specs.trees.Trees.{IsClaimed}
 use Rattle.art_versions.proofs.versions.MoveLemmas as m
@@ -156,12 +155,15 @@ module _ (variant : Variant) (shape : Shape) (n : ℕ) (s : State) (h : IsSound 
     pub keeps-claim : (filled : List Named) → (filled ≡ [])
         ⊎ ((claimed < rows_of shape kind) × (filled ≡ (base_of shape kind claimed, kind) ∷ []))
         → Has (IsSettled variant shape s) (setting shape variant call) (stage_of variant shape call q')
-            (held_by variant shape call q) filled
+        (held_by variant shape call q) filled
         → IsSound variant shape (n + 1) after × IsSteady variant shape s after × WritesOwn variant shape s p after
     keeps-claim filled as-said has = (
-      m.rows-stay variant shape n s h few p q here call is-open (claims_of kind) value q' its cl filled
-          (knows-more (IsSettled variant shape s) (IsSettled variant shape after) (setting shape variant call) more
-              (stage_of variant shape call q') has.0, has.1, has.2)
+      m.rows-stay variant shape n s h few p q here call is-open (claims_of kind) value q' its cl filled (
+        knows-more (IsSettled variant shape s) (IsSettled variant shape after) (setting shape variant call) more
+            (stage_of variant shape call q') has.0,
+        has.1,
+        has.2,
+      )
           (within (claims_of kind) value (claims-few kind) q') (versions (claims_of kind) value (claims-few kind) q')
           (no-slot (claims_of kind) value (claims-few kind) q' (IsSettled variant shape after))
           (row-above (claims_of kind) value (claims-few kind) q'),
@@ -203,7 +205,7 @@ module _ (variant : Variant) (shape : Shape) (n : ℕ) (s : State) (h : IsSound 
           apart = λ other e. own (λ x. (r : ℕ) (o : Call) (w : Process) → r ≢ p → IsOpen s r o w → (b d : ℕ) (k l : Kind)
               → filled_by variant shape x q' ≡ (b, k) ∷ [] → filled_by variant shape o w ≡ (d, l) ∷ [] → b ≢ d)
               (λ r o w away ow b d k l f g same. let x =
-                  its-row b k f in unclaimed x.0 d l (sym same ∙ x.1) (h.filled r o w ow d l g)) other e;
+              its-row b k f in unclaimed x.0 d l (sym same ∙ x.1) (h.filled r o w ow d l g)) other e;
         }
 
         more : (b : ℕ) (k : Kind) → IsSettled variant shape s b k → IsSettled variant shape after b k

@@ -157,7 +157,7 @@ module _ (variant : Variant) (shape : Shape) (n : ℕ) (s : State) (h : IsSound 
         → base ≢ word
     no-version b k row behind base kind e same =
         let one = rows_apart shape base b kind k word e row (omega (arith, same)) (omega (arith, same, some-words kind))
-            (omega (arith, behind.0)) behind.1 in
+        (omega (arith, behind.0)) behind.1 in
         omega (arith, same, one.0, behind.0)
 
     pub no-claim : 5 ≤ word → (kind : Kind) → claims_of kind ≢ word

@@ -114,7 +114,7 @@ module _ (s : Shape) (call : Call) (P : OfRows) (is_row : (b : ℕ) (k : Kind) �
       go false e = takes-alone p.row (work.Put keys) kept.0 tt (not_full _ _ e (count-most p.row.kind keys))
   inserts p (Has slot Empty) kept under fits known =
       takes-alone p.row (work.Write slot (child_word (new_leaf call)) None) kept.0
-          (child-good s P is_row (new_leaf call) (new-leaf-rows s P call)) fits
+      (child-good s P is_row (new_leaf call) (new-leaf-rows s P call)) fits
   inserts p (Has slot (Leaf key value)) kept under fits known =
       go (key == key_of call) (nat_le (keys_differ_at key (key_of call)) (row_at p.row).level)
     where
@@ -147,8 +147,16 @@ module _ (s : Shape) (call : Call) (P : OfRows) (is_row : (b : ℕ) (k : Kind) �
 
   entered : (i : Bool) (t : Target) (v : ℕ) → v % 4 ≡ 0 → KnowsKey P c (Wait t) → Here [] (entered_at false i false c t v)
   entered i Root v free k = (record { kept = ((free, root), tt); known = tt; fits = refl; filled = tt }, refl, refl)
-  entered i (Below d) v free k = (record { kept = ((free, k.known.0), (k.kept.0, tt)); known = tt; fits = k.fits.1;
-      filled = tt }, refl, refl)
+  entered i (Below d) v free k = (
+    record {
+      kept = ((free, k.known.0), (k.kept.0, tt));
+      known = tt;
+      fits = k.fits.1;
+      filled = tt;
+    },
+    refl,
+    refl,
+  )
   entered i (Taken t) v free k = absurd k.fits.1
 
   waited : (i : Bool) (t : Target) (w : ℕ) → KnowsKey P c (Wait t) → Here [] (after_with false i false c (Wait t) w)
@@ -194,10 +202,10 @@ module _ (s : Shape) (call : Call) (P : OfRows) (is_row : (b : ℕ) (k : Kind) �
       let parts = each-split (IsKept false P) (all_of above) (all_of below) k.kept.1 in
       Takes (lock_of n) (lock_of n ∷ locks_of (all_of above)) _ refl (inl (refl, refl)) refl k.kept.0
       (λ apart. subst (λ b. Leads P c (OnKey (if b then taken_at c above below work n else release_at false above None))
-          (lock_of n ∷ locks_of (all_of above)) [])
+      (lock_of n ∷ locks_of (all_of above)) [])
       (sym (eq-eqb n.kept n.kept refl)) (taken n above below work (k.kept.0, parts.0) parts.1 k.known k.fits.1))
       (λ value other. subst (λ b. Leads P c (OnKey (if b then taken_at c above below work n else release_at false above None))
-          (locks_of (all_of above)) [])
+      (locks_of (all_of above)) [])
       (sym (ne_eqb value n.kept other)) (released Optimistic s call P is_row root above None parts.0))
 
   between-does : (d : Down) (kept : ℕ) → KnowsKey P c (Between d kept) → Doing (Between d kept)

@@ -39,16 +39,16 @@ rests : (shape : Shape) (n m : ℕ) (s later : State) (p : ℕ) → IsSound Opti
     → WritesOwn Optimistic shape s p later → ObsoleteStand Optimistic shape s later
 rests shape n m s later p h k own base kind x gone word low high =
     elim (cases_eq (slice_index later.words word) (slice_index s.words word)) [
-  | inl same ↦ same
-  | inr changed ↦ absurd (nobody (own base kind (settled-row Optimistic shape s base kind x) word low high changed))
-]
+      | inl same ↦ same
+      | inr changed ↦ absurd (nobody (own base kind (settled-row Optimistic shape s base kind x) word low high changed))
+    ]
   where
     nobody : MayWrite Optimistic shape s p later base word → ⊥
     nobody (inl held) =
         let y = held.0 in
         let is = h.locked y.holder y.call y.process y.is_open y.row y.among in
         true-false gone (not-obsolete y.row.kept (slice_index s.words base) (kept-free shape n s h base y)
-            (inr (ap (slice_index s.words) (sym y.is) ∙ is)))
+        (inr (ap (slice_index s.words) (sym y.is) ∙ is)))
     nobody (inr (inl taken)) =
         let y = taken.1 in
         true-false gone (not-obsolete y.0.row.kept (slice_index s.words base) (kept-free shape m later k base y.0) (inl y.2))
@@ -78,7 +78,7 @@ run-rests plan v root (p ∷ schedule) n first s few h e =
     go (Some next) f l later =
         let one = one-step Optimistic (inr refl) plan v root n (omega (arith, few)) first h p next f in
         rests-trans plan.shape first next s one.1 (rests plan.shape n (n + 1) first next p h one.0 one.2)
-            (later next (omega (arith, few)) one.0 l)
+        (later next (omega (arith, few)) one.0 l)
 
 pub rests-between : (plan : Plan) (start : Contents) (words earlier later : List ℕ) (s t : State)
     → IsRun plan start words (earlier ++ later) t
@@ -89,6 +89,6 @@ rests-between plan start words earlier later s t run v e =
     let long = length-append earlier later in
     let few : first.steps + length earlier + length later < 2 ^ 62 = omega (arith, first.few, steps, run.few_steps, long) in
     let here = (run-sound Optimistic (inr refl) plan v run.within.shape.root earlier first.steps (opened_on plan words) s
-        (omega (arith, few)) first.sound e).0 in
+    (omega (arith, few)) first.sound e).0 in
     run-rests plan v run.within.shape.root later (first.steps + length earlier) s t few here
-        (later-part plan (opened_on plan words) s t earlier later e run.gives)
+    (later-part plan (opened_on plan words) s t earlier later e run.gives)

@@ -34,8 +34,13 @@ use Rattle.art_versions.proofs.versions.MoveLemmas.{true-false, differ, differ-f
 use Rattle.art_versions.proofs.versions.StepLemmas.{one-step}
 
 pub steady-refl : (variant : Variant) (shape : Shape) (s : State) → IsSteady variant shape s s
-steady-refl variant shape s = record { claims = λ kind. omega arith; settled = λ b k x. x; rises = λ b k x. omega arith; stands =
-    λ b k x e free w low high. refl }
+steady-refl variant shape s = record {
+  claims = λ kind. omega arith;
+  settled = λ b k x. x;
+  rises = λ b k x. omega arith;
+  stands =
+      λ b k x e free w low high. refl;
+}
 
 pub steady-trans : (variant : Variant) (shape : Shape) (a b c : State) → IsSteady variant shape a b → IsSteady variant shape b c
     → IsSteady variant shape a c
@@ -45,9 +50,9 @@ steady-trans variant shape a b c h k = record {
   rises = λ base kind x. omega (arith, h.rises base kind x, k.rises base kind (h.settled base kind x));
   stands = λ base kind x e free w low high.
       let between : slice_index b.words base ≡ slice_index a.words base =
-          omega (arith, h.rises base kind x, k.rises base kind (h.settled base kind x), e) in
+      omega (arith, h.rises base kind x, k.rises base kind (h.settled base kind x), e) in
       k.stands base kind (h.settled base kind x) (e ∙ sym between) (ap is_locked between ∙ free) w low high
-          ∙ h.stands base kind x between free w low high;
+      ∙ h.stands base kind x between free w low high;
 }
 
 pub run-sound : (variant : Variant) → IsFull variant → (plan : Plan) → plan.variant ≡ variant → 1 ≤ plan.shape.rows256
@@ -123,7 +128,7 @@ module _ (variant : Variant) (shape : Shape) (some : 1 ≤ shape.rows256) where
   behind-root : (base : ℕ) (kind : Kind) → kind_at shape base ≡ Some kind → base ≢ root + 1
   behind-root base kind e same =
       let apart = rows_apart shape base root kind Full (root + 1) e root-row (omega (arith, same)) (omega (arith, same, some-words kind))
-          (omega arith) (omega arith) in
+      (omega arith) (omega arith) in
       omega (arith, same, apart.0)
 
   slot-zero : (base : ℕ) (kind : Kind) → kind_at shape base ≡ Some kind → (x : ℕ) → IsSlot base kind x → slice_index words x ≡ 0
@@ -134,15 +139,19 @@ module _ (variant : Variant) (shape : Shape) (some : 1 ≤ shape.rows256) where
       no-info : (base < x) × (x < base + row_words kind) → x ≢ root + 1
       no-info behind same =
           let apart = rows_apart shape base root kind Full (root + 1) e root-row (omega (arith, behind.0, same))
-              (omega (arith, behind.1, same)) (omega arith)
+          (omega (arith, behind.1, same)) (omega arith)
           (omega arith) in
           omega (arith, same, apart.0, slot-far base kind x slot)
 
   pub opening-sound : (s : State) → s.words ≡ words → AllIdle s → IsSound variant shape 0 s
   opening-sound s is none = record {
     long = ap (λ w. length w) is ∙ opening-length shape;
-    versions = λ base kind e. omega (arith, at base, zeros base (differ-from base 4 (omega (arith, row_begins shape base kind e)))
-        (behind-root base kind e));
+    versions = λ base kind e. omega (
+      arith,
+      at base,
+      zeros base (differ-from base 4 (omega (arith, row_begins shape base kind e)))
+          (behind-root base kind e),
+    );
     claims = λ kind. omega (arith, at (claims_of kind), opening-claims kind);
     root = record {
       claimed = record { number = 0; claimed = omega (arith, at 4, one); within = omega (arith, some); is = refl };
@@ -177,7 +186,7 @@ reset-sound variant shape n s t h before is none = record {
   children = λ x base kind e slot. subst (λ v. Each (IsNamed (IsSettled variant shape t)) (child_rows (child_of shape v)))
       (sym (at x (omega (arith, (slot-behind base kind x slot).0))))
       (good-more (IsSettled variant shape s) (IsSettled variant shape t) shape settled x (slice_index s.words x) (h.children x)
-          base kind e slot);
+      base kind e slot);
   knows = λ p call q o. absurd (none p call q o);
   locked = λ p call q o. absurd (none p call q o);
   held = λ base kind e locked.
@@ -200,8 +209,13 @@ reset-sound variant shape n s t h before is none = record {
 
     settled : (b : ℕ) (k : Kind) → IsSettled variant shape s b k → IsSettled variant shape t b k
     settled b k x = record {
-      claimed = record { number = x.claimed.number; claimed = omega (arith, x.claimed.claimed, at (claims_of k) (claims-some k)); within =
-          x.claimed.within; is = x.claimed.is };
+      claimed = record {
+        number = x.claimed.number;
+        claimed = omega (arith, x.claimed.claimed, at (claims_of k) (claims-some k));
+        within =
+            x.claimed.within;
+        is = x.claimed.is;
+      };
       unfilled = λ p call q o. absurd (none p call q o);
     }
 
@@ -222,7 +236,7 @@ start-idle plan start words h p call q o =
     let alone : length h.state.processes ≡ 1 = (run-lengths first h.inserted.schedule (opened first) h.state h.inserted.gives).1 in
     let its : p ≡ 0 = omega (arith, alone, slice_get_within h.state.processes p q o.own) in
     let same : q ≡ h.process = same_Some q h.process (sym (subst (λ i. slice_get h.state.processes i ≡ Some q) its o.own)
-        ∙ h.inserted.is_process) in
+    ∙ h.inserted.is_process) in
     none-some call (sym (ap (λ x. x.call) same ∙ no-call first h.process h.process.call h.all) ∙ o.is_open)
 
 pub start-sound : (variant : Variant) → IsFull variant → (plan : Plan) (start : Contents) (words : List ℕ) → plan.variant ≡ variant
@@ -271,10 +285,13 @@ steady-between variant full plan start words earlier later s t run v e =
     let long = length-append earlier later in
     let few : first.steps + length earlier + length later < 2 ^ 62 = omega (arith, first.few, steps, run.few_steps, long) in
     let here = (run-sound variant full plan v run.within.shape.root earlier first.steps (opened_on plan words) s (omega (arith, few))
-        first.sound e).0 in
-    let on = later-part plan (opened_on plan words) s t earlier later e run.gives in
-    ((run-sound variant full plan v run.within.shape.root later (first.steps + length earlier) s t few here on).1, first.steps
-        + length earlier, here)
+    first.sound e).0 in
+    let on = later-part plan (opened_on plan words) s t earlier later e run.gives in (
+      (run-sound variant full plan v run.within.shape.root later (first.steps + length earlier) s t few here on).1,
+      first.steps
+          + length earlier,
+      here,
+    )
 
 -- The last step of a run.
 

@@ -24,6 +24,7 @@ use Rattle.art_rows.specs.Table.{kind_at, child_at, root_base}
 use Rattle.art_rows.specs.Words.{is_locked, is_obsolete, entries_of, place_of, child_of}
 use Rattle.art_steps.specs.Rows.{Setting}
 use Rattle.art_steps.specs.Scan.{bytes_of, with_leaf, has_row}
+use Rattle.art_steps.proofs.AccessLemmas.{each-append}
 use Rattle.art_stages.specs.declared.stage.Held.{Held}
 use Rattle.art_stages.specs.declared.stage.Keys.{Keys as KeyWords}
 use Rattle.art_stages.specs.declared.stage.Entry.{Entry}
@@ -55,10 +56,6 @@ fresh-row : (base : ℕ) (rows : List Held) → Each (λ n. n.base ≢ base) row
 fresh-row base [] h = refl
 fresh-row base (n ∷ rows) h = ap (λ b. if b then true else has_row base (map row_at rows)) (ne_eqb n.base base h.0)
     ∙ fresh-row base rows h.1
-
-each-end : {A : Type 0} (Q : A → Type 0) (xs : List A) (x : A) → Each Q xs → Q x → Each Q (xs ++ x ∷ [])
-each-end Q [] x h q = (q, tt)
-each-end Q (y ∷ xs) x h q = (h.0, each-end Q xs x h.1 q)
 
 each-init : {A : Type 0} (Q : A → Type 0) (xs : List A) (x : A) → Each Q (xs ++ x ∷ []) → Each Q xs × Q x
 each-init Q [] x h = (tt, h.0)
@@ -129,7 +126,7 @@ module _ (variant : Variant) (s : Shape) (call : Call) (P : OfRows) (is_row : (b
     slot-good w f x n None other is kept slots p few way rest = rest
     slot-good w f x n (Some slot) other is kept slots p few way rest =
         at-step (LoadChild (record { row = f.row; keys = f.keys; byte = x; left = n; index = f.index; words = f.words })
-            slot) w is refl kept tt
+        slot) w is refl kept tt
         ((p, few), slots slot refl) way
 
     bytes-good : (test : ℕ → Bool) (slot_of : ℕ → Option ℕ) (w : Walk) (f : Frame) (x n : ℕ) (other : ScanAt) → w.rows ≡ rows → AreKept
@@ -201,7 +198,7 @@ module _ (variant : Variant) (s : Shape) (call : Call) (P : OfRows) (is_row : (b
     way-good w [] is kept h = closed w is kept
     way-good w (f ∷ fs) is kept h =
         frame-good (on_way w fs) f.row.base f.row.kind f.row.info f.row.kept f.keys f.byte f.left f.index f.words
-            (way_at c lo hi w fs) is kept
+        (way_at c lo hi w fs) is kept
         h.0.0 h.0.1 h.1 (way-good w fs is kept h.1)
 
     pub resumed : (w : Walk) → w.rows ≡ rows → AreKept → Each (FitsFrame P) w.way → Good (resume_at c lo hi w)
@@ -260,18 +257,18 @@ module _ (variant : Variant) (s : Shape) (call : Call) (P : OfRows) (is_row : (b
         → Doing (Keys (held base kind info was))
     keys-does base Four info was k = Reads _ _ refl (λ value good. leads (Keys (held base Four info was)) _ refl
         (resumed w.rows (with_frame w (frame_of (held base Four info was) (keys_one value) 0 0)) refl
-            (rows-kept (Keys (held base Four info was)) refl k)
+        (rows-kept (Keys (held base Four info was)) refl k)
         ((k.known.0, omega arith), k.way)))
     keys-does base Sixteen info was k = Reads _ _ refl (λ value good. leads (Keys (held base Sixteen info was)) _ refl
         (at-step w.rows (FirstKeys (held base Sixteen info was) value) w refl refl (rows-kept (Keys (held base Sixteen info was)) refl k)
-            k.known tt k.way))
+        k.known tt k.way))
     keys-does base FortyEight info was k = Reads _ _ refl (λ value good. leads (Keys (held base FortyEight info was)) _ refl
         (resumed w.rows (with_frame w (frame_of (held base FortyEight info was) (keys_one value) 0 0)) refl
-            (rows-kept (Keys (held base FortyEight info was)) refl k)
+        (rows-kept (Keys (held base FortyEight info was)) refl k)
         ((k.known.0, omega arith), k.way)))
     keys-does base Full info was k = Reads _ _ refl (λ value good. leads (Keys (held base Full info was)) _ refl
         (resumed w.rows (with_frame w (frame_of (held base Full info was) (keys_one value) 0 0)) refl
-            (rows-kept (Keys (held base Full info was)) refl k)
+        (rows-kept (Keys (held base Full info was)) refl k)
         ((k.known.0, omega arith), k.way)))
 
     -- Stages that are not the same in both trees.
@@ -296,7 +293,7 @@ module _ (variant : Variant) (s : Shape) (call : Call) (P : OfRows) (is_row : (b
         ((k.known.0, omega arith), k.way)))
     step-does own (Index n j m) k = Reads _ _ refl (λ value good. leads (Index n j m) _ refl
         (resumed w.rows (with_frame w (frame_of n (keys_one value) j m)) refl (rows-kept (Index n j m) refl k)
-            ((k.known.0, omega arith), k.way)))
+        ((k.known.0, omega arith), k.way)))
     step-does own (LoadChild f slot) k = Reads _ _ refl (λ value good. leads (LoadChild f slot) _ refl
         (child-after w.rows (with_frame w f) (child_of s value) refl (rows-kept (LoadChild f slot) refl k) (k.fits.0, k.way)
         (good f.row.base f.row.kind (is_row f.row.base f.row.kind k.fits.0.0) k.fits.1)))
@@ -376,11 +373,11 @@ module _ (s : Shape) (call : Call) (P : OfRows) (is_row : (b : ℕ) (k : Kind) �
 
       go : (xs : List ℕ) (b : Bool) → b ≡ false
           → Has P coupled-setting (OnScan lo hi (visit_list coupled-setting lo hi n (if b then w else all) xs))
-              (locks_of (w.rows ++ n ∷ [])) []
+          (locks_of (w.rows ++ n ∷ [])) []
       go xs true e = absurd (false≢true (sym e))
       go xs false e =
           let k = listed Coupled s call P is_row root lo hi (w.rows ++ n ∷ []) n all xs refl
-              (each-end (IsKept true P) w.rows n kept new) new.1 way in
+          (each-append (IsKept true P) w.rows n kept new) new.1 way in
           (k.0, ap locks_of k.1, refl)
 
   locks-does : (w : Walk) (entry : Entry) (first : Bool) → KnowsScanRows P true (at (Lock entry first) w)
@@ -404,13 +401,13 @@ module _ (s : Shape) (call : Call) (P : OfRows) (is_row : (b : ℕ) (k : Kind) �
   exchanges-does w Root v k =
       let n = held (root_base s) Full 0 v in
       Takes n (locks_of (w.rows ++ n ∷ [])) _ refl
-          (subst (IsWith n (locks_of w.rows)) (sym (locks-end w.rows n)) (with-last n (locks_of w.rows))) refl (k.fits.1, root)
+      (subst (IsWith n (locks_of w.rows)) (sym (locks-end w.rows n)) (with-last n (locks_of w.rows))) refl (k.fits.1, root)
       (λ apart. subst (λ b. Has P coupled-setting (OnScan lo hi (if b then entry_at coupled-setting lo hi Root w v else at
-          (Lock Root false) w)) (locks_of (w.rows ++ n ∷ [])) [])
+      (Lock Root false) w)) (locks_of (w.rows ++ n ∷ [])) [])
       (sym (eq-eqb v v refl)) (same-locks (locked-row (held (root_base s) Full 3 v) w (apart-rows (root_base s) w.rows apart) k.kept
-          (k.fits.1, root) k.way)))
+      (k.fits.1, root) k.way)))
       (λ value other. subst (λ b. Has P coupled-setting (OnScan lo hi (if b then entry_at coupled-setting lo hi Root w v else at
-          (Lock Root false) w)) (locks_of w.rows) [])
+      (Lock Root false) w)) (locks_of w.rows) [])
       (sym (ne_eqb value v other)) again)
     where
       again : Has P coupled-setting (OnScan lo hi (at (Lock Root false) w)) (locks_of w.rows) []
@@ -418,18 +415,22 @@ module _ (s : Shape) (call : Call) (P : OfRows) (is_row : (b : ℕ) (k : Kind) �
 
       same-locks : {x : ScanAt} → Has P coupled-setting (OnScan lo hi x) (locks_of (w.rows ++ held (root_base s) Full 3 v ∷ [])) []
           → Has P coupled-setting (OnScan lo hi x) (locks_of (w.rows ++ held (root_base s) Full 0 v ∷ [])) []
-      same-locks h = (h.0, h.1 ∙ (locks-end w.rows (held (root_base s) Full 3 v) ∙ sym
-          (locks-end w.rows (held (root_base s) Full 0 v))), h.2)
+      same-locks h = (
+        h.0,
+        h.1 ∙ (locks-end w.rows (held (root_base s) Full 3 v) ∙ sym
+            (locks-end w.rows (held (root_base s) Full 0 v))),
+        h.2,
+      )
   exchanges-does w (Below base kind) v k =
       let n = held base kind 0 v in
       Takes n (locks_of (w.rows ++ n ∷ [])) _ refl
-          (subst (IsWith n (locks_of w.rows)) (sym (locks-end w.rows n)) (with-last n (locks_of w.rows))) refl
+      (subst (IsWith n (locks_of w.rows)) (sym (locks-end w.rows n)) (with-last n (locks_of w.rows))) refl
       (k.fits.1, k.known.0)
       (λ apart. subst (λ b. Has P coupled-setting (OnScan lo hi (if b then at (Info base kind v) w else at (Lock (Below base kind) false)
-          w)) (locks_of (w.rows ++ n ∷ [])) [])
+      w)) (locks_of (w.rows ++ n ∷ [])) [])
       (sym (eq-eqb v v refl)) (
         record {
-          kept = each-end (IsKept true P) w.rows n k.kept (k.fits.1, k.known.0);
+          kept = each-append (IsKept true P) w.rows n k.kept (k.fits.1, k.known.0);
           known = k.known;
           fits = apart-rows base w.rows apart;
           way = k.way;
@@ -438,7 +439,7 @@ module _ (s : Shape) (call : Call) (P : OfRows) (is_row : (b : ℕ) (k : Kind) �
         refl,
       ))
       (λ value other. subst (λ b. Has P coupled-setting (OnScan lo hi (if b then at (Info base kind v) w else at
-          (Lock (Below base kind) false) w)) (locks_of w.rows) [])
+      (Lock (Below base kind) false) w)) (locks_of w.rows) [])
       (sym (ne_eqb value v other)) (record { kept = k.kept; known = k.known; fits = tt; way = k.way }, refl, refl))
 
   infos-does : (w : Walk) (base : ℕ) (kind : Kind) (kept : ℕ) → KnowsScanRows P true (at (Info base kind kept) w)

@@ -32,8 +32,14 @@ module _ (s : Shape) (call : Call) (P : OfRows) (root : P (root_base s) Full) wh
     pub below : word < base + row_words kind
 
   in-row : (base : ℕ) (kind : Kind) (x word : ℕ) → P base kind → x ≡ word → base ≤ x → x < base + row_words kind → IsInKnown word
-  in-row base kind x word p e low high = record { base = base; kind = kind; known = p; from = omega (arith, low, e); below = omega
-      (arith, high, e) }
+  in-row base kind x word p e low high = record {
+    base = base;
+    kind = kind;
+    known = p;
+    from = omega (arith, low, e);
+    below = omega
+        (arith, high, e);
+  }
 
   keys-known : (kind : Kind) (n : Held) (word : ℕ) (mark : Option Point) → n.kind ≡ kind → P n.base n.kind
       → keys_turn kind n ≡ Asks (Load word) mark

@@ -135,26 +135,26 @@ module _ (variant : Variant) (shape : Shape) (root : 1 ≤ shape.rows256) (n : �
     access : (a : Access) (mark : Option Point) → call_turn c place ≡ Asks a mark → AccessDoes P c place → Kept (Makes a)
     access a mark e (Reads word at turn after) = subst (λ a. Kept (Makes a)) (asks-same (sym turn ∙ e))
         (keeps-words variant shape n s h few p q here call is-open word (slice_index s.words word) (later (Load word)) is-open
-            (in-table (Load word) at turn) refl
+        (in-table (Load word) at turn) refl
         (has-at P (Load word) (holds c place) (fills place) (after (slice_index s.words word) (h.children word))))
     access a mark e (Writes x word value at turn among kept behind good after) = subst (λ a. Kept (Makes a)) (asks-same (sym turn ∙ e))
         (keeps-versions variant shape n s h few p q here call is-open word value (later (Store word value)) is-open
-            (in-table (Store word value) at turn)
+        (in-table (Store word value) at turn)
         x.base x.kind (settled-row variant shape s x.base x.kind kept.1) behind
         (λ l y free. true-false (is-locked variant shape n s h few p q here call is-open x among kept) free)
         (inl (record { holder = p; call = call; process = q; is_open = opens; row = x; among = among; is = refl }, refl)) good
-            (fills place) (inl refl) P (λ more. more)
+        (fills place) (inl refl) P (λ more. more)
         (has-at P (Store word value) (holds c place) (fills place) after))
     access a mark e (Fills b k word value at turn filled behind row good after) = subst (λ a. Kept (Makes a)) (asks-same (sym turn ∙ e))
         (keeps-versions variant shape n s h few p q here call is-open word value (later (Store word value)) is-open
-            (in-table (Store word value) at turn)
+        (in-table (Store word value) at turn)
         b k row behind (λ l y free. y.unfilled p call q opens b k filled refl)
         (inr (inr (record { call = call; process = q; is_open = opens; kind = k; fills = filled }))) good (fills place)
-            (inl refl) P (λ more. more)
+        (inl refl) P (λ more. more)
         (has-at P (Store word value) (holds c place) (fills place) after))
     access a mark e (Ends b k word value at turn filled behind row good after) = subst (λ a. Kept (Makes a)) (asks-same (sym turn ∙ e))
         (keeps-versions variant shape n s h few p q here call is-open word value (later (Store word value)) is-open
-            (in-table (Store word value) at turn)
+        (in-table (Store word value) at turn)
         b k row behind (λ l y free. y.unfilled p call q opens b k filled refl)
         (inr (inr (record { call = call; process = q; is_open = opens; kind = k; fills = filled }))) good [] (inr refl) (With P b k) settles
         (has-at (With P b k) (Store word value) (holds c place) [] after))
@@ -176,12 +176,12 @@ module _ (variant : Variant) (shape : Shape) (root : 1 ≤ shape.rows256) (n : �
             → filled_by variant shape o w ≡ (d, l) ∷ [] → b ≢ d
         unfilled r o w open-then d l f same = elim (whose variant shape n s h p q here word value (later (Store word value))
             r o w open-then) [
-          | inl t ↦ no-items (sym none-now ∙ subst (λ v. filled_by variant shape v (later (Store word value)) ≡ (d, l) ∷ [])
-              (same_Some o call (sym (own-call variant shape n s h p q here word value (later (Store word value)) r o w
+              | inl t ↦ no-items (sym none-now ∙ subst (λ v. filled_by variant shape v (later (Store word value)) ≡ (d, l) ∷ [])
+                  (same_Some o call (sym (own-call variant shape n s h p q here word value (later (Store word value)) r o w
                   open-then t.1) ∙ is-open))
-              (subst (λ v. filled_by variant shape o v ≡ (d, l) ∷ []) t.1 f))
-          | inr t ↦ t.0 (sym (h.fills_apart p r call o q w opens t.1 b d k l filled f same))
-        ]
+                  (subst (λ v. filled_by variant shape o v ≡ (d, l) ∷ []) t.1 f))
+              | inr t ↦ t.0 (sym (h.fills_apart p r call o q w opens t.1 b d k l filled f same))
+            ]
 
         settles : ((base : ℕ) (kind : Kind) → P base kind → IsSettled variant shape stored base kind) → (base : ℕ) (kind : Kind)
             → With P b k base kind
@@ -189,10 +189,14 @@ module _ (variant : Variant) (shape : Shape) (root : 1 ≤ shape.rows256) (n : �
         settles more base kind (inl x) = more base kind x
         settles more base kind (inr x) = subst (λ y. IsSettled variant shape stored y kind) (sym x.0)
             (subst (IsSettled variant shape stored b) (sym x.1) (record {
-          claimed = record { number = claimed.number; claimed = omega (arith, claimed.claimed, claims-same); within = claimed.within;
-              is = claimed.is };
-          unfilled = unfilled;
-        }))
+              claimed = record {
+                number = claimed.number;
+                claimed = omega (arith, claimed.claimed, claims-same);
+                within = claimed.within;
+                is = claimed.is;
+              };
+              unfilled = unfilled;
+            }))
     access a mark e (Releases x rest value at turn hold none written kept after) = subst (λ a. Kept (Makes a)) (asks-same (sym turn ∙ e))
         (releases variant shape n s h few p q here call is-open x rest value kept hold none written (later (Store x.base value)) is-open
         (has-at P (Store x.base value) rest [] after))
@@ -203,7 +207,7 @@ module _ (variant : Variant) (shape : Shape) (root : 1 ≤ shape.rows256) (n : �
               (λ apart. has-at P swap all [] (subst (λ w. Has P c (call_after c place w) all []) (sym same) (taken apart))))
           | inr differs ↦ subst (λ b. Chosen b) (sym (ne_eqb (slice_index s.words x.base) x.kept differs))
               (keeps-words variant shape n s h few p q here call is-open x.base (slice_index s.words x.base) (later swap) is-open
-                  (in-table swap at turn) refl
+              (in-table swap at turn) refl
               (has-at P swap (holds c place) (fills place)
               (subst (λ f. Has P c (call_after c place (slice_index s.words x.base)) (holds c place) f) (sym none)
               (other (slice_index s.words x.base) differs))))
@@ -222,15 +226,15 @@ module _ (variant : Variant) (shape : Shape) (root : 1 ≤ shape.rows256) (n : �
         Chosen b = IsSound variant shape (n + 1) (to b) × IsSteady variant shape s (to b) × WritesOwn variant shape s p (to b)
     access a mark e (Claims kind at turn none claimed full) =
         subst (λ a. Kept (Makes a)) (asks-same (sym turn ∙ e)) (elim (cases_lt value (rows_of shape kind)) [
-      | inl less ↦ keeps-claim variant shape n s h few p q here call is-open kind ((value + 1) % 2 ^ 64) one
-          (later (Add (claims_of kind))) is-open
-          ((base_of shape kind value, kind) ∷ []) (inr (less, refl))
+          | inl less ↦ keeps-claim variant shape n s h few p q here call is-open kind ((value + 1) % 2 ^ 64) one
+              (later (Add (claims_of kind))) is-open
+              ((base_of shape kind value, kind) ∷ []) (inr (less, refl))
               (has-at P (Add (claims_of kind)) (holds c place) ((base_of shape kind value, kind) ∷ [])
-          (claimed value less))
-      | inr more ↦ keeps-claim variant shape n s h few p q here call is-open kind ((value + 1) % 2 ^ 64) one
-          (later (Add (claims_of kind))) is-open
-          [] (inl refl) (has-at P (Add (claims_of kind)) (holds c place) [] (full value more))
-    ])
+              (claimed value less))
+          | inr more ↦ keeps-claim variant shape n s h few p q here call is-open kind ((value + 1) % 2 ^ 64) one
+              (later (Add (claims_of kind))) is-open
+              [] (inl refl) (has-at P (Add (claims_of kind)) (holds c place) [] (full value more))
+        ])
       where
         value : ℕ
         value = slice_index s.words (claims_of kind)

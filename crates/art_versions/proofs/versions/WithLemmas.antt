@@ -34,9 +34,11 @@ pub distinct-with : (h : Held) (rest all : List Held) → IsWith h rest all → 
 distinct-with h rest [] w d away = absurd w
 distinct-with h rest (x ∷ xs) (inl e) d away =
     ((λ z a same. away z (subst (IsAmong z) (sym e.1) a) (ap (λ v. v.base) (sym e.0) ∙ same)), subst AreDistinct e.1 d)
-distinct-with h rest (x ∷ xs) (inr w) d away =
-    ((λ z a. first z (with-split h w.0 xs z w.2 a)), distinct-with h w.0 xs w.2 parts.1
-        (λ y b. away y (subst (IsAmong y) (sym w.1) (inr b))))
+distinct-with h rest (x ∷ xs) (inr w) d away = (
+  (λ z a. first z (with-split h w.0 xs z w.2 a)),
+  distinct-with h w.0 xs w.2 parts.1
+      (λ y b. away y (subst (IsAmong y) (sym w.1) (inr b))),
+)
   where
     parts : AreDistinct (x ∷ w.0)
     parts = subst AreDistinct w.1 d

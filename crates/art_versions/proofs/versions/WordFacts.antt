@@ -69,7 +69,7 @@ module _ (s : Shape) where
 
       one : (b : Bool) → (w % 4 == 1) ≡ b
           → child_rows (if b then row_child (w / 4) (kind_at s (w / 4)) else (if w % 4 == 2 then Leaf (w / 4294967296)
-              (w % 4294967296 / 4) else Empty)) ≡ []
+          (w % 4294967296 / 4) else Empty)) ≡ []
       one true f = absurd (grind (arith, f, e))
       one false f = two (w % 4 == 2)
 

@@ -24,7 +24,7 @@ GoesBy plan call attempt entry base info =
 abbrev pub HasRead : Plan → Call → List ℕ → ℕ → ℕ → Kind → List ℕ → Type 0
 HasRead plan call attempt entry base kind words =
     (i word : ℕ) → Reads plan call attempt i word → entry ≤ i → base < word → word < base + row_words kind
-        → slice_index words word ≡ slice_index attempt i
+    → slice_index words word ≡ slice_index attempt i
 
 -- The attempt that answers: it checked the row that it entered last behind that entry, found the version with which it had entered, and
 -- read nothing more. Its reply

@@ -1,5 +1,6 @@
 // Laws of versions: each function only carries its clause.
-ghost use Rattle.art_versions.specs.versions.Laws.{FreshRowsAreZero, HoldersWrite, LocksAreHeldInRuns, ObsoleteRowsRest, RowsAreSound, RowsStandStill};
+ghost use Rattle.art_versions.specs.versions.Laws.{FreshRowsAreZero, HoldersWrite, LocksAreHeldInRuns, ObsoleteRowsRest, RowsAreSound};
+ghost use Rattle.art_versions.specs.versions.Laws.{RowsStandStill};
 
 /// In every state of a full tree, the coupled one or the optimistic one, whatever calls run: each row that a process holds is
 /// locked from the version that the process has kept, each row that is locked is held by a process, no two processes hold

@@ -12,7 +12,7 @@ loop-pass-init c =
     let rest = into_iter_items c.into_iter-pass-iterator.result in
     let same = ap (λ i. into_iter_items i) (sym c.into_iter-pass-iterator.ensures.into_iter_gives) in
     let parts : c.args.done.items ≡ first ∷ rest = sym c.into_iter-done.ensures.rest
-        ∙ (c.in-Some.ensures.items ∙ ap (λ l. first ∷ l) same) in
+    ∙ (c.in-Some.ensures.items ∙ ap (λ l. first ∷ l) same) in
     let own = subst (All (λ d. IfOk d (IsPassOf a))) parts c.requires.own in
     record {
       can_next = tt;

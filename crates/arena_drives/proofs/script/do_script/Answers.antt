@@ -21,7 +21,7 @@ returns-in-Going-clause-done c =
     let progressed = subst (λ p. HasProgressed p limit mid new) c.in-Going.is c.in_ok-advance.ensures.progressed in
     stops setup number limit (take i script) call mid within new script (drop (i + 1) script) progressed.0 progressed.1
     (ap (λ l. l ++ drop (i + 1) script) (sym (take-next script i call c.loop-call-test.true c.call-item.is))
-        ∙ take-append-drop (i + 1) script)
+    ∙ take-append-drop (i + 1) script)
 
 pub loop-call-preserved : goal.loop-call-preserved
 loop-call-preserved c =

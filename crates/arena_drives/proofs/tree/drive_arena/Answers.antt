@@ -16,7 +16,7 @@ use Rattle.arena_drives.proofs.tree.drive_arena.Goals.{In_ok-pass}
 -- what the arena was opened for
 opened : (g : _) (c : In_ok-pass g) → opened_for c.in_ok-arena.arena
     ≡ setup_with c.args.shape c.args.variant (length (map (λ script. script.items) c.scripts-scripts.result.now))
-        (longest (map (λ script. script.items) c.scripts-scripts.result.now))
+    (longest (map (λ script. script.items) c.scripts-scripts.result.now))
 opened g c =
     let scripts = c.scripts-scripts.result.now in
     c.in_ok-arena.ensures.setup
@@ -26,7 +26,7 @@ opened g c =
 -- all processes did their scripts
 done : (g : _) (c : In_ok-pass g)
     → AreDone c.in_ok-arena.arena c.args.limit (map (λ script. script.items) c.scripts-scripts.result.now) (length c.in_ok-done.done.items)
-        (shows c.in_ok-pass.pass).processes
+    (shows c.in_ok-pass.pass).processes
 done g c =
     joined-done c.in_ok-arena.arena c.args.limit (map (λ script. script.items) c.scripts-scripts.result.now) c.in_ok-done.done.items
     (shows c.in_ok-pass.pass).processes c.in_ok-done.ensures.done c.in_ok-pass.ensures.joined
@@ -39,8 +39,14 @@ pub want_of_memory-requires : goal.want_of_memory-requires
 want_of_memory-requires g c =
     let d = (goal.at.want_of_memory-requires g c).In_ok-pass in
     let many : HoldsAll (opened_for c.in_ok-arena.arena) (shows c.in_ok-pass.pass) =
-    (done g d).many ∙ (omega (arith, c.in_ok-done.ensures.many, c.in_ok-passes.ensures.many, c.in_ok-done.done.ok.0, ap (λ s. s.processes)
-        c.in_ok-arena.ensures.setup)) in
+    (done g d).many ∙ (omega (
+      arith,
+      c.in_ok-done.ensures.many,
+      c.in_ok-passes.ensures.many,
+      c.in_ok-done.done.ok.0,
+      ap (λ s. s.processes)
+          c.in_ok-arena.ensures.setup,
+    )) in
     memory-wanted c.in_ok-arena.arena c.in_ok-pass.pass c.in-Err.fault many c.in-Err.ensures.refused
 
 pub returns-in-Ok : goal.returns-in-Ok
@@ -53,5 +59,5 @@ returns-in-Ok g c =
     subst (λ plan. IsArenaDriveOf c.args.shape c.args.variant c.args.limit plan h) c.scripts-scripts.ensures.same
     (drive-of c.args.shape c.args.variant c.args.limit scripts v h (subst (λ s. IsHistoryOf s v h) setup c.in-Ok.ensures.history)
     (subst (λ s. HasOwnEvents s v h.events) setup c.in-Ok.ensures.own_events)
-        (subst (λ s. All (HasDoneOwn s c.args.limit scripts) v.processes) setup (done g d).done) (omega (arith, c.ranges.limit))
+    (subst (λ s. All (HasDoneOwn s c.args.limit scripts) v.processes) setup (done g d).done) (omega (arith, c.ranges.limit))
     (subst (λ s. IsLinearizableIn s v h) setup c.in-Ok.ensures.linearizable))

@@ -11,12 +11,12 @@ returns-in-Scan-clause-at c =
 pub returns-in-Scan-clause-keys : goal.returns-in-Scan-clause-keys
 returns-in-Scan-clause-keys c =
     keys_of_scan c.args.setting.now.call c.in-Scan.low c.in-Scan.high _ _ (sym c.in-Scan.is ∙ c.call.ensures) c.begin.ensures.low
-        c.begin.ensures.high
+    c.begin.ensures.high
 
 pub returns-in_default-clause-at : goal.returns-in_default-clause-at
 returns-in_default-clause-at c =
     begun_key (setting_of c.args.setting.now) c.call.result c.begin-in_default.result c.call.ensures c.in_default.not-Scan
-        c.begin-in_default.ensures
+    c.begin-in_default.ensures
 
 pub returns-in_default-clause-keys : goal.returns-in_default-clause-keys
 returns-in_default-clause-keys c = keys_of_key c.args.setting.now.call c.call.result c.call.ensures c.in_default.not-Scan

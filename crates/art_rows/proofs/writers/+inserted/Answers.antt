@@ -9,8 +9,11 @@ pub overflow_mul-result : goal.overflow_mul-result
 overflow_mul-result t c = omega (arith, byte_fits (c.args.count) c.low.result 0 (omega arith) (omega arith) c.low.ensures.below)
 
 pub overflow_add-result : goal.overflow_add-result
-overflow_add-result t c = omega (arith, byte_fits (c.args.count) c.low.result (c.from.result) (omega arith) (omega arith)
-    c.low.ensures.below)
+overflow_add-result t c = omega (
+  arith,
+  byte_fits (c.args.count) c.low.result (c.from.result) (omega arith) (omega arith)
+      c.low.ensures.below,
+)
 
 pub overflow_mul-result-else-count-eq0 : goal.overflow_mul-result-else-count-eq0
 overflow_mul-result-else-count-eq0 t c =

@@ -4,7 +4,7 @@ use Rattle.art_rows.proofs.writers.key_bytes_with.Goals as goal
 pub returns-clause-bytes : goal.returns-clause-bytes
 returns-clause-bytes c =
     bytes4_with c.args.byte c.args.keys c.keys_count.result c.new_key_place.result c.inserted.result c.keys_count.ensures.count
-        c.new_key_place.ensures.place
+    c.new_key_place.ensures.place
     c.inserted.ensures.bytes
 
 pub returns-clause-below : goal.returns-clause-below

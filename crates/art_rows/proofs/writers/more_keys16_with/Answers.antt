@@ -4,8 +4,11 @@ use Rattle.art_rows.specs.Words.{packed, low_bytes}
 use Rattle.art_rows.proofs.writers.more_keys16_with.Goals as goal
 
 pub overflow_mul-result : goal.overflow_mul-result
-overflow_mul-result c = omega (arith, byte_fits c.min.result c.low.result 0 (omega (arith, c.min.ensures)) (omega arith)
-    c.low.ensures.below)
+overflow_mul-result c = omega (
+  arith,
+  byte_fits c.min.result c.low.result 0 (omega (arith, c.min.ensures)) (omega arith)
+      c.low.ensures.below,
+)
 
 pub overflow_add-result : goal.overflow_add-result
 overflow_add-result c =

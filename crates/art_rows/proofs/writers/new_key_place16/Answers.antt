@@ -5,7 +5,7 @@ use Rattle.art_rows.proofs.writers.new_key_place16.Goals as goal
 pub returns-then-count-le8-clause-place : goal.returns-then-count-le8-clause-place
 returns-then-count-le8-clause-place c =
     place16_few c.args.byte c.args.count c.args.first c.args.second c.key_count-count.result c.less_among.result
-        c.key_count-count.ensures.count (omega arith)
+    c.key_count-count.ensures.count (omega arith)
     c.less_among.ensures.place
 
 pub returns-else-count-le8-clause-place : goal.returns-else-count-le8-clause-place

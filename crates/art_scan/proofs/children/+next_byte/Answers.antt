@@ -16,7 +16,7 @@ pub returns-then-is_past-clause-next : goal.returns-then-is_past-clause-next
 returns-then-is_past-clause-next t c = λ w other.
     pass (frame_test c.args.frame.row.kind c.args.low c.args.high c.args.frame) (frame_slot c.args.frame.row.kind c.args.frame)
     (child_from w c.args.frame) c.args.byte c.bare_bytes-bare.result c.args.left other c.bare_bytes-bare.ensures.most
-        c.bare_bytes-bare.ensures.bare
+    c.bare_bytes-bare.ensures.bare
     ∙ bytes_past (frame_test c.args.frame.row.kind c.args.low c.args.high c.args.frame) (frame_slot c.args.frame.row.kind c.args.frame)
     (child_from w c.args.frame) (c.args.byte + c.bare_bytes-bare.result) (c.args.left - c.bare_bytes-bare.result) other
     (c.is_past.ensures c.if-is_past.true c.args.low c.args.high)
@@ -25,7 +25,7 @@ pub returns-in-None-clause-next : goal.returns-in-None-clause-next
 returns-in-None-clause-next t c = λ w other.
     pass (frame_test c.args.frame.row.kind c.args.low c.args.high c.args.frame) (frame_slot c.args.frame.row.kind c.args.frame)
     (child_from w c.args.frame) c.args.byte c.bare_bytes-bare.result c.args.left other c.bare_bytes-bare.ensures.most
-        c.bare_bytes-bare.ensures.bare
+    c.bare_bytes-bare.ensures.bare
     ∙ (bytes_bare (frame_test c.args.frame.row.kind c.args.low c.args.high c.args.frame) (frame_slot c.args.frame.row.kind c.args.frame)
     (child_from w c.args.frame) (c.args.byte + c.bare_bytes-bare.result) (c.args.left - c.bare_bytes-bare.result) other
     (λ e. c.if-bare-left.false (omega (arith, e, c.bare_bytes-bare.ensures.most))) (sym c.slot_of.ensures ∙ c.in-None.is)
@@ -35,7 +35,7 @@ pub returns-then-is_walked-clause-next : goal.returns-then-is_walked-clause-next
 returns-then-is_walked-clause-next t c = λ w other.
     pass (frame_test c.args.frame.row.kind c.args.low c.args.high c.args.frame) (frame_slot c.args.frame.row.kind c.args.frame)
     (child_from w c.args.frame) c.args.byte c.bare_bytes-bare.result c.args.left other c.bare_bytes-bare.ensures.most
-        c.bare_bytes-bare.ensures.bare
+    c.bare_bytes-bare.ensures.bare
     ∙ bytes_found (frame_test c.args.frame.row.kind c.args.low c.args.high c.args.frame) (frame_slot c.args.frame.row.kind c.args.frame)
     (child_from w c.args.frame) (c.args.byte + c.bare_bytes-bare.result) (c.args.left - c.bare_bytes-bare.result) c.in-Some.slot other
     (λ e. c.if-bare-left.false (omega (arith, e, c.bare_bytes-bare.ensures.most)))
@@ -45,7 +45,7 @@ pub returns-else-is_walked-clause-next : goal.returns-else-is_walked-clause-next
 returns-else-is_walked-clause-next t c = λ w other.
     pass (frame_test c.args.frame.row.kind c.args.low c.args.high c.args.frame) (frame_slot c.args.frame.row.kind c.args.frame)
     (child_from w c.args.frame) c.args.byte c.bare_bytes-bare.result c.args.left other c.bare_bytes-bare.ensures.most
-        c.bare_bytes-bare.ensures.bare
+    c.bare_bytes-bare.ensures.bare
     ∙ (bytes_not (frame_test c.args.frame.row.kind c.args.low c.args.high c.args.frame) (frame_slot c.args.frame.row.kind c.args.frame)
     (child_from w c.args.frame) (c.args.byte + c.bare_bytes-bare.result) (c.args.left - c.bare_bytes-bare.result) other
     (λ e. c.if-bare-left.false (omega (arith, e, c.bare_bytes-bare.ensures.most)))

@@ -5,10 +5,10 @@ use Rattle.art_scan.proofs.children.+next_word.Goals as goal
 pub returns-then-is_met_in-clause-next : goal.returns-then-is_met_in-clause-next
 returns-then-is_met_in-clause-next t c = λ w other.
     words_some c.args.low c.args.high c.args.row w c.args.index c.args.words other c.if-words-eq0.false
-        (sym c.is_met_in.ensures ∙ c.if-is_met_in.true)
+    (sym c.is_met_in.ensures ∙ c.if-is_met_in.true)
 
 pub returns-else-is_met_in-clause-next : goal.returns-else-is_met_in-clause-next
 returns-else-is_met_in-clause-next t c = λ w other.
     words_skip c.args.low c.args.high c.args.row w c.args.index c.args.words other c.if-words-eq0.false
-        (sym c.is_met_in.ensures ∙ c.if-is_met_in.false)
+    (sym c.is_met_in.ensures ∙ c.if-is_met_in.false)
     ∙ c.next_word.ensures.next w other

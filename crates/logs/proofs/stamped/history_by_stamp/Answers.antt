@@ -26,5 +26,5 @@ with_calls-requires c = record {
 pub returns : goal.returns
 returns c =
     subst (λ (events : List Event). IfOk c.with_calls.result
-        (λ (h : HistoryView). h ≡ record { start = c.args.start.items; events = events }))
+    (λ (h : HistoryView). h ≡ record { start = c.args.start.items; events = events }))
     (same (goal.at.returns c).In_ok-events) c.with_calls.ensures

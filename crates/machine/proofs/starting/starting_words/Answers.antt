@@ -15,7 +15,7 @@ returns-then-has_refused-clause-refused c =
       inserted = h.inserted;
       refused =
           (c.has_refused.ensures (start_plan c.args.shape c.args.variant c.args.start.now) h.state h.process h.shows
-              h.inserted.is_process).0
+          h.inserted.is_process).0
           c.if-has_refused.true;
     }
 

@@ -6,4 +6,4 @@ pub returns-clause-made : goal.returns-clause-made
 returns-clause-made c = λ shape variant call got fits.
     taken shape variant call got c.args.words.now c.access-got.new.words (rest_of c.args.task.now) c.next-next.result c.access-got.result
     fits c.next-next.ensures.access c.access-got.ensures.got c.take.new.self c.take.result c.access-got.ensures.words c.take.ensures.reply
-        c.take.ensures.fits
+    c.take.ensures.fits

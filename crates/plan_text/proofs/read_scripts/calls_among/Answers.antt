@@ -7,5 +7,5 @@ use Rattle.plan_text.proofs.read_scripts.calls_among.Goals as goal
 pub returns-in_default-clause-none : goal.returns-in_default-clause-none
 returns-in_default-clause-none c = λ calls h standing.
     none_among call_data (is_script_call c.args.may_replace) c.args.items.now calls c.loop-item.item-index c.item-item.result h standing
-        c.loop-item-test.true
+    c.loop-item-test.true
     c.item-item.is c.in_default.ensures.none

@@ -9,5 +9,5 @@ returns-in-Some-clause-none c =
     none-follows c.scripts_among.result
     (λ none scripts h. none scripts
     (items_of_list _ c.in-Some.items.now.items c.deref.result.now (map script_data scripts) c.in-Some.ensures c.deref.ensures.value
-        h.value) h.standing)
+    h.value) h.standing)
     c.scripts_among.ensures.none

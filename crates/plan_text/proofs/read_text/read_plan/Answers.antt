@@ -12,7 +12,7 @@ returns-in_err-scripts-clause-accepted c = λ scripts spelled few.
     let p = err_from_is_err_and c.from_residual-in_err-scripts.result c.from_residual-in_err-scripts.ensures.1 in
     rw (p.1, p.2)
     (memory_alone c.args.text.now scripts _ spelled few
-        (fault_of_form c.args.text.now _ _ c.in_ok-value.ensures.ok c.in_err-scripts.ensures.refused))
+    (fault_of_form c.args.text.now _ _ c.in_ok-value.ensures.ok c.in_err-scripts.ensures.refused))
 
 pub returns-clause-accepted : goal.returns-clause-accepted
 returns-clause-accepted c = λ scripts spelled few.

@@ -27,7 +27,7 @@ pub returns-clause-again : goal.returns-clause-again
 returns-clause-again c =
     let before = (goal.at.returns-clause-again c).After-to_string in
     let text = c.in_ok-to_string.ensures.text (ap has_float (same before) ∙ has_float-plan c.args.plan.now)
-        ∙ ap compact_text (same before) in
+    ∙ ap compact_text (same before) in
     Spells-written _ c.args.plan.now c.in_ok-value.ensures.scripts.calls (record {
       fits = rw text (size-plan c.args.plan.now c.in_ok-value.ensures.scripts);
       utf8 = IsUtf8-string_bytes c.in_ok-to_string.field-0;

@@ -9,5 +9,5 @@ pub returns : goal.returns
 returns c =
     let passes = c.args.passes.now in
     let none = subst (All (λ p. process_number p ≢ c.args.process)) (take_all c.loop-pass.pass-index passes c.loop-pass-test.false)
-        c.loop-pass.invariant in
+    c.loop-pass.invariant in
     (λ h. cc, λ h. absurd (none-here c.args.process passes none h))

@@ -8,5 +8,5 @@ pub loop-process-preserved : goal.loop-process-preserved
 loop-process-preserved c = λ p below.
     ⊎_elim (λ earlier. c.loop-process.invariant p earlier)
     (λ last. let same : c.loop-process.process ≡ p =
-        omega arith in subst (Contains (map process_number c.args.passes.now)) same (search rules))
+    omega arith in subst (Contains (map process_number c.args.passes.now)) same (search rules))
     (cases_lt p c.loop-process.process)

@@ -9,5 +9,5 @@ returns-in-Some-clause-none c =
     none-follows c.few_items_among.result
     (λ none items h standing few. none items
     (items_of_list _ c.in-Some.items.now.items c.deref.result.now (map item_data items) c.in-Some.ensures
-        c.deref.ensures.value h) standing few)
+    c.deref.ensures.value h) standing few)
     c.few_items_among.ensures.none

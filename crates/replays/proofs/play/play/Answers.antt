@@ -9,7 +9,7 @@ returns-in-Ok-clause-played c =
     let r = shown c.args.replay in
     let o = c.in-Ok.ensures.opened in
     if_ok c.record.result (λ h records. plays-as r o.words c.deref.result.now c.in-Ok.machine.left c.in-Ok.machine.start.items h
-        c.deref.ensures.value o.left
+    c.deref.ensures.value o.left
     o.same_start o.starts records) (c.record.ensures.recorded (plan_in r) (opened_on (plan_in r) o.words) o.shows)
 
 pub returns-in-Ok-clause-refused : goal.returns-in-Ok-clause-refused
@@ -17,5 +17,5 @@ returns-in-Ok-clause-refused c =
     let r = shown c.args.replay in
     let o = c.in-Ok.ensures.opened in
     if_err c.record.result (λ fault h. unplayed-as r o.words c.deref.result.now c.in-Ok.machine.left fault c.deref.ensures.value
-        o.left o.starts h)
+    o.left o.starts h)
     (c.record.ensures.refused (plan_in r) (opened_on (plan_in r) o.words) o.shows)

@@ -25,4 +25,4 @@ returns-clause-refused c plan first shows =
     subst (IsUnrecorded plan c.args.schedule.now first c.args.machine.left) (sym c.schedule_fault.ensures)
     (unrecorded plan c.args.schedule.now first c.args.machine.left stop (is_memory stop.fault) refl
     (stops-at plan c.args.schedule.now first c.args.machine.left stop.item stop.fault c.run.new.self
-        (c.in-Err.ensures.stopped plan first shows)))
+    (c.in-Err.ensures.stopped plan first shows)))

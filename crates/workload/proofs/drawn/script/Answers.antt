@@ -11,4 +11,4 @@ loop-preserved c =
 pub returns : goal.returns
 returns c =
     sym (calls_drawn-none c.args.mix.now c.loop.script.items c.loop.generator (c.args.calls - c.loop.counter) (omega arith))
-        ∙ c.loop.invariant
+    ∙ c.loop.invariant

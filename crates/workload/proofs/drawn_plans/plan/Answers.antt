@@ -9,7 +9,7 @@ from_scripts-requires c =
     let sound = c.in_ok-test_arguments.ensures.sound in
     subst AreTreeCalls (sym c.in_ok-scripts.ensures.drawn)
     (scripts_of-are_scripts c.args.seed c.args.processes c.args.calls c.args.mix.now c.in_ok-test_arguments.ensures.small
-        sound.1 sound.2).calls
+    sound.1 sound.2).calls
 
 -- what fails only where something holds that does not, does not fail
 IfErr-never : {A E : Type 0} (result : Result A E) (P : E → Type 0) (Q : Type 0) → Q → OnErr result (Q → ⊥) → IfErr result P
@@ -23,5 +23,5 @@ returns-clause-refused c =
     (AreFew (map (λ script. script.items) c.in_ok-scripts.scripts.items))
     (subst AreFew (sym c.in_ok-scripts.ensures.drawn)
     (scripts_of-are_scripts c.args.seed c.args.processes c.args.calls c.args.mix.now c.in_ok-test_arguments.ensures.small
-        sound.1 sound.2).few)
+    sound.1 sound.2).few)
     c.from_scripts.ensures.many

@@ -11,5 +11,5 @@ loop-process-preserved c =
     let before = c.loop-process.scripts.items in
     rw (c.in_ok-push.ensures.items, map_push (λ script. script.items) before c.in_ok-script.field-0)
     (scripts-more (script_of c.args.seed c.args.mix.now c.args.calls) (map (λ script. script.items) before) c.in_ok-script.field-0.items p
-        (n - (p + 1)) (n - p)
+    (n - (p + 1)) (n - p)
     c.in_ok-script.ensures (omega arith) ∙ c.loop-process.invariant)

@@ -25,8 +25,8 @@ returns c g words =
     let end : Lcg = (next_word (next_word h).1).1 in
     let remove : next_call half_gets g ≡ (Remove 7, h) =
     calls_by (next_word g).0 (next_word (next_word g).1).0 2707161783 2068313097 h (word_at 0 drawn given words)
-        (word_at 1 drawn given words) in
+    (word_at 1 drawn given words) in
     let get : next_call half_gets h ≡ (Get 5, end) =
     calls_by (next_word h).0 (next_word (next_word h).1).0 3122475824 2211639955 end (word_at 2 drawn given words)
-        (word_at 3 drawn given words) in
+    (word_at 3 drawn given words) in
     ap (λ (d : Call × Lcg). d.0 ∷ (next_call half_gets d.1).0 ∷ []) remove ∙ ap (λ (d : Call × Lcg). Remove 7 ∷ d.0 ∷ []) get

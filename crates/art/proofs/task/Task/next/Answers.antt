@@ -21,7 +21,7 @@ returns-in-OnKey-clause-access c =
 pub returns-in-OnKey-clause-in_table : goal.returns-in-OnKey-clause-in_table
 returns-in-OnKey-clause-in_table c =
     in_table (setting_of c.args.self.now) (at_of c.args.self.now.going) c.next.result c.args.self.now.setting.within.root
-        c.args.self.now.reached
+    c.args.self.now.reached
     (access_going (setting_of c.args.self.now) c.args.self.now.going (OnKey c.in-OnKey.call) c.in-OnKey.is c.next.result c.next.ensures)
 
 pub returns-in-OnScan-clause-access : goal.returns-in-OnScan-clause-access

@@ -10,5 +10,5 @@ invariant_of-self-in-OnScan-clause-keys c =
 pub invariant_of-self-in-OnScan-clause-reached : goal.invariant_of-self-in-OnScan-clause-reached
 invariant_of-self-in-OnScan-clause-reached c =
     scan_still_reached (setting_of c.args.self.now) c.args.self.now.going c.in-OnScan.scan c.ready.new.self c.in-OnScan.is
-        c.args.self.now.keys
+    c.args.self.now.keys
     c.ready.ensures.low c.ready.ensures.high c.ready.ensures.same c.args.self.now.reached

@@ -4,5 +4,12 @@ use Rattle.art_serial.proofs.laws.words.words_are_read_back.Goals as goal
 
 pub returns : goal.returns
 returns c =
-    record { keys4 = keys4_back; keys16 = keys16_back; entries = entries_back; info = info_back; child =
-        child_back; stored = child_of-stored }
+    record {
+      keys4 = keys4_back;
+      keys16 = keys16_back;
+      entries = entries_back;
+      info = info_back;
+      child =
+          child_back;
+      stored = child_of-stored;
+    }

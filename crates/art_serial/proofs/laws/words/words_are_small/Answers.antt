@@ -3,5 +3,11 @@ use Rattle.art_serial.proofs.words.WordLemmas.{entries_below, info_below, child_
 use Rattle.art_serial.proofs.laws.words.words_are_small.Goals as goal
 
 pub returns : goal.returns
-returns c = record { keys4 = keys4_below; keys16 = keys16_below; entries = entries_below; info = info_below; child = child_below;
-    again = again_below }
+returns c = record {
+  keys4 = keys4_below;
+  keys16 = keys16_below;
+  entries = entries_below;
+  info = info_below;
+  child = child_below;
+  again = again_below;
+}

@@ -25,7 +25,7 @@ store-requires c =
     let core = c.args.self.now in
     let me = c.args.place.now.seat.me in
     let next : next_of me.0.view ≡ Some (Makes (Store c.in-Store.word c.in-Store.value)) = c.requires.next
-        ∙ ap (λ a. Some (Makes a)) c.in-Store.is in (
+    ∙ ap (λ a. Some (Makes a)) c.in-Store.is in (
       search rules,
       access-inside core.table.shared.key core.limits _ c.requires.own.setup _ next core.words,
       store-allowed _ core.limits _ _ me c.requires.own.setup _ _ next

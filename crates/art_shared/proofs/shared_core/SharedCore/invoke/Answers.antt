@@ -38,12 +38,12 @@ returns-clause-own c =
 pub returns-clause-invoked : goal.returns-clause-invoked
 returns-clause-invoked c =
     c.fetch_add.ensures.2.1 ∙ ap (λ z. with_asked z.asked z.view c.fetch_add.result) (c.compare_exchange_with.ensures.2.1
-        c.args.call.now refl)
+    c.args.call.now refl)
 
 pub returns-clause-later : goal.returns-clause-later
 returns-clause-later c =
     subst (λ z. AllStamps (λ stamp. stamp < c.fetch_add.result) z.view) (c.compare_exchange_with.ensures.2.1 c.args.call.now refl)
-        c.fetch_add.ensures.2.2
+    c.fetch_add.ensures.2.2
 
 pub invariant_of-place-clause-rising : goal.invariant_of-place-clause-rising
 invariant_of-place-clause-rising c =

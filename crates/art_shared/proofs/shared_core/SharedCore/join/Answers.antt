@@ -17,4 +17,4 @@ join_seat-requires c =
 pub invariant_of-place-clause-rising : goal.invariant_of-place-clause-rising
 invariant_of-place-clause-rising c =
     subst NumbersRise (sym (ap (λ z. z.0.view) c.join_seat.ensures.2))
-        (merged-rises c.args.place.now.seat.me.0.view c.args.other.seat.me.0.view c.args.place.now.rising)
+    (merged-rises c.args.place.now.seat.me.0.view c.args.other.seat.me.0.view c.args.place.now.rising)

@@ -22,5 +22,5 @@ returns-clause-few c =
 pub returns-clause-all : goal.returns-clause-all
 returns-clause-all c =
     subst (λ z. length c.args.place.now.seat.me.0.view.processes ≡ z.processes → Ended z c.args.place.now.seat.me.0.view)
-        c.requires.own.setup
+    c.requires.own.setup
     c.load.ensures.2.3

@@ -22,14 +22,14 @@ history_by_stamp-requires-clause-start c = subst IsStart (sym (c.in_ok-start.ens
 pub history_by_stamp-requires-clause-events : goal.history_by_stamp-requires-clause-events
 history_by_stamp-requires-clause-events c =
     subst (λ es. AreHistoryEvents (events_by_stamp es))
-        (sym (c.in_ok-stamped.ensures ∙ ap (flat_map (λ r. r.log.items)) c.deref.ensures.value))
+    (sym (c.in_ok-stamped.ensures ∙ ap (flat_map (λ r. r.log.items)) c.deref.ensures.value))
     (recorded-history c.args.self.now)
 
 pub returns-clause-history : goal.returns-clause-history
 returns-clause-history c = λ plan s shows.
     subst (λ (h : HistoryView). IfOk c.history_by_stamp.result (λ (found : HistoryView). found ≡ h))
     (ap (λ start. record { start = start; events = events_by_stamp c.in_ok-stamped.stamped.items })
-        (c.in_ok-start.ensures.items ∙ c.deref-2.ensures.value)
+    (c.in_ok-start.ensures.items ∙ c.deref-2.ensures.value)
     ∙ ap (λ events. record { start = start_of c.args.self.now; events = events })
     (ap events_by_stamp (c.in_ok-stamped.ensures ∙ ap (flat_map (λ r. r.log.items)) c.deref.ensures.value)
     ∙ sym (shown-history plan c.args.self.now s shows))) c.history_by_stamp.ensures
@@ -42,7 +42,7 @@ returns-clause-serial c =
     IfOk-weaker c.history_by_stamp.result _ _ (λ (found : HistoryView) is. does-the-map c.serial_is_map.ensures c.args.self.now found
     (λ plan s shows. is
     ∙ ap (λ start. record { start = start; events = events_by_stamp c.in_ok-stamped.stamped.items })
-        (c.in_ok-start.ensures.items ∙ c.deref-2.ensures.value)
+    (c.in_ok-start.ensures.items ∙ c.deref-2.ensures.value)
     ∙ ap (λ events. record { start = start_of c.args.self.now; events = events })
     (ap events_by_stamp (c.in_ok-stamped.ensures ∙ ap (flat_map (λ r. r.log.items)) c.deref.ensures.value)
     ∙ sym (shown-history plan c.args.self.now s shows)))) c.history_by_stamp.ensures
@@ -50,10 +50,10 @@ returns-clause-serial c =
 pub returns-clause-linearizable : goal.returns-clause-linearizable
 returns-clause-linearizable c =
     IfOk-weaker c.history_by_stamp.result _ _ (λ (found : HistoryView) is. is-linearizable c.coupled_is_linearizable.ensures
-        c.optimistic_is_linearizable.ensures c.args.self.now found
+    c.optimistic_is_linearizable.ensures c.args.self.now found
     (λ plan s shows. is
     ∙ ap (λ start. record { start = start; events = events_by_stamp c.in_ok-stamped.stamped.items })
-        (c.in_ok-start.ensures.items ∙ c.deref-2.ensures.value)
+    (c.in_ok-start.ensures.items ∙ c.deref-2.ensures.value)
     ∙ ap (λ events. record { start = start_of c.args.self.now; events = events })
     (ap events_by_stamp (c.in_ok-stamped.ensures ∙ ap (flat_map (λ r. r.log.items)) c.deref.ensures.value)
     ∙ sym (shown-history plan c.args.self.now s shows)))) c.history_by_stamp.ensures

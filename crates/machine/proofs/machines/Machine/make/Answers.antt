@@ -15,7 +15,7 @@ returns-in_err-turn-clause-stopped c = λ plan s shows.
     rw (p.1, p.2)
     (turns-stopped plan c.args.item s _ c.turns.made c.process_of-process.result _ c.turns.self c.turn.new.self h
     ((c.wants.ensures plan s h.state h.shows was).0 c.turns-test.true) c.process_of-process.ensures c.turns.invariant.1
-        c.in_err-turn.ensures.same_left
+    c.in_err-turn.ensures.same_left
     (c.in_err-turn.ensures.kept plan h.state h.shows) (c.in_err-turn.ensures.refused plan h.state h.shows))
 
 pub turns-preserved : goal.turns-preserved
@@ -24,7 +24,7 @@ turns-preserved c = (
       let h = c.turns.invariant.0 plan s shows in
       let was = c.finished-before.ensures plan s shows ∙ ap (λ p. finished_count (slice_get s.processes p)) c.process_of-process.ensures in
       turns-more plan c.args.item s c.turns.made c.turns.self c.turn.new.self h
-          ((c.wants.ensures plan s h.state h.shows was).0 c.turns-test.true)
+      ((c.wants.ensures plan s h.state h.shows was).0 c.turns-test.true)
       (subst (λ p. IsSomeAnd (step plan h.state p) (λ t. Shows plan c.turn.new.self t)) c.process_of-process.ensures
       (c.in_ok-turn.ensures.moved plan h.state h.shows)),
   omega (arith, c.in_ok-turn.ensures.left, c.turns.invariant.1),
@@ -37,7 +37,7 @@ returns-clause-made c = λ plan s shows.
     let was = c.finished-before.ensures plan s shows ∙ ap (λ p. finished_count (slice_get s.processes p)) c.process_of-process.ensures in
     turns-whole plan c.args.item s _ c.turns.made c.turns.self h
     (λ w. let t : c.wants.result ≡ true = (c.wants.ensures plan s h.state h.shows was).1 w in let f = c.turns-test.false in cc)
-        c.turns.invariant.1
+    c.turns.invariant.1
 
 pub returns-in_err-turn-clause-same_start : goal.returns-in_err-turn-clause-same_start
 returns-in_err-turn-clause-same_start c = c.turn.ensures.same_start ∙ c.turns.invariant.2

@@ -11,7 +11,7 @@ pub returns-in-Err-clause-stopped : goal.returns-in-Err-clause-stopped
 returns-in-Err-clause-stopped c = λ plan s shows.
     let h = c.loop-place.invariant.0 plan s shows in
     all-stopped plan c.args.schedule.now c.loop-place.place _ s (turns_left c.args.self.now) c.in-Err.fault
-        c.loop-place.self c.make.new.self h
+    c.loop-place.self c.make.new.self h
     (slice_get-get_or c.args.schedule.now c.loop-place.place _ c.loop-place-test.true)
     (c.in-Err.ensures.stopped plan h.state h.shows)
 
@@ -20,7 +20,7 @@ loop-place-preserved c = (
   λ plan s shows.
       let h = c.loop-place.invariant.0 plan s shows in
       let more = all-more plan (take c.loop-place.place c.args.schedule.now) _ s (turns_left c.args.self.now)
-          c.loop-place.self c.make.new.self h
+      c.loop-place.self c.make.new.self h
       (c.in_default.ensures.made plan h.state h.shows) in
       subst (λ items. HasMadeAll plan items s (turns_left c.args.self.now) c.make.new.self)
       (sym (take_more c.args.schedule.now c.loop-place.place _ c.loop-place-test.true)) more,

@@ -4,7 +4,7 @@ use Rattle.machine.proofs.machines.Machine.wants.Goals as goal
 pub returns-in-End : goal.returns-in-End
 returns-in-End c = λ plan first now shows was.
     wants-end plan c.args.item c.in-End.process first now c.args.made c.args.before c.finished.result
-        (c.finished.ensures plan now shows) was c.in-End.is
+    (c.finished.ensures plan now shows) was c.in-End.is
 
 pub returns-then-finished-before : goal.returns-then-finished-before
 returns-then-finished-before c = λ plan first now shows was.

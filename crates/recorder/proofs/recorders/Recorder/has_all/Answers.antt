@@ -17,7 +17,7 @@ returns c = (
   λ yes. elim c.else-self-gt0.branch [
     | else-self-gt0-via-then-self-gt0+else-passes-from w ↦
         all-there c.args.self.now c.args.passes.now c.requires.own (omega (arith, w.if-passes-from.false, w.from.ensures))
-            (c.has_processes.ensures.0 yes)
+        (c.has_processes.ensures.0 yes)
     | else-self-gt0-via-else-self-gt0 w ↦
         all-idle c.args.self.now c.args.passes.now c.requires.own (omega (arith, w.if-self-gt0.false)) (c.has_processes.ensures.0 yes)
   ],

@@ -23,10 +23,13 @@ history_by_stamp-requires-clause-events c =
 pub returns-clause-history : goal.returns-clause-history
 returns-clause-history c =
     subst (λ events. IfOk c.history_by_stamp.result (λ (h : HistoryView). h ≡ with_no_start events))
-        (same (goal.at.returns-clause-history c).In_ok-stamped)
+    (same (goal.at.returns-clause-history c).In_ok-stamped)
     (subst
-    (λ start. IfOk c.history_by_stamp.result (λ (h : HistoryView). h ≡ record { start = start; events = events_by_stamp
-        c.in_ok-stamped.stamped.items }))
+    (λ start. IfOk c.history_by_stamp.result (λ (h : HistoryView). h ≡ record {
+      start = start;
+      events = events_by_stamp
+          c.in_ok-stamped.stamped.items;
+    }))
     c.new.ensures.items c.history_by_stamp.ensures)
 
 pub returns-clause-well_formed : goal.returns-clause-well_formed

@@ -25,7 +25,7 @@ loop-pass-preserved c =
           ap (λ l. l ++ flat_map stamps_of rest) (c.join.ensures.both.drawn_is ∙ ap (λ s. drawn_by c.loop-pass.hand ++ s) pass.stamps)
           ∙ (append_assoc (drawn_by c.loop-pass.hand) (stamps_of pass) (flat_map stamps_of rest)
           ∙ (ap (λ l. drawn_by c.loop-pass.hand ++ l)
-              (sym (ap (flat_map stamps_of) next ∙ flat_map-cons stamps_of pass rest)) ∙ kept.drawn));
+          (sym (ap (flat_map stamps_of) next ∙ flat_map-cons stamps_of pass rest)) ∙ kept.drawn));
       share =
           omega (
             arith,
@@ -44,11 +44,11 @@ loop-pass-init c =
     let rest = into_iter_items c.into_iter-pass-iterator.result in
     let same = ap (λ i. into_iter_items i) (sym c.into_iter-pass-iterator.ensures.into_iter_gives) in
     let parts : c.args.passes.items ≡ first ∷ rest = sym c.into_iter-passes.ensures.rest
-        ∙ (c.in-Some.ensures.items ∙ ap (λ l. first ∷ l) same) in
+    ∙ (c.in-Some.ensures.items ∙ ap (λ l. first ∷ l) same) in
     let own : All (λ p. source_of p ≡ counter c.args.self.tickets) (first ∷ rest) =
     subst (All (λ p. source_of p ≡ counter c.args.self.tickets)) parts
     (All-weaker (IsPassOf c.args.self) (λ p. source_of p ≡ counter c.args.self.tickets) (λ p h. h.source_is) c.args.passes.items
-        c.requires.own) in
+    c.requires.own) in
     record {
       can_next = tt;
       is_finite = tt;

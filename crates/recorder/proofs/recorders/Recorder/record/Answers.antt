@@ -23,7 +23,7 @@ invariant_of-pass-2-clause-recorded c =
     let counted : c.from.result ≡ cond (is_invocation c.args.event) 1 0 =
     c.from.ensures ∙ (ap bool_byte c.is_invocation-begins.ensures ∙ byte (is_invocation c.args.event)) in
     let kept = IsRecord-push pass.process pass.calls pass.begun pass.has_open pass.log.items pass.recorded c.args.event
-        c.requires.turn c.requires.left
+    c.requires.turn c.requires.left
     c.draw-stamp.result c.requires.process c.requires.sound above in
     rw (longer (goal.at.invariant_of-pass-2-clause-recorded c).In_default-push, counted, c.is_invocation-begins.ensures) kept
 

@@ -65,7 +65,7 @@ returns-clause-linearizable c =
     ∙ sym (logged-history c.args.pass.now.setup e.words (shows c.args.pass.now) c.args.pass.now.runners.items c.requires.own.pass.fit) in
     IfOk-weaker c.history_by_stamp.result _ _ (λ (found : HistoryView) is.
     is-linearizable c.coupled_is_linearizable.ensures c.optimistic_is_linearizable.ensures (opened_for c.args.self.now)
-        (shows c.args.pass.now) e found
+    (shows c.args.pass.now) e found
     (is ∙ (ap (λ start. record { start = start; events = events_by_stamp c.in_ok-stamped.stamped.items }) c.new.ensures.items
-        ∙ ap with_no_start same)))
+    ∙ ap with_no_start same)))
     c.history_by_stamp.ensures

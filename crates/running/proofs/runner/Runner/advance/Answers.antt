@@ -5,8 +5,13 @@ use Rattle.running.proofs.StepLemmas.{ran-step, beside-same, beside-after, told-
 use Rattle.running.proofs.runner.Runner.advance.Goals as goal
 
 pub loop-made-init : goal.loop-made-init
-loop-made-init c = record { own = c.requires.own; first = c.requires.first; beside = beside-same _ _ refl; ran = refl;
-    still = c.requires.open }
+loop-made-init c = record {
+  own = c.requires.own;
+  first = c.requires.first;
+  beside = beside-same _ _ refl;
+  ran = refl;
+  still = c.requires.open;
+}
 
 pub loop-made-preserved : goal.loop-made-preserved
 loop-made-preserved c =

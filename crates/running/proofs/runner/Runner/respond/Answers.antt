@@ -8,7 +8,7 @@ answer-stamp-requires-clause-next c = is-answered _ c.args.number c.args.self.no
 pub returns-clause-first : goal.returns-clause-first
 returns-clause-first c =
     response-first _ c.args.number c.args.self.now c.in-Answered.reply c.requires.first (search rules) _ c.answer-stamp.result
-        c.answer-stamp.ensures.made _ refl
+    c.answer-stamp.ensures.made _ refl
     (search rules) (search rules)
 
 pub returns-clause-told : goal.returns-clause-told
