@@ -1,0 +1,2 @@
+pub mod OpenCalls
+pub mod Alternatives

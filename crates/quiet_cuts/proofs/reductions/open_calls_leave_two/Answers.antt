@@ -1,0 +1,6 @@
+use Rattle.quiet_cuts.proofs.OpenLeaveLemmas.{two_left}
+use Rattle.quiet_cuts.proofs.reductions.open_calls_leave_two.Goals as goal
+
+pub returns : goal.returns
+returns c start m n o front back place call rising rise completed to_m to_n to_o =
+    two_left start m n o front back place call rising rise completed to_m to_n to_o
