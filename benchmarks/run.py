@@ -8,7 +8,7 @@ order of it. In one for `judge` and `segments` the calls overlap, and each has i
 open. One for `search` is one segment without order: some pairs are held, some calls overlap, and then one key is seen
 with what nobody put there. One for `workers` has segments that are equal but for their keys, of many configurations and
 without order. A stream for `follow` is of processes that each begin a call as soon as their last one is answered; it is followed
-from a file, with its calls a second in place of its bytes. `generate` makes plans, and `replay` runs generated plans on both full trees, each call to its end or some turns
+from a file, with its calls a second of a processor in place of its bytes. `generate` makes plans, and `replay` runs generated plans on both full trees, each call to its end or some turns
 at a time, and one call that waits for a lock as long as a machine may live. `record` has threads note calls and answers at
 recorders, beside as many threads that add to one shared word as often; `drive` has them do a plan on each full tree, beside additions
 to one word: `crates/rates` does each, and the time of the same threads with nothing to do is taken off.
@@ -119,11 +119,12 @@ def run(words, text, statuses=(0, 1, 2), program=PROGRAM):
     with tempfile.NamedTemporaryFile() as source:
         source.write(text)
         source.flush()
-        return run_on(words, source.name, statuses, program)
+        seconds, _, peak, answer = run_on(words, source.name, statuses, program)
+    return seconds, peak, answer
 
 
 def run_on(words, path, statuses=(0, 1, 2), program=PROGRAM):
-    """The same of a run on a file."""
+    """The same of a run on a file, with the seconds of a processor behind those on the clock."""
     with open(path, "rb") as source:
         began = time.monotonic()
         process = subprocess.Popen([program, *words], stdin=source, stdout=subprocess.PIPE, stderr=subprocess.DEVNULL)
@@ -131,7 +132,7 @@ def run_on(words, path, statuses=(0, 1, 2), program=PROGRAM):
         _, status, usage = os.wait4(process.pid, 0)
         seconds = time.monotonic() - began
     assert os.WIFEXITED(status) and os.WEXITSTATUS(status) in statuses, status
-    return seconds, usage.ru_maxrss / 1024, answer
+    return seconds, usage.ru_utime + usage.ru_stime, usage.ru_maxrss / 1024, answer
 
 
 def show(name, words, text, wanted):
@@ -303,7 +304,8 @@ def follow():
         with tempfile.NamedTemporaryFile("w+", encoding="utf-8") as file:
             write_stream(file, count, processes, keys, scans)
             file.flush()
-            seconds, peak, answer = min(run_on(["follow"], file.name) for _ in range(3))
+            runs = [run_on(["follow"], file.name) for _ in range(3)]
+        _, seconds, peak, answer = min(runs, key=lambda run: run[1])
         assert answer.startswith(f'{{"calls":{count},'.encode()), answer
         name = f"follow, {count} calls of {processes} on {keys} keys" + (f", {count // scans} scans" if scans else "")
         print(f"{name:<56} {count / seconds:>10,.0f} calls/s {seconds:8.3f} s {peak:8.1f} MiB")
