@@ -1,11 +1,12 @@
 #!/usr/bin/env python3
-"""Runs the program on each example with each of its allocations refused in turn.
+"""Runs the program on each example with each of its allocations refused in turn, and tests of the judge's calls.
 
     tests/refused_allocations.py
 
 Each run has to answer want of memory, or exactly what it answers when nothing is refused. The map that a plan is done at
-refuses a call where memory is refused to it: a history with such calls has to be one of which `judge` says yes. The last
-line counts the examples' command lines that passed and failed.
+refuses a call where memory is refused to it: a history with such calls has to be one of which `judge` says yes. A test compares
+what a public call answers, and may fail for want of memory alone. The last line counts the examples' command lines and the tests
+that passed and failed.
 """
 
 import os
@@ -17,6 +18,17 @@ TOP = os.path.dirname(os.path.dirname(os.path.abspath(__file__)))
 PROGRAM = os.path.join(TOP, "crates", "bench", "out", "bench")
 EXAMPLES = os.path.join(TOP, "examples")
 WANT_OF_MEMORY = (4, b"", b"memory\n")
+
+# Of each public call of the judge a test that compares its answers: judge_alone and report; search_all, by up to 64 workers, four
+# among them, on three histories; search; merge.
+TESTS = (
+    ("verdict_tests", "verdicts::histories_are_judged_by_one_thread"),
+    ("verdict_tests", "searches_by_workers::equal_answers_for_every_number_of_workers"),
+    ("layer_tests", "searches::whole_histories_are_searched"),
+    ("layer_tests", "merges::orders_of_segments_are_merged"),
+)
+# What a test prints that fails for want of memory.
+WANTING = (b"error: Memory", b"error: AllocError")
 
 
 def command_lines():
@@ -39,6 +51,21 @@ def answer(words, text, environment):
     return ran.returncode, ran.stdout, ran.stderr
 
 
+def tests_of(crate):
+    """The program of the tests of a crate, built where that is still to do."""
+    program = os.path.join(TOP, "crates", crate, "out", crate + "_tests")
+    if not os.path.exists(program):
+        subprocess.run(["rt", "test"], cwd=os.path.join(TOP, "crates", crate), stdout=subprocess.DEVNULL, check=True)
+    return program
+
+
+def fails_otherwise(program, test, environment):
+    """Whether a test fails, and not for want of memory."""
+    ran = subprocess.run([program, test], capture_output=True, env=environment, timeout=60, check=False)
+    printed = (ran.stdout + ran.stderr).splitlines()
+    return ran.returncode != 0 and not any(line in WANTING for line in printed)
+
+
 def is_linearizable(words, got):
     """Whether a drive has written a history, of which `judge` says yes."""
     status, output, faults = got
@@ -52,6 +79,7 @@ def main():
     with open(os.path.join(EXAMPLES, "no-events.json"), "rb") as source:
         subprocess.run([os.path.join(TOP, "bench"), "draw"], stdin=source, stdout=subprocess.DEVNULL, check=True)
     passed = failed = runs = 0
+    sweeps = []
     with tempfile.TemporaryDirectory() as folder:
         library = os.path.join(folder, "refuse.so")
         source = os.path.join(TOP, "tests", "refuse.c")
@@ -60,23 +88,36 @@ def main():
         mark = os.path.join(folder, "refused")
         for text, words in command_lines():
             wanted = answer(words, text, {})
+
+            def is_wrong(environment, wanted=wanted, text=text, words=words):
+                got = answer(words, text, environment)
+                return got not in (wanted, WANT_OF_MEMORY) and not is_linearizable(words, got)
+
+            sweeps.append(([os.path.basename(text), *words], is_wrong))
+        for crate, test in TESTS:
+            program = tests_of(crate)
+
+            def is_wrong(environment, program=program, test=test):
+                return fails_otherwise(program, test, environment)
+
+            sweeps.append(([crate, test], is_wrong))
+        for name, is_wrong in sweeps:
             wrong = []
             number = 0
             while True:
                 number += 1
                 environment = {"LD_PRELOAD": library, "REFUSE": str(number), "REFUSED": mark}
-                got = answer(words, text, environment)
+                if is_wrong(environment):
+                    wrong.append(number)
                 runs += 1
-                if got not in (wanted, WANT_OF_MEMORY) and not is_linearizable(words, got):
-                    wrong.append((number, got))
                 if not os.path.exists(mark):
                     break
                 os.remove(mark)
             if number == 1:
-                wrong.append((0, "no allocation was refused"))
+                wrong.append("no allocation was refused")
             if wrong:
                 failed += 1
-                print(os.path.basename(text), *words, wrong[:3])
+                print(*name, wrong[:3])
             else:
                 passed += 1
     print(f"{runs} runs with a refused allocation")

@@ -19,7 +19,8 @@ pub(crate) struct Entered {
 /// The pass's process enters the gate, with its number.
 pub(crate) fn enter<G: Gate>(gate: &G, pass: Pass) -> Entered
     requires { IsPass pass }
-    ensures { result.pass ≡ pass }
+    ensures same { result.pass ≡ pass }
+    ensures passed { G.was_passed gate.now (least_process (shows pass)) }
 {
     gate.enter(usize::from(pass.process()));
     Entered { pass }

@@ -3,12 +3,19 @@ use Rattle.std.specs.Prelude.{◌≡◌, ◌⊎◌}
 use Rattle.events.specs.declared.event.Call.{Call}
 use Rattle.events.specs.declared.event.Reply.{Reply}
 use Rattle.events.specs.declared.event.Reply.TheVariants.{Refused}
-use Rattle.map_object.specs.MapObject.{Contents, reply_to, after}
+use Rattle.map_object.specs.MapObject.{Contents, IsRising, reply_to, after}
+use Rattle.map_object.specs.Memory.{TakesMemory}
 
--- the map did the call and answered it, or it refused the call and nothing changed
+-- The map did the call and answered it; or it refused the call and nothing changed, and this is a scan or an insert at a new key: the calls
+-- that take memory, of which scans alone may list too many pairs.
 abbrev pub IsDoneOrRefused : Contents → Call → Reply → Contents → Type 0
-IsDoneOrRefused old call reply new = ((reply ≡ reply_to old call) × (new ≡ after old call)) ⊎ ((reply ≡ Refused) × (new ≡ old))
+IsDoneOrRefused old call reply new =
+    ((reply ≡ reply_to old call) × (new ≡ after old call)) ⊎ ((reply ≡ Refused) × TakesMemory old call × (new ≡ old))
 
--- some map answers the call so, or it is refused
-abbrev pub IsAnswerOf : Call → Reply → Type 0
-IsAnswerOf call reply = (old : Contents) × (new : Contents) × IsDoneOrRefused old call reply new
+-- a map with rising keys does the call so, and has rising keys then
+pub record IsAnswerOf (call : Call) (reply : Reply) : Type 0 where
+  pub old : Contents
+  pub new : Contents
+  pub rising : IsRising old
+  pub rises : IsRising new
+  pub done : IsDoneOrRefused old call reply new

@@ -3,6 +3,7 @@ ghost use Rattle.std.specs.Prelude.{◌≡◌, ◌<◌, ◌≤◌};
 ghost use Rattle.events.specs.declared.event.Reply.TheVariants.{Refused};
 ghost use Rattle.events.specs.Histories.{pair_count};
 ghost use Rattle.events.specs.Limits.{pair_limit};
+ghost use Rattle.map_object.specs.MapObject.{IsRising};
 ghost use Rattle.locked_map.specs.Answers.{IsAnswerOf, IsDoneOrRefused};
 
 use events::{Call, MAX_PAIRS, Reply};
@@ -12,7 +13,7 @@ use std::alloc::Global;
 use std::sync::{Mutex, Wait};
 
 /// A sorted map under a lock. It starts empty. A call is refused, and changes nothing, where memory was wanted or where
-/// a scan would list more than `MAX_PAIRS` pairs.
+/// a scan would list more than `MAX_PAIRS` pairs; so a get, a remove, a replace and an insert at a key that is there never are.
 #[derive(Drop)]
 pub struct LockedMap<'a, R: Wait> {
     rt: &'a R,
@@ -45,11 +46,23 @@ impl<'a, R: Wait> Subject for LockedMap<'a, R> {
 fn answer(alloc: Global, map: &mut SortedMap, call: &Call) -> Reply
     ensures short { pair_count result ≤ pair_limit }
     ensures done { IsDoneOrRefused map.old call.now result map.new }
+    ensures rising { IsRising map.old }
+    ensures rises { IsRising map.new }
 {
-    match map.step(alloc, call) {
+    are_rising(map);
+    let reply = match map.step(alloc, call) {
         Err(_) => Reply::Refused,
         Ok(reply) => within_limit(reply),
-    }
+    };
+    are_rising(map);
+    reply
+}
+
+/// Its keys rise, by which a map is made: it costs nothing.
+fn are_rising(map: &SortedMap)
+    ensures { IsRising map.now }
+{
+    let _pairs = map.pairs();
 }
 
 /// The reply, or that the call is refused where it lists too many pairs: only a scan's does, which changes nothing.

@@ -1,6 +1,7 @@
 // The sorted map.
-ghost use Rattle.std.specs.Prelude.{◌≡◌, ◌↔◌, ◌++◌, ◌∷◌, [], IsTrue, IfOk, IfErr, OnOk, OnErr};
+ghost use Rattle.std.specs.Prelude.{◌≡◌, ◌↔◌, ◌++◌, ◌∷◌, [], IsTrue, IfOk, IfErr, OnOk, OnErr, None};
 ghost use Rattle.map_object.specs.MapObject.{IsRising, IsLegalReply, value_at, below, above, within, reply_to, after};
+ghost use Rattle.map_object.specs.Memory.{TakesMemory};
 ghost use Rattle.map_object.specs.Places.{IsAt, IsGapFor};
 ghost use Rattle.events.specs.declared.event.Call.TheVariants.{Replace};
 
@@ -71,13 +72,14 @@ impl SortedMap {
         }
     }
 
-    /// Does the call and answers it, never by `Refused`. On `Memory`, which only an insert or a scan can
+    /// Does the call and answers it, never by `Refused`. On `Memory`, which only a scan or an insert at a new key can
     /// answer, nothing has changed. Each call searches by halves; an insert and a remove also move the
     /// pairs above the key, and a scan copies those that it lists.
     pub fn step(&mut self, alloc: Global, call: &Call) -> Result<Reply, Memory>
         ensures reply { IfOk result (λ reply. reply ≡ reply_to self.old call.now) }
         ensures after { OnOk result (self.new ≡ after self.old call.now) }
         ensures unchanged { OnErr result (self.new ≡ self.old) }
+        ensures wanting { OnErr result (TakesMemory self.old call.now) }
     {
         match *call {
             Call::Get(key) => Ok(value_reply(self.value(key))),
@@ -114,6 +116,7 @@ impl SortedMap {
         ensures after { OnOk result
             (self.new ≡ below key self.old ++ (key, value) ∷ above key self.old) }
         ensures unchanged { OnErr result (self.new ≡ self.old) }
+        ensures wanting { OnErr result (value_at self.old key ≡ None) }
     {
         match self.place(key) {
             Ok(at) => {

@@ -76,11 +76,11 @@ fn gate_two_workers(rt: HostRuntime) -> Result<(), Fail> {
     let words = ["bench", "judge", "--workers", "2"];
     let (met, status, output) = met_at(&rt, alloc, &words, TWO_KEYS)?;
     assert_eq!(rt; (met, status), (2, 0), "both have seen the other");
-    assert!(rt; output.as_slice() == b"{\"order\":[0,1],\"verdict\":\"yes\"}\n");
+    assert!(rt; output.as_slice() == b"{\"order\":[0,1],\"verdict\":\"yes\"}\n".as_slice());
     let words = ["bench", "locate", "--workers", "2"];
     let (met, status, output) = met_at(&rt, alloc, &words, LOST_AT_LAST)?;
     assert_eq!(rt; (met, status), (8, 1), "both, at each of four verdicts");
-    assert!(rt; output.as_slice() == b"{\"call\":3,\"event\":7,\"verdict\":\"no\"}\n");
+    assert!(rt; output.as_slice() == b"{\"call\":3,\"event\":7,\"verdict\":\"no\"}\n".as_slice());
     let words = ["bench", "draw", "--workers", "2"];
     let (met, status, _drawing) = met_at(&rt, alloc, &words, LOST_AT_LAST)?;
     assert_eq!(rt;
