@@ -5,8 +5,8 @@
 
 A text is cut, or bytes of it are doubled, swapped or flipped, up to three times; a fixed seed chooses how. Each run has
 to end with a status from 0 to 3 and to write one line on standard output, or for a refused text two on standard error: the
-line of a fault that docs/FORMATS.md names, and the one that says what was wanted. What is drawn is one SVG, and a no of a stream
-has a second line. The last line counts the texts that passed and
+line of a fault that docs/FORMATS.md names, and the one that says what was found and wanted. What is drawn is one SVG, and a no of a
+stream has a second line. The last line counts the texts that passed and
 failed.
 """
 
@@ -29,7 +29,7 @@ NOTHING = rb""
 LINE = rb"[^\n]+\n"
 # Behind a stream that goes wrong stands a small history.
 LINE_OR_TWO = rb"([^\n]+\n){1,2}"
-WANTED = rb"wanted [ -~]+\n"
+WANTED = rb"(found [ -~]{0,82}; )?wanted [ -~]+\n"
 PICTURE = rb"<svg [^>]*>\n(?:[^\n]+\n)+</svg>\n"
 REFUSED_HISTORY = (
     rb"history: ([1-3] (TooLong|NotJson|Version)|5 TooMany|[46] (Shape|NotWellFormed) at event [0-9]+"

@@ -1,5 +1,6 @@
 -- The text of a history that was read up to one byte more than a text may have tells all that is to be told of the whole.
-use Rattle.std.proofs.Common.{ℕ, ◌+◌, ◌<◌, ◌≤◌, List, length, take, subst, arith, length-take}
+use Rattle.std.proofs.Common.{◌≡◌, ℕ, ◌+◌, ◌<◌, ◌≤◌, List, length, take, Option, refl, ap, subst, arith, length-take}
+use Rattle.serde_json.specs.Data.{Data}
 use Rattle.events.specs.HistoryView.{HistoryView}
 use Rattle.events.specs.declared.fault.HistoryFault.{HistoryFault}
 use Rattle.events.specs.declared.fault.HistoryFault.TheVariants as faults
@@ -10,6 +11,7 @@ use Rattle.judge.specs.Judged.{IsJudged}
 use Rattle.outcomes.specs.declared.outcome.Answer.{Answer}
 use Rattle.outcomes.specs.declared.outcome.Answer.TheVariants.{Yes, No, Undecided}
 use Rattle.outcomes.proofs.WholeText.{same_text}
+use Rattle.history_engines.specs.Refusals.{found_in, IsTextOfFound}
 use Rattle.history_engines.specs.Answers.{IsTextOf, IsHistoryRefusal, IsCheckAnswer, IsJudgeAnswer}
 
 -- a history that the text read spells is the one of the whole
@@ -41,10 +43,26 @@ IsTextFault-whole text (faults.NotWellFormed place) h = whole text (faults.NotWe
 IsTextFault-whole text (faults.Start pair) h = whole text (faults.Start pair) h.1.fits h
 IsTextFault-whole text faults.Memory h = tt
 
+-- what stands at the place of a fault of the text read stands there in the whole
+found-whole : (text : List ℕ) (fault : HistoryFault) → IsTextFault (take (text_limit + 1) text) fault
+    → found_in (take (text_limit + 1) text) fault ≡ found_in text fault
+found-whole text faults.TooLong h = refl
+found-whole text faults.NotJson h = refl
+found-whole text faults.Version h = refl
+found-whole text (faults.Shape place) h = ap (λ t. found_in t (faults.Shape place)) (same_text text_limit text h.1.fits)
+found-whole text faults.TooMany h = refl
+found-whole text (faults.NotWellFormed place) h = ap (λ t. found_in t (faults.NotWellFormed place)) (same_text text_limit text h.1.fits)
+found-whole text (faults.Start pair) h = ap (λ t. found_in t (faults.Start pair)) (same_text text_limit text h.1.fits)
+found-whole text faults.Memory h = refl
+
 -- a refusal of the text read is one of the whole
 pub IsHistoryRefusal-whole : (text bytes : List ℕ) → IsHistoryRefusal (take (text_limit + 1) text) bytes → IsHistoryRefusal text bytes
 IsHistoryRefusal-whole text bytes h =
-    (h.0, record { refused = IsTextFault-whole text h.0 h.1.refused; not_memory = h.1.not_memory }, h.2)
+    (
+      h.0,
+      record { refused = IsTextFault-whole text h.0 h.1.refused; not_memory = h.1.not_memory },
+      (h.2.0, subst (λ (d : Option Data). IsTextOfFound d h.2.0) (found-whole text h.0 h.1.refused) h.2.1, h.2.2),
+    )
 
 -- an answer of `check` to the text read is one to the whole
 pub IsCheckAnswer-whole : (order text : List ℕ) (answer : Answer) (bytes : List ℕ)

@@ -1,3 +1,5 @@
+pub mod Refusals
+pub mod RefusalLaws
 pub mod Answers
 pub mod Outcomes
 pub mod LocateAnswers

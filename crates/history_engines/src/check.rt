@@ -6,6 +6,7 @@ ghost use Rattle.history_engines.specs.Outcomes.{IsCheckOutcome};
 ghost use Rattle.outcomes.specs.Outcomes.{IsTextOutcome};
 ghost use Rattle.outcomes.specs.Runs.{IsRun};
 
+use crate::refusals::refused_text;
 use certificate::check;
 use history_text::{MAX_TEXT, read_history};
 use outcomes::{Answer, Outcome, text_from, write_outcome};
@@ -41,7 +42,7 @@ pub fn check_outcome(alloc: Global, text: &[u8], order: &[u32]) -> Outcome
 {
     let history = match read_history(alloc, text) {
         Ok(history) => history,
-        Err(fault) => return Outcome::of_history_fault(alloc, &fault),
+        Err(fault) => return refused_text(alloc, text, &fault),
     };
     match check(alloc, &history, order) {
         Ok(()) => Outcome::answered(Answer::Yes, String::from_str(alloc, "ok\n")),

@@ -3,12 +3,16 @@
 #![tactic(auto)]
 
 mod check;
+mod laws;
 mod location;
+mod refusals;
 #[cfg(test)]
 mod tests;
 mod verdict;
 pub mod worked_texts;
 
 pub use check::{check_outcome, run_check};
+pub use laws::faults_are_found;
 pub use location::{locate_outcome, locate_outcome_alone, run_locate};
+pub use refusals::refused_text;
 pub use verdict::{answer_of, judge_outcome, judge_outcome_alone, run_judge};

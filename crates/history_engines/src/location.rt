@@ -12,6 +12,7 @@ ghost use Rattle.outcomes.specs.Runs.{IsRun};
 ghost use Rattle.pool.specs.Limits.{worker_limit};
 ghost use Rattle.search.specs.Limits.{budget_limit};
 
+use crate::refusals::refused_text;
 use events::Memory;
 use history_text::{MAX_TEXT, read_history};
 use locating::{Location, locate, locate_alone, location_line};
@@ -67,7 +68,7 @@ pub fn locate_outcome<R: Threads + Sync, G: Gate + Sync>(
 {
     match read_history(alloc, text) {
         Ok(history) => outcome_of(alloc, locate(rt, alloc, &history, budget, workers, gate)),
-        Err(fault) => Outcome::of_history_fault(alloc, &fault),
+        Err(fault) => refused_text(alloc, text, &fault),
     }
 }
 
@@ -78,7 +79,7 @@ pub fn locate_outcome_alone(alloc: Global, text: &[u8], budget: u32) -> Outcome
 {
     match read_history(alloc, text) {
         Ok(history) => outcome_of(alloc, locate_alone(alloc, &history, budget)),
-        Err(fault) => Outcome::of_history_fault(alloc, &fault),
+        Err(fault) => refused_text(alloc, text, &fault),
     }
 }
 

@@ -98,57 +98,115 @@ fn refused_texts(rt: HostRuntime) -> Result<(), Fail> {
         (
             r#"{"answer":null,"process":1}"#,
             "history: 6 NotWellFormed at event 0\n",
+            r#"{"answer":null,"process":1}"#,
             TURN,
         ),
         (
             r#"{"invoke":["scan",2,1],"process":0}"#,
             "history: 4 Shape at event 0\n",
+            r#"{"invoke":["scan",2,1],"process":0}"#,
             EVENT,
         ),
         (
             r#"{"invoke":["get",5],"process":64}"#,
             "history: 5 TooMany\n",
+            "",
             LIMITS,
         ),
         (
             r#"{"invoke":["scan",2,1],"process":64}"#,
             "history: 4 Shape at event 0\n",
+            r#"{"invoke":["scan",2,1],"process":64}"#,
             EVENT,
         ),
         (
             r#"{"answer":null,"process":64}"#,
             "history: 5 TooMany\n",
+            "",
             LIMITS,
         ),
         (
             r#"{"invoke":["get",-1],"process":0}"#,
             "history: 4 Shape at event 0\n",
+            r#"{"invoke":["get",-1],"process":0}"#,
             EVENT,
         ),
         (
             r#"{"invoke":["get","5"],"process":0}"#,
             "history: 4 Shape at event 0\n",
+            r#"{"invoke":["get","5"],"process":0}"#,
             EVENT,
         ),
         (
             r#"{"invoke":["get",5],"process":0,"time":1}"#,
             "history: 4 Shape at event 0\n",
+            r#"{"invoke":["get",5],"process":0,"time":1}"#,
             EVENT,
         ),
         (
             r#"{"invoke":["get",5],"process":0},{"invoke":["get",5],"process":0}"#,
             "history: 6 NotWellFormed at event 1\n",
+            r#"{"invoke":["get",5],"process":0}"#,
             TURN,
         ),
     ];
-    for (events, fault, wanted) in events {
+    for (events, fault, found, wanted) in events {
         let text = format!(in alloc; "{{\"events\":[{events}],\"version\":1}}")?;
-        refuses(&rt, alloc, text.as_bytes(), fault, wanted)?;
+        let shown = if found.is_empty() {
+            String::from_str(alloc, wanted)?
+        } else {
+            format!(in alloc; "found {found}; {wanted}")?
+        };
+        refuses(&rt, alloc, text.as_bytes(), fault, &shown)?;
     }
     let text = INSERT_THEN_GET.as_bytes();
     for end in 0..text.len() {
         refuses(&rt, alloc, &text[..end], "history: 2 NotJson\n", JSON)?;
     }
+    Ok(())
+}
+
+// Of what stands in the place of a fault 80 bytes are shown, and of a byte that is no printable ASCII a question mark.
+#[test]
+fn shown_events(rt: HostRuntime) -> Result<(), Fail> {
+    let alloc = rt.alloc();
+    for (event, found) in [
+        (
+            r#" { "process" : 0 , "invoke" : [ "get" , 1.5 ] } "#,
+            r#"{"invoke":["get",1.5],"process":0}"#,
+        ),
+        (r#""\u00e9 \t~""#, r#""?? \t~""#),
+        (
+            r#""1234567890123456789012345678901234567890123456789012345678901234567890123456789""#,
+            r#""1234567890123456789012345678901234567890123456789012345678901234567890123456789.."#,
+        ),
+        (
+            r#""123456789012345678901234567890123456789012345678901234567890123456789012345678""#,
+            r#""123456789012345678901234567890123456789012345678901234567890123456789012345678""#,
+        ),
+    ] {
+        let text = format!(in alloc;
+            "{{\"version\":1,\"events\":[{{\"process\":0,\"invoke\":[\"get\",5]}},{event}]}}"
+        )?;
+        let shown = format!(in alloc; "found {found}; {EVENT}")?;
+        refuses(
+            &rt,
+            alloc,
+            text.as_bytes(),
+            "history: 4 Shape at event 1\n",
+            &shown,
+        )?;
+    }
+    let text = r#"{"version":2,"start":[[5,7],[5,8]],"events":[]}"#;
+    let shown = "found [5,8]; wanted [K,V] with K above that of the pair before; \
+        numbers are from 0 to 18446744073709551615\n";
+    refuses(
+        &rt,
+        alloc,
+        text.as_bytes(),
+        "history: 8 Start at pair 1\n",
+        shown,
+    )?;
     Ok(())
 }
 

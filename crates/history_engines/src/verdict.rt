@@ -9,6 +9,7 @@ ghost use Rattle.outcomes.specs.Runs.{IsRun};
 ghost use Rattle.pool.specs.Limits.{worker_limit};
 ghost use Rattle.search.specs.Limits.{budget_limit};
 
+use crate::refusals::refused_text;
 use history_text::MAX_TEXT;
 use judge::{JudgeFault, Verdict, judge_text, judge_text_alone};
 use outcomes::{Answer, Outcome, line_of, text_from, write_outcome};
@@ -62,7 +63,11 @@ pub fn judge_outcome<R: Threads + Sync, G: Gate + Sync>(
     requires workers { (1 ≤ workers) × (workers ≤ worker_limit) }
     ensures { IsTextOutcome (IsJudgeAnswer budget) IsHistoryRefusal (Some text.now) result }
 {
-    outcome_of(alloc, judge_text(rt, alloc, text, budget, workers, gate))
+    outcome_of(
+        alloc,
+        text,
+        judge_text(rt, alloc, text, budget, workers, gate),
+    )
 }
 
 /// The same as `judge_outcome`, found by one thread: it starts no thread and waits for nobody.
@@ -70,18 +75,18 @@ pub fn judge_outcome_alone(alloc: Global, text: &[u8], budget: u32) -> Outcome
     requires { (1 ≤ budget) × (budget ≤ budget_limit) }
     ensures { IsTextOutcome (IsJudgeAnswer budget) IsHistoryRefusal (Some text.now) result }
 {
-    outcome_of(alloc, judge_text_alone(alloc, text, budget))
+    outcome_of(alloc, text, judge_text_alone(alloc, text, budget))
 }
 
 /// How the judge's answer to a text comes out.
-fn outcome_of(alloc: Global, judged: Result<(Verdict, String), JudgeFault>) -> Outcome
-    ensures { (budget : ℕ) (text : List ℕ) → IfOk judged (λ answer. IsJudged budget text answer.0 (string_bytes answer.1))
-        → IfErr judged (IsUnjudged text)
-        → IsTextOutcome (IsJudgeAnswer budget) IsHistoryRefusal (Some text) result }
+fn outcome_of(alloc: Global, text: &[u8], judged: Result<(Verdict, String), JudgeFault>) -> Outcome
+    ensures { (budget : ℕ) → IfOk judged (λ answer. IsJudged budget text.now answer.0 (string_bytes answer.1))
+        → IfErr judged (IsUnjudged text.now)
+        → IsTextOutcome (IsJudgeAnswer budget) IsHistoryRefusal (Some text.now) result }
 {
     match judged {
         Ok((verdict, report)) => Outcome::answered(answer_of(&verdict), line_of(report)),
-        Err(JudgeFault::History(fault)) => Outcome::of_history_fault(alloc, &fault),
+        Err(JudgeFault::History(fault)) => refused_text(alloc, text, &fault),
         Err(JudgeFault::Memory) => Outcome::Memory,
     }
 }

@@ -1,5 +1,6 @@
 pub mod Lines
 pub mod Wanted
+pub mod Found
 pub mod Statuses
 pub mod Ends
 pub mod Outcomes

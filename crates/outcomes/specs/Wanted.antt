@@ -2,7 +2,7 @@
 use Rattle.std.specs.Prelude.{ℕ, List, [], ◌++◌, codes}
 use Rattle.events.specs.declared.fault.HistoryFault.{HistoryFault}
 use Rattle.events.specs.declared.fault.HistoryFault.TheVariants as histories
-use Rattle.outcomes.specs.Lines.{line, history_fault_line}
+use Rattle.outcomes.specs.Lines.{line}
 
 -- the same lines, with one more that says what was wanted
 abbrev pub with_wanted : List ℕ → List ℕ → List ℕ
@@ -41,7 +41,3 @@ history_wanted histories.TooMany =
 history_wanted (histories.NotWellFormed event) = turn_wanted
 history_wanted (histories.Start pair) = pair_wanted
 history_wanted histories.Memory = []
-
--- the lines of a fault of a history text
-abbrev pub history_fault_lines : HistoryFault → List ℕ
-history_fault_lines fault = with_wanted (history_fault_line fault) (history_wanted fault)

@@ -3,6 +3,7 @@
 #![tactic(auto)]
 
 mod ends;
+mod found;
 mod lines;
 mod outcome;
 #[cfg(test)]
@@ -10,6 +11,9 @@ mod tests;
 mod wanted;
 
 pub use ends::{text_from, write_outcome};
-pub use lines::line_of;
+pub use found::push_found;
+pub use lines::{history_fault_line, line_of};
 pub use outcome::{Answer, FAILED, MEMORY, NO, Outcome, REFUSED, UNDECIDED, WORDS, YES};
-pub use wanted::{event_wanted, json_wanted, length_wanted, pair_wanted, push_wanted, turn_wanted};
+pub use wanted::{
+    event_wanted, history_wanted, json_wanted, length_wanted, pair_wanted, push_wanted, turn_wanted,
+};

@@ -1,9 +1,7 @@
 // The lines that the program writes.
 ghost use Rattle.std.specs.Prelude.{◌≡◌, IfOk, string_bytes};
 ghost use Rattle.outcomes.specs.Lines.{line, order_fault_line, history_fault_line};
-ghost use Rattle.outcomes.specs.Wanted.{history_fault_lines};
 
-use crate::wanted::{history_wanted, push_wanted};
 use certificate::OrderFault;
 use events::HistoryFault;
 use std::alloc::{AllocError, Global};
@@ -30,15 +28,6 @@ pub fn order_fault_line(alloc: Global, fault: &OrderFault) -> Result<String, All
         OrderFault::Missing { call } => format!(in alloc; "fault: 5 Missing call {call}\n"),
         OrderFault::Memory => String::from_str(alloc, "memory\n"),
     }
-}
-
-/// Why a history text was refused, and what was wanted.
-pub fn history_fault_lines(alloc: Global, fault: &HistoryFault) -> Result<String, AllocError>
-    ensures { IfOk result (λ lines. string_bytes lines ≡ history_fault_lines fault.now) }
-{
-    let mut lines = history_fault_line(alloc, fault)?;
-    push_wanted(&mut lines, history_wanted(fault))?;
-    Ok(lines)
 }
 
 /// Why a history text was refused.

@@ -1,11 +1,10 @@
 // How a run comes out, before anything is written.
 ghost use Rattle.std.specs.Prelude.{◌≡◌, MatchResult};
-ghost use Rattle.outcomes.specs.FaultOutcomes.{IsHistoryFaultOutcome, IsOrderFaultOutcome};
+ghost use Rattle.outcomes.specs.FaultOutcomes.{IsOrderFaultOutcome};
 ghost use Rattle.outcomes.specs.Statuses.{answer_status};
 
-use crate::lines::{history_fault_lines, order_fault_line};
+use crate::lines::order_fault_line;
 use certificate::OrderFault;
-use events::HistoryFault;
 use std::alloc::{AllocError, Global};
 
 /// The exit status of an answer that is yes, `ok`, or a text.
@@ -89,16 +88,6 @@ impl Outcome {
         match lines {
             Ok(lines) => Outcome::Refused(lines),
             Err(_) => Outcome::Memory,
-        }
-    }
-
-    /// The refusal of a text that spells no history, or want of memory.
-    pub fn of_history_fault(alloc: Global, fault: &HistoryFault) -> Outcome
-        ensures { IsHistoryFaultOutcome fault.now result }
-    {
-        match fault {
-            HistoryFault::Memory => Outcome::Memory,
-            _ => Outcome::refused(history_fault_lines(alloc, fault)),
         }
     }
 

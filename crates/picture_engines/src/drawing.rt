@@ -15,7 +15,7 @@ ghost use Rattle.pool.specs.Limits.{worker_limit};
 ghost use Rattle.search.specs.Limits.{budget_limit};
 
 use events::{History, Memory};
-use history_engines::answer_of;
+use history_engines::{answer_of, refused_text};
 use history_text::{MAX_TEXT, read_history};
 use judge::{Verdict, judge, judge_alone};
 use locating::{Location, locate, locate_alone};
@@ -77,7 +77,7 @@ pub fn draw_outcome<R: Threads + Sync, G: Gate + Sync>(
 {
     match read_history(alloc, text) {
         Ok(history) => outcome_of(drawing_of(rt, alloc, &history, budget, workers, view, gate)),
-        Err(fault) => Outcome::of_history_fault(alloc, &fault),
+        Err(fault) => refused_text(alloc, text, &fault),
     }
 }
 
@@ -88,7 +88,7 @@ pub fn draw_outcome_alone(alloc: Global, text: &[u8], budget: u32) -> Outcome
 {
     match read_history(alloc, text) {
         Ok(history) => outcome_of(drawing_alone(alloc, &history, budget)),
-        Err(fault) => Outcome::of_history_fault(alloc, &fault),
+        Err(fault) => refused_text(alloc, text, &fault),
     }
 }
 

@@ -42,7 +42,7 @@ behind_text x count =
 
 -- a mark at each end at which there is more
 abbrev pub with_before : List ℕ → ℕ → ℕ → List ℕ
-with_before text count bottom = if count == 0 then text else text ++ line_text 90 bottom ++ before_text count
+with_before text count bottom = if count == 0 then text else text ++ line_text 84 bottom ++ before_text count
 
 abbrev pub with_behind : List ℕ → ℕ → ℕ → ℕ → List ℕ
 with_behind text x count bottom = if count == 0 then text else text ++ line_text x bottom ++ behind_text x count

@@ -62,7 +62,7 @@ fn push_before(out: &mut String, count: usize, bottom: u128) -> Result<(), Memor
     if count == 0 {
         return Ok(());
     }
-    push_line(out, 90, bottom)?;
+    push_line(out, 84, bottom)?;
     write!(
         out,
         "<text class='note' x='96' y='66'>&#8592; {count} more columns</text>\n"

@@ -6,3 +6,4 @@ mod MarkLemmas
 mod FrontLemmas
 mod RankLemmas
 mod WindowLemmas
+mod InsideLemmas

@@ -1,6 +1,6 @@
 -- Columns that are counted anew: they keep their order, and each has a place of its own.
-use Rattle.std.proofs.Common.{◌≡◌, ℕ, suc, ◌+◌, ◌<◌, ◌≤◌, Bool, true, false, cond, List, [], ◌∷◌, length, inl, inr, refl, arith}
-use Rattle.std.specs.Prelude.{nat_lt, filter, count_by, Contains}
+use Rattle.std.proofs.Common.{◌≡◌, ℕ, ◌+◌, ◌<◌, ◌≤◌, Bool, true, false, cond, List, [], ◌∷◌, length, inl, inr, refl, arith}
+use Rattle.std.specs.Prelude.{filter, Contains}
 use Rattle.std.proofs.lemmas.Bool.{lt-ltb, le-ltb, ltb-true}
 use Rattle.std.proofs.lemmas.List.Sums.{length-filter, count_by-le-length}
 use Rattle.list_laws.proofs.Lists.{Contains-nil, Contains-cases}

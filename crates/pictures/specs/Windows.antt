@@ -1,12 +1,13 @@
 -- The part of a picture that a view shows: a window of the columns of the calls of which the verdict speaks.
-use Rattle.std.specs.Prelude.{◌≡◌, ℕ, ◌+◌, ◌-◌, ◌*◌, ◌/◌, ◌==◌, ◌<◌, ◌≤◌, Bool, true, false, not, ◌&&◌, ◌||◌, nat_lt, nat_le, if◌then◌else◌, min}
-use Rattle.std.specs.Prelude.{List, [], ◌∷◌, ◌++◌, length, map, filter, count_by, position, Option, Some, None, option_map, unwrap_or, slice_get, MatchBool}
-use Rattle.std.specs.Prelude.{Contains}
+use Rattle.std.specs.Prelude.{◌≡◌, ℕ, ◌+◌, ◌-◌, ◌*◌, ◌/◌, ◌==◌, ◌<◌, ◌≤◌, Bool, true, not, ◌&&◌, ◌||◌, nat_lt, nat_le, if◌then◌else◌, min}
+use Rattle.std.specs.Prelude.{List, ◌++◌, length, map, filter, count_by, position, Option, Some, None, option_map, unwrap_or, slice_get, MatchBool}
+use Rattle.std.specs.Prelude.{Contains, IfSome}
 use Rattle.std.specs.List.{filter_map, list_any}
 use Rattle.pictures.specs.declared.bars.Bar.{Bar}
 use Rattle.pictures.specs.declared.marks.Mark.{Mark}
 use Rattle.pictures.specs.declared.pictures_of.Picture.{Picture}
 use Rattle.pictures.specs.declared.windows.View.{View}
+use Rattle.pictures.specs.Marks.{IsInside}
 
 -- ---- the event in the middle
 
@@ -134,3 +135,16 @@ WindowHoldsMiddle = (columns middle room : ℕ) → (window_from columns middle 
 abbrev pub RanksRise : Type 0
 RanksRise = (columns : List ℕ) (a b : ℕ) → (a ≤ b → rank columns a ≤ rank columns b)
     × (Contains columns a → a < b → rank columns a < rank columns b) × (Contains columns a → rank columns a < length columns)
+
+-- a mark is inside of a bar of a window: in its lane, behind its beginning or at the end at which the bar is cut, and before its end
+pub record IsInsideCut (mark : Mark) (bar : Bar) : Type 0 where
+  pub lane : mark.lane ≡ bar.lane
+  pub behind : bar.from ≤ mark.column
+  pub before : IfSome bar.to (λ to. mark.column < to)
+
+-- a mark that is inside of a bar, and in the window, has the bar in the window, and is inside of it there
+abbrev pub MarksStayInside : Type 0
+MarksStayInside = (columns all lanes : List ℕ) (from to : ℕ) (bar : Bar) (mark : Mark) → IsInside mark bar → Contains columns bar.from
+    → Contains columns mark.column → slice_get all bar.lane ≡ Some bar.process → is_within from to (ranked_mark columns mark) ≡ true
+    → (meets from to (ranked_bar columns bar) ≡ true)
+    × IsInsideCut (cut_mark all lanes from (ranked_mark columns mark)) (cut_bar lanes from to (ranked_bar columns bar))

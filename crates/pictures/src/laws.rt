@@ -1,5 +1,5 @@
 // Laws of windows.
-ghost use Rattle.pictures.specs.Windows.{RanksRise, WindowHoldsMiddle};
+ghost use Rattle.pictures.specs.Windows.{MarksStayInside, RanksRise, WindowHoldsMiddle};
 
 /// A window does not pass the last column, and its middle is in it.
 pub fn windows_hold_their_middle()
@@ -9,4 +9,9 @@ pub fn windows_hold_their_middle()
 /// Columns that are counted anew keep their order, each has a place of its own, and none is past their number.
 pub fn ranks_rise()
     ensures { RanksRise }
+{}
+
+/// A mark that is inside of a bar, and in a window, has the bar there, and is inside of it.
+pub fn marks_stay_inside()
+    ensures { MarksStayInside }
 {}

@@ -18,7 +18,7 @@ mod words;
 
 pub use bars::Bar;
 pub use fronts::front_of;
-pub use laws::{ranks_rise, windows_hold_their_middle};
+pub use laws::{marks_stay_inside, ranks_rise, windows_hold_their_middle};
 pub use marks::Mark;
 pub use pictures_of::{Heading, Part, Picture, picture_of};
 pub use windows::{View, part_of};

@@ -14,8 +14,8 @@ use Rattle.stream_engines.specs.declared.followed.Followed.{Followed}
 use Rattle.stream_engines.specs.Followed.{IsFollowed}
 use Rattle.stream_engines.specs.StreamTexts.{BeginsWith}
 use Rattle.stream_engines.specs.Reading.{HasRead, AreLinesOf}
-use Rattle.stream_engines.specs.Refusals.{line_fault_told, IsLineFaultAfter, stream_fault_line, most_lines}
-use Rattle.stream_engines.specs.Leaves.{IsLineRefusal}
+use Rattle.stream_engines.specs.Refusals.{line_fault_told, many_told, IsLineFaultAfter, stream_fault_line, most_lines}
+use Rattle.stream_engines.specs.Leaves.{IsLineRefusal, IsManyRefusal}
 use Rattle.stream_engines.specs.Outcomes.{IsStreamOutcome, IsFollowOutcome}
 use Rattle.stream_engines.proofs.RefusalLemmas.{refusal_of}
 
@@ -130,7 +130,7 @@ is_too_long (line ∷ read) has_start next long = inl long
 
 pub long_at : (budget : ℕ) (told : Option (List ℕ)) (read : List (List ℕ)) (f : Followed) (number : ℕ) (old : Option (List ℕ))
     (outcome : Outcome) → IsFollowed read f
-    → length read + 1 ≡ number → HasRead told read old → BeginsTooLong old → IsLineRefusal number faults.TooLong outcome
+    → length read + 1 ≡ number → HasRead told read old → BeginsTooLong old → IsLineRefusal number [] faults.TooLong outcome
     → IsStreamOutcome budget told outcome
 long_at budget told read f number old Memory followed count has long is = tt
 long_at budget told read f number old (Answered answer bytes) followed count has long is = absurd is
@@ -140,7 +140,7 @@ long_at budget None read f number old (Refused bytes) followed count has long is
 long_at budget (Some text) read f number old (Refused bytes) followed count has long is =
     let begins = too_long has.0 (subst BeginsTooLong has.1 long) in
     let size = begins.long in
-    refusal_of text read (begins.next ∷ begins.rest) f (line_fault_told faults.TooLong) (string_bytes bytes) followed
+    refusal_of text read (begins.next ∷ begins.rest) f (line_fault_told begins.next faults.TooLong) (string_bytes bytes) followed
     (has.2 ∙ ap (λ (ls : List (List ℕ)). read ++ ls) begins.parts)
     (inl (record {
       next = begins.next;
@@ -150,13 +150,13 @@ long_at budget (Some text) read f number old (Refused bytes) followed count has 
       is_fault = is_too_long read f.has_start begins.next (omega arith);
       not_memory = is.0;
       name_is = refl;
-    })) (is.1 ∙ ap (λ (n : ℕ). stream_fault_line n (line_fault_told faults.TooLong)) (sym count))
+    })) (is.1 ∙ ap (λ (n : ℕ). stream_fault_line n (line_fault_told begins.next faults.TooLong)) (sym count))
 
 -- ---- too many lines
 
 pub many_at : (budget : ℕ) (told : Option (List ℕ)) (read : List (List ℕ)) (f : Followed) (number : ℕ) (new : Option (List ℕ))
     (outcome : Outcome) → IsFollowed read f
-    → length read ≡ most_lines → length read + 1 ≡ number → HasRead told read new → IsLineRefusal number faults.TooMany outcome
+    → length read ≡ most_lines → length read + 1 ≡ number → HasRead told read new → IsManyRefusal number outcome
     → IsStreamOutcome budget told outcome
 many_at budget told read f number new Memory followed many count has is = tt
 many_at budget told read f number new (Answered answer bytes) followed many count has is = absurd is
@@ -164,9 +164,9 @@ many_at budget told read f number new (Words bytes) followed many count has is =
 many_at budget told read f number new Failed followed many count has is = absurd is
 many_at budget None read f number new (Refused bytes) followed many count has is = tt
 many_at budget (Some text) read f number new (Refused bytes) followed many count has is =
-    refusal_of text read (lines_of has.0) f (line_fault_told faults.TooMany) (string_bytes bytes) followed has.2
+    refusal_of text read (lines_of has.0) f many_told (string_bytes bytes) followed has.2
     (inr (inr (record { count = many; name_is = refl })))
-    (is.1 ∙ ap (λ (n : ℕ). stream_fault_line n (line_fault_told faults.TooMany)) (sym count))
+    (is ∙ ap (λ (n : ℕ). stream_fault_line n many_told) (sym count))
 
 -- ---- the next line was taken, or was not
 

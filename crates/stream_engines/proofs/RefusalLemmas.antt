@@ -51,14 +51,14 @@ numbered count number name bytes same is = is ∙ ap (λ (n : ℕ). stream_fault
 pub refused_at : (budget : ℕ) (told : Option (List ℕ)) (read : List (List ℕ)) (line : List ℕ) (f : Followed) (number : ℕ)
     (fault : LineFault) (outcome : Outcome)
     → IsFollowed read f → length read + 1 ≡ number → IsLineFaultAfter read f.has_start line fault → BeginsWith told (read ++ line ∷ [])
-    → IsLineRefusal number fault outcome → IsStreamOutcome budget told outcome
+    → IsLineRefusal number line fault outcome → IsStreamOutcome budget told outcome
 refused_at budget told read line f number fault Memory followed count wrong begins is = tt
 refused_at budget told read line f number fault (Answered answer bytes) followed count wrong begins is = absurd is
 refused_at budget told read line f number fault (Words bytes) followed count wrong begins is = absurd is
 refused_at budget told read line f number fault Failed followed count wrong begins is = absurd is
 refused_at budget None read line f number fault (Refused bytes) followed count wrong begins is = tt
 refused_at budget (Some text) read line f number fault (Refused bytes) followed count wrong begins is =
-    refusal_of text read (line ∷ begins.0) f (line_fault_told fault) (string_bytes bytes) followed
+    refusal_of text read (line ∷ begins.0) f (line_fault_told line fault) (string_bytes bytes) followed
     (next_of text read begins.0 line begins.1)
     (inl (record {
       next = line;
@@ -68,21 +68,21 @@ refused_at budget (Some text) read line f number fault (Refused bytes) followed 
       is_fault = wrong;
       not_memory = is.0;
       name_is = refl;
-    })) (numbered (length read + 1) number (line_fault_told fault) (string_bytes bytes) count is.1)
+    })) (numbered (length read + 1) number (line_fault_told line fault) (string_bytes bytes) count is.1)
 
 -- the event of the next line is out of its turn
 pub refused_turn : (budget : ℕ) (told : Option (List ℕ)) (read : List (List ℕ)) (line : List ℕ) (f : Followed) (number : ℕ) (e : Event)
     (fault : FollowFault)
     (outcome : Outcome) (followed : IsFollowed read f) → length read + 1 ≡ number → SpellsEvent f.has_start line e
     → (fault ≢ turns.Memory → turn_fault followed.stream.events e ≡ Some fault)
-    → BeginsWith told (read ++ line ∷ []) → IsTurnRefusal number fault outcome → IsStreamOutcome budget told outcome
+    → BeginsWith told (read ++ line ∷ []) → IsTurnRefusal number line fault outcome → IsStreamOutcome budget told outcome
 refused_turn budget told read line f number e fault Memory followed count spelled wrong begins is = tt
 refused_turn budget told read line f number e fault (Answered answer bytes) followed count spelled wrong begins is = absurd is
 refused_turn budget told read line f number e fault (Words bytes) followed count spelled wrong begins is = absurd is
 refused_turn budget told read line f number e fault Failed followed count spelled wrong begins is = absurd is
 refused_turn budget None read line f number e fault (Refused bytes) followed count spelled wrong begins is = tt
 refused_turn budget (Some text) read line f number e fault (Refused bytes) followed count spelled wrong begins is =
-    refusal_of text read (line ∷ begins.0) f (turn_fault_told fault) (string_bytes bytes) followed
+    refusal_of text read (line ∷ begins.0) f (turn_fault_told line fault) (string_bytes bytes) followed
     (next_of text read begins.0 line begins.1)
     (inr (inl (record {
       next = line;
@@ -93,7 +93,7 @@ refused_turn budget (Some text) read line f number e fault (Refused bytes) follo
       fault = fault;
       is_fault = wrong is.0;
       name_is = refl;
-    }))) (numbered (length read + 1) number (turn_fault_told fault) (string_bytes bytes) count is.1)
+    }))) (numbered (length read + 1) number (turn_fault_told line fault) (string_bytes bytes) count is.1)
 
 -- what an error shows of an event, unless memory was wanting
 pub shown_some : (fault : FollowFault) (seen : Option FollowFault) → seen ≡ shown fault → fault ≢ turns.Memory → seen ≡ Some fault

@@ -11,23 +11,29 @@ use Rattle.outcomes.specs.declared.outcome.Answer.TheVariants.{No}
 use Rattle.outcomes.specs.declared.outcome.Outcome.{Outcome}
 use Rattle.outcomes.specs.declared.outcome.Outcome.TheVariants.{Answered, Refused, Memory}
 use Rattle.outcomes.specs.Lines.{line}
-use Rattle.stream_engines.specs.Refusals.{line_fault_told, turn_fault_told, stream_fault_line}
+use Rattle.stream_engines.specs.Refusals.{line_fault_told, turn_fault_told, many_told, stream_fault_line}
 use Rattle.stream_engines.specs.Reports.{loss_data}
 use Rattle.stream_engines.specs.Answers.{IsSmallLine}
 
 -- the outcome of the line of this number, which has this fault
-abbrev pub IsLineRefusal : ℕ → LineFault → Outcome → Type 0
-IsLineRefusal number fault (Refused bytes) = (fault ≢ lines.Memory)
-    × (string_bytes bytes ≡ stream_fault_line number (line_fault_told fault))
-IsLineRefusal number fault Memory = ⊤
-IsLineRefusal number fault outcome = ⊥
+abbrev pub IsLineRefusal : ℕ → List ℕ → LineFault → Outcome → Type 0
+IsLineRefusal number next fault (Refused bytes) = (fault ≢ lines.Memory)
+    × (string_bytes bytes ≡ stream_fault_line number (line_fault_told next fault))
+IsLineRefusal number next fault Memory = ⊤
+IsLineRefusal number next fault outcome = ⊥
 
 -- the same of its event
-abbrev pub IsTurnRefusal : ℕ → FollowFault → Outcome → Type 0
-IsTurnRefusal number fault (Refused bytes) = (fault ≢ turns.Memory)
-    × (string_bytes bytes ≡ stream_fault_line number (turn_fault_told fault))
-IsTurnRefusal number fault Memory = ⊤
-IsTurnRefusal number fault outcome = ⊥
+abbrev pub IsTurnRefusal : ℕ → List ℕ → FollowFault → Outcome → Type 0
+IsTurnRefusal number next fault (Refused bytes) = (fault ≢ turns.Memory)
+    × (string_bytes bytes ≡ stream_fault_line number (turn_fault_told next fault))
+IsTurnRefusal number next fault Memory = ⊤
+IsTurnRefusal number next fault outcome = ⊥
+
+-- the outcome where there are too many lines
+abbrev pub IsManyRefusal : ℕ → Outcome → Type 0
+IsManyRefusal number (Refused bytes) = string_bytes bytes ≡ stream_fault_line number many_told
+IsManyRefusal number Memory = ⊤
+IsManyRefusal number outcome = ⊥
 
 -- an answer with these bytes, where memory suffices
 abbrev pub IsAnsweredBy : Answer → List ℕ → Outcome → Type 0

@@ -72,8 +72,8 @@ impl Followed {
             return self.take_first(alloc, line, budget);
         }
         match read_event_line(alloc, self.has_start, line) {
-            Ok(event) => self.take_event(alloc, before + 1, event, budget),
-            Err(fault) => Err(refused_line(alloc, before + 1, fault)),
+            Ok(event) => self.take_event(alloc, before + 1, line, event, budget),
+            Err(fault) => Err(refused_line(alloc, before + 1, line, fault)),
         }
     }
 
@@ -84,12 +84,12 @@ impl Followed {
             → IfErr result (IsStreamOutcome budget told) }
     {
         match read_first_line(alloc, line) {
-            Ok(FirstLine::Event(event)) => self.take_event(alloc, 1, event, budget),
+            Ok(FirstLine::Event(event)) => self.take_event(alloc, 1, line, event, budget),
             Ok(FirstLine::Start(start)) => match Followed::from_start(alloc, &start) {
                 Ok(followed) => Ok(followed),
                 Err(_) => Err(Outcome::Memory),
             },
-            Err(fault) => Err(refused_line(alloc, 1, fault)),
+            Err(fault) => Err(refused_line(alloc, 1, line, fault)),
         }
     }
 
@@ -98,19 +98,22 @@ impl Followed {
         self,
         alloc: Global,
         number: u64,
+        line: &[u8],
         event: StreamEvent,
         budget: u32,
     ) -> Result<Followed, Outcome>
-        ensures taken { (read : List (List ℕ)) (line : List ℕ) → IsFollowed read self → SpellsEvent self.has_start line (as_event event)
-            → IfOk result (IsFollowed (read ++ line ∷ [])) }
-        ensures stopped { (told : Option (List ℕ)) (read : List (List ℕ)) (line : List ℕ) → length read + 1 ≡ number → IsFollowed read self
-            → SpellsEvent self.has_start line (as_event event) → BeginsWith told (read ++ line ∷ [])
+        ensures taken { (read : List (List ℕ)) → IsFollowed read self → SpellsEvent self.has_start line.now (as_event event)
+            → IfOk result (IsFollowed (read ++ line.now ∷ [])) }
+        ensures stopped { (told : Option (List ℕ)) (read : List (List ℕ)) → length read + 1 ≡ number → IsFollowed read self
+            → SpellsEvent self.has_start line.now (as_event event) → BeginsWith told (read ++ line.now ∷ [])
             → IfErr result (IsStreamOutcome budget told) }
     {
         match event {
-            StreamEvent::Invoke { process, call } => self.begin_call(alloc, number, process, call),
+            StreamEvent::Invoke { process, call } => {
+                self.begin_call(alloc, number, line, process, call)
+            }
             StreamEvent::Answer { process, reply } => {
-                self.take_answer(alloc, number, process, reply, budget)
+                self.take_answer(alloc, number, line, process, reply, budget)
             }
         }
     }
@@ -120,14 +123,15 @@ impl Followed {
         self,
         alloc: Global,
         number: u64,
+        line: &[u8],
         process: u16,
         call: Call,
     ) -> Result<Followed, Outcome>
-        ensures taken { (read : List (List ℕ)) (line : List ℕ) → IsFollowed read self
-            → SpellsEvent self.has_start line (events.Invoke process call) → IfOk result (IsFollowed (read ++ line ∷ [])) }
-        ensures stopped { (told : Option (List ℕ)) (read : List (List ℕ)) (line : List ℕ) (budget : ℕ) → length read + 1 ≡ number
-            → IsFollowed read self → SpellsEvent self.has_start line (events.Invoke process call)
-            → BeginsWith told (read ++ line ∷ []) → IfErr result (IsStreamOutcome budget told) }
+        ensures taken { (read : List (List ℕ)) → IsFollowed read self
+            → SpellsEvent self.has_start line.now (events.Invoke process call) → IfOk result (IsFollowed (read ++ line.now ∷ [])) }
+        ensures stopped { (told : Option (List ℕ)) (read : List (List ℕ)) (budget : ℕ) → length read + 1 ≡ number
+            → IsFollowed read self → SpellsEvent self.has_start line.now (events.Invoke process call)
+            → BeginsWith told (read ++ line.now ∷ []) → IfErr result (IsStreamOutcome budget told) }
     {
         let mut follower = self.follower;
         match follower.invoke(process, call) {
@@ -137,7 +141,7 @@ impl Followed {
                 pending: self.pending.saturating_add(1),
                 overlap: self.overlap.saturating_add(self.pending),
             }),
-            Err(fault) => Err(refused_event(alloc, number, &fault)),
+            Err(fault) => Err(refused_event(alloc, number, line, &fault)),
         }
     }
 
@@ -146,15 +150,16 @@ impl Followed {
         self,
         alloc: Global,
         number: u64,
+        line: &[u8],
         process: u16,
         reply: Reply,
         budget: u32,
     ) -> Result<Followed, Outcome>
-        ensures taken { (read : List (List ℕ)) (line : List ℕ) → IsFollowed read self
-            → SpellsEvent self.has_start line (events.Answer process reply) → IfOk result (IsFollowed (read ++ line ∷ [])) }
-        ensures stopped { (told : Option (List ℕ)) (read : List (List ℕ)) (line : List ℕ) → length read + 1 ≡ number
-            → IsFollowed read self → SpellsEvent self.has_start line (events.Answer process reply)
-            → BeginsWith told (read ++ line ∷ []) → IfErr result (IsStreamOutcome budget told) }
+        ensures taken { (read : List (List ℕ)) → IsFollowed read self
+            → SpellsEvent self.has_start line.now (events.Answer process reply) → IfOk result (IsFollowed (read ++ line.now ∷ [])) }
+        ensures stopped { (told : Option (List ℕ)) (read : List (List ℕ)) → length read + 1 ≡ number
+            → IsFollowed read self → SpellsEvent self.has_start line.now (events.Answer process reply)
+            → BeginsWith told (read ++ line.now ∷ []) → IfErr result (IsStreamOutcome budget told) }
     {
         let (has_start, pending, overlap) = (self.has_start, self.pending, self.overlap);
         match self.follower.answer(alloc, process, reply, budget) {
@@ -166,7 +171,7 @@ impl Followed {
             }),
             Ok(Answered::Lost(loss)) => Err(lost_outcome(alloc, loss)),
             Ok(Answered::Spent(loss)) => Err(spent_outcome(alloc, &loss)),
-            Ok(Answered::Refused(_, fault)) => Err(refused_event(alloc, number, &fault)),
+            Ok(Answered::Refused(_, fault)) => Err(refused_event(alloc, number, line, &fault)),
             Err(_) => Err(Outcome::Memory),
         }
     }

@@ -8,7 +8,7 @@ ghost use Rattle.stream_engines.specs.Outcomes.{IsFollowOutcome};
 ghost use Rattle.stream_engines.specs.Reading.{HasRead};
 
 use crate::followed::Followed;
-use crate::refusals::refused_line;
+use crate::refusals::{refused_line, refused_many};
 use outcomes::{Outcome, write_outcome};
 use std::alloc::Global;
 use stream_text::{LineFault, NoLine, Window, lines_one_by_one, next_line};
@@ -73,7 +73,7 @@ fn follow_lines<S: Source>(
             Err(outcome) => return outcome,
         }
     }
-    refused_line(alloc, u64::MAX, LineFault::TooMany)
+    refused_many(alloc, u64::MAX)
 }
 
 /// Takes the next line, behind so many.
@@ -108,7 +108,7 @@ fn follow_next<S: Source>(
                 Err(followed.finish(alloc))
             }
         }
-        Err(NoLine::TooLong) => Err(refused_line(alloc, before + 1, LineFault::TooLong)),
+        Err(NoLine::TooLong) => Err(refused_line(alloc, before + 1, &[], LineFault::TooLong)),
         Err(NoLine::Failed) => Err(Outcome::Failed),
     }
 }

@@ -1,37 +1,47 @@
 // Why a line of a stream is refused, as an outcome.
 ghost use Rattle.std.specs.Prelude.{◌≡◌, IfOk, string_bytes};
-ghost use Rattle.stream_engines.specs.Leaves.{IsLineRefusal, IsTurnRefusal};
-ghost use Rattle.stream_engines.specs.Refusals.{line_fault_name, turn_fault_name, line_fault_told, turn_fault_told, stream_fault_line};
-ghost use Rattle.stream_engines.specs.Wanted.{too_many_wanted, line_wanted, turn_wanted_for, name_with_wanted};
+ghost use Rattle.stream_engines.specs.Leaves.{IsLineRefusal, IsTurnRefusal, IsManyRefusal};
+ghost use Rattle.stream_engines.specs.Refusals.{line_fault_name, turn_fault_name, line_fault_told, turn_fault_told, many_told, stream_fault_line};
+ghost use Rattle.stream_engines.specs.Wanted.{too_many_wanted, line_wanted, turn_wanted_for, name_with_wanted, name_with_found};
 
 use follow::FollowFault;
-use outcomes::{Outcome, event_wanted, json_wanted, line_of, pair_wanted, turn_wanted};
+use outcomes::{Outcome, event_wanted, json_wanted, line_of, pair_wanted, push_found, turn_wanted};
 use std::alloc::{AllocError, Global};
 use stream_text::LineFault;
 
 /// The refusal of the line of this number, or want of memory.
-pub fn refused_line(alloc: Global, number: u64, fault: LineFault) -> Outcome
-    ensures { IsLineRefusal number fault result }
+pub fn refused_line(alloc: Global, number: u64, line: &[u8], fault: LineFault) -> Outcome
+    ensures { IsLineRefusal number line.now fault result }
 {
     if matches!(fault, LineFault::Memory) {
         return Outcome::Memory;
     }
-    match line_fault_told(alloc, fault) {
+    match line_fault_told(alloc, line, fault) {
         Ok(told) => Outcome::refused(fault_line(alloc, number, told.as_str())),
         Err(_) => Outcome::Memory,
     }
 }
 
 /// The refusal of the event of the line of this number, or want of memory.
-pub fn refused_event(alloc: Global, number: u64, fault: &FollowFault) -> Outcome
-    ensures { IsTurnRefusal number fault.now result }
+pub fn refused_event(alloc: Global, number: u64, line: &[u8], fault: &FollowFault) -> Outcome
+    ensures { IsTurnRefusal number line.now fault.now result }
 {
     match fault {
         FollowFault::Memory => Outcome::Memory,
-        _ => match turn_fault_told(alloc, fault) {
+        _ => match turn_fault_told(alloc, line, fault) {
             Ok(told) => Outcome::refused(fault_line(alloc, number, told.as_str())),
             Err(_) => Outcome::Memory,
         },
+    }
+}
+
+/// The refusal of a line behind as many as are read, or want of memory.
+pub fn refused_many(alloc: Global, number: u64) -> Outcome
+    ensures { IsManyRefusal number result }
+{
+    match many_told(alloc) {
+        Ok(told) => Outcome::refused(fault_line(alloc, number, told.as_str())),
+        Err(_) => Outcome::Memory,
     }
 }
 
@@ -45,21 +55,41 @@ fn fault_line(alloc: Global, number: u64, told: &str) -> Result<String, AllocErr
     Ok(line)
 }
 
-/// What is told of the fault of a line.
-fn line_fault_told(alloc: Global, fault: LineFault) -> Result<String, AllocError>
-    ensures { IfOk result (λ told. string_bytes told ≡ line_fault_told fault) }
+/// What is told of a line with a fault.
+fn line_fault_told(alloc: Global, line: &[u8], fault: LineFault) -> Result<String, AllocError>
+    ensures { IfOk result (λ told. string_bytes told ≡ line_fault_told line.now fault) }
 {
-    name_with_wanted(line_fault_name(alloc, fault)?, line_wanted(fault))
+    let name = line_fault_name(alloc, fault)?;
+    match fault {
+        LineFault::TooLong => name_with_wanted(name, line_wanted(fault)),
+        _ => name_with_found(name, line, line_wanted(fault)),
+    }
 }
 
 /// What is told of the fault of an event after others.
-fn turn_fault_told(alloc: Global, fault: &FollowFault) -> Result<String, AllocError>
-    ensures { IfOk result (λ told. string_bytes told ≡ turn_fault_told fault.now) }
+fn turn_fault_told(alloc: Global, line: &[u8], fault: &FollowFault) -> Result<String, AllocError>
+    ensures { IfOk result (λ told. string_bytes told ≡ turn_fault_told line.now fault.now) }
 {
-    name_with_wanted(
-        String::from_str(alloc, turn_fault_name(fault))?,
-        turn_wanted_for(fault),
-    )
+    let name = String::from_str(alloc, turn_fault_name(fault))?;
+    name_with_found(name, line, turn_wanted_for(fault))
+}
+
+/// What is told of a line behind as many as are read.
+fn many_told(alloc: Global) -> Result<String, AllocError>
+    ensures { IfOk result (λ told. string_bytes told ≡ many_told) }
+{
+    name_with_wanted(String::from_str(alloc, "5 TooMany")?, too_many_wanted())
+}
+
+/// A name, and on a line of its own what was read and what was wanted.
+fn name_with_found(name: String, line: &[u8], wanted: &str) -> Result<String, AllocError>
+    ensures { IfOk result (λ told. string_bytes told ≡ name_with_found (string_bytes name) line.now wanted.now) }
+{
+    let mut told = line_of(name)?;
+    push_found(&mut told, line)?;
+    told.push_str("wanted ")?;
+    told.push_str(wanted)?;
+    Ok(told)
 }
 
 /// A name, and what was wanted on a line of its own.

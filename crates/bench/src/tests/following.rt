@@ -98,7 +98,8 @@ fn streams_are_refused(rt: HostRuntime) -> Result<(), Fail> {
             EVENT,
         ),
     ] {
-        let told = format!(in alloc; "{fault}{wanted}")?;
+        let line = text.trim_end().split('\n').last().unwrap_or("");
+        let told = format!(in alloc; "{fault}found {line}; {wanted}")?;
         leaves(&rt, alloc, "bench follow", text.as_bytes(), 3, "", &told)?;
     }
     Ok(())

@@ -5,7 +5,8 @@ use Rattle.stream_engines.proofs.RefusalLemmas.{refused_turn, shown_some}
 use Rattle.stream_engines.proofs.followed.Followed.begin_call.Goals as goal
 
 pub returns-in-Ok-clause-taken : goal.returns-in-Ok-clause-taken
-returns-in-Ok-clause-taken c = λ read line followed spelled.
+returns-in-Ok-clause-taken c = λ read followed spelled.
+    let line = c.args.line.now in
     let stream = followed.stream in
     invoked read line c.args.self c.invoke.new.self c.args.process c.args.call c.saturating_add.result
     c.saturating_add-in-Ok.result followed spelled
@@ -14,7 +15,8 @@ returns-in-Ok-clause-taken c = λ read line followed spelled.
     c.saturating_add.ensures c.saturating_add-in-Ok.ensures
 
 pub returns-in-Err-clause-stopped : goal.returns-in-Err-clause-stopped
-returns-in-Err-clause-stopped c = λ told read line budget count followed spelled begins.
+returns-in-Err-clause-stopped c = λ told read budget count followed spelled begins.
+    let line = c.args.line.now in
     let stream = followed.stream in
     let process = c.args.process in
     let call = c.args.call in

@@ -8,7 +8,8 @@ use Rattle.stream_engines.proofs.RefusalLemmas.{refused_turn}
 use Rattle.stream_engines.proofs.followed.Followed.take_answer.Goals as goal
 
 pub returns-in-Ok-Going-clause-taken : goal.returns-in-Ok-Going-clause-taken
-returns-in-Ok-Going-clause-taken c = λ read line followed spelled.
+returns-in-Ok-Going-clause-taken c = λ read followed spelled.
+    let line = c.args.line.now in
     let stream = followed.stream in
     let process = c.args.process in
     let reply = c.args.reply in
@@ -20,7 +21,8 @@ returns-in-Ok-Going-clause-taken c = λ read line followed spelled.
     c.saturating_sub.ensures
 
 pub returns-in-Ok-Lost-clause-stopped : goal.returns-in-Ok-Lost-clause-stopped
-returns-in-Ok-Lost-clause-stopped c = λ told read line count followed spelled begins.
+returns-in-Ok-Lost-clause-stopped c = λ told read count followed spelled begins.
+    let line = c.args.line.now in
     let stream = followed.stream in
     let process = c.args.process in
     let reply = c.args.reply in
@@ -31,7 +33,8 @@ returns-in-Ok-Lost-clause-stopped c = λ told read line count followed spelled b
     (c.lost_outcome.ensures taken.judged.refuted)
 
 pub returns-in-Ok-Spent-clause-stopped : goal.returns-in-Ok-Spent-clause-stopped
-returns-in-Ok-Spent-clause-stopped c = λ told read line count followed spelled begins.
+returns-in-Ok-Spent-clause-stopped c = λ told read count followed spelled begins.
+    let line = c.args.line.now in
     let stream = followed.stream in
     let process = c.args.process in
     let reply = c.args.reply in
@@ -42,7 +45,8 @@ returns-in-Ok-Spent-clause-stopped c = λ told read line count followed spelled 
     c.spent_outcome.ensures
 
 pub returns-in-Ok-Refused-clause-stopped : goal.returns-in-Ok-Refused-clause-stopped
-returns-in-Ok-Refused-clause-stopped c = λ told read line count followed spelled begins.
+returns-in-Ok-Refused-clause-stopped c = λ told read count followed spelled begins.
+    let line = c.args.line.now in
     let stream = followed.stream in
     let process = c.args.process in
     let reply = c.args.reply in

@@ -10,7 +10,7 @@ returns-in-Ok-Event-clause-taken c = λ followed.
     let line = c.args.line.now in
     let spelled : SpellsEvent false line (as_event c.in-Ok-Event.event) =
     subst (λ (first : FirstLine). SpellsFirst line first) c.in-Ok-Event.field-0-is c.in-Ok-Event.ensures.spelled in
-    c.take_event.ensures.taken [] line followed
+    c.take_event.ensures.taken [] followed
     (subst (λ (has_start : Bool). SpellsEvent has_start line (as_event c.in-Ok-Event.event)) (no_start c.args.self followed) spelled)
 
 pub returns-in-Ok-Event-clause-stopped : goal.returns-in-Ok-Event-clause-stopped
@@ -18,7 +18,7 @@ returns-in-Ok-Event-clause-stopped c = λ told followed begins.
     let line = c.args.line.now in
     let spelled : SpellsEvent false line (as_event c.in-Ok-Event.event) =
     subst (λ (first : FirstLine). SpellsFirst line first) c.in-Ok-Event.field-0-is c.in-Ok-Event.ensures.spelled in
-    c.take_event.ensures.stopped told [] line refl followed
+    c.take_event.ensures.stopped told [] refl followed
     (subst (λ (has_start : Bool). SpellsEvent has_start line (as_event c.in-Ok-Event.event)) (no_start c.args.self followed) spelled) begins
 
 pub returns-clause-stopped : goal.returns-clause-stopped

@@ -1,0 +1,58 @@
+-- What is told of a text that spells no history: its first fault, what stands there, and what was wanted.
+use Rattle.std.specs.Prelude.{◌≡◌, ◌≢◌, ⊤, ℕ, Bool, false, List, Option, Some, None, option_and_then, codes, string_bytes}
+use Rattle.serde_json.specs.Data.{Data}
+use Rattle.serde_json.specs.Find.{get, at}
+use Rattle.serde_json.specs.Read.{read}
+use Rattle.serde_json.specs.Written.{compact_text, has_float, IsInOrder}
+use Rattle.events.specs.declared.fault.HistoryFault.{HistoryFault}
+use Rattle.events.specs.declared.fault.HistoryFault.TheVariants as histories
+use Rattle.outcomes.specs.declared.outcome.Outcome.{Outcome}
+use Rattle.outcomes.specs.declared.outcome.Outcome.TheVariants.{Refused, Memory}
+use Rattle.outcomes.specs.Lines.{history_fault_line}
+use Rattle.outcomes.specs.Found.{with_found}
+use Rattle.outcomes.specs.Wanted.{history_wanted, with_wanted}
+
+-- the item at a place of the array that is this member of a value
+abbrev pub item_of : List ℕ → ℕ → Data → Option Data
+item_of name place d = option_and_then (at place) (get name d)
+
+-- the same of a text's value
+abbrev pub item_in : List ℕ → ℕ → List ℕ → Option Data
+item_in name place text = option_and_then (item_of name place) (read text)
+
+-- what stands in a text at the place that a fault names
+abbrev pub found_in : List ℕ → HistoryFault → Option Data
+found_in text (histories.Shape event) = item_in (codes "events") event text
+found_in text (histories.NotWellFormed event) = item_in (codes "events") event text
+found_in text (histories.Start pair) = item_in (codes "start") pair text
+found_in text histories.TooLong = None
+found_in text histories.NotJson = None
+found_in text histories.Version = None
+found_in text histories.TooMany = None
+found_in text histories.Memory = None
+
+-- the text of a value: with its members and items each once and in order, and without spaces; the digits of a float are not told
+pub record IsTextOfValue (d : Data) (text : List ℕ) : Type 0 where
+  pub compact : has_float d ≡ false → text ≡ compact_text d
+  pub in_order : IsInOrder text d
+
+-- the text of a value, where there is one
+abbrev pub IsTextOfFound : Option Data → Option (List ℕ) → Type 0
+IsTextOfFound None None = ⊤
+IsTextOfFound (Some d) (Some text) = IsTextOfValue d text
+IsTextOfFound found text = ⊥
+
+-- the lines of a fault: its own, and one with what stands in its place, where that is known, and what was wanted
+abbrev pub fault_lines : HistoryFault → Option (List ℕ) → List ℕ
+fault_lines fault None = with_wanted (history_fault_line fault) (history_wanted fault)
+fault_lines fault (Some text) = with_wanted (with_found (history_fault_line fault) text) (history_wanted fault)
+
+-- these are those of this fault in a text
+abbrev pub AreFaultLines : List ℕ → HistoryFault → List ℕ → Type 0
+AreFaultLines text fault bytes = (found : Option (List ℕ)) × IsTextOfFound (found_in text fault) found × (bytes ≡ fault_lines fault found)
+
+-- the outcome of a text with this fault
+abbrev pub IsRefusedText : List ℕ → HistoryFault → Outcome → Type 0
+IsRefusedText text fault (Refused bytes) = (fault ≢ histories.Memory) × AreFaultLines text fault (string_bytes bytes)
+IsRefusedText text fault Memory = ⊤
+IsRefusedText text fault outcome = ⊥

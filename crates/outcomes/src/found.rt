@@ -1,0 +1,52 @@
+// What is said of a text in the place of a fault: what stands there.
+ghost use Rattle.std.specs.Prelude.{◌≡◌, ◌∷◌, [], ◌++◌, map, OnOk, string_bytes};
+ghost use Rattle.outcomes.specs.Found.{shown_byte, shown, with_found};
+
+use std::alloc::AllocError;
+
+/// The most bytes that are shown of a text.
+const MAX_SHOWN: usize = 80;
+
+/// Adds what stands in the place of a fault, at the front of a line that says what was wanted there.
+pub fn push_found(lines: &mut String, text: &[u8]) -> Result<(), AllocError>
+    ensures { OnOk result (string_bytes lines.new ≡ with_found (string_bytes lines.old) text.now) }
+{
+    lines.push_str("found ")?;
+    push_shown(lines, text)?;
+    lines.push_str("; ")?;
+    Ok(())
+}
+
+/// Adds a text, cut with two dots where it is long.
+fn push_shown(out: &mut String, text: &[u8]) -> Result<(), AllocError>
+    ensures { OnOk result (string_bytes out.new ≡ string_bytes out.old ++ shown text.now) }
+{
+    if text.len() <= MAX_SHOWN {
+        return push_bytes(out, text);
+    }
+    let front = &text[..MAX_SHOWN];
+    push_bytes(out, front)?;
+    out.push_str("..")?;
+    Ok(())
+}
+
+/// Adds the bytes of a text.
+fn push_bytes(out: &mut String, text: &[u8]) -> Result<(), AllocError>
+    ensures { OnOk result (string_bytes out.new ≡ string_bytes out.old ++ map shown_byte text.now) }
+{
+    for byte in text {
+        push_byte(out, *byte)?;
+    }
+    Ok(())
+}
+
+/// Adds a byte of a text: one that is no printable ASCII as `?`.
+fn push_byte(out: &mut String, byte: u8) -> Result<(), AllocError>
+    ensures { OnOk result (string_bytes out.new ≡ string_bytes out.old ++ shown_byte byte ∷ []) }
+{
+    match byte {
+        32..=126 => out.push(byte as char)?,
+        _ => out.push_str("?")?,
+    }
+    Ok(())
+}
