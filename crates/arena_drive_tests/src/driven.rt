@@ -2,7 +2,7 @@
 use crate::gates::{Pair, Visits};
 use crate::setups::{driven, driven_plan};
 use art::Variant;
-use history::write_history;
+use history_text::write_history;
 use judge::{MAX_BUDGET, Verdict, judge_alone};
 use pool::OpenGate;
 use std::test::Fail;

@@ -2,7 +2,7 @@
 use arena_drives::drive_arena;
 use art::{Shape, Variant};
 use drives::is_drivable;
-use history::History;
+use events::History;
 use plan_text::read_plan;
 use plans::Plan;
 use pool::Gate;

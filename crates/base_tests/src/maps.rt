@@ -1,5 +1,5 @@
 // The sorted map, with answers worked out by hand on small maps.
-use history::{Call, Pairs, Reply};
+use events::{Call, Pairs, Reply};
 use map_object::SortedMap;
 use std::alloc::Global;
 use std::test::Fail;

@@ -3,7 +3,8 @@ ghost use Rattle.std.specs.Prelude.{◌≡◌, ◌≤◌, IfOk};
 ghost use Rattle.events.specs.declared.event.Reply.TheVariants as replies;
 ghost use Rattle.recorder.specs.Recorders.{IsPassOf};
 
-use history::{Call, Pairs, Reply, write_history};
+use events::{Call, Pairs, Reply};
+use history_text::write_history;
 use locked_map::LockedMap;
 use recorder::{CloseFault, Pass, Recorder, RecorderFault, Subject};
 use std::alloc::Global;

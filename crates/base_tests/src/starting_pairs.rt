@@ -1,8 +1,7 @@
 // Histories that start with pairs: their texts, and what is handed on of the pairs.
-use history::{
-    Call, Event, History, HistoryFault, MAX_START, Reply, Segment, Turns, read_history,
-    write_history,
-};
+use events::{Call, Event, History, HistoryFault, MAX_START, Reply, Turns};
+use history_text::{read_history, write_history};
+use segments::Segment;
 use std::alloc::Global;
 use std::test::Fail;
 

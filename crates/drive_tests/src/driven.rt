@@ -1,7 +1,8 @@
 // Plans that are driven at subjects, each script in a thread of its own, and the histories that are recorded of it.
 use crate::subjects::{Forgetful, Meeting};
 use drives::{drive_subject, is_drivable};
-use history::{Call, History, Reply, Response, write_history};
+use events::{Call, History, Reply, Response};
+use history_text::write_history;
 use judge::{MAX_BUDGET, Verdict, judge_alone};
 use locked_map::LockedMap;
 use plan_text::read_plan;

@@ -2,7 +2,7 @@
 ghost use Rattle.std.specs.Prelude.{◌≡◌, ℕ};
 ghost use Rattle.events.specs.declared.event.Reply.TheVariants as replies;
 
-use history::{Call, Reply};
+use events::{Call, Reply};
 use recorder::Subject;
 use std::sync::atomic::{AtomicBool, AtomicU64, Ordering};
 use std::thread;

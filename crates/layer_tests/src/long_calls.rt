@@ -4,12 +4,11 @@ use crate::visits::{config_of, is_new, map_of};
 use crate::worked::{history_of, inserts, pairs_listed, spaced, text_of};
 use certificate::check;
 use cutter::cut;
-use history::{
-    Call, Event, History, MAX_CALLS, MAX_PAIRS, MAX_TEXT, Pairs, Reply, Segment, read_history,
-    write_history,
-};
+use events::{Call, Event, History, MAX_CALLS, MAX_PAIRS, Pairs, Reply};
+use history_text::{MAX_TEXT, read_history, write_history};
 use map_object::SortedMap;
 use memo::Memo;
+use segments::Segment;
 use std::alloc::Global;
 use std::process::Abort;
 use std::test::Fail;

@@ -12,9 +12,10 @@ use crate::worked::{
     TWO_KEYS_AND_A_PENDING_SCAN, TWO_KEYS_BY_FALLING_KEY, history_of,
 };
 use cutter::{cut, one_list_of_segments};
-use history::{History, Segment};
+use events::History;
 use merge_orders::{merge, one_merged_order, segments_share_no_point};
 use search::{Found, search};
+use segments::Segment;
 use std::alloc::Global;
 use std::test::Fail;
 

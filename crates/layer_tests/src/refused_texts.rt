@@ -1,6 +1,6 @@
 // Texts that spell no history, with their first faults.
 use crate::worked::{INSERT_THEN_GET, spaced, text_of};
-use history::{MAX_TEXT, read_history};
+use history_text::{MAX_TEXT, read_history};
 use std::alloc::Global;
 use std::process::Abort;
 use std::test::Fail;

@@ -8,8 +8,8 @@ use crate::worked::{
     SCANS_SEE_TWO_INSERTS_IN_DIFFERENT_ORDER, TWO_KEYS, TWO_KEYS_AND_A_PENDING_SCAN, history_of,
 };
 use cutter::cut;
-use history::Segment;
 use search::{MAX_BUDGET, Turn, Walk, longest_front, search};
+use segments::Segment;
 use std::alloc::Global;
 use std::test::Fail;
 

@@ -1,5 +1,5 @@
 // Configurations and those that were visited, on a few of them.
-use history::Call;
+use events::Call;
 use map_object::SortedMap;
 use memo::{Config, Memo};
 use std::alloc::Global;

@@ -1,5 +1,6 @@
 // Small histories that tests share: their events as JSON, one history in several crates' tests.
-use history::{History, read_history};
+use events::History;
+use history_text::read_history;
 use std::alloc::{AllocError, Global};
 use std::test::Fail;
 

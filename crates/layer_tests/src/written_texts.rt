@@ -7,7 +7,8 @@ use crate::worked::{
     SCAN_MISSES_THE_FIRST_OF_TWO_INSERTS, SCAN_OF_ALL_KEYS,
     SCANS_SEE_TWO_INSERTS_IN_DIFFERENT_ORDER, TWO_KEYS, TWO_KEYS_AND_A_PENDING_SCAN, text_of,
 };
-use history::{Call, Event, History, Pairs, Reply, read_history, write_history};
+use events::{Call, Event, History, Pairs, Reply};
+use history_text::{read_history, write_history};
 use std::alloc::Global;
 use std::test::Fail;
 

@@ -1,7 +1,7 @@
 // Searches of calls, reads first, beside the exact search of a segment: answers worked out by hand.
 use call_search::{Found, search_calls};
 use certificate::check;
-use history::{History, Segment};
+use events::History;
 use layer_tests::worked::{
     EFFECT_LATER_THAN_THE_INVOCATION, GET_IS_ANSWERED_BY_A_LIST, GET_MISSES_ANSWERED_INSERT,
     GET_MISSES_OPEN_INSERT, GET_MISSES_PENDING_INSERT, GET_MISSES_REFUSED_INSERT,
@@ -14,6 +14,7 @@ use layer_tests::worked::{
 };
 use map_object::SortedMap;
 use search::{MAX_BUDGET, search};
+use segments::Segment;
 use std::alloc::{AllocError, Global};
 use std::test::Fail;
 

@@ -2,8 +2,8 @@
 // an exact search of all calls so far says the same.
 ghost use Rattle.std.specs.Prelude.{◌<◌};
 
+use events::{Call, Event, History, Reply};
 use follow::{Answered, FollowFault, Follower, Loss};
-use history::{Call, Event, History, Reply, Segment};
 use layer_tests::worked::{
     EFFECT_LATER_THAN_THE_INVOCATION, GET_IS_ANSWERED_BY_A_LIST, GET_MISSES_ANSWERED_INSERT,
     GET_MISSES_PENDING_INSERT, GET_MISSES_REFUSED_INSERT, GET_SEES_PENDING_INSERT,
@@ -14,6 +14,7 @@ use layer_tests::worked::{
 };
 use map_object::SortedMap;
 use search::{Found, search};
+use segments::Segment;
 use std::alloc::Global;
 use std::test::Fail;
 

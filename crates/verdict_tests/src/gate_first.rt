@@ -3,9 +3,9 @@
 ghost use Rattle.std.specs.Prelude.{⊤};
 
 use cutter::cut;
-use history::Segment;
 use layer_tests::worked::{gets, history_of};
 use pool::{Gate, search_all};
+use segments::Segment;
 use std::alloc::Global;
 use std::sync::atomic::{AtomicU64, Ordering};
 use std::test::Fail;

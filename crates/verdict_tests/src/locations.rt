@@ -2,7 +2,8 @@
 ghost use Rattle.std.specs.Prelude.{◌≤◌};
 
 use crate::gates::no_visits;
-use history::{Event, History, read_history};
+use events::{Event, History};
+use history_text::read_history;
 use judge::{MAX_BUDGET, Verdict, judge_alone, judge_text};
 use layer_tests::worked::{
     EFFECT_LATER_THAN_THE_INVOCATION, GET_IS_ANSWERED_BY_A_LIST, GET_MISSES_ANSWERED_INSERT,

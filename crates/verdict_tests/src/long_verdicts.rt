@@ -1,7 +1,7 @@
 // Verdicts on histories and texts as long as they may be.
 ghost use Rattle.std.specs.Prelude.{◌≤◌};
 
-use history::{MAX_TEXT, read_history};
+use history_text::{MAX_TEXT, read_history};
 use judge::{MAX_BUDGET, judge_alone, judge_text, report};
 use layer_tests::worked::{gets, inserts, pairs_listed, spaced, text_of};
 use pool::OpenGate;

@@ -3,7 +3,6 @@ ghost use Rattle.std.specs.Prelude.{◌≤◌};
 
 use crate::gates::{assert_one_visit_each, no_visits};
 use cutter::cut;
-use history::Segment;
 use judge::MAX_BUDGET;
 use layer_tests::worked::{
     GET_SEES_WHAT_NOBODY_INSERTED, SCAN_MISSES_THE_FIRST_OF_TWO_INSERTS, TWO_KEYS, history_of,
@@ -11,6 +10,7 @@ use layer_tests::worked::{
 };
 use pool::{MAX_WORKERS, OpenGate, search_all};
 use search::Found;
+use segments::Segment;
 use std::alloc::Global;
 use std::process::Abort;
 use std::test::Fail;

@@ -17,9 +17,9 @@ loop-segment-preserved c =
     let found = rw c.in-Order.is at c.in_ok-order.ensures.sound in
     let more = AllZip-more IsOrderOf (take k segments) orders c.segment-item.result c.in-Order.order.items c.loop-segment.invariant found in
     let taken = ap (λ s. take k segments ++ s ∷ []) c.segment-item.is
-        ∙ sym (take_more segments k c.segment-item.result c.loop-segment-test.true) in
+    ∙ sym (take_more segments k c.segment-item.result c.loop-segment-test.true) in
     rw (c.in_ok-push-in-Order.ensures.items, map-append)
-        (subst (λ s. AllZip IsOrderOf s (orders ++ c.in-Order.order.items ∷ [])) taken more)
+    (subst (λ s. AllZip IsOrderOf s (orders ++ c.in-Order.order.items ∷ [])) taken more)
 
 pub returns : goal.returns
 returns c =
