@@ -1,36 +1,52 @@
-/* What streaming.h refuses, and the lines that it then writes; or with a word four processes that share three slots. In C and C++:
- * run by tests/recordings. */
+/* What streaming.h refuses, and the lines that it then writes; or with a number four processes that share so many slots. In
+ * C and C++: run by tests/recordings. */
+#undef NDEBUG
+#include <assert.h>
 #include <stdlib.h>
+#include <string.h>
+
+enum { BEFORE = 16, BEHIND = 8 };
 
 static int allocations_left = -1, blocks_held;
+static const char untouched[BEHIND + 1] = "nothing!";
 
-/* Refuses an allocation once so many are made. */
-static void *counted(void *block)
+/* Makes a block with its size before it and some bytes behind it, which nobody may touch; refuses one once so many are made. */
+static void *counted_malloc(size_t size)
 {
-    blocks_held += block ? 1 : 0;
-    return block;
+    char *room = allocations_left >= 0 && allocations_left-- == 0 ? NULL : (char *)malloc(BEFORE + size + BEHIND);
+    if (!room)
+        return NULL;
+    blocks_held++;
+    memcpy(room, &size, sizeof size);
+    memcpy(room + BEFORE + size, untouched, BEHIND);
+    return room + BEFORE;
 }
 
-static int refused(void) { return allocations_left >= 0 && allocations_left-- == 0; }
-static void *counted_malloc(size_t size) { return refused() ? NULL : counted(malloc(size)); }
-static void *counted_calloc(size_t count, size_t size) { return refused() ? NULL : counted(calloc(count, size)); }
+static void *counted_calloc(size_t count, size_t size)
+{
+    void *block = counted_malloc(count * size);
+    return block ? memset(block, 0, count * size) : NULL;
+}
 
 static void counted_free(void *block)
 {
-    blocks_held -= block ? 1 : 0;
-    free(block);
+    size_t size;
+    if (!block)
+        return;
+    blocks_held--;
+    memcpy(&size, (char *)block - BEFORE, sizeof size);
+    assert(memcmp((char *)block + size, untouched, BEHIND) == 0);
+    free((char *)block - BEFORE);
 }
 
 #define malloc counted_malloc
 #define calloc counted_calloc
 #define free counted_free
 #include "../examples/recording/streaming.h"
-#undef NDEBUG
-#include <assert.h>
 #include <pthread.h>
 #include <signal.h>
 
-enum { PROCESSES = 4, SLOTS = 3, KEYS = 5, CALLS = 200 };
+enum { PROCESSES = 4, KEYS = 5, CALLS = 200 };
 
 static struct streaming s;
 
@@ -140,11 +156,11 @@ static void *call_and_scan(void *number)
     return NULL;
 }
 
-static void share_few_slots(void)
+static void share_slots(size_t slots)
 {
     pthread_t writer, processes[PROCESSES];
     int status = -1;
-    assert(streaming_open(&s, PROCESSES, SLOTS, KEYS, 1) == 0);
+    assert(streaming_open(&s, PROCESSES, slots, KEYS, 1) == 0);
     assert(pthread_create(&writer, NULL, write_stream, &status) == 0);
     for (unsigned p = 0; p < PROCESSES; p++)
         assert(pthread_create(&processes[p], NULL, call_and_scan, (void *)(uintptr_t)p) == 0);
@@ -158,9 +174,8 @@ static void share_few_slots(void)
 
 int main(int count, char **words)
 {
-    (void)words;
     if (count > 1) {
-        share_few_slots();
+        share_slots((size_t)atol(words[1]));
         return 0;
     }
     refuse_to_open();

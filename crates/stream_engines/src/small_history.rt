@@ -14,7 +14,8 @@ use std::alloc::Global;
 /// The line of the text of a history with the calls of a group, from the pairs of its range; nothing where the calls fit no
 /// history: where they are too many, too many of them overlap, or the text is too long.
 pub fn small_line(alloc: Global, loss: &Loss) -> Result<String, Memory>
-    ensures { (IsLinearizable loss.now.start.items loss.now.calls.items → ⊥) → IfOk result (λ text. IsSmallLine loss.now (string_bytes text)) }
+    ensures { (IsLinearizable loss.now.start.items loss.now.calls.items → ⊥)
+        → IfOk result (λ text. IsSmallLine loss.now (string_bytes text)) }
 {
     places_do_not_matter();
     let Some(history) = small_history(alloc, loss)? else {

@@ -73,7 +73,7 @@ after-inserts m ((key, value) ∷ start) (c ∷ done) calls accepted rising =
     ∙ same)
 
 -- The plan of the inserts is within the limits.
-start-within : (shape : Shape) (variant : Variant) (start : Contents) → IsWithinLimits shape
+pub start-within : (shape : Shape) (variant : Variant) (start : Contents) → IsWithinLimits shape
     → All (λ call. IsTrue (is_tree_call call)) (inserts start)
     → length start ≤ call_limit → IsPlan (start_plan shape variant start)
 start-within shape variant start within calls few = record {

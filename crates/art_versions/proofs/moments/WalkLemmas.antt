@@ -1,26 +1,25 @@
 -- The stages of an attempt of a scan, and what it has read there.
-use Rattle.std.proofs.Common.{◌≡◌, ℕ, zero, suc, ◌+◌, ◌-◌, ◌%◌, ◌<◌, ◌≤◌, List, [], ◌∷◌, refl, sym, subst, Bool, true, false}
+use Rattle.std.proofs.Common.{◌≡◌, ℕ, zero, suc, ◌+◌, ◌<◌, ◌≤◌, List, [], ◌∷◌, refl, sym, subst, Bool, true, false}
 use Rattle.std.proofs.Common.{arith}
-use Rattle.std.specs.Prelude.{◌==◌, if◌then◌else◌, slice_index, filter, Option, Some, None}
-use Rattle.std.proofs.lemmas.Option.{none-some, same_Some}
+use Rattle.std.specs.Prelude.{if◌then◌else◌, filter, Option, Some, None}
+use Rattle.std.proofs.lemmas.Option.{same_Some}
 use Rattle.art_rows.specs.declared.table.Kind.{Kind}
 use Rattle.art_rows.specs.declared.table.Kind.TheVariants.{Four, Sixteen, FortyEight, Full}
 use Rattle.art_rows.specs.declared.table.Shape.{Shape}
 use Rattle.art_rows.specs.Table.{child_at}
-use Rattle.art_rows.specs.Words.{entries_of, place_of}
 use Rattle.art_steps.specs.Rows.{Setting}
 use Rattle.art_steps.specs.Scan.{bytes_of}
 use Rattle.art_stages.specs.declared.stage.Held.{Held}
 use Rattle.art_stages.specs.declared.stage.Keys.{Keys as KeyWords}
 use Rattle.art_stages.specs.declared.stage.Frame.{Frame}
 use Rattle.art_stages.specs.declared.stage.ScanStep.TheVariants.{Keys, Index, Child as LoadChild}
-use Rattle.art_stages.specs.Stages.{row_at, held, keys_among}
+use Rattle.art_stages.specs.Stages.{row_at, held}
 use Rattle.art_stages.specs.Automaton.{keys_one}
 use Rattle.art_stages.specs.Scans.{Walk, ScanAt, at, on_way, in_word, release_rows, slot_at, bytes_at, index_at_list}
-use Rattle.art_stages.specs.Scans.{words_at, place_slot, child_from, frame_at, way_at, resume_at, row_begins, visit_list}
+use Rattle.art_stages.specs.Scans.{words_at, child_from, frame_at, way_at, resume_at, row_begins, visit_list}
 use Rattle.art_versions.specs.versions.Holding.{OfRows, Each, IsSlot, FitsFrame}
 use Rattle.art_versions.proofs.versions.ByteLemmas.{index-small}
-use Rattle.art_versions.proofs.versions.WordFacts.{place-fits, entry-fits}
+use Rattle.art_versions.proofs.versions.ScanLemmas.{place-good, entry-good}
 
 -- Where a walk resumes: whatever is so of the stages that can come is so.
 module _ (s : Shape) (lo hi : ℕ) (rows : List Held) (P : OfRows) (G : ScanAt → Type 0)
@@ -65,23 +64,6 @@ module _ (s : Shape) (lo hi : ℕ) (rows : List Held) (P : OfRows) (G : ScanAt �
           → G (index_at_list n w j m xs (words_at lo hi n w (j + 1) m other))
       go [] e later = later
       go (x ∷ xs) e later = index n j m w (index-small lo hi (row_at n) j x xs e) r is p way
-
-  place-good : (kind : Kind) (base : ℕ) (k : KeyWords) (y slot : ℕ) → place_slot kind base (place_of y (keys_among kind k)) ≡ Some slot
-      → IsSlot base kind slot
-  place-good kind base k y slot h = go (place_of y (keys_among kind k)) refl h
-    where
-      go : (o : Option ℕ) → place_of y (keys_among kind k) ≡ o → place_slot kind base o ≡ Some slot → IsSlot base kind slot
-      go None e f = absurd (none-some slot f)
-      go (Some i) e f = (i, place-fits kind k y i e, sym (same_Some _ slot f))
-
-  entry-good : (base word y slot : ℕ) → (if slice_index (entries_of word) (y % 8) == 0 then None else Some
-      (child_at FortyEight base (slice_index (entries_of word) (y % 8) - 1))) ≡ Some slot → IsSlot base FortyEight slot
-  entry-good base word y slot h = go (slice_index (entries_of word) (y % 8) == 0) h
-    where
-      go : (b : Bool) → (if b then None else Some (child_at FortyEight base (slice_index (entries_of word) (y % 8) - 1))) ≡ Some slot
-          → IsSlot base FortyEight slot
-      go true f = absurd (none-some slot f)
-      go false f = (slice_index (entries_of word) (y % 8) - 1, entry-fits word (y % 8), sym (same_Some _ slot f))
 
   abbrev frame : ℕ → Kind → ℕ → ℕ → KeyWords → ℕ → ℕ → ℕ → ℕ → Frame
   frame base kind info kept k byte left index words =

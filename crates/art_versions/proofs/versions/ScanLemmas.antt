@@ -70,7 +70,7 @@ among-all : (Q : Held → Type 0) (rows : List Held) → ((x : Held) → IsAmong
 among-all Q [] h back = tt
 among-all Q (x ∷ rows) h back = (back x (h (lock_of x) (inl refl)), among-all Q rows (λ y a. h y (inr a)) back)
 
-place-good : (kind : Kind) (base : ℕ) (keys : KeyWords) (y slot : ℕ) → place_slot kind base (place_of y (keys_among kind keys)) ≡ Some slot
+pub place-good : (kind : Kind) (base : ℕ) (keys : KeyWords) (y slot : ℕ) → place_slot kind base (place_of y (keys_among kind keys)) ≡ Some slot
     → IsSlot base kind slot
 place-good kind base keys y slot h = go (place_of y (keys_among kind keys)) refl h
   where
@@ -78,7 +78,7 @@ place-good kind base keys y slot h = go (place_of y (keys_among kind keys)) refl
     go None e f = absurd (none-some slot f)
     go (Some i) e f = (i, place-fits kind keys y i e, sym (same_Some _ slot f))
 
-entry-good : (base word y slot : ℕ) → (if slice_index (entries_of word) (y % 8) == 0 then None else Some
+pub entry-good : (base word y slot : ℕ) → (if slice_index (entries_of word) (y % 8) == 0 then None else Some
     (child_at FortyEight base (slice_index (entries_of word) (y % 8) - 1))) ≡ Some slot → IsSlot base FortyEight slot
 entry-good base word y slot h = go (slice_index (entries_of word) (y % 8) == 0) h
   where
