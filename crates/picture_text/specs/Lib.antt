@@ -5,3 +5,4 @@ pub mod Marks
 pub mod Frame
 pub mod Parts
 pub mod Svg
+pub mod Style

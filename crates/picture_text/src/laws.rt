@@ -1,7 +1,13 @@
-// A law of contents.
+// Laws of what every text has: of contents, and of the style.
 ghost use Rattle.picture_text.specs.Content.{EscapedHasNoMarkup};
+ghost use Rattle.picture_text.specs.Style.{StyleIsLiteral};
 
 /// What is escaped has no byte that begins or ends a tag, or ends a value.
 pub fn contents_have_no_markup()
     ensures { EscapedHasNoMarkup }
+{}
+
+/// The style of a text is these lines, which have no script and refer to nothing outside.
+pub fn style_is_literal()
+    ensures { StyleIsLiteral }
 {}

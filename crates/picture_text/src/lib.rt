@@ -13,5 +13,5 @@ mod part_text;
 mod svg_of;
 
 pub use content::push_content;
-pub use laws::contents_have_no_markup;
+pub use laws::{contents_have_no_markup, style_is_literal};
 pub use svg_of::{STYLE, svg};

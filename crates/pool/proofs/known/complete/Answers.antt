@@ -28,7 +28,8 @@ loop-answer-preserved g c =
             rw w.found-is (IsHalfKnown-found P kept.known next (rw here at w.in_ok-found-in-None-answer.ensures.exact))
       ];
       passed = elim c.match-answer.branch [
-        | in-Some-answer w ↦ passed_more WasPassed answers _ kept.passed (passed_known WasPassed (length answers) kept.rest next w.in-Some-answer.is)
+        | in-Some-answer w ↦ passed_more WasPassed answers _ kept.passed
+            (passed_known WasPassed (length answers) kept.rest next w.in-Some-answer.is)
         | in-None-answer+in_ok-found-in-None-answer w ↦
             let here : w.len-in-None-answer.result ≡ length answers =
             omega (arith, w.len-in-None-answer.ensures, c.loop-answer.answers.ok.0) in
@@ -44,5 +45,6 @@ returns g c =
     (nil_from_length _ (omega (arith, c.in-None.ensures.steps.0, c.loop-answer.answer-iterator.rest.ok.0))) in
     record {
       exact = all;
-      passed = all_passed (g.G.Gate.was_passed c.args.gate.now) P c.args.segments.now c.loop-answer.answers.items all c.loop-answer.invariant.passed;
+      passed = all_passed (g.G.Gate.was_passed c.args.gate.now) P c.args.segments.now c.loop-answer.answers.items all
+          c.loop-answer.invariant.passed;
     }
