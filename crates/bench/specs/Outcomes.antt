@@ -36,7 +36,8 @@ abbrev pub IsLineOutcome : Line → Change → Outcome → Type 0
 IsLineOutcome (Check order) source outcome = IsCheckOutcome order.items source outcome
 IsLineOutcome (Judge budget workers) source outcome = IsJudgeOutcome budget source outcome
 IsLineOutcome (Locate budget workers) source outcome = IsLocateOutcome budget source outcome
-IsLineOutcome (Draw budget workers around calls) source outcome = IsDrawOutcome budget (record { around = around; calls = calls }) source outcome
+IsLineOutcome (Draw budget workers around calls) source outcome =
+    IsDrawOutcome budget (record { around = around; calls = calls }) source outcome
 IsLineOutcome (Follow budget) source outcome = IsFollowOutcome budget source outcome
 IsLineOutcome (Generate seed processes calls get insert remove scan lo hi) source outcome = IsUnused source
     × IsGenerateOutcome seed (record { get = get; insert = insert; remove = remove; scan = scan; lo = lo; hi = hi }) processes calls outcome

@@ -1,5 +1,5 @@
 -- What a law says of the place that a fault names.
-use Rattle.std.specs.Prelude.{◌≡◌, ⊤, ℕ, List, Option, Some}
+use Rattle.std.specs.Prelude.{◌≡◌, ⊤, ℕ, List, Some}
 use Rattle.serde_json.specs.Data.{Data}
 use Rattle.events.specs.declared.fault.HistoryFault.{HistoryFault}
 use Rattle.events.specs.declared.fault.HistoryFault.TheVariants as histories

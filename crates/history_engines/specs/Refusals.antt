@@ -1,5 +1,5 @@
 -- What is told of a text that spells no history: its first fault, what stands there, and what was wanted.
-use Rattle.std.specs.Prelude.{◌≡◌, ◌≢◌, ⊤, ℕ, Bool, false, List, Option, Some, None, option_and_then, codes, string_bytes}
+use Rattle.std.specs.Prelude.{◌≡◌, ◌≢◌, ⊤, ℕ, false, List, Option, Some, None, option_and_then, codes, string_bytes}
 use Rattle.serde_json.specs.Data.{Data}
 use Rattle.serde_json.specs.Find.{get, at}
 use Rattle.serde_json.specs.Read.{read}

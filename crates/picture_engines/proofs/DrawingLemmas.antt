@@ -13,9 +13,9 @@ use Rattle.pictures.specs.declared.windows.View.{View}
 use Rattle.picture_engines.specs.Drawings.{IsViewAnswer, IsDrawing}
 
 -- a drawing that is answered with a line feed behind it is an outcome of the text
-pub IsTextOutcome-drawn : {E : Type 0} (budget : ℕ) (view : View) (text : List ℕ) (history : HistoryView) (answer : Answer) (drawing : List ℕ)
-    (full : Result (String Global) E)
-    (outcome : Outcome) → IsTextOf text history → IsDrawing budget view history answer drawing → IfOk full (λ f. string_bytes f ≡ line drawing)
+pub IsTextOutcome-drawn : {E : Type 0} (budget : ℕ) (view : View) (text : List ℕ) (history : HistoryView) (answer : Answer)
+    (drawing : List ℕ) (full : Result (String Global) E) (outcome : Outcome) → IsTextOf text history
+    → IsDrawing budget view history answer drawing → IfOk full (λ f. string_bytes f ≡ line drawing)
     → MatchResult full (λ f. outcome ≡ Answered answer f) (λ _. outcome ≡ Memory)
     → IsTextOutcome (IsViewAnswer budget view) IsHistoryRefusal (Some text) outcome
 IsTextOutcome-drawn budget view text history answer drawing (Ok f) outcome is_text is full answered =

@@ -10,11 +10,13 @@ use Rattle.picture_text.specs.Parts.{with_before, with_behind, with_counts, with
 use Rattle.picture_text.specs.Svg.{top_text, with_bars, with_lanes, with_marks, IsSvgOf}
 
 -- what is said of a part
-pub part-whole : (text before behind counts : List ℕ) (width bottom end many : ℕ) (picture : Picture) (part : Part) → picture.part ≡ Some part
-    → many ≡ length picture.lanes.items → bottom ≡ y_of many → end ≡ x_of width picture.columns → before ≡ with_before text part.before bottom
-    → behind ≡ with_behind before (end + 8) part.behind bottom → counts ≡ with_counts behind (bottom + 36) picture.columns part picture.heading
+pub part-whole : (text before behind counts : List ℕ) (width bottom end many : ℕ) (picture : Picture) (part : Part)
+    → picture.part ≡ Some part → many ≡ length picture.lanes.items → bottom ≡ y_of many → end ≡ x_of width picture.columns
+    → before ≡ with_before text part.before bottom → behind ≡ with_behind before (end + 8) part.behind bottom
+    → counts ≡ with_counts behind (bottom + 36) picture.columns part picture.heading
     → counts ≡ with_part_of text width picture picture.part
-part-whole text before behind counts width bottom end many picture part is m b e first second third = rw (third, second, first, b, e, m, is) refl
+part-whole text before behind counts width bottom end many picture part is m b e first second third =
+    rw (third, second, first, b, e, m, is) refl
 
 -- the whole text
 pub svg-whole : (style top lanes bars names marks legend whole text : List ℕ) (width all end screens many y : ℕ) (picture : Picture)

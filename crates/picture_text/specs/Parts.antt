@@ -29,7 +29,8 @@ with_screens text width lanes screen (suc more) =
 
 -- a dashed line across the lanes
 abbrev pub line_text : ℕ → ℕ → List ℕ
-line_text x bottom = codes "<path stroke='#5c6b77' stroke-dasharray='4 3' d='M" ++ (decimal x ++ (codes " 70V" ++ (decimal bottom ++ codes "'/>")))
+line_text x bottom =
+    codes "<path stroke='#5c6b77' stroke-dasharray='4 3' d='M" ++ (decimal x ++ (codes " 70V" ++ (decimal bottom ++ codes "'/>")))
 
 -- how many columns stand before it, and behind it
 abbrev pub before_text : ℕ → List ℕ

@@ -1,6 +1,7 @@
 -- The part of a picture that a view shows: a window of the columns of the calls of which the verdict speaks.
 use Rattle.std.specs.Prelude.{◌≡◌, ℕ, ◌+◌, ◌-◌, ◌*◌, ◌/◌, ◌==◌, ◌<◌, ◌≤◌, Bool, true, not, ◌&&◌, ◌||◌, nat_lt, nat_le, if◌then◌else◌, min}
-use Rattle.std.specs.Prelude.{List, ◌++◌, length, map, filter, count_by, position, Option, Some, None, option_map, unwrap_or, slice_get, MatchBool}
+use Rattle.std.specs.Prelude.{List, ◌++◌, length, map, filter, count_by, position, Option, Some, None, option_map, unwrap_or}
+use Rattle.std.specs.Prelude.{slice_get, MatchBool}
 use Rattle.std.specs.Prelude.{Contains, IfSome}
 use Rattle.std.specs.List.{filter_map, list_any}
 use Rattle.pictures.specs.declared.bars.Bar.{Bar}
@@ -129,7 +130,8 @@ IsShownOf events wrong view whole part = MatchBool (is_whole (view.calls * 3) wh
 -- a window does not pass the last column, and its middle is in it
 abbrev pub WindowHoldsMiddle : Type 0
 WindowHoldsMiddle = (columns middle room : ℕ) → (window_from columns middle room + min room columns ≤ columns)
-    × (middle < columns → 1 ≤ room → (window_from columns middle room ≤ middle) × (middle < window_from columns middle room + min room columns))
+    × (middle < columns → 1 ≤ room → (window_from columns middle room ≤ middle)
+    × (middle < window_from columns middle room + min room columns))
 
 -- columns keep their order, each has a place of its own, and none is past their number
 abbrev pub RanksRise : Type 0

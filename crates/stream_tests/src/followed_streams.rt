@@ -18,13 +18,13 @@ use segments::Segment;
 use std::alloc::Global;
 use std::test::Fail;
 
-/// What was searched where a stream was lost, or a search given up: the event, the call, the range, its pairs and the places of
-/// the calls.
+/// What was searched where a stream was lost, or a search given up: the event, the call, the range, its pairs and the numbers and
+/// places of the calls.
 fn shown(alloc: Global, loss: &Loss) -> Result<String, Fail> {
-    let calls: Vec<usize> = loss.calls.iter().map(|call| call.inv).collect(alloc)?;
+    let places: Vec<usize> = loss.calls.iter().map(|call| call.inv).collect(alloc)?;
     Ok(format!(in alloc;
-        "event {} call {} keys {}..={} from {:?} calls {calls:?}",
-        loss.event, loss.number, loss.range.low, loss.range.high, loss.start
+        "event {} call {} keys {}..={} from {:?} calls {:?} begun at {places:?}",
+        loss.event, loss.number, loss.range.low, loss.range.high, loss.start, loss.numbers
     )?)
 }
 
@@ -83,70 +83,70 @@ static CASES: [Case<'static>; 22] = [
     (
         GET_MISSES_ANSWERED_INSERT,
         1000,
-        "lost event 3 call 1 keys 5..=5 from [(5, 7)] calls [2]",
+        "lost event 3 call 1 keys 5..=5 from [(5, 7)] calls [1] begun at [2]",
     ),
     (GET_SEES_PENDING_INSERT, 1000, "left 2"),
     (GET_MISSES_PENDING_INSERT, 1000, "left 2"),
     (
         LATER_GET_MISSES_WHAT_WAS_SEEN,
         1000,
-        "lost event 4 call 2 keys 5..=5 from [] calls [0, 1, 3]",
+        "lost event 4 call 2 keys 5..=5 from [] calls [0, 1, 2] begun at [0, 1, 3]",
     ),
     (
         SCAN_MISSES_THE_FIRST_OF_TWO_INSERTS,
         1000,
-        "lost event 5 call 0 keys 1..=2 from [] calls [0, 1, 3]",
+        "lost event 5 call 0 keys 1..=2 from [] calls [0, 1, 2] begun at [0, 1, 3]",
     ),
     (
         SCANS_SEE_TWO_INSERTS_IN_DIFFERENT_ORDER,
         1000,
-        "lost event 7 call 3 keys 1..=2 from [] calls [0, 1, 2, 3]",
+        "lost event 7 call 3 keys 1..=2 from [] calls [0, 1, 2, 3] begun at [0, 1, 2, 3]",
     ),
     (TWO_KEYS_AND_A_PENDING_SCAN, 1000, "left 1"),
     (
         GET_SEES_WHAT_NOBODY_INSERTED,
         1000,
-        "lost event 5 call 2 keys 9..=9 from [] calls [4]",
+        "lost event 5 call 2 keys 9..=9 from [] calls [2] begun at [4]",
     ),
     (SCAN_OF_ALL_KEYS, 1000, "left 0"),
     (
         SCAN_LISTS_KEYS_THAT_FALL,
         1000,
-        "lost event 5 call 2 keys 0..=18446744073709551615 from [(0, 1), (18446744073709551615, 2)] calls [4]",
+        "lost event 5 call 2 keys 0..=18446744073709551615 from [(0, 1), (18446744073709551615, 2)] calls [2] begun at [4]",
     ),
     (GET_MISSES_REFUSED_INSERT, 1000, "left 0"),
     (
         GET_SEES_REFUSED_INSERT,
         1000,
-        "lost event 3 call 1 keys 5..=5 from [] calls [2]",
+        "lost event 3 call 1 keys 5..=5 from [] calls [1] begun at [2]",
     ),
     (
         GET_IS_ANSWERED_BY_A_LIST,
         1000,
-        "lost event 1 call 0 keys 5..=5 from [] calls [0]",
+        "lost event 1 call 0 keys 5..=5 from [] calls [0] begun at [0]",
     ),
     (EFFECT_LATER_THAN_THE_INVOCATION, 1000, "left 0"),
     (
         REFUSED_SCAN_TIES_KEYS,
         1000,
-        "lost event 5 call 2 keys 2..=2 from [] calls [4]",
+        "lost event 5 call 2 keys 2..=2 from [] calls [2] begun at [4]",
     ),
     (PENDING_GET_AND_SCAN, 1000, "left 2"),
     (
         GET_OF_ANOTHER_GROUP_GOES_WRONG,
         1000,
-        "lost event 8 call 4 keys 5..=5 from [(5, 7)] calls [7]",
+        "lost event 8 call 4 keys 5..=5 from [(5, 7)] calls [4] begun at [7]",
     ),
     (OPEN_INSERT_HOLDS_A_GET, 1000, "left 2"),
     (
         INSERTS_ALL_COME_FIRST,
         1000,
-        "lost event 4 call 1 keys 5..=5 from [] calls [0, 1, 2]",
+        "lost event 4 call 1 keys 5..=5 from [] calls [0, 1, 2] begun at [0, 1, 2]",
     ),
     (
         INSERTS_ALL_COME_FIRST,
         1,
-        "spent event 4 call 1 keys 5..=5 from [] calls [0, 1, 2]",
+        "spent event 4 call 1 keys 5..=5 from [] calls [0, 1, 2] begun at [0, 1, 2]",
     ),
 ];
 

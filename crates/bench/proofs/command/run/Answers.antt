@@ -48,7 +48,8 @@ returns-in-Locate-clause-run g c = record {
 pub returns-in-Draw-clause-run : goal.returns-in-Draw-clause-run
 returns-in-Draw-clause-run g c = record {
   outcome = c.run_draw.ensures.outcome;
-  comes = read-words IsLineOutcome (IsViewAnswer c.in-Draw.budget (record { around = c.in-Draw.around; calls = c.in-Draw.calls })) IsHistoryRefusal (texts c.args.words.now)
+  comes = read-words IsLineOutcome (IsViewAnswer c.in-Draw.budget (record { around = c.in-Draw.around; calls = c.in-Draw.calls }))
+      IsHistoryRefusal (texts c.args.words.now)
       (change g.S.Source.remaining g.S.Source.failures c.args.source.now c.run_draw.new.source) c.run_draw.ensures.outcome
       (λ comes. record { line = c.in-Ok.line; accepted = c.in-Ok.ensures.line.1; asked = c.in-Ok.ensures.line.0; comes = rw
           c.in-Draw.is comes })

@@ -58,7 +58,8 @@ returns-in-Ok-clause-locate c budget workers is =
 pub returns-in-Ok-clause-draw : goal.returns-in-Ok-clause-draw
 returns-in-Ok-clause-draw c given is =
     let is_use = draw_use (texts c.args.words.now) given is in
-    draws given c.line_of.result (subst (Gives draw_usage given []) (sym c.line_of.ensures.same) (c.in-Ok.ensures.given draw_usage given [] is_use))
+    draws given c.line_of.result
+    (subst (Gives draw_usage given []) (sym c.line_of.ensures.same) (c.in-Ok.ensures.given draw_usage given [] is_use))
 
 pub returns-in-Ok-clause-drive : goal.returns-in-Ok-clause-drive
 returns-in-Ok-clause-drive c given is =

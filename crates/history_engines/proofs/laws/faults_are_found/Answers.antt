@@ -1,5 +1,5 @@
-use Rattle.std.proofs.Common.{◌≡◌, ℕ, Bool, true, false, not, ◌||◌, List, [], ◌∷◌, ◌++◌, length, map, Option, Some, None, option_and_then, if◌then◌else◌}
-use Rattle.std.specs.Prelude.{⊤}
+use Rattle.std.proofs.Common.{◌≡◌, ℕ, Bool, true, false, not, ◌||◌, List, [], ◌∷◌, ◌++◌, length, map, Option, Some, None, option_and_then}
+use Rattle.std.specs.Prelude.{⊤, if◌then◌else◌}
 use Rattle.std.proofs.Common.{refl, sym, ap, ◌∙◌, subst, inl, inr, codes}
 use Rattle.std.proofs.lemmas.List.{length-map}
 use Rattle.serde_json.specs.Data.{Data}
@@ -10,7 +10,7 @@ use Rattle.events.specs.declared.event.Event.{Event}
 use Rattle.events.specs.declared.fault.HistoryFault.{HistoryFault}
 use Rattle.events.specs.declared.fault.HistoryFault.TheVariants as faults
 use Rattle.events.specs.Histories.{is_shaped, is_small, call_count}
-use Rattle.events.specs.HistoryFaults.{event_fault, has_open_call, is_call_too_many, is_out_of_turn}
+use Rattle.events.specs.HistoryFaults.{has_open_call, is_call_too_many, is_out_of_turn}
 use Rattle.events.specs.Events.{process_of}
 use Rattle.history_text.specs.Texts.{document, event_data, pair_data, start_data}
 use Rattle.history_text.specs.TextFaults.{IsTextFault, IsFaultAfter, IsPairFaultAfter, ShowsEventFault, ShowsPairFault}
@@ -102,7 +102,8 @@ found text (faults.Shape event) (d, json, inr h) names =
     (h.next, event_found text event (faults.Shape event) d h json.value (event_at _ h.before h.next (faults.Shape event) h.shows))
 found text (faults.NotWellFormed event) (d, json, inl h) names = absurd (pair_at h.before h.next (faults.NotWellFormed event) h.shows)
 found text (faults.NotWellFormed event) (d, json, inr h) names =
-    (h.next, event_found text event (faults.NotWellFormed event) d h json.value (event_at _ h.before h.next (faults.NotWellFormed event) h.shows))
+    (h.next, event_found text event (faults.NotWellFormed event) d h json.value
+        (event_at _ h.before h.next (faults.NotWellFormed event) h.shows))
 found text (faults.Start pair) (d, json, inl h) names =
     (h.next, pair_found text pair (faults.Start pair) d h json.value (pair_at h.before h.next (faults.Start pair) h.shows))
 found text (faults.Start pair) (d, json, inr h) names = absurd (event_at _ h.before h.next (faults.Start pair) h.shows)

@@ -13,5 +13,6 @@ screens-more text width lanes screen screens below =
 
 pub loop-screen-preserved : goal.loop-screen-preserved
 loop-screen-preserved c =
-    let more = screens-more (string_bytes c.loop-screen.out) c.args.width c.args.lanes.now c.loop-screen.screen c.args.screens c.loop-screen-test.true in
+    let more = screens-more (string_bytes c.loop-screen.out) c.args.width c.args.lanes.now c.loop-screen.screen c.args.screens
+    c.loop-screen-test.true in
     cc (more, c.loop-screen.invariant, c.in_ok-push_names.ensures, c.names_at.ensures)
