@@ -18,7 +18,7 @@ abbrev pub IsEarliestBelow : List Operation → List ℕ → ℕ → Option ℕ 
 IsEarliestBelow calls path i None = (place : ℕ) (r : RemainsBefore calls path place) → r.n < i → ⊥
 IsEarliestBelow calls path i (Some answered) =
     (place : ℕ) → (answered < place → (r : RemainsBefore calls path place) × (r.n < i))
-        × ((r : RemainsBefore calls path place) → r.n < i → answered < place)
+    × ((r : RemainsBefore calls path place) → r.n < i → answered < place)
 
 -- a number below the next one is below this one, or is this one
 pub below_or_at : (n i : ℕ) → n < i + 1 → (n < i) ⊎ (n ≡ i)
@@ -65,7 +65,7 @@ module _ (calls : List Operation) (path : List ℕ) where
         ),
         λ r lt. ⊎_elim (λ below. absurd (h place r below))
             (λ at. ltb-true response.res place (ap (λ o. is_before o place) (sym is) ∙ remaining i a place r here at))
-                (below_or_at r.n i lt),
+            (below_or_at r.n i lt),
       )
       of (Some answered) (Some response) is h = λ place. (
         λ before. ⊎_elim
@@ -84,7 +84,7 @@ module _ (calls : List Operation) (path : List ℕ) where
         λ r lt. ⊎_elim
             (λ below. let old = (h place).1 r below in omega arith)
             (λ at. let this = ltb-true response.res place (ap (λ o. is_before o place) (sym is) ∙ remaining i a place r here
-                at) in omega arith)
+            at) in omega arith)
             (below_or_at r.n i lt),
       )
 
@@ -120,7 +120,7 @@ module _ (calls : List Operation) (path : List ℕ) where
           let a_begins = subst (λ (b : Operation). b.inv < place) same begins in omega arith)
           (λ differ. ⊎_elim (λ lower. absurd (omega arith))
           (λ higher. let up = AllPairs-at (λ (x : Operation) (y : Operation). x.inv < y.inv) calls i r.n a r.call rising
-              higher here r.here in
+          higher here r.here in
           omega arith) differ)
           (cases_order r.n i)
 
@@ -135,9 +135,9 @@ module _ (calls : List Operation) (path : List ℕ) where
       later : answered < next.call.inv
       later = ⊎_elim
           (λ is. subst (λ (b : Operation). answered < b.inv)
-              (same_Some a next.call (sym here ∙ ap (slice_get calls) (sym is) ∙ next.here)) late)
+          (same_Some a next.call (sym here ∙ ap (slice_get calls) (sym is) ∙ next.here)) late)
           (λ differ. ⊎_elim (λ lower. absurd (omega arith))
           (λ higher. let up = AllPairs-at (λ (x : Operation) (y : Operation). x.inv < y.inv) calls i n a next.call rising
-              higher here next.here in
+          higher here next.here in
           omega arith) differ)
           (cases_order n i)

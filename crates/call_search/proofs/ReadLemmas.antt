@@ -112,9 +112,9 @@ module _ (start : Contents) (calls : List Operation) (path : List ℕ) (n : ℕ)
     leaves_there =
         let rest = IsLegal-back (pairs_after start calls path) (calls_at calls front) (a ∷ calls_at calls back) legal_rest in
         leaves_too (pairs_after start calls path) (after_calls (pairs_after start calls path) (calls_at calls front)) a.call
-            a.response read.completed
+        a.response read.completed
         (rising_after (calls_at calls front) (pairs_after start calls path) (rising_after (calls_at calls path) start rising)) read.legal
-            read.leaves rest.0
+        read.leaves rest.0
 
     others : All (λ k. k ≢ n) front
     others = AllPairs-before (λ k l. k ≢ l) front n back (AllPairs-back (λ k l. k ≢ l) path (front ++ n ∷ back) legal_order.distinct)
@@ -131,7 +131,7 @@ module _ (start : Contents) (calls : List Operation) (path : List ℕ) (n : ℕ)
             (IsLegal-append start (calls_at calls path) (a ∷ (calls_at calls front ++ calls_at calls back))
             (IsLegal-front start (calls_at calls path) (calls_at calls front ++ a ∷ calls_at calls back) legal_whole)
             (legal_forward (pairs_after start calls path) (calls_at calls front) (calls_at calls back) a read.legal read.leaves
-                leaves_there legal_rest));
+            leaves_there legal_rest));
       };
       complete = λ k done. Contains-forward path front n back k (order.complete k done);
     }

@@ -69,7 +69,7 @@ unchanged_by m (Remove key) (replies.Pairs pairs) rising says is = absurd (false
 unchanged_by m (Remove key) replies.Refused rising says is = absurd (reply_to_answers m (Remove key) (sym is))
 unchanged_by m (Replace key expected value) reply rising says is =
     replace_again m key expected value (value_at m key) rising refl
-        (subst (λ r. says_unchanged (Replace key expected value) r ≡ true) is says)
+    (subst (λ r. says_unchanged (Replace key expected value) r ≡ true) is says)
 
 pub unchanged : (m : Contents) (call : Call) (reply : Reply) → IsRising m → says_unchanged call reply ≡ true → IsLegalReply m call reply
     → after_reply m call reply ≡ m
@@ -121,12 +121,12 @@ said_by m (Scan low high) reply is same = scan reply
     scan replies.Refused = refl
 said_by m (Insert key value) reply is same =
     subst (λ r. says_unchanged (Insert key value) r ≡ true) (sym (is ∙ ap value_reply (value_put m key value same)))
-        (eq-eqb value value refl)
+    (eq-eqb value value refl)
 said_by m (Remove key) reply is same =
     subst (λ r. says_unchanged (Remove key) r ≡ true) (sym (is ∙ ap value_reply (value_removed m key same))) refl
 said_by m (Replace key expected value) reply is same =
     subst (λ r. says_unchanged (Replace key expected value) r ≡ true) (sym is)
-        (replaced_says m key expected value (value_at m key) refl same)
+    (replaced_says m key expected value (value_at m key) refl same)
 
 refused_says : (call : Call) → says_unchanged call replies.Refused ≡ true
 refused_says (Get key) = refl

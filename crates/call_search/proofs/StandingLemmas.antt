@@ -133,7 +133,7 @@ module _ (start : Contents) (calls : List Operation) where
 
     module _ (rest : List ℕ) (of : IsNextOf start calls path n rest) (level : Level) (place_is : level.place ≡ n) (at_is : level.at ≡ at)
         (rest_is : level.rest.items ≡ rest) (after_pairs : Contents)
-            (after_is : after_pairs ≡ after_call pairs next.call.call next.call.response)
+        (after_is : after_pairs ≡ after_call pairs next.call.call next.call.response)
         (undo_is : undone after_pairs level.undo ≡ pairs) (low_after : ℕ) (low_within : low_after ≤ length (set taken n true))
         (low_below : (k : ℕ) → k < low_after → (k < low) ⊎ (get_or (set taken n true) k false ≡ true)) where
       path_is : places (levels ++ level ∷ []) ≡ path ++ n ∷ []
@@ -154,8 +154,12 @@ module _ (start : Contents) (calls : List Operation) where
           let le : i ≤ length path = omega (arith, slice_get_within levels i l old, length-map levels (λ (k : Level). k.place)) in
           subst (λ p. Remembers start calls (visited ++ d ∷ []) p l) (sym (within_path i le))
           (record {
-            at = (before.at.0, slice_get-append_left visited (d ∷ []) l.at (slice_get_within visited l.at before.at.0 before.at.1)
-                ∙ before.at.1, before.at.2);
+            at = (
+              before.at.0,
+              slice_get-append_left visited (d ∷ []) l.at (slice_get_within visited l.at before.at.0 before.at.1)
+                  ∙ before.at.1,
+              before.at.2,
+            );
             undo = before.undo;
             next = before.next;
             closes = before.closes;
@@ -213,7 +217,7 @@ module _ (start : Contents) (calls : List Operation) where
             settled = λ c h. subst (λ p. IsSettled start calls p c) (sym path_is) (settled_pushed c h);
             marked = subst (λ p. AreMarked (length calls) p (set taken n true) low_after) (sym path_is)
                 (marked-push (length calls) path taken low n low_after s.marked (slice_get_within calls n next.call next.here)
-                    low_within low_below);
+                low_within low_below);
           }
 
   -- ---- back by one call
@@ -401,7 +405,7 @@ step_back start calls old middle new n s rest_is levels_is memo_is of stands mem
     let new_path : places new.levels.items ≡ places old.levels.items = ap (λ (v : Vec Level Global). places v.items) (levels ∙ levels_is) in
     let dead_there = subst (λ p. IsDead start calls (p ++ n ∷ [])) path_is dead in
     let choices : AreChoices start calls (places old.levels.items) middle.rest.items =
-        record { next = of.next; closes = of.closes dead_there } in
+    record { next = of.next; closes = of.closes dead_there } in
     record {
       stands = (
         stands,

@@ -98,7 +98,7 @@ pub record HasMoved (start : Contents) (calls : List Operation) (old new : Stand
   pub progress :
       ((length new.memo ≡ length old.memo) × (to_try new.levels.items new.rest.items < to_try old.levels.items old.rest.items)) ⊎
       ((length new.memo ≡ length old.memo + 1)
-          × (to_try new.levels.items new.rest.items ≤ to_try old.levels.items old.rest.items + length calls))
+      × (to_try new.levels.items new.rest.items ≤ to_try old.levels.items old.rest.items + length calls))
 
 -- a call of those to be tried, and the others: where it is a dead end, they make an end
 pub record IsNextOf (start : Contents) (calls : List Operation) (path : List ℕ) (n : ℕ) (rest : List ℕ) : Type 0 where

@@ -101,7 +101,7 @@ widened-skip calls range wider i a here skip h = record {
       (λ is. let same = same_Some a b (sym here ∙ (ap (slice_get calls) (sym is) ∙ at)) in
       absurd (both_ways (is_apart range b.call) tied
       (apart_in wider range b.call h.covers (subst (λ (b : Operation). belongs b ≡ true → is_apart wider b.call ≡ true) same
-          skip belongs_b))))
+      skip belongs_b))))
       (below_or_at n i lt);
   least = h.least;
 }
@@ -114,7 +114,7 @@ widened-take calls range wider i a here belongs_a tied h = record {
   covers = covers_through (widest wider (range_of a.call)) wider range (covers-widest_left wider (range_of a.call)) h.covers;
   ties = λ n b lt at belongs_b near. ⊎_elim
       (λ below. within_in wider (widest wider (range_of a.call)) b.call (covers-widest_left wider (range_of a.call))
-          (h.ties n b below at belongs_b near))
+      (h.ties n b below at belongs_b near))
       (λ is. let same = same_Some a b (sym here ∙ (ap (slice_get calls) (sym is) ∙ at)) in
       subst (λ (b : Operation). is_within (widest wider (range_of a.call)) b.call ≡ true) same
       (within_from (widest wider (range_of a.call)) a.call (omega arith) (omega arith)))

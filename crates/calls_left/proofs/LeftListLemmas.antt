@@ -74,7 +74,7 @@ first_mark true marks x xs rise = rw (eq-eqb x.inv x.inv refl) refl
 first_mark false marks x xs rise =
     false_from_ne_true (has_number (places_of (marked marks xs)) x.inv) (λ early.
     let (b, b_is, same) = Contains-from_map (λ b. b.inv) (marked marks xs) x.inv
-        (has_number-Contains (places_of (marked marks xs)) x.inv early) in
+    (has_number-Contains (places_of (marked marks xs)) x.inv early) in
     let later = later_invoked x xs rise b (Contains-from_marked marks xs b b_is) in
     absurd (omega arith))
 
@@ -124,7 +124,7 @@ answered_here res reply a = rw (eq-eqb a.inv a.inv refl) refl
 -- an answer is put at one of the calls left
 put_at_one : (left : List LeftCall) (place res : ℕ) (call : LeftCall) (reply : Reply) → InvocationsRise (calls_of left)
     → slice_get left place ≡ Some call → slice_set left place (with_answer call res reply) ≡ map
-        (answered_left call.operation.inv res reply) left
+    (answered_left call.operation.inv res reply) left
 put_at_one [] place res call reply rise here = absurd (none-some call here)
 put_at_one (x ∷ xs) zero res call reply rise here =
     let same = same_Some x call here in
@@ -132,11 +132,11 @@ put_at_one (x ∷ xs) zero res call reply rise here =
     let rest = map_same (answered_left inv res reply) (λ c. c) xs
     (λ c is. let later = later_invoked x.operation (calls_of xs) rise c.operation (Contains-map (λ (c : LeftCall). c.operation) xs c is) in
     ap (λ a. record { operation = a; number = c.number; process = c.process })
-        (unanswered inv res reply c.operation (λ e. absurd (omega arith))))
+    (unanswered inv res reply c.operation (λ e. absurd (omega arith))))
     ∙ map_id xs in
     let first = ap (λ a. record { operation = a; number = x.number; process = x.process }) (answered_here res reply x.operation) in
     subst (λ (call : LeftCall). slice_set (x ∷ xs) zero (with_answer call res reply) ≡ map
-        (answered_left call.operation.inv res reply) (x ∷ xs)) same
+    (answered_left call.operation.inv res reply) (x ∷ xs)) same
     (sym (ap (λ y. y ∷ map (answered_left inv res reply) xs) first ∙ ap (λ ys. with_answer x res reply ∷ ys) rest))
 put_at_one (x ∷ xs) (suc place) res call reply rise here =
     let later = later_invoked x.operation (calls_of xs) rise call.operation
@@ -182,9 +182,9 @@ settled_are_a_cut calls marks rise size go = record {
       let (n, a_here) = place_of-Contains calls a a_is in
       let (j, b_here) = place_of-Contains calls b b_is in
       let goes = go.let_go n a a_here (early_at calls marks n a rise size a_here ∙ early) j b b_here
-          (early_at calls marks j b rise size b_here ∙ late) in
+      (early_at calls marks j b rise size b_here ∙ late) in
       ⊎_elim (λ before. inl before) (λ apart. inr (apart_calls a b apart))
-          (or_cases (precedes a b) (is_apart (range_of b.call) a.call) goes);
+      (or_cases (precedes a b) (is_apart (range_of b.call) a.call) goes);
 }
 
 -- keys of a range and keys that are apart from it
@@ -205,7 +205,7 @@ groups_are_parts range calls closed = record {
       let (b_in, b_belongs) = Contains-from_filter belongs calls b b_is in
       ⊎_elim (λ within. absurd (both_ways (is_within range b.call) there within)) (λ apart. parts_of range a b here apart)
       (All-contains (λ a. belongs a ≡ true → (is_within range a.call ≡ true) ⊎ (is_apart range a.call ≡ true)) calls b
-          closed b_in b_belongs);
+      closed b_in b_belongs);
   group = marked-map (is_in_group range) calls ∙ sym (filter-filter (λ a. is_within range a.call) belongs calls);
 }
 
@@ -214,7 +214,7 @@ pub groups_name_keys_within : (range : KeyRange) (calls : List Operation) → Al
 groups_name_keys_within range calls shaped =
     All-from_contains (λ a. NamesKeysWithin range.low range.high a.call) (marked (map (is_in_group range) calls) calls) (λ a is.
     let (a_in, here) = Contains-from_filter (is_in_group range) calls a (subst (λ xs. Contains xs a)
-        (marked-map (is_in_group range) calls) is) in
+    (marked-map (is_in_group range) calls) is) in
     let within = (and_parts (belongs a) (is_within range a.call) here).1 in
     let parts = and_parts (nat_le range.low (low_key a.call)) (nat_le (high_key a.call) range.high) within in
     record {

@@ -45,7 +45,7 @@ marked-more marks xs kept whole i x here lt is h =
     let rest = drop_at xs i x here in
     let mark = drop_at marks i true (slice_get-get_or marks i false lt ∙ ap Some is) in
     rw (add-one, append_assoc)
-        (sym (ap (λ zs. kept ++ zs) (ap (λ ms. marked ms (drop i xs)) mark ∙ ap (marked (true ∷ drop (suc i) marks)) rest)) ∙ h)
+    (sym (ap (λ zs. kept ++ zs) (ap (λ ms. marked ms (drop i xs)) mark ∙ ap (marked (true ∷ drop (suc i) marks)) rest)) ∙ h)
 
 pub marked-less : {X : Type 0} (marks : List Bool) (xs kept : List X) (whole : List X) (i : ℕ) (x : X) → slice_get xs i ≡ Some x
     → i < length marks
@@ -144,7 +144,7 @@ sweep-take calls old new taken i j a here is_marked_here held h = record {
       (λ is.
       let here_too = subst (λ n. is_marked others n ≡ true) is marked in
       let out = false_from_ne_true (is_marked others held.place)
-          (λ yes. both_ways (is_marked new held.place) held.not_marked (before held.place yes)) in
+      (λ yes. both_ways (is_marked new held.place) held.not_marked (before held.place yes)) in
       absurd (both_ways (lets_go held.stays a) held.holds (go.let_go i a here here_too held.place held.stays held.here out)))
       (λ apart. let other : n ≢ i = ⊎_elim (λ lower same. absurd (omega arith)) (λ higher same. absurd (omega arith)) apart in
       get_or-set_other new i n false false other ∙ before n marked)

@@ -29,7 +29,7 @@ pub record IsPutAtOne (left : List LeftCall) (place res : ℕ) (call : LeftCall)
 abbrev pub AnswersFillOnePlace : Type 0
 AnswersFillOnePlace =
     (left : List LeftCall) (place res : ℕ) (call : LeftCall) (reply : Reply) → InvocationsRise (calls_of left)
-        → slice_get left place ≡ Some call
+    → slice_get left place ≡ Some call
     → IsPutAtOne left place res call reply
 
 -- the calls that are marked are the early ones

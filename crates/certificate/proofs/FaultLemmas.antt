@@ -57,7 +57,7 @@ free_last start calls numbers n a h here (k, b, within, is, precedes_b) =
     let precedence : KeepsPrecedence (calls_at calls numbers ++ a ∷ []) = rw (calls_at-push calls numbers n a here) at h.precedence in
     false≢true
     (sym (AllPairs-across (λ b c. precedes c b ≡ false) (calls_at calls numbers) (a ∷ []) precedence k b within 0 a (omega arith))
-        ∙ ap (precedes a) is
+    ∙ ap (precedes a) is
     ∙ precedes_b)
 
 -- the last call of a legal order is legal after the others
@@ -82,7 +82,7 @@ module _ (start : Contents) (calls : List Operation) (order : List ℕ) where
   front_unbroken : (p q : ℕ) → BreaksAt start calls order p → BreaksAt start calls order q → p < q → ⊥
   front_unbroken p q at_p at_q before =
       at_p.broken (subst (IsLegalOrder start calls) (take-take (p + 1) q order (omega arith))
-          (IsLegalOrder-take start calls (take q order) (p + 1) at_q.sound))
+      (IsLegalOrder-take start calls (take q order) (p + 1) at_q.sound))
 
   -- so it breaks at one place only
   same_place : (p q : ℕ) → BreaksAt start calls order p → BreaksAt start calls order q → p ≡ q
@@ -109,12 +109,12 @@ module _ (start : Contents) (calls : List Operation) (order : List ℕ) where
   BreaksAt-precedence : (p : ℕ) → BreaksPrecedenceAt start calls order p → BreaksAt start calls order p
   BreaksAt-precedence p h =
       BreaksAt-next p h.next.number h.next.next
-          (λ legal. free_last start calls (take p order) h.next.number h.a legal h.next.call h.precedes_earlier)
+      (λ legal. free_last start calls (take p order) h.next.number h.a legal h.next.call h.precedes_earlier)
 
   BreaksAt-illegal : (p : ℕ) → IsIllegalAt start calls order p → BreaksAt start calls order p
   BreaksAt-illegal p h =
       BreaksAt-next p h.next.number h.next.next
-          (λ legal. h.illegal (legal_last start calls (take p order) h.next.number h.a legal h.next.call))
+      (λ legal. h.illegal (legal_last start calls (take p order) h.next.number h.a legal h.next.call))
 
   -- two facts that break the list, and exclude each other at one place, exclude each other
   apart : (P Q : ℕ → Type 0) → ((p : ℕ) → P p → BreaksAt start calls order p) → ((p : ℕ) → Q p → BreaksAt start calls order p)

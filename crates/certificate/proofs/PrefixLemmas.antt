@@ -98,5 +98,5 @@ IsPrefixOf-push start calls numbers prefix after n a h here new free legal pairs
       latest =
           rw (latest, h.latest, pushed)
           (sym (ap greatest (map-append (λ b. b.inv) (calls_at calls numbers) (a ∷ []))
-              ∙ greatest-push (map (λ b. b.inv) (calls_at calls numbers)) a.inv));
+          ∙ greatest-push (map (λ b. b.inv) (calls_at calls numbers)) a.inv));
     }

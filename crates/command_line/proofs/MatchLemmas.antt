@@ -56,7 +56,7 @@ module _ (table : List Usage) (met : Option (Text × List Row)) (meets : Meets t
     pub numbers_met : are_named u.flags (λ n. first_of n rows) ≡ true → (ns : List ℕ) × AreNumbersOf u.flags (λ n. first_of n rows) ns
     numbers_met =
         subst (λ (v : Usage). are_named v.flags (λ n. first_of n rows) ≡ true → (ns : List ℕ)
-            × AreNumbersOf v.flags (λ n. first_of n rows) ns) usage_is
+        × AreNumbersOf v.flags (λ n. first_of n rows) ns) usage_is
         (subst (λ (rs : List Row). are_named meets.usage.flags (λ n. first_of n rs) ≡ true
         → (ns : List ℕ) × AreNumbersOf meets.usage.flags (λ n. first_of n rs) ns) rows_are meets.numbers)
 

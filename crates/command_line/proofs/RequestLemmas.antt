@@ -62,7 +62,7 @@ values_pass c a (r ∷ rs) own all = go (bytes_eq r.id a.id) refl (values_pass c
   where
     go : (b : Bool) → bytes_eq r.id a.id ≡ b → values_fault a (values_of a.id rs) ≡ []
         → values_fault a
-            (unwrap_or (option_map (λ (x : Row). x.values) (cond b (Some r) (find (λ (x : Row). bytes_eq x.id a.id) rs))) []) ≡ []
+        (unwrap_or (option_map (λ (x : Row). x.values) (cond b (Some r) (find (λ (x : Row). bytes_eq x.id a.id) rs))) []) ≡ []
     go true here later = (all.0 a (subst (λ (w : Text). arg_by_id c w ≡ Some a) (sym ((bytes_eq-Decides r.id a.id).0 here)) own)).pass
     go false here later = later
 
@@ -218,7 +218,7 @@ usage_met table met name u words all named met_is none =
       subcommand = met_is ∙ ap (λ (n : Text). Some (n, rows)) (named_so table name u named);
       numbers = λ words_are.
           flags_read (built_usage u).rules (built_tail u.takes_calls) u.flags rows own passes flags_are
-              (none_missing u words none) words_are;
+          (none_missing u words none) words_are;
       calls = calls_read u.flags u.takes_calls rows flags_are passes;
     }
 
@@ -226,12 +226,12 @@ usage_met table met name u words all named met_is none =
 built_meets : (program : Text) (table : List Usage) (words : List Text) → are_usages table ≡ true
     → built_fault (built_table program table) nothing_held words ≡ []
     → Meets table (entered (built_table program table) (stop_after (built_table program table).top.rules
-        (names_of (built_table program table)) words))
+    (names_of (built_table program table)) words))
 built_meets program table words all none =
     let e = enters (built_table program table) words refl none in
     let is = usage_found program table e.name e.shape e.found e.not_help in
     let met = entered (built_table program table)
-        (stop_after (built_table program table).top.rules (names_of (built_table program table)) words) in
+    (stop_after (built_table program table).top.rules (names_of (built_table program table)) words) in
     usage_met table met e.name is.0 e.rest all is.1
     (e.entered_is ∙ ap (λ (s : Shape). Some (rows_at s e.rest)) is.2)
     (subst (λ (s : Shape). level_fault s [] nothing_held e.rest false [] ≡ []) is.2 e.passes)
@@ -242,5 +242,5 @@ pub meets_some : (program : Text) (u : Usage) (us : List Usage) (words : List Te
 meets_some program u us words all none =
     let rest : List Text = argument_words (table_app program (u ∷ us)) words in
     let reads : App → Type 0 = λ a. built_fault a nothing_held rest ≡ []
-        → Meets (u ∷ us) (entered a (stop_after a.top.rules (names_of a) rest)) in
+    → Meets (u ∷ us) (entered a (stop_after a.top.rules (names_of a) rest)) in
     subst reads (sym (built_is program u us)) (built_meets program (u ∷ us) rest all) none

@@ -197,10 +197,10 @@ module _ (c : List Rule) where
         → RowsPass c (counted a.id (reading_by a) values rows)
     counted_passes [] rows none all =
         count_added (reading_by a) CommandLine (min (count_of a.id rows + 1) 255) (without a.id rows) (rw none refl)
-            (without_passes a.id rows all)
+        (without_passes a.id rows all)
     counted_passes (v ∷ vs) rows none all =
         values_added (reading_by a) CommandLine (v ∷ vs) (without a.id rows) (record { pass = none; some = λ wants. tt })
-            (without_passes a.id rows all)
+        (without_passes a.id rows all)
 
     -- a use that takes the place of an earlier one
     set_passes : (again : Bool) (values : List Text) (rows : List Row) → set_fault again a values rows ≡ []
@@ -293,7 +293,7 @@ module _ (c : List Rule) where
 
           go : (b : Bool)
               → cond b (option_fault c again a (attached_value rest) h)
-                  (or_else (react_fault c again a [] h) (after (reacted c a [] h))) ≡ []
+              (or_else (react_fault c again a [] h) (after (reacted c a [] h))) ≡ []
               → RowsPass c (cond b (option_met c a (attached_value rest) h) (met (reacted c a [] h))).0.rows
           go true passed = option_passes a (attached_value rest) h mine passed all
           go false passed =

@@ -20,7 +20,7 @@ pub one_rule : (name : Text) (xs : List ValueOption) (i : ℕ) (d : ValueOption)
 one_rule name xs i d lt =
     let more = map_more flag_of xs i d lt in
     ap (leaf name) (sym (ap (map option_rule) more ∙ map-append option_rule (map flag_of (take i xs))
-        (flag_of (slice_index_or xs i d) ∷ [])))
+    (flag_of (slice_index_or xs i d) ∷ [])))
 
 -- a table with one more row has some
 some_more : (us : List Usage) (u : Usage) → has_none (us ++ u ∷ []) ≡ false
@@ -30,17 +30,17 @@ some_more (v ∷ vs) u = refl
 -- one more subcommand
 pub one_usage : (name : Text) (xs : List Subcommand) (i : ℕ) (d : Subcommand) → i < length xs
     → with_subcommand (table_app name (map usage_of (take i xs)))
-        (leaf (slice_index_or xs i d).name.now (rules_for (usage_of (slice_index_or xs i d)))).top
+    (leaf (slice_index_or xs i d).name.now (rules_for (usage_of (slice_index_or xs i d)))).top
     ≡ table_app name (map usage_of (take (i + 1) xs))
 one_usage name xs i d lt =
     let us = map usage_of (take i xs) in
     let u = usage_of (slice_index_or xs i d) in
     let more : table_app name (us ++ u ∷ []) ≡ table_app name (map usage_of (take (i + 1) xs)) =
-        ap (table_app name) (sym (map_more usage_of xs i d lt)) in
+    ap (table_app name) (sym (map_more usage_of xs i d lt)) in
     let some = some_more us u in
     let subs = map-append (λ (v : Usage). (leaf v.name (rules_for v)).top) us (u ∷ []) in
     let added : table_app name (us ++ u ∷ []) ≡ with_subcommand (table_app name us) (leaf u.name (rules_for u)).top =
-        rw (some, subs) refl in
+    rw (some, subs) refl in
     sym added ∙ more
 
 -- ---- the numbers of options

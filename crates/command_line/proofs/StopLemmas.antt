@@ -80,7 +80,7 @@ module _ (s : Shape) where
 
       go : (b : Bool) → cond b [] (other_fault s (subcommand_met names w.waiting word) word w.held) ≡ []
           → StepPasses s (cond b (w.held, value) (subcommand_or_other s.rules (subcommand_met names w.waiting word) w.waiting
-              w.position word w.held)).1
+          w.position word w.held)).1
       go true none = tt
       go false none = named (subcommand_met names w.waiting word) none
 

@@ -71,11 +71,11 @@ built_top name = record (new_shape name) {
 usage_is : (u : Usage) → built_leaf (inherited (new_shape []) (leaf u.name (rules_for u)).top) ≡ built_usage u
 usage_is u =
     ap (λ (rules : List Rule). record (new_shape u.name) { rules = rules; disable_help_subcommand = true; is_built = true })
-        (rules_are u.flags u.takes_calls)
+    (rules_are u.flags u.takes_calls)
 
 subs_are : (table : List Usage)
     → map built_leaf (map (inherited (new_shape [])) (map (λ u. (leaf u.name (rules_for u)).top)
-        table) ++ help_shape ∷ []) ≡ built_subs table
+    table) ++ help_shape ∷ []) ≡ built_subs table
 subs_are [] = refl
 subs_are (u ∷ us) = ap₂ (λ (s : Shape) (ss : List Shape). s ∷ ss) (usage_is u) (subs_are us)
 
@@ -225,7 +225,7 @@ met_usage (v ∷ vs) name u found = go (bytes_eq v.name name) refl found (met_us
     go : (b : Bool) → bytes_eq v.name name ≡ b → cond b (Some v) (usage_named name vs) ≡ Some u
         → (usage_named name vs ≡ Some u → subcommand_met (map label_of (built_subs vs)) idle name ≡ Some name)
         → option_map (λ (l : Text × List Text). l.0)
-            (cond (b || false) (Some (v.name, [])) (find (answers_to name) (map label_of (built_subs vs)))) ≡ Some name
+        (cond (b || false) (Some (v.name, [])) (find (answers_to name) (map label_of (built_subs vs)))) ≡ Some name
     go true here is later = ap Some ((bytes_eq-Decides v.name name).0 here)
     go false here is later = later is
 

@@ -104,7 +104,7 @@ none_missing [] false given more required = refl
 none_missing (f ∷ fs) takes_calls given more required =
     let parts = both (is_some f.default || has_option f.name given) _ required in
     let here : is_missing (map row_given given ++ more) (built_flag f) ≡ false =
-        go (is_some f.default) parts.0 (given_there f.name given more) in
+    go (is_some f.default) parts.0 (given_there f.name given more) in
     rw here (none_missing fs takes_calls given more parts.1)
   where
     go : (b : Bool) → (b || has_option f.name given) ≡ true
@@ -122,7 +122,7 @@ value_is (g ∷ gs) calls name other = go (bytes_eq g.0 name) (value_is gs calls
   where
     go : (b : Bool) → first_of name (use_rows gs calls) ≡ value_given gs name
         → option_and_then (λ (r : Row). slice_get r.values 0)
-            (cond b (Some (row_given g)) (find (λ (r : Row). bytes_eq r.id name) (use_rows gs calls)))
+        (cond b (Some (row_given g)) (find (λ (r : Row). bytes_eq r.id name) (use_rows gs calls)))
         ≡ option_map (λ (x : Given). x.1) (cond b (Some g) (find (λ (x : Given). bytes_eq x.0 name) gs))
     go true later = refl
     go false later = later

@@ -29,7 +29,7 @@ pub configuration_unique : (start : Contents) (calls : List Operation) (front : 
 configuration_unique start calls front c d by_c by_d =
     same_configuration c d
     (rising_unique c.taken d.taken by_c.rising by_d.rising
-        (λ n. (λ h. (by_d.taken n).1 ((by_c.taken n).0 h), λ h. (by_c.taken n).1 ((by_d.taken n).0 h))))
+    (λ n. (λ h. (by_d.taken n).1 ((by_c.taken n).0 h), λ h. (by_c.taken n).1 ((by_d.taken n).0 h))))
     (by_c.pairs ∙ sym by_d.pairs)
 
 -- no calls lead to the configuration of the start

@@ -54,7 +54,7 @@ IsFront-from_order start calls order none h = record {
         let one = same_Some n m (sym here ∙ ap (slice_get order) same ∙ there) in
         let same_call = same_Some before.0 before.1 (sym before.2 ∙ ap (slice_get calls) (sym one) ∙ before.3) in
         both_ways _ (All-at (λ a. precedes a a ≡ false) calls n before.1 none before.3)
-            (subst (λ a. precedes a before.1 ≡ true) same_call before.4)
+        (subst (λ a. precedes a before.1 ≡ true) same_call before.4)
 
     too_late : (i j m n : ℕ) → slice_get order i ≡ Some n → PrecedesAt calls m n → slice_get order j ≡ Some m → i < j → ⊥
     too_late i j m n here before there later =
@@ -62,7 +62,7 @@ IsFront-from_order start calls order none h = record {
         let second = slice_get-calls_at calls order j m h.legal_order.known there ∙ before.2 in
         both_ways _
         (AllPairs-at (λ a b. precedes b a ≡ false) (calls_at calls order) i j before.1 before.0 h.legal_order.precedence later
-            first second) before.4
+        first second) before.4
 
 -- a front is a legal order of its calls
 pub IsLegalOrder-from_front : (start : Contents) (calls : List Operation) (front : List ℕ) → IsFront start calls front
@@ -102,7 +102,7 @@ IsFront-front start calls front rest h = record {
   closed = λ i m n here before.
       let within = slice_get_within front i n here in
       subst (λ taken. Contains taken m) (take-append-le i front rest (omega arith))
-          (h.closed i m n (slice_get-append_left front rest i within ∙ here) before);
+      (h.closed i m n (slice_get-append_left front rest i within ∙ here) before);
   legal = IsLegal-front start (calls_at calls front) (calls_at calls rest)
       (subst (IsLegal start) (calls_at-append calls front rest) h.legal);
 }
@@ -125,7 +125,7 @@ IsFront-push start calls front n a h here new preceded legal = record {
   closed = λ i m k place before. ⊎_elim
       (λ old. subst (λ taken. Contains taken m) (sym (take-append-le i front (n ∷ []) (within i k old))) (h.closed i m k old before))
       (λ pushed. subst (λ taken. Contains taken m) (sym (take_at front (n ∷ []) i pushed.0))
-          (preceded m (subst (λ k. PrecedesAt calls m k) pushed.1 before)))
+      (preceded m (subst (λ k. PrecedesAt calls m k) pushed.1 before)))
       (place-push front n i k place);
   legal = rw (calls_at-push calls front n a here) (IsLegal-append start (calls_at calls front) (a ∷ []) h.legal (legal, tt));
 }
@@ -141,7 +141,7 @@ IsNext-from_front start calls front n rest h =
     let known = All-head (λ n. n < length calls) n rest (All-back (λ n. n < length calls) front (n ∷ rest) h.known) in
     let (a, here) = slice_get-below calls n known in
     let back = IsLegal-back start (calls_at calls front) (calls_at calls (n ∷ rest))
-        (subst (IsLegal start) (calls_at-append calls front (n ∷ rest)) h.legal) in
+    (subst (IsLegal start) (calls_at-append calls front (n ∷ rest)) h.legal) in
     let first = subst (λ o. IsLegal (after_calls start (calls_at calls front)) (cons_option o (calls_at calls rest))) here back in
     record {
       call = a;

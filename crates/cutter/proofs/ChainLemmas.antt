@@ -65,7 +65,7 @@ lower_before : (ranges : List KeyRange) (i : ℕ) (x : KeyRange) → RiseByLow r
 lower_before ranges i x sorted here =
     All-from_contains (λ r. r.low ≤ x.low) (take i ranges)
     (λ r is. let (j, before, at) = place_before-Contains ranges i r is in AllPairs-at (λ r s. r.low ≤ s.low) ranges j i r x
-        sorted before at here)
+    sorted before at here)
 
 -- the walk goes on to a range that begins within its reach; the first one may begin anywhere
 pub IsWalked-more : (ranges : List KeyRange) (place reach : ℕ) (d : KeyRange) → RiseByLow ranges → place < length ranges
@@ -85,9 +85,12 @@ IsWalked-more ranges i reach d sorted within meets h =
 -- what is in the part from a place on stands there or later
 place_from-Contains : (ranges : List KeyRange) (i : ℕ) (s : KeyRange) → Contains (drop i ranges) s → (j : ℕ) × (i ≤ j)
     × (slice_get ranges j ≡ Some s)
-place_from-Contains ranges i s (k, within, is) =
-    (i + k, omega arith, slice_get-get_or ranges (i + k) s (omega (arith, length-drop i ranges))
-        ∙ ap Some (sym (get_or-drop i ranges k s) ∙ is))
+place_from-Contains ranges i s (k, within, is) = (
+  i + k,
+  omega arith,
+  slice_get-get_or ranges (i + k) s (omega (arith, length-drop i ranges))
+      ∙ ap Some (sym (get_or-drop i ranges k s) ∙ is),
+)
 
 -- the range at a place begins at or below those from there on
 lower_after : (ranges : List KeyRange) (i : ℕ) (x s : KeyRange) → RiseByLow ranges → slice_get ranges i ≡ Some x
@@ -96,7 +99,7 @@ lower_after ranges i x s sorted here is =
     let (j, after, at) = place_from-Contains ranges i s is in
     ⊎_elim (λ later. AllPairs-at (λ r s. r.low ≤ s.low) ranges i j x s sorted later here at)
     (λ same. let j_is : i ≡ j = omega arith in let one =
-        ap (λ z. z.low) (same_Some x s (sym here ∙ (ap (slice_get ranges) j_is ∙ at))) in omega arith)
+    ap (λ z. z.low) (same_Some x s (sym here ∙ (ap (slice_get ranges) j_is ∙ at))) in omega arith)
     (cases_lt i j)
 
 -- the walk stops at a range that begins beyond its reach: those before it end below all others

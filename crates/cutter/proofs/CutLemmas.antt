@@ -61,10 +61,10 @@ not_cut-chained : (calls : List Operation) (chained : List KeyRange) (r s : KeyR
     → Contains chained r → Contains chained s → r.low < c → c ≤ s.high → IsCut calls c → ⊥
 not_cut-chained calls chained r s c each hang r_is s_is low high cut =
     let (k, x, within, is, over) = hang c (Any-from_contains (λ z. z.low < c) chained r r_is low) (Any-from_contains (λ z. c ≤ z.high)
-        chained s s_is high) in
+    chained s s_is high) in
     let range = All-contains (IsRangeOf calls) chained x each (k, within, is) in
     let clear = All-contains (λ a. spans c a ≡ false) calls range.operation cut.clear
-        (Contains-at calls x.number range.operation range.here) in
+    (Contains-at calls x.number range.operation range.here) in
     both_ways (spans c range.operation) clear
     (spans-from_keys c range.operation range.belonging (let e = range.low in omega arith) (let e = range.high in omega arith))
 
@@ -77,7 +77,7 @@ AreTogether-chained calls chained r s each hang r_is s_is =
     let q = All-contains (IsRangeOf calls) chained s each s_is in
     AreTogether-at calls r.number s.number p.operation q.operation p.here q.here (λ c cut separates. ⊎_elim
     (λ first. not_cut-chained calls chained r s c each hang r_is s_is (let e = p.low in omega (arith, first))
-        (let e = q.high in omega (arith, first)) cut)
+    (let e = q.high in omega (arith, first)) cut)
     (λ second. not_cut-chained calls chained s r c each hang s_is r_is (let e = q.low in omega (arith, second))
     (let e = p.high in omega (arith, second)) cut) separates)
 
@@ -97,7 +97,7 @@ IsCut-between calls front back c h positive below above =
     side : (r : KeyRange) → Contains (front ++ back) r → (c ≤ r.low) ⊎ (r.high < c)
     side r is =
         ⊎_elim (λ in_front. inr (All-contains (λ r. r.high < c) front r below in_front))
-            (λ in_back. inl (All-contains (λ r. c ≤ r.low) back r above in_back))
+        (λ in_back. inl (All-contains (λ r. c ≤ r.low) back r above in_back))
         (Contains-append_cases front back r is)
 
     keys : (r : KeyRange) (a : Operation) → IsRangeOf calls r → slice_get calls r.number ≡ Some a → (c ≤ r.low) ⊎ (r.high < c)
@@ -123,9 +123,12 @@ IsCut-reach calls front back r h apart r_is =
     IsCut-between calls front back (reach_of front + 1) h (omega arith)
     (All-from_contains (λ z. z.high < reach_of front + 1) front (λ z z_is. omega (arith, greatest_bound (λ z. z.high) front z z_is)))
     (All-from_contains (λ z. reach_of front + 1 ≤ z.low) back
-    (λ z z_is. omega
-    (arith, is, All-contains (λ s. top.high < s.low) back z
-        (All-contains (λ r. All (λ s. r.high < s.low) back) front top apart top_is) z_is)))
+    (λ z z_is. omega (
+      arith,
+      is,
+      All-contains (λ s. top.high < s.low) back z
+          (All-contains (λ r. All (λ s. r.high < s.low) back) front top apart top_is) z_is,
+    )))
 
 -- calls whose ranges lie apart are not together
 pub not_together-apart : (calls : List Operation) (front back : List KeyRange) (r s : KeyRange) → AreRanges calls (front ++ back)
@@ -139,7 +142,7 @@ not_together-apart calls front back r s h apart r_is s_is =
     let cut = IsCut-reach calls front back r h apart r_is in
     let (top, top_is, is) = greatest_is (λ z. z.high) front r r_is in
     let beyond = All-contains (λ z. top.high < z.low) back s (All-contains (λ z. All (λ s. z.high < s.low) back) front top
-        apart top_is) s_is in
+    apart top_is) s_is in
     let bound = greatest_bound (λ z. z.high) front r r_is in
     let low : low_key p.operation.call < c = omega (arith, p.low, p.in_order) in
     let high : c ≤ high_key q.operation.call = omega (arith, q.high, q.in_order) in (

@@ -69,7 +69,7 @@ pairs_from_IsDistinct : {X : Type 0} (number : X → ℕ) (xs : List X) → IsDi
     → AllPairs (λ x y. number x ≢ number y) xs
 pairs_from_IsDistinct number xs h i j d before within =
     eqb-false (number (get_or xs i d)) (number (get_or xs j d))
-        (apart_from_distinct (λ x y. eqb (number x) (number y)) xs i j d h before within)
+    (apart_from_distinct (λ x y. eqb (number x) (number y)) xs i j d h before within)
 
 -- the test of two numbers answers alike in either order
 eqb_comm : (m n : ℕ) → eqb m n ≡ eqb n m
@@ -80,7 +80,7 @@ pub distinct-IsPermutation : {X : Type 0} (number : X → ℕ) (xs ys : List X) 
     → AllPairs (λ x y. number x ≢ number y) ys
 distinct-IsPermutation number xs ys moved h = pairs_from_IsDistinct number ys
     (IsDistinct-IsPermutation (λ x y. eqb (number x) (number y)) (λ x y. eqb_comm (number x) (number y)) xs ys moved
-        (IsDistinct-from_pairs number xs h))
+    (IsDistinct-from_pairs number xs h))
 
 -- the ranges may change places
 pub AreRanges-IsPermutation : (calls : List Operation) (xs ys : List KeyRange) → IsPermutation xs ys → AreRanges calls xs
@@ -102,4 +102,4 @@ pub IsStrictlyIncreasing-from_sort : (numbers sorted : List ℕ) → AllPairs (�
     → IsStrictlyIncreasing sorted
 IsStrictlyIncreasing-from_sort numbers sorted distinct moved up =
     IsStrictlyIncreasing-from_distinct sorted up
-        (IsDistinct-IsPermutation eqb eqb_comm numbers sorted moved (IsDistinct-from_pairs (λ n. n) numbers distinct))
+    (IsDistinct-IsPermutation eqb eqb_comm numbers sorted moved (IsDistinct-from_pairs (λ n. n) numbers distinct))

@@ -32,7 +32,7 @@ keys_in_order-segment : (start : Contents) (calls : List Operation) (segment : S
 keys_in_order-segment start calls segment in_order h =
     let (n, is) = some_number segment.numbers h.not_empty in
     let (a, here) = slice_get-below calls n (All-contains (λ n. n < length calls) segment.numbers n
-        (known-IsSegment start calls segment h) is) in
+    (known-IsSegment start calls segment h) is) in
     let inside = IsInside-segment start calls segment n a h is here in
     let low = inside.low_inside in
     let high = inside.high_inside in
@@ -45,8 +45,11 @@ same_segment : (start : Contents) (calls : List Operation) (s t : SegmentView) (
     → s ≡ t
 same_segment start calls s t n s_is t_is in_s in_t =
     let numbers = rising_unique s.numbers t.numbers s_is.rising t_is.rising
-    (λ k. (λ is. (t_is.members n k in_t).1 ((s_is.members n k in_s).0 is), λ is. (s_is.members n k in_s).1
-        ((t_is.members n k in_t).0 is))) in
+    (λ k. (
+      λ is. (t_is.members n k in_t).1 ((s_is.members n k in_s).0 is),
+      λ is. (s_is.members n k in_s).1
+          ((t_is.members n k in_t).0 is),
+    )) in
     s_is.view ∙ (ap (segment_of start calls) numbers ∙ sym t_is.view)
 
 -- each segment of one list is in the other
@@ -73,7 +76,7 @@ same_ranges [] (t ∷ b) keys_a keys_b up_a up_b to from = absurd (Contains-nil 
 same_ranges (s ∷ a) [] keys_a keys_b up_a up_b to from = absurd (Contains-nil s (to s (Contains-first s a)))
 same_ranges (s ∷ a) (t ∷ b) keys_a keys_b up_a up_b to from =
     ap (λ u. u ∷ a) one ∙ ap (λ us. t ∷ us) (same_ranges a b (All-tail (λ s. s.lo ≤ s.hi) s a keys_a)
-        (All-tail (λ s. s.lo ≤ s.hi) t b keys_b)
+    (All-tail (λ s. s.lo ≤ s.hi) t b keys_b)
     (AllPairs-tail (λ s t. s.hi < t.lo) s a up_a) (AllPairs-tail (λ s t. s.hi < t.lo) t b up_b)
     (λ u is. later s b u keys_s (beyond_s u is) (subst (λ first. Contains (first ∷ b) u) (sym one) (to u (Contains-later s a u is))))
     (λ u is. later t a u keys_t (beyond_t u is) (subst (λ first. Contains (first ∷ a) u) one (from u (Contains-later t b u is)))))

@@ -45,7 +45,7 @@ AreApart-append xs ys zs first second = All-append (λ r. All (λ s. r.high < s.
 AreApart-back : (xs ys zs : List KeyRange) → AreApart xs (ys ++ zs) → AreApart xs zs
 AreApart-back xs ys zs h =
     All-weaker (λ r. All (λ s. r.high < s.low) (ys ++ zs)) (λ r. All (λ s. r.high < s.low) zs)
-        (λ r below. All-back (λ s. r.high < s.low) ys zs below) xs h
+    (λ r below. All-back (λ s. r.high < s.low) ys zs below) xs h
 
 -- the call of a range belongs
 BelongsAt-range : (calls : List Operation) (r : KeyRange) → IsRangeOf calls r → BelongsAt calls r.number
@@ -101,7 +101,7 @@ IsSegment-chained start calls before chained after numbers first h apart_before 
     elsewhere : (r s : KeyRange) → Contains chained r → AreTogether calls r.number s.number → Contains before s ⊎ Contains after s → ⊥
     elsewhere r s r_is together s_is = ⊎_elim
         (λ s_before. (not_together-apart calls before (chained ++ after) s r h apart_before s_before (Contains-append_left chained after r
-            r_is)).1 together)
+        r_is)).1 together)
         (λ s_after. (not_together-apart calls (before ++ chained) after r s (subst (AreRanges calls) (sym in_order) h)
         (AreApart-append before chained after (AreApart-back before chained after apart_before) apart_after)
         (Contains-append_right before chained r r_is) s_after).0 together) s_is
@@ -115,7 +115,7 @@ IsSegment-chained start calls before chained after numbers first h apart_before 
         subst (Contains numbers) n_is (⊎_elim
         (λ s_before. absurd (elsewhere r s r_is meet (inl s_before)))
         (λ s_later. ⊎_elim (λ s_chained. number_in chained numbers s its s_chained)
-            (λ s_after. absurd (elsewhere r s r_is meet (inr s_after)))
+        (λ s_after. absurd (elsewhere r s r_is meet (inr s_after)))
         (Contains-append_cases chained after s s_later))
         (Contains-append_cases before (chained ++ after) s s_is))
 
@@ -147,9 +147,11 @@ module _ (start : Contents) (calls : List Operation) (ranges : List KeyRange) (n
   -- the first range is that of a call
   first_call : (a : Operation) × Contains (calls_at calls numbers) a
   first_call =
-      let range = All-contains (IsRangeOf calls) ranges first each first_is in
-      (range.operation, Contains-filter_map (slice_get calls) numbers first.number range.operation
-          (number_in ranges numbers first its first_is) range.here)
+      let range = All-contains (IsRangeOf calls) ranges first each first_is in (
+        range.operation,
+        Contains-filter_map (slice_get calls) numbers first.number range.operation
+            (number_in ranges numbers first its first_is) range.here,
+      )
 
   -- what ends below all the ranges ends below the segment
   below_segment : (b : ℕ) → All (λ r. b < r.low) ranges → b < (segment_of start calls numbers).lo
@@ -180,7 +182,7 @@ AreSegmentsBefore-chained start calls chained after segments numbers first h han
       (IsSegment-chained start calls h.before chained after numbers first h.ranges h.apart hang apart first_is its);
   all = All-append (λ r. Any (λ s. Contains s.numbers r.number) (segments ++ segment ∷ [])) h.before chained
       (All-weaker (λ r. Any (λ s. Contains s.numbers r.number) segments)
-          (λ r. Any (λ s. Contains s.numbers r.number) (segments ++ segment ∷ []))
+      (λ r. Any (λ s. Contains s.numbers r.number) (segments ++ segment ∷ []))
       (λ r found. Any-from_contains (λ s. Contains s.numbers r.number) (segments ++ segment ∷ []) found.1
       (Contains-append_left segments (segment ∷ []) found.1 (found.0, found.2, found.3)) found.4) h.before h.all)
       (All-from_contains (λ r. Any (λ s. Contains s.numbers r.number) (segments ++ segment ∷ [])) chained
@@ -214,7 +216,7 @@ AreSegmentsBefore-more start calls (r ∷ rest) len segments numbers h some with
     AreSegmentsBefore-chained start calls (take len (r ∷ rest)) (drop len (r ∷ rest)) segments numbers (get_or (take len (r ∷ rest)) 0 r)
     (subst (λ ranges. AreSegmentsBefore start calls ranges segments) (sym (take-append-drop len (r ∷ rest))) h) hang apart
     (Contains-get_or (take len (r ∷ rest)) 0 r (omega (arith, length-take-le len (r ∷ rest) within)))
-        (record { rising = rising; same = same })
+    (record { rising = rising; same = same })
 
 -- the first of the rest have different numbers
 pub distinct_first : (start : Contents) (calls : List Operation) (rest : List KeyRange) (len : ℕ) (segments : List SegmentView)
@@ -223,7 +225,7 @@ pub distinct_first : (start : Contents) (calls : List Operation) (rest : List Ke
 distinct_first start calls rest len segments h =
     let R = λ (r s : KeyRange). r.number ≢ s.number in
     AllPairs-front R (take len rest) (drop len rest)
-        (subst (AllPairs R) (sym (take-append-drop len rest)) (AllPairs-back R h.before rest h.ranges.distinct))
+    (subst (AllPairs R) (sym (take-append-drop len rest)) (AllPairs-back R h.before rest h.ranges.distinct))
 
 -- their numbers are those of calls
 pub known_first : (start : Contents) (calls : List Operation) (rest : List KeyRange) (len : ℕ) (segments : List SegmentView)
@@ -233,7 +235,7 @@ pub known_first : (start : Contents) (calls : List Operation) (rest : List KeyRa
 known_first start calls rest len segments numbers h same = All-permutation (λ n. n < length calls) (numbers_of (take len rest)) numbers same
     (All-map (λ n. n < length calls) (λ (r : KeyRange). r.number) (take len rest) (All-take (λ r. r.number < length calls) len rest
     (All-weaker (IsRangeOf calls) (λ r. r.number < length calls)
-        (λ r range. slice_get_within calls r.number range.operation range.here) rest
+    (λ r range. slice_get_within calls r.number range.operation range.here) rest
     (All-back (IsRangeOf calls) h.before rest h.ranges.each))))
 
 -- and there are some

@@ -29,7 +29,7 @@ pub events_of-none : (n p : ℕ) (es : List Event) → All (λ e. process_of e <
 events_of-none n p es known above =
     filter_none (λ e. process_of e == p) es
     (All-weaker (λ e. process_of e < n) (λ e. (process_of e == p) ≡ false)
-        (λ e below. ne_eqb (process_of e) p (λ same. omega arith)) es known)
+    (λ e below. ne_eqb (process_of e) p (λ same. omega arith)) es known)
 
 -- the reply of the response that is looked for is the first one among the process's events
 response-reply : (P : Reply → Type 0) (p i : ℕ) (es : List Event) → IfSome (first_reply (events_of p es)) P
@@ -65,7 +65,7 @@ module _ (may_answer : Call → Reply → Type 0) where
   AnswersFit-more {old} {mid} {new} {call} {p} {q} {reply} begun ended own idle fit may =
       let more : events_by new ≡ events_by old ++ Invoke p call ∷ Answer q reply ∷ [] =
       one-more ended ∙ (ap (λ l. l ++ Answer q reply ∷ []) (one-more begun) ∙ append_assoc (events_by old) (Invoke p call ∷ [])
-          (Answer q reply ∷ [])) in
+      (Answer q reply ∷ [])) in
       let still : ends_waiting false (events_by old) ≡ false = subst (λ es. ends_waiting false es ≡ false) (own-events old own) idle in
       rw more (AnswersFit-append false (events_by old) (Invoke p call ∷ Answer q reply ∷ []) still fit (may, tt))
 

@@ -181,8 +181,13 @@ module _ (may_answer : Call → Reply → Type 0) (r : Recorder) (scripts : List
 
   -- so it is what is recorded of the scripts
   pub drive-of : HasOwnEvents passes → IsDriveOf may_answer scripts (with_no_start (history_of passes))
-  drive-of own = record { start = refl; processes = history-known (length scripts) passes are-known; finished = finished; answered =
-      AreAnswered-own may_answer (history_of passes) answers }
+  drive-of own = record {
+    start = refl;
+    processes = history-known (length scripts) passes are-known;
+    finished = finished;
+    answered =
+        AreAnswered-own may_answer (history_of passes) answers;
+  }
     where
       its-events : (p : ℕ) (script : List Call) → slice_get scripts p ≡ Some script
           → (x : Pass) × (events_of p (history_of passes) ≡ events_by x) × (process_number x ≡ p) × HasRecordedScript may_answer script x
@@ -202,7 +207,7 @@ module _ (may_answer : Call → Reply → Type 0) (r : Recorder) (scripts : List
           let x = pass.0 in
           let recorded = pass.3 in
           let kept : events_of p (events_by x) ≡ events_by x =
-              subst (λ q. events_of q (events_by x) ≡ events_by x) pass.2 (own-events x recorded.own) in
+          subst (λ q. events_of q (events_by x) ≡ events_by x) pass.2 (own-events x recorded.own) in
           let same : events_of p (history_of passes) ≡ events_of p (events_by x) = pass.1 ∙ sym kept in
           let done : HasFinished (events_by x) p script = subst (λ q. HasFinished (events_by x) q script) pass.2 recorded.finished in
           record { calls = ap invoked same ∙ done.calls; completed = ap (ends_waiting false) same ∙ done.completed }

@@ -29,7 +29,7 @@ pub longest-bound : {X : Type 0} (script_of : X → List Call) (xs : List X) (k 
     → length (script_of (slice_index_or xs k d)) ≤ longest (map script_of xs)
 longest-bound script_of xs k d within =
     let bound = greatest_bound (λ x. length (script_of x)) xs (slice_index_or xs k d)
-        (k, within, get_or_default xs k (slice_index_or xs k d) d within) in
+    (k, within, get_or_default xs k (slice_index_or xs k d) d within) in
     rw (map-map (λ script. length script) script_of xs) bound
 
 -- the greatest length among all scripts is that of the longest

@@ -52,4 +52,4 @@ pub record IsPassAfter (may_answer : Call → Reply → Type 0) (r : Recorder) (
 abbrev pub EachIsAfter : (Call → Reply → Type 0) → Recorder → List (List Call) → List (Result Pass Memory) → Type 0
 EachIsAfter may_answer r scripts done =
     (process : ℕ) (d : Result Pass Memory) → process < length done
-        → IfOk (slice_index_or done process d) (IsPassAfter may_answer r scripts process)
+    → IfOk (slice_index_or done process d) (IsPassAfter may_answer r scripts process)

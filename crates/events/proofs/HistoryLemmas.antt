@@ -60,7 +60,7 @@ pub IsWellFormed-push : (before : List Event) (e : Event) → IsWellFormed befor
 IsWellFormed-push before e h turn p =
     let now =
     λ (same : (process_of e == p) ≡ true). subst (λ (q : ℕ). is_out_of_turn (has_open_call q before) e ≡ false)
-        (eqb-true (process_of e) p same) turn in
+    (eqb-true (process_of e) p same) turn in
     rw (events_of-push p before e) (turns_after false (process_of e == p) (events_of p before) e (h p) now)
 
 pub call_count-push : (before : List Event) (e : Event) → call_count (before ++ e ∷ []) ≡ call_count before + cond (is_invocation e) 1 0
@@ -154,9 +154,9 @@ own_events before e rest h =
 pub AreHistoryEvents-next : (before rest : List Event) (e : Event) → AreHistoryEvents (before ++ e ∷ rest) → fault_after before e ≡ None
 AreHistoryEvents-next before rest e h = none-from_IsSound (length before) (call_count before) (has_open_call (process_of e)
     before) e (record {
-  shaped = passes_at is_shaped before e rest h.shaped;
-  small = passes_at is_small before e rest h.small;
-  calls_left = some_left (call_count before) (call_count rest) e (calls_before before e rest h.calls);
-  in_turn = in_turn_at false (events_of (process_of e) before) e (events_of (process_of e) rest)
-      (own_events before e rest (h.well_formed (process_of e)));
-})
+      shaped = passes_at is_shaped before e rest h.shaped;
+      small = passes_at is_small before e rest h.small;
+      calls_left = some_left (call_count before) (call_count rest) e (calls_before before e rest h.calls);
+      in_turn = in_turn_at false (events_of (process_of e) before) e (events_of (process_of e) rest)
+          (own_events before e rest (h.well_formed (process_of e)));
+    })

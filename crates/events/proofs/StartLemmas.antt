@@ -20,8 +20,13 @@ use Rattle.events.specs.HistoryFaults.{is_above, pair_fault_after}
 is_above-true : (before : List (ℕ × ℕ)) (key : ℕ) → All (λ pair. pair.0 < key) before → is_above before key ≡ true
 is_above-true [] key h = refl
 is_above-true (pair ∷ before) key h =
-    grind (arith, nat_tests, All-head (λ (p : ℕ × ℕ). p.0 < key) pair before h, is_above-true before key
-        (All-tail (λ (p : ℕ × ℕ). p.0 < key) pair before h))
+    grind (
+      arith,
+      nat_tests,
+      All-head (λ (p : ℕ × ℕ). p.0 < key) pair before h,
+      is_above-true before key
+          (All-tail (λ (p : ℕ × ℕ). p.0 < key) pair before h),
+    )
 
 -- and back
 is_above-All : (before : List (ℕ × ℕ)) (key : ℕ) → is_above before key ≡ true → All (λ pair. pair.0 < key) before
@@ -64,7 +69,7 @@ pub IsStart-next : (before rest : List (ℕ × ℕ)) (pair : ℕ × ℕ) → IsS
 IsStart-next before rest pair h =
     let across = AllPairs-across (λ (a : ℕ × ℕ) (b : ℕ × ℕ). a.0 < b.0) before (pair ∷ rest) h.rising in
     let lower : All (λ p. p.0 < pair.0) before =
-        All-weaker (λ (a : ℕ × ℕ). All (λ (b : ℕ × ℕ). a.0 < b.0) (pair ∷ rest)) (λ (a : ℕ × ℕ). a.0 < pair.0)
+    All-weaker (λ (a : ℕ × ℕ). All (λ (b : ℕ × ℕ). a.0 < b.0) (pair ∷ rest)) (λ (a : ℕ × ℕ). a.0 < pair.0)
     (λ a later. All-head (λ (b : ℕ × ℕ). a.0 < b.0) pair rest later) before across in
     let room : length before < start_limit = omega (arith, h.few, length-append before (pair ∷ rest)) in
     let few : nat_le start_limit (length before) ≡ false = grind (arith, nat_tests) in

@@ -34,7 +34,7 @@ inv-at_least i (Answer p reply ∷ events) =
 inv-at_least i (Invoke p call ∷ events) =
     All-cons (λ a. i ≤ a.inv) (operation_of p call i events) (operations_from (suc i) events) (omega arith)
     (All-weaker (λ a. suc i ≤ a.inv) (λ a. i ≤ a.inv) (λ a later. omega arith) (operations_from (suc i) events)
-        (inv-at_least (suc i) events))
+    (inv-at_least (suc i) events))
 
 inv_rises_from : (i : ℕ) (events : List Event) → AllPairs (λ a b. a.inv < b.inv) (operations_from i events)
 inv_rises_from i [] = AllPairs-nil (λ a b. a.inv < b.inv)
@@ -42,7 +42,7 @@ inv_rises_from i (Answer p reply ∷ events) = inv_rises_from (suc i) events
 inv_rises_from i (Invoke p call ∷ events) =
     AllPairs-cons (λ a b. a.inv < b.inv) (operation_of p call i events) (operations_from (suc i) events)
     (All-weaker (λ a. suc i ≤ a.inv) (λ a. i < a.inv) (λ a later. omega arith) (operations_from (suc i) events)
-        (inv-at_least (suc i) events))
+    (inv-at_least (suc i) events))
     (inv_rises_from (suc i) events)
 
 response_later_from : (i : ℕ) (events : List Event) → All (λ a. IfSome a.response (λ r. a.inv < r.res)) (operations_from i events)
@@ -65,7 +65,7 @@ response_later events = response_later_from 0 events
 pub NonePrecedesItself-operations : (events : List Event) → NonePrecedesItself (operations events)
 NonePrecedesItself-operations events =
     All-weaker (λ a. IfSome a.response (λ r. a.inv < r.res)) (λ a. precedes a a ≡ false) (λ a later. not_before a.response a.inv later)
-        (operations events)
+    (operations events)
     (response_later events)
   where
     not_before : (response : Option Response) (inv : ℕ) → IfSome response (λ r. inv < r.res) → is_before response inv ≡ false

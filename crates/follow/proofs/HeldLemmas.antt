@@ -168,7 +168,7 @@ held_by_open left = (
       let none = held (λ a. not (held_in calls n a)) (cut_of_free calls n is) in
       All-from_contains (IsHeldByOpen left) left (λ c c_is. held_from left n c (true_from_ne_false (held_in calls n c.operation)
       (λ free. both_ways (not (held_in calls n c.operation))
-          (All-contains (λ c. not (held_in calls n c.operation) ≡ false) left c none c_is)
+      (All-contains (λ c. not (held_in calls n c.operation) ≡ false) left c none c_is)
       (not_from_false (held_in calls n c.operation) free)))),
   λ all p cut. All-from_contains (λ c. p c.operation ≡ false) left
       (λ c c_is. held_stays left p cut (All-contains (IsHeldByOpen left) left c all c_is) c_is),

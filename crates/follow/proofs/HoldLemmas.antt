@@ -103,7 +103,7 @@ apart_swap a b h = ⊎_elim (λ below. inr below) (λ above. inl above) h
 
 module _ (range : KeyRange) (calls then : List Operation) (o : Operation) (k : ℕ) (reply : Reply) (marks : List Bool)
     (rise : InvocationsRise calls) (rise_then : InvocationsRise then) (is_then : then ≡ map (answered_at o.inv k reply) calls)
-        (o_is : Contains calls o)
+    (o_is : Contains calls o)
     (inside : is_within range o.call ≡ true) (closed : IsClosed range then) (settled : IsSettled then (map (is_in_group range) then) marks)
     (cut_settled : IsRangeCut then (is_early_by marks then)) (p : Operation → Bool)
     (cut : IsRangeCut (late_of (is_early_by marks then) then) p) where
@@ -291,10 +291,10 @@ settlement_holds fill are_a_cut are_late f place call reply range marks next h h
     held (λ a. p (answered_at call.operation.inv f.events reply a)
     && not (is_early_by marks then (answered_at call.operation.inv f.events reply a)))
     (cut_then range calls then call.operation f.events reply marks h.invocations_rise rise_then put.calls o_is inside j.closed settled
-        cut_settled p cut_kept) in
+    cut_settled p cut_kept) in
     All-from_contains (λ c. p c.operation ≡ false) (marked (map not marks) then_left) (λ c c_is.
     none_kept range calls then call.operation f.events reply marks h.invocations_rise rise_then put.calls o_is inside j.closed settled
-        cut_settled p cut_kept
+    cut_settled p cut_kept
     (λ a a_is. let (d, d_is, same) = Contains-from_map op f.left a a_is in
     subst
     (λ (a : Operation). (p (answered_at call.operation.inv f.events reply a)

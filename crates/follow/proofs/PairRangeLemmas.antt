@@ -31,11 +31,21 @@ within_from : (low high : ℕ) (m : Contents) (from : ℕ) → PartsAt (λ pair.
 within_from low high [] zero h = refl
 within_from low high [] (suc from) h = refl
 within_from low high (pair ∷ m) zero h =
-    grind (arith, nat_tests, h.1 0 pair (omega arith) (omega arith), within_from low high m 0
-        (PartsAt-rest (λ (p : ℕ × ℕ). nat_lt p.0 low) pair m h))
+    grind (
+      arith,
+      nat_tests,
+      h.1 0 pair (omega arith) (omega arith),
+      within_from low high m 0
+          (PartsAt-rest (λ (p : ℕ × ℕ). nat_lt p.0 low) pair m h),
+    )
 within_from low high (pair ∷ m) (suc from) h =
-    grind (arith, nat_tests, h.0 0 pair (omega arith) (omega arith), within_from low high m from
-        (PartsAt-tail (λ (p : ℕ × ℕ). nat_lt p.0 low) pair m from h))
+    grind (
+      arith,
+      nat_tests,
+      h.0 0 pair (omega arith) (omega arith),
+      within_from low high m from
+          (PartsAt-tail (λ (p : ℕ × ℕ). nat_lt p.0 low) pair m from h),
+    )
 
 -- and ends before those above its last key
 pub range_is : (low high : ℕ) (m : Contents) (from count : ℕ) → PartsAt (λ pair. nat_lt pair.0 low) m from
@@ -50,4 +60,4 @@ keys_rise m rising i j d le in_range = grind (arith, rising i j d, λ (same : i 
 pub keys_rise_from : (m : Contents) (from : ℕ) → IsRising m → IsNonDecreasingBy (λ pair. pair.0) (drop from m)
 keys_rise_from m from rising i j d le in_range =
     rw (get_or-drop from m i d, get_or-drop from m j d)
-        (keys_rise m rising (from + i) (from + j) d (omega arith) (omega (arith, length-drop from m)))
+    (keys_rise m rising (from + i) (from + j) d (omega arith) (omega (arith, length-drop from m)))

@@ -59,7 +59,10 @@ pub fn run<R: Threads + Sync, S: Source, O: Sink, F: Sink, G: Gate + Sync>(
 fn elsewhere(alloc: Global) -> Outcome
     ensures { IsElsewhereOutcome result }
 {
-    match String::from_str(alloc, "error: this program checks, judges and locates alone\n") {
+    match String::from_str(
+        alloc,
+        "error: this program checks, judges and locates alone\n",
+    ) {
         Ok(text) => Outcome::Words(text),
         Err(_) => Outcome::Memory,
     }

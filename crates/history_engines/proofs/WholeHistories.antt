@@ -57,12 +57,11 @@ found-whole text faults.Memory h = refl
 
 -- a refusal of the text read is one of the whole
 pub IsHistoryRefusal-whole : (text bytes : List ℕ) → IsHistoryRefusal (take (text_limit + 1) text) bytes → IsHistoryRefusal text bytes
-IsHistoryRefusal-whole text bytes h =
-    (
-      h.0,
-      record { refused = IsTextFault-whole text h.0 h.1.refused; not_memory = h.1.not_memory },
-      (h.2.0, subst (λ (d : Option Data). IsTextOfFound d h.2.0) (found-whole text h.0 h.1.refused) h.2.1, h.2.2),
-    )
+IsHistoryRefusal-whole text bytes h = (
+  h.0,
+  record { refused = IsTextFault-whole text h.0 h.1.refused; not_memory = h.1.not_memory },
+  (h.2.0, subst (λ (d : Option Data). IsTextOfFound d h.2.0) (found-whole text h.0 h.1.refused) h.2.1, h.2.2),
+)
 
 -- an answer of `check` to the text read is one to the whole
 pub IsCheckAnswer-whole : (order text : List ℕ) (answer : Answer) (bytes : List ℕ)

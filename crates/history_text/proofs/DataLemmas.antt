@@ -143,8 +143,13 @@ pub name_and_two_numbers : (vs : List Value) (x y z : Value) (s : List ℕ) (m n
     → Some s ≡ as_str (view x) → Some m ≡ option_and_then as_u64 (as_number (view y)) → Some n ≡ option_and_then as_u64 (as_number (view z))
     → list_data (map view vs) ≡ list_data (string s ∷ number_data m ∷ number_data n ∷ [])
 name_and_two_numbers vs x y z s m n len first second third name one two =
-    rw (three_items vs x y z len first second third, string_found (view x) s name, number_found (view y) m one, number_found
-        (view z) n two) refl
+    rw (
+      three_items vs x y z len first second third,
+      string_found (view x) s name,
+      number_found (view y) m one,
+      number_found
+          (view z) n two,
+    ) refl
 
 -- a list of four values, each read at its place
 pub four_items : (vs : List Value) (x y z u : Value) → length vs ≡ 4 → x ≡ get_or vs 0 x → y ≡ get_or vs 1 y → z ≡ get_or vs 2 z

@@ -27,7 +27,7 @@ Spells-written text history json = record { value = history_data history; json =
   where
     either : (b : Bool) → is_plain history ≡ b
         → SpellsAs (cond b (document None (map event_data history.events))
-            (document (Some (map pair_data history.start)) (map event_data history.events)))
+        (document (Some (map pair_data history.start)) (map event_data history.events)))
         history
     either true plain =
         let parts = and_parts (has_no_pairs history.start) (list_all is_plain_event history.events) plain in

@@ -29,7 +29,7 @@ module _ {A : Type 0} (f : A → Data) (apart : (x y : A) → f x ≡ f y → x 
   item_at (b ∷ before) (x ∷ items) next rest h =
       let same : b ≡ x = apart b x (cc) in
       subst (λ (y : A). GoesOnWith f (x ∷ items) (y ∷ before) next) (sym same)
-          (goes_on x items before next (item_at before items next rest (cc)))
+      (goes_on x items before next (item_at before items next rest (cc)))
 
   -- the same, with one item more in front
   splits_on : (x : A) (before ahead : List A) (next after : Data) → SplitsAlike f before ahead next after

@@ -42,7 +42,7 @@ no_pair_fault_inside : (pairs before : List (ℕ × ℕ)) (d : Data) (fault : Hi
 no_pair_fault_inside pairs before d fault h start shows =
     let none = IsStart-next before h.more h.item (subst IsStart h.parts start) in
     let tests = two_tests (nat_le start_limit (length before)) (is_above before h.item.0) faults.TooMany
-        (faults.Start (length before)) none in
+    (faults.Start (length before)) none in
     let room = leb-false start_limit (length before) tests.0 in
     ⊎_elim (λ a. absurd (omega (arith, a.1, room))) (λ a. true≢false (sym tests.1 ∙ a.2 h.item h.spelled)) shows
 
@@ -110,7 +110,7 @@ module _ (has_start : Bool) where
   no_fault_inside events before d fault h are shows =
       let history = subst AreHistoryEvents h.parts are.history in
       let standing = stands_at before h.more h.item (subst (λ (es : List Event). list_all (may_stand has_start) es ≡ true)
-          h.parts are.standing) in
+      h.parts are.standing) in
       let none = AreHistoryEvents-next before h.more h.item history in
       ⊎_elim (λ a. a.1 h.item h.spelled (shaped_by (is_shaped h.item) (faults.Shape (length before)) _ none) standing)
       (λ a.
@@ -124,7 +124,7 @@ module _ (has_start : Bool) where
   events_alike f g before ahead next after a b first second (inl h) =
       same_fault ahead after f g
       (subst (λ (d : Data). IsFaultAfter has_start ahead d f) h.1
-          (subst (λ (events : List Event). IsFaultAfter has_start events next f) h.0 a)) b
+      (subst (λ (events : List Event). IsFaultAfter has_start events next f) h.0 a)) b
   events_alike f g before ahead next after a b first second (inr (inl h)) = absurd (no_fault_inside before ahead after g h first b)
   events_alike f g before ahead next after a b first second (inr (inr h)) = absurd (no_fault_inside ahead before next f h second a)
 
@@ -138,14 +138,14 @@ not_start d fault start items h is sound =
     let docs = document_injective (Some (map pair_data h.before ++ h.next ∷ h.rest)) (start_data start) h.events items (sym h.parts ∙ is) in
     let values = start_values start (map pair_data h.before ++ h.next ∷ h.rest) docs.0 in
     no_pair_fault_inside (start_pairs start) h.before h.next fault
-        (item_at pair_data pair_data_injective h.before (start_pairs start) h.next h.rest values)
+    (item_at pair_data pair_data_injective h.before (start_pairs start) h.next h.rest values)
     sound
     h.shows
 
 one_pair_fault : (d : Data) (f g : HistoryFault) → ShowsPairFault d f → ShowsPairFault d g → f ≡ g
 one_pair_fault d f g a b =
     let docs = document_injective (Some (map pair_data a.before ++ a.next ∷ a.rest))
-        (Some (map pair_data b.before ++ b.next ∷ b.rest)) a.events b.events
+    (Some (map pair_data b.before ++ b.next ∷ b.rest)) a.events b.events
     (sym a.parts ∙ b.parts) in
     pairs_alike f g a.before b.before a.next b.next a.shows b.shows a.start b.start
     (two_splits pair_data pair_data_injective a.before b.before a.next b.next a.rest b.rest (same_Some _ _ docs.0))
@@ -157,7 +157,7 @@ one_event_fault d f g a b =
     (sym a.parts ∙ b.parts) in
     let same = ap (λ (s : Option (List (ℕ × ℕ))). is_some s) (start_data_injective a.start b.start docs.0) in
     events_alike (is_some b.start) f g a.before b.before a.next b.next
-        (subst (λ (has : Bool). IsFaultAfter has a.before a.next f) same a.shows) b.shows
+    (subst (λ (has : Bool). IsFaultAfter has a.before a.next f) same a.shows) b.shows
     (subst (λ (has : Bool). AreEventsOfText has a.before) same a.events) b.events
     (two_splits event_data event_data_injective a.before b.before a.next b.next a.rest b.rest docs.1)
 
@@ -229,11 +229,11 @@ faulty_spells_none text d history json (version none) spelled sound =
 faulty_spells_none text d history json (pair f a) spelled sound =
     let s = spelled.spelled in
     not_start d f s.start (map event_data history.events) a (same_value text d spelled.value json spelled.json ∙ s.value)
-        (subst IsStart s.starts sound.start)
+    (subst IsStart s.starts sound.start)
 faulty_spells_none text d history json (event f a) spelled sound =
     let s = spelled.spelled in
     let docs = document_injective (start_data a.start) (start_data s.start) (map event_data a.before ++ a.next ∷ a.rest)
-        (map event_data history.events)
+    (map event_data history.events)
     (sym a.parts ∙ (same_value text d spelled.value json spelled.json ∙ s.value)) in
     let same = ap (λ (o : Option (List (ℕ × ℕ))). is_some o) (start_data_injective a.start s.start docs.0) in
     no_fault_inside (is_some s.start) history.events a.before a.next f

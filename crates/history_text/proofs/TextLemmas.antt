@@ -67,7 +67,7 @@ reply_data_injective (replies.Pairs pairs) replies.None h = cc
 reply_data_injective (replies.Pairs pairs) (replies.Some value2) h = cc
 reply_data_injective (replies.Pairs pairs) (replies.Pairs pairs2) h =
     ap replies.Pairs (map_injective pair_data pair_data_injective pairs pairs2 (list_data_injective (map pair_data pairs)
-        (map pair_data pairs2) h))
+    (map pair_data pairs2) h))
 reply_data_injective (replies.Pairs pairs) replies.Refused h = cc
 reply_data_injective replies.Refused replies.None h = cc
 reply_data_injective replies.Refused (replies.Some value2) h = cc

@@ -87,8 +87,15 @@ pub pair_fault_on_taking : (before : List (ℕ × ℕ)) (pair : ℕ × ℕ) (d :
 pair_fault_on_taking before pair d fault rest items h is parts start = by_fault fault h
   where
     shown : (g : HistoryFault) → pair_fault_after before pair ≡ Some g → ShowsPairFaultAmong items g
-    shown g k = record { before = before; next = d; rest = rest; parts = parts; start = start; shows = pair_fault_shown
-        before pair d g k is }
+    shown g k = record {
+      before = before;
+      next = d;
+      rest = rest;
+      parts = parts;
+      start = start;
+      shows = pair_fault_shown
+          before pair d g k is;
+    }
 
     by_fault : (g : HistoryFault) → IsPairRefusedAfter before pair g → IsPairFaultAmong items g
     by_fault faults.TooLong k = shown faults.TooLong k
@@ -128,7 +135,7 @@ IsFaultBy place shaped fault = ⊥
 -- the first test that fails tells the fault
 three_faults : (s m c t : Bool) (place : ℕ) (fault : HistoryFault)
     → cond (not s) (Some (faults.Shape place))
-        (cond (not m || c) (Some faults.TooMany) (cond t (Some (faults.NotWellFormed place)) None)) ≡ Some fault
+    (cond (not m || c) (Some faults.TooMany) (cond t (Some (faults.NotWellFormed place)) None)) ≡ Some fault
     → IsFaultBy place s fault
 three_faults false m c t place fault h = subst (IsFaultBy place false) (same_Some (faults.Shape place) fault h) (refl, refl)
 three_faults true false c t place fault h = subst (IsFaultBy place true) (same_Some faults.TooMany fault h) refl
@@ -141,7 +148,7 @@ IsFaultBy-fault_after : (before : List Event) (e : Event) (fault : HistoryFault)
     → IsFaultBy (length before) (is_shaped e) fault
 IsFaultBy-fault_after before e fault h =
     three_faults (is_shaped e) (is_small e) (is_call_too_many (call_count before) e)
-        (is_out_of_turn (has_open_call (process_of e) before) e)
+    (is_out_of_turn (has_open_call (process_of e) before) e)
     (length before) fault h
 
 -- a value whose event was refused after those before it is faulty there, unless memory ran out

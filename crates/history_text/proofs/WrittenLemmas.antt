@@ -56,7 +56,7 @@ has_float-history history = either (is_plain history)
 
     either : (b : Bool)
         → has_float (cond b (document None (map event_data history.events))
-            (document (Some (map pair_data history.start)) (map event_data history.events)))
+        (document (Some (map pair_data history.start)) (map event_data history.events)))
         ≡ false
     either true = rw events refl
     either false = rw (events, pairs) refl
@@ -87,7 +87,11 @@ depth-history history = either (is_plain history)
   where
     either : (b : Bool)
         → depth (cond b (document None (map event_data history.events))
-            (document (Some (map pair_data history.start)) (map event_data history.events))) ≤ 5
+        (document (Some (map pair_data history.start)) (map event_data history.events))) ≤ 5
     either true = omega (arith, items_depth-map event_data 3 depth-event history.events)
-    either false = omega (arith, items_depth-map event_data 3 depth-event history.events, items_depth-map pair_data 1
-        (λ pair. omega arith) history.start)
+    either false = omega (
+      arith,
+      items_depth-map event_data 3 depth-event history.events,
+      items_depth-map pair_data 1
+          (λ pair. omega arith) history.start,
+    )

@@ -19,4 +19,4 @@ HasOneFault = (text : List ℕ) (f g : HistoryFault) → IsTextFault text f → 
 abbrev pub FaultySpellsNoHistory : Type 0
 FaultySpellsNoHistory =
     (text : List ℕ) (f : HistoryFault) (history : HistoryView) → IsTextFault text f → f ≢ faults.Memory → Spells text history
-        → IsHistory history → ⊥
+    → IsHistory history → ⊥

@@ -104,7 +104,7 @@ IsOrderedOrSpent-all budget segments orders None h =
     All-firsts (IsOrderedBy budget) (IsOrderedOrSpent budget) (λ s o found. inl (o, found)) segments orders h
 IsOrderedOrSpent-all budget segments orders (Some spent) h = subst (All (IsOrderedOrSpent budget)) (sym h.is)
     (All-append (IsOrderedOrSpent budget) h.below (spent ∷ h.above)
-        (All-weaker (IsOrdered budget) (IsOrderedOrSpent budget) (λ s is. inl is) h.below h.lowest)
+    (All-weaker (IsOrdered budget) (IsOrderedOrSpent budget) (λ s is. inl is) h.below h.lowest)
     (All-cons (IsOrderedOrSpent budget) spent h.above (inr h.spent) h.unrefuted))
 
 -- ---- a walk over the segments with their answers

@@ -32,14 +32,18 @@ reached_by_one_call start calls n few h =
     let after = configuration_of (0 ∷ []) (after_calls start (calls_at calls (0 ∷ []))) in
     let both = before ∷ after ∷ [] in
     let to_after : LeadsTo start calls (0 ∷ []) after =
-        record { rising = λ k within. absurd (omega arith); taken = λ m. (λ h. h, λ h. h); pairs = refl } in
+    record { rising = λ k within. absurd (omega arith); taken = λ m. (λ h. h, λ h. h); pairs = refl } in
     let among : (c : Configuration) → IsReachable start calls c → Contains both c = λ c (front, is, by). ⊎_elim
     (λ e. subst (Contains both) (configuration_unique start calls [] before c (LeadsTo-nil start calls)
-        (subst (λ taken. LeadsTo start calls taken c) e by))
+    (subst (λ taken. LeadsTo start calls taken c) e by))
     (Contains-first before (after ∷ [])))
     (λ e. subst (Contains both) (configuration_unique start calls (0 ∷ []) after c to_after
-        (subst (λ taken. LeadsTo start calls taken c) e by))
+    (subst (λ taken. LeadsTo start calls taken c) e by))
     (Contains-later before (after ∷ []) after (Contains-first after [])))
     (front_of_one_call start calls front few is) in
-    omega (arith, h.above, length-distinct h.reached both h.distinct
-        (All-weaker (IsReachable start calls) (Contains both) among h.reached h.each))
+    omega (
+      arith,
+      h.above,
+      length-distinct h.reached both h.distinct
+          (All-weaker (IsReachable start calls) (Contains both) among h.reached h.each),
+    )

@@ -37,7 +37,7 @@ All-here P below s above h = All-contains P (below ++ s ∷ above) s h (Contains
 -- the first of which P holds is one, where what stands below has Q, and P and Q exclude each other
 first_unique : (P Q : SegmentView → Type 0) → ((s : SegmentView) → P s → Q s → ⊥) → (below : List SegmentView) (s : SegmentView)
     (above others : List SegmentView) (t : SegmentView) (beyond : List SegmentView) → below ++ s ∷ above ≡ others ++ t ∷ beyond → P s
-        → P t → All Q below
+    → P t → All Q below
     → All Q others → s ≡ t
 first_unique P Q apart [] s above [] t beyond e p q b o = cc
 first_unique P Q apart [] s above (x ∷ others) t beyond e p q b o =
@@ -162,7 +162,7 @@ module _ (budget : ℕ) where
   one_verdict history (No a) (No b) one_list one_merged is h k =
       let segments = one_list history (h.below ++ a ∷ h.above) (k.below ++ b ∷ k.above) is h.are_segments k.are_segments in
       first_unique (IsRefuted budget) (IsOrderedOrSpent budget) refuted_is_not_else h.below a h.above k.below b k.above segments
-          h.refuted k.refuted
+      h.refuted k.refuted
       h.lowest k.lowest
   one_verdict history (No a) (Undecided b) one_list one_merged is h k =
       let segments = one_list history (k.below ++ b ∷ k.above) (h.below ++ a ∷ h.above) is k.are_segments h.are_segments in

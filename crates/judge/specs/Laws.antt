@@ -27,11 +27,11 @@ OneCallIsDecided =
 abbrev pub OneExactVerdict : Type 0
 OneExactVerdict =
     (budget : ℕ) (history : HistoryView) (a b : Verdict) → IsHistory history
-        → IsExactVerdict history.start budget (operations history.events) a
+    → IsExactVerdict history.start budget (operations history.events) a
     → IsExactVerdict history.start budget (operations history.events) b → AreSameVerdict a b
 
 -- one report is answered to a text at a budget
 abbrev pub OneReport : Type 0
 OneReport =
     (budget : ℕ) (text : List ℕ) (a b : Verdict) (report other : List ℕ) → IsJudged budget text a report
-        → IsJudged budget text b other → report ≡ other
+    → IsJudged budget text b other → report ≡ other

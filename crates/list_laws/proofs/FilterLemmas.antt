@@ -56,7 +56,7 @@ and_excluded false false h = refl
 pub filter_excluded : {X : Type 0} (p q : X → Bool) (xs : List X) → ((x : X) → p x ≡ true → q x ≡ false) → filter p (filter q xs) ≡ []
 filter_excluded p q xs h =
     filter-filter p q xs ∙ filter_none (λ x. q x && p x) xs (λ k d within. and_excluded (p (get_or xs k d)) (q (get_or xs k d))
-        (h (get_or xs k d)))
+    (h (get_or xs k d)))
 
 -- an element that passes is kept
 pub filter_yes : {X : Type 0} (p : X → Bool) (x : X) (xs : List X) → p x ≡ true → filter p (x ∷ xs) ≡ x ∷ filter p xs
@@ -130,7 +130,7 @@ Contains-from_filter_map {X = X} {Y = Y} f (z ∷ xs) y h = from (f z) refl h (C
     from None e k rest = let found = rest k in (found.0, Contains-later z xs found.0 found.1, found.2)
     from (Some w) e k rest = ⊎_elim (λ same. (z, Contains-first z xs, e ∙ ap Some same))
         (λ later. let found = rest later in (found.0, Contains-later z xs found.0 found.1, found.2))
-            (Contains-cases w (filter_map f xs) y k)
+        (Contains-cases w (filter_map f xs) y k)
 
 -- what a map gives for two elements is related
 abbrev pub AreRelatedAs : {X Y : Type 0} → (Y → Y → Type 0) → (X → Option Y) → X → X → Type 0
@@ -195,7 +195,7 @@ pub Contains-from_map : {X Y : Type 0} (f : X → Y) (xs : List X) (y : Y) → C
 Contains-from_map f [] y h = absurd (Contains-nil y h)
 Contains-from_map f (x ∷ xs) y h = ⊎_elim (λ same. (x, Contains-first x xs, same))
     (λ later. let found = Contains-from_map f xs y later in (found.0, Contains-later x xs found.0 found.1, found.2))
-        (Contains-cases (f x) (map f xs) y h)
+    (Contains-cases (f x) (map f xs) y h)
 
 -- the pairs of a list, from those of a mapped one
 pub AllPairs-from_map : {X Y : Type 0} (R : Y → Y → Type 0) (f : X → Y) (xs : List X) → AllPairs R (map f xs)
@@ -204,7 +204,7 @@ AllPairs-from_map R f [] h = AllPairs-nil (λ x z. R (f x) (f z))
 AllPairs-from_map R f (x ∷ xs) h =
     AllPairs-cons (λ x z. R (f x) (f z)) x xs
     (All-from_contains (λ z. R (f x) (f z)) xs
-        (λ z is. All-contains (R (f x)) (map f xs) (f z) (AllPairs-head R (f x) (map f xs) h) (Contains-map f xs z is)))
+    (λ z is. All-contains (R (f x)) (map f xs) (f z) (AllPairs-head R (f x) (map f xs) h) (Contains-map f xs z is)))
     (AllPairs-from_map R f xs (AllPairs-tail R (f x) (map f xs) h))
 
 -- what stands at an earlier place is related to what stands at a later one
@@ -213,7 +213,7 @@ pub AllPairs-at : {X : Type 0} (R : X → X → Type 0) (xs : List X) (i j : ℕ
 AllPairs-at R xs i j x y h before first second =
     let within = slice_get_within xs j y second in
     subst (λ z. R x z) (get_or_from_slice_get xs j y x second)
-        (subst (λ z. R z (get_or xs j x)) (get_or_from_slice_get xs i x x first) (h i j x before within))
+    (subst (λ z. R z (get_or xs j x)) (get_or_from_slice_get xs i x x first) (h i j x before within))
 
 -- two lists that are kept alike behind one element are kept alike
 pub filter_rest : {X : Type 0} (b : Bool) (x : X) (xs ys : List X) → cond b (x ∷ xs) xs ≡ cond b (x ∷ ys) ys → xs ≡ ys

@@ -61,7 +61,7 @@ pub AllPairs-across : {X : Type 0} (R : X → X → Type 0) (xs ys : List X) →
 AllPairs-across R [] ys h = All-nil (λ x. All (R x) ys)
 AllPairs-across R (x ∷ xs) ys h =
     All-cons (λ z. All (R z) ys) x xs (All-back (R x) xs ys (AllPairs-head R x (xs ++ ys) h))
-        (AllPairs-across R xs ys (AllPairs-tail R x (xs ++ ys) h))
+    (AllPairs-across R xs ys (AllPairs-tail R x (xs ++ ys) h))
 
 -- the first element of a list is in it
 pub Contains-first : {X : Type 0} (x : X) (xs : List X) → Contains (x ∷ xs) x
@@ -141,7 +141,7 @@ pub AllPairs-at : {X : Type 0} (R : X → X → Type 0) (xs : List X) (i j : ℕ
 AllPairs-at R xs i j x y h before first second =
     let within = slice_get_within xs j y second in
     subst (λ z. R x z) (get_or_from_slice_get xs j y x second)
-        (subst (λ z. R z (get_or xs j x)) (get_or_from_slice_get xs i x x first) (h i j x before within))
+    (subst (λ z. R z (get_or xs j x)) (get_or_from_slice_get xs i x x first) (h i j x before within))
 
 -- a relation of what stands at each two places is one of all pairs
 pub AllPairs-from_at : {X : Type 0} (R : X → X → Type 0) (xs : List X)
@@ -190,7 +190,7 @@ length-distinct {X} (x ∷ xs) ys distinct within =
     (λ same. absurd (All-contains (λ b. x ≢ b) xs z (AllPairs-head (λ a b. a ≢ b) x xs distinct) h same))
     (λ around. around)
     (Contains-around front x back z (subst (λ zs. Contains zs z) is (All-contains (Contains ys) xs z (All-tail (Contains ys) x
-        xs within) h)))) in
+    xs within) h)))) in
     let fewer = length-distinct xs (front ++ back) (AllPairs-tail (λ a b. a ≢ b) x xs distinct) others in
     omega (arith, fewer, ap length is, length-append front (x ∷ back), length-append front back)
 
@@ -199,10 +199,10 @@ pub Contains-filter : {X : Type 0} (p : X → Bool) (xs : List X) (x : X) → Co
 Contains-filter p [] x h passes = h
 Contains-filter p (y ∷ xs) x h passes = ⊎_elim
     (λ is. let e : p y ≡ true = ap p is ∙ passes in rw e (subst (λ z. Contains (z ∷ filter p xs) x) (sym is)
-        (Contains-first x (filter p xs))))
+    (Contains-first x (filter p xs))))
     (λ later. cond_both (p y) (y ∷ filter p xs) (filter p xs) (λ zs. Contains zs x)
     (λ e. Contains-later y (filter p xs) x (Contains-filter p xs x later passes)) (λ e. Contains-filter p xs x later passes))
-        (Contains-cases y xs x h)
+    (Contains-cases y xs x h)
 
 -- what a filter keeps was in the list, and passes
 pub Contains-from_filter : {X : Type 0} (p : X → Bool) (xs : List X) (x : X) → Contains (filter p xs) x → Contains xs x × (p x ≡ true)

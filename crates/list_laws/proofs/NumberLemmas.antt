@@ -83,7 +83,7 @@ least_bound key (y ∷ []) x h = ⊎_elim (λ is. let e = ap key is in omega ari
     (Contains-cases y [] x h)
 least_bound key (y ∷ z ∷ xs) x h =
     ⊎_elim (λ is. let e = ap key is in omega arith) (λ later. omega (arith, least_bound key (z ∷ xs) x later))
-        (Contains-cases y (z ∷ xs) x h)
+    (Contains-cases y (z ∷ xs) x h)
 
 -- what is said of an element at a place is said of an element that is there
 pub some_at : {X : Type 0} (o : Option X) (P : X → Type 0) → IsSomeAnd o P → (x : X) × (o ≡ Some x) × P x
@@ -98,4 +98,4 @@ greatest_is key (z ∷ []) x h = (z, Contains-first z [], omega arith)
 greatest_is key (z ∷ w ∷ xs) x h =
     let (y, is, same) = greatest_is key (w ∷ xs) w (Contains-first w xs) in
     ⊎_elim (λ less. (y, Contains-later z (w ∷ xs) y is, omega arith)) (λ more. (z, Contains-first z (w ∷ xs), omega arith))
-        (cases_lt (key z) (key y))
+    (cases_lt (key z) (key y))

@@ -13,7 +13,7 @@ same_first : (x : ℕ) (xs : List ℕ) (y : ℕ) (ys : List ℕ) → All (λ n. 
     → Contains (x ∷ xs) y → x ≡ y
 same_first x xs y ys low_x low_y in_ys in_xs =
     ⊎_elim (λ is. sym is) (λ later. ⊎_elim (λ is. is) (λ back. clash later back) (Contains-cases x xs y in_xs))
-        (Contains-cases y ys x in_ys)
+    (Contains-cases y ys x in_ys)
   where
     clash : Contains ys x → Contains xs y → x ≡ y
     clash later back = absurd (omega (arith, All-contains (λ n. y < n) ys x low_y later, All-contains (λ n. x < n) xs y low_x back))
@@ -23,7 +23,7 @@ members_after : (x : ℕ) (xs ys : List ℕ) → All (λ n. x < n) xs → ((n : 
     → Contains xs n → Contains ys n
 members_after x xs ys low same n h =
     ⊎_elim (λ is. absurd (omega (arith, is, All-contains (λ n. x < n) xs n low h))) (λ later. later)
-        (Contains-cases x ys n (same n (Contains-later x xs n h)))
+    (Contains-cases x ys n (same n (Contains-later x xs n h)))
 
 -- of two lists whose numbers rise, each member of the one a member of the other, both are the same
 unique_by_pairs : (xs ys : List ℕ) → AllPairs (λ m n. m < n) xs → AllPairs (λ m n. m < n) ys → ((n : ℕ) → Contains xs n → Contains ys n)

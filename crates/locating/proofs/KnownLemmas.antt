@@ -62,7 +62,7 @@ no_events history = (
 some_events : (history : HistoryView) (count : ℕ) → (IsLinearizableHistory (prefix_of history count) → ⊥) → 0 < count
 some_events history count none =
     let differs : count ≢ 0 = λ same. none (subst (λ (n : ℕ). IsLinearizableHistory (prefix_of history n)) (sym same)
-        (no_events history)) in
+    (no_events history)) in
     omega arith
 
 -- after the verdict on the whole history
@@ -200,7 +200,7 @@ module _ (budget : ℕ) (history : HistoryView) where
   known_at_last last is =
       let (between, ended) =
       after_all AboveCut (known_from history is.whole) is.above.0 is.between
-          (known_at_first budget history is.whole is.judged) is.above.2 in
+      (known_at_first budget history is.whole is.judged) is.above.2 in
       after_all BelowCut is.between is.below.0 last (known_between is.between between ended) is.below.2
 
   -- where no number is left between a yes and a no, fewer events than there are have an order, and one more has none
@@ -217,7 +217,7 @@ module _ (budget : ℕ) (history : HistoryView) where
       ⊎_elim (λ none_left. absurd (omega arith))
       (λ others. ⊎_elim (λ same. absurd (omega arith))
       (λ undecided. subst (λ (n : ℕ). IsUndecidedAt budget (prefix_of history n)) (omega (arith, undecided.0))
-          undecided.1) others) known.cut
+      undecided.1) others) known.cut
 
   -- what is said of it is so
   said : (last : Bracket) (location : Location) → IsKnown budget history BelowCut last → last.cut ≤ last.yes + 1

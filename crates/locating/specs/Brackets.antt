@@ -18,4 +18,4 @@ pub record IsInOrder (history : HistoryView) (found : Bracket) : Type 0 where
 abbrev pub IsTurn : ℕ → HistoryView → Gap → Bracket → Bracket → Type 0
 IsTurn budget history gap found next =
     (verdict : Verdict) × IsVerdictOnFirst budget history (middle_of gap found) verdict
-        × (next ≡ known_after gap found (middle_of gap found) verdict)
+    × (next ≡ known_after gap found (middle_of gap found) verdict)

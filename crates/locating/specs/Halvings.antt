@@ -25,8 +25,12 @@ pub record IsVerdictOnFirst (budget : ℕ) (history : HistoryView) (count : ℕ)
 
 -- what is known after the verdict on the whole history; where that is undecided, no more than that no event has an order
 abbrev pub known_from : HistoryView → Verdict → Bracket
-known_from history (verdicts.Yes order) = record { yes = length history.events; cut = length history.events; no = length
-    history.events + 1 }
+known_from history (verdicts.Yes order) = record {
+  yes = length history.events;
+  cut = length history.events;
+  no = length
+      history.events + 1;
+}
 known_from history (verdicts.No segment) = record { yes = 0; cut = 0; no = length history.events }
 known_from history (verdicts.Undecided segment) = record { yes = 0; cut = 0; no = length history.events + 1 }
 

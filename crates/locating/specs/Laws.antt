@@ -10,7 +10,7 @@ use Rattle.locating.specs.Halvings.{IsExactLocation}
 abbrev pub OneLocation : Type 0
 OneLocation =
     (budget : ℕ) (history : HistoryView) (a b : Location) → IsHistory history → IsExactLocation budget history a
-        → IsExactLocation budget history b → a ≡ b
+    → IsExactLocation budget history b → a ≡ b
 
 -- what the exact location says is so
 abbrev pub ExactLocationsAreSo : Type 0

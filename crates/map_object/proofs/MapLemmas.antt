@@ -41,8 +41,13 @@ below_none key (pair ∷ m) h =
 pub value_at_above : (key : ℕ) (back : Contents) → AreAbove key back → value_at back key ≡ None
 value_at_above key [] h = refl
 value_at_above key (pair ∷ back) h =
-    grind (arith, nat_tests, All-head (λ (p : ℕ × ℕ). key < p.0) pair back h, value_at_above key back
-        (All-tail (λ (p : ℕ × ℕ). key < p.0) pair back h))
+    grind (
+      arith,
+      nat_tests,
+      All-head (λ (p : ℕ × ℕ). key < p.0) pair back h,
+      value_at_above key back
+          (All-tail (λ (p : ℕ × ℕ). key < p.0) pair back h),
+    )
 
 value_at-append : (key : ℕ) (front back : Contents) → AreBelow key front → value_at (front ++ back) key ≡ value_at back key
 value_at-append key [] back h = refl

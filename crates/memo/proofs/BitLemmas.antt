@@ -101,7 +101,7 @@ bit_at-up_low word k i small low =
 bit_at-up_high : (word k i : ℕ) → i < 64 → k ≤ i → bit_at (word * 2 ^ k % 2 ^ 64) i ≡ bit_at word (i - k)
 bit_at-up_high word k i small high =
     bit_at-mod (word * 2 ^ k) i small ∙ ap (λ (m : ℕ). bit_at m i) (omega arith)
-        ∙ bit_at_cat_high word k 0 i (omega (arith, pow_pos k)) high
+    ∙ bit_at_cat_high word k 0 i (omega (arith, pow_pos k)) high
 
 -- 0 is no more than any number
 zero_max : (n : ℕ) → max 0 n ≡ n
@@ -122,7 +122,7 @@ module _ (words : List ℕ) (count : ℕ) (few : count < 64) (each : AreWords wo
       ∙ ⊎_elim
       (λ low.
       ap₂ max (bit_at-down (get_or words k 0) count i)
-          (bit_at-up_low (get_or words (k + 1) 0) (63 - count) i small (omega (arith, low, few)))
+      (bit_at-up_low (get_or words (k + 1) 0) (63 - count) i small (omega (arith, low, few)))
       ∙ max_zero (bit_at (get_or words k 0) (i + (count + 1)))
       ∙ sym (bit_of-at words k (i + (count + 1)) low)
       ∙ ap (bit_of words) (omega arith))
@@ -140,7 +140,7 @@ module _ (words : List ℕ) (count : ℕ) (few : count < 64) (each : AreWords wo
       ⊎_elim
       (λ within.
       ap (λ (w : ℕ). bit_at w (n % 64)) (get_or-map-range_with_len (shifted_word words count) 0 (length words) (n / 64) (n / 64) 0
-          within (omega arith))
+      within (omega arith))
       ∙ bit_at-moved (n / 64) (n % 64) (omega arith)
       ∙ ap (bit_of words) (omega arith))
       (λ past.
@@ -153,7 +153,7 @@ read_zeros : (words : List ℕ) (count k : ℕ) → get_or (words ++ replicate c
 read_zeros words count k =
     ⊎_elim (λ within. get_or-append words (replicate count 0) 0 k within)
     (λ past. get_or-append_right words (replicate count 0) k 0 past ∙ zero (k - length words) ∙ sym (get_or_past words k 0 past))
-        (cases_lt k (length words))
+    (cases_lt k (length words))
   where
     zeros : List ℕ
     zeros = replicate count 0

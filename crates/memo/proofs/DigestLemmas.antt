@@ -42,9 +42,9 @@ module _ (f : ℕ → ℕ) (place : ℕ) where
       ⊎_elim (λ is. absurd (new (subst (λ (y : ℕ). Contains (y ∷ xs) place) (sym is) (Contains-first place xs))))
       (λ (apart : (x < place) ⊎ (place < x)). ⊎_elim
       (λ (low : x < place). rw (lower low, not_above low, sum_by-cons f x (filter (λ n. nat_lt n place) xs), sum_by-cons f x xs)
-          (omega (arith, rest)))
+      (omega (arith, rest)))
       (λ (high : place < x). rw (not_below high, upper high, sum_by-cons f x (filter (λ n. nat_lt place n) xs), sum_by-cons f x xs)
-          (omega (arith, rest)))
+      (omega (arith, rest)))
       apart)
       (cases_order x place)
     where

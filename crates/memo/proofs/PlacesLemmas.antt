@@ -18,7 +18,7 @@ module _ (least : ℕ) (words : List ℕ) (place more : ℕ) (longer : List ℕ)
       (λ n. (
         λ h. (same n).1
             (⊎_elim (λ old. inl ((Contains-places_of least words n).0 old)) (λ is. inr is)
-                ((Contains-with_place (places_of least words) place n).0 h)),
+            ((Contains-with_place (places_of least words) place n).0 h)),
         λ h. (Contains-with_place (places_of least words) place n).1
             (⊎_elim (λ old. inl ((Contains-places_of least words n).1 old)) (λ is. inr is) ((same n).0 h)),
       )))
@@ -73,7 +73,7 @@ module _ (least : ℕ) (words : List ℕ) (run : ℕ) (fewer : List ℕ) (ones :
       from : IsAmong next fewer n → IsAmong least words n ⊎ (n ≡ least)
       from (inl low) = ⊎_elim (λ is. inr is)
           (λ apart. ⊎_elim (λ lt. inl (inl lt)) (λ gt. inl (inr (gt, ones (n - (least + 1)) (omega (arith, low, gt))))) apart)
-              (cases_order n least)
+          (cases_order n least)
       from (inr high) = inl (inr (omega (arith, high.0), sym (higher n high.0) ∙ high.1))
 
       here : n ≡ least → IsAmong next fewer n

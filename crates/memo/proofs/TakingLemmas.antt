@@ -35,7 +35,7 @@ module _ (taken : List ℕ) (place : ℕ) where
   with_place-from n h = ⊎_elim
       (λ low. inl (Contains-from_filter (λ m. nat_lt m place) taken n low).0)
       (λ rest. ⊎_elim (λ is. inr (sym is)) (λ high. inl (Contains-from_filter (λ m. nat_lt place m) taken n high).0)
-          (Contains-cases place above n rest))
+      (Contains-cases place above n rest))
       (Contains-append_cases below (place ∷ above) n h)
 
   -- the one is in the list with it

@@ -25,7 +25,7 @@ Decides-among : (least : ℕ) (words : List ℕ) (n : ℕ) → Decides (is_among
 Decides-among least words n =
     Decides-or (nat_lt n least) (nat_lt least n && (bit_of words (n - (least + 1)) == 1)) (Decides-ltb n least)
     (Decides-and (nat_lt least n) (bit_of words (n - (least + 1)) == 1) (Decides-ltb least n)
-        (Decides-eqb (bit_of words (n - (least + 1))) 1))
+    (Decides-eqb (bit_of words (n - (least + 1))) 1))
 
 -- past the last word each bit is 0
 pub bit_of-past : (words : List ℕ) (n : ℕ) → 64 * length words ≤ n → bit_of words n ≡ 0
@@ -92,7 +92,7 @@ no_longer a b words trimmed same longer =
     let nonzero : 0 < get_or b k 0 = trimmed k (omega (arith, longer)) in
     let zero : get_or b k 0 ≡ 0 = same_from_bits_below 64 (get_or b k 0) 0 (words k) (omega arith)
     (λ i small. sym (bit_of-at b k i small) ∙ sym (same (64 * k + i)) ∙ bit_of-past a (64 * k + i) (omega (arith, longer))
-        ∙ sym (bit_at-zero i)) in
+    ∙ sym (bit_at-zero i)) in
     omega (arith, nonzero, zero)
 
 -- words with the same bits are the same, where the last is not 0
@@ -105,14 +105,14 @@ same_words a b words_a words_b trimmed_a trimmed_b same =
     len : length a ≡ length b
     len = ⊎_elim (λ is. is)
         (⊎_elim (λ lt. absurd (no_longer a b words_b trimmed_b same lt))
-            (λ gt. absurd (no_longer b a words_a trimmed_a (λ n. sym (same n)) gt)))
+        (λ gt. absurd (no_longer b a words_a trimmed_a (λ n. sym (same n)) gt)))
         (cases_order (length a) (length b))
 
 -- the least number that is not in a set is the same for each form of it
 no_lower : (l m : ℕ) (a b : List ℕ) → places_of l a ≡ places_of m b → l < m → ⊥
 no_lower l m a b same lower =
     least-not_among l a ((Contains-places_of l a l).0 (subst (λ (v : List ℕ). Contains v l) (sym same)
-        ((Contains-places_of m b l).1 (inl lower))))
+    ((Contains-places_of m b l).1 (inl lower))))
 
 -- a set has one form: the least number that is not in it
 pub same_least : (l m : ℕ) (a b : List ℕ) → places_of l a ≡ places_of m b → l ≡ m
@@ -171,7 +171,7 @@ none_among n (inr high) = omega (arith, high.1, bit_of-past [] (n - 1) (omega ar
 pub places_of-none : places_of 0 [] ≡ []
 places_of-none =
     sym (places_of-is 0 [] [] (λ k within. absurd (omega (arith, within)))
-        (λ n. (λ h. absurd (Contains-nil n h), λ h. absurd (none_among n h))))
+    (λ n. (λ h. absurd (Contains-nil n h), λ h. absurd (none_among n h))))
 
 -- has the form of sets
 pub ArePlaces-none : ArePlaces 0 []

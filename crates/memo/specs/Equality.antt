@@ -31,9 +31,9 @@ Decides-is_same_pair a b =
 pub Decides-is_same : (a b : Configuration) → Decides (is_same a b) (a ≡ b)
 Decides-is_same a b =
     Decides-like (is_same a b) (λ e. same_configuration a b e.0 e.1)
-        (λ e. (ap (λ (c : Configuration). c.taken) e, ap (λ (c : Configuration). c.pairs) e))
+    (λ e. (ap (λ (c : Configuration). c.taken) e, ap (λ (c : Configuration). c.pairs) e))
     (Decides-and (pointwise ◌==◌ a.taken b.taken) (pointwise is_same_pair a.pairs b.pairs)
-        (pointwise_decides unsigned_Decides a.taken b.taken)
+    (pointwise_decides unsigned_Decides a.taken b.taken)
     (pointwise_decides Decides-is_same_pair a.pairs b.pairs))
 
 -- the test is an equivalence

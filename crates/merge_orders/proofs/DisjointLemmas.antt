@@ -119,10 +119,10 @@ AreDisjoint-from_segments start calls segments orders in_order are zip i j d bef
     let t_is = All-contains (IsSegment start calls) segments t are.each (Contains-at segments j t t_at) in
     let in_s =
     All-contains (Contains s.numbers) (get_or orders i d) n
-        (IsOrderByNumber-from_order start calls s (get_or orders i d) s_is first).within in_first in
+    (IsOrderByNumber-from_order start calls s (get_or orders i d) s_is first).within in_first in
     let in_t =
     All-contains (Contains t.numbers) (get_or orders j d) n
-        (IsOrderByNumber-from_order start calls t (get_or orders j d) t_is second).within in_second in
+    (IsOrderByNumber-from_order start calls t (get_or orders j d) t_is second).within in_second in
     let (a, here) = slice_get-below calls n (All-contains (λ n. n < length calls) s.numbers n (known-IsSegment start calls s s_is) in_s) in
     let below_high = (IsInside-segment start calls s n a s_is in_s here).high_inside in
     let above_low = (IsInside-segment start calls t n a t_is in_t here).low_inside in
@@ -170,6 +170,6 @@ filter-concat (first ∷ orders) order disjoint is =
     not_first : Contains orders order → filter (has_number order) first ≡ []
     not_first later =
         filter_none (has_number order) first (All-from_contains (λ n. has_number order n ≡ false) first (λ n number. false_from_ne_true
-            (has_number order n)
+        (has_number order n)
         (λ has. All-contains (λ other. (n : ℕ) → Contains first n → Contains other n → ⊥) orders order apart later n number
-            (has_number-Contains order n has))))
+        (has_number-Contains order n has))))

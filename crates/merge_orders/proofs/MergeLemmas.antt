@@ -92,7 +92,7 @@ module _ (start : Contents) (calls : List Operation) (segments : List SegmentVie
   part_with n is =
       let (order, order_is, number) =
       Contains-from_concat orders n (Contains-permutation merged (concat orders) n (IsPermutation-sym (concat orders) merged
-          h.same_calls) is) in
+      h.same_calls) is) in
       let (p, same) = part_of start calls segments orders order are zip order_is in
       (p, subst (λ o. Contains o n) (sym same) number)
 
@@ -132,7 +132,7 @@ module _ (start : Contents) (calls : List Operation) (segments : List SegmentVie
       let has = has_number-from_Contains p.order m in_p in
       let pairs =
       AllPairs-from_filter (λ m n. m ≢ n) (has_number p.order) merged
-          (subst (AllPairs (λ m n. m ≢ n)) (sym (kept p)) p.by_number.legal_order.distinct) in
+      (subst (AllPairs (λ m n. m ≢ n)) (sym (kept p)) p.by_number.legal_order.distinct) in
       pairs i j d before within has (subst (λ n. has_number p.order n ≡ true) same has) same
 
   -- each segment's order keeps precedence
@@ -202,7 +202,7 @@ pub known-orders : (start : Contents) (calls : List Operation) (segments : List 
     → AllZip IsOrderOf segments orders → All (λ order. All (λ n. n < length calls) order) orders
 known-orders start calls segments orders are zip = All-from_contains (λ order. All (λ n. n < length calls) order) orders
     (λ order is. let (p, same) = part_of start calls segments orders order are zip is in subst (All (λ n. n < length calls)) same
-        p.by_number.legal_order.known)
+    p.by_number.legal_order.known)
 
 -- an order of a segment has each number once
 pub distinct-orders : (start : Contents) (calls : List Operation) (segments : List SegmentView) (orders : List (List ℕ))
@@ -210,4 +210,4 @@ pub distinct-orders : (start : Contents) (calls : List Operation) (segments : Li
     → AllZip IsOrderOf segments orders → All (AllPairs (λ m n. m ≢ n)) orders
 distinct-orders start calls segments orders are zip = All-from_contains (AllPairs (λ m n. m ≢ n)) orders
     (λ order is. let (p, same) = part_of start calls segments orders order are zip is in subst (AllPairs (λ m n. m ≢ n)) same
-        p.by_number.legal_order.distinct)
+    p.by_number.legal_order.distinct)

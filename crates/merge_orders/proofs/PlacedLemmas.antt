@@ -42,7 +42,7 @@ at_point_in-more calls order i d a distinct below here =
     let point = point_in-at calls order i n distinct (slice_get-get_or order i d below) ∙ latest-more calls order i d a below here in
     map_more (at_point_in calls order) order i d below
     ∙ ap (λ (p : ℕ). let call : CallAtPoint = record { point = p; number = n } in map (at_point_in calls order)
-        (take i order) ++ call ∷ []) point
+    (take i order) ++ call ∷ []) point
 
 -- one element more behind a list and what was put behind it
 pub behind-more : {X : Type 0} (old done more now next : List X) (x y : X) → now ≡ old ++ done → more ≡ done ++ x ∷ []
@@ -59,7 +59,7 @@ map_agree f g (x ∷ xs) same = rw (All-head (λ x. f x ≡ g x) x xs same, map_
 pub at_point-more : (calls : List Operation) (orders : List (List ℕ)) (i : ℕ) (order : List ℕ) → AreDisjoint orders
     → slice_get orders i ≡ Some order
     → map (at_point calls orders) (concat (take (i + 1) orders)) ≡ map (at_point calls orders) (concat (take i orders)) ++ map
-        (at_point_in calls order) order
+    (at_point_in calls order) order
 at_point-more calls orders i order disjoint here =
     let f = at_point calls orders in
     let before = concat (take i orders) in
@@ -71,5 +71,5 @@ at_point-more calls orders i order disjoint here =
     let same : map f order ≡ map (at_point_in calls order) order =
     map_agree f (at_point_in calls order) order (All-from_contains (λ n. f n ≡ at_point_in calls order n) order
     (λ n number. ap (λ (p : ℕ). let call : CallAtPoint = record { point = p; number = n } in call)
-        (point_of-in calls orders order n disjoint is number))) in
+    (point_of-in calls orders order n disjoint is number))) in
     ap (map f) all ∙ (map-append f before order ∙ ap (λ rest. map f before ++ rest) same)

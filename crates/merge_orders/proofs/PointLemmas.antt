@@ -30,7 +30,7 @@ Contains-from_up_to n (m ∷ order) k h = from (m == n) h (Contains-from_up_to n
         → Contains (m ∷ order) k
     from true h rest =
         ⊎_elim (λ same. subst (Contains (m ∷ order)) same (Contains-first m order)) (λ later. absurd (Contains-nil k later))
-            (Contains-cases m [] k h)
+        (Contains-cases m [] k h)
     from false h rest =
         ⊎_elim (λ same. subst (Contains (m ∷ order)) same (Contains-first m order)) (λ later. Contains-later m order k (rest later))
         (Contains-cases m (up_to n order) k h)
@@ -40,7 +40,7 @@ pub Contains-up_to : (n : ℕ) (order : List ℕ) → Contains order n → Conta
 Contains-up_to n [] h = h
 Contains-up_to n (m ∷ order) h =
     ⊎_elim (λ same. rw (eq-eqb m n same) (subst (Contains (m ∷ [])) same (Contains-first m [])))
-        (λ later. onto (m == n) refl (Contains-up_to n order later))
+    (λ later. onto (m == n) refl (Contains-up_to n order later))
     (Contains-cases m order n h)
   where
     onto : (b : Bool) → (m == n) ≡ b → Contains (up_to n order) n → Contains (cond b (m ∷ []) (m ∷ up_to n order)) n
@@ -60,9 +60,9 @@ before-up_to R n (m ∷ order) k h is up = from (m == n) refl up (λ later. befo
         (Contains-cases m [] k up)
     from false e up rest =
         let later = ⊎_elim {C = Contains order n} (λ same. absurd (eqb-false m n e same)) (λ in_rest. in_rest)
-            (Contains-cases m order n is) in
+        (Contains-cases m order n is) in
         ⊎_elim (λ same. inr (subst (λ j. R j n) same (All-contains (R m) order n (AllPairs-head R m order h) later)))
-            (λ k_later. rest later k_later)
+        (λ k_later. rest later k_later)
         (Contains-cases m (up_to n order) k up)
 
 -- a call's point is not before its invocation
@@ -70,7 +70,7 @@ pub point_in-invocation : (calls : List Operation) (order : List ℕ) (n : ℕ) 
     → a.inv ≤ point_in calls order n
 point_in-invocation calls order n a is here =
     greatest_bound (λ b. b.inv) (calls_at calls (up_to n order)) a
-        (Contains-filter_map (slice_get calls) (up_to n order) n a (Contains-up_to n order is) here)
+    (Contains-filter_map (slice_get calls) (up_to n order) n a (Contains-up_to n order is) here)
 
 -- the call at whose invocation the point of a call is: itself, or one that stands before it in its order
 pub record IsPointOf (calls : List Operation) (order : List ℕ) (n : ℕ) : Type 0 where
@@ -101,7 +101,7 @@ not_before_point calls order n a none keeps is here p =
     (All-contains (λ a. precedes a a ≡ false) calls a none (Contains-at calls n a here)))
     (λ earlier. earlier p.call a p.here here)
     (before-up_to (AreRelatedAs R (slice_get calls)) n order p.number
-        (AllPairs-from_filter_map R (slice_get calls) order keeps) is p.up_to_it)
+    (AllPairs-from_filter_map R (slice_get calls) order keeps) is p.up_to_it)
 
 -- the point of a call that precedes another is before the invocation of that
 pub point_in-precedes : (calls : List Operation) (order : List ℕ) (m : ℕ) (a b : Operation) → All (λ a. precedes a a ≡ false) calls
@@ -125,7 +125,7 @@ point_in-rises calls (k ∷ order) distinct =
     (All-from_contains (λ n. point_in calls (k ∷ order) k ≤ point_in calls (k ∷ order) n) order
     (λ n is. rw (first, later n is) (first_least (slice_get calls k) n)))
     (AllPairs-weaker (λ m n. point_in calls order m ≤ point_in calls order n)
-        (λ m n. point_in calls (k ∷ order) m ≤ point_in calls (k ∷ order) n) order
+    (λ m n. point_in calls (k ∷ order) m ≤ point_in calls (k ∷ order) n) order
     (λ m n m_is n_is le. rw (later m m_is, later n n_is) (both (slice_get calls k) m n le))
     (point_in-rises calls order (AllPairs-tail (λ m n. m ≢ n) k order distinct)))
   where
@@ -164,8 +164,13 @@ point_of-is calls (first ∷ orders) order n is number = at (has_number first n)
     at false e rest = ⊎_elim
         (λ same. absurd (false≢true (sym e ∙ has_number-from_Contains first n (subst (λ o. Contains o n) (sym same) number))))
         (λ later. let found = rest later in
-        record { order = found.order; is = Contains-later first orders found.order found.is; number = found.number; point =
-            rw e found.point })
+        record {
+          order = found.order;
+          is = Contains-later first orders found.order found.is;
+          number = found.number;
+          point =
+              rw e found.point;
+        })
         (Contains-cases first orders order is)
 
 -- a call that precedes another has the smaller point

@@ -41,7 +41,7 @@ filter-map p f (x ∷ xs) = kept (p (f x)) (filter-map p f xs)
   where
     kept : (b : Bool) → filter p (map f xs) ≡ map f (filter (λ x. p (f x)) xs)
         → cond b (f x ∷ filter p (map f xs)) (filter p (map f xs)) ≡ map f
-            (cond b (x ∷ filter (λ x. p (f x)) xs) (filter (λ x. p (f x)) xs))
+        (cond b (x ∷ filter (λ x. p (f x)) xs) (filter (λ x. p (f x)) xs))
     kept true rest = ap (λ ys. f x ∷ ys) rest
     kept false rest = rest
 
@@ -72,14 +72,17 @@ IsMergedOrder-sorted calls orders placed sorted once is same_calls up stable =
     permuted : IsPermutation (concat orders) (map (λ c. c.number) sorted)
     permuted =
         subst (λ ns. IsPermutation ns (map (λ c. c.number) sorted))
-            (ap (map (λ c. c.number)) is ∙ numbers-at_point calls orders (concat orders))
+        (ap (map (λ c. c.number)) is ∙ numbers-at_point calls orders (concat orders))
         (IsPermutation-map (λ c. c.number) placed sorted same_calls)
 
     by_point : AllPairs (λ m n. point_of calls orders m ≤ point_of calls orders n) (map (λ c. c.number) sorted)
     by_point = AllPairs-map (λ m n. point_of calls orders m ≤ point_of calls orders n) (λ c. c.number) sorted
-        (λ i j d before within. omega
-        (arith, IsNonDecreasingBy-from_sort (λ c. c.point) sorted up i j d (omega arith) within, points i d (omega arith),
-            points j d within))
+        (λ i j d before within. omega (
+          arith,
+          IsNonDecreasingBy-from_sort (λ c. c.point) sorted up i j d (omega arith) within,
+          points i d (omega arith),
+          points j d within,
+        ))
 
     -- the calls at a place, among those with their points
     at_place : (place : ℕ) (cs : List CallAtPoint)
@@ -90,7 +93,7 @@ IsMergedOrder-sorted calls orders placed sorted once is same_calls up stable =
 
     kept : (place : ℕ)
         → filter (λ n. point_of calls orders n == place) (map (λ c. c.number) sorted) ≡ filter
-            (λ n. point_of calls orders n == place) (concat orders)
+        (λ n. point_of calls orders n == place) (concat orders)
     kept place =
         let here = λ (c : CallAtPoint). c.point == place in
         let number = λ (c : CallAtPoint). c.number in
@@ -99,6 +102,6 @@ IsMergedOrder-sorted calls orders placed sorted once is same_calls up stable =
         filter-map (λ n. point_of calls orders n == place) number sorted
         ∙ (ap (map number)
         (filter_agree (λ c. point_of calls orders c.number == place) here sorted
-            (λ k d within. ap (λ p. p == place) (sym (points k d within)))
+        (λ k d within. ap (λ p. p == place) (sym (points k d within)))
         ∙ (same ∙ (ap (filter here) is ∙ filter-map here (at_point calls orders) (concat orders))))
         ∙ numbers-at_point calls orders (filter (λ n. point_of calls orders n == place) (concat orders)))

@@ -53,8 +53,12 @@ pub IsMergedOrder-from_sort : (calls : List Operation) (orders : List (List ℕ)
     → ((place : ℕ) → filter (λ n. point_of calls orders n == place) merged ≡ filter (λ n. point_of calls orders n == place) (concat orders))
     → IsMergedOrder calls orders merged
 IsMergedOrder-from_sort calls orders merged disjoint distinct same_calls by_point stable =
-    record { same_calls = same_calls; by_point = by_point; by_place =
-        All-from_contains (λ order. filter (has_number order) merged ≡ order) orders by_place }
+    record {
+      same_calls = same_calls;
+      by_point = by_point;
+      by_place =
+          All-from_contains (λ order. filter (has_number order) merged ≡ order) orders by_place;
+    }
   where
     by_place : (order : List ℕ) → Contains orders order → filter (has_number order) merged ≡ order
     by_place order is =
@@ -62,9 +66,14 @@ IsMergedOrder-from_sort calls orders merged disjoint distinct same_calls by_poin
         same_sorted (point_of calls orders) (filter has merged) order
         (AllPairs-filter (λ m n. point_of calls orders m ≤ point_of calls orders n) has merged by_point)
         (AllPairs-weaker (λ m n. point_in calls order m ≤ point_in calls order n)
-            (λ m n. point_of calls orders m ≤ point_of calls orders n) order
-        (λ m n m_is n_is le. omega (arith, le, point_of-in calls orders order m disjoint is m_is, point_of-in calls orders order n
-            disjoint is n_is))
+        (λ m n. point_of calls orders m ≤ point_of calls orders n) order
+        (λ m n m_is n_is le. omega (
+          arith,
+          le,
+          point_of-in calls orders order m disjoint is m_is,
+          point_of-in calls orders order n
+              disjoint is n_is,
+        ))
         (point_in-rises calls order (All-contains (AllPairs (λ m n. m ≢ n)) orders order distinct is)))
         (λ place. let at = λ (n : ℕ). point_of calls orders n == place in
         filter_comm at has merged

@@ -26,7 +26,7 @@ same_invocation : (calls : List Operation) (m n : ℕ) (a b : Operation) → Inv
 same_invocation calls m n a b rise m_here n_here same = ⊎_elim (λ equal. equal) (λ differ. ⊎_elim
     (λ before. let less = AllPairs-at (λ a b. a.inv < b.inv) calls m n a b rise before m_here n_here in absurd (omega arith))
     (λ after. let less = AllPairs-at (λ a b. a.inv < b.inv) calls n m b a rise after n_here m_here in absurd (omega arith))
-        differ) (cases_order m n)
+    differ) (cases_order m n)
 
 -- two orders never share a point
 pub same_order-from_point : (calls : List Operation) (orders : List (List ℕ)) (order other : List ℕ) (m n : ℕ) → InvocationsRise calls
@@ -53,7 +53,7 @@ same_order-from_point calls orders order other m n rise known disjoint order_is 
     known_call order n order_is is =
         slice_get-below calls n
         (All-contains (λ n. n < length calls) order n
-            (All-contains (λ order. All (λ n. n < length calls) order) orders order known order_is) is)
+        (All-contains (λ order. All (λ n. n < length calls) order) orders order known order_is) is)
 
 -- a number is in one of the orders
 abbrev IsInOne : List (List ℕ) → ℕ → Type 0
@@ -67,7 +67,7 @@ filter_first order n rest is = rw (has_number-from_Contains order n is) refl
 -- numbers of lists that begin alike, where each order begins alike
 module _ (key : ℕ → ℕ) (orders : List (List ℕ))
     (apart : (order other : List ℕ) (m n : ℕ) → Contains orders order → Contains orders other → Contains order m
-        → Contains other n → key m ≡ key n
+    → Contains other n → key m ≡ key n
     → order ≡ other) where
   -- the first number of the one list is that of the other
   same_first : (x y : ℕ) (xs ys : List ℕ) → AllPairs (λ m n. key m ≤ key n) (x ∷ xs) → AllPairs (λ m n. key m ≤ key n) (y ∷ ys)
@@ -79,11 +79,11 @@ module _ (key : ℕ → ℕ) (orders : List (List ℕ))
       let x_among : Contains (y ∷ ys) x =
       (Contains-from_filter (has_number order) (y ∷ ys) x
       (subst (λ ns. Contains ns x) (sym (filter_first order x xs x_is) ∙ same order order_is)
-          (Contains-first x (filter (has_number order) xs)))).0 in
+      (Contains-first x (filter (has_number order) xs)))).0 in
       let y_among : Contains (x ∷ xs) y =
       (Contains-from_filter (has_number other) (x ∷ xs) y
       (subst (λ ns. Contains ns y) (sym (filter_first other y ys y_is) ∙ sym (same other other_is))
-          (Contains-first y (filter (has_number other) ys)))).0 in
+      (Contains-first y (filter (has_number other) ys)))).0 in
       let x_later : Contains ys x = ⊎_elim (λ equal. absurd (differ (sym equal))) (λ later. later) (Contains-cases y ys x x_among) in
       let y_later : Contains xs y = ⊎_elim (λ equal. absurd (differ equal)) (λ later. later) (Contains-cases x xs y y_among) in
       let y_first = All-contains (λ n. key y ≤ key n) ys x (AllPairs-head (λ m n. key m ≤ key n) y ys up_y) x_later in
@@ -129,4 +129,4 @@ merged_unique calls orders xs ys rise known x y =
     in_one merged h =
         All-from_contains (IsInOne orders) merged
         (λ n is. Contains-from_concat orders n
-            (Contains-permutation merged (concat orders) n (IsPermutation-sym (concat orders) merged h.same_calls) is))
+        (Contains-permutation merged (concat orders) n (IsPermutation-sym (concat orders) merged h.same_calls) is))

@@ -16,12 +16,12 @@ ShareNoPoint calls orders = AllPairs (λ order other. (m n : ℕ) → Contains o
 abbrev pub SegmentsShareNoPoint : Type 0
 SegmentsShareNoPoint =
     (history : HistoryView) (orders : List (List ℕ)) → IsHistory history
-        → AreOrdersOfSegments history.start (operations history.events) orders
+    → AreOrdersOfSegments history.start (operations history.events) orders
     → ShareNoPoint (operations history.events) orders
 
 -- orders of the segments of a history have one merged order only
 abbrev pub HasOneMergedOrder : Type 0
 HasOneMergedOrder =
     (history : HistoryView) (orders : List (List ℕ)) (a b : List ℕ) → IsHistory history
-        → AreOrdersOfSegments history.start (operations history.events) orders
+    → AreOrdersOfSegments history.start (operations history.events) orders
     → IsMergedOrder (operations history.events) orders a → IsMergedOrder (operations history.events) orders b → a ≡ b

@@ -31,7 +31,11 @@ length-calls_at calls (m ∷ numbers) known =
 pub number_at : (calls : List Operation) (numbers : List ℕ) (i : ℕ) (a : Operation) → All (λ n. n < length calls) numbers
     → slice_get (calls_at calls numbers) i ≡ Some a → (n : ℕ) × (slice_get numbers i ≡ Some n) × (slice_get calls n ≡ Some a)
 number_at calls numbers i a known here =
-    let within : i < length numbers = omega (arith, slice_get_within (calls_at calls numbers) i a here, length-calls_at
-        calls numbers known) in
+    let within : i < length numbers = omega (
+      arith,
+      slice_get_within (calls_at calls numbers) i a here,
+      length-calls_at
+          calls numbers known,
+    ) in
     let (n, is) = slice_get-below numbers i within in
     (n, is, sym (slice_get-calls_at calls numbers i n known is) ∙ here)

@@ -47,9 +47,12 @@ legal_from_DoesCall m call (Some response) next does = does
 -- a legal list of calls leads to the pairs after it
 pub Leads-from_legal : (m : Contents) (calls : List Operation) → IsLegal m calls → Leads m calls (after_calls m calls)
 Leads-from_legal m [] legal = refl
-Leads-from_legal m (a ∷ calls) legal =
-    (after_call m a.call a.response, DoesCall-from_legal m a.call a.response legal.0, Leads-from_legal
-        (after_call m a.call a.response) calls legal.1)
+Leads-from_legal m (a ∷ calls) legal = (
+  after_call m a.call a.response,
+  DoesCall-from_legal m a.call a.response legal.0,
+  Leads-from_legal
+      (after_call m a.call a.response) calls legal.1,
+)
 
 -- calls that lead anywhere are a legal list, and lead to the pairs after it
 pub legal_from_Leads : (m m2 : Contents) (calls : List Operation) → Leads m calls m2 → IsLegal m calls × (m2 ≡ after_calls m calls)
@@ -57,5 +60,5 @@ legal_from_Leads m m2 [] leads = (tt, leads)
 legal_from_Leads m m2 (a ∷ calls) leads =
     let first = legal_from_DoesCall m a.call a.response leads.0 leads.1 in
     let rest = legal_from_Leads (after_call m a.call a.response) m2 calls
-        (subst (λ (next : Contents). Leads next calls m2) first.1 leads.2) in
+    (subst (λ (next : Contents). Leads next calls m2) first.1 leads.2) in
     ((first.0, rest.0), rest.1)

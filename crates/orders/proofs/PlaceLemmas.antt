@@ -72,7 +72,7 @@ pub All-at_places : (numbers places : List ℕ) → All (λ place. place < lengt
     → All (Contains numbers) (at_places numbers places)
 All-at_places numbers places within =
     All-map (Contains numbers) (λ place. slice_index numbers place) places
-        (λ k d below. Contains-get_or numbers (get_or places k d) 0 (within k d below))
+    (λ k d below. Contains-get_or numbers (get_or places k d) 0 (within k d below))
 
 -- a legal order by place is one by number
 pub IsLegalOrder-numbers : (start : Contents) (calls : List Operation) (numbers places : List ℕ) → All (λ n. n < length calls) numbers
@@ -90,7 +90,7 @@ IsLegalOrder-numbers start calls numbers places known rising h =
           AllPairs-map (λ m n. m ≢ n) (λ place. slice_index numbers place) places
           (AllPairs-weaker (λ i j. i ≢ j) (λ i j. slice_index numbers i ≢ slice_index numbers j) places
           (λ i j i_is j_is differ. at_place-distinct numbers i j rising
-              (All-contains (λ place. place < length numbers) places i within i_is)
+          (All-contains (λ place. place < length numbers) places i within i_is)
           (All-contains (λ place. place < length numbers) places j within j_is) differ) h.distinct);
       precedence = subst KeepsPrecedence same h.precedence;
       legal = subst (IsLegal start) same h.legal;
@@ -117,8 +117,12 @@ pub IsCompletedAt-number : (calls : List Operation) (numbers : List ℕ) (place 
     → IsCompletedAt (calls_at calls numbers) place
     → (place < length numbers) × IsCompletedAt calls (slice_index numbers place)
 IsCompletedAt-number calls numbers place known h =
-    let within : place < length numbers = omega (arith, IsCompletedAt-below (calls_at calls numbers) place h, length-calls_at
-        calls numbers known) in
+    let within : place < length numbers = omega (
+      arith,
+      IsCompletedAt-below (calls_at calls numbers) place h,
+      length-calls_at
+          calls numbers known,
+    ) in
     (within, subst (λ o. IsSomeAnd o (λ a. IsTrue (is_completed a))) (slice_get-at_place calls numbers place known within) h)
 
 -- and the other way round
@@ -137,5 +141,5 @@ Contains-place numbers places place rising all_within within h =
     ⊎_elim (λ equal. subst (Contains places) equal other_is)
     (λ differ. absurd
     (at_place-distinct numbers other place rising (All-contains (λ place. place < length numbers) places other all_within other_is)
-        within differ same))
+    within differ same))
     (cases_eq other place)

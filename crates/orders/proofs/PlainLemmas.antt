@@ -113,8 +113,13 @@ plain_order calls order plain h = record {
 
 order_from_plain : (calls : List Operation) (order : List ℕ) → IsPlainOrder calls order → IsOrder [] calls order
 order_from_plain calls order h = record {
-  legal_order = record { known = h.known; distinct = h.distinct; precedence = h.precedence; legal = all_legal []
-      (calls_at calls order) h.done };
+  legal_order = record {
+    known = h.known;
+    distinct = h.distinct;
+    precedence = h.precedence;
+    legal = all_legal []
+        (calls_at calls order) h.done;
+  };
   complete = h.complete;
 }
 

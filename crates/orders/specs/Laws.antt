@@ -17,4 +17,4 @@ LegalListsLead = (m m2 : Contents) (calls : List Operation) → Leads m calls m2
 abbrev pub PlainHistoriesHavePlainOrders : Type 0
 PlainHistoriesHavePlainOrders =
     (history : HistoryView) (order : List ℕ) → IsTrue (is_plain history)
-        → IsOrderOfHistory history order ↔ IsPlainOrder (operations history.events) order
+    → IsOrderOfHistory history order ↔ IsPlainOrder (operations history.events) order

@@ -43,9 +43,12 @@ pub yes_is_linearizable : (budget : ℕ) (text : List ℕ) (outcome : Outcome)
     → IsTextOutcome (IsJudgeAnswer budget) IsHistoryRefusal (Some text) outcome
     → status_of outcome ≡ 0 → SpellsLinearizable text
 yes_is_linearizable budget text (Answered Yes bytes) comes is =
-    let judged = comes.judged in
-    (judged.history, record { spelled = judged.spelled; is_history = judged.is_history }, order_of_yes budget judged.history comes.verdict
-        comes.answer_is judged.shown)
+    let judged = comes.judged in (
+      judged.history,
+      record { spelled = judged.spelled; is_history = judged.is_history },
+      order_of_yes budget judged.history comes.verdict
+          comes.answer_is judged.shown,
+    )
 yes_is_linearizable budget text (Answered No bytes) comes is = cc
 yes_is_linearizable budget text (Answered Undecided bytes) comes is = cc
 yes_is_linearizable budget text (Refused bytes) comes is = cc
@@ -59,9 +62,12 @@ pub no_is_unlinearizable : (budget : ℕ) (text : List ℕ) (outcome : Outcome)
     → status_of outcome ≡ 1 → SpellsUnlinearizable text
 no_is_unlinearizable budget text (Answered Yes bytes) comes is = cc
 no_is_unlinearizable budget text (Answered No bytes) comes is =
-    let judged = comes.judged in
-    (judged.history, record { spelled = judged.spelled; is_history = judged.is_history }, none_of_no budget judged.history comes.verdict
-        comes.answer_is judged.shown)
+    let judged = comes.judged in (
+      judged.history,
+      record { spelled = judged.spelled; is_history = judged.is_history },
+      none_of_no budget judged.history comes.verdict
+          comes.answer_is judged.shown,
+    )
 no_is_unlinearizable budget text (Answered Undecided bytes) comes is = cc
 no_is_unlinearizable budget text (Refused bytes) comes is = cc
 no_is_unlinearizable budget text Memory comes is = cc

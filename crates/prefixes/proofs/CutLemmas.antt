@@ -59,7 +59,7 @@ Contains-from_kept : (part whole : List Operation) (order : List ℕ) (x : ℕ) 
 Contains-from_kept part whole [] x h = h
 Contains-from_kept part whole (n ∷ order) x h =
     ⊎_elim (λ is. subst (Contains (n ∷ order)) is (Contains-first n order))
-        (λ later. Contains-later n order x (Contains-from_kept part whole order x later))
+    (λ later. Contains-later n order x (Contains-from_kept part whole order x later))
     (from_first n (slice_get part n) (slice_get whole n) (kept part whole order) x h)
 
 -- a number of the part stands before numbers of the part
@@ -226,7 +226,7 @@ kept-complete place part whole [] n extends later known keeps done h = h
 kept-complete place part whole (m ∷ order) n extends later known keeps done h =
     ⊎_elim (λ is. here is) (λ behind. by_part
     (kept-complete place part whole order n extends later (All-tail (λ n. n < length whole) m order known)
-        (AllPairs-tail R m order keeps) done behind)
+    (AllPairs-tail R m order keeps) done behind)
     (slice_get part m) refl behind) (Contains-cases m order n h)
   where
     R : ℕ → ℕ → Type 0
@@ -247,7 +247,7 @@ kept-complete place part whole (m ∷ order) n extends later known keeps done h 
         let (c, c_at) = slice_get-below whole m (All-head (λ n. n < length whole) m order known) in
         let related = All-contains (R m) order n (AllPairs-head R m order keeps) behind c b c_at b_at in
         absurd (clash place response b.response c.inv (subst (λ r. IsExtendedResponse place r b.response) answered extended.response)
-            (later m c gone c_at) related)
+        (later m c gone c_at) related)
     by_part rest (Some a) at behind =
         let (b, b_at, extended) = extends m a at in
         rw b_at (stays_later m n (is_refused_later a.response b.response) (kept part whole order) rest)

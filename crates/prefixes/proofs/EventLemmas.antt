@@ -57,8 +57,11 @@ answered p i (suc j) waiting (Invoke q call ∷ events) reply turns here =
     by_case go false other k = ⊎_elim later (λ waits. inr waits) (go waiting k)
     by_case go true own k =
         ⊎_elim later
-        (λ waits. inl (zero, subst (λ r. IsSomeAnd (response_from r (suc i) events) (λ response. response.res ≡ i + suc j))
-            (sym (eqb-true q p own)) waits.1))
+        (λ waits. inl (
+          zero,
+          subst (λ r. IsSomeAnd (response_from r (suc i) events) (λ response. response.res ≡ i + suc j))
+              (sym (eqb-true q p own)) waits.1,
+        ))
         (go true (and_right (not waiting) _ k))
 answered p i zero waiting (Answer q answer ∷ events) reply turns here =
     let own : (q == p) ≡ true = eq-eqb q p (same_process q p answer reply here) in
@@ -99,19 +102,19 @@ few_from : (waits : ℕ → Bool) (waiting_ones : List ℕ) (events : List Event
 few_from waits waiting_ones [] turns covers = omega arith
 few_from waits waiting_ones (Invoke p call ∷ events) turns covers =
     let rest = few_from (λ q. (p == q) || waits q) (p ∷ waiting_ones) events
-        (λ q. after_invoke (p == q) (waits q) p call (events_of q events) (turns q))
+    (λ q. after_invoke (p == q) (waits q) p call (events_of q events) (turns q))
     (λ q h. ⊎_elim (λ same. subst (Contains (p ∷ waiting_ones)) (eqb-true p q same) (Contains-first p waiting_ones))
-        (λ waiting. Contains-later p waiting_ones q (covers q waiting))
+    (λ waiting. Contains-later p waiting_ones q (covers q waiting))
     (or_cases (p == q) (waits q) h)) in
     omega (arith, rest, sum_by-cons (λ x. cond (is_invocation x) 1 0) (Invoke p call) events)
 few_from waits waiting_ones (Answer p reply ∷ events) turns covers =
     let own : (p == p) ≡ true = eq-eqb p p refl in
     let waiting : waits p ≡ true = and_left (waits p) _
     (subst (λ (c : Bool). takes_turns (waits p)
-        (cond c (Answer p reply ∷ events_of p events) (events_of p events)) ≡ true) own (turns p)) in
+    (cond c (Answer p reply ∷ events_of p events) (events_of p events)) ≡ true) own (turns p)) in
     let (front, back, parts) = Contains-split waiting_ones p (covers p waiting) in
     let rest = few_from (λ q. not (p == q) && waits q) (front ++ back) events
-        (λ q. after_answer (p == q) (waits q) p reply (events_of q events) (turns q))
+    (λ q. after_answer (p == q) (waits q) p reply (events_of q events) (turns q))
     (λ q h. ⊎_elim (λ same. absurd (not_itself p q same (and_left (not (p == q)) (waits q) h))) (λ other. other)
     (Contains-around front p back q (subst (λ (all : List ℕ). Contains all q) parts (covers q (and_right (not (p == q)) (waits q) h))))) in
     omega (
@@ -149,7 +152,7 @@ response_from-later p i (Answer q reply ∷ events) place h = by_case (λ k. res
   where
     by_case : (IsResponseAt p (suc i) events place → suc i ≤ place) → (c : Bool)
         → IsSomeAnd (cond c (Some (record { res = i; reply = reply })) (response_from p (suc i) events))
-            (λ response. response.res ≡ place) → i ≤ place
+        (λ response. response.res ≡ place) → i ≤ place
     by_case go true k = omega (arith, k)
     by_case go false k = let later = go k in omega arith
 
@@ -213,7 +216,7 @@ one_call_from : (waits : ℕ → Bool) (i : ℕ) (events : List Event) (m n plac
 one_call_from waits i [] m n place turns first second = absurd first
 one_call_from waits i (Answer p reply ∷ events) m n place turns first second =
     one_call_from (λ q. not (p == q) && waits q) (suc i) events m n place
-        (λ q. after_answer (p == q) (waits q) p reply (events_of q events) (turns q)) first second
+    (λ q. after_answer (p == q) (waits q) p reply (events_of q events) (turns q)) first second
 one_call_from waits i (Invoke p call ∷ events) m n place turns first second =
     by_numbers (λ m n own k l. one_call_from (λ q. (p == q) || waits q) (suc i) events m n place own k l) m n first second
   where

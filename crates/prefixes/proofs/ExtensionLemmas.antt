@@ -27,7 +27,7 @@ response_from-extended p i place [] more within = tt
 response_from-extended p i place (Invoke q call ∷ events) more within = response_from-extended p (suc i) place events more (omega arith)
 response_from-extended p i place (Answer q reply ∷ events) more within =
     first_or (q == p) (record { res = i; reply = reply }) _ _ (omega arith)
-        (response_from-extended p (suc i) place events more (omega arith))
+    (response_from-extended p (suc i) place events more (omega arith))
   where
     first_or : (b : Bool) (x : Response) (part whole : Option Response) → x.res < place → IsExtendedResponse place part whole
         → IsExtendedResponse place (cond b (Some x) part) (cond b (Some x) whole)

@@ -76,7 +76,7 @@ response_from-invoke p i q call (Answer r reply ∷ events) = rw (response_from-
 -- the calls of a list with one invocation more: one more, which is pending
 operations_from-invoke : (i q : ℕ) (call : Call) (events : List Event) → (inv : ℕ)
     × (operations_from i (events ++ Invoke q call ∷ []) ≡ operations_from i events ++ record
-        { call = call; inv = inv; response = None } ∷ [])
+    { call = call; inv = inv; response = None } ∷ [])
 operations_from-invoke i q call [] = (i, refl)
 operations_from-invoke i q call (Answer r reply ∷ events) = operations_from-invoke (suc i) q call events
 operations_from-invoke i q call (Invoke r other ∷ events) =
@@ -123,9 +123,11 @@ order_with_call start calls call inv order h =
 pub invocation_keeps_order : (start : Contents) (events : List Event) (process : ℕ) (call : Call) → IsLinearizable start (operations events)
     → IsLinearizable start (operations (events ++ Invoke process call ∷ []))
 invocation_keeps_order start events process call (order, h) =
-    let (inv, is) = operations_from-invoke 0 process call events in
-    (order, subst (λ (calls : List Operation). IsOrder start calls order) (sym is)
-        (order_with_call start (operations events) call inv order h))
+    let (inv, is) = operations_from-invoke 0 process call events in (
+      order,
+      subst (λ (calls : List Operation). IsOrder start calls order) (sym is)
+          (order_with_call start (operations events) call inv order h),
+    )
 
 -- the first events up to an event and with it
 pub take_with : (events : List Event) (place : ℕ) (e : Event) → slice_get events place ≡ Some e

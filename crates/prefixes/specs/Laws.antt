@@ -21,27 +21,27 @@ PrefixesHaveOrders = (history : HistoryView) (count : ℕ) → IsLinearizableHis
 abbrev pub InvocationsKeepOrders : Type 0
 InvocationsKeepOrders =
     (history : HistoryView) (process : ℕ) (call : Call) → IsLinearizableHistory history
-        → IsLinearizableHistory (with_event history (Invoke process call))
+    → IsLinearizableHistory (with_event history (Invoke process call))
 
 -- each response of a history is the answer of a call
 abbrev pub AnswersHaveCalls : Type 0
 AnswersHaveCalls =
     (history : HistoryView) (place process : ℕ) (reply : Reply) → IsHistory history
-        → slice_get history.events place ≡ Some (Answer process reply) → (number : ℕ)
+    → slice_get history.events place ≡ Some (Answer process reply) → (number : ℕ)
     × IsAnswerOf history.events number place
 
 -- an event is the answer of one call at most
 abbrev pub AnswersHaveOneCall : Type 0
 AnswersHaveOneCall =
     (history : HistoryView) (number other place : ℕ) → IsHistory history → IsAnswerOf history.events number place
-        → IsAnswerOf history.events other place
+    → IsAnswerOf history.events other place
     → number ≡ other
 
 -- the event at which an order is lost is the answer of a call
 abbrev pub OrdersAreLostAtAnswers : Type 0
 OrdersAreLostAtAnswers =
     (history : HistoryView) (place : ℕ) → IsHistory history → place < length history.events
-        → IsLinearizableHistory (prefix_of history place)
+    → IsLinearizableHistory (prefix_of history place)
     → (IsLinearizableHistory (prefix_of history (place + 1)) → ⊥) → (number : ℕ) × GoesWrongAt history number place
 
 -- a history goes wrong at one event at most; one that does has no order, and so have the first events that reach so far

@@ -21,7 +21,7 @@ abbrev pub GroupsJudge : Type 0
 GroupsJudge =
     (m : Contents) (calls : List Operation) (is_here : Operation → Bool) → IsRising m → InvocationsRise calls → NonePrecedesItself calls
     → PartsKeys calls is_here → IsLinearizable m calls ↔ (IsLinearizable m (early_of is_here calls) × IsLinearizable m
-        (late_of is_here calls))
+    (late_of is_here calls))
 
 -- the orders of calls within a range are those from the pairs of the range
 abbrev pub RangesSuffice : Type 0

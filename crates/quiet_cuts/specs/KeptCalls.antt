@@ -21,8 +21,12 @@ begun_at place call = record { call = call; inv = place; response = None }
 
 -- the call that was invoked at a place, with its answer at another; other calls as they are
 abbrev pub answered_at : ℕ → ℕ → Reply → Operation → Operation
-answered_at inv place reply a = if a.inv == inv then record { call = a.call; inv = a.inv; response = Some
-    (record { res = place; reply = reply }) } else a
+answered_at inv place reply a = if a.inv == inv then record {
+  call = a.call;
+  inv = a.inv;
+  response = Some
+      (record { res = place; reply = reply });
+} else a
 
 -- pending gets and pending scans do not count for a verdict
 abbrev pub PendingReadsMayGo : Type 0
@@ -34,7 +38,7 @@ abbrev pub InvocationsAddOneCall : Type 0
 InvocationsAddOneCall =
     (events : List Event) (dropped : List ℕ) (process : ℕ) (call : Call) (c : Cell) → All (λ place. place < length events) dropped
     → calls_now (events ++ Invoke process call ∷ []) dropped c ≡ calls_now events dropped c ++ calls_in c
-        (begun_at (length events) call ∷ [])
+    (begun_at (length events) call ∷ [])
 
 -- where the open call of a process is answered, it alone has a response more
 abbrev pub AnswersFillOneCall : Type 0
@@ -43,20 +47,20 @@ AnswersFillOneCall =
     → let events = before ++ Invoke process call ∷ between in
     IsTrue (takes_turns false (events_of process events)) → events_of process between ≡ []
     → calls_now (events ++ Answer process reply ∷ []) dropped c ≡ map (answered_at (length before) (length events) reply)
-        (calls_now events dropped c)
+    (calls_now events dropped c)
 
 -- of the calls of a cell those that were not dropped are left
 abbrev pub SettledCallsGo : Type 0
 SettledCallsGo =
     (events : List Event) (dropped : List ℕ) (c : Cell) (contents : List Contents) (is_early : Operation → Bool) → let settled =
-        calls_now events dropped c in
+    calls_now events dropped c in
     calls_now events (dropped ++ places_of (early_of is_early settled)) (with_contents c contents) ≡ late_of is_early settled
 
 -- and those of other cells stay
 abbrev pub OtherCallsStay : Type 0
 OtherCallsStay =
     (start : Contents) (events : List Event) (known : Contents) (dropped : List ℕ) (front back : List Cell) (c d : Cell)
-        (is_early : Operation → Bool)
+    (is_early : Operation → Bool)
     → StandsFor start events (summary known (front ++ c ∷ back) dropped) → Contains (front ++ back) d
     → calls_now events (dropped ++ places_of (early_of is_early (calls_now events dropped c))) d ≡ calls_now events dropped d
 

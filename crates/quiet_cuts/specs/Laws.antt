@@ -33,7 +33,7 @@ TimeCutsLeave =
 abbrev pub RangeCutsPart : Type 0
 RangeCutsPart =
     (start : Contents) (calls : List Operation) (is_early : Operation → Bool) → IsRising start → InvocationsRise calls
-        → NonePrecedesItself calls
+    → NonePrecedesItself calls
     → IsRangeCut calls is_early → IsLinearizable start calls
     ↔ ((m : Contents) × Leaves start (early_of is_early calls) m × IsLinearizable m (late_of is_early calls))
 
@@ -43,18 +43,18 @@ RangeCutsPart =
 abbrev pub QuietCallsSettle : Type 0
 QuietCallsSettle =
     (start : Contents) (events : List Event) (known : Contents) (front back : List Cell) (c : Cell) (dropped : List ℕ)
-        (is_early : Operation → Bool)
+    (is_early : Operation → Bool)
     (left : List Contents) → StandsFor start events (summary known (front ++ c ∷ back) dropped)
-        → IsRangeCut (calls_now events dropped c) is_early
+    → IsRangeCut (calls_now events dropped c) is_early
     → AreLeftIn c (early_of is_early (calls_now events dropped c)) left
     → StandsFor start events (summary known (front ++ with_contents c left ∷ back)
-        (dropped ++ places_of (early_of is_early (calls_now events dropped c))))
+    (dropped ++ places_of (early_of is_early (calls_now events dropped c))))
 
 -- a cell gets quiet: the contents that its calls leave from some of its contents take the place of both
 abbrev pub QuietCellsSettle : Type 0
 QuietCellsSettle =
     (start : Contents) (events : List Event) (known : Contents) (front back : List Cell) (c : Cell) (dropped : List ℕ)
-        (left : List Contents)
+    (left : List Contents)
     → StandsFor start events (summary known (front ++ c ∷ back) dropped) → IsQuiet (calls_now events dropped c)
     → AreLeftIn c (calls_now events dropped c) left
     → StandsFor start events (summary known (front ++ with_contents c left ∷ back) (dropped ++ places_of (calls_now events dropped c)))
@@ -86,7 +86,7 @@ CellsOpen =
 abbrev pub CellsMerge : Type 0
 CellsMerge =
     (start : Contents) (events : List Event) (known : Contents) (front cells back : List Cell) (c : Cell) (dropped : List ℕ)
-        → AreCells (front ++ c ∷ back)
+    → AreCells (front ++ c ∷ back)
     → IsMergeOf known cells c → StandsFor start events (summary known (front ++ (cells ++ back)) dropped)
     → StandsFor start events (summary known (front ++ c ∷ back) dropped)
 

@@ -17,17 +17,17 @@ use Rattle.search.specs.Cursor.{ComesBefore, cursor}
 -- how a list stands to all that begin with another: it goes on from it, comes before all of them, or after all of them
 against : (f p : List ℕ)
     → ((rest : List ℕ) × (f ≡ p ++ rest)) ⊎ (((ys : List ℕ) → is_at_or_before (p ++ ys) f ≡ false) ⊎ ((ys : List ℕ) → is_at_or_before
-        (p ++ ys) f ≡ true))
+    (p ++ ys) f ≡ true))
 against f [] = inl (f, refl)
 against [] (y ∷ p) = inr (inl (λ ys. refl))
 against (x ∷ f) (y ∷ p) = by_cases (against f p) (cases_order x y)
   where
     by_cases : ((rest : List ℕ) × (f ≡ p ++ rest)) ⊎
         (((ys : List ℕ) → is_at_or_before (p ++ ys) f ≡ false) ⊎ ((ys : List ℕ) → is_at_or_before (p ++ ys) f ≡ true)) → (x ≡ y)
-            ⊎ ((x < y) ⊎ (y < x))
+        ⊎ ((x < y) ⊎ (y < x))
         → ((rest : List ℕ) × (x ∷ f ≡ (y ∷ p) ++ rest)) ⊎
         (((ys : List ℕ) → is_at_or_before ((y ∷ p) ++ ys) (x ∷ f) ≡ false)
-            ⊎ ((ys : List ℕ) → is_at_or_before ((y ∷ p) ++ ys) (x ∷ f) ≡ true))
+        ⊎ ((ys : List ℕ) → is_at_or_before ((y ∷ p) ++ ys) (x ∷ f) ≡ true))
     by_cases (inl begins) (inl same) = inl (begins.0, ap (λ k. k ∷ f) same ∙ ap (λ zs. y ∷ zs) begins.1)
     by_cases (inr (inl before)) (inl same) =
         inr (inl (λ ys. ap (λ k. is_at_or_before (y ∷ (p ++ ys)) (k ∷ f)) same ∙ is_at_or_before-same y (p ++ ys) f ∙ before ys))
@@ -66,7 +66,7 @@ at_or_before-from_cursor p f h = ⊎_elim (λ begins. of_begins begins.0 begins.
 pub ComesBefore-from_at_or_before : (p f : List ℕ) (n : ℕ) → is_at_or_before f p ≡ true → ComesBefore f (cursor p n)
 ComesBefore-from_at_or_before p f n le =
     false_from_ne_true (is_at_or_before (cursor p n) f)
-        (λ e. both_ways _ (ComesBefore-itself p n) (is_at_or_before-trans (cursor p n) f p e le))
+    (λ e. both_ways _ (ComesBefore-itself p n) (is_at_or_before-trans (cursor p n) f p e le))
 
 -- a list that comes before a cursor that has moved on came before it where it was, or begins with the calls taken and one that it passed
 pub ComesBefore-moved : (p f : List ℕ) (n m : ℕ) → ComesBefore f (cursor p m)
@@ -85,7 +85,7 @@ ComesBefore-moved p f n m h = ⊎_elim (λ begins. of_begins begins.0 begins.1) 
     of_begins [] is = inl (ap (is_at_or_before (cursor p n)) is ∙ is_at_or_before-append p (n ∷ []) [])
     of_begins (x ∷ rest) is = ⊎_elim
         (λ lt. inl (ap (is_at_or_before (cursor p n)) is ∙ is_at_or_before-append p (n ∷ []) (x ∷ rest)
-            ∙ is_at_or_before-higher n [] x rest lt))
+        ∙ is_at_or_before-higher n [] x rest lt))
         (λ le. inr (
           x,
           rest,
@@ -123,7 +123,7 @@ ComesBefore-push p f n h = ComesBefore-or_same (cursor p n) f (at_or_before-from
         of (inl (z ∷ rest, is)) =
             inl (ap (λ zs. is_at_or_before zs (x ∷ f)) is
             ∙ (subst (λ q. is_at_or_before ((x ∷ f) ++ z ∷ rest) q ≡ false) (append-nil (x ∷ f))
-                (is_at_or_before-append (x ∷ f) (z ∷ rest) [])))
+            (is_at_or_before-append (x ∷ f) (z ∷ rest) [])))
         of (inr d) =
             inl (ap (λ zs. is_at_or_before zs (x ∷ f)) d.ys_is ∙ ap (is_at_or_before (d.front ++ d.y ∷ d.y_rest)) d.xs_is
             ∙ is_at_or_before-first_higher d.front d.y d.y_rest d.x d.x_rest d.lower)
@@ -133,20 +133,20 @@ pub ComesBefore-pop : (p f : List ℕ) (n m : ℕ) → All (λ k. k < m) f → C
     → ComesBefore f (cursor (cursor p n) m)
 ComesBefore-pop p f n m below h =
     ⊎_elim (λ before. ComesBefore-pushed p f n m before)
-        (λ (k, rest, le, lt, is). of rest (is ∙ ap (λ j. cursor p j ++ rest) (omega arith)))
+    (λ (k, rest, le, lt, is). of rest (is ∙ ap (λ j. cursor p j ++ rest) (omega arith)))
     (ComesBefore-moved p f n (n + 1) h)
   where
     of : (rest : List ℕ) → f ≡ cursor p n ++ rest → ComesBefore f (cursor (cursor p n) m)
     of [] is = ap (is_at_or_before (cursor (cursor p n) m)) is ∙ is_at_or_before-append (cursor p n) (m ∷ []) []
     of (x ∷ rest) is = ap (is_at_or_before (cursor (cursor p n) m)) is ∙ is_at_or_before-append (cursor p n) (m ∷ []) (x ∷ rest)
         ∙ is_at_or_before-higher m [] x rest (All-head (λ k. k < m) x rest (All-back (λ k. k < m) (cursor p n) (x ∷ rest)
-            (subst (All (λ k. k < m)) is below)))
+        (subst (All (λ k. k < m)) is below)))
 
 pub ComesBefore-popped : (p f : List ℕ) (n m : ℕ) → ComesBefore f (cursor (cursor p n) m) → ComesBefore f (cursor p (n + 1))
 ComesBefore-popped p f n m h =
     ComesBefore-weaker f (cursor (cursor p n) m) (cursor p (n + 1))
     (ap (λ q. is_at_or_before q (cursor p (n + 1))) (append_assoc p (n ∷ []) (m ∷ []))
-        ∙ is_at_or_before-first_lower p n (m ∷ []) (n + 1) [] (omega arith)) h
+    ∙ is_at_or_before-first_lower p n (m ∷ []) (n + 1) [] (omega arith)) h
 
 -- a list as long as another that comes before it stays before it, whatever follows
 pub ComesBefore-longer : (g q rest : List ℕ) → length g ≡ length q → ComesBefore g q → ComesBefore (g ++ rest) q
@@ -157,5 +157,5 @@ ComesBefore-longer (x ∷ g) (y ∷ q) rest same h = ⊎_elim
     (λ is. ap (λ k. is_at_or_before (y ∷ q) (k ∷ (g ++ rest))) is ∙ is_at_or_before-same y q (g ++ rest)
     ∙ ComesBefore-longer g q rest (omega arith) (sym (is_at_or_before-same y q g) ∙ ap (λ k. is_at_or_before (y ∷ q) (k ∷ g)) (sym is) ∙ h))
     (λ apart. ⊎_elim (λ lower. is_at_or_before-higher y q x (g ++ rest) lower)
-        (λ higher. absurd (both_ways _ h (is_at_or_before-lower y q x g higher))) apart)
+    (λ higher. absurd (both_ways _ h (is_at_or_before-lower y q x g higher))) apart)
     (cases_order x y)

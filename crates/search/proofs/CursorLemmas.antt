@@ -179,7 +179,7 @@ module _ (start : Contents) (calls : List Operation) where
             (λ before. Contains-append_left visited (c ∷ []) d (visited_from_front b.front d b.is_front b.leads before))
             (λ is. subst (Contains (visited ++ c ∷ []))
             (configuration_unique start calls (cursor path next) c d leads (subst (λ f. LeadsTo start calls f d) is b.leads))
-                (Contains-push visited c))
+            (Contains-push visited c))
             (ComesBefore-push path b.front next b.before),
       );
       first = λ order is_order before. ⊎_elim
@@ -243,7 +243,7 @@ module _ (start : Contents) (calls : List Operation) where
         before rest =
             ComesBefore-longer b.front (cursor path next) rest
             (sym (length-taken start calls b.front c b.is_front b.leads)
-                ∙ length-taken start calls (cursor path next) c is_front leads) b.before
+            ∙ length-taken start calls (cursor path next) c is_front leads) b.before
 
         seen : (rest : List ℕ) (d : Configuration) → IsFront start calls (cursor path next ++ rest)
             → LeadsTo start calls (cursor path next ++ rest) d
@@ -251,7 +251,7 @@ module _ (start : Contents) (calls : List Operation) where
         seen rest d whole by =
             let other = same_future start calls (cursor path next) b.front rest c b.is_front leads b.leads whole in
             visited_from_front (b.front ++ rest) d other
-                (same_leads start calls (cursor path next) b.front rest c d leads b.leads by) (before rest)
+            (same_leads start calls (cursor path next) b.front rest c d leads b.leads by) (before rest)
 
         none : (rest : List ℕ) → IsOrder start calls (cursor path next ++ rest) → ⊥
         none rest whole =
@@ -333,7 +333,7 @@ module _ (start : Contents) (calls : List Operation) where
       λ b. (stands.exact c).1
           (IsBehind-later path (n + 1) (cursor path n) next c
           (λ f is_front. ComesBefore-pop path f n next
-              (All-weaker (λ k. k < length calls) (λ k. k < next) (λ k lt. omega arith) f is_front.known)) b),
+          (All-weaker (λ k. k < length calls) (λ k. k < next) (λ k lt. omega arith) f is_front.known)) b),
     );
     first = λ order is_order before. absurd
         (not_order

@@ -33,7 +33,7 @@ length-taken start calls front c is_front leads =
     length-distinct c.taken front (distinct_from_increasing c.taken leads.rising)
     (All-from_contains (Contains front) c.taken (λ n h. (leads.taken n).0 h)) in
     let at_least = length-distinct front c.taken is_front.distinct (All-from_contains (Contains c.taken) front
-        (λ n h. (leads.taken n).1 h)) in
+    (λ n h. (leads.taken n).1 h)) in
     omega arith
 
 -- a call with a response is completed
@@ -63,8 +63,14 @@ IsOrder-from_none start calls front is_front none = IsOrder-from_front start cal
         let has_response : is_some a.response ≡ true = rw here at done in
         let (place, before) = place_after a.response has_response in
         none place
-        (record { n = n; call = a; here = here; new =
-            λ h. both_ways (has_number front n) left (has_number-from_Contains front n h); before = before })
+        (record {
+          n = n;
+          call = a;
+          here = here;
+          new =
+              λ h. both_ways (has_number front n) left (has_number-from_Contains front n h);
+          before = before;
+        })
 
     complete : (n : ℕ) → IsCompletedAt calls n → Contains front n
     complete n done = ⊎_elim (λ is. has_number-Contains front n is) (λ left. absurd (remains n done left)) (cases_Bool (has_number front n))

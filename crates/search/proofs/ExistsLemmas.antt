@@ -71,7 +71,7 @@ same_reply replies.None replies.Refused = inr (λ e. cc)
 same_reply (replies.Some v) replies.None = inr (λ e. cc)
 same_reply (replies.Some v) (replies.Some w) =
     by_lists (replies.Some v) (replies.Some w) ((v, 0) ∷ []) ((w, 0) ∷ []) (λ is. ap (λ (ps : Contents). replies.Some (first_key ps)) is)
-        (λ is. ap value_of is)
+    (λ is. ap value_of is)
 same_reply (replies.Some v) (replies.Pairs ps) = inr (λ e. cc)
 same_reply (replies.Some v) replies.Refused = inr (λ e. cc)
 same_reply (replies.Pairs ps) replies.None = inr (λ e. cc)
@@ -146,7 +146,7 @@ module _ (start : Contents) (calls : List Operation) where
       of None is = inr (λ next. none-some next.call (sym is ∙ next.here))
       of (Some a) is =
           parts a is (within_told front n) (all_told (λ m. PrecedesAt calls m n → Contains front m)
-              (preceded_told front n a is) (length calls))
+          (preceded_told front n a is) (length calls))
           (legal_told (after_calls start (calls_at calls front)) a.call a.response)
 
   -- ---- all fronts
@@ -180,8 +180,12 @@ module _ (start : Contents) (calls : List Operation) where
   below : (front : List ℕ) (fuel : ℕ) → IsFront start calls front
       → ((next : List ℕ) → IsFront start calls next → AreListed next fuel) → (bound : ℕ)
       → AreListedBelow front fuel bound
-  below front fuel is_front longer zero = record { fronts = []; each = All-nil (IsFront start calls); all = λ n rest lt le h.
-      absurd (omega arith) }
+  below front fuel is_front longer zero = record {
+    fronts = [];
+    each = All-nil (IsFront start calls);
+    all = λ n rest lt le h.
+        absurd (omega arith);
+  }
   below front fuel is_front longer (suc bound) =
       let old = below front fuel is_front longer bound in
       let new = one_call front fuel bound is_front longer (next_told front bound) in
@@ -193,7 +197,7 @@ module _ (start : Contents) (calls : List Operation) where
             (λ not. let same : n ≡ bound = omega arith in
             Contains-append_right old.fronts new.0 (front ++ n ∷ rest)
             (subst (λ k. Contains new.0 (front ++ k ∷ rest)) (sym same)
-                (new.2 rest le (subst (λ k. IsFront start calls (front ++ k ∷ rest)) same h))))
+            (new.2 rest le (subst (λ k. IsFront start calls (front ++ k ∷ rest)) same h))))
             (cases_lt n bound);
       }
 
@@ -222,7 +226,7 @@ module _ (start : Contents) (calls : List Operation) where
       with_rest more (n ∷ rest) le h =
           let next = IsNext-from_front start calls front n rest h in
           Contains-later front more.fronts (front ++ n ∷ rest)
-              (more.all n rest (slice_get_within calls n next.call next.here) (omega arith) h)
+          (more.all n rest (slice_get_within calls n next.call next.here) (omega arith) h)
 
   -- all fronts, in one list
   all_fronts : (fronts : List (List ℕ)) × All (IsFront start calls) fronts × ((f : List ℕ) → IsFront start calls f → Contains fronts f)
@@ -298,16 +302,21 @@ module _ (start : Contents) (calls : List Operation) where
       by_cases (inr none) (inl is_order) = inl (first is_order (λ other h is. absurd (none other h is)))
       by_cases (inr none) (inr not) =
           inr (λ other h is. ⊎_elim (λ same. not (subst (IsOrder start calls) (sym same) is)) (λ later. none other later is)
-              (Contains-cases f xs other h))
+          (Contains-cases f xs other h))
 
   module _ (apart : NonePrecedesItself calls) where
     pub least_order_or_none : ((order : List ℕ) × IsLeastOrder start calls order) ⊎ (IsLinearizable start calls → ⊥)
     least_order_or_none =
         let (fronts, each, all) = all_fronts in
         ⊎_elim
-        (λ (l : IsLeastAmong fronts). inl
-        (l.order, record { is_order = l.is_order; least = λ other is. l.least other
-            (all other (IsFront-from_order start calls other apart is)) is }))
+        (λ (l : IsLeastAmong fronts). inl (
+          l.order,
+          record {
+            is_order = l.is_order;
+            least = λ other is. l.least other
+                (all other (IsFront-from_order start calls other apart is)) is;
+          },
+        ))
         (λ (none : NoneAmong fronts). inr (λ h. none h.0 (all h.0 (IsFront-from_order start calls h.0 apart h.1)) h.1))
         (least_among fronts each)
 
@@ -335,12 +344,17 @@ module _ (start : Contents) (calls : List Operation) where
 
     counted_of : (xs : List (List ℕ)) → All (IsFront start calls) xs → AreCounted xs
     counted_of [] fronts =
-        record { counted = []; distinct = AllPairs-nil (λ a b. a ≢ b); each = All-nil (IsCounted start calls); all =
-            λ f c h k l. absurd (Contains-nil f h) }
+        record {
+          counted = [];
+          distinct = AllPairs-nil (λ a b. a ≢ b);
+          each = All-nil (IsCounted start calls);
+          all =
+              λ f c h k l. absurd (Contains-nil f h);
+        }
     counted_of (f ∷ xs) fronts =
         let is_front = All-head (IsFront start calls) f xs fronts in
         by_cases (counted_of xs (All-tail (IsFront start calls) f xs fronts)) is_front (at_or_before_told f)
-            (LeadsTo-exists start calls f is_front.known)
+        (LeadsTo-exists start calls f is_front.known)
       where
         by_cases : AreCounted xs → IsFront start calls f → IsTold (IsAtOrBeforeAll f) → (c : Configuration) × LeadsTo start calls f c
             → AreCounted (f ∷ xs)
@@ -358,7 +372,7 @@ module _ (start : Contents) (calls : List Operation) where
                 → LeadsTo start calls g c → Contains cs c
             here cs within g c same leads =
                 subst (Contains cs) (configuration_unique start calls f d c leads_d (subst (λ k. LeadsTo start calls k c)
-                    (sym same) leads)) within
+                (sym same) leads)) within
 
             of : IsTold (Contains old.counted d) → AreCounted (f ∷ xs)
             of (inl within) = record {
@@ -372,7 +386,7 @@ module _ (start : Contents) (calls : List Operation) where
               counted = old.counted ++ d ∷ [];
               distinct =
                   all_pairs_push (λ a b. a ≢ b) old.counted d old.distinct
-                      (λ k e within same. out (k, within, get_or_default old.counted k _ e within ∙ same));
+                  (λ k e within same. out (k, within, get_or_default old.counted k _ e within ∙ same));
               each = All-push (IsCounted start calls) old.counted d old.each
                   (record { front = f; is_front = is_front; leads = leads_d; at_or_before = before });
               all = λ g c h k leads. ⊎_elim (λ same. here (old.counted ++ d ∷ []) (Contains-push old.counted d) g c same leads)
@@ -387,8 +401,11 @@ module _ (start : Contents) (calls : List Operation) where
           record {
             counted = l.counted;
             distinct = l.distinct;
-            exact = λ c. (λ h. All-contains (IsCounted start calls) l.counted c l.each h, λ k. l.all k.front c (all k.front k.is_front)
-                k.at_or_before k.leads);
+            exact = λ c. (
+              λ h. All-contains (IsCounted start calls) l.counted c l.each h,
+              λ k. l.all k.front c (all k.front k.is_front)
+                  k.at_or_before k.leads,
+            );
             count = refl;
           },
         )

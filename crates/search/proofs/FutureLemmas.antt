@@ -82,8 +82,8 @@ pub same_completion : (start : Contents) (calls : List Operation) (f g rest : Li
     → LeadsTo start calls f c → LeadsTo start calls g c → IsOrder start calls (f ++ rest) → IsOrder start calls (g ++ rest)
 same_completion start calls f g rest c none is_front by_f by_g h =
     IsOrder-from_front start calls (g ++ rest)
-        (same_future start calls f g rest c is_front by_f by_g (IsFront-from_order start calls (f ++ rest) none h))
+    (same_future start calls f g rest c is_front by_f by_g (IsFront-from_order start calls (f ++ rest) none h))
     (λ n done.
     ⊎_elim (λ taken. Contains-append_left g rest n ((by_g.taken n).0 ((by_f.taken n).1 taken)))
-        (λ left. Contains-append_right g rest n left)
+    (λ left. Contains-append_right g rest n left)
     (Contains-append_cases f rest n (h.complete n done)))

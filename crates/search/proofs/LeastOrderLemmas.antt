@@ -24,7 +24,7 @@ pub is_at_or_before-cases : (x : ℕ) (xs : List ℕ) (y : ℕ) (ys : List ℕ) 
 is_at_or_before-cases x xs y ys h = ⊎_elim
     (λ same. inr (same, sym (is_at_or_before-same y xs ys) ∙ ap (λ k. is_at_or_before (k ∷ xs) (y ∷ ys)) (sym same) ∙ h))
     (λ apart. ⊎_elim (λ lower. inl lower) (λ higher. absurd (both_ways _ (is_at_or_before-higher x xs y ys higher) h))
-        apart) (cases_order x y)
+    apart) (cases_order x y)
 
 -- a list is at or before itself
 pub is_at_or_before-refl : (xs : List ℕ) → is_at_or_before xs xs ≡ true
@@ -134,8 +134,17 @@ is_at_or_before-parts (x ∷ xs) (y ∷ ys) h =
     by_cases : (is_at_or_before xs ys ≡ true → ((rest : List ℕ) × (ys ≡ xs ++ rest)) ⊎ IsLowerAtDifference xs ys)
         → (x < y) ⊎ ((x ≡ y) × (is_at_or_before xs ys ≡ true)) → ((rest : List ℕ) × (y ∷ ys ≡ (x ∷ xs) ++ rest))
         ⊎ IsLowerAtDifference (x ∷ xs) (y ∷ ys)
-    by_cases rest (inl lower) = inr (record { front = []; x = x; x_rest = xs; y = y; y_rest = ys; xs_is = refl; ys_is =
-        refl; lower = lower })
+    by_cases rest (inl lower) = inr (record {
+      front = [];
+      x = x;
+      x_rest = xs;
+      y = y;
+      y_rest = ys;
+      xs_is = refl;
+      ys_is =
+          refl;
+      lower = lower;
+    })
     by_cases rest (inr same) = behind same.0 (rest same.1)
 
 -- some calls have one least order

@@ -23,8 +23,14 @@ use Rattle.search.specs.Links.{LinksView, AreWithin, unlinked, put_back, linked_
 -- the numbers of a range are below its end
 pub range_below : (size n : ℕ) → Contains (range_with_len 0 size) n → n < size
 range_below size n h =
-    omega (arith, h.1, h.2, length-range_with_len 0 size, get_or-range_with_len 0 size h.0 n
-        (omega (arith, h.1, length-range_with_len 0 size)))
+    omega (
+      arith,
+      h.1,
+      h.2,
+      length-range_with_len 0 size,
+      get_or-range_with_len 0 size h.0 n
+          (omega (arith, h.1, length-range_with_len 0 size)),
+    )
 
 -- links with the same parts are the same
 same_links : (l m : LinksView) → l.after ≡ m.after → l.before ≡ m.before → l ≡ m
@@ -111,7 +117,7 @@ module _ (l : LinksView) (p size : ℕ) (within : AreWithin l) (p_within : p < s
   before_same : (n : ℕ) → n < length l.after → n ≡ next → slice_index (unlinked l p).before n ≡ last
   before_same n h is =
       ap (slice_index (unlinked l p).before) is
-          ∙ get_or-set_same l.before next last 0 (subst (λ k. k < length l.before) is (omega (arith, within.same)))
+      ∙ get_or-set_same l.before next last 0 (subst (λ k. k < length l.before) is (omega (arith, within.same)))
 
   before_other : (n : ℕ) → n ≢ next → slice_index (unlinked l p).before n ≡ slice_index l.before n
   before_other n apart = get_or-set_other l.before next n last 0 apart
@@ -128,13 +134,13 @@ module _ (l : LinksView) (p size : ℕ) (within : AreWithin l) (p_within : p < s
       let from_apart = AllPairs-head (λ a b. a ≢ b) from (p ∷ b ∷ back) distinct in
       let b_apart =
       AllPairs-head (λ a b. a ≢ b) b back (AllPairs-tail (λ a b. a ≢ b) p (b ∷ back) (AllPairs-tail (λ a b. a ≢ b) from
-          (p ∷ b ∷ back) distinct)) in (
+      (p ∷ b ∷ back) distinct)) in (
         after_same from in_range (sym chain.1) ∙ chain.2.0,
         before_same b (omega arith) b_next ∙ chain.1,
         IsChain-same l (unlinked l p) b back size
             (λ n h. after_other n
             (λ is. not_within from (p ∷ b ∷ back) from_apart
-                (Contains-later p (b ∷ back) from (subst (Contains (b ∷ back)) (is ∙ chain.1) h))))
+            (Contains-later p (b ∷ back) from (subst (Contains (b ∷ back)) (is ∙ chain.1) h))))
             (λ n h. before_other n
             (λ is. ⊎_elim (λ size_is. absurd (omega (arith, size_is, is, chain.2.0)))
             (λ in_back. not_within b back b_apart (subst (Contains back) (is ∙ chain.2.0) in_back)) (Contains-cases size back n h)))
@@ -152,7 +158,7 @@ module _ (l : LinksView) (p size : ℕ) (within : AreWithin l) (p_within : p < s
         before_other y (λ is. ⊎_elim (λ size_is. absurd (omega (arith, size_is, is)))
             (λ in_back. not_within y (front ++ p ∷ back) y_apart
             (subst (Contains (front ++ p ∷ back)) (sym is)
-                (Contains-append_right front (p ∷ back) next (Contains-later p back next in_back))))
+            (Contains-append_right front (p ∷ back) next (Contains-later p back next in_back))))
             (Contains-cases size back next near.next)) ∙ chain.1,
         IsChain-unlink y front back (omega arith) (All-tail (λ n. n < size) y (front ++ p ∷ back) below) rest chain.2,
       )
@@ -164,7 +170,7 @@ module _ (l : LinksView) (p size : ℕ) (within : AreWithin l) (p_within : p < s
       let near = around l size front p back size chain in
       let last_apart : p ≢ last = λ is. ⊎_elim (λ size_is. absurd (omega (arith, size_is, is)))
       (λ in_front. All-contains (λ x. All (λ k. x ≢ k) (p ∷ back)) front last
-          (AllPairs-across (λ a b. a ≢ b) front (p ∷ back) distinct) in_front 0 p
+      (AllPairs-across (λ a b. a ≢ b) front (p ∷ back) distinct) in_front 0 p
       (omega arith) (sym is)) (Contains-cases size front last near.last) in
       let next_apart : p ≢ next = λ is. ⊎_elim (λ size_is. absurd (omega (arith, size_is, is)))
       (λ in_back. not_within p back (AllPairs-head (λ a b. a ≢ b) p back (AllPairs-back (λ a b. a ≢ b) front (p ∷ back) distinct))
@@ -208,7 +214,7 @@ module _ (l : LinksView) (p size : ℕ) (within : AreWithin l) (p_within : p < s
         get_or-set_other (set l.after end p) p from size 0 apart
             ∙ get_or-set_other l.after end from p 0
             (λ is. not_within from (y ∷ nodes) (AllPairs-head (λ a b. a ≢ b) from (y ∷ nodes) distinct)
-                (subst (Contains (y ∷ nodes)) (sym is) at_end))
+            (subst (Contains (y ∷ nodes)) (sym is) at_end))
             ∙ chain.0,
         get_or-set_other (set l.before p end) size y p 0 (λ is. absurd (omega arith))
             ∙ get_or-set_other l.before p y end 0 y_apart ∙ chain.1,
@@ -245,7 +251,7 @@ pub without-parts : (order out front back : List ℕ) (p : ℕ) → AllPairs (λ
     → without order (p ∷ out) ≡ front ++ back
 without-parts order out front back p distinct is =
     sym (filter_implied (λ n. not (has_number (p ∷ out) n)) (λ n. not (has_number out n)) order
-        (λ n h. implied (p == n) (has_number out n) h))
+    (λ n h. implied (p == n) (has_number out n) h))
     ∙ ap (filter (λ n. not (has_number (p ∷ out) n))) is
     ∙ filter-append (λ n. not (has_number (p ∷ out) n)) front (p ∷ back)
     ∙ ap (λ xs. xs ++ filter (λ n. not (has_number (p ∷ out) n)) (p ∷ back))
@@ -264,17 +270,17 @@ without-parts order out front back p distinct is =
     in_front : (n : ℕ) → Contains front n → p ≡ n → ⊥
     in_front n h same =
         All-contains (λ x. All (λ k. x ≢ k) (p ∷ back)) front n (AllPairs-across (λ a b. a ≢ b) front (p ∷ back) parts) h 0 p
-            (omega arith) (sym same)
+        (omega arith) (sym same)
 
     in_back : (n : ℕ) → Contains back n → p ≡ n → ⊥
     in_back n h same =
         not_within p back (AllPairs-head (λ a b. a ≢ b) p back (AllPairs-back (λ a b. a ≢ b) front (p ∷ back) parts))
-            (subst (Contains back) (sym same) h)
+        (subst (Contains back) (sym same) h)
 
     apart : (n : ℕ) → Contains (front ++ p ∷ back) n → (p ≡ n → ⊥) → Contains (p ∷ out) n → ⊥
     apart n within other taken =
         ⊎_elim other (λ old. (left-from_Contains order out n (subst (λ xs. Contains xs n) (sym is) within)).1 old)
-            (Contains-cases p out n taken)
+        (Contains-cases p out n taken)
 
 -- the links go through what is left
 pub IsChain-left : (size : ℕ) (order out : List ℕ) (l : LinksView) → AreLeft size order out l → IsChain l size (without order out) size
@@ -291,7 +297,7 @@ AreLeft-take size order out l p within size_within below distinct in_order new l
     let all_below =
     subst (All (λ n. n < size)) is
     (All-from_contains (λ n. n < size) (without order out)
-        (λ n h. All-contains (λ n. n < size) order n below (left-from_Contains order out n h).0)) in
+    (λ n h. All-contains (λ n. n < size) order n below (left-from_Contains order out n h).0)) in
     let all_apart = subst (AllPairs (λ a b. a ≢ b)) is (AllPairs-filter (λ a b. a ≢ b) (λ n. not (has_number out n)) order distinct) in
     let p_below = All-contains (λ n. n < size) order p below in_order in
     let all_with_end =
@@ -342,7 +348,7 @@ module _ (size : ℕ) (out : List ℕ) (l : LinksView) (left : AreLeft size (ran
       ⊎_elim (λ e. inl (has_number-Contains out k e))
       (λ e. inr
       (left-Contains (range_with_len 0 size) out k (Contains-range size k lt)
-          (λ h. both_ways (has_number out k) e (has_number-from_Contains out k h))))
+      (λ h. both_ways (has_number out k) e (has_number-from_Contains out k h))))
       (cases_Bool (has_number out k))
 
   below : (n : ℕ) → Contains remaining n → n < size
@@ -391,6 +397,6 @@ module _ (size : ℕ) (out : List ℕ) (l : LinksView) (left : AreLeft size (ran
       (subst (λ xs. Contains xs n) (sym is) (Contains-append_right front (p ∷ back) n (Contains-later p back n h)), omega arith))
       (λ n le h. ⊎_elim
       (λ in_front. let low = All-contains (λ x. All (λ k. x < k) (p ∷ back)) front n lower in_front 0 p
-          (omega arith) in absurd (omega arith))
+      (omega arith) in absurd (omega arith))
       (λ rest. ⊎_elim (λ same. absurd (omega (arith, same))) (λ later. later) (Contains-cases p back n rest))
       (Contains-append_cases front (p ∷ back) n (subst (λ xs. Contains xs n) is h))))

@@ -58,9 +58,9 @@ module _ (segment : SegmentView) (standing : Standing) (s : Stands segment.start
       let (c, here, leads) = s.stands_at in
       let visited = Contains-at standing.memo standing.at c here in
       let opening = visited_from_front segment.start segment.calls path standing.next standing.memo s.cursor []
-          (configuration_of [] segment.start)
+      (configuration_of [] segment.start)
       (IsFront-nil segment.start segment.calls) (LeadsTo-nil segment.start segment.calls)
-          (ComesBefore-from_at_or_before path [] standing.next refl) in
+      (ComesBefore-from_at_or_before path [] standing.next refl) in
       let same = only standing.memo one c (configuration_of [] segment.start) visited opening in
       let none : length path ≡ 0 = sym (as_many c leads) ∙ ap (λ (x : Configuration). length x.taken) same in
       record {
@@ -70,7 +70,7 @@ module _ (segment : SegmentView) (standing : Standing) (s : Stands segment.start
         reached = (c, visited, leads);
         most = All-from_contains (λ d. length d.taken ≤ length path) standing.memo (λ d h.
             subst (λ (x : Configuration). length x.taken ≤ length path) (only standing.memo one c d visited h)
-                (omega (arith, as_many c leads)));
+            (omega (arith, as_many c leads)));
         least = λ other is_front long. nothing_first path other none;
       }
     where
@@ -96,7 +96,7 @@ module _ (segment : SegmentView) (old new : Standing) (longest : List ℕ) (stoo
       (All-from_contains (λ d. length d.taken ≤ most) (old.memo ++ c ∷ []) (λ d h. ⊎_elim
       (λ earlier. All-contains (λ e. length e.taken ≤ most) old.memo d before earlier)
       (λ last. subst (λ (e : Configuration). length e.taken ≤ most) last
-          (omega (arith, as_many segment new moved.stands c leads, new_within)))
+      (omega (arith, as_many segment new moved.stands c leads, new_within)))
       (Contains-push_cases old.memo c d h))))
       moved.progress
     where
@@ -109,7 +109,7 @@ module _ (segment : SegmentView) (old new : Standing) (longest : List ℕ) (stoo
   visited_still c h = ⊎_elim
       (λ tried. subst (λ (memo : List Configuration). Contains memo c) (sym tried.0) h)
       (λ visited. subst (λ (memo : List Configuration). Contains memo c) (sym visited.1)
-          (Contains-append_left old.memo (visited.0 ∷ []) c h))
+      (Contains-append_left old.memo (visited.0 ∷ []) c h))
       moved.progress
 
   -- the longest front stays where no more calls are taken now
@@ -144,7 +144,7 @@ module _ (segment : SegmentView) (old new : Standing) (longest : List ℕ) (stoo
       none_behind other is_front long before =
           let (d, leads) = LeadsTo-exists segment.start segment.calls other is_front.known in
           let visited = visited_from_front segment.start segment.calls (places old.levels.items) old.next old.memo stood.cursor other d
-              is_front leads before in
+          is_front leads before in
           absurd (omega (
             arith,
             All-contains (λ e. length e.taken ≤ length was.places) old.memo d was.most visited,
@@ -166,6 +166,6 @@ module _ (segment : SegmentView) (old new : Standing) (longest : List ℕ) (stoo
                 (subst (λ (memo : List Configuration). Contains memo c) tried.0 (Contains-at new.memo new.at c here)),
           )))
           (λ visited. absurd (none_behind other is_front long (ap (λ (path : List ℕ). is_at_or_before path other)
-              (sym visited.4) ∙ behind)))
+          (sym visited.4) ∙ behind)))
           moved.progress)
           (cases_Bool (is_at_or_before (places new.levels.items) other))

@@ -45,8 +45,15 @@ module _ (start : Contents) (calls : List Operation) (budget : ℕ) where
       let longer = length-distinct more met distinct (All-from_contains (Contains met) more (λ d there. ⊎_elim
       (λ earlier. all_before met others h k c within out d earlier)
       (λ is. subst (Contains met) is within) (Contains-push_cases others c d there))) in
-      absurd (omega (arith, longer, length-append others (c ∷ []), h.few, k.enough count has, counted_within start calls count met has
-          h.distinct h.each)))
+      absurd (omega (
+        arith,
+        longer,
+        length-append others (c ∷ []),
+        h.few,
+        k.enough count has,
+        counted_within start calls count met has
+            h.distinct h.each,
+      )))
       (visited_or_not others c)
 
 -- so the longest fronts are as long
@@ -55,8 +62,12 @@ no_longer : (budget : ℕ) (segment : SegmentView) (a b : List ℕ) → NonePrec
 no_longer budget segment a b apart h k =
     let (c, within, leads) = h.reached in
     let there = same_met segment.start segment.calls budget apart h.met k.met h.enough k.enough c within in
-    omega (arith, length-taken segment.start segment.calls h.places c h.is_front leads, All-contains
-        (λ c. length c.taken ≤ length k.places) k.met c k.most there)
+    omega (
+      arith,
+      length-taken segment.start segment.calls h.places c h.is_front leads,
+      All-contains
+          (λ c. length c.taken ≤ length k.places) k.met c k.most there,
+    )
 
 pub one_longest_front : (budget : ℕ) (segment : SegmentView) (a b : List ℕ) → NonePrecedesItself segment.calls
     → IsLongestFront budget segment a

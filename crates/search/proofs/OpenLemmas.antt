@@ -47,7 +47,7 @@ IsChain-more l p size nodes within len lt below others distinct chain = (
   length-set (set l.after (slice_index l.before size) p) p size ∙ length-set l.after (slice_index l.before size) p ∙ len,
   IsChain-push l p size within lt (omega arith) size nodes (omega arith) (λ is. absurd (omega arith)) below others
       (AllPairs-cons (λ a b. a ≢ b) size nodes
-          (All-weaker (λ n. n < size) (λ n. size ≢ n) (λ n lt same. absurd (omega arith)) nodes below) distinct) chain,
+      (All-weaker (λ n. n < size) (λ n. size ≢ n) (λ n lt same. absurd (omega arith)) nodes below) distinct) chain,
 )
 
 -- the next node of a list of distinct ones is none of those before it
@@ -66,7 +66,7 @@ IsChain-next calls order l i d size sorted within len lt chain =
     let p_below = All-contains (λ n. n < size) order (get_or order i d) sorted.below (Contains-get_or order i d lt) in
     let distinct =
     AllPairs-front (λ a b. a ≢ b) (take i order) (drop i order)
-        (subst (AllPairs (λ a b. a ≢ b)) (sym (take-append-drop i order)) sorted.distinct) in
+    (subst (AllPairs (λ a b. a ≢ b)) (sym (take-append-drop i order)) sorted.distinct) in
     let more =
     IsChain-more l (get_or order i d) size (take i order) within len p_below (All-take (λ n. n < size) i order sorted.below)
     (not_before order i d lt sorted.distinct) distinct chain in
@@ -81,18 +81,18 @@ pub IsByAnswer-insert : (calls : List Operation) (n at : ℕ) (order : List ℕ)
 IsByAnswer-insert calls n at order sorted before behind = record {
   below = All-from_contains (λ m. m < n + 1) (take at order ++ n ∷ drop at order)
       (λ m h. ⊎_elim (λ is. omega (arith, is))
-          (λ old. let lt = All-contains (λ m. m < n) order m sorted.below old in omega arith) (members m h));
+      (λ old. let lt = All-contains (λ m. m < n) order m sorted.below old in omega arith) (members m h));
   distinct = AllPairs-append (λ a b. a ≢ b) (take at order) (n ∷ drop at order)
       (AllPairs-front (λ a b. a ≢ b) (take at order) (drop at order) distinct)
       (AllPairs-cons (λ a b. a ≢ b) n (drop at order)
       (All-weaker (λ m. m < n) (λ m. n ≢ m) (λ m lt same. absurd (omega arith)) (drop at order)
       (All-back (λ m. m < n) (take at order) (drop at order) below))
-          (AllPairs-back (λ a b. a ≢ b) (take at order) (drop at order) distinct))
+      (AllPairs-back (λ a b. a ≢ b) (take at order) (drop at order) distinct))
       (All-from_contains (λ x. All (λ b. x ≢ b) (n ∷ drop at order)) (take at order) (λ x h. All-cons (λ b. x ≢ b) n (drop at order)
       (let lt = All-contains (λ m. m < n) (take at order) x (All-front (λ m. m < n) (take at order) (drop at order) below) h in λ same.
-          absurd (omega arith))
+      absurd (omega arith))
       (All-contains (λ x. All (λ b. x ≢ b) (drop at order)) (take at order) x
-          (AllPairs-across (λ a b. a ≢ b) (take at order) (drop at order) distinct) h)));
+      (AllPairs-across (λ a b. a ≢ b) (take at order) (drop at order) distinct) h)));
   all = λ m lt. ⊎_elim
       (λ old. put m (sorted.all m old))
       (λ le. let same : n ≡ m = omega arith in
@@ -103,7 +103,7 @@ IsByAnswer-insert calls n at order sorted before behind = record {
       (AllPairs-front (IsNoLater calls) (take at order) (drop at order) pairs)
       (AllPairs-cons (IsNoLater calls) n (drop at order) behind (AllPairs-back (IsNoLater calls) (take at order) (drop at order) pairs))
       (All-from_contains (λ x. All (IsNoLater calls x) (n ∷ drop at order)) (take at order)
-          (λ x h. All-cons (IsNoLater calls x) n (drop at order)
+      (λ x h. All-cons (IsNoLater calls x) n (drop at order)
       (All-contains (λ m. IsNoLater calls m n) (take at order) x before h)
       (All-contains (λ x. All (IsNoLater calls x) (drop at order)) (take at order) x
       (AllPairs-across (IsNoLater calls) (take at order) (drop at order) pairs) h)));
@@ -125,7 +125,7 @@ IsByAnswer-insert calls n at order sorted before behind = record {
     members m h = ⊎_elim (λ front. inr (subst (λ xs. Contains xs m) (sym whole) (Contains-append_left (take at order)
         (drop at order) m front)))
         (λ rest. ⊎_elim (λ is. inl is) (λ back. inr (subst (λ xs. Contains xs m) (sym whole) (Contains-append_right (take at order)
-            (drop at order) m back)))
+        (drop at order) m back)))
         (Contains-cases n (drop at order) m rest))
         (Contains-append_cases (take at order) (n ∷ drop at order) m h)
 
@@ -160,16 +160,16 @@ stopped_back calls count order (suc at) n d sorted le here =
     let one : at + 1 ≡ suc at = omega arith in
     let taken = sym (ap (λ k. take k order) one) ∙ take_more order at d (omega arith) in
     let whole = subst (AllPairs (IsNoLater calls))
-        (sym (take-append-drop (suc at) order) ∙ ap (λ xs. xs ++ drop (suc at) order) taken) sorted.sorted in
+    (sym (take-append-drop (suc at) order) ∙ ap (λ xs. xs ++ drop (suc at) order) taken) sorted.sorted in
     let front = AllPairs-front (IsNoLater calls) (take at order ++ get_or order at d ∷ []) (drop (suc at) order) whole in
     let last_is = subst (λ k. IsNoLater calls (get_or order k d) n) at_is last in
     subst (All (λ m. IsNoLater calls m n)) (sym taken)
-        (All-from_contains (λ m. IsNoLater calls m n) (take at order ++ get_or order at d ∷ []) (λ m h. ⊎_elim
+    (All-from_contains (λ m. IsNoLater calls m n) (take at order ++ get_or order at d ∷ []) (λ m h. ⊎_elim
     (λ earlier place answered. All-contains (λ x. All (IsNoLater calls x) (get_or order at d ∷ [])) (take at order) m
     (AllPairs-across (IsNoLater calls) (take at order) (get_or order at d ∷ []) front) earlier 0 d (omega arith) place
-        (last_is place answered))
+    (last_is place answered))
     (λ same. ⊎_elim (λ is. subst (λ k. IsNoLater calls k n) is last_is) (λ none. absurd (Contains-nil m none))
-        (Contains-cases (get_or order at d) [] m same))
+    (Contains-cases (get_or order at d) [] m same))
     (Contains-append_cases (take at order) (get_or order at d ∷ []) m h)))
 
 -- ---- before the first call
@@ -195,8 +195,14 @@ StandsWith-open start calls levels next pairs visited by_number by_answer apart 
       holds = refl;
       stands_at = (configuration_of [] start, refl, LeadsTo-nil start calls);
       remembers = λ i level is. absurd (none-some level is);
-      links = record { number_size = number_size; answer_size = answer_size; calls_left = chain; order = order; sorted = sorted;
-          answers_left = by };
+      links = record {
+        number_size = number_size;
+        answer_size = answer_size;
+        calls_left = chain;
+        order = order;
+        sorted = sorted;
+        answers_left = by;
+      };
     })
   where
     left : IsNextLeft (length calls) [] 0 (slice_index by_number.after (length calls))

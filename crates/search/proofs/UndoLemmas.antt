@@ -71,10 +71,10 @@ joined ((k, value) ∷ m) key rising = by_cases (joined m key (AllPairs-tail (λ
     parts : (o : Option ℕ) (front back : Contents) → value_at ((k, value) ∷ m) key ≡ o → below key ((k, value) ∷ m) ≡ front
         → above key ((k, value) ∷ m) ≡ back
         → with_value key (value_at ((k, value) ∷ m) key) (below key ((k, value) ∷ m))
-            (above key ((k, value) ∷ m)) ≡ with_value key o front back
+        (above key ((k, value) ∷ m)) ≡ with_value key o front back
     parts o front back e f g =
         ap (λ x. with_value key x (below key ((k, value) ∷ m)) (above key ((k, value) ∷ m))) e
-            ∙ ap (λ x. with_value key o x (above key ((k, value) ∷ m))) f
+        ∙ ap (λ x. with_value key o x (above key ((k, value) ∷ m))) f
         ∙ ap (λ x. with_value key o front x) g
 
     by_cases : with_value key (value_at m key) (below key m) (above key m) ≡ m → (k ≡ key) ⊎ ((k < key) ⊎ (key < k))
@@ -93,7 +93,7 @@ module _ (m : Contents) (key : ℕ) (rising : IsRising m) where
       let high = AreAbove-above m key in
       after-restoring (after m (Insert key value)) key (value_at m key)
       ∙ ap (λ x. with_value key (value_at m key) x (above key (after m (Insert key value))))
-          (below_found key value (below key m) (above key m) low high)
+      (below_found key value (below key m) (above key m) low high)
       ∙ ap (λ x. with_value key (value_at m key) (below key m) x) (above_found key value (below key m) (above key m) low high)
       ∙ joined m key rising
 
@@ -116,7 +116,7 @@ module _ (m : Contents) (key : ℕ) (rising : IsRising m) where
       by_test true is = ap (λ b. after (if b then put key value m else m) (restoring key (value_at m key))) is ∙ insert_undone value
       by_test false is =
           ap (λ b. after (if b then put key value m else m) (restoring key (value_at m key))) is ∙ after-restoring m key (value_at m key)
-              ∙ joined m key rising
+          ∙ joined m key rising
 
 -- a change of a key is undone
 pub change_undone : (m : Contents) (call : Call) (key : ℕ) → IsRising m

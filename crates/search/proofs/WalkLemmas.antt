@@ -116,7 +116,7 @@ module _ (calls : List Operation) (path : List ℕ) (by_number by_answer : Links
       (AllPairs-head (IsNoLater calls) y ys
       (subst (AllPairs (IsNoLater calls)) is
       (AllPairs-filter (IsNoLater calls) (λ n. not (has_number (reverse path) n)) links.order links.sorted.sorted))) later place
-          (rw r.here r.before))
+      (rw r.here r.before))
       (Contains-cases y ys r.n (subst (λ zs. Contains zs r.n) is (remains_in place r))))
 
   -- no call is left
@@ -127,7 +127,7 @@ module _ (calls : List Operation) (path : List ℕ) (by_number by_answer : Links
       none [] same place r = Contains-nil r.n (subst (λ ys. Contains ys r.n) same (remains_in place r))
       none (y ∷ ys) same place r =
           let in_order = (left-from_Contains links.order (reverse path) y (subst (λ zs. Contains zs y) (sym same)
-              (Contains-first y ys))).0 in
+          (Contains-first y ys))).0 in
           let y_below = All-contains (λ n. n < size) links.order y links.sorted.below in_order in
           let y_is : slice_index by_answer.after size ≡ y = first_answer ∙ ap (λ zs. first_or zs size) same in
           absurd (omega arith)
@@ -159,8 +159,14 @@ module _ (calls : List Operation) (path : List ℕ) (by_number by_answer : Links
   earliest-first x a is lt here None pending =
       λ place r. false≢true (ap (λ o. is_before o place) (sym pending) ∙ answered_first x a is lt here place r)
   earliest-first x a is lt here (Some response) done = λ place. (
-    λ later. record { n = x; call = a; here = here; new = first_new x is lt; before = ap (λ o. is_before o place) done ∙ lt-ltb
-        response.res place later },
+    λ later. record {
+      n = x;
+      call = a;
+      here = here;
+      new = first_new x is lt;
+      before = ap (λ o. is_before o place) done ∙ lt-ltb
+          response.res place later;
+    },
     λ r. ltb-true response.res place (ap (λ o. is_before o place) (sym done) ∙ answered_first x a is lt here place r),
   )
 
@@ -187,11 +193,11 @@ module _ (start : Contents) (calls : List Operation) (apart : NonePrecedesItself
   StandsWith-pass stands lt new not_order begins holds stands_at remembers links =
       let path = places levels in
       let left = IsNextLeft-after (length calls) (reverse path) by_number links.calls_left next lt
-          (λ h. new (Contains-from_reverse path next h)) in
+      (λ h. new (Contains-from_reverse path next h)) in
       record {
         cursor = StandsAtCursor-pass start calls path (next + 1) visited stands apart (slice_index by_number.after next) left.later
             (λ k from below is_front. taken_again start calls path k []
-                (subst (IsFront start calls) (sym (append-nil (cursor path k))) is_front)
+            (subst (IsFront start calls) (sym (append-nil (cursor path k))) is_front)
             (Contains-from_reverse path k (left.between k from below)))
             (λ is_order. absurd (not_order is_order));
         within = left.within;
@@ -212,7 +218,7 @@ module _ (start : Contents) (calls : List Operation) (apart : NonePrecedesItself
         (λ k from below is_front.
         let same : k ≡ next = omega arith in
         let found = IsNext-from_front start calls (places levels) next []
-            (subst (λ j. IsFront start calls (cursor (places levels) j)) same is_front) in
+        (subst (λ j. IsFront start calls (cursor (places levels) j)) same is_front) in
         let call_is = same_Some found.call a (sym found.here ∙ here) in
         illegal (subst (λ m. IsLegalCall m a.call a.response) (sym s.holds)
         (subst (λ (b : Operation). IsLegalCall (pairs_after start calls (places levels)) b.call b.response) call_is found.legal)))
@@ -249,7 +255,7 @@ module _ (start : Contents) (calls : List Operation) (apart : NonePrecedesItself
           let same = same_Some b c (sym b_at ∙ at_is) in
           let by = subst (LeadsTo start calls (places levels)) same leads in
           LeadsTo-push start calls (places levels) next a c d by here up taken
-              (held ∙ ap (λ m. after_call m a.call a.response) (s.holds ∙ sym by.pairs))
+          (held ∙ ap (λ m. after_call m a.call a.response) (s.holds ∙ sym by.pairs))
 
       -- it was visited
       pub cursor-seen : (d : Configuration) → LeadsTo start calls (cursor (places levels) next) d → Contains visited d
@@ -262,7 +268,7 @@ module _ (start : Contents) (calls : List Operation) (apart : NonePrecedesItself
           (undo : Option Call)
           (level : Level) (place_is : level.place ≡ next) (at_is : level.at ≡ at) (after_pairs : Contents)
           (after_is : after_pairs ≡ after_call pairs a.call a.response) (undo_is : undone after_pairs level.undo ≡ pairs)
-              (within_number : AreWithin by_number)
+          (within_number : AreWithin by_number)
           (within_answer : AreWithin by_answer) where
         path_is : places (levels ++ level ∷ []) ≡ cursor (places levels) next
         path_is = places-push levels level ∙ ap (cursor (places levels)) place_is
@@ -280,9 +286,9 @@ module _ (start : Contents) (calls : List Operation) (apart : NonePrecedesItself
           calls_left =
               AreLeft-take (length calls) (range_with_len 0 (length calls)) (reverse (places levels)) by_number next within_number
               (omega (arith, s.links.number_size))
-                  (All-from_contains (λ n. n < length calls) (range_with_len 0 (length calls)) (range_below (length calls)))
+              (All-from_contains (λ n. n < length calls) (range_with_len 0 (length calls)) (range_below (length calls)))
               (distinct_from_increasing (range_with_len 0 (length calls)) (IsStrictlyIncreasing-range (length calls)))
-                  (Contains-range (length calls) next lt)
+              (Contains-range (length calls) next lt)
               (λ h. s.left lt (Contains-from_reverse (places levels) next h)) s.links.calls_left;
           order = s.links.order;
           sorted = s.links.sorted;
@@ -300,9 +306,12 @@ module _ (start : Contents) (calls : List Operation) (apart : NonePrecedesItself
             let before = s.remembers i l old in
             subst (λ ls. Remembers start calls (visited ++ d ∷ []) (places ls) l) (sym (take-append-le i levels (level ∷ []) (omega arith)))
             (record {
-              at =
-                  (before.at.0, slice_get-append_left visited (d ∷ []) l.at (slice_get_within visited l.at before.at.0 before.at.1)
-                      ∙ before.at.1, before.at.2);
+              at = (
+                before.at.0,
+                slice_get-append_left visited (d ∷ []) l.at (slice_get_within visited l.at before.at.0 before.at.1)
+                    ∙ before.at.1,
+                before.at.2,
+              );
               undo = before.undo;
             }))
             (λ pushed. subst (λ ls. Remembers start calls (visited ++ d ∷ []) (places ls) l) (sym (take_at levels (level ∷ []) i pushed.0))
@@ -329,7 +338,7 @@ module _ (start : Contents) (calls : List Operation) (apart : NonePrecedesItself
             sym (reverse-push levels level ∙ ap (λ k. k ∷ reverse (places levels)) place_is) in
             let in_path : (k : ℕ) → Contains (next ∷ reverse (places levels)) k → Contains (cursor (places levels) next) k =
             λ k h. subst (λ ys. Contains ys k) path_is
-                (Contains-from_reverse (places (levels ++ level ∷ [])) k (subst (λ ys. Contains ys k) out_is h)) in
+            (Contains-from_reverse (places (levels ++ level ∷ [])) k (subst (λ ys. Contains ys k) out_is h)) in
             record {
               cursor = subst (λ p. StandsAtCursor start calls p (slice_index (unlinked by_number next).after (length calls))
                   (visited ++ d ∷ [])) (sym path_is)
@@ -337,7 +346,7 @@ module _ (start : Contents) (calls : List Operation) (apart : NonePrecedesItself
                   (slice_index (unlinked by_number next).after (length calls)) left.later
                   (λ k from below is_front. taken_again start calls (cursor (places levels) next) k []
                   (subst (IsFront start calls) (sym (append-nil (cursor (cursor (places levels) next) k))) is_front)
-                      (in_path k (left.between k from below)))
+                  (in_path k (left.between k from below)))
                   (λ is_order k below. in_path k (left.between k (omega arith) below)));
               within = left.within;
               left = λ within taken. left.new within
@@ -377,10 +386,14 @@ module _ (start : Contents) (calls : List Operation) (apart : NonePrecedesItself
       later : (k : ℕ) (b a : Operation) → next ≤ k → slice_get calls k ≡ Some b → slice_get calls next ≡ Some a → answered < b.inv
       later k b a from there here = ⊎_elim
           (λ same. subst (λ (x : Operation). answered < x.inv)
-              (same_Some a b (sym here ∙ ap (slice_get calls) (sym same) ∙ there)) (late a here))
+          (same_Some a b (sym here ∙ ap (slice_get calls) (sym same) ∙ there)) (late a here))
           (λ differ. ⊎_elim (λ lt. absurd (omega arith))
-          (λ lt. omega (arith, late a here, AllPairs-at (λ (x : Operation) (y : Operation). x.inv < y.inv) calls next k a b rising lt
-              here there)) differ)
+          (λ lt. omega (
+            arith,
+            late a here,
+            AllPairs-at (λ (x : Operation) (y : Operation). x.inv < y.inv) calls next k a b rising lt
+                here there,
+          )) differ)
           (cases_order k next)
 
       none : (k : ℕ) → next ≤ k → IsNext start calls path k → (a : Operation) × (slice_get calls next ≡ Some a) → ⊥
@@ -449,7 +462,7 @@ module _ (start : Contents) (calls : List Operation) (apart : NonePrecedesItself
         (put_back by_answer level.place)
     StandsWith-back restored restored_is =
         StandsWith-pass start calls apart levels level.place level.at restored visited (put_back by_number level.place)
-            (put_back by_answer level.place)
+        (put_back by_answer level.place)
         popped below-popped new not_order_before s.begins
         (restored_is ∙ ap (λ m. undone m level.undo) (s.holds ∙ ap (pairs_after start calls) before_is) ∙ remembered.undo)
         remembered.at

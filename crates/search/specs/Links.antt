@@ -21,8 +21,11 @@ no_links size = record { after = replicate (size + 1) size; before = replicate (
 abbrev pub linked_last : LinksView → ℕ → ℕ → LinksView
 linked_last links size node =
     let last = slice_index links.before size in
-    record { after = slice_set (slice_set links.after last node) node size; before =
-        slice_set (slice_set links.before node last) size node }
+    record {
+      after = slice_set (slice_set links.after last node) node size;
+      before =
+          slice_set (slice_set links.before node last) size node;
+    }
 
 -- a node was taken out
 abbrev pub unlinked : LinksView → ℕ → LinksView

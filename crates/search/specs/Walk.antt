@@ -21,8 +21,13 @@ rest_of budget size levels next visited = (budget + 1 - length visited) * (size 
 -- what callers see of a walk of a segment that stands there
 abbrev pub walk_at : SegmentView → ℕ → Standing → WalkView
 walk_at segment budget w =
-    record { segment = segment; budget = budget; len = length w.memo; rest =
-        rest_of budget (length segment.calls) w.levels.items w.next w.memo }
+    record {
+      segment = segment;
+      budget = budget;
+      len = length w.memo;
+      rest =
+          rest_of budget (length segment.calls) w.levels.items w.next w.memo;
+    }
 
 -- a walk goes on: at most one configuration more is counted, and the number falls
 pub record GoesOn (walk on : WalkView) : Type 0 where

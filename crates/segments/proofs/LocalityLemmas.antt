@@ -65,7 +65,7 @@ IsOrderOf-restricted start calls segments s order are is h =
     let (places, placed, within) =
     places_of s.numbers kept
     (All-from_contains (Contains s.numbers) kept
-        (λ n in_kept. has_number-Contains s.numbers n (Contains-from_filter test order n in_kept).1)) in
+    (λ n in_kept. has_number-Contains s.numbers n (Contains-from_filter test order n in_kept).1)) in
     let legal_order : IsLegalOrder (start_of start s) calls (at_places s.numbers places) =
     subst (IsLegalOrder (start_of start s) calls) placed (IsLegalOrder-restricted start calls segments s order are is h.legal_order) in (
       places,
@@ -77,7 +77,7 @@ IsOrderOf-restricted start calls segments s order are is h =
             (IsLegalOrder-places (start_of start s) calls s.numbers places known within legal_order));
         complete = λ place completed.
             let (below, by_number) = IsCompletedAt-number calls s.numbers place known (subst (λ taken. IsCompletedAt taken place)
-                (sym its_calls) completed) in
+            (sym its_calls) completed) in
             let number = slice_index s.numbers place in
             let in_kept =
             Contains-filter test order number (h.complete number by_number)

@@ -59,7 +59,7 @@ IsLegal-from_parts calls test low high m [] by_keys covered legal = tt
 IsLegal-from_parts {I = I} calls test low high m (n ∷ order) by_keys covered legal =
     join (slice_get calls n) refl (λ k parts. IsLegal-from_parts calls test low high k order
     (λ i. All-tail (GoesByKeys calls (test i) (low i) (high i)) n order (by_keys i))
-        (All-tail (λ n. (i : I) × (test i n ≡ true)) n order covered) parts)
+    (All-tail (λ n. (i : I) × (test i n ≡ true)) n order covered) parts)
   where
     without : (i : I) (b : Bool) → slice_get calls n ≡ None
         → IsLegal (within (low i) (high i) m) (calls_at calls (cond b (n ∷ filter (test i) order) (filter (test i) order)))
@@ -79,6 +79,6 @@ IsLegal-from_parts {I = I} calls test low high m (n ∷ order) by_keys covered l
           (IsLegalCall-within (low i) (high i) m a.call a.response inside).1 legal_there.0,
           rest (after_call m a.call a.response)
               (λ j. IsLegal-part_next calls (test j) (low j) (high j) m n a order
-                  (All-head (GoesByKeys calls (test j) (low j) (high j)) n order (by_keys j)) e
+              (All-head (GoesByKeys calls (test j) (low j) (high j)) n order (by_keys j)) e
               (legal j)),
         )

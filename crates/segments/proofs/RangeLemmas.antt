@@ -41,7 +41,7 @@ value_at-within low high [] key lo hi = refl
 value_at-within low high ((k, value) ∷ m) key lo hi = ⊎_elim
     (λ same. rw (eqb-true k key same) (rw (in_range-true low high key lo hi) (rw (rw (eqb-true k key same) at same) refl)))
     (λ other. value_at_cond (in_range low high k) k value (within low high m) key other
-        ∙ (value_at-within low high m key lo hi ∙ rw other refl))
+    ∙ (value_at-within low high m key lo hi ∙ rw other refl))
     (cases_Bool (k == key))
 
 -- an insert within a range is one among its pairs
@@ -58,7 +58,7 @@ pub within-remove : (low high : ℕ) (m : Contents) (key : ℕ) → low ≤ key 
 within-remove low high m key lo hi =
     let p = λ (pair : ℕ × ℕ). in_range low high pair.0 in
     filter-append p (below key m) (above key m)
-        ∙ rw (filter_comm p (λ pair. nat_lt pair.0 key) m, filter_comm p (λ pair. nat_lt key pair.0) m) refl
+    ∙ rw (filter_comm p (λ pair. nat_lt pair.0 key) m, filter_comm p (λ pair. nat_lt key pair.0) m) refl
 
 -- a replacement within a range is one among its pairs
 within-replace : (low high : ℕ) (m : Contents) (key expected value : ℕ) → low ≤ key → key ≤ high

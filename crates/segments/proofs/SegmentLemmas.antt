@@ -23,7 +23,7 @@ pub known-IsSegment : (start : Contents) (calls : List Operation) (segment : Seg
     → All (λ n. n < length calls) segment.numbers
 known-IsSegment start calls segment h = All-from_contains (λ n. n < length calls) segment.numbers
     (λ n is. let found = some_at (slice_get calls n) (λ a. IsTrue (belongs a)) (((h.members n n is).0 is).0) in slice_get_within calls
-        n found.0 found.1)
+    n found.0 found.1)
 
 -- the calls of a segment are those with its numbers
 pub calls-IsSegment : (start : Contents) (calls : List Operation) (segment : SegmentView) → IsSegment start calls segment
@@ -52,7 +52,7 @@ pub IsOutside-other : (start : Contents) (calls : List Operation) (segments : Li
     → Contains t.numbers n → slice_get calls n ≡ Some a → IsOutside s.lo s.hi a.call
 IsOutside-other start calls segments i j s t n a h apart s_at t_at is here =
     let inside = IsInside-segment start calls t n a (All-contains (IsSegment start calls) segments t h.each
-        (Contains-at segments j t t_at)) is here in
+    (Contains-at segments j t t_at)) is here in
     ⊎_elim (λ equal. absurd (apart equal)) (λ other. ⊎_elim
     (λ before. let below = AllPairs-at (λ s t. s.hi < t.lo) segments i j s t h.by_key before s_at t_at in let low = inside.low_inside in
     inr (inr (omega arith)))
@@ -82,7 +82,7 @@ GoesByKeys-segment start calls segments s n h s_is a here = by_test (has_number 
         IsOutside-other start calls segments i j s t n a h
         (λ equal. not_in no_number
         (subst (λ u. Contains u.numbers n) (same_Some t s (sym t_at ∙ (ap (slice_get segments) (sym equal) ∙ s_at))) holds))
-            s_at t_at holds here
+        s_at t_at holds here
 
     by_test : (b : Bool) → has_number s.numbers n ≡ b → MatchBool b (IsInside s.lo s.hi a.call) (IsOutside s.lo s.hi a.call)
     by_test true e = IsInside-segment start calls s n a (All-contains (IsSegment start calls) segments s h.each s_is)

@@ -65,7 +65,7 @@ pub keys_in_order-operations : (events : List Event) → AreHistoryEvents events
     → All (λ a. low_key a.call ≤ high_key a.call) (operations events)
 keys_in_order-operations events h =
     All-weaker (λ a. has_range a.call ≡ true) (λ a. low_key a.call ≤ high_key a.call) (λ a shaped. keys_in_order a.call shaped)
-        (operations events)
+    (operations events)
     (has_range-operations_from 0 events h.shaped)
 
 -- numbers below n that rise are at most n
@@ -82,14 +82,19 @@ AllPairs-calls_at R calls numbers known rising h = AllPairs-from_at R (calls_at 
     let (m, m_here, m_call) = number_at calls numbers i a known first in
     let (n, n_here, n_call) = number_at calls numbers j b known second in
     AllPairs-at R calls m n a b h (AllPairs-at (λ m n. m < n) numbers i j m n (AllPairs-from_increasing numbers rising) before m_here
-        n_here) m_call n_call)
+    n_here) m_call n_call)
 
 -- the pairs of a range are pairs that a history may start with, and within the range
 IsStart-within : (low high : ℕ) (m : Contents) → IsStart m → IsStart (within low high m)
 IsStart-within low high m h = record {
   rising = AllPairs-filter (λ (a : ℕ × ℕ) (b : ℕ × ℕ). a.0 < b.0) (λ (pair : ℕ × ℕ). in_range low high pair.0) m h.rising;
-  few = omega (arith, h.few, length-filter (λ (pair : ℕ × ℕ). in_range low high pair.0) m, count_by-le-length
-      (λ (pair : ℕ × ℕ). in_range low high pair.0) m);
+  few = omega (
+    arith,
+    h.few,
+    length-filter (λ (pair : ℕ × ℕ). in_range low high pair.0) m,
+    count_by-le-length
+        (λ (pair : ℕ × ℕ). in_range low high pair.0) m,
+  );
 }
 
 within-bounds : (low high : ℕ) (m : Contents) → All (λ pair. (low ≤ pair.0) × (pair.0 ≤ high)) (within low high m)
@@ -108,8 +113,12 @@ IsSegmentView-segment_of history numbers h not_empty rising known =
       not_empty = not_empty;
       rising = rising;
       one_call_each = length-calls_at calls numbers known;
-      few = omega (arith, length-calls_at calls numbers known, length-rising_le numbers (length calls) rising known,
-          length-operations_le events h.events);
+      few = omega (
+        arith,
+        length-calls_at calls numbers known,
+        length-rising_le numbers (length calls) rising known,
+        length-operations_le events h.events,
+      );
       invocations_rise = AllPairs-calls_at (λ a b. a.inv < b.inv) calls numbers known rising (inv_rises events);
       none_precedes_itself = All-calls_at (λ a. precedes a a ≡ false) calls numbers (NonePrecedesItself-operations events);
       keys = All-from_contains (λ a. NamesKeysWithin (least (map (λ a. low_key a.call) taken))

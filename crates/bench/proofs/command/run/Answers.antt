@@ -17,8 +17,13 @@ returns-in-Check-clause-run g c = record {
   outcome = c.run_check.ensures.outcome;
   comes = read-words IsLineOutcome (IsCheckAnswer c.in-Check.order.items) IsHistoryRefusal (texts c.args.words.now)
       (change g.S.Source.remaining g.S.Source.failures c.args.source.now c.run_check.new.source) c.run_check.ensures.outcome
-      (λ comes. record { line = c.in-Ok.line; accepted = c.in-Ok.ensures.line.1; asked = c.in-Ok.ensures.line.0; comes = rw
-          c.in-Check.is comes })
+      (λ comes. record {
+        line = c.in-Ok.line;
+        accepted = c.in-Ok.ensures.line.1;
+        asked = c.in-Ok.ensures.line.0;
+        comes = rw
+            c.in-Check.is comes;
+      })
       (rw (← c.deref.ensures.value) c.run_check.ensures.comes);
   leaves = c.run_check.ensures.leaves;
 }
@@ -28,8 +33,13 @@ returns-in-Judge-clause-run g c = record {
   outcome = c.run_judge.ensures.outcome;
   comes = read-words IsLineOutcome (IsJudgeAnswer c.in-Judge.budget) IsHistoryRefusal (texts c.args.words.now)
       (change g.S.Source.remaining g.S.Source.failures c.args.source.now c.run_judge.new.source) c.run_judge.ensures.outcome
-      (λ comes. record { line = c.in-Ok.line; accepted = c.in-Ok.ensures.line.1; asked = c.in-Ok.ensures.line.0; comes = rw
-          c.in-Judge.is comes })
+      (λ comes. record {
+        line = c.in-Ok.line;
+        accepted = c.in-Ok.ensures.line.1;
+        asked = c.in-Ok.ensures.line.0;
+        comes = rw
+            c.in-Judge.is comes;
+      })
       c.run_judge.ensures.comes;
   leaves = c.run_judge.ensures.leaves;
 }
@@ -39,8 +49,13 @@ returns-in-Locate-clause-run g c = record {
   outcome = c.run_locate.ensures.outcome;
   comes = read-words IsLineOutcome (IsLocateAnswer c.in-Locate.budget) IsHistoryRefusal (texts c.args.words.now)
       (change g.S.Source.remaining g.S.Source.failures c.args.source.now c.run_locate.new.source) c.run_locate.ensures.outcome
-      (λ comes. record { line = c.in-Ok.line; accepted = c.in-Ok.ensures.line.1; asked = c.in-Ok.ensures.line.0; comes = rw
-          c.in-Locate.is comes })
+      (λ comes. record {
+        line = c.in-Ok.line;
+        accepted = c.in-Ok.ensures.line.1;
+        asked = c.in-Ok.ensures.line.0;
+        comes = rw
+            c.in-Locate.is comes;
+      })
       c.run_locate.ensures.comes;
   leaves = c.run_locate.ensures.leaves;
 }
@@ -51,8 +66,13 @@ returns-in-Draw-clause-run g c = record {
   comes = read-words IsLineOutcome (IsViewAnswer c.in-Draw.budget (record { around = c.in-Draw.around; calls = c.in-Draw.calls }))
       IsHistoryRefusal (texts c.args.words.now)
       (change g.S.Source.remaining g.S.Source.failures c.args.source.now c.run_draw.new.source) c.run_draw.ensures.outcome
-      (λ comes. record { line = c.in-Ok.line; accepted = c.in-Ok.ensures.line.1; asked = c.in-Ok.ensures.line.0; comes = rw
-          c.in-Draw.is comes })
+      (λ comes. record {
+        line = c.in-Ok.line;
+        accepted = c.in-Ok.ensures.line.1;
+        asked = c.in-Ok.ensures.line.0;
+        comes = rw
+            c.in-Draw.is comes;
+      })
       c.run_draw.ensures.comes;
   leaves = c.run_draw.ensures.leaves;
 }
@@ -62,8 +82,13 @@ returns-in-Follow-clause-run g c = record {
   outcome = c.run_follow.ensures.outcome;
   comes = read-words IsLineOutcome (IsFollowAnswer c.in-Follow.budget) IsStreamRefusal (texts c.args.words.now)
       (change g.S.Source.remaining g.S.Source.failures c.args.source.now c.run_follow.new.source) c.run_follow.ensures.outcome
-      (λ comes. record { line = c.in-Ok.line; accepted = c.in-Ok.ensures.line.1; asked = c.in-Ok.ensures.line.0; comes = rw
-          c.in-Follow.is comes })
+      (λ comes. record {
+        line = c.in-Ok.line;
+        accepted = c.in-Ok.ensures.line.1;
+        asked = c.in-Ok.ensures.line.0;
+        comes = rw
+            c.in-Follow.is comes;
+      })
       c.run_follow.ensures.comes;
   leaves = c.run_follow.ensures.leaves;
 }
@@ -73,8 +98,13 @@ returns-in-Generate-clause-run g c = record {
   outcome = c.run_generate.ensures.outcome;
   comes = drawn-words c.in-Generate.seed _ c.in-Generate.processes c.in-Generate.calls (texts c.args.words.now)
       (change g.S.Source.remaining g.S.Source.failures c.args.source.now c.args.source.now) c.run_generate.ensures.outcome
-      (λ comes. record { line = c.in-Ok.line; accepted = c.in-Ok.ensures.line.1; asked = c.in-Ok.ensures.line.0; comes = rw
-          c.in-Generate.is (refl, comes) })
+      (λ comes. record {
+        line = c.in-Ok.line;
+        accepted = c.in-Ok.ensures.line.1;
+        asked = c.in-Ok.ensures.line.0;
+        comes = rw
+            c.in-Generate.is (refl, comes);
+      })
       refl c.run_generate.ensures.comes;
   leaves = c.run_generate.ensures.leaves;
 }
@@ -84,8 +114,13 @@ returns-in-Replay-clause-run g c = record {
   outcome = c.run_replay.ensures.outcome;
   comes = read-words IsLineOutcome IsReplayAnswer IsReplayRefusal (texts c.args.words.now)
       (change g.S.Source.remaining g.S.Source.failures c.args.source.now c.run_replay.new.source) c.run_replay.ensures.outcome
-      (λ comes. record { line = c.in-Ok.line; accepted = c.in-Ok.ensures.line.1; asked = c.in-Ok.ensures.line.0; comes = rw
-          c.in-Replay.is comes })
+      (λ comes. record {
+        line = c.in-Ok.line;
+        accepted = c.in-Ok.ensures.line.1;
+        asked = c.in-Ok.ensures.line.0;
+        comes = rw
+            c.in-Replay.is comes;
+      })
       c.run_replay.ensures.comes;
   leaves = c.run_replay.ensures.leaves;
 }

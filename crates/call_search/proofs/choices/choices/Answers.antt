@@ -12,9 +12,10 @@ returns-in_default g c =
     IsOrder-from_none g.start c.args.calls.now path c.requires.1.1.1.1.is_front (rw c.in_default.is at c.earliest_answer.ensures)
 
 pub next_calls-requires : goal.next_calls-requires
-next_calls-requires g c =
-    (c.requires.0,
-        (c.requires.1.0, (c.requires.1.1.0, (c.requires.1.1.1.0, (c.requires.1.1.1.1, rw c.in-Some.is at c.earliest_answer.ensures)))))
+next_calls-requires g c = (
+  c.requires.0,
+  (c.requires.1.0, (c.requires.1.1.0, (c.requires.1.1.1.0, (c.requires.1.1.1.1, rw c.in-Some.is at c.earliest_answer.ensures)))),
+)
 
 pub returns : goal.returns
 returns g c =

@@ -29,7 +29,7 @@ returns-then-is_behind g c =
     let (answered, is, late) = some_at c.loop-place.earliest (λ answered. answered < a.inv) (c.is_behind.ensures.0 c.if-is_behind.true) in
     subst (IsEarliestAnswer calls path) (sym is)
     (earliest-before calls path i answered a c.requires.0 c.requires.1.0 here late
-        (subst (IsEarliestBelow calls path i) is c.loop-place.invariant))
+    (subst (IsEarliestBelow calls path i) is c.loop-place.invariant))
 
 pub loop-place-preserved : goal.loop-place-preserved
 loop-place-preserved g c =
@@ -41,7 +41,7 @@ loop-place-preserved g c =
     elim c.if-not-is_taken.branch [
       | then-not-is_taken w ↦ subst (IsEarliestBelow calls path (i + 1)) (sym (w.earliest-is ∙ w.earlier-earliest.ensures))
           (earliest-take calls path i a c.loop-place.earliest here
-              (λ h. both_ways c.is_taken.result w.if-not-is_taken.true (c.is_taken.ensures.1 h))
+          (λ h. both_ways c.is_taken.result w.if-not-is_taken.true (c.is_taken.ensures.1 h))
           c.loop-place.invariant)
       | else-not-is_taken w ↦ subst (IsEarliestBelow calls path (i + 1)) (sym w.earliest-is)
           (earliest-skip calls path i c.loop-place.earliest (c.is_taken.ensures.0 w.if-not-is_taken.false) c.loop-place.invariant)

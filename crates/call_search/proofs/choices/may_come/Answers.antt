@@ -23,7 +23,7 @@ returns-clause-next g c = λ yes.
     let path = places c.args.standing.now.levels.items in
     let a = c.index-calls-place.result in
     let here : slice_get calls c.args.place ≡ Some a =
-        slice_get_read calls (length calls) c.args.place a refl c.requires.1.1.0 c.index-calls-place.is in
+    slice_get_read calls (length calls) c.args.place a refl c.requires.1.1.0 c.index-calls-place.is in
     let early : a.inv ≤ c.args.answered = rw here at c.requires.1.1.1 in
     record {
       call = a;
@@ -39,7 +39,7 @@ returns-clause-not_next g c = λ no next.
     let s = c.requires.0 in
     let a = c.index-calls-place.result in
     let here : slice_get calls c.args.place ≡ Some a =
-        slice_get_read calls (length calls) c.args.place a refl c.requires.1.1.0 c.index-calls-place.is in
+    slice_get_read calls (length calls) c.args.place a refl c.requires.1.1.0 c.index-calls-place.is in
     let same = same_Some next.call a (sym next.here ∙ here) in
     let legal = subst (λ (b : Operation). IsLegalCall c.args.standing.now.map b.call b.response) same
     (subst (λ m. IsLegalCall m next.call.call next.call.response) (sym s.holds) next.legal) in

@@ -57,7 +57,7 @@ returns-then-answered-call-clause-choices g c =
           (IsOrder-not_yet g.start calls path c.args.answered c.requires.1.1.1.1.1)
           (λ n next. ⊎_elim (λ lt. inv.1 n lt next)
           (λ ge. absurd (not_next calls path g.start i n c.args.answered a c.requires.1.1.0 here late c.requires.1.1.1.1.1 ge
-              next)) (cases_lt n i));
+          next)) (cases_lt n i));
     }
 
 pub may_come-requires : goal.may_come-requires
@@ -80,7 +80,7 @@ returns-then-is_read-clause-choices g c =
     let rising = c.requires.1.1.1.0 in
     read_choices g.start calls path c.in_ok-from_slice.field-0.items i rising c.in_ok-from_slice.ensures.items next
     (read_next g.start calls path i a rising here (c.is_read.ensures.completed c.if-is_read.true)
-        (c.is_read.ensures.leaves c.if-is_read.true) next)
+    (c.is_read.ensures.leaves c.if-is_read.true) next)
 
 pub loop-place-preserved : goal.loop-place-preserved
 loop-place-preserved g c =

@@ -27,7 +27,7 @@ index_mut-requires g c =
     let is = c.in-Some.ensures.items in
     let s = subst (λ (ls : List Level). StandsWith g.start calls ls w.at w.map w.memo w.taken.items w.low) is c.requires.1.0 in
     let dead = subst (λ (ls : List Level). IsDead g.start calls (places ls)) is
-        (dead_end g.start calls (places w.levels.items) c.requires.1.1.0) in
+    (dead_end g.start calls (places w.levels.items) c.requires.1.1.0) in
     let below = below-popped g.start calls c.requires.0 c.pop.new.self.items c.in-Some.level w.at w.map w.memo w.taken.items w.low s dead in
     omega (arith, below, c.requires.1.0.marked.all)
 
@@ -40,7 +40,7 @@ returns-then-place-standing g c =
     let is = c.in-Some.ensures.items in
     let s = subst (λ (ls : List Level). StandsWith g.start calls ls w.at w.map w.memo w.taken.items w.low) is c.requires.1.0 in
     let dead = subst (λ (ls : List Level). IsDead g.start calls (places ls)) is
-        (dead_end g.start calls (places w.levels.items) c.requires.1.1.0) in
+    (dead_end g.start calls (places w.levels.items) c.requires.1.1.0) in
     record {
       stands = (
         stands-pop g.start calls c.requires.0 levels level w.at w.map w.memo w.taken.items w.low s dead c.undo_call.new.map level.place
@@ -59,7 +59,7 @@ returns-else-place-standing g c =
     let is = c.in-Some.ensures.items in
     let s = subst (λ (ls : List Level). StandsWith g.start calls ls w.at w.map w.memo w.taken.items w.low) is c.requires.1.0 in
     let dead = subst (λ (ls : List Level). IsDead g.start calls (places ls)) is
-        (dead_end g.start calls (places w.levels.items) c.requires.1.1.0) in
+    (dead_end g.start calls (places w.levels.items) c.requires.1.1.0) in
     record {
       stands = (
         stands-pop g.start calls c.requires.0 levels level w.at w.map w.memo w.taken.items w.low s dead c.undo_call.new.map w.low

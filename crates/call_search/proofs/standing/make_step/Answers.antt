@@ -31,8 +31,16 @@ returns-in_default g c =
     let e = c.in_default.ensures in
     let none = none_left w.rest.items c.pop.new.self.items (vec_len w.rest - 1) e.items e.rest (omega (arith, e.cases.0)) in
     let old_none : w.rest.items ≡ [] = e.items ∙ append-nil c.pop.new.self.items ∙ none in
-    let middle : Standing = record { levels = w.levels; rest = c.pop.new.self; at = w.at; map = w.map; memo = w.memo; taken =
-        w.taken; low = w.low } in
+    let middle : Standing = record {
+      levels = w.levels;
+      rest = c.pop.new.self;
+      at = w.at;
+      map = w.map;
+      memo = w.memo;
+      taken =
+          w.taken;
+      low = w.low;
+    } in
     let same : to_try w.levels.items c.pop.new.self.items ≤ to_try w.levels.items w.rest.items =
     omega (arith, ap (to_try w.levels.items) none, ap (to_try w.levels.items) old_none) in
     weaker (IsStep g.start calls middle c.go_back.new.standing) (IsStep g.start calls w c.go_back.new.standing) c.go_back.result
@@ -58,9 +66,9 @@ returns-then-new g c =
     let popped : length w.rest.items ≡ length c.pop.new.self.items + 1 =
     ap length c.in-Some.ensures.items ∙ length-append c.pop.new.self.items (c.in-Some.place ∷ []) in
     weaker (IsLooked g.start calls c.take.new.standing c.look_on.new.standing)
-        (IsStep g.start calls w c.look_on.new.standing) c.look_on.result
+    (IsStep g.start calls w c.look_on.new.standing) c.look_on.result
     (λ progress h. step_on g.start calls w c.take.new.standing c.look_on.new.standing c.pop.new.self.items progress taken.1 taken.2 popped
-        h) c.look_on.ensures
+    h) c.look_on.ensures
 
 pub returns : goal.returns
 returns g c =
@@ -68,9 +76,17 @@ returns g c =
     let calls = c.args.calls.now in
     let taken = rw c.if-new.false at c.in_ok-new.ensures in
     let s = c.requires.1.1.1.1 in
-    let middle : Standing = record { levels = w.levels; rest = c.pop.new.self; at = w.at; map = w.map; memo = w.memo; taken =
-        w.taken; low = w.low } in
+    let middle : Standing = record {
+      levels = w.levels;
+      rest = c.pop.new.self;
+      at = w.at;
+      map = w.map;
+      memo = w.memo;
+      taken =
+          w.taken;
+      low = w.low;
+    } in
     let choices = subst (AreChoices g.start calls (places w.levels.items)) c.in-Some.ensures.items s.1 in
     let of = last_of g.start calls (places w.levels.items) c.pop.new.self.items c.in-Some.place choices in
     step_back g.start calls w middle c.take.new.standing c.in-Some.place s.0 c.in-Some.ensures.items refl refl of taken.0 taken.1
-        taken.2 taken.3 taken.4
+    taken.2 taken.3 taken.4

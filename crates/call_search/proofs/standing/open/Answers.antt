@@ -28,6 +28,6 @@ returns-clause-stands c =
     (same_configuration start (configuration_of [] c.args.map) c.in_ok-start.ensures.taken c.in_ok-start.ensures.pairs) in
     let taken =
     resized c.new-taken.result.items c.resize.new.self.items (length calls) _ c.in_ok-resize.ensures.items c.new-taken.ensures.items
-        c.new-taken.ensures.len in
+    c.new-taken.ensures.len in
     subst (λ xs. StandsWith c.args.map calls c.new.result.items 0 c.args.map c.visit.new.self xs 0) (sym taken)
     (stands-open c.args.map calls c.new.result.items c.visit.new.self c.args.map c.new.ensures.items refl visited)

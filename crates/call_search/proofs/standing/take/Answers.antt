@@ -71,7 +71,7 @@ returns-in_ok-push-in-Ok-true g c =
     let pairs_before = leads_before.pairs ∙ sym s.holds in
     let leads =
     LeadsTo-push g.start calls (places w.levels.items) c.args.place next.call c.at.result.now config leads_before next.here
-        c.in_ok-config.ensures.rising
+    c.in_ok-config.ensures.rising
     c.in_ok-config.ensures.taken
     (c.in_ok-config.ensures.pairs ∙ after_is ∙ ap (λ m. after_call m next.call.call next.call.response) (sym pairs_before)) in
     let visited_is = rw c.in-Ok-true.field-0-test at c.in-Ok-true.ensures.visited in
@@ -80,13 +80,13 @@ returns-in_ok-push-in-Ok-true g c =
     let n = c.push.new.standing in
     let stands =
     stands-push g.start calls w.levels.items w.at w.map w.memo w.taken.items w.low s c.args.place next config leads w.rest.items
-        of level refl refl refl
+    of level refl refl refl
     c.take_call.new.map after_is c.in_ok-undo.ensures.undo n.low (low_within p) (λ k lt. low_below p k lt) in
     let one_more : length (w.memo ++ config ∷ []) ≡ length w.memo + 1 = length-append w.memo (config ∷ []) in (
       stands-same g.start calls (w.levels.items ++ level ∷ []) n.levels.items (length w.memo) n.at c.take_call.new.map n.map
           (w.memo ++ config ∷ []) n.memo
           (set w.taken.items c.args.place true) n.taken.items n.low n.low p.levels
-              (p.at ∙ omega (arith, ap length visited_is, one_more)) p.map
+          (p.at ∙ omega (arith, ap length visited_is, one_more)) p.map
           (p.memo ∙ visited_is) p.taken refl stands,
       ap length (p.memo ∙ visited_is) ∙ one_more,
       ap (λ ls. to_try ls []) p.levels ∙ to_try-push w.levels.items level [] ∙ more (to_try w.levels.items w.rest.items),
@@ -109,12 +109,12 @@ returns-in_ok-undo_call-in-Ok-false g c =
     let pairs_before = leads_before.pairs ∙ sym s.holds in
     let leads =
     LeadsTo-push g.start calls (places w.levels.items) c.args.place next.call c.at.result.now config leads_before next.here
-        c.in_ok-config.ensures.rising
+    c.in_ok-config.ensures.rising
     c.in_ok-config.ensures.taken
     (c.in_ok-config.ensures.pairs ∙ after_is ∙ ap (λ m. after_call m next.call.call next.call.response) (sym pairs_before)) in
     let visited_is = rw c.in-Ok-false.field-0-test at c.in-Ok-false.ensures.visited in
     let within : Contains w.memo config = not_new config w.memo c.in-Ok-false.field-0 c.in-Ok-false.ensures.new
-        c.in-Ok-false.field-0-test in
+    c.in-Ok-false.field-0-test in
     let pairs_back = c.in_ok-undo_call-in-Ok-false.ensures ∙ c.in_ok-undo.ensures.undo in (
       subst (λ m. StandsWith g.start calls w.levels.items w.at m c.visit.new.self w.taken.items w.low) (sym pairs_back)
           (subst (λ vs. StandsWith g.start calls w.levels.items w.at w.map vs w.taken.items w.low) (sym visited_is) s),

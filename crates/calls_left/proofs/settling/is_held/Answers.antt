@@ -27,5 +27,9 @@ loop-other-preserved c =
 pub returns-clause-free : goal.returns-clause-free
 returns-clause-free c = λ no j b here stays.
     c.loop-other.invariant j b
-    (omega (arith, slice_get_within (calls_of c.args.left.now) j b here, length-calls_of c.args.left.now,
-        c.loop-other-test.false)) here stays
+    (omega (
+      arith,
+      slice_get_within (calls_of c.args.left.now) j b here,
+      length-calls_of c.args.left.now,
+      c.loop-other-test.false,
+    )) here stays

@@ -18,7 +18,7 @@ at_next calls old new goes taken now n i at is taken_is h = rw (at, is, taken_is
 pub loop-back-init : goal.loop-back-init
 loop-back-init c =
     sweep-none (calls_of c.args.left.now) c.args.goes.now.items (length c.args.left.now - 0)
-        (omega (arith, length-calls_of c.args.left.now))
+    (omega (arith, length-calls_of c.args.left.now))
 
 pub loop-back-preserved : goal.loop-back-preserved
 loop-back-preserved c =

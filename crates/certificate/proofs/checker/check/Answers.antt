@@ -15,7 +15,7 @@ refused : (c : In_err-take) → IsRefusedFor c.args.history.now.start (operation
 refused c =
     rw (← c.calls-calls.ensures.calls)
     (c.in_err-take.ensures.refused c.args.history.now.start c.args.order.now
-        (slice_get-get_or c.args.order.now c.loop-place.place 0 (omega arith))
+    (slice_get-get_or c.args.order.now c.loop-place.place 0 (omega arith))
     c.loop-place.invariant)
 
 pub returns-in_err-take-clause-refused : goal.returns-in_err-take-clause-refused

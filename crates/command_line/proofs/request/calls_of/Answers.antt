@@ -41,4 +41,4 @@ numbers_of-requires c = (read c).0
 pub returns-then-takes_calls : goal.returns-then-takes_calls
 returns-then-takes_calls c =
     IfOk-weaker c.numbers_of.result _ _ (λ v are. asked (goal.at.returns-then-takes_calls c).After-unwrap_or v.items are)
-        c.numbers_of.ensures
+    c.numbers_of.ensures

@@ -10,4 +10,4 @@ unwrap-requires-in-Among c =
 pub returns-in-Among : goal.returns-in-Among
 returns-in-Among c =
     at_stands c.args.values c.in-Among.words c.in-Among.is c.args.text.now c.unwrap-in-Among.result
-        (sym c.place_of.ensures ∙ c.unwrap-in-Among.ensures)
+    (sym c.place_of.ensures ∙ c.unwrap-in-Among.ensures)

@@ -13,7 +13,7 @@ use Rattle.command_line.proofs.request.numbers_of.Goals as goal
 
 module _ {E : Type 0} (words : List (Bor Text)) (i : ℕ) (d : Bor Text) (r : Result ℕ E)
     (inside : i < length words) (numbers : All IsNumber (texts words))
-        (parsed : ParsesUnsigned 32 10 (slice_index_or words i d).now r) where
+    (parsed : ParsesUnsigned 32 10 (slice_index_or words i d).now r) where
   inside_texts : i < length (texts words)
   inside_texts = rw length-map inside
 
@@ -42,6 +42,6 @@ unwrap-requires c =
 pub loop-word-preserved : goal.loop-word-preserved
 loop-word-preserved c =
     let next = next_number c.args.words.now c.loop-word.word-index no_word c.parse.result c.loop-word-test.true c.requires
-        c.parse.ensures.value.0
+    c.parse.ensures.value.0
     c.loop-word.numbers.items c.unwrap.result c.loop-word.invariant c.unwrap.ensures in
     c.in_ok-push.ensures.items ∙ next

@@ -8,7 +8,7 @@ use Rattle.command_line.proofs.request.numbers_of_options.Goals as goal
 pub number_of_option-requires : goal.number_of_option-requires
 number_of_option-requires c =
     number_at c.args.options.now (first_value (found_of c.args.matches.now)) c.requires.0 c.loop-option.option-index _
-        c.loop-option-test.true c.requires.1
+    c.loop-option-test.true c.requires.1
 
 pub loop-option-preserved : goal.loop-option-preserved
 loop-option-preserved c =

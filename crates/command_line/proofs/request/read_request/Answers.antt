@@ -73,7 +73,7 @@ pub returns-in-Ok-clause-accepted : goal.returns-in-Ok-clause-accepted
 returns-in-Ok-clause-accepted c =
     holds_on_ok c.request_of.result _
     (accepted_as _ c.args.name.now (map usage_of c.args.table.now) (texts c.args.words.now) c.in_ok-command_of.ensures c.requires
-        c.in-Ok.ensures.kinds)
+    c.in-Ok.ensures.kinds)
 
 pub returns-in-Ok-clause-named : goal.returns-in-Ok-clause-named
 unfolding words table

@@ -51,9 +51,9 @@ affirmed true is = cc
 pub numbers_of_options-requires : goal.numbers_of_options-requires
 numbers_of_options-requires c =
     let met = met_is c.args.matches.now c.subcommand.result c.unwrap.result c.unwrap.ensures c.subcommand.ensures.name
-        c.subcommand.ensures.rows in
+    c.subcommand.ensures.rows in
     numbers_are c.args.matches.now (map usage_of c.args.table.now) c.requires c.unwrap.result
-        (usage_of c.subcommand_named-subcommand.result.now)
+    (usage_of c.subcommand_named-subcommand.result.now)
     met c.subcommand_named-subcommand.ensures (denied _ c.in_default.ensures)
 
 pub returns-clause-asked : goal.returns-clause-asked
@@ -61,7 +61,7 @@ returns-clause-asked c =
     let table : List Usage = map usage_of c.args.table.now in
     let found = found_of c.unwrap.result.1.now in
     let met = met_is c.args.matches.now c.subcommand.result c.unwrap.result c.unwrap.ensures c.subcommand.ensures.name
-        c.subcommand.ensures.rows in
+    c.subcommand.ensures.rows in
     let u : Usage = usage_of c.subcommand_named-subcommand.result.now in
     let name_is = named_so table c.unwrap.result.0.now u c.subcommand_named-subcommand.ensures in
     record {
@@ -78,16 +78,16 @@ returns-clause-asked c =
 pub returns-clause-named : goal.returns-clause-named
 returns-clause-named c =
     let met = met_is c.args.matches.now c.subcommand.result c.unwrap.result c.unwrap.ensures c.subcommand.ensures.name
-        c.subcommand.ensures.rows in
+    c.subcommand.ensures.rows in
     names_are c.args.matches.now (map usage_of c.args.table.now) c.requires c.unwrap.result
-        (usage_of c.subcommand_named-subcommand.result.now)
+    (usage_of c.subcommand_named-subcommand.result.now)
     met c.subcommand_named-subcommand.ensures ∙ denied _ c.in_default.ensures
 
 pub returns-in-Some-clause-refused : goal.returns-in-Some-clause-refused
 returns-in-Some-clause-refused c named =
     let met = met_is c.args.matches.now c.subcommand.result c.unwrap.result c.unwrap.ensures c.subcommand.ensures.name
-        c.subcommand.ensures.rows in
+    c.subcommand.ensures.rows in
     let same = names_are c.args.matches.now (map usage_of c.args.table.now) c.requires c.unwrap.result
-        (usage_of c.subcommand_named-subcommand.result.now)
+    (usage_of c.subcommand_named-subcommand.result.now)
     met c.subcommand_named-subcommand.ensures in
     absurd (true≢false (sym named ∙ same ∙ affirmed _ c.in-Some.ensures))

@@ -8,7 +8,7 @@ use Rattle.cutter.proofs.cutting.chained_len.Goals.{else-place-gt0-via-then-plac
 pub returns-then-reach-range-clause-apart : goal.returns-then-reach-range-clause-apart
 returns-then-reach-range-clause-apart c =
     AreApart-from_walk c.args.ranges.now c.loop-place.place c.loop-place.reach _ c.requires.by_low_key c.loop-place-test.true
-        c.if-reach-range.true
+    c.if-reach-range.true
     c.loop-place.invariant
 
 pub loop-place-preserved : goal.loop-place-preserved

@@ -24,5 +24,5 @@ returns-clause-refutes c =
     let start = c.args.history.now.start in
     let calls = operations c.args.history.now.events in
     IfOk-weaker c.segments_of.result (λ v. AreSegments start calls v.items)
-        (λ v. All (λ s. HasNoOrder s → IsLinearizable start calls → ⊥) v.items)
+    (λ v. All (λ s. HasNoOrder s → IsLinearizable start calls → ⊥) v.items)
     (λ v are. not_linearizable-segment start calls v.items are) c.segments_of.ensures

@@ -7,7 +7,7 @@ use Rattle.cutter.proofs.key_range.ranges_by_low_key.Goals as goal
 pub returns-clause-ranges : goal.returns-clause-ranges
 returns-clause-ranges c =
     AreRanges-IsPermutation c.args.calls.now c.in_ok-ranges.ranges.items c.sort_by_key.new.self.items
-        c.in_ok-sort_by_key.ensures.permutation
+    c.in_ok-sort_by_key.ensures.permutation
     c.in_ok-ranges.ensures
 
 pub returns-clause-by_low_key : goal.returns-clause-by_low_key

@@ -21,7 +21,7 @@ loop-number-preserved c =
           (AreRangesBelow-take calls i c.loop-number.ranges.items a c.loop-number.invariant here w.in-Some.ensures.0 in_order)
       | in_default w ↦ rw w.ranges-is
           (AreRangesBelow-skip calls i c.loop-number.ranges.items a c.loop-number.invariant here
-              (false_from_ne_true (belongs a) w.in_default.ensures))
+          (false_from_ne_true (belongs a) w.in_default.ensures))
     ]
 
 pub returns : goal.returns

@@ -9,12 +9,21 @@ pub loop-script-preserved : goal.loop-script-preserved
 loop-script-preserved c =
     let more =
     greatest_more (λ script. length script.items) c.args.scripts.now c.loop-script.script-index c.script-item.result
-        c.loop-script-test.true in
+    c.loop-script-test.true in
     let here = ap (λ script. length script.items) c.script-item.is in
     let its = c.script-item.result.ok.0 in
     elim c.if-len-most.branch [
-      | then-len-most w ↦ omega (arith, more, here, its, c.loop-script.invariant, c.len.ensures, w.if-len-most.true,
-          w.len-most.ensures, w.most-is)
+      | then-len-most w ↦ omega (
+        arith,
+        more,
+        here,
+        its,
+        c.loop-script.invariant,
+        c.len.ensures,
+        w.if-len-most.true,
+        w.len-most.ensures,
+        w.most-is,
+      )
       | else-len-most w ↦ omega (arith, more, here, its, c.loop-script.invariant, c.len.ensures, w.if-len-most.false, w.most-is)
     ]
 

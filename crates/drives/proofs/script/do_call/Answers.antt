@@ -12,5 +12,5 @@ returns-clause-events g c = λ own. own-more c.in_default-answer.ensures.recorde
 pub returns-clause-answered : goal.returns-clause-answered
 returns-clause-answered g c = λ own fit.
     AnswersFit-more (g.S.Subject.may_answer c.args.subject.now) c.in_default.ensures.recorded c.in_default-answer.ensures.recorded own
-        c.requires.idle fit
+    c.requires.idle fit
     c.call-reply.ensures.answer

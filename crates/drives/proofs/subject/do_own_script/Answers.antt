@@ -13,7 +13,7 @@ do_script-requires-clause-calls g c =
     let at = at-mapped (λ script. script.items) c.args.scripts.now c.from.result script within c.index-scripts-from.is in
     rw c.deref.ensures.value
     (All-at (λ calls. All (λ call. IsTrue (is_tree_call call)) calls) (map (λ script. script.items) c.args.scripts.now)
-        c.from.result script.items
+    c.from.result script.items
     c.requires.calls at)
 
 pub returns : goal.returns
@@ -26,5 +26,5 @@ returns g c =
     let its : slice_get scripts (process_number c.args.pass) ≡ Some c.deref.result.now =
     ap (slice_get scripts) (sym number) ∙ (at ∙ ap Some (sym c.deref.ensures.value)) in
     after-script (g.S.Subject.may_answer c.args.subject.now) c.args.recorder.now scripts c.deref.result.now (process_number c.args.pass)
-        c.do_script.result its c.do_script.ensures.own
+    c.do_script.result its c.do_script.ensures.own
     c.do_script.ensures.process c.do_script.ensures.recorded

@@ -12,8 +12,13 @@ pub returns-clause-many : goal.returns-clause-many
 returns-clause-many g c =
     let passes = c.args.passes in
     let many : length passes.items ≡ length c.args.scripts.now =
-    omega (arith, ap length c.requires.numbers, length-map passes.items process_number, length-range_with_len 0
-        (length c.args.scripts.now)) in
+    omega (
+      arith,
+      ap length c.requires.numbers,
+      length-map passes.items process_number,
+      length-range_with_len 0
+          (length c.args.scripts.now),
+    ) in
     IfOk-weaker c.map_vec.result (λ done. vec_len done ≡ vec_len passes) (λ done. vec_len done ≡ length c.args.scripts.now)
     (λ done same. let of = passes.ok.0 in omega (arith, same, of, many)) c.map_vec.ensures.len
 
@@ -26,7 +31,7 @@ returns-clause-done g c =
     both-of c.map_vec.result (λ done. vec_len done ≡ vec_len passes) _ (λ done. EachIsAfter may r scripts done.items)
     (λ done len each process d within.
     let inside : process < length passes.items = let of = passes.ok.0 in let of_done =
-        done.ok.0 in omega (arith, len, of, of_done, within) in
+    done.ok.0 in omega (arith, len, of, of_done, within) in
     let given = (each process d inside).1 in
     let number = process-at passes.items (length c.args.scripts.now) process given.job c.requires.numbers inside given.job_read in
     let met = given.call.met in

@@ -25,10 +25,10 @@ passes-many g c =
 -- each has done its script
 passes-after : (g : _) (c : In_ok-passes g) → (process : ℕ) (d : Pass) → process < length c.in_ok-passes.passes.items
     → IsPassAfter (g.S.Subject.may_answer c.args.subject.now) c.in_ok-recorder.recorder
-        (map (λ script. script.items) c.scripts-scripts.result.now) process (slice_index_or c.in_ok-passes.passes.items process d)
+    (map (λ script. script.items) c.scripts-scripts.result.now) process (slice_index_or c.in_ok-passes.passes.items process d)
 passes-after g c =
     each-pass (g.S.Subject.may_answer c.args.subject.now) c.in_ok-recorder.recorder
-        (map (λ script. script.items) c.scripts-scripts.result.now) c.in_ok-done.done.items c.in_ok-passes.passes.items
+    (map (λ script. script.items) c.scripts-scripts.result.now) c.in_ok-done.done.items c.in_ok-passes.passes.items
     c.in_ok-done.ensures.done c.in_ok-passes.ensures
 
 pub do_scripts-requires-clause-room : goal.do_scripts-requires-clause-room
@@ -46,9 +46,9 @@ pub want_of_memory-requires : goal.want_of_memory-requires
 want_of_memory-requires g c =
     let d = (goal.at.want_of_memory-requires g c).In_ok-passes in
     c.in-Err.ensures.whole (one-of-each (g.S.Subject.may_answer c.args.subject.now) c.in_ok-recorder.recorder (map (λ script. script.items)
-        c.scripts-scripts.result.now) c.in_ok-passes.passes.items
+    c.scripts-scripts.result.now) c.in_ok-passes.passes.items
     (passes-after g d) (passes-many g d) (c.in_ok-recorder.ensures.recorder.0 ∙ sym (length-map c.scripts-scripts.result.now
-        (λ script. script.items))))
+    (λ script. script.items))))
 
 pub returns-in-Ok : goal.returns-in-Ok
 returns-in-Ok g c =
@@ -59,4 +59,4 @@ returns-in-Ok g c =
     let all : IsDriveOf may scripts (with_no_start (history_of passes)) =
     drive-of may c.in_ok-recorder.recorder scripts passes (passes-after g d) (passes-many g d) c.in-Ok.ensures.own_events in
     subst (λ plan. IsDriveOf may plan c.in-Ok.history) c.scripts-scripts.ensures.same
-        (subst (IsDriveOf may scripts) (sym c.in-Ok.ensures.history) all)
+    (subst (IsDriveOf may scripts) (sym c.in-Ok.ensures.history) all)

@@ -12,8 +12,13 @@ returns-in-Check-clause-run g c = record {
   outcome = c.run_check.ensures.outcome;
   comes = inl (read-words IsHistoryLineOutcome (IsCheckAnswer c.in-Check.order.items) IsHistoryRefusal (texts c.args.words.now)
       (change g.S.Source.remaining g.S.Source.failures c.args.source.now c.run_check.new.source) c.run_check.ensures.outcome
-      (λ comes. record { line = c.in-Ok.line; accepted = c.in-Ok.ensures.line.1; asked = c.in-Ok.ensures.line.0; comes = rw
-          c.in-Check.is comes })
+      (λ comes. record {
+        line = c.in-Ok.line;
+        accepted = c.in-Ok.ensures.line.1;
+        asked = c.in-Ok.ensures.line.0;
+        comes = rw
+            c.in-Check.is comes;
+      })
       (rw (← c.deref.ensures.value) c.run_check.ensures.comes));
   leaves = c.run_check.ensures.leaves;
 }
@@ -23,8 +28,13 @@ returns-in-Judge-clause-run g c = record {
   outcome = c.run_judge.ensures.outcome;
   comes = inl (read-words IsHistoryLineOutcome (IsJudgeAnswer c.in-Judge.budget) IsHistoryRefusal (texts c.args.words.now)
       (change g.S.Source.remaining g.S.Source.failures c.args.source.now c.run_judge.new.source) c.run_judge.ensures.outcome
-      (λ comes. record { line = c.in-Ok.line; accepted = c.in-Ok.ensures.line.1; asked = c.in-Ok.ensures.line.0; comes = rw
-          c.in-Judge.is comes })
+      (λ comes. record {
+        line = c.in-Ok.line;
+        accepted = c.in-Ok.ensures.line.1;
+        asked = c.in-Ok.ensures.line.0;
+        comes = rw
+            c.in-Judge.is comes;
+      })
       c.run_judge.ensures.comes);
   leaves = c.run_judge.ensures.leaves;
 }
@@ -34,8 +44,13 @@ returns-in-Locate-clause-run g c = record {
   outcome = c.run_locate.ensures.outcome;
   comes = inl (read-words IsHistoryLineOutcome (IsLocateAnswer c.in-Locate.budget) IsHistoryRefusal (texts c.args.words.now)
       (change g.S.Source.remaining g.S.Source.failures c.args.source.now c.run_locate.new.source) c.run_locate.ensures.outcome
-      (λ comes. record { line = c.in-Ok.line; accepted = c.in-Ok.ensures.line.1; asked = c.in-Ok.ensures.line.0; comes = rw
-          c.in-Locate.is comes })
+      (λ comes. record {
+        line = c.in-Ok.line;
+        accepted = c.in-Ok.ensures.line.1;
+        asked = c.in-Ok.ensures.line.0;
+        comes = rw
+            c.in-Locate.is comes;
+      })
       c.run_locate.ensures.comes);
   leaves = c.run_locate.ensures.leaves;
 }

@@ -101,9 +101,11 @@ found text (faults.Shape event) (d, json, inl h) names = absurd (pair_at h.befor
 found text (faults.Shape event) (d, json, inr h) names =
     (h.next, event_found text event (faults.Shape event) d h json.value (event_at _ h.before h.next (faults.Shape event) h.shows))
 found text (faults.NotWellFormed event) (d, json, inl h) names = absurd (pair_at h.before h.next (faults.NotWellFormed event) h.shows)
-found text (faults.NotWellFormed event) (d, json, inr h) names =
-    (h.next, event_found text event (faults.NotWellFormed event) d h json.value
-        (event_at _ h.before h.next (faults.NotWellFormed event) h.shows))
+found text (faults.NotWellFormed event) (d, json, inr h) names = (
+  h.next,
+  event_found text event (faults.NotWellFormed event) d h json.value
+      (event_at _ h.before h.next (faults.NotWellFormed event) h.shows),
+)
 found text (faults.Start pair) (d, json, inl h) names =
     (h.next, pair_found text pair (faults.Start pair) d h json.value (pair_at h.before h.next (faults.Start pair) h.shows))
 found text (faults.Start pair) (d, json, inr h) names = absurd (event_at _ h.before h.next (faults.Start pair) h.shows)

@@ -25,4 +25,4 @@ pub returns-in-Ok : goal.returns-in-Ok
 returns-in-Ok c budget judged refused =
     IsTextOutcome-judged budget c.args.text.now c.in-Ok.verdict
     (string_bytes c.in-Ok.report) c.answer_of.result c.line_of.result c.answered.result (rw c.in-Ok.is at judged) c.answer_of.ensures
-        c.line_of.ensures c.answered.ensures
+    c.line_of.ensures c.answered.ensures

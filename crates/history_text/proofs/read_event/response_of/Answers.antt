@@ -10,5 +10,5 @@ returns-in_err-process-clause-refused c =
     let arm = c.in-Some-Some in
     rw (p.1, p.2, c.in_err-process.ensures.refused.0)
     (too_many-response c.args.has_start c.args.place arm.process arm.reply _ _
-        (MatchOption-at_some _ _ arm.reply arm.is-0 c.in_ok-reply.ensures.some)
+    (MatchOption-at_some _ _ arm.reply arm.is-0 c.in_ok-reply.ensures.some)
     (number_found _ _ arm.ensures) c.in_err-process.ensures.refused.1)

@@ -9,7 +9,7 @@ use Rattle.history_text.proofs.read_event.two_members.Goals.{After-as_str, else-
 pub returns-then-len-ne2-clause-none : goal.returns-then-len-ne2-clause-none
 returns-then-len-ne2-clause-none c = λ d e h.
     c.if-len-ne2.true (c.len.ensures.len ∙ entries_of_two c.in_ok-members.members.now.entries _ _ d e
-        (sym (object_found _ _ c.in_ok-members.ensures) ∙ h))
+    (sym (object_found _ _ c.in_ok-members.ensures) ∙ h))
 
 module _ (c : After-as_str) where
   found : view c.args.value.now ≡ object_of_two (string_bytes c.in_ok-first_name.first_name.now) (view c.in_ok-first_name.first_value.now)

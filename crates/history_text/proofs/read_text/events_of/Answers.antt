@@ -33,5 +33,5 @@ returns-in_err-take-clause-refused c =
     rw (p.1, p.2)
     (fault_on_taking c.args.has_start c.loop-place.turns.events c.in_ok-event.event
     (view c.index-items-place.result) c.in_err-take.field-0.0 _ _ c.in_err-take.ensures.refused c.in_ok-event.ensures.ok
-        c.in_ok-event.ensures.standing
+    c.in_ok-event.ensures.standing
     (parts here) c.loop-place.invariant.events)

@@ -12,4 +12,4 @@ returns-in_err-history-clause-accepted c = λ history spelled sound.
     let p = err_from_is_err_and c.from_residual-in_err-history.result c.from_residual-in_err-history.ensures.1 in
     rw (p.1, p.2)
     (memory_alone c.args.text.now history _ spelled sound
-        (fault_of_document c.args.text.now _ _ c.in_ok-value.ensures.ok c.in_err-history.ensures.refused))
+    (fault_of_document c.args.text.now _ _ c.in_ok-value.ensures.ok c.in_err-history.ensures.refused))

@@ -23,7 +23,7 @@ returns-in_err-pair-clause-refused c =
     let here = (goal.at.returns-in_err-pair-clause-refused c).After-starting_pair in
     rw (p.1, p.2)
     (pair_fault_alone c.loop-place.turns.start (view c.index-items-place.result) c.in_err-pair.field-0.0
-        (rw (size here) c.in_err-pair.ensures.refused) _ _
+    (rw (size here) c.in_err-pair.ensures.refused) _ _
     (parts here) c.loop-place.invariant.history.start)
 
 pub returns-in_err-take_pair-clause-refused : goal.returns-in_err-take_pair-clause-refused

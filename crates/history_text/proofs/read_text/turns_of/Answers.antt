@@ -18,12 +18,12 @@ pub returns-clause-spelled : goal.returns-clause-spelled
 returns-clause-spelled c =
     let here = (goal.at.returns-clause-spelled c).After-events_of-2 in
     spelled_with _ (Some c.in_ok-start.start.start) (map view c.deref-3.result.now) c.events_of-2.result (value here)
-        c.events_of-2.ensures.start
+    c.events_of-2.ensures.start
     c.events_of-2.ensures.spelled c.events_of-2.ensures.standing
 
 pub returns-clause-refused : goal.returns-clause-refused
 returns-clause-refused c =
     let here = (goal.at.returns-clause-refused c).After-events_of-2 in
     refused_with _ (Some c.in_ok-start.start.start) (map view c.deref-3.result.now) c.events_of-2.result (value here)
-        c.in_ok-start.ensures.history.start
+    c.in_ok-start.ensures.history.start
     c.events_of-2.ensures.refused

@@ -17,12 +17,12 @@ loop-segment-preserved c =
     let more =
     AllZip-more exact
     (take k segments) c.loop-segment.answers.items c.segment-item.result c.in_ok-search.field-0 c.loop-segment.invariant
-        c.in_ok-search.ensures.exact in
+    c.in_ok-search.ensures.exact in
     let taken = ap (λ s. take k segments ++ s ∷ []) c.segment-item.is
-        ∙ sym (take_more segments k c.segment-item.result c.loop-segment-test.true) in
+    ∙ sym (take_more segments k c.segment-item.result c.loop-segment-test.true) in
     rw c.in_ok-push.ensures.items (subst (λ s. AllZip exact s (c.loop-segment.answers.items ++ c.in_ok-search.field-0 ∷ [])) taken more)
 
 pub returns : goal.returns
 returns c =
     subst (λ s. AllZip (IsExactAnswer c.args.budget) s c.loop-segment.answers.items) (take_all _ _ c.loop-segment-test.false)
-        c.loop-segment.invariant
+    c.loop-segment.invariant

@@ -35,7 +35,7 @@ loop-segment-preserved-in-Order-1 c =
     let orders = map (λ v. v.items) c.loop-segment.orders.items in
     let found = rw c.in-Order.is at (IsUnderWay-answer way steps.0.0 steps.1.0) in
     let shown = HaveShown-found c.args.budget way.before orders c.loop-segment.lowest_spent c.in-Some.segment c.in-Order.order.items
-        way.shown found in
+    way.shown found in
     record {
       can_next = (tt, tt);
       is_finite = tt;
@@ -65,10 +65,10 @@ returns-in-NoOrder-clause-shown c =
     let above = into_iter_items (zip_first c.next.new.self) in
     let parts = way.parts ∙ ap (λ l. way.before ++ l) c.in-Some.ensures.steps.0.0 in
     let is = subst (λ s. Contains s segment) (sym parts)
-        (Contains-append_right way.before (segment ∷ above) segment (Contains-first segment above)) in
+    (Contains-append_right way.before (segment ∷ above) segment (Contains-first segment above)) in
     shows_no c.args.budget c.args.history.now.start calls segment exact
     (All-contains (λ s. HasNoOrder s → IsLinearizable c.args.history.now.start calls → ⊥) c.args.segments.items segment c.requires.refutes
-        is exact.refuted.0)
+    is exact.refuted.0)
 
 pub loop-segment-preserved-then-is_none : goal.loop-segment-preserved-then-is_none
 loop-segment-preserved-then-is_none c =
@@ -77,7 +77,7 @@ loop-segment-preserved-then-is_none c =
     let orders = map (λ v. v.items) c.loop-segment.orders.items in
     let spent = rw c.in-Spent.is at (IsUnderWay-answer way steps.0.0 steps.1.0) in
     let shown = HaveShown-first c.args.budget way.before orders c.loop-segment.lowest_spent c.in-Some.segment c.if-is_none.ensures
-        way.shown spent in
+    way.shown spent in
     record {
       can_next = (tt, tt);
       is_finite = tt;
@@ -91,7 +91,7 @@ loop-segment-preserved c =
     let orders = map (λ v. v.items) c.loop-segment.orders.items in
     let spent = rw c.in-Spent-2.is at (IsUnderWay-answer way steps.0.0 steps.1.0) in
     let shown = HaveShown-spent c.args.budget way.before orders c.loop-segment.lowest_spent c.in-Some.segment c.if-is_none.ensures
-        way.shown spent in
+    way.shown spent in
     record {
       can_next = (tt, tt);
       is_finite = tt;

@@ -16,7 +16,7 @@ overflow_cast-result c =
 pub returns-then-is_answered_at : goal.returns-then-is_answered_at
 returns-then-is_answered_at c =
     answer_here c.args.history.now.events c.calls-call-items.result.now c.loop-number.number c.args.event c.call-item.result
-        c.calls-call-items.ensures.calls
+    c.calls-call-items.ensures.calls
     c.loop-number-test.true c.call-item.is (c.is_answered_at.ensures.0 c.if-is_answered_at.true)
 
 pub loop-number-preserved : goal.loop-number-preserved

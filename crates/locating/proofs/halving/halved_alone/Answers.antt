@@ -19,7 +19,7 @@ loop-preserved c = elim c.if-is_left.branch [
   | else-is_left w ↦ rw w.found-is
       (without_turn c.args.budget c.args.history.now c.args.gap c.args.known c.loop.counter c.loop.found c.loop-test.true
       (none_left c.is_left.result (low_of c.args.gap c.loop.found) (high_of c.args.gap c.loop.found) c.is_left.ensures
-          w.if-is_left.false) c.loop.invariant)
+      w.if-is_left.false) c.loop.invariant)
 ]
 
 pub returns : goal.returns

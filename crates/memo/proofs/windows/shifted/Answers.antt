@@ -12,5 +12,5 @@ pub loop-at-preserved : goal.loop-at-preserved
 loop-at-preserved c =
     c.in_ok-push.ensures.items
     ∙ ap₂ (λ (xs : List ℕ) (above : ℕ). xs ++ joined c.args.words.now c.args.count c.loop-at.at above ∷ [])
-        c.loop-at.invariant c.word_at.ensures
+    c.loop-at.invariant c.word_at.ensures
     ∙ sym (map-range_with_len_more (shifted_word c.args.words.now c.args.count) 0 c.loop-at.at c.loop-at.at (omega arith))

@@ -54,4 +54,4 @@ returns-clause-trimmed c =
 pub returns-clause-each : goal.returns-clause-each
 returns-clause-each c =
     rw (read c) (set_each c.args.words.now c.resize.new.self.items c.args.bit (alike c) (omega (arith, size c))
-        (λ k. omega (arith, c.type_inv.words k)))
+    (λ k. omega (arith, c.type_inv.words k)))

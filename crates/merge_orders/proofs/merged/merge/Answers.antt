@@ -27,7 +27,7 @@ merged c =
     rw c.deref.ensures.value
     (IsMergedOrder-sorted (operations events) orders c.in_ok-calls.calls.items _
     (NameCallsOnce-from_segments c.args.history.now.start events orders c.calls.ensures.history.events c.requires) placed
-        c.sort_by_key.ensures.permutation
+    c.sort_by_key.ensures.permutation
     (c.in_ok-sort_by_key.ensures.sorted (λ a. a.point) (answers_always _ _ _ (λ f a r g h. search rules)))
     (c.sort_by_key.ensures.stable (λ a. a.point) (answers_always _ _ _ (λ f a r g h. search rules))))
 
@@ -43,5 +43,5 @@ returns-clause-order c =
     let events = c.args.history.now.events in
     IfOk-weaker _ _ _ (λ v is. subst (IsOrder c.args.history.now.start (operations events)) (sym is)
     (IsOrder-from_merged c.args.history.now.start (operations events) c.requires.0 _ _ (NonePrecedesItself-operations events)
-        c.requires.1 c.requires.2
+    c.requires.1 c.requires.2
     (merged (goal.at.returns-clause-order c).After-drop-calls-2))) c.numbers_of.ensures

@@ -13,7 +13,7 @@ returns-in-Ok g c =
       outcome = c.tree_drive_outcome-outcome.result;
       comes = IsReadOutcome-read (IsTreeDriveAnswer c.args.shape c.args.variant c.args.limit) IsDriveRefusal text_limit
           (IsDrivenAnswer-whole (IsArenaDriveOf c.args.shape c.args.variant c.args.limit)) IsDriveRefusal-whole source c.deref.result.now
-              c.tree_drive_outcome-outcome.result
+          c.tree_drive_outcome-outcome.result
           (rw c.deref.ensures.value c.in-Ok.ensures.text) c.in-Ok.ensures.sound c.tree_drive_outcome-outcome.ensures;
       leaves = c.write_outcome.ensures;
     }

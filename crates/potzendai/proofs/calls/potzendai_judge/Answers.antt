@@ -6,14 +6,14 @@ pub returns-then-is_budget-clause-call : goal.returns-then-is_budget-clause-call
 returns-then-is_budget-clause-call c =
     IsCall-outcome _ c.args.budget c.args.room.now c.tell.new.room c.tell.new.size c.tell.result c.judge_outcome_alone-outcome.result
     (c.is_budget.ensures.0 c.if-is_budget.true) c.judge_outcome_alone-outcome.ensures c.tell.ensures.status c.tell.ensures.size
-        c.tell.ensures.room
+    c.tell.ensures.room
 
 pub returns-then-is_budget-clause-yes : goal.returns-then-is_budget-clause-yes
 returns-then-is_budget-clause-yes c = λ zero.
     yes_is_linearizable c.args.budget c.args.text.now c.judge_outcome_alone-outcome.result c.judge_outcome_alone-outcome.ensures
-        (sym c.tell.ensures.status ∙ zero)
+    (sym c.tell.ensures.status ∙ zero)
 
 pub returns-then-is_budget-clause-no : goal.returns-then-is_budget-clause-no
 returns-then-is_budget-clause-no c = λ one.
     no_is_unlinearizable c.args.budget c.args.text.now c.judge_outcome_alone-outcome.result c.judge_outcome_alone-outcome.ensures
-        (sym c.tell.ensures.status ∙ one)
+    (sym c.tell.ensures.status ∙ one)

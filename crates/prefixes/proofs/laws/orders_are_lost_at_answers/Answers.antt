@@ -20,7 +20,7 @@ lost_at history place (Invoke p call) h here before none =
     absurd
     (none
     (subst (λ (events : List Event). IsLinearizable history.start (operations events))
-        (sym (take_with history.events place (Invoke p call) here))
+    (sym (take_with history.events place (Invoke p call) here))
     (invocation_keeps_order history.start (take place history.events) p call before)))
 lost_at history place (Answer p reply) h here before none =
     let (number, is) = answer_has_call history.events place p reply h.events.well_formed here in

@@ -10,9 +10,12 @@ loop-longest-init c =
     let standing = c.in_ok-standing.standing in
     let stands = c.in_ok-standing.ensures.stands in
     let is = c.in_ok-longest.ensures ∙ ap (λ ns. map (λ place. slice_index ns place) (places standing.levels.items))
-        c.numbers.ensures.numbers in
-    (stands, longest-open segment standing stands c.in_ok-longest.longest.items is c.in_ok-standing.ensures.one, omega
-        (arith, c.in_ok-standing.ensures.one))
+    c.numbers.ensures.numbers in (
+      stands,
+      longest-open segment standing stands c.in_ok-longest.longest.items is c.in_ok-standing.ensures.one,
+      omega
+          (arith, c.in_ok-standing.ensures.one),
+    )
 
 pub loop-longest-preserved-then-len : goal.loop-longest-preserved-then-len
 loop-longest-preserved-then-len c =
@@ -22,7 +25,7 @@ loop-longest-preserved-then-len c =
     let (moved, goes_on, within) = rw c.in_default.is at c.in_ok-_found.ensures in
     let was = c.loop-longest.invariant.1 in
     let is = c.in_ok-longest-2.ensures ∙ ap (λ ns. map (λ place. slice_index ns place) (places new.levels.items))
-        c.numbers-then-len.ensures.numbers in (
+    c.numbers-then-len.ensures.numbers in (
       moved.stands,
       longest-longer segment old new c.loop-longest.longest.items c.loop-longest.invariant.0 moved was c.in_ok-longest-2.longest.items is
           (omega (

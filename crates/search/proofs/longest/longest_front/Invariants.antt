@@ -8,7 +8,7 @@ use Rattle.search.proofs.longest.longest_front.Given as goal
 abbrev pub invariant-loop-longest : goal.invariant-loop-longest
 invariant-loop-longest l =
     Stands l.segment.start l.segment.calls l.standing × IsLongestSoFar l.segment l.standing l.longest.items
-        × (length l.standing.memo ≤ l.budget + 1)
+    × (length l.standing.memo ≤ l.budget + 1)
 
 -- what the walk still has to do
 abbrev pub decreases-loop-longest : goal.decreases-loop-longest

@@ -21,9 +21,9 @@ returns-in-Some g c =
     let here : slice_get calls x ≡ Some c.index-calls-first.result =
     slice_get_read calls (length calls) x c.index-calls-first.result refl below c.index-calls-first.is in
     earliest-first calls (places c.args.standing.now.levels.items) c.args.standing.now.calls c.args.standing.now.answers s.links x
-        c.index-calls-first.result
+    c.index-calls-first.result
     (sym c.after-first.ensures.after) below here (Some c.in-Some.response)
-        (ap (λ (a : Operation). a.response) c.index-calls-first.is ∙ c.in-Some.is)
+    (ap (λ (a : Operation). a.response) c.index-calls-first.is ∙ c.in-Some.is)
 
 pub returns-in-None : goal.returns-in-None
 returns-in-None g c =
@@ -34,5 +34,5 @@ returns-in-None g c =
     let here : slice_get calls x ≡ Some c.index-calls-first.result =
     slice_get_read calls (length calls) x c.index-calls-first.result refl below c.index-calls-first.is in
     earliest-first calls (places c.args.standing.now.levels.items) c.args.standing.now.calls c.args.standing.now.answers s.links x
-        c.index-calls-first.result
+    c.index-calls-first.result
     (sym c.after-first.ensures.after) below here None (ap (λ (a : Operation). a.response) c.index-calls-first.is ∙ c.in-None.is)

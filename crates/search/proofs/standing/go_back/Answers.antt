@@ -29,7 +29,7 @@ put_back-requires g c =
     let past = subst (λ (ls : List Level). StandsAtCursor g.start calls (places ls) (length calls) w.memo) is c.requires.1.1.0 in
     let not_order = subst (λ (ls : List Level). IsOrder g.start calls (places ls) → ⊥) is c.requires.1.1.1 in
     let below = below-popped g.start calls c.requires.0 c.pop.new.self.items c.in-Some.level w.next w.at w.map w.memo w.calls w.answers
-        s past not_order in
+    s past not_order in
     omega (arith, below, c.requires.1.0.links.number_size)
 
 pub put_back-requires-2 : goal.put_back-requires-2
@@ -41,7 +41,7 @@ put_back-requires-2 g c =
     let past = subst (λ (ls : List Level). StandsAtCursor g.start calls (places ls) (length calls) w.memo) is c.requires.1.1.0 in
     let not_order = subst (λ (ls : List Level). IsOrder g.start calls (places ls) → ⊥) is c.requires.1.1.1 in
     let below = below-popped g.start calls c.requires.0 c.pop.new.self.items c.in-Some.level w.next w.at w.map w.memo w.calls w.answers
-        s past not_order in
+    s past not_order in
     omega (arith, below, c.requires.1.0.links.answer_size)
 
 pub after-standing-requires : goal.after-standing-requires
@@ -54,9 +54,9 @@ after-standing-requires g c =
     let past = subst (λ (ls : List Level). StandsAtCursor g.start calls (places ls) (length calls) w.memo) is c.requires.1.1.0 in
     let not_order = subst (λ (ls : List Level). IsOrder g.start calls (places ls) → ⊥) is c.requires.1.1.1 in
     let below = below-popped g.start calls c.requires.0 c.pop.new.self.items c.in-Some.level w.next w.at w.map w.memo w.calls w.answers
-        s past not_order in
+    s past not_order in
     rw c.put_back.ensures (rw (length-set w.calls.after (slice_index w.calls.before place) place)
-        (omega (arith, below, c.requires.1.0.links.number_size)))
+    (omega (arith, below, c.requires.1.0.links.number_size)))
 
 pub returns : goal.returns
 returns g c =
@@ -74,11 +74,11 @@ returns g c =
     let less = untried-back g.start calls c.requires.0 levels level w.next w.at w.map w.memo w.calls w.answers s past not_order in
     let next = slice_index (put_back w.calls level.place).after level.place in
     let next_is : c.after-standing.result ≡ next = c.after-standing.ensures.after
-        ∙ ap (λ l. slice_index l.after level.place) c.put_back.ensures in
+    ∙ ap (λ l. slice_index l.after level.place) c.put_back.ensures in
     record {
       stands =
           StandsWith-same g.start calls levels levels next c.after-standing.result level.at level.at c.undo_call.new.map
-              c.undo_call.new.map w.memo w.memo
+          c.undo_call.new.map w.memo w.memo
           (put_back w.calls level.place) c.put_back.new.self
           (put_back w.answers level.place) c.put_back-2.new.self refl next_is refl refl refl c.put_back.ensures c.put_back-2.ensures stands;
       progress =

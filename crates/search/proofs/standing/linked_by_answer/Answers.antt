@@ -11,5 +11,5 @@ loop-place-preserved c =
     let within : i < length order = rw items at c.loop-place-test.true in
     rw (c.push.ensures.links, items)
     (IsChain-next calls order c.loop-place.links i _ (length calls) c.in_ok-order.ensures c.push.ensures.within
-        c.loop-place.invariant.0 within
+    c.loop-place.invariant.0 within
     (rw items at c.loop-place.invariant.1))

@@ -31,7 +31,7 @@ try_call-requires g c =
     let earliest : IsEarliestAnswer calls path (Some c.in-Some.answered) = rw c.in-Some.is at c.earliest_answer.ensures in
     let a = c.index-calls-next.result in
     let here : slice_get calls w.next ≡ Some a =
-        slice_get_read calls (length calls) w.next a refl c.if-next-calls.true c.index-calls-next.is in (
+    slice_get_read calls (length calls) w.next a refl c.if-next-calls.true c.index-calls-next.is in (
       c.requires.0,
       (
         c.requires.1.0,

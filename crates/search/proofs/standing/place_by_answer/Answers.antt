@@ -43,4 +43,4 @@ returns-else-is_later-clause-before c =
     slice_get_read calls (length calls) n c.index-calls-place.result refl c.requires.known c.index-calls-place.is in
     stopped_back calls n order at n 0 c.requires.sorted le
     (λ _. IsNoLater-from_read calls m n c.index-calls-order.result c.index-calls-place.result here there
-        (c.is_later.ensures.no_later c.if-is_later.false))
+    (c.is_later.ensures.no_later c.if-is_later.false))

@@ -30,9 +30,9 @@ returns-then-not-may_come_next g c =
     cursor-illegal g.start calls c.requires.1.0 w.levels.items w.next w.at w.map w.memo w.calls w.answers s may.known may.not_order a here
     (iff_false c.may_come_next.ensures c.if-not-may_come_next.true) in
     let stands = StandsWith-passed g.start calls c.requires.1.0 w.levels.items w.next w.at w.map w.memo w.calls w.answers s may.known
-        may.not_order cursor in
+    may.not_order cursor in
     let less = untried-passed g.start calls c.requires.1.0 w.levels.items w.next w.at w.map w.memo w.calls w.answers s
-        may.known may.not_order in
+    may.known may.not_order in
     record { stands = rw c.after-standing.ensures.after stands; progress = inl (refl, rw c.after-standing.ensures.after less) }
 
 pub at-requires : goal.at-requires
@@ -60,28 +60,28 @@ returns-in_ok-undo_call-in-Ok-false g c =
     let legal = c.may_come_next.ensures.0 c.if-not-may_come_next.false in
     let leads =
     LeadsTo-taken g.start calls c.requires.1.0 w.levels.items w.next w.at w.map w.memo w.calls w.answers s may.known may.not_order a here
-        may.preceded legal
+    may.preceded legal
     c.at.result.now config c.at.ensures c.in_ok-config.ensures.rising c.in_ok-config.ensures.taken
     (c.in_ok-config.ensures.pairs ∙ c.in_ok-undo.ensures.after) in
     let visited_is = rw c.in-Ok-false.field-0-test at c.in-Ok-false.ensures.visited in
     let within : Contains w.memo config = not_new config w.memo c.in-Ok-false.field-0 c.in-Ok-false.ensures.new
-        c.in-Ok-false.field-0-test in
+    c.in-Ok-false.field-0-test in
     let cursor =
     cursor-seen g.start calls c.requires.1.0 w.levels.items w.next w.at w.map w.memo w.calls w.answers s may.known may.not_order a here
-        may.preceded legal
+    may.preceded legal
     config
     leads within in
     let stands = StandsWith-passed g.start calls c.requires.1.0 w.levels.items w.next w.at w.map w.memo w.calls w.answers s may.known
-        may.not_order cursor in
+    may.not_order cursor in
     let less = untried-passed g.start calls c.requires.1.0 w.levels.items w.next w.at w.map w.memo w.calls w.answers s
-        may.known may.not_order in
+    may.known may.not_order in
     record {
       stands =
           StandsWith-same g.start calls w.levels.items w.levels.items
           (slice_index w.calls.after w.next) c.after-standing-in-Ok-false.result w.at w.at w.map c.undo_call.new.map w.memo
-              c.visit.new.self w.calls w.calls
+          c.visit.new.self w.calls w.calls
           w.answers w.answers refl c.after-standing-in-Ok-false.ensures.after refl
-              (c.in_ok-undo_call-in-Ok-false.ensures ∙ c.in_ok-undo.ensures.undo)
+          (c.in_ok-undo_call-in-Ok-false.ensures ∙ c.in_ok-undo.ensures.undo)
           visited_is refl refl stands;
       progress = inl (visited_is, rw c.after-standing-in-Ok-false.ensures.after less);
     }
@@ -98,7 +98,7 @@ returns-in_ok-push-in-Ok-true g c =
     let legal = c.may_come_next.ensures.0 c.if-not-may_come_next.false in
     let leads =
     LeadsTo-taken g.start calls c.requires.1.0 w.levels.items w.next w.at w.map w.memo w.calls w.answers s may.known may.not_order a here
-        may.preceded legal
+    may.preceded legal
     c.at.result.now config c.at.ensures c.in_ok-config.ensures.rising c.in_ok-config.ensures.taken
     (c.in_ok-config.ensures.pairs ∙ c.in_ok-undo.ensures.after) in
     let visited_is = rw c.in-Ok-true.field-0-test at c.in-Ok-true.ensures.visited in
@@ -107,24 +107,24 @@ returns-in_ok-push-in-Ok-true g c =
     let level : Level = record { place = w.next; undo = c.in_ok-undo.undo; at = w.at } in
     let stands =
     StandsWith-push g.start calls c.requires.1.0 w.levels.items w.next w.at w.map w.memo w.calls w.answers s may.known may.not_order
-        a here may.preceded
+    a here may.preceded
     legal config
     leads new c.in_ok-undo.undo level refl refl c.take_call.new.map c.in_ok-undo.ensures.after c.in_ok-undo.ensures.undo p.calls_within
-        p.answers_within in
+    p.answers_within in
     let more =
     untried-pushed g.start calls c.requires.1.0 w.levels.items w.next w.at w.map w.memo w.calls w.answers s may.known may.not_order a here
-        may.preceded legal
+    may.preceded legal
     config
     leads new c.in_ok-undo.undo level refl refl c.take_call.new.map c.in_ok-undo.ensures.after c.in_ok-undo.ensures.undo p.calls_within
-        p.answers_within in
+    p.answers_within in
     let one_more : length (w.memo ++ config ∷ []) ≡ length w.memo + 1 = length-append w.memo (config ∷ []) in
     let n = c.push.new.standing in
     record {
       stands =
           StandsWith-same g.start calls (w.levels.items ++ level ∷ []) n.levels.items
-              (slice_index (unlinked w.calls w.next).after (length calls)) n.next
+          (slice_index (unlinked w.calls w.next).after (length calls)) n.next
           (length w.memo) n.at c.take_call.new.map n.map (w.memo ++ config ∷ []) n.memo (unlinked w.calls w.next) n.calls
-              (unlinked w.answers w.next) n.answers
+          (unlinked w.answers w.next) n.answers
           p.levels p.next (p.at ∙ omega (arith, ap length visited_is, one_more)) p.map (p.memo ∙ visited_is) p.calls p.answers stands;
       progress = inr (
         config,

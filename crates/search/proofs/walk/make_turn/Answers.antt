@@ -38,9 +38,12 @@ returns-then-len-budget c =
     let w = c.args.standing.now in
     let calls = c.args.segment.now.calls in
     let start = c.args.segment.now.start in
-    let above : c.args.budget < length w.memo = omega (arith, c.if-len-budget.true, c.len.ensures.len) in
-    (CountIsAbove-at_cursor start calls (places w.levels.items) w.next w.memo s.cursor c.args.budget above, λ count has. omega arith, met
-        c.args.segment.now w c.args.budget s (λ count has. omega arith))
+    let above : c.args.budget < length w.memo = omega (arith, c.if-len-budget.true, c.len.ensures.len) in (
+      CountIsAbove-at_cursor start calls (places w.levels.items) w.next w.memo s.cursor c.args.budget above,
+      λ count has. omega arith,
+      met
+          c.args.segment.now w c.args.budget s (λ count has. omega arith),
+    )
 
 pub make_step-requires : goal.make_step-requires
 make_step-requires c =
@@ -95,7 +98,7 @@ returns-in_ok-order-in-Order c =
     let numbers = c.args.segment.now.numbers in
     let order_is : c.in_ok-order-in-Order.order.items ≡ map (λ place. slice_index numbers place) (places w.levels.items) =
     c.in_ok-order-in-Order.ensures ∙ ap (λ ns. map (λ place. slice_index ns place) (places c.make_step.new.standing.levels.items))
-        c.numbers.ensures.numbers
+    c.numbers.ensures.numbers
     ∙ ap (λ (t : Standing). map (λ place. slice_index numbers place) (places t.levels.items)) step.0 in
     let least = IsLeastOrder-at_cursor start calls (places w.levels.items) w.next w.memo s.cursor is_order in
     let count = HasCount-at_order start calls (places w.levels.items) w.next w.memo s.cursor is_order in (

@@ -53,5 +53,5 @@ returns-clause-ok c = λ start order here h.
     rw (take-next order c.args.place c.args.number here)
     (IsPrefixOf-push start _ _ _ _ c.args.number c.index-calls-index.result h (call at)
     (not_Contains-taken start _ _ _ _ h (omega arith) (free at))
-        (not_PrecedesSome-latest start _ _ _ c.index-calls-index.result h (search rules))
+    (not_PrecedesSome-latest start _ _ _ c.index-calls-index.result h (search rules))
     (search rules) (search rules) refl (search rules))

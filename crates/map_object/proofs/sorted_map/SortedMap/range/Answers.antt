@@ -11,12 +11,12 @@ returns c =
     let from = c.partition_point-from.result in
     let lower =
     IsPartitionPoint-from_clause (λ pair. nat_lt pair.0 c.args.low) m from
-        (rw c.deref.ensures.value at c.partition_point-from.ensures.partitioned)
+    (rw c.deref.ensures.value at c.partition_point-from.ensures.partitioned)
     (IsPartitionedBy-ltb (λ pair. pair.0) m c.args.low (keys_rise m c.self.invariant)) (λ a r f called. search rules) in
     let rest = rw (c.deref-2.ensures.value, take_rest m from) at c.partition_point-count.ensures.partitioned in
     let upper =
     IsPartitionPoint-from_clause (λ pair. nat_le pair.0 c.args.high) (drop from m) c.partition_point-count.result rest
     (IsPartitionedBy-leb (λ pair. pair.0) (drop from m) c.args.high (keys_rise_from m from c.self.invariant))
-        (λ a r f called. search rules) in
+    (λ a r f called. search rules) in
     rw (c.deref-2.ensures.value, take_rest m from, ← c.self.view_is)
-        (range_is c.args.low c.args.high m from c.partition_point-count.result lower upper)
+    (range_is c.args.low c.args.high m from c.partition_point-count.result lower upper)

@@ -16,7 +16,7 @@ returns-then-self-other-clause-value c =
     let digest_a = c.self.invariant.digest_is ∙ ap digest_of c.self.view_is in
     let digest_b = c.other.invariant.digest_is ∙ ap digest_of c.other.view_is in
     ⊎_elim (λ same. absurd (c.if-self-other.true (digest_a ∙ ap digest_of ((Decides-is_same a b).0 same) ∙ sym digest_b)))
-        (λ apart. sym apart)
+    (λ apart. sym apart)
     (cases_Bool (is_same a b))
 
 pub returns-then-is_same-clause-exact : goal.returns-then-is_same-clause-exact

@@ -20,7 +20,7 @@ is_new : (visited : List Configuration) (config : Configuration) (new : Bool) �
     → IsTrue new ↔ (Contains visited config → ⊥)
 is_new visited config new is =
     Decides-at new (not (list_any (is_same config) visited)) is
-        (Decides-not (list_any (is_same config) visited) (Decides-visited visited config))
+    (Decides-not (list_any (is_same config) visited) (Decides-visited visited config))
 
 pub returns-clause-new : goal.returns-clause-new
 returns-clause-new c = elim c.match-insert.branch [

@@ -13,19 +13,19 @@ set : (c : goal.In_ok-words) → (n : ℕ) → IsAmong c.self.inside.least c.in_
     ↔ (IsAmong c.self.inside.least c.self.inside.words.items n ⊎ (n ≡ c.args.place))
 set c =
     IsAmong-set c.self.inside.least c.self.inside.words.items c.args.place c.in_ok-words.words.items c.if-place-self.true
-        c.in_ok-words.ensures.set
+    c.in_ok-words.ensures.set
     (λ n other. c.in_ok-words.ensures.others n other ∙ ap (λ (words : List ℕ). bit_of words n) c.deref.ensures.value)
 
 pub invariant_of-result : goal.invariant_of-result
 invariant_of-result c =
     ArePlaces-with c.self.inside.least c.self.inside.words.items c.args.place c.self.inside.least c.in_ok-words.words.items
-        (set c) c.self.invariant
+    (set c) c.self.invariant
     (omega (arith, c.ranges.place.fits)) c.in_ok-words.ensures.each c.in_ok-words.ensures.trimmed
 
 pub returns-then-place-self-clause-is : goal.returns-then-place-self-clause-is
 returns-then-place-self-clause-is c =
     rw (← c.self.view_is) (places_of-with c.self.inside.least c.self.inside.words.items c.args.place c.self.inside.least
-        c.in_ok-words.words.items (set c))
+    c.in_ok-words.words.items (set c))
 
 pub returns-then-place-self-clause-rising : goal.returns-then-place-self-clause-rising
 returns-then-place-self-clause-rising c = places_of-rises c.self.inside.least c.in_ok-words.words.items
@@ -88,14 +88,14 @@ pub invariant_of-result-2 : goal.invariant_of-result-2
 invariant_of-result-2 c =
     subst (λ (least : ℕ). ArePlaces least c.in_ok-words-2.words.items) (sum_is c)
     (ArePlaces-with c.self.inside.least c.self.inside.words.items c.args.place (c.self.inside.least + run c + 1)
-        c.in_ok-words-2.words.items (filled c)
+    c.in_ok-words-2.words.items (filled c)
     c.self.invariant (omega (arith, c.ranges.place.fits)) c.in_ok-words-2.ensures.each c.in_ok-words-2.ensures.trimmed)
 
 pub returns-clause-is : goal.returns-clause-is
 returns-clause-is c =
     ap (λ (least : ℕ). places_of least c.in_ok-words-2.words.items) (sym (sum_is c))
     ∙ places_of-with c.self.inside.least c.self.inside.words.items c.args.place (c.self.inside.least + run c + 1)
-        c.in_ok-words-2.words.items (filled c)
+    c.in_ok-words-2.words.items (filled c)
     ∙ ap (λ (places : List ℕ). with_place places c.args.place) c.self.view_is
 
 pub returns-clause-rising : goal.returns-clause-rising

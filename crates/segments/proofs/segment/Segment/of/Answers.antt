@@ -15,4 +15,4 @@ invariant_of-result c =
       c.in_ok-numbers.ensures.items,
     )
     (IsSegmentView-segment_of c.args.history.now c.args.numbers.now c.calls.ensures.history c.requires.not_empty
-        c.requires.rising c.requires.known)
+    c.requires.rising c.requires.known)
