@@ -2,7 +2,7 @@ use crate::{Line, LineFault, Tree, read_line};
 use std::test::Fail;
 
 // Words that are no line, and how the text that the user is shown begins.
-static FAULTS: [(&[&str], &str); 30] = [
+static FAULTS: [(&[&str], &str); 32] = [
     (
         &["bench"],
         "error: 'bench' requires a subcommand but one was not provided",
@@ -29,9 +29,15 @@ static FAULTS: [(&[&str], &str); 30] = [
     ),
     (
         &["bench", "draw", "--workers", "0"],
-        &["bench", "draw", "--around", "8193"],
-        &["bench", "draw", "--calls", "4097"],
         "error: invalid value '0' for '--workers <N>'",
+    ),
+    (
+        &["bench", "draw", "--around", "8193"],
+        "error: invalid value '8193' for '--around <N>'",
+    ),
+    (
+        &["bench", "draw", "--calls", "4097"],
+        "error: invalid value '4097' for '--calls <N>'",
     ),
     (
         &["bench", "draw", "--seed", "1"],
