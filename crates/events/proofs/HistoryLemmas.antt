@@ -9,6 +9,7 @@ use Rattle.std.proofs.lemmas.List.Elements.{filter-append}
 use Rattle.std.proofs.lemmas.List.Folds.{list_all-append}
 use Rattle.std.proofs.lemmas.List.Sums.{sum_by-append}
 use Rattle.std.proofs.lemmas.Bool.Decides.{nat_tests}
+use Rattle.std.proofs.lemmas.Bool.{and_parts}
 use Rattle.events.specs.declared.event.Event.{Event}
 use Rattle.events.specs.declared.event.Event.TheVariants.{Invoke, Answer}
 use Rattle.events.specs.declared.fault.HistoryFault.{HistoryFault}
@@ -109,17 +110,9 @@ AreHistoryEvents-push before e h none =
 
 -- ---- and back: each event of a history is sound after those before it
 
-and_right : (a b : Bool) → (a && b) ≡ true → b ≡ true
-and_right true b h = h
-and_right false b h = cc
-
-and_left : (a b : Bool) → (a && b) ≡ true → a ≡ true
-and_left true b h = refl
-and_left false b h = cc
-
 passes_at : (test : Event → Bool) (before : List Event) (e : Event) (rest : List Event)
     → list_all test (before ++ e ∷ rest) ≡ true → test e ≡ true
-passes_at test before e rest h = and_left (test e) _ (and_right (list_all test before) _ (sym (list_all-append test before (e ∷ rest)) ∙ h))
+passes_at test before e rest h = (and_parts (test e) _ ((and_parts (list_all test before) _ (sym (list_all-append test before (e ∷ rest)) ∙ h)).1)).0
 
 in_turn_at : (w : Bool) (xs : List Event) (e : Event) (ys : List Event) → takes_turns w (xs ++ e ∷ ys) ≡ true
     → is_out_of_turn (ends_waiting w xs) e ≡ false

@@ -1,5 +1,6 @@
 // What processes do at a map: they call it, and it answers them.
 ghost use Rattle.std.specs.Prelude.{◌≡◌, IfOk};
+ghost use Rattle.events.specs.Histories.{pair_count};
 
 use crate::memory::Memory;
 use std::alloc::Global;
@@ -116,6 +117,16 @@ impl Reply {
             Reply::Refused => Ok(Reply::Refused),
         }
     }
+
+    /// How many pairs it lists.
+    pub fn pair_count(&self) -> usize
+        ensures { result ≡ pair_count self.now }
+    {
+        match self {
+            Reply::Pairs(pairs) => pairs.as_slice().len(),
+            _ => 0,
+        }
+    }
 }
 
 /// One event of a history: a process begins a call, or its open call is answered.
@@ -123,4 +134,22 @@ impl Reply {
 pub enum Event {
     Invoke { process: u8, call: Call },
     Answer { process: u8, reply: Reply },
+}
+
+impl Event {
+    /// The same event again.
+    pub fn copy(&self, alloc: Global) -> Result<Event, Memory>
+        ensures { IfOk result (λ e. e ≡ self.now) }
+    {
+        match self {
+            Event::Invoke { process, call } => Ok(Event::Invoke {
+                process: *process,
+                call: *call,
+            }),
+            Event::Answer { process, reply } => Ok(Event::Answer {
+                process: *process,
+                reply: reply.copy(alloc)?,
+            }),
+        }
+    }
 }

@@ -2,7 +2,7 @@
 ghost use Rattle.std.specs.Prelude.{◌≡◌, ◌<◌, ◌⊎◌, ◌++◌, ◌∷◌, [], List, length, slice_index_or, OnOk, IfErr, Some, false};
 ghost use Rattle.events.specs.declared.event.Event.{Event};
 ghost use Rattle.events.specs.Events.{process_of, is_invocation};
-ghost use Rattle.events.specs.Histories.{has_range, pair_count, AreHistoryEvents};
+ghost use Rattle.events.specs.Histories.{has_range, AreHistoryEvents};
 ghost use Rattle.events.specs.HistoryFaults.{event_fault, fault_after};
 
 use crate::event::{Call, Event, Reply};
@@ -100,7 +100,7 @@ fn event_fault(place: usize, calls: usize, has_open: bool, event: &Event) -> Opt
             }
         }
         Event::Answer { process, reply } => {
-            if *process >= PROCESSES || pair_count(reply) > MAX_PAIRS {
+            if *process >= PROCESSES || reply.pair_count() > MAX_PAIRS {
                 Some(HistoryFault::TooMany)
             } else if !has_open {
                 Some(HistoryFault::NotWellFormed { event: place })
@@ -117,14 +117,5 @@ fn has_range(call: &Call) -> bool
     match call {
         Call::Scan(low, high) => *low <= *high,
         _ => true,
-    }
-}
-
-fn pair_count(reply: &Reply) -> usize
-    ensures { result ≡ pair_count reply.now }
-{
-    match reply {
-        Reply::Pairs(pairs) => pairs.as_slice().len(),
-        _ => 0,
     }
 }

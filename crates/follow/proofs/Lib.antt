@@ -7,7 +7,6 @@ mod FollowLemmas
 mod ViewLemmas
 mod HeldLemmas
 mod HoldLemmas
-mod PairRangeLemmas
 mod GroupSearchLemmas
 mod GoneLemmas
 mod FaultLemmas

@@ -89,7 +89,7 @@ pub list_found : (d : Data) (vs : List Value) → Some (items_view vs) ≡ as_ar
 list_found d vs h = array_found d (items_view vs) h
 
 -- equal lists are equally long
-length_as : (vs : List Value) (ds : List Data) → list_data (map view vs) ≡ list_data ds → length vs ≡ length ds
+pub length_as : (vs : List Value) (ds : List Data) → list_data (map view vs) ≡ list_data ds → length vs ≡ length ds
 length_as vs ds h = sym (length-map vs view) ∙ ap length (list_data_injective (map view vs) ds h)
 
 -- a value that spells a pair has two items

@@ -1,16 +1,17 @@
 -- Laws of filters and of mapped lists that std has not.
-use Rattle.std.proofs.Common.{◌≡◌, ℕ, Bool, true, false, ◌&&◌, cond, List, [], ◌∷◌, get_or, filter, map, Option, Some, None, refl, sym, ap}
+use Rattle.std.proofs.Common.{◌≡◌, Bool, true, false, ◌&&◌, cond, List, [], ◌∷◌, get_or, filter, map, Option, Some, None, refl, sym, ap}
 use Rattle.std.proofs.Common.{◌∙◌, subst, ⊎_elim}
 use Rattle.std.proofs.Common.{arith}
-use Rattle.std.specs.Prelude.{◌<◌, slice_get, AllPairs, Contains, filter_map}
+use Rattle.std.specs.Prelude.{AllPairs, Contains, filter_map}
 use Rattle.std.specs.List.{cons_option}
 use Rattle.std.proofs.lemmas.Bool.{false≢true}
 use Rattle.std.proofs.lemmas.List.Elements.{All-map, All-contains, Contains-get_or, filter_agree}
 use Rattle.std.proofs.lemmas.List.Kept.{AllPairs-cons}
-use Rattle.std.proofs.lemmas.Option.{none-some, same_Some, slice_get_within, get_or_from_slice_get}
+use Rattle.std.proofs.lemmas.Option.{none-some, same_Some}
 use Rattle.list_laws.proofs.Lists.{AllPairs-nil, AllPairs-head, AllPairs-tail, Contains-first, Contains-later, Contains-nil, Contains-cases}
 use Rattle.list_laws.proofs.Lists.{All-from_contains}
 use Rattle.list_laws.proofs.Lists.{filter_none}
+pub use Rattle.list_laws.proofs.Lists.{Contains-filter, Contains-from_filter, AllPairs-at}
 
 -- a filter of a list whose first element is there or not
 filter_cond : {X : Type 0} (p : X → Bool) (x : X) (xs : List X) (b : Bool)
@@ -61,30 +62,6 @@ filter_excluded p q xs h =
 -- an element that passes is kept
 pub filter_yes : {X : Type 0} (p : X → Bool) (x : X) (xs : List X) → p x ≡ true → filter p (x ∷ xs) ≡ x ∷ filter p xs
 filter_yes p x xs h = rw h refl
-
--- a filter keeps each element that passes
-pub Contains-filter : {X : Type 0} (p : X → Bool) (xs : List X) (x : X) → Contains xs x → p x ≡ true → Contains (filter p xs) x
-Contains-filter p [] x h pass = absurd (Contains-nil x h)
-Contains-filter p (y ∷ xs) x h pass = ⊎_elim
-    (λ same. rw (filter_yes p y xs (ap p same ∙ pass)) (subst (λ z. Contains (y ∷ filter p xs) z) same (Contains-first y (filter p xs))))
-    (λ later. in_rest (p y) refl (Contains-filter p xs x later pass)) (Contains-cases y xs x h)
-  where
-    in_rest : (b : Bool) → p y ≡ b → Contains (filter p xs) x → Contains (filter p (y ∷ xs)) x
-    in_rest true e k = rw e (Contains-later y (filter p xs) x k)
-    in_rest false e k = rw e k
-
--- what a filter keeps is in the list and passes
-pub Contains-from_filter : {X : Type 0} (p : X → Bool) (xs : List X) (x : X) → Contains (filter p xs) x → Contains xs x × (p x ≡ true)
-Contains-from_filter p [] x h = absurd (Contains-nil x h)
-Contains-from_filter p (y ∷ xs) x h = kept (p y) refl h (Contains-from_filter p xs x)
-  where
-    kept : (b : Bool) → p y ≡ b → Contains (cond b (y ∷ filter p xs) (filter p xs)) x
-        → (Contains (filter p xs) x → Contains xs x × (p x ≡ true))
-        → Contains (y ∷ xs) x × (p x ≡ true)
-    kept false e k rest = let found = rest k in (Contains-later y xs x found.0, found.1)
-    kept true e k rest = ⊎_elim
-        (λ same. (subst (λ z. Contains (y ∷ xs) z) same (Contains-first y xs), subst (λ z. p z ≡ true) same e))
-        (λ later. let found = rest later in (Contains-later y xs x found.0, found.1)) (Contains-cases y (filter p xs) x k)
 
 -- two elements that pass a test are related
 abbrev pub AreRelatedIfKept : {X : Type 0} → (X → X → Type 0) → (X → Bool) → X → X → Type 0
@@ -206,14 +183,6 @@ AllPairs-from_map R f (x ∷ xs) h =
     (All-from_contains (λ z. R (f x) (f z)) xs
     (λ z is. All-contains (R (f x)) (map f xs) (f z) (AllPairs-head R (f x) (map f xs) h) (Contains-map f xs z is)))
     (AllPairs-from_map R f xs (AllPairs-tail R (f x) (map f xs) h))
-
--- what stands at an earlier place is related to what stands at a later one
-pub AllPairs-at : {X : Type 0} (R : X → X → Type 0) (xs : List X) (i j : ℕ) (x y : X) → AllPairs R xs → i < j → slice_get xs i ≡ Some x
-    → slice_get xs j ≡ Some y → R x y
-AllPairs-at R xs i j x y h before first second =
-    let within = slice_get_within xs j y second in
-    subst (λ z. R x z) (get_or_from_slice_get xs j y x second)
-    (subst (λ z. R z (get_or xs j x)) (get_or_from_slice_get xs i x x first) (h i j x before within))
 
 -- two lists that are kept alike behind one element are kept alike
 pub filter_rest : {X : Type 0} (b : Bool) (x : X) (xs ys : List X) → cond b (x ∷ xs) xs ≡ cond b (x ∷ ys) ys → xs ≡ ys

@@ -1,9 +1,10 @@
 -- Laws of numbers in lists: the least, the greatest, whether one is there.
 use Rattle.std.proofs.Common.{◌≡◌, ℕ, zero, suc, ◌+◌, ◌<◌, ◌≤◌, Bool, true, false, List, Some, None, [], ◌∷◌, ◌++◌, length, get_or, take}
-use Rattle.std.proofs.Common.{Option, refl, ap, ◌∙◌}
+use Rattle.std.proofs.Common.{Option, refl, sym, ap, ◌∙◌, not, ◌&&◌}
 use Rattle.std.proofs.Common.{subst, ⊎_elim, arith, map, ◌==◌}
 use Rattle.std.specs.Prelude.{min, max, ◌==◌, ◌||◌, map, slice_get, IsSomeAnd, Contains}
-use Rattle.std.proofs.lemmas.Bool.{eq-eqb, eqb-true, or_cases, or_left, or_right, false≢true, cases_lt}
+use Rattle.std.specs.Ordering.{nat_cmp, is_lt}
+use Rattle.std.proofs.lemmas.Bool.{eq-eqb, eqb-true, or_cases, or_left, or_right, false≢true, cases_lt, lt-ltb, le-ltb, ne_eqb, cases_order}
 use Rattle.std.proofs.lemmas.List.{map_more, length-map, length-take}
 use Rattle.std.proofs.lemmas.List.Folds.{list_any-append}
 use Rattle.list_laws.specs.Lists.{least, greatest, has_number}
@@ -99,3 +100,20 @@ greatest_is key (z ∷ w ∷ xs) x h =
     let (y, is, same) = greatest_is key (w ∷ xs) w (Contains-first w xs) in
     ⊎_elim (λ less. (y, Contains-later z (w ∷ xs) y is, omega arith)) (λ more. (z, Contains-first z (w ∷ xs), omega arith))
     (cases_lt (key z) (key y))
+
+-- of two numbers that differ, neither is the other
+differ : (m n : ℕ) → m < n → ((m == n) ≡ false) × ((n == m) ≡ false)
+differ m n less = (ne_eqb m n (λ same. omega arith), ne_eqb n m (λ same. omega arith))
+
+-- two numbers of which neither is less than the other are one
+pub tie_is_same : (m n : ℕ) → (not (is_lt (nat_cmp m n)) && not (is_lt (nat_cmp n m))) ≡ (n == m)
+tie_is_same m n = ⊎_elim equal (λ other. ⊎_elim less more other) (cases_order m n)
+  where
+    equal : m ≡ n → (not (is_lt (nat_cmp m n)) && not (is_lt (nat_cmp n m))) ≡ (n == m)
+    equal same = rw (le-ltb m n (omega arith), le-ltb n m (omega arith), eq-eqb m n same, eq-eqb n m (sym same)) refl
+
+    less : m < n → (not (is_lt (nat_cmp m n)) && not (is_lt (nat_cmp n m))) ≡ (n == m)
+    less h = rw (lt-ltb m n h, (differ m n h).1) refl
+
+    more : n < m → (not (is_lt (nat_cmp m n)) && not (is_lt (nat_cmp n m))) ≡ (n == m)
+    more h = rw (le-ltb m n (omega arith), (differ n m h).1, (differ n m h).0, lt-ltb n m h) refl

@@ -22,22 +22,7 @@ fn copy_of_events(alloc: Global, events: &[Event]) -> Result<Vec<Event>, Memory>
 {
     let mut copies = Vec::with_capacity(alloc, events.len())?;
     for event in events {
-        copies.push(copy_of_event(alloc, event)?)?;
+        copies.push(event.copy(alloc)?)?;
     }
     Ok(copies)
-}
-
-fn copy_of_event(alloc: Global, event: &Event) -> Result<Event, Memory>
-    ensures { IfOk result (λ copy. copy ≡ event.now) }
-{
-    match event {
-        Event::Invoke { process, call } => Ok(Event::Invoke {
-            process: *process,
-            call: *call,
-        }),
-        Event::Answer { process, reply } => Ok(Event::Answer {
-            process: *process,
-            reply: reply.copy(alloc)?,
-        }),
-    }
 }

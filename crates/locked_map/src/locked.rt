@@ -8,7 +8,7 @@ ghost use Rattle.locked_map.specs.Answers.{IsAnswerOf, IsDoneOrRefused};
 
 use events::{Call, MAX_PAIRS, Reply};
 use map_object::SortedMap;
-use recorder::{Subject, pair_count};
+use recorder::Subject;
 use std::alloc::Global;
 use std::sync::{Mutex, Wait};
 
@@ -71,7 +71,7 @@ fn within_limit(reply: Reply) -> Reply
     ensures same { pair_count reply ≤ pair_limit → result ≡ reply }
     ensures refused { pair_limit < pair_count reply → result ≡ Refused }
 {
-    if pair_count(&reply) > MAX_PAIRS {
+    if reply.pair_count() > MAX_PAIRS {
         return Reply::Refused;
     }
     reply

@@ -5,10 +5,11 @@ use Rattle.std.proofs.Common.{⊎_elim, arith}
 use Rattle.std.specs.Prelude.{nat_le, if◌then◌else◌}
 use Rattle.std.specs.List.Sorted.{IsNonDecreasingBy, IsSortedByKey, IsStableByKey}
 use Rattle.std.specs.Ordering.{nat_cmp, is_lt}
-use Rattle.std.proofs.lemmas.Bool.{leb-true, leb-false, lt-ltb, le-ltb, eq-eqb, ne_eqb, eqb-true, cases_order}
+use Rattle.std.proofs.lemmas.Bool.{leb-true, leb-false, eq-eqb, ne_eqb, eqb-true, cases_order}
 use Rattle.std.proofs.lemmas.List.Elements.{filter_agree}
 use Rattle.std.proofs.lemmas.List.Sorted.{IsNonDecreasingBy-from_sort}
 use Rattle.logs.specs.Logs.{Stamped, placed, by_stamp}
+use Rattle.list_laws.proofs.NumberLemmas.{tie_is_same}
 
 -- no stamp is lower than the one before it, nor is the first lower than this
 abbrev pub rises : ℕ → List Stamped → Type 0
@@ -28,23 +29,6 @@ rises_from low (e ∷ es) first up = (
   first e (omega arith),
   rises_from e.0 es (λ d some. up 0 1 d (omega arith) (omega arith)) (λ i j d le lt. up (suc i) (suc j) d (omega arith) (omega arith)),
 )
-
--- of two numbers that differ, neither is the other
-differ : (m n : ℕ) → m < n → ((m == n) ≡ false) × ((n == m) ≡ false)
-differ m n less = (ne_eqb m n (λ same. omega arith), ne_eqb n m (λ same. omega arith))
-
--- two numbers of which neither is less than the other are one
-tie_is_same : (m n : ℕ) → (not (is_lt (nat_cmp m n)) && not (is_lt (nat_cmp n m))) ≡ (n == m)
-tie_is_same m n = ⊎_elim equal (λ other. ⊎_elim less more other) (cases_order m n)
-  where
-    equal : m ≡ n → (not (is_lt (nat_cmp m n)) && not (is_lt (nat_cmp n m))) ≡ (n == m)
-    equal same = rw (le-ltb m n (omega arith), le-ltb n m (omega arith), eq-eqb m n same, eq-eqb n m (sym same)) refl
-
-    less : m < n → (not (is_lt (nat_cmp m n)) && not (is_lt (nat_cmp n m))) ≡ (n == m)
-    less h = rw (lt-ltb m n h, (differ m n h).1) refl
-
-    more : n < m → (not (is_lt (nat_cmp m n)) && not (is_lt (nat_cmp n m))) ≡ (n == m)
-    more h = rw (le-ltb m n (omega arith), (differ n m h).1, (differ n m h).0, lt-ltb n m h) refl
 
 stamps_agree : (x : Stamped) (es : List Stamped)
     → filter (λ e. not (is_lt (nat_cmp x.0 e.0)) && not (is_lt (nat_cmp e.0 x.0))) es ≡ filter (has_stamp x.0) es

@@ -41,24 +41,8 @@ pub fn append_log(
     ensures { OnOk result (stamped.new.items ≡ stamped.old.items ++ log.now) }
 {
     for (stamp, event) in log {
-        let event = copy(alloc, event)?;
+        let event = event.copy(alloc)?;
         stamped.push((*stamp, event))?;
     }
     Ok(())
-}
-
-/// The same event again.
-fn copy(alloc: Global, event: &Event) -> Result<Event, Memory>
-    ensures { IfOk result (λ e. e ≡ event.now) }
-{
-    match event {
-        Event::Invoke { process, call } => Ok(Event::Invoke {
-            process: *process,
-            call: *call,
-        }),
-        Event::Answer { process, reply } => Ok(Event::Answer {
-            process: *process,
-            reply: reply.copy(alloc)?,
-        }),
-    }
 }

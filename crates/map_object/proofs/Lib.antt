@@ -1,3 +1,3 @@
 mod PlaceLemmas
-mod RangeLemmas
+pub mod RangeLemmas
 pub mod MapLemmas

@@ -1,38 +1,21 @@
 -- A stable sort of all calls by their points is the merged order.
-use Rattle.std.proofs.Common.{◌≡◌, ℕ, ◌<◌, ◌≤◌, ◌==◌, Bool, true, false, cond, List, [], ◌∷◌, get_or, map, filter, not, ◌&&◌, refl, sym, ap}
-use Rattle.std.proofs.Common.{◌∙◌, subst, ⊎_elim}
+use Rattle.std.proofs.Common.{◌≡◌, ℕ, ◌≤◌, ◌==◌, Bool, true, false, cond, List, [], ◌∷◌, get_or, map, filter, not, ◌&&◌, refl, sym, ap}
+use Rattle.std.proofs.Common.{◌∙◌, subst}
 use Rattle.std.proofs.Common.{arith}
 use Rattle.std.specs.Prelude.{All, AllPairs, IsPermutation}
 use Rattle.std.specs.List.{concat}
 use Rattle.std.specs.List.Sorted.{IsSortedByKey, IsStableByKey}
 use Rattle.std.specs.Ordering.{nat_cmp, is_lt}
-use Rattle.std.proofs.lemmas.Bool.{lt-ltb, le-ltb, eq-eqb, ne_eqb, cases_order}
 use Rattle.std.proofs.lemmas.List.Elements.{All-head, All-tail, All-map}
 use Rattle.std.proofs.lemmas.List.Sorted.{IsPermutation-map, All-permutation, IsNonDecreasingBy-from_sort}
 use Rattle.events.specs.declared.operation.Operation.{Operation}
 use Rattle.merge_orders.specs.Merge.{point_of, IsMergedOrder}
 use Rattle.list_laws.proofs.FilterLemmas.{AllPairs-map}
+use Rattle.list_laws.proofs.NumberLemmas.{tie_is_same}
 use Rattle.merge_orders.proofs.SortedMergeLemmas.{IsMergedOrder-from_sort}
 use Rattle.merge_orders.specs.declared.points.CallAtPoint.{CallAtPoint}
 use Rattle.merge_orders.specs.OrdersOfSegments.{NameCallsOnce}
 use Rattle.merge_orders.specs.Points.{at_point}
-
--- of two numbers that differ, neither is the other
-other : (m n : ℕ) → m < n → ((m == n) ≡ false) × ((n == m) ≡ false)
-other m n less = (ne_eqb m n (λ same. omega arith), ne_eqb n m (λ same. omega arith))
-
--- two numbers of which neither is less than the other are one
-tie_is_same : (m n : ℕ) → (not (is_lt (nat_cmp m n)) && not (is_lt (nat_cmp n m))) ≡ (n == m)
-tie_is_same m n = ⊎_elim equal (λ differ. ⊎_elim less more differ) (cases_order m n)
-  where
-    equal : m ≡ n → (not (is_lt (nat_cmp m n)) && not (is_lt (nat_cmp n m))) ≡ (n == m)
-    equal same = rw (le-ltb m n (omega arith), le-ltb n m (omega arith), eq-eqb m n same, eq-eqb n m (sym same)) refl
-
-    less : m < n → (not (is_lt (nat_cmp m n)) && not (is_lt (nat_cmp n m))) ≡ (n == m)
-    less h = rw (lt-ltb m n h, (other m n h).1) refl
-
-    more : n < m → (not (is_lt (nat_cmp m n)) && not (is_lt (nat_cmp n m))) ≡ (n == m)
-    more h = rw (le-ltb m n (omega arith), (other n m h).1, (other n m h).0, lt-ltb n m h) refl
 
 -- a filter keeps of a mapped list what its test passes there
 filter-map : {X Y : Type 0} (p : Y → Bool) (f : X → Y) (xs : List X) → filter p (map f xs) ≡ map f (filter (λ x. p (f x)) xs)

@@ -1,9 +1,9 @@
 -- Histories with neither starting pairs nor a replace have the orders that their calls have without either.
 use Rattle.events.specs.declared.event.Reply.TheVariants as replies
-use Rattle.std.proofs.Common.{◌≡◌, ℕ, suc, Bool, true, false, not, List, [], ◌∷◌, Option, Some, None, inl, inr, refl, sym, subst, ◌∙◌}
+use Rattle.std.proofs.Common.{◌≡◌, ℕ, suc, true, false, List, [], ◌∷◌, Option, Some, None, inl, inr, refl, sym, subst, ◌∙◌}
 use Rattle.std.specs.Prelude.{All, slice_get}
 use Rattle.std.specs.List.{list_all}
-use Rattle.std.proofs.lemmas.Bool.{and_parts}
+use Rattle.std.proofs.lemmas.Bool.{and_parts, not-true}
 use Rattle.std.proofs.lemmas.List.Elements.{All-nil, All-cons, All-head, All-tail, All-contains}
 use Rattle.events.specs.declared.event.Call.{Call}
 use Rattle.events.specs.declared.event.Call.TheVariants.{Get, Insert, Remove, Scan, Replace}
@@ -86,12 +86,8 @@ plain_from i [] plain = All-nil IsPlainCall
 plain_from i (Answer p reply ∷ events) plain = plain_from (suc i) events plain
 plain_from i (Invoke p call ∷ events) plain =
     let parts = and_parts (is_plain_event (Invoke p call)) (list_all is_plain_event events) plain in
-    All-cons IsPlainCall (operation_of p call i events) (operations_from (suc i) events) (no_replace (is_replace call) parts.0)
+    All-cons IsPlainCall (operation_of p call i events) (operations_from (suc i) events) (not-true (is_replace call) parts.0)
     (plain_from (suc i) events parts.1)
-  where
-    no_replace : (b : Bool) → not b ≡ true → b ≡ false
-    no_replace true h = cc
-    no_replace false h = refl
 
 plain_at : (calls : List Operation) (numbers : List ℕ) → All IsPlainCall calls → All IsPlainCall (calls_at calls numbers)
 plain_at calls numbers plain = All-from_contains IsPlainCall (calls_at calls numbers) (λ a is.

@@ -4,7 +4,7 @@ use Rattle.std.proofs.Common.{refl, sym}
 use Rattle.std.proofs.Common.{ap, subst, inl, inr, ⊎_elim, arith, eqb-true, eq-eqb, ◌++◌, ◌∙◌}
 use Rattle.std.specs.Prelude.{◌⊎◌, slice_get, IsSomeAnd, Contains}
 use Rattle.std.proofs.Math.Nat.{zero-add}
-use Rattle.std.proofs.lemmas.Bool.{false≢true, or_cases}
+use Rattle.std.proofs.lemmas.Bool.{false≢true, or_cases, and_parts}
 use Rattle.std.proofs.lemmas.Option.{none-some}
 use Rattle.std.proofs.lemmas.List.Sums.{sum_by-cons}
 use Rattle.std.proofs.lemmas.List.{length-append}
@@ -26,14 +26,6 @@ IsAnsweredAt i events place = (n : ℕ) × IsSomeAnd (slice_get (operations_from
 abbrev IsAnswered : ℕ → ℕ → Bool → List Event → ℕ → Type 0
 IsAnswered p i waiting events place =
     IsAnsweredAt i events place ⊎ ((waiting ≡ true) × IsSomeAnd (response_from p i events) (λ response. response.res ≡ place))
-
-and_left : (a b : Bool) → (a && b) ≡ true → a ≡ true
-and_left true b h = refl
-and_left false b h = absurd (false≢true h)
-
-and_right : (a b : Bool) → (a && b) ≡ true → b ≡ true
-and_right true b h = h
-and_right false b h = absurd (false≢true h)
 
 -- the process of a response
 same_process : (q p : ℕ) (answer reply : Reply) → Some (Answer q answer) ≡ Some (Answer p reply) → q ≡ p
@@ -62,10 +54,10 @@ answered p i (suc j) waiting (Invoke q call ∷ events) reply turns here =
           subst (λ r. IsSomeAnd (response_from r (suc i) events) (λ response. response.res ≡ i + suc j))
               (sym (eqb-true q p own)) waits.1,
         ))
-        (go true (and_right (not waiting) _ k))
+        (go true (and_parts (not waiting) _ k).1)
 answered p i zero waiting (Answer q answer ∷ events) reply turns here =
     let own : (q == p) ≡ true = eq-eqb q p (same_process q p answer reply here) in
-    let waits : waiting ≡ true = and_left waiting _ (rw own at turns) in
+    let waits : waiting ≡ true = (and_parts waiting _ (rw own at turns)).0 in
     inr (waits, rw own (omega arith))
 answered p i (suc j) waiting (Answer q answer ∷ events) reply turns here =
     by_case (λ w k. subst (IsAnswered p (suc i) w events) (omega arith) (answered p (suc i) j w events reply k here)) (q == p) refl turns
@@ -75,7 +67,7 @@ answered p i (suc j) waiting (Answer q answer ∷ events) reply turns here =
         → takes_turns waiting (cond c (Answer q answer ∷ events_of p events) (events_of p events)) ≡ true
         → IsAnswered p i waiting (Answer q answer ∷ events) (i + suc j)
     by_case go false other k = ⊎_elim (λ is. inl is) (λ waits. inr (waits.0, rw other waits.1)) (go waiting k)
-    by_case go true own k = ⊎_elim (λ is. inl is) (λ waits. absurd (false≢true waits.0)) (go false (and_right waiting _ k))
+    by_case go true own k = ⊎_elim (λ is. inl is) (λ waits. absurd (false≢true waits.0)) (go false (and_parts waiting _ k).1)
 
 pub answer_has_call : (events : List Event) (place p : ℕ) (reply : Reply) → IsWellFormed events
     → slice_get events place ≡ Some (Answer p reply)
@@ -93,7 +85,7 @@ after_invoke false w p call events h = h
 
 after_answer : (c w : Bool) (p : ℕ) (reply : Reply) (events : List Event) → takes_turns w (cond c (Answer p reply ∷ events) events) ≡ true
     → takes_turns (not c && w) events ≡ true
-after_answer true w p reply events h = and_right w _ h
+after_answer true w p reply events h = (and_parts w _ h).1
 after_answer false w p reply events h = h
 
 -- where the processes that wait are among these, there are as many events as twice the calls to come and one answer for each of these
@@ -109,14 +101,13 @@ few_from waits waiting_ones (Invoke p call ∷ events) turns covers =
     omega (arith, rest, sum_by-cons (λ x. cond (is_invocation x) 1 0) (Invoke p call) events)
 few_from waits waiting_ones (Answer p reply ∷ events) turns covers =
     let own : (p == p) ≡ true = eq-eqb p p refl in
-    let waiting : waits p ≡ true = and_left (waits p) _
-    (subst (λ (c : Bool). takes_turns (waits p)
-    (cond c (Answer p reply ∷ events_of p events) (events_of p events)) ≡ true) own (turns p)) in
+    let waiting : waits p ≡ true = (and_parts (waits p) _ (subst (λ (c : Bool). takes_turns (waits p)
+    (cond c (Answer p reply ∷ events_of p events) (events_of p events)) ≡ true) own (turns p))).0 in
     let (front, back, parts) = Contains-split waiting_ones p (covers p waiting) in
     let rest = few_from (λ q. not (p == q) && waits q) (front ++ back) events
     (λ q. after_answer (p == q) (waits q) p reply (events_of q events) (turns q))
-    (λ q h. ⊎_elim (λ same. absurd (not_itself p q same (and_left (not (p == q)) (waits q) h))) (λ other. other)
-    (Contains-around front p back q (subst (λ (all : List ℕ). Contains all q) parts (covers q (and_right (not (p == q)) (waits q) h))))) in
+    (λ q h. ⊎_elim (λ same. absurd (not_itself p q same (and_parts (not (p == q)) (waits q) h).0)) (λ other. other)
+    (Contains-around front p back q (subst (λ (all : List ℕ). Contains all q) parts (covers q (and_parts (not (p == q)) (waits q) h).1)))) in
     omega (
       arith,
       rest,

@@ -1,9 +1,9 @@
 -- The first events of a history, and one invocation more.
 use Rattle.std.proofs.Common.{◌≡◌, ℕ, ◌+◌, ◌<◌, List, [], ◌∷◌, ◌++◌, length, take, drop, refl, sym, ap, ◌∙◌, subst, arith, take-append-drop}
-use Rattle.std.proofs.Common.{Bool, true, false, ◌&&◌, suc, cond, ◌==◌, Some, None, IsTrue, ⊎_elim}
+use Rattle.std.proofs.Common.{Bool, true, false, suc, cond, ◌==◌, Some, None, IsTrue, ⊎_elim}
 use Rattle.std.specs.Prelude.{slice_get, IsSomeAnd, All}
 use Rattle.std.specs.List.{list_all}
-use Rattle.std.proofs.lemmas.Bool.{false≢true}
+use Rattle.std.proofs.lemmas.Bool.{false≢true, and_parts}
 use Rattle.std.proofs.lemmas.Option.{slice_get_within, get_or_from_slice_get}
 use Rattle.std.proofs.lemmas.List.{take_more, length-append}
 use Rattle.std.proofs.lemmas.List.Elements.{All-head, All-tail, All-weaker, filter-append}
@@ -48,15 +48,11 @@ takes_turns-front false (Invoke p call ∷ xs) ys h = takes_turns-front true xs 
 takes_turns-front true (Answer p reply ∷ xs) ys h = takes_turns-front false xs ys h
 takes_turns-front false (Answer p reply ∷ xs) ys h = h
 
-and_left : (a b : Bool) → (a && b) ≡ true → a ≡ true
-and_left true b h = refl
-and_left false b h = absurd (false≢true h)
-
 -- the front of the events of a history are those of one
 front_of_history : (events more : List Event) → AreHistoryEvents (events ++ more) → AreHistoryEvents events
 front_of_history events more h = record {
-  shaped = and_left (list_all is_shaped events) _ (sym (list_all-append is_shaped events more) ∙ h.shaped);
-  small = and_left (list_all is_small events) _ (sym (list_all-append is_small events more) ∙ h.small);
+  shaped = (and_parts (list_all is_shaped events) _ (sym (list_all-append is_shaped events more) ∙ h.shaped)).0;
+  small = (and_parts (list_all is_small events) _ (sym (list_all-append is_small events more) ∙ h.small)).0;
   calls = omega (arith, h.calls, sum_by-append (λ x. cond (is_invocation x) 1 0) events more);
   well_formed = λ p. takes_turns-front false (events_of p events) (events_of p more)
       (subst (λ (own : List Event). takes_turns false own ≡ true) (filter-append (λ e. process_of e == p) events more) (h.well_formed p));

@@ -17,4 +17,4 @@ mod subject;
 pub use fault::{CloseFault, RecorderFault};
 pub use pass::Pass;
 pub use recorders::Recorder;
-pub use subject::{Subject, pair_count};
+pub use subject::Subject;

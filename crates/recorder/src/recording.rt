@@ -12,7 +12,6 @@ ghost use Rattle.recorder.specs.Recorders.{source, IsPassOf};
 use crate::fault::RecorderFault;
 use crate::pass::Pass;
 use crate::recorders::Recorder;
-use crate::subject::pair_count;
 use events::{Call, Event, MAX_PAIRS, Reply};
 
 impl Recorder {
@@ -50,7 +49,7 @@ impl Recorder {
         if !pass.has_open {
             return Err(RecorderFault::OutOfTurn);
         }
-        if pair_count(&reply) > MAX_PAIRS {
+        if reply.pair_count() > MAX_PAIRS {
             return Err(RecorderFault::TooMany);
         }
         let process = pass.process;

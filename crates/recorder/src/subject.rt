@@ -19,13 +19,3 @@ pub trait Subject {
         ensures short { pair_count result ≤ pair_limit }
         ensures answer { may_answer self.now call.now result };
 }
-
-/// How many pairs a reply lists.
-pub fn pair_count(reply: &Reply) -> usize
-    ensures { result ≡ pair_count reply.now }
-{
-    match reply {
-        Reply::Pairs(pairs) => pairs.as_slice().len(),
-        _ => 0,
-    }
-}

@@ -1,8 +1,7 @@
 -- How many values stand in an array that spells an item, or numbers of rows.
-use Rattle.std.proofs.Common.{◌≡◌, ℕ, ◌+◌, ◌≤◌, sum, true, subst, List, [], ◌∷◌, length, map, codes, sym, ap, ◌∙◌, arith}
+use Rattle.std.proofs.Common.{◌≡◌, ℕ, ◌+◌, ◌≤◌, sum, true, subst, List, [], ◌∷◌, length, map, codes, sym, ◌∙◌, arith}
 use Rattle.std.specs.Prelude.{All, IsTrue}
 use Rattle.std.specs.List.{list_all}
-use Rattle.std.proofs.lemmas.List.{length-map}
 use Rattle.std.proofs.lemmas.List.Folds.{list_all-map}
 use Rattle.std.proofs.lemmas.List.Sums.{AllPass-from_list_all, list_all-from_AllPass}
 use Rattle.serde_json.specs.Data.{Data, string, Members, member, object}
@@ -18,16 +17,12 @@ use Rattle.plan_text.specs.Scripts.{scripts_data}
 use Rattle.plan_text.proofs.PlanTextLemmas.{scripts_data_injective}
 use Rattle.art_core.specs.Starts.{inserts}
 use Rattle.history_text.specs.Texts.{number_data, list_data, pair_data}
-use Rattle.history_text.proofs.DataLemmas.{list_data_injective}
+use Rattle.history_text.proofs.DataLemmas.{list_data_injective, length_as}
 use Rattle.history_text.proofs.TextLemmas.{pairs_injective}
 use Rattle.art_rows.specs.declared.table.Shape.{Shape}
 use Rattle.art_core.specs.declared.item.Item.{Item}
 use Rattle.art_core.specs.declared.item.Item.TheVariants.{Turns, End, Until}
 use Rattle.replay_text.specs.ReplayTexts.{point_name, item_data, rows_data}
-
--- equal lists are equally long
-length_as : (vs : List Value) (ds : List Data) → list_data (map view vs) ≡ list_data ds → length vs ≡ length ds
-length_as vs ds h = sym (length-map vs view) ∙ ap length (list_data_injective (map view vs) ds h)
 
 -- a value that spells an item has two items or three
 pub length_of_item : (vs : List Value) (i : Item) → list_data (map view vs) ≡ item_data i → (2 ≤ length vs) × (length vs ≤ 3)

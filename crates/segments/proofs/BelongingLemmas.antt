@@ -1,5 +1,5 @@
 -- The calls of a history that belong to a segment, found one after another.
-use Rattle.std.proofs.Common.{◌≡◌, ℕ, ◌+◌, ◌<◌, true, false, List, [], ◌∷◌, ◌++◌, length, get_or, Option, Some, None, refl, sym, subst}
+use Rattle.std.proofs.Common.{◌≡◌, ℕ, ◌+◌, ◌<◌, true, false, List, [], ◌∷◌, ◌++◌, length, get_or, Some, sym, subst}
 use Rattle.std.proofs.Common.{⊎_elim, arith}
 use Rattle.std.specs.Prelude.{◌↔◌, ◌⊎◌, slice_get, IsTrue, IsSomeAnd, AllPairs, Contains}
 use Rattle.std.proofs.lemmas.Bool.{both_ways}
@@ -9,20 +9,17 @@ use Rattle.std.proofs.lemmas.Option.{slice_get_within}
 use Rattle.events.specs.declared.operation.Operation.{Operation}
 use Rattle.events.specs.Precedence.{belongs}
 use Rattle.segments.specs.Cuts.{BelongsAt}
+use Rattle.list_laws.proofs.NumberLemmas.{some_at}
 
 -- the numbers of the calls below a place that belong, by rising number
 pub record BelongBelow (calls : List Operation) (place : ℕ) (numbers : List ℕ) : Type 0 where
   pub rising : AllPairs (λ m n. m < n) numbers
   pub members : (n : ℕ) → Contains numbers n ↔ ((n < place) × BelongsAt calls n)
 
-some_of : {X : Type 0} (o : Option X) (P : X → Type 0) → IsSomeAnd o P → (x : X) × (o ≡ Some x) × P x
-some_of None P h = absurd h
-some_of (Some x) P h = (x, refl, h)
-
 -- a call that belongs to a segment, by its number
 pub call_of-BelongsAt : (calls : List Operation) (n : ℕ) → BelongsAt calls n → (a : Operation) × (slice_get calls n ≡ Some a)
     × (belongs a ≡ true)
-call_of-BelongsAt calls n h = some_of (slice_get calls n) (λ a. IsTrue (belongs a)) h
+call_of-BelongsAt calls n h = some_at (slice_get calls n) (λ a. IsTrue (belongs a)) h
 
 -- a call that belongs has a number below the count of calls
 pub BelongsAt-below : (calls : List Operation) (n : ℕ) → BelongsAt calls n → n < length calls

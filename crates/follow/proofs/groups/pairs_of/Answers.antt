@@ -2,7 +2,7 @@ use Rattle.std.proofs.Common.{drop, nat_lt, nat_le, sym, ap, ◌∙◌, subst, r
 use Rattle.std.proofs.lemmas.List.{take_rest}
 use Rattle.std.proofs.lemmas.List.Sorted.{IsPartitionPoint-from_clause, IsPartitionedBy-leb, IsPartitionedBy-ltb}
 use Rattle.map_object.specs.MapObject.{Contents, IsRising, within}
-use Rattle.follow.proofs.PairRangeLemmas.{range_is, keys_rise, keys_rise_from}
+use Rattle.map_object.proofs.RangeLemmas.{range_is, keys_rise, keys_rise_from}
 use Rattle.follow.proofs.groups.pairs_of.Goals as goal
 
 -- the closures compare a pair's key with the ends of the range
