@@ -3,15 +3,16 @@
 
     benchmarks/run.py [check|judge|search|segments|workers|follow|generate|replay|record|drive]..
 
-A history for `check` is made by one sorted map that processes call in turn, so that the calls by number are an
-order of it. In one for `judge` and `segments` the calls overlap, and each has its effect at some moment while it is
-open. One for `search` is one segment without order: some pairs are held, some calls overlap, and then one key is seen
-with what nobody put there. One for `workers` has segments that are equal but for their keys, of many configurations and
-without order. A stream for `follow` is of processes that each begin a call as soon as their last one is answered; it is followed
-from a file, with its calls a second of a processor in place of its bytes. `generate` makes plans, and `replay` runs generated plans on both full trees, each call to its end or some turns
-at a time, and one call that waits for a lock as long as a machine may live. `record` has threads note calls and answers at
-recorders, beside as many threads that add to one shared word as often; `drive` has them do a plan on each full tree, beside additions
-to one word: `crates/rates` does each, and the time of the same threads with nothing to do is taken off.
+A history for `check` is made by one sorted map that processes call in turn, so that the calls by number are an order of
+it. In one for `judge` and `segments` the calls overlap, and each has its effect at some moment while it is open. One
+for `search` is one segment without order: some pairs are held, some calls overlap, and then one key is seen with what
+nobody put there. One for `workers` has segments that are equal but for their keys, of many configurations and without
+order. A stream for `follow` is of processes that each begin a call as soon as their last one is answered; it is
+followed from a file, with its calls a second of a processor in place of its bytes. `generate` makes plans, and `replay`
+runs generated plans on both full trees, each call to its end or some turns at a time, and one call that waits for a
+lock as long as a machine may live. `record` has threads note calls and answers at recorders, beside as many threads
+that add to one shared word as often; `drive` has them do a plan on each full tree, beside additions to one word:
+`crates/rates` does each, and the time of the same threads with nothing to do is taken off.
 """
 
 import itertools

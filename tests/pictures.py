@@ -49,8 +49,11 @@ def titles(history):
             calls.append([process, number, called(event), None, None])
         else:
             calls[open_calls.pop(process)][3:] = [number, answered(event["answer"])]
-    return [f"call {call} of process {process}, event {inv} " + (f"on, pending: {words}" if res is None else f"to event {res}: {words}: {reply}")
-            for call, (process, inv, words, res, reply) in enumerate(calls)]
+    return [
+        f"call {call} of process {process}, event {inv} "
+        + (f"on, pending: {words}" if res is None else f"to event {res}: {words}: {reply}")
+        for call, (process, inv, words, res, reply) in enumerate(calls)
+    ]
 
 
 def groups_of(picture):
@@ -150,7 +153,8 @@ def fault_of_part(text, words, around, calls):
     if lanes_in(groups) != lanes:
         return "lanes that are not those of the processes that act in the window"
     said = [element.text for element in xml.etree.ElementTree.fromstring(picture).findall(NAMESPACE + "text")]
-    if not all(any(line.startswith(note) for line in said) for note in notes) or sum("more columns" in line for line in said) != len(notes) - 1:
+    more = sum("more columns" in line for line in said)
+    if not all(any(line.startswith(note) for line in said) for note in notes) or more != len(notes) - 1:
         return f"{said} is said, where {notes} should be"
     return None
 

@@ -1,7 +1,7 @@
 -- The history of an arena that closes after all processes did their scripts.
 use Rattle.std.proofs.Common.{◌≡◌, ℕ, ◌^◌, ◌<◌, ◌⊎◌, inl, inr, ⊎_elim, false, List, [], ◌∷◌, ◌++◌, length, map, Some, refl, sym, ap, ◌∙◌}
-use Rattle.std.proofs.Common.{arith}
-use Rattle.std.specs.Prelude.{All, filter_map, slice_get, slice_index_or}
+use Rattle.std.proofs.Common.{arith, subst}
+use Rattle.std.specs.Prelude.{All, EachIndex, filter_map, slice_get, slice_index_or}
 use Rattle.std.specs.List.{range_with_len}
 use Rattle.std.proofs.lemmas.List.{get_or-map, length-map}
 use Rattle.std.proofs.lemmas.List.FromFn.{get_or-range_with_len, length-range_with_len}
@@ -68,10 +68,11 @@ numbered-at xs n k d numbers within =
     let same = ap (λ l. slice_index_or l k 0) numbers in
     omega (arith, here, same, there)
 
-module _ (shape : Shape) (variant : Variant) (limit : ℕ) (scripts : List (List Call)) (v : View) (history : HistoryView)
+module _ (WasPassed : ℕ → Type 0) (shape : Shape) (variant : Variant) (limit : ℕ) (scripts : List (List Call)) (v : View)
+    (history : HistoryView)
     (gives : IsHistoryOf (setup_with shape variant (length scripts) (longest scripts)) v history)
     (own : HasOwnEvents (setup_with shape variant (length scripts) (longest scripts)) v history.events)
-    (done : All (HasDoneOwn (setup_with shape variant (length scripts) (longest scripts)) limit scripts) v.processes)
+    (done : All (HasDoneOwn WasPassed (setup_with shape variant (length scripts) (longest scripts)) limit scripts) v.processes)
     (small : limit < 2 ^ 32)
     (order : IsLinearizableIn (setup_with shape variant (length scripts) (longest scripts)) v history) where
   many : length v.processes ≡ length scripts
@@ -84,7 +85,7 @@ module _ (shape : Shape) (variant : Variant) (limit : ℕ) (scripts : List (List
   did : (k : ℕ) (d : Numbered) (script : List Call) → k < length v.processes → slice_get scripts k ≡ Some script
       → HasDone (setup_with shape variant (length scripts) (longest scripts)) (slice_index_or v.processes k d).0 limit script
       (slice_index_or v.processes k d).1
-  did k d script within at = done k d within script (ap (slice_get scripts) (number k d within) ∙ at)
+  did k d script within at = (done k d within).did script (ap (slice_get scripts) (number k d within) ∙ at)
 
   ended : (p : ℕ) (script : List Call) → slice_get scripts p ≡ Some script → HasFinished history.events p script
       ⊎ HasStopped history.events p script
@@ -100,6 +101,12 @@ module _ (shape : Shape) (variant : Variant) (limit : ℕ) (scripts : List (List
   limited k d within =
       let script = slice_get-below scripts k (omega (arith, many, within)) in
       (did k d script.0 within script.1).limited
+
+  -- each passed the gate
+  pub passed : EachIndex scripts WasPassed
+  passed p within =
+      let here : p < length v.processes = omega (arith, many, within) in
+      subst WasPassed (number p (0, idle) here) (done p (0, idle) here).passed
 
   -- so the history is one of a drive
   pub drive-of : IsArenaDriveOf shape variant limit scripts history

@@ -24,14 +24,14 @@ module _ (P : Numbered → Type 0) where
   all-merge xs [] h k = h
   all-merge xs (y ∷ ys) h k = all-placed y (merge xs ys) (All-head P y ys k) (all-merge xs ys h (All-tail P y ys k))
 
-module _ (a : Arena) (limit : ℕ) (scripts : List (List Call)) where
+module _ (WasPassed : ℕ → Type 0) (a : Arena) (limit : ℕ) (scripts : List (List Call)) where
   abbrev After : Result Pass Memory → Type 0
-  After d = IfOk d (IsPassAfter a limit scripts)
+  After d = IfOk d (IsPassAfter WasPassed a limit scripts)
 
   abbrev Own : Numbered → Type 0
-  Own = HasDoneOwn (opened_for a) limit scripts
+  Own = HasDoneOwn WasPassed (opened_for a) limit scripts
 
-  own-pass : (p : Pass) → IsPassAfter a limit scripts p → All Own (shows p).processes
+  own-pass : (p : Pass) → IsPassAfter WasPassed a limit scripts p → All Own (shows p).processes
   own-pass p h = subst (All Own) (sym h.is) (All-cons Own h.process [] h.done (All-nil Own))
 
   -- each of them did its script, and there are as many as passes

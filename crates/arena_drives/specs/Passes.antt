@@ -49,17 +49,18 @@ pub record ShowsDone (setup : Setup) (number limit : ℕ) (script : List Call) (
   pub is : v.processes ≡ (number, process) ∷ []
   pub done : HasDone setup number limit script process
 
--- a process did its own of the scripts
-abbrev pub HasDoneOwn : Setup → ℕ → List (List Call) → Numbered → Type 0
-HasDoneOwn setup limit scripts x = (script : List Call) → slice_get scripts x.0 ≡ Some script → HasDone setup x.0 limit script x.1
+-- a process passed the gate, and then did its own of the scripts
+pub record HasDoneOwn (WasPassed : ℕ → Type 0) (setup : Setup) (limit : ℕ) (scripts : List (List Call)) (x : Numbered) : Type 0 where
+  pub passed : WasPassed x.0
+  pub did : (script : List Call) → slice_get scripts x.0 ≡ Some script → HasDone setup x.0 limit script x.1
 
 -- the pass of one process, which did its own of the scripts
-pub record IsPassAfter (a : Arena) (limit : ℕ) (scripts : List (List Call)) (p : Pass) : Type 0 where
+pub record IsPassAfter (WasPassed : ℕ → Type 0) (a : Arena) (limit : ℕ) (scripts : List (List Call)) (p : Pass) : Type 0 where
   pub own : IsPassOf a p
   pub process : Numbered
   pub is : (shows p).processes ≡ process ∷ []
   pub known : process.0 < length scripts
-  pub done : HasDoneOwn (opened_for a) limit scripts process
+  pub done : HasDoneOwn WasPassed (opened_for a) limit scripts process
 
 -- the processes of some passes, and then those of others, each at its place; none where a process wanted memory
 abbrev pub gathered : List Numbered → List (Result Pass Memory) → Option (List Numbered)

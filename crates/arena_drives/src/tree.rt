@@ -1,5 +1,5 @@
 // A plan is driven on one tree.
-ghost use Rattle.std.specs.Prelude.{◌≡◌, ◌≤◌, map, length, vec_len, All, IfOk};
+ghost use Rattle.std.specs.Prelude.{◌≡◌, ◌≤◌, map, length, vec_len, All, EachIndex, IfOk, OnOk};
 ghost use Rattle.art_rows.specs.Table.{IsWithinLimits};
 ghost use Rattle.drives.specs.Drives.{IsDrivable};
 ghost use Rattle.running.specs.Passes.{opened_for};
@@ -34,7 +34,8 @@ pub fn drive_arena<R: Threads + Sync, G: Gate + Sync>(
 ) -> Result<History, Memory>
     requires plan { IsDrivable plan.now }
     requires shape { IsWithinLimits shape }
-    ensures { IfOk result (λ h. IsArenaDriveOf shape variant limit plan.now h) }
+    ensures drive { IfOk result (λ h. IsArenaDriveOf shape variant limit plan.now h) }
+    ensures passed { OnOk result (EachIndex plan.now (G.was_passed gate.now)) }
 {
     let scripts = plan.scripts();
     let processes = scripts.len() as u8;
@@ -63,7 +64,7 @@ fn do_scripts<R: Threads + Sync, G: Gate + Sync>(
     requires processes { (opened_for arena.now).processes ≡ length scripts.now }
     requires room { All (λ script. vec_len script ≤ (opened_for arena.now).calls_each) scripts.now }
     ensures many { IfOk result (λ done. vec_len done ≡ vec_len passes) }
-    ensures done { IfOk result (λ done. All (λ d. IfOk d (IsPassAfter arena.now limit
+    ensures done { IfOk result (λ done. All (λ d. IfOk d (IsPassAfter (G.was_passed gate.now) arena.now limit
         (map (λ script. script.items) scripts.now))) done.items) }
 {
     thread::map_vec(
@@ -85,7 +86,7 @@ fn do_own_script<G: Gate>(
     requires ready { IsReady arena.now pass }
     requires processes { (opened_for arena.now).processes ≡ length scripts.now }
     requires room { All (λ script. vec_len script ≤ (opened_for arena.now).calls_each) scripts.now }
-    ensures { IfOk result (IsPassAfter arena.now limit (map (λ script. script.items) scripts.now)) }
+    ensures { IfOk result (IsPassAfter (G.was_passed gate.now) arena.now limit (map (λ script. script.items) scripts.now)) }
 {
     let process = usize::from(pass.process());
     do_script(alloc, arena, enter(gate, pass), &scripts[process], limit)

@@ -1,10 +1,10 @@
 -- What stands in a text, worked out step by step.
-use Rattle.std.proofs.Common.{◌≡◌, ℕ, ◌+◌, ◌-◌, ◌++◌, List, Option, Some, length, codes, refl}
+use Rattle.std.proofs.Common.{◌≡◌, ℕ, ◌+◌, ◌-◌, ◌++◌, Bool, List, Some, length, codes, refl}
 use Rattle.pictures.specs.declared.bars.Bar.{Bar}
 use Rattle.pictures.specs.declared.marks.Mark.{Mark}
 use Rattle.pictures.specs.declared.pictures_of.Part.{Part}
 use Rattle.pictures.specs.declared.pictures_of.Picture.{Picture}
-use Rattle.picture_text.specs.Frame.{with_legend}
+use Rattle.picture_text.specs.Frame.{has_wrong, with_legend}
 use Rattle.picture_text.specs.Layout.{x_of, y_of, column_width, screens_before, width_of}
 use Rattle.picture_text.specs.Parts.{with_before, with_behind, with_counts, with_part, with_part_of, with_screens}
 use Rattle.picture_text.specs.Svg.{top_text, with_bars, with_lanes, with_marks, IsSvgOf}
@@ -20,13 +20,13 @@ part-whole text before behind counts width bottom end many picture part is m b e
 
 -- the whole text
 pub svg-whole : (style top lanes bars names marks legend whole text : List ℕ) (width all end screens many y : ℕ) (picture : Picture)
-    (first second : List ℕ) (each : List Bar) (places : List Mark) → width ≡ column_width picture.columns picture.bars.items
+    (first second : List ℕ) (each others : List Bar) (places : List Mark) (red : Bool) → width ≡ column_width picture.columns picture.bars.items
     → all ≡ width_of width picture.columns → top ≡ top_text style all picture → end ≡ all - 16 → first ≡ picture.lanes.items
     → lanes ≡ with_lanes top end 0 first → each ≡ picture.bars.items → bars ≡ with_bars lanes width picture.columns each
     → screens ≡ screens_before width picture.columns → second ≡ picture.lanes.items → names ≡ with_screens bars width second 0 screens
     → places ≡ picture.marks.items → marks ≡ with_marks names width places → many ≡ length picture.lanes.items → y ≡ y_of many
-    → legend ≡ with_legend marks (y + 20) picture.heading → whole ≡ with_part legend width picture → text ≡ whole ++ codes "</svg>"
+    → others ≡ picture.bars.items → red ≡ has_wrong others → legend ≡ with_legend marks (y + 20) picture.heading red → whole ≡ with_part legend width picture → text ≡ whole ++ codes "</svg>"
     → IsSvgOf style picture text
-svg-whole style top lanes bars names marks legend whole text width all end screens many y picture first second each places
-    w a t e f ls ea bs sc se ns pl ms m y_is lg wh tx =
-    rw (tx, wh, lg, y_is, m, ms, pl, ns, se, sc, bs, ea, ls, f, e, t, a, w) refl
+svg-whole style top lanes bars names marks legend whole text width all end screens many y picture first second each others places red
+    w a t e f ls ea bs sc se ns pl ms m y_is ot re lg wh tx =
+    rw (tx, wh, lg, re, ot, y_is, m, ms, pl, ns, se, sc, bs, ea, ls, f, e, t, a, w) refl

@@ -1,5 +1,7 @@
 -- What stands around the bars of a text.
-use Rattle.std.specs.Prelude.{ℕ, ◌+◌, List, [], ◌∷◌, ◌++◌, codes, decimal}
+use Rattle.std.specs.Prelude.{ℕ, ◌+◌, Bool, true, false, List, [], ◌∷◌, ◌++◌, codes, decimal}
+use Rattle.std.specs.List.{list_any}
+use Rattle.pictures.specs.declared.bars.Bar.{Bar}
 use Rattle.pictures.specs.declared.pictures_of.Heading.{Heading}
 use Rattle.pictures.specs.declared.pictures_of.Heading.TheVariants.{Order, NoOrder, Undecided}
 use Rattle.pictures.specs.Words.{pairs_words}
@@ -41,14 +43,19 @@ name_text y process = codes "<text x='16' y='" ++ (decimal y ++ (codes "'>proces
 unfoldable pub with_lane : List ℕ → ℕ → ℕ → ℕ → List ℕ
 with_lane text end lane process = text ++ ground_text end (y_of lane + 1) ++ name_text (y_of lane + 32) process
 
--- what a circle and a red bar mean
-abbrev pub marks_text : Heading → List ℕ
-marks_text Order = codes "in a circle stands its place in the order."
-marks_text (NoOrder lo hi) = codes "circles show how far an order gets, red where it goes wrong."
-marks_text (Undecided lo hi) = codes "circles show how far an order got within the budget."
+-- a bar is drawn as the one at which the history goes wrong
+abbrev pub has_wrong : List Bar → Bool
+has_wrong bars = list_any (λ bar. bar.is_wrong) bars
+
+-- what a circle means, and a red bar where there is one
+abbrev pub marks_text : Heading → Bool → List ℕ
+marks_text Order red = codes "in a circle stands its place in the order."
+marks_text (NoOrder lo hi) true = codes "circles show how far an order gets, red where it goes wrong."
+marks_text (NoOrder lo hi) false = codes "circles show how far an order gets."
+marks_text (Undecided lo hi) red = codes "circles show how far an order got within the budget."
 
 -- what the shapes mean, below the lanes
-abbrev pub with_legend : List ℕ → ℕ → Heading → List ℕ
-with_legend text y heading =
-    text ++ (codes "<text class='note' x='16' y='" ++ (decimal y ++ codes "'>A bar is a call, from its invocation to its answer; ")) ++ marks_text heading
-    ++ (codes "</text>" ++ 10 ∷ [])
+abbrev pub with_legend : List ℕ → ℕ → Heading → Bool → List ℕ
+with_legend text y heading red =
+    text ++ (codes "<text class='note' x='16' y='" ++ (decimal y ++ codes "'>A bar is a call, from its invocation to its answer; "))
+    ++ marks_text heading red ++ (codes "</text>" ++ 10 ∷ [])

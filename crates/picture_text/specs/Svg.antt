@@ -5,7 +5,7 @@ use Rattle.pictures.specs.declared.marks.Mark.{Mark}
 use Rattle.pictures.specs.declared.pictures_of.Picture.{Picture}
 use Rattle.picture_text.specs.Bars.{with_bar}
 use Rattle.picture_text.specs.Marks.{with_mark}
-use Rattle.picture_text.specs.Frame.{head_text, with_heading, with_start, with_lane, with_legend}
+use Rattle.picture_text.specs.Frame.{head_text, with_heading, with_start, with_lane, has_wrong, with_legend}
 use Rattle.picture_text.specs.Layout.{y_of, width_of, height_of, screens_before, column_width}
 use Rattle.picture_text.specs.Parts.{with_screens, with_part}
 
@@ -36,7 +36,8 @@ svg_text style width picture =
     let lanes = with_lanes (top_text style all picture) (all - 16) 0 picture.lanes.items in
     let bars = with_bars lanes width picture.columns picture.bars.items in
     let names = with_screens bars width picture.lanes.items 0 (screens_before width picture.columns) in
-    let legend = with_legend (with_marks names width picture.marks.items) (y_of (length picture.lanes.items) + 20) picture.heading in
+    let legend = with_legend (with_marks names width picture.marks.items) (y_of (length picture.lanes.items) + 20) picture.heading
+    (has_wrong picture.bars.items) in
     with_part legend width picture ++ codes "</svg>"
 
 -- the text of a picture: at the width of a column at which its words have room

@@ -1,11 +1,11 @@
 // What stands around the bars of a text: its head, the words at its top, and its lanes.
 ghost use Rattle.std.specs.Prelude.{◌≡◌, ◌++◌, OnOk, string_bytes};
-ghost use Rattle.picture_text.specs.Frame.{head_text, with_heading, with_start, ground_text, name_text, with_lane, marks_text, with_legend};
+ghost use Rattle.picture_text.specs.Frame.{head_text, with_heading, with_start, ground_text, name_text, with_lane, has_wrong, marks_text, with_legend};
 
 use crate::content::push_shown;
 use crate::layout::y_of;
 use events::Memory;
-use pictures::{Heading, pairs_words};
+use pictures::{Bar, Heading, pairs_words};
 use std::alloc::Global;
 
 /// Adds the head of a text of this size.
@@ -80,26 +80,35 @@ fn push_name(out: &mut String, y: u128, process: u8) -> Result<(), Memory>
     Ok(())
 }
 
-/// Adds what the shapes of a text mean.
-pub fn push_legend(out: &mut String, y: u128, heading: &Heading) -> Result<(), Memory>
-    ensures { OnOk result (string_bytes out.new ≡ with_legend (string_bytes out.old) y heading.now) }
+/// Whether a bar is drawn as the one at which the history goes wrong.
+pub fn has_wrong(bars: &[Bar]) -> bool
+    ensures { result ≡ has_wrong bars.now }
+{
+    bars.iter().any(|bar| bar.is_wrong)
+}
+
+/// Adds what the shapes of a text mean, where a bar is red or none is.
+pub fn push_legend(out: &mut String, y: u128, heading: &Heading, red: bool) -> Result<(), Memory>
+    ensures { OnOk result (string_bytes out.new ≡ with_legend (string_bytes out.old) y heading.now red) }
 {
     write!(
         out,
         "<text class='note' x='16' y='{y}'>A bar is a call, from its invocation to its answer; "
     )?;
-    out.push_str(marks_text(heading))?;
+    out.push_str(marks_text(heading, red))?;
     out.push_str("</text>\n")?;
     Ok(())
 }
 
-/// What a circle and a red bar mean.
-fn marks_text(heading: &Heading) -> &'static str
-    ensures { result.now ≡ marks_text heading.now }
+/// What a circle means, and a red bar where there is one.
+fn marks_text(heading: &Heading, red: bool) -> &'static str
+    ensures { result.now ≡ marks_text heading.now red }
 {
-    match heading {
-        Heading::Order => "in a circle stands its place in the order.",
-        Heading::NoOrder { .. } => "circles show how far an order gets, red where it goes wrong.",
-        Heading::Undecided { .. } => "circles show how far an order got within the budget.",
+    match (heading, red) {
+        (Heading::Order, _) => "in a circle stands its place in the order.",
+        (Heading::NoOrder { .. }, true) =>
+            "circles show how far an order gets, red where it goes wrong.",
+        (Heading::NoOrder { .. }, false) => "circles show how far an order gets.",
+        (Heading::Undecided { .. }, _) => "circles show how far an order got within the budget.",
     }
 }

@@ -3,7 +3,7 @@ ghost use Rattle.std.specs.Prelude.{◌≡◌, ◌++◌, IfOk, OnOk, string_byte
 ghost use Rattle.picture_text.specs.Svg.{top_text, with_bars, with_marks, with_lanes, IsSvgOf};
 
 use crate::bar_text::push_bar;
-use crate::frame::{push_head, push_heading, push_lane, push_legend, push_start};
+use crate::frame::{has_wrong, push_head, push_heading, push_lane, push_legend, push_start};
 use crate::layout::{column_width, height_of, screens_before, width_of, y_of};
 use crate::mark_text::push_mark;
 use crate::part_text::{push_part, push_screens};
@@ -40,7 +40,12 @@ pub fn svg(alloc: Global, picture: &Picture) -> Result<String, Memory>
         &picture.lanes,
     )?;
     push_marks(&mut text, width, &picture.marks)?;
-    push_legend(&mut text, y_of(picture.lanes.len()) + 20, &picture.heading)?;
+    push_legend(
+        &mut text,
+        y_of(picture.lanes.len()) + 20,
+        &picture.heading,
+        has_wrong(&picture.bars),
+    )?;
     push_part(&mut text, width, picture)?;
     text.push_str("</svg>")?;
     Ok(text)
