@@ -31,7 +31,7 @@ use Rattle.art_scan.specs.Scans.{scan_of, low_of, high_of}
 use Rattle.art.specs.declared.task.Going.{Going}
 use Rattle.art.specs.declared.task.Going.TheVariants.{OnKey as KeyIs, OnScan as ScanIs}
 use Rattle.art.specs.declared.key_call.KeyCall.{KeyCall}
-use Rattle.art.specs.Going.{at_of, keys_between, scanned_in, IsReached}
+use Rattle.art.specs.Going.{at_of, keys_between, scanned_in, WordsLeadTo}
 
 -- the call by what it scans
 
@@ -140,9 +140,9 @@ access_asks : (t : Turn) (a : Access) → access_of t ≡ Some a → is_some (re
 access_asks t a e = ap (λ t. is_some (reply_of t)) (asks-of t a e).1
 
 pub in_table : (c : Setting) (at : CallAt) (a : Access) → 1 ≤ c.shape.rows256
-    → (is_some (reply_of (rest_at c at [])) ≡ false → ∥ IsReached c at ∥₁)
+    → (is_some (reply_of (rest_at c at [])) ≡ false → ∥ WordsLeadTo c at ∥₁)
     → access_of (rest_at c at []) ≡ Some a → word_of a < table_words c.shape
-in_table c at a root reached asks = ∥∥₁_elim (reached (access_asks (rest_at c at []) a asks)) (Prim.hlevel props) λ (x : IsReached c at).
+in_table c at a root reached asks = ∥∥₁_elim (reached (access_asks (rest_at c at []) a asks)) (Prim.hlevel props) λ (x : WordsLeadTo c at).
     let found = asks-of (rest_at c at []) a asks in
     (act-stays c.shape c.variant c.call root (x.0 ++ []) a found.0 (sym (x.1 []) ∙ found.1)).1
 
@@ -161,11 +161,11 @@ fits_more : (c : Setting) (got : List ℕ) (w : ℕ) (rest rest' : Rest) → Fit
 fits_more c got w rest rest' fits goes =
     λ more. goes more ∙ (fits (w ∷ more) ∙ ap (act c.shape c.variant c.call) (sym (append_assoc got (w ∷ []) more)))
 
-reached_more : (c : Setting) (at next : CallAt) (w : ℕ) → ∥ IsReached c at ∥₁
-    → ((more : List ℕ) → rest_at c next more ≡ rest_at c at (w ∷ more)) → ∥ IsReached c next ∥₁
+reached_more : (c : Setting) (at next : CallAt) (w : ℕ) → ∥ WordsLeadTo c at ∥₁
+    → ((more : List ℕ) → rest_at c next more ≡ rest_at c at (w ∷ more)) → ∥ WordsLeadTo c next ∥₁
 reached_more c at next w reached goes =
     ∥∥₁_map reached
-    (λ (x : IsReached c at). (x.0 ++ w ∷ [], fits_more c x.0 w (rest_at c at) (rest_at c next) x.1 goes))
+    (λ (x : WordsLeadTo c at). (x.0 ++ w ∷ [], fits_more c x.0 w (rest_at c at) (rest_at c next) x.1 goes))
 
 module _ (c : Setting) (going : Going) (k after : KeyCall) (w : ℕ) (result : Option Reply) (is : going ≡ KeyIs k)
     (keys : keys_between c.call ≡ scanned_in going) (next : after.stage ≡ stage_after c k.stage w)
@@ -183,8 +183,8 @@ module _ (c : Setting) (going : Going) (k after : KeyCall) (w : ℕ) (result : O
   key_keys = keys ∙ ap scanned_in is
 
   pub key_reached : reply_of (rest_at c (at_of going) []) ≡ None
-      → (is_some (reply_of (rest_at c (at_of going) [])) ≡ false → ∥ IsReached c (at_of going) ∥₁)
-      → is_some (reply_of (rest_at c (at_of (KeyIs after)) [])) ≡ false → ∥ IsReached c (at_of (KeyIs after)) ∥₁
+      → (is_some (reply_of (rest_at c (at_of going) [])) ≡ false → ∥ WordsLeadTo c (at_of going) ∥₁)
+      → is_some (reply_of (rest_at c (at_of (KeyIs after)) [])) ≡ false → ∥ WordsLeadTo c (at_of (KeyIs after)) ∥₁
   key_reached asked reached h = reached_more c (at_of going) (at_of (KeyIs after)) w (reached (ap is_some asked)) key_fits
 
 module _ (c : Setting) (going : Going) (s after : Scanning) (is : going ≡ ScanIs s) (keys : keys_between c.call ≡ scanned_in going)
@@ -196,9 +196,9 @@ module _ (c : Setting) (going : Going) (s after : Scanning) (is : going ≡ Scan
   scan_same e = at_scan (low_of after) (low_of s) (high_of after) (high_of s) (scan_of after) (scan_of s) low high e ∙ ap at_of (sym is)
 
   pub scan_still_reached : scan_of after ≡ scan_of s
-      → (is_some (reply_of (rest_at c (at_of going) [])) ≡ false → ∥ IsReached c (at_of going) ∥₁)
-      → is_some (reply_of (rest_at c (at_of (ScanIs after)) [])) ≡ false → ∥ IsReached c (at_of (ScanIs after)) ∥₁
-  scan_still_reached e reached = subst (λ at. is_some (reply_of (rest_at c at [])) ≡ false → ∥ IsReached c at ∥₁)
+      → (is_some (reply_of (rest_at c (at_of going) [])) ≡ false → ∥ WordsLeadTo c (at_of going) ∥₁)
+      → is_some (reply_of (rest_at c (at_of (ScanIs after)) [])) ≡ false → ∥ WordsLeadTo c (at_of (ScanIs after)) ∥₁
+  scan_still_reached e reached = subst (λ at. is_some (reply_of (rest_at c at [])) ≡ false → ∥ WordsLeadTo c at ∥₁)
       (sym (scan_same e)) reached
 
   module _ (w : ℕ) (result : Option Reply)
@@ -226,8 +226,8 @@ module _ (c : Setting) (going : Going) (s after : Scanning) (is : going ≡ Scan
     scan_over = ap (λ t. is_some (reply_of t)) (call_next c (at_of (ScanIs after))) ∙ over
 
     pub scan_reached : reply_of (rest_at c (at_of going) []) ≡ None
-        → (is_some (reply_of (rest_at c (at_of going) [])) ≡ false → ∥ IsReached c (at_of going) ∥₁)
-        → is_some (reply_of (rest_at c (at_of (ScanIs after)) [])) ≡ false → ∥ IsReached c (at_of (ScanIs after)) ∥₁
+        → (is_some (reply_of (rest_at c (at_of going) [])) ≡ false → ∥ WordsLeadTo c (at_of going) ∥₁)
+        → is_some (reply_of (rest_at c (at_of (ScanIs after)) [])) ≡ false → ∥ WordsLeadTo c (at_of (ScanIs after)) ∥₁
     scan_reached asked reached h =
         reached_more c (at_of going) (at_of (ScanIs after)) w (reached (ap is_some asked))
         (scan_fits (unanswered result (sym scan_over ∙ h)))

@@ -24,10 +24,10 @@ scanned_in (OnKey k) = None
 scanned_in (OnScan s) = Some (low_of s, high_of s)
 
 -- it has the room for what the next access gets
-abbrev pub HasRoomFor : Going → Type 0
-HasRoomFor (OnKey k) = ⊤
-HasRoomFor (OnScan s) = IsRoomy s
+abbrev pub HasRoomToGoOn : Going → Type 0
+HasRoomToGoOn (OnKey k) = ⊤
+HasRoomToGoOn (OnScan s) = IsRoomy s
 
 -- some list of words got leaves the call there
-abbrev pub IsReached : Setting → CallAt → Type 0
-IsReached c at = (got : List ℕ) × Fits c.shape c.variant c.call got (rest_at c at)
+abbrev pub WordsLeadTo : Setting → CallAt → Type 0
+WordsLeadTo c at = (got : List ℕ) × Fits c.shape c.variant c.call got (rest_at c at)

@@ -4,7 +4,7 @@ ghost use Rattle.art_steps.specs.Act.{act};
 ghost use Rattle.art_steps.specs.Steps.{access_of, reply_of};
 ghost use Rattle.art_stages.specs.Calls.{rest_at, call_begun};
 ghost use Rattle.art_setting.specs.Settings.{setting_of as call_setting};
-ghost use Rattle.art.specs.Going.{at_of, keys_between, scanned_in, IsReached};
+ghost use Rattle.art.specs.Going.{at_of, keys_between, scanned_in, WordsLeadTo};
 
 use crate::key_call::KeyCall;
 use art_rows::Shape;
@@ -28,7 +28,7 @@ pub struct Task {
     pub(crate) going: Going,
     ghost keys: { keys_between setting.call ≡ scanned_in going },
     ghost reached: { is_some (reply_of (rest_at (call_setting setting) (at_of going) [])) ≡ false
-        → ∥ IsReached (call_setting setting) (at_of going) ∥₁ },
+        → ∥ WordsLeadTo (call_setting setting) (at_of going) ∥₁ },
 }
 
 impl Task {

@@ -1,11 +1,13 @@
 -- The bytes of one index word, and bytes that are passed over.
 use Rattle.std.proofs.Common.{◌≡◌, ℕ, zero, suc, ◌+◌, ◌-◌, ◌*◌, ◌/◌, ◌<◌, ◌≤◌, List, [], ◌∷◌, ◌++◌, refl, ap, ◌∙◌, Bool, true, false, arith}
-use Rattle.std.proofs.lemmas.Bool.{eq-eqb, ne_eqb}
+use Rattle.std.proofs.Common.{sym, ⊎_elim}
+use Rattle.std.proofs.lemmas.Bool.{eq-eqb, ne_eqb, cases_lt}
 use Rattle.std.proofs.lemmas.List.{append-nil}
 use Rattle.std.proofs.lemmas.List.Elements.{filter-append}
 use Rattle.std.specs.Prelude.{if◌then◌else◌, filter, Option}
 use Rattle.art_steps.specs.Steps.{numbers}
 use Rattle.art_stages.specs.Scans.{ScanAt, in_word, slot_at, bytes_at}
+use Rattle.art_scan.specs.Walks.{has_any}
 
 pub zero_left : (m : ℕ) → 0 + m ≡ m
 zero_left m = omega arith
@@ -103,3 +105,35 @@ bytes_past test slot_of child x (suc n) other h =
     ap (λ b. if b then slot_at (slot_of x) (child (x + 1) n) (bytes_at test slot_of child (x + 1) n other)
     else bytes_at test slot_of child (x + 1) n other) (h x (omega arith))
     ∙ bytes_past test slot_of child (x + 1) n other (λ y a. h y (omega (arith, a)))
+
+-- bytes that are not met are passed over
+
+none_met : (p : ℕ → Bool) (x n : ℕ) → ((y : ℕ) → x ≤ y → y < x + n → p y ≡ false) → filter p (numbers x n) ≡ []
+none_met p x zero h = refl
+none_met p x (suc n) h =
+    ap (λ b. if b then x ∷ filter p (numbers (x + 1) n) else filter p (numbers (x + 1) n)) (h x (omega arith) (omega arith))
+    ∙ none_met p (x + 1) n (λ y a b. h y (omega (arith, a)) (omega (arith, b)))
+
+skip_met : (p : ℕ → Bool) (x d n : ℕ) → ((y : ℕ) → x ≤ y → y < x + d → p y ≡ false)
+    → filter p (numbers x (d + n)) ≡ filter p (numbers (x + d) n)
+skip_met p x d n h =
+    ap (filter p) (numbers_split x d n)
+    ∙ (filter-append p (numbers x d) (numbers (x + d) n) ∙ ap (λ ys. ys ++ filter p (numbers (x + d) n)) (none_met p x d h))
+
+first_met : (p : ℕ → Bool) (x n : ℕ) → p x ≡ true → has_any (filter p (numbers x (suc n))) ≡ true
+first_met p x n e = ap (λ b. has_any (if b then x ∷ filter p (numbers (x + 1) n) else filter p (numbers (x + 1) n))) e
+
+-- no byte is met where all are passed over, and else one is where the next is
+pub met_none : (p : ℕ → Bool) (x n d : ℕ) → n ≤ d → ((y : ℕ) → x ≤ y → y < x + d → p y ≡ false) → has_any (filter p (numbers x n)) ≡ false
+met_none p x n d all h = ap has_any (none_met p x n (λ y a b. h y a (omega (arith, b, all))))
+
+pub met_next : (p : ℕ → Bool) (x n d : ℕ) → d < n → ((y : ℕ) → x ≤ y → y < x + d → p y ≡ false)
+    → (p (x + d) ≡ false → (y : ℕ) → x + d ≤ y → p y ≡ false) → p (x + d) ≡ has_any (filter p (numbers x n))
+met_next p x n d less before behind = go (p (x + d)) refl
+  where
+    go : (b : Bool) → p (x + d) ≡ b → p (x + d) ≡ has_any (filter p (numbers x n))
+    go true e =
+        e ∙ sym (ap (λ m. has_any (filter p (numbers x m))) (omega (arith, less))
+        ∙ (ap has_any (skip_met p x d (suc (n - d - 1)) before) ∙ first_met p (x + d) (n - d - 1) e))
+    go false e =
+        e ∙ sym (ap has_any (none_met p x n (λ y a b. ⊎_elim (before y a) (behind e y) (cases_lt y (x + d)))))

@@ -1,6 +1,6 @@
 -- The next byte, index word or child of a scan, by what is met.
 use Rattle.std.proofs.Common.{◌≡◌, ℕ, zero, suc, ◌+◌, ◌-◌, ◌<◌, ◌≤◌, List, [], ◌∷◌, refl, ap, sym, ◌∙◌, Bool, true, false, arith}
-use Rattle.std.proofs.lemmas.Bool.{false≢true}
+use Rattle.std.proofs.lemmas.Bool.{false≢true, and_left}
 use Rattle.std.specs.Prelude.{if◌then◌else◌, Option, Some, None, filter}
 use Rattle.art_rows.specs.declared.table.Kind.{Kind}
 use Rattle.art_rows.specs.declared.table.Kind.TheVariants.{Four, Sixteen, FortyEight, Full}
@@ -10,7 +10,7 @@ use Rattle.art_stages.specs.declared.stage.Held.{Held}
 use Rattle.art_stages.specs.declared.stage.Frame.{Frame}
 use Rattle.art_stages.specs.declared.stage.ScanStep.TheVariants.{Index}
 use Rattle.art_stages.specs.Stages.{row_at}
-use Rattle.art_stages.specs.Scans.{Walk, ScanAt, at, in_word, slot_at, bytes_at, child_from, index_at_list, words_at, frame_at}
+use Rattle.art_stages.specs.Scans.{Walk, ScanAt, at, in_word, slot_at, bytes_at, child_from, lies, index_at_list, words_at, frame_at}
 use Rattle.art_scan.proofs.ByteLemmas.{bytes_skip}
 use Rattle.art_scan.specs.Walks.{has_any, frame_test, frame_slot}
 
@@ -112,3 +112,10 @@ frame_from kind low high w f d other most h =
     (omega (arith, most))
     ∙ bytes_skip (frame_test kind low high f) (frame_slot kind f) (child_from w f) f.byte d (f.left - d)
     (behind_bytes kind low high w f other) h)
+
+-- where no key can lie, a byte is not walked
+pub not_tested : (kind : Kind) (low high : ℕ) (f : Frame) (y : ℕ) → lies low high f y ≡ false → frame_test kind low high f y ≡ false
+not_tested Four low high f y e = e
+not_tested Sixteen low high f y e = e
+not_tested FortyEight low high f y e = and_left _ _ e
+not_tested Full low high f y e = e

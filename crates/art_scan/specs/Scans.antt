@@ -4,7 +4,7 @@ use Rattle.art_steps.specs.Rows.{Setting}
 use Rattle.art_stages.specs.Scans.{Walk, ScanAt, at, no_walk, scan_after}
 use Rattle.art_scan.specs.declared.lists.Lists.{Lists}
 use Rattle.art_scan.specs.declared.scanning.Scanning.{Scanning}
-use Rattle.art_scan.specs.Walks.{walk_of, HasRoom}
+use Rattle.art_scan.specs.Walks.{walk_of, HasRoomForOneMore}
 
 -- before it has room for any, it has no rows and no pairs
 abbrev pub walk_in : Option Lists → Walk
@@ -27,7 +27,7 @@ scan_behind c s word = scan_after c (low_of s) (high_of s) (scan_of s) word
 
 abbrev pub HaveRoom : Option Lists → Type 0
 HaveRoom None = ⊥
-HaveRoom (Some lists) = HasRoom lists
+HaveRoom (Some lists) = HasRoomForOneMore lists
 
 -- it has the room for what the next access gets
 abbrev pub IsRoomy : Scanning → Type 0

@@ -16,7 +16,7 @@ abbrev pub walk_of : Lists → Walk
 walk_of l = record { rows = drop l.released l.rows.items; pairs = l.pairs.items; way = reverse l.way.items }
 
 -- there is room for a row, a pair and a row on the way
-pub record HasRoom (l : Lists) : Type 0 where
+pub record HasRoomForOneMore (l : Lists) : Type 0 where
   pub rows : vec_len l.rows < vec_capacity l.rows
   pub pairs : vec_len l.pairs < vec_capacity l.pairs
   pub way : vec_len l.way < vec_capacity l.way

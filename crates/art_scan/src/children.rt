@@ -6,7 +6,7 @@ ghost use Rattle.art_scan.specs.Walks.{step_or, frame_test, frame_slot, bytes_of
 
 use crate::met_bytes::is_met_in;
 use crate::next_keys::{next_key4, next_key16};
-use crate::ranges::can_lie;
+use crate::ranges::{can_lie, is_behind};
 use art_rows::{Kind, index_entry};
 use art_setting::{child_slot, key_among};
 use art_stages::{Frame, Held, ScanStep};
@@ -130,6 +130,8 @@ fn next_byte(low: u64, high: u64, frame: Frame, byte: u32, left: u32) -> Option<
                     words: frame.words,
                 };
                 Some(ScanStep::Child { frame, slot })
+            } else if is_behind(high, frame.row, first) {
+                None
             } else {
                 next_byte(low, high, frame, first + 1, after)
             }

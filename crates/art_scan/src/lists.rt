@@ -35,7 +35,7 @@ fn is_among(rows: &[Held], base: u32) -> bool
 impl Lists {
     ghost use Rattle.std.specs.Prelude.{◌<◌, ◌-◌, Some, None, OnOk, IfSome, [], vec_len, vec_capacity};
     ghost use Rattle.art_stages.specs.Scans.{at, no_walk, with_held, with_frame, release_rows};
-    ghost use Rattle.art_scan.specs.Walks.{walk_of, with_pair, HasRoom};
+    ghost use Rattle.art_scan.specs.Walks.{walk_of, with_pair, HasRoomForOneMore};
 
     /// No row, no pair and no way.
     pub fn new(alloc: Global) -> Lists
@@ -51,7 +51,7 @@ impl Lists {
 
     /// The room for a row, a pair and a row on the way.
     pub fn reserve(&mut self) -> Result<(), Memory>
-        ensures room { OnOk result (HasRoom self.new) }
+        ensures room { OnOk result (HasRoomForOneMore self.new) }
         ensures same { walk_of self.new ≡ walk_of self.old }
     {
         self.rows.reserve(1)?;

@@ -6,7 +6,7 @@ ghost use Rattle.art_stages.specs.Stages.{row_at};
 ghost use Rattle.art_stages.specs.Scans.{in_word};
 ghost use Rattle.art_scan.specs.Walks.{has_any};
 
-use crate::ranges::can_lie;
+use crate::ranges::{bytes_ahead, can_lie};
 use art_stages::Held;
 
 /// Is there one among so many bytes from this one on?
@@ -14,7 +14,8 @@ fn is_met_from(low: u64, high: u64, row: Held, byte: u32, left: u32) -> bool
     requires { byte + left ≤ 256 }
     ensures { result ≡ has_any (filter (can_hold low high (row_at row)) (numbers byte left)) }
 {
-    left != 0 && (can_lie(low, high, row, byte) || is_met_from(low, high, row, byte + 1, left - 1))
+    let ahead = bytes_ahead(low, row, byte, left);
+    ahead < left && can_lie(low, high, row, byte + ahead)
 }
 
 /// Is there one at all?

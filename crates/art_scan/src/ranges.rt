@@ -1,5 +1,5 @@
 // Which keys can lie below a row.
-ghost use Rattle.std.specs.Prelude.{◌≡◌, ◌-◌, ◌<◌, ◌≤◌, ◌^◌};
+ghost use Rattle.std.specs.Prelude.{◌≡◌, ℕ, ◌+◌, ◌-◌, ◌*◌, ◌<◌, ◌≤◌, ◌^◌, true, false};
 ghost use Rattle.art_rows.specs.Words.{big_endian, info_of};
 ghost use Rattle.art_steps.specs.Scan.{can_lie};
 ghost use Rattle.art_stages.specs.Stages.{row_at};
@@ -45,4 +45,47 @@ pub fn can_lie(low: u64, high: u64, row: Held, byte: u32) -> bool
     let prefix = 256 * path_number(row.kind, row.info) + u64::from(byte);
     let keys = keys_below(info_level(row.kind, row.info));
     prefix * keys <= high && low < (prefix + 1) * keys
+}
+
+/// Do all keys that begin with the row's path and this byte, or with a greater one, come behind the last one?
+pub fn is_behind(high: u64, row: Held, byte: u32) -> bool
+    requires { byte < 256 }
+    ensures { result ≡ true → (low y : ℕ) → byte ≤ y → can_lie low high (row_at row) y ≡ false }
+{
+    let prefix = 256 * path_number(row.kind, row.info) + u64::from(byte);
+    prefix * keys_below(info_level(row.kind, row.info)) > high
+}
+
+/// How often the keys that have one path and byte in a row of this level go into the keys below this one.
+fn paths_below(low: u64, level: u32) -> u64
+    requires { level ≤ 3 }
+    ensures least { result * 256 ^ (3 - level) ≤ low }
+    ensures most { low < (result + 1) * 256 ^ (3 - level) }
+{
+    match level {
+        0 => low / (256 * 256 * 256),
+        1 => low / (256 * 256),
+        2 => low / 256,
+        _ => low,
+    }
+}
+
+/// So many of the bytes from this one on are passed over, since all keys that begin with the row's path and one of them come
+/// before the first one; those of the next byte do not.
+pub fn bytes_ahead(low: u64, row: Held, byte: u32, left: u32) -> u32
+    requires { byte + left ≤ 256 }
+    ensures most { result ≤ left }
+    ensures passed { (high y : ℕ) → byte ≤ y → y < byte + result → can_lie low high (row_at row) y ≡ false }
+    ensures next { result < left → (high : ℕ) → can_lie low high (row_at row) (byte + result) ≡ false
+        → (y : ℕ) → byte + result ≤ y → can_lie low high (row_at row) y ≡ false }
+{
+    let prefix = 256 * path_number(row.kind, row.info) + u64::from(byte);
+    let first = paths_below(low, info_level(row.kind, row.info));
+    if first <= prefix {
+        0
+    } else if first - prefix < u64::from(left) {
+        (first - prefix) as u32
+    } else {
+        left
+    }
 }

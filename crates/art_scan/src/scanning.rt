@@ -52,13 +52,15 @@ impl Scanning {
         ensures room { OnOk result (IsRoomy self.new) }
         ensures same { scan_of self.new ≡ scan_of self.old }
     {
-        let mut lists = match mem::replace(&mut self.lists, None) {
-            Some(lists) => lists,
-            None => Lists::new(alloc),
-        };
-        let reserved = lists.reserve();
-        self.lists = Some(lists);
-        reserved
+        match &mut self.lists {
+            Some(lists) => lists.reserve(),
+            None => {
+                let mut lists = Lists::new(alloc);
+                let reserved = lists.reserve();
+                self.lists = Some(lists);
+                reserved
+            }
+        }
     }
 
     /// The next access.
@@ -85,19 +87,19 @@ impl Scanning {
         ensures reply { reply_of (scan_turn (setting_of setting.now) (scan_behind (setting_of setting.now) self.old got)) ≡ result }
         ensures over { is_some (reply_of (scan_turn (setting_of setting.now) (scan_of self.new))) ≡ is_some result }
     {
-        match mem::replace(&mut self.lists, None) {
+        match &mut self.lists {
             None => unreachable!(),
-            Some(mut lists) => {
-                let step = step_after(setting, self.low, self.high, self.step, got, &mut lists);
-                self.step = step;
-                match step {
-                    ScanStep::Over => Some(Reply::Pairs(lists.into_pairs())),
-                    _ => {
-                        self.lists = Some(lists);
-                        None
-                    }
+            Some(lists) => {
+                self.step = step_after(setting, self.low, self.high, self.step, got, lists);
+                match self.step {
+                    ScanStep::Over => {}
+                    _ => return None,
                 }
             }
+        }
+        match mem::replace(&mut self.lists, None) {
+            None => unreachable!(),
+            Some(lists) => Some(Reply::Pairs(lists.into_pairs())),
         }
     }
 }

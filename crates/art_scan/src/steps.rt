@@ -4,7 +4,7 @@ ghost use Rattle.art_stages.specs.Scans.{at, step_after as step_behind, entry_at
 ghost use Rattle.art_stages.specs.Scans.{with_frame};
 ghost use Rattle.art_setting.specs.Settings.{setting_of};
 ghost use Rattle.art_scan.specs.Sound.{is_sound_frame, is_sound_step};
-ghost use Rattle.art_scan.specs.Walks.{walk_of, HasRoom};
+ghost use Rattle.art_scan.specs.Walks.{walk_of, HasRoomForOneMore};
 
 use crate::lists::Lists;
 use crate::walks::{close, enter, frame_of, go_on, keys_one, visit};
@@ -81,7 +81,7 @@ fn child_read(
     child: Child,
     lists: &mut Lists,
 ) -> ScanStep
-    requires room { HasRoom lists.old }
+    requires room { HasRoomForOneMore lists.old }
     requires sound { is_sound_frame frame ≡ true }
     ensures step { at result (walk_of lists.new) ≡ child_after (setting_of setting.now) low high
         (with_frame (walk_of lists.old) frame) child }
@@ -123,7 +123,7 @@ pub fn step_after(
     got: u64,
     lists: &mut Lists,
 ) -> ScanStep
-    requires room { HasRoom lists.old }
+    requires room { HasRoomForOneMore lists.old }
     requires sound { is_sound_step step ≡ true }
     ensures step { at result (walk_of lists.new) ≡ step_behind (setting_of setting.now) low high step (walk_of lists.old) got }
     ensures sound { is_sound_step result ≡ true }

@@ -25,7 +25,7 @@ use Rattle.art_shared.specs.declared.view.Setup.{Setup}
 use Rattle.art_shared.specs.declared.view.Noted.{Noted}
 use Rattle.art_shared.specs.Setups.{IsSetup}
 use Rattle.art_shared.specs.Views.{Numbered, numbers_of}
-use Rattle.art_shared.specs.Rule.{Has, times, Above, Rises, IsReached, Kept, Seated, first_view}
+use Rattle.art_shared.specs.Rule.{IsIn, times, Above, Rises, AreReached, Kept, Seated, first_view}
 use Rattle.art_shared.specs.Ends.{Ended, Looks}
 use Rattle.art_shared.proofs.NumberedLemmas.{times-hit, times-miss}
 use Rattle.art_shared.proofs.ReachedLemmas.{reached-noted, shown-below}
@@ -37,7 +37,7 @@ use Rattle.art_shared.proofs.OwnLemmas.{owned, own-events}
 abbrev idle_from : ℕ → ℕ → List Numbered
 idle_from a n = map (λ p. (p, idle)) (range_with_len a n)
 
-idle-has : (a n p : ℕ) (q : Process) → Has (p, q) (idle_from a n) → (a ≤ p) × (p < a + n) × (q ≡ idle)
+idle-has : (a n p : ℕ) (q : Process) → IsIn (p, q) (idle_from a n) → (a ≤ p) × (p < a + n) × (q ≡ idle)
 idle-has a zero p q h = absurd h
 idle-has a (suc n) p q h = ⊎_elim
     (λ e. let is : p ≡ a = ap (λ (x : Numbered). x.0) e in (omega arith, omega arith, ap (λ (x : Numbered). x.1) e))
@@ -78,7 +78,7 @@ opens setup = (
     processes = replicate setup.processes idle;
     given = given-first setup;
     shows = λ j u e p q h. ⊎_elim (λ t. absurd (some-ne-none u (sym t)))
-        (λ t. let r = idle-has 0 setup.processes p q (subst (λ z. Has (p, q) z.view.processes) (sym t) h) in let high = r.1 in
+        (λ t. let r = idle-has 0 setup.processes p q (subst (λ z. IsIn (p, q) z.view.processes) (sym t) h) in let high = r.1 in
         (ap (λ z. z.view.setup) (sym t), get-replicate setup.processes p (omega arith) ∙ ap Some (sym r.2)))
         (at_snoc [] (first_view setup) u j e);
     once = λ p lt. let one = idle-once p 0 setup.processes (omega arith) (omega arith) in omega arith;
@@ -90,13 +90,13 @@ opens setup = (
 
 -- A place that has all processes has them in their order.
 
-above-has : (b : ℕ) (l : List Numbered) (p : ℕ) (q : Process) → Above b l → Has (p, q) l → b < p
+above-has : (b : ℕ) (l : List Numbered) (p : ℕ) (q : Process) → Above b l → IsIn (p, q) l → b < p
 above-has b [] p q h t = absurd t
 above-has b (x ∷ xs) p q h t = ⊎_elim (λ e. let is : p ≡ x.0 = ap (λ (y : Numbered). y.0) e in let lt = h.0 in omega arith)
     (λ u. above-has b xs p q h.1 u) t
 
 -- numbers that rise from low on and stay below high are no more than there are between
-room : (l : List Numbered) (low high : ℕ) → low ≤ high → Rises l → ((p : ℕ) (q : Process) → Has (p, q) l → (low ≤ p) × (p < high))
+room : (l : List Numbered) (low high : ℕ) → low ≤ high → Rises l → ((p : ℕ) (q : Process) → IsIn (p, q) l → (low ≤ p) × (p < high))
     → length l + low ≤ high
 room [] low high le h within = omega arith
 room (x ∷ xs) low high le h within =
@@ -108,7 +108,7 @@ room (x ∷ xs) low high le h within =
     omega arith
 
 collected : (i : ℕ) (l : List Numbered) (processes : List Process) → Rises l → length l ≡ length processes
-    → ((p : ℕ) (q : Process) → Has (p, q) l → (i ≤ p) × (slice_get processes (p - i) ≡ Some q)) → map (λ (x : Numbered). x.1) l ≡ processes
+    → ((p : ℕ) (q : Process) → IsIn (p, q) l → (i ≤ p) × (slice_get processes (p - i) ≡ Some q)) → map (λ (x : Numbered). x.1) l ≡ processes
 collected i [] [] h long at = refl
 collected i [] (r ∷ ps) h long at = absurd (omega arith)
 collected i (x ∷ xs) [] h long at = absurd (omega arith)
@@ -116,7 +116,7 @@ collected i (x ∷ xs) (r ∷ ps) h long at =
     let here = at x.0 x.1 (inl refl) in
     let low = here.0 in
     let within = slice_get_within (r ∷ ps) (x.0 - i) x.1 here.1 in
-    let after : (p : ℕ) (q : Process) → Has (p, q) xs → (x.0 + 1 ≤ p) × (p < i + length (r ∷ ps)) =
+    let after : (p : ℕ) (q : Process) → IsIn (p, q) xs → (x.0 + 1 ≤ p) × (p < i + length (r ∷ ps)) =
     λ p q t. let lt = above-has x.0 xs p q h.0 t in let inside =
     slice_get_within (r ∷ ps) (p - i) q (at p q (inr t)).1 in (omega arith, omega arith) in
     let few = room xs (x.0 + 1) (i + length (r ∷ ps)) (omega arith) h.1 after in
@@ -128,7 +128,7 @@ collected i (x ∷ xs) (r ∷ ps) h long at =
     (omega arith, ap (λ n. slice_get (r ∷ ps) n) (sym one) ∙ (at p q (inr t)).1)) in
     ap (λ z. z ∷ map (λ (x : Numbered). x.1) xs) first ∙ ap (λ zs. r ∷ zs) rest
 
-numbered : (i n : ℕ) (l : List Numbered) → Rises l → length l ≡ n → ((p : ℕ) (q : Process) → Has (p, q) l → (i ≤ p) × (p < i + n))
+numbered : (i n : ℕ) (l : List Numbered) → Rises l → length l ≡ n → ((p : ℕ) (q : Process) → IsIn (p, q) l → (i ≤ p) × (p < i + n))
     → numbers_of l ≡ range_with_len i n
 numbered i zero [] h long within = refl
 numbered i zero (x ∷ xs) h long within = absurd (omega arith)
@@ -137,7 +137,7 @@ numbered i (suc n) (x ∷ xs) h long within =
     let here = within x.0 x.1 (inl refl) in
     let low = here.0 in
     let high = here.1 in
-    let after : (p : ℕ) (q : Process) → Has (p, q) xs → (x.0 + 1 ≤ p) × (p < i + suc n) =
+    let after : (p : ℕ) (q : Process) → IsIn (p, q) xs → (x.0 + 1 ≤ p) × (p < i + suc n) =
     λ p q t. let lt = above-has x.0 xs p q h.0 t in (omega arith, (within p q (inr t)).1) in
     let few = room xs (x.0 + 1) (i + suc n) (omega arith) h.1 after in
     let is : x.0 ≡ i = omega arith in
@@ -200,7 +200,7 @@ module _ (setup : Setup) (limits : IsSetup setup) where
         me.0,
         keeps,
         tt,
-        subst (λ l. (length l ≡ table_words setup.shape) × IsReached setup l (set s.views id me.0)) (sym still)
+        subst (λ l. (length l ≡ table_words setup.shape) × AreReached setup l (set s.views id me.0)) (sym still)
             (r.0, reached-noted setup s.words s.views r.1 id me.0 at me.0.asked),
         (
           refl,

@@ -7,7 +7,7 @@ use Rattle.std.proofs.lemmas.List.{take-append-drop}
 use Rattle.std.proofs.lemmas.List.Sums.{sum_by-cons, sum_by-take-drop}
 use Rattle.art_core.specs.declared.process.Process.{Process}
 use Rattle.art_shared.specs.Views.{Numbered, placed, merge}
-use Rattle.art_shared.specs.Rule.{Has, times, Above, Rises}
+use Rattle.art_shared.specs.Rule.{IsIn, times, Above, Rises}
 
 -- how often p stands in a list, by its first process and the others
 pub times-hit : (p : ℕ) (y : Numbered) (ys : List Numbered) → p ≡ y.0 → times p (y ∷ ys) ≡ 1 + times p ys
@@ -23,7 +23,7 @@ times-miss p y ys e =
 pub times-more : (p : ℕ) (y : Numbered) (ys : List Numbered) → times p ys ≤ times p (y ∷ ys)
 times-more p y ys = let all = sum_by-cons (λ (x : Numbered). cond (eqb p x.0) 1 0) y ys in omega arith
 
-pub has-times : (p : ℕ) (q : Process) (l : List Numbered) → Has (p, q) l → 1 ≤ times p l
+pub has-times : (p : ℕ) (q : Process) (l : List Numbered) → IsIn (p, q) l → 1 ≤ times p l
 has-times p q [] h = absurd h
 has-times p q (y ∷ ys) h = ⊎_elim
     (λ e. let one = times-hit p y ys (ap (λ (x : Numbered). x.0) e) in omega arith)
@@ -31,11 +31,11 @@ has-times p q (y ∷ ys) h = ⊎_elim
 
 -- Two lists, one behind the other.
 
-has-left : (x : Numbered) (l m : List Numbered) → Has x l → Has x (l ++ m)
+has-left : (x : Numbered) (l m : List Numbered) → IsIn x l → IsIn x (l ++ m)
 has-left x [] m h = absurd h
 has-left x (y ∷ l) m h = ⊎_elim (λ e. inl e) (λ t. inr (has-left x l m t)) h
 
-has-right : (x : Numbered) (l m : List Numbered) → Has x m → Has x (l ++ m)
+has-right : (x : Numbered) (l m : List Numbered) → IsIn x m → IsIn x (l ++ m)
 has-right x [] m h = h
 has-right x (y ∷ l) m h = inr (has-right x l m h)
 
@@ -54,11 +54,11 @@ rises-right (x ∷ l) m h = rises-right l m h.1
 -- A list cut in two.
 
 module _ (i : ℕ) (l : List Numbered) where
-  pub has-take : (x : Numbered) → Has x (take i l) → Has x l
-  has-take x h = subst (Has x) (take-append-drop i l) (has-left x (take i l) (drop i l) h)
+  pub has-take : (x : Numbered) → IsIn x (take i l) → IsIn x l
+  has-take x h = subst (IsIn x) (take-append-drop i l) (has-left x (take i l) (drop i l) h)
 
-  pub has-drop : (x : Numbered) → Has x (drop i l) → Has x l
-  has-drop x h = subst (Has x) (take-append-drop i l) (has-right x (take i l) (drop i l) h)
+  pub has-drop : (x : Numbered) → IsIn x (drop i l) → IsIn x l
+  has-drop x h = subst (IsIn x) (take-append-drop i l) (has-right x (take i l) (drop i l) h)
 
   pub times-cut : (p : ℕ) → times p (take i l) + times p (drop i l) ≡ times p l
   times-cut p = sum_by-take-drop (λ (x : Numbered). cond (eqb p x.0) 1 0) l i
@@ -96,17 +96,18 @@ times-merge p l (x ∷ xs) =
     let b = sum_by-cons one x xs in
     omega arith
 
-has-branch : (b : Bool) (x : Numbered) (l m : List Numbered) (P : Type 0) → (Has x l → P) → (Has x m → P) → Has x (if b then l else m) → P
+has-branch : (b : Bool) (x : Numbered) (l m : List Numbered) (P : Type 0) → (IsIn x l → P) → (IsIn x m → P)
+    → IsIn x (if b then l else m) → P
 has-branch true x l m P f g h = f h
 has-branch false x l m P f g h = g h
 
-has-placed : (x y : Numbered) (l : List Numbered) → Has x (placed y l) → (x ≡ y) ⊎ Has x l
+has-placed : (x y : Numbered) (l : List Numbered) → IsIn x (placed y l) → (x ≡ y) ⊎ IsIn x l
 has-placed x y [] h = h
 has-placed x y (z ∷ zs) h =
-    has-branch (nat_lt y.0 z.0) x (y ∷ z ∷ zs) (z ∷ placed y zs) ((x ≡ y) ⊎ Has x (z ∷ zs)) (λ t. t)
+    has-branch (nat_lt y.0 z.0) x (y ∷ z ∷ zs) (z ∷ placed y zs) ((x ≡ y) ⊎ IsIn x (z ∷ zs)) (λ t. t)
     (λ t. ⊎_elim (λ e. inr (inl e)) (λ u. ⊎_elim (λ e. inl e) (λ w. inr (inr w)) (has-placed x y zs u)) t) h
 
-pub has-merge : (x : Numbered) (l m : List Numbered) → Has x (merge l m) → Has x l ⊎ Has x m
+pub has-merge : (x : Numbered) (l m : List Numbered) → IsIn x (merge l m) → IsIn x l ⊎ IsIn x m
 has-merge x l [] h = inl h
 has-merge x l (y ∷ ys) h =
     ⊎_elim (λ e. inr (inl e)) (λ t. ⊎_elim (λ a. inl a) (λ b. inr (inr b)) (has-merge x l ys t)) (has-placed x y (merge l ys) h)
@@ -139,7 +140,7 @@ rises-placed x (y ∷ ys) new h = go (nat_lt x.0 y.0) refl (λ none. rises-place
         let lt : y.0 < x.0 = omega (arith, apart) in
         (above-placed y.0 x ys lt h.0, later none)
 
-pub rises-merge : (l m : List Numbered) → Rises l → ((p : ℕ) (q : Process) → Has (p, q) m → times p l + times p m ≤ 1) → Rises (merge l m)
+pub rises-merge : (l m : List Numbered) → Rises l → ((p : ℕ) (q : Process) → IsIn (p, q) m → times p l + times p m ≤ 1) → Rises (merge l m)
 rises-merge l [] h once = h
 rises-merge l (x ∷ xs) h once =
     let one = once x.0 x.1 (inl refl) in

@@ -26,7 +26,7 @@ use Rattle.art_core.proofs.StartLemmas.{no-start}
 use Rattle.art_shared.specs.declared.view.Setup.{Setup}
 use Rattle.art_shared.specs.declared.view.View.{View}
 use Rattle.art_shared.specs.Views.{Numbered, numbers_of}
-use Rattle.art_shared.specs.Rule.{Has}
+use Rattle.art_shared.specs.Rule.{IsIn}
 use Rattle.art_shared.specs.Ends.{state_of, HasOwnEvents}
 use Rattle.art_shared.proofs.StepLemmas.{all-has}
 
@@ -151,7 +151,7 @@ module _ (plan : Plan) (within : IsPlan plan) where
 
 pub own-events : (setup : Setup) (words : List ℕ) (v : View) (ps : List Process) → map (λ (x : Numbered). x.1) v.processes ≡ ps
     → length ps ≡ setup.processes → numbers_of v.processes ≡ range_with_len 0 setup.processes
-    → ((p : ℕ) (q : Process) → Has (p, q) v.processes → slice_get ps p ≡ Some q) → AreOwned ps
+    → ((p : ℕ) (q : Process) → IsIn (p, q) v.processes → slice_get ps p ≡ Some q) → AreOwned ps
     → HasOwnEvents setup v (history_of (state_of words v))
 unfolding history_of
 own-events setup words v ps same many numbers at o =

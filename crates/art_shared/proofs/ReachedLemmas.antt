@@ -12,7 +12,7 @@ use Rattle.art_core.specs.declared.process.Process.{Process}
 use Rattle.art_shared.specs.declared.view.Setup.{Setup}
 use Rattle.art_shared.specs.declared.view.Noted.{Noted}
 use Rattle.art_shared.specs.Views.{Numbered, view}
-use Rattle.art_shared.specs.Rule.{noted, Has, times, times_in, Rises, IsGiven, IsReached, kept_part, given_part, both_parts, no_part}
+use Rattle.art_shared.specs.Rule.{noted, IsIn, times, times_in, Rises, IsGiven, AreReached, kept_part, given_part, both_parts, no_part}
 use Rattle.art_shared.proofs.NumberedLemmas.{times-hit, has-times, has-take, has-drop, times-cut, rises-take, rises-drop}
 use Rattle.art_shared.proofs.NumberedLemmas.{times-merge, has-merge, rises-merge}
 use Rattle.art_shared.proofs.CountLemmas.{sum-set, sum-one, sum-two}
@@ -29,14 +29,14 @@ get-set-other (z ∷ zs) zero (suc i) x n = refl
 get-set-other (z ∷ zs) (suc p) zero x n = refl
 get-set-other (z ∷ zs) (suc p) (suc i) x n = get-set-other zs p i x (λ e. n (ap suc e))
 
-module _ (setup : Setup) (words : List ℕ) (views : List Noted) (r : IsReached setup words views) (id : ℕ) (v : Noted)
+module _ (setup : Setup) (words : List ℕ) (views : List Noted) (r : AreReached setup words views) (id : ℕ) (v : Noted)
     (at : get_elem? views id ≡ some v) where
   -- a process of a view is one of the core's, with a number that is known
-  pub shown-below : (p : ℕ) (q : Process) → Has (p, q) v.view.processes → p < setup.processes
+  pub shown-below : (p : ℕ) (q : Process) → IsIn (p, q) v.view.processes → p < setup.processes
   shown-below p q h = let within = slice_get_within r.processes p q (r.shows id v at p q h).1 in let many = r.given.many in omega arith
 
   -- the same processes, under another note
-  pub reached-noted : (asked : Option Call) → IsReached setup words (set views id (noted v.view asked))
+  pub reached-noted : (asked : Option Call) → AreReached setup words (set views id (noted v.view asked))
   reached-noted asked =
       let w : Noted = noted v.view asked in
       let old : (j : ℕ) (u : Noted) → get_elem? (set views id w) j ≡ some u → (k : ℕ) × (o : Noted) × (get_elem? views k ≡ some o)
@@ -47,13 +47,13 @@ module _ (setup : Setup) (words : List ℕ) (views : List Noted) (r : IsReached 
         given = r.given;
         shows = λ j u e p q h. let o = old j u e in
             subst (λ z. (z.setup ≡ setup) × (slice_get r.processes p ≡ Some q)) o.3
-            (r.shows o.0 o.1 o.2 p q (subst (λ z. Has (p, q) z.processes) (sym o.3) h));
+            (r.shows o.0 o.1 o.2 p q (subst (λ z. IsIn (p, q) z.processes) (sym o.3) h));
         once = λ p lt. let t = sum-set (times_in p) views id v w at in let one = r.once p lt in omega arith;
         rising = λ j u e. let o = old j u e in subst (λ z. Rises z.processes) o.3 (r.rising o.0 o.1 o.2);
       }
 
   -- a place cut in two
-  pub reached-split : IsReached setup words (set views id (kept_part v) ++ given_part v ∷ [])
+  pub reached-split : AreReached setup words (set views id (kept_part v) ++ given_part v ∷ [])
   reached-split =
       let i = length v.view.processes - 1 in
       let l = v.view.processes in
@@ -64,10 +64,10 @@ module _ (setup : Setup) (words : List ℕ) (views : List Noted) (r : IsReached 
         given = r.given;
         shows = λ j u e p q h. ⊎_elim
             (λ a. ⊎_elim
-            (λ t. let s = r.shows id v at p q (has-take i l (p, q) (subst (λ z. Has (p, q) z.view.processes) (sym t.1) h)) in
+            (λ t. let s = r.shows id v at p q (has-take i l (p, q) (subst (λ z. IsIn (p, q) z.view.processes) (sym t.1) h)) in
             (ap (λ z. z.view.setup) (sym t.1) ∙ s.0, s.1))
             (λ t. r.shows j u t.1 p q h) (at_set views id j kept u a))
-            (λ a. let s = r.shows id v at p q (has-drop i l (p, q) (subst (λ z. Has (p, q) z.view.processes) (sym a) h)) in
+            (λ a. let s = r.shows id v at p q (has-drop i l (p, q) (subst (λ z. IsIn (p, q) z.view.processes) (sym a) h)) in
             (ap (λ z. z.view.setup) (sym a) ∙ s.0, s.1))
             (at_snoc (set views id kept) given u j e);
         once = λ p lt.
@@ -85,7 +85,7 @@ module _ (setup : Setup) (words : List ℕ) (views : List Noted) (r : IsReached 
 
   -- a place that takes another in
   pub reached-join : (other : ℕ) (u : Noted) → v.view.setup ≡ setup → other ≢ id → get_elem? (set views id (both_parts v u)) other ≡ some u
-      → IsReached setup words (set (set views id (both_parts v u)) other no_part)
+      → AreReached setup words (set (set views id (both_parts v u)) other no_part)
   reached-join other u same apart there =
       let both = both_parts v u in
       let l = v.view.processes in
@@ -95,12 +95,12 @@ module _ (setup : Setup) (words : List ℕ) (views : List Noted) (r : IsReached 
         processes = r.processes;
         given = r.given;
         shows = λ j y e p q h. ⊎_elim
-            (λ t. let none : Has (p, q) [] = subst (λ z. Has (p, q) z.view.processes) (sym t.1) h in absurd none)
+            (λ t. let none : IsIn (p, q) [] = subst (λ z. IsIn (p, q) z.view.processes) (sym t.1) h in absurd none)
             (λ t. ⊎_elim
             (λ t'. (
               ap (λ z. z.view.setup) (sym t'.1) ∙ same,
               ⊎_elim (λ a. (r.shows id v at p q a).1) (λ b. (r.shows other u theirs p q b).1)
-                  (has-merge (p, q) l m (subst (λ z. Has (p, q) z.view.processes) (sym t'.1) h)),
+                  (has-merge (p, q) l m (subst (λ z. IsIn (p, q) z.view.processes) (sym t'.1) h)),
             ))
             (λ t'. r.shows j y t'.1 p q h) (at_set views id j both y t.1))
             (at_set (set views id both) other j no_part y e);
@@ -118,7 +118,7 @@ module _ (setup : Setup) (words : List ℕ) (views : List Noted) (r : IsReached 
             (at_set (set views id both) other j no_part y e);
       }
     where
-      once-in-both : get_elem? views other ≡ some u → (p : ℕ) (q : Process) → Has (p, q) u.view.processes
+      once-in-both : get_elem? views other ≡ some u → (p : ℕ) (q : Process) → IsIn (p, q) u.view.processes
           → times p v.view.processes + times p u.view.processes ≤ 1
       once-in-both theirs p q h =
           let s = (r.shows other u theirs p q h).1 in
@@ -129,7 +129,7 @@ module _ (setup : Setup) (words : List ℕ) (views : List Noted) (r : IsReached 
           omega arith
 
 -- a step of the first process of a view
-module _ (setup : Setup) (words new_words : List ℕ) (views : List Noted) (r : IsReached setup words views) (id : ℕ)
+module _ (setup : Setup) (words new_words : List ℕ) (views : List Noted) (r : AreReached setup words views) (id : ℕ)
     (asked later : Option Call)
     (p : ℕ) (q q' : Process) (rest : List Numbered) (at : get_elem? views id ≡ some (noted (view setup ((p, q) ∷ rest)) asked)) where
   abbrev old : Noted
@@ -144,7 +144,7 @@ module _ (setup : Setup) (words new_words : List ℕ) (views : List Noted) (r : 
   alone : sum_by (times_in p) views ≡ 1
   alone = r.once p (shown-below setup words views r id old at p q (inl refl))
 
-  twice : (i : ℕ) (x : Process) → Has (i, x) rest → i ≡ p → ⊥
+  twice : (i : ℕ) (x : Process) → IsIn (i, x) rest → i ≡ p → ⊥
   twice i x t is =
       let all = sum-one (times_in p) views id old at in
       let one = times-hit p (p, q) rest refl in
@@ -152,7 +152,7 @@ module _ (setup : Setup) (words new_words : List ℕ) (views : List Noted) (r : 
       let more : 1 ≤ times p rest = subst (λ z. 1 ≤ times z rest) is (has-times i x rest t) in
       omega arith
 
-  elsewhere : (j : ℕ) (u : Noted) (i : ℕ) (x : Process) → Has (i, x) u.view.processes → j ≢ id → get_elem? views j ≡ some u → i ≡ p → ⊥
+  elsewhere : (j : ℕ) (u : Noted) (i : ℕ) (x : Process) → IsIn (i, x) u.view.processes → j ≢ id → get_elem? views j ≡ some u → i ≡ p → ⊥
   elsewhere j u i x h ne there is =
       let both = sum-two (times_in p) views id j old u (λ y. ne (sym y)) at there in
       let one = times-hit p (p, q) rest refl in
@@ -160,19 +160,19 @@ module _ (setup : Setup) (words new_words : List ℕ) (views : List Noted) (r : 
       let more : 1 ≤ times p u.view.processes = subst (λ z. 1 ≤ times z u.view.processes) is (has-times i x u.view.processes h) in
       omega arith
 
-  shows-new : (i : ℕ) (x : Process) → Has (i, x) ((p, q') ∷ rest) → slice_get (slice_set r.processes p q') i ≡ Some x
+  shows-new : (i : ℕ) (x : Process) → IsIn (i, x) ((p, q') ∷ rest) → slice_get (slice_set r.processes p q') i ≡ Some x
   shows-new i x h = ⊎_elim
       (λ y. ap (λ z. slice_get (slice_set r.processes p q') z) (ap (λ (z : Numbered). z.0) y)
       ∙ (get-set r.processes p q' q first-there ∙ ap Some (sym (ap (λ (z : Numbered). z.1) y))))
       (λ t. get-set-other r.processes p i q' (twice i x t) ∙ (r.shows id old at i x (inr t)).1)
       h
 
-  pub reached-step : IsGiven setup new_words (slice_set r.processes p q') → IsReached setup new_words (set views id new)
+  pub reached-step : IsGiven setup new_words (slice_set r.processes p q') → AreReached setup new_words (set views id new)
   reached-step given = record {
     processes = slice_set r.processes p q';
     given = given;
     shows = λ j u e i x h. ⊎_elim
-        (λ t. (ap (λ z. z.view.setup) (sym t.1), shows-new i x (subst (λ z. Has (i, x) z.view.processes) (sym t.1) h)))
+        (λ t. (ap (λ z. z.view.setup) (sym t.1), shows-new i x (subst (λ z. IsIn (i, x) z.view.processes) (sym t.1) h)))
         (λ t. let s = r.shows j u t.1 i x h in (s.0, get-set-other r.processes p i q' (elsewhere j u i x h t.0 t.1) ∙ s.1))
         (at_set views id j new u e);
     once = λ i lt. let t = sum-set (times_in i) views id old new at in let one = r.once i lt in omega arith;

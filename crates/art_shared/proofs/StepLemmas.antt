@@ -31,12 +31,12 @@ use Rattle.art_shared.specs.declared.view.Noted.{Noted}
 use Rattle.art_shared.specs.Setups.{IsSetup}
 use Rattle.art_shared.specs.Views.{Numbered, view, open_move, next_in, next_of, moved_first, moved_if, advanced, is_idle}
 use Rattle.art_shared.specs.Views.{calls_left, AllStamps}
-use Rattle.art_shared.specs.Rule.{noted, Has, IsGiven, IsReached, Kept, Seated, Notes, Advances, Draws, with_asked}
+use Rattle.art_shared.specs.Rule.{noted, IsIn, IsGiven, AreReached, Kept, Seated, Notes, MakesNextMove, Draws, with_asked}
 use Rattle.art_shared.specs.Rule.{InvokesAsked, kept_part, given_part, both_parts, no_part}
 use Rattle.art_shared.proofs.GivenLemmas.{MayBegin, given-move, given-clocked}
 use Rattle.art_shared.proofs.ReachedLemmas.{reached-noted, reached-split, reached-join, reached-step, first-there}
 
-pub all-has : (P : Numbered → Type 0) (l : List Numbered) → ((x : Numbered) → Has x l → P x) → All P l
+pub all-has : (P : Numbered → Type 0) (l : List Numbered) → ((x : Numbered) → IsIn x l → P x) → All P l
 all-has P [] each = All-nil P
 all-has P (x ∷ xs) each = All-cons P x xs (each x (inl refl)) (all-has P xs (λ y h. each y (inr h)))
 
@@ -144,7 +144,7 @@ store-blind v word value next n m =
     advanced-by v (Makes (Store word value)) first next n ∙ sym (advanced-by v (Makes (Store word value)) first next m)
 
 module _ (setup : Setup) (limits : IsSetup setup) (slots id : ℕ) (me : Seated) (same : me.0.view.setup ≡ setup) where
-  stamps-below : (words : List ℕ) (views : List Noted) → IsReached setup words views → get_elem? views id ≡ some me.0
+  stamps-below : (words : List ℕ) (views : List Noted) → AreReached setup words views → get_elem? views id ≡ some me.0
       → AllStamps (λ stamp. stamp < slice_index words 0) me.0.view
   stamps-below words views r at =
       all-has (λ x. All (λ (e : Stamped). e.0 < slice_index words 0) x.1.log) me.0.view.processes
@@ -188,10 +188,10 @@ module _ (setup : Setup) (limits : IsSetup setup) (slots id : ℕ) (me : Seated)
   -- an access that finds n, and tells so
   pub access-allowed : (a : Access) (next : next_of me.0.view ≡ Some (Makes a)) (f : ℕ → ℕ) → ((n : ℕ) → f n ≡ new_word (Makes a) n)
       → (st : Step Call)
-      → Allows (Kept setup) slots id me (word_of a) f (Advances st me)
+      → Allows (Kept setup) slots id me (word_of a) f (MakesNextMove st me)
   access-allowed a next f alike st =
       let first = makes-first me.0.view a next in
-      steps (Makes a) first me.0.asked f alike (Advances st me)
+      steps (Makes a) first me.0.asked f alike (MakesNextMove st me)
       (λ n stamps. (
         refl,
         ap (λ z. view z ((first.p, after_move first.p (Makes a) n first.q) ∷ first.others)) (sym same)
@@ -200,10 +200,10 @@ module _ (setup : Setup) (limits : IsSetup setup) (slots id : ℕ) (me : Seated)
 
   -- a store, which finds nothing out
   pub store-allowed : (word value : ℕ) (next : next_of me.0.view ≡ Some (Makes (Store word value))) (st : Step Call)
-      → Allows (Kept setup) slots id me word (λ _. value) (λ _. Advances st me value)
+      → Allows (Kept setup) slots id me word (λ _. value) (λ _. MakesNextMove st me value)
   store-allowed word value next st =
       let first = makes-first me.0.view (Store word value) next in
-      steps (Makes (Store word value)) first me.0.asked (λ _. value) (λ n. refl) (λ _. Advances st me value)
+      steps (Makes (Store word value)) first me.0.asked (λ _. value) (λ n. refl) (λ _. MakesNextMove st me value)
       (λ n stamps. (
         refl,
         ap (λ z. view z ((first.p, after_move first.p (Makes (Store word value)) n first.q) ∷ first.others)) (sym same)
@@ -247,7 +247,7 @@ module _ (setup : Setup) (limits : IsSetup setup) (slots id : ℕ) (me : Seated)
       let w = noted me.0.view (Some call) in
       let still : set s.words 0 n ≡ s.words = set-get_or s.words 0 0 in
       let kept : Kept setup (stepped s 0 n id me.1 w keeps) =
-      subst (λ l. (length l ≡ table_words setup.shape) × IsReached setup l (set s.views id w)) (sym still)
+      subst (λ l. (length l ≡ table_words setup.shape) × AreReached setup l (set s.views id w)) (sym still)
       (r.0, reached-noted setup s.words s.views r.1 id me.0 at (Some call)) in (
         w,
         keeps,

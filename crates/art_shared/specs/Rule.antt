@@ -21,9 +21,9 @@ use Rattle.art_shared.specs.Views.{Numbered, view, all_idle, advanced, invoking,
 abbrev pub noted : View → Option Call → Noted
 noted v asked = record { view = v; asked = asked }
 
-abbrev pub Has : Numbered → List Numbered → Type 0
-Has x [] = ⊥
-Has x (y ∷ ys) = (x ≡ y) ⊎ Has x ys
+abbrev pub IsIn : Numbered → List Numbered → Type 0
+IsIn x [] = ⊥
+IsIn x (y ∷ ys) = (x ≡ y) ⊎ IsIn x ys
 
 -- how often process p stands among them
 abbrev pub times : ℕ → List Numbered → ℕ
@@ -33,8 +33,8 @@ abbrev pub times_in : ℕ → Noted → ℕ
 times_in p v = times p v.view.processes
 
 -- a view shows its processes as they are; one that has none is excepted
-abbrev pub Shows : Setup → List Process → Noted → Type 0
-Shows setup processes v = (p : ℕ) (q : Process) → Has (p, q) v.view.processes → (v.view.setup ≡ setup) × (slice_get processes p ≡ Some q)
+abbrev pub AreShown : Setup → List Process → Noted → Type 0
+AreShown setup ps v = (p : ℕ) (q : Process) → IsIn (p, q) v.view.processes → (v.view.setup ≡ setup) × (slice_get ps p ≡ Some q)
 
 -- by rising number
 abbrev pub Above : ℕ → List Numbered → Type 0
@@ -56,15 +56,15 @@ pub record IsGiven (setup : Setup) (words : List ℕ) (processes : List Process)
   pub calls : All (λ q. All (λ call. IsTrue (is_tree_call call)) (begun q)) processes
 
 -- each process is in one view, which shows it as it is
-pub record IsReached (setup : Setup) (words : List ℕ) (views : List Noted) : Type 0 where
+pub record AreReached (setup : Setup) (words : List ℕ) (views : List Noted) : Type 0 where
   pub processes : List Process
   pub given : IsGiven setup words processes
-  pub shows : (j : ℕ) (v : Noted) → get_elem? views j ≡ some v → Shows setup processes v
+  pub shows : (j : ℕ) (v : Noted) → get_elem? views j ≡ some v → AreShown setup processes v
   pub once : (p : ℕ) → p < setup.processes → sum_by (times_in p) views ≡ 1
   pub rising : (j : ℕ) (v : Noted) → get_elem? views j ≡ some v → Rises v.view.processes
 
 abbrev pub Kept : Setup → Table Call Noted → Type 0
-Kept setup s = (length s.words ≡ table_words setup.shape) × IsReached setup s.words s.views
+Kept setup s = (length s.words ≡ table_words setup.shape) × AreReached setup s.words s.views
 
 abbrev pub first_view : Setup → Noted
 first_view setup = noted (all_idle setup) None
@@ -78,12 +78,12 @@ abbrev pub Notes : Step Call → Seated → ℕ → Seated → Type 0
 Notes step me n new = (new.1 ≡ me.1) × ((call : Call) → step.said ≡ some call → new.0 ≡ noted me.0.view (Some call))
 
 -- the first process made its open call's next move
-abbrev pub Advances : Step Call → Seated → ℕ → Seated → Type 0
-Advances step me n new = (new.1 ≡ me.1) × (new.0.view ≡ advanced me.0.view n)
+abbrev pub MakesNextMove : Step Call → Seated → ℕ → Seated → Type 0
+MakesNextMove step me n new = (new.1 ≡ me.1) × (new.0.view ≡ advanced me.0.view n)
 
 -- so it did, by a stamp greater than all that the view showed
 abbrev pub Draws : Step Call → Seated → ℕ → Seated → Type 0
-Draws step me n new = Advances step me n new × AllStamps (λ stamp. stamp < n) me.0.view
+Draws step me n new = MakesNextMove step me n new × AllStamps (λ stamp. stamp < n) me.0.view
 
 abbrev pub with_asked : Option Call → View → ℕ → View
 with_asked None v n = v

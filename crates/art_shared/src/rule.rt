@@ -36,9 +36,9 @@ impl Play<TreeCall, Noted> for Invoke {
 pub struct Go;
 
 impl Play<TreeCall, Noted> for Go {
-    ghost use Rattle.art_shared.specs.Rule.{Advances};
+    ghost use Rattle.art_shared.specs.Rule.{MakesNextMove};
 
-    ghost then = { Advances };
+    ghost then = { MakesNextMove };
 }
 
 /// The stamp of a response.

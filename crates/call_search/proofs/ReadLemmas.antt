@@ -14,7 +14,8 @@ use Rattle.orders.proofs.OrderLemmas.{IsLegal-append, IsLegal-front, IsLegal-bac
 use Rattle.quiet_cuts.proofs.AroundLemmas.{beside, middle, All-around, All-before, All-here, All-behind, AllPairs-before, AllPairs-behind}
 use Rattle.quiet_cuts.proofs.AroundLemmas.{AllPairs-around, AllPairs-beside}
 use Rattle.quiet_cuts.proofs.ValueLemmas.{rising_after}
-use Rattle.call_search.specs.Reads.{HasOrderAfter, pairs_after, IsReadNext, ReadsGoFirst}
+use Rattle.search.specs.Standing.{pairs_after}
+use Rattle.call_search.specs.Reads.{HasOrderAfter, IsReadNext, ReadsGoFirst}
 use Rattle.call_search.proofs.ReplyLemmas.{leaves_too}
 
 -- an element among others is taken to a place further in front

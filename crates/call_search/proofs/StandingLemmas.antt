@@ -22,7 +22,8 @@ use Rattle.list_laws.proofs.Lists.{Contains-nil, Contains-first, Contains-cases,
 use Rattle.list_laws.proofs.Lists.{slice_get-append_left, slice_get-middle}
 use Rattle.search.specs.Undo.{undone}
 use Rattle.search.proofs.FutureLemmas.{same_completion}
-use Rattle.call_search.specs.Reads.{pairs_after, IsReadNext}
+use Rattle.search.specs.Standing.{pairs_after}
+use Rattle.call_search.specs.Reads.{IsReadNext}
 use Rattle.call_search.specs.Standing.{places, IsDead, IsDeadAt, AreNext, Closes, Remembers, IsSettled, AreMarked, StandsWith, AreChoices}
 use Rattle.call_search.specs.Standing.{IsNextOf}
 use Rattle.call_search.specs.Standing.{HasMoved, IsLooked, IsStep, to_try}

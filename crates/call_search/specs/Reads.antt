@@ -3,16 +3,13 @@ use Rattle.std.specs.Prelude.{◌≡◌, ◌↔◌, ℕ, true, List, [], ◌∷�
 use Rattle.events.specs.declared.operation.Operation.{Operation}
 use Rattle.events.specs.Precedence.{is_completed}
 use Rattle.map_object.specs.MapObject.{Contents, IsRising}
-use Rattle.orders.specs.Orders.{IsLegalCall, after_call, after_calls, calls_at, IsOrder}
+use Rattle.orders.specs.Orders.{IsLegalCall, after_call, IsOrder}
 use Rattle.configurations.specs.Fronts.{PrecedesAt}
+use Rattle.search.specs.Standing.{pairs_after}
 
 -- what is left has an order where these calls lead: they go on to an order of all calls
 abbrev pub HasOrderAfter : Contents → List Operation → List ℕ → Type 0
 HasOrderAfter start calls path = (tail : List ℕ) × IsOrder start calls (path ++ tail)
-
--- the pairs after some calls
-abbrev pub pairs_after : Contents → List Operation → List ℕ → Contents
-pairs_after start calls path = after_calls start (calls_at calls path)
 
 -- a completed call that is left, that none which is left precedes, that does its reply where these calls lead, and leaves the pairs as they
 -- are there

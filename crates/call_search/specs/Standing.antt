@@ -10,8 +10,9 @@ use Rattle.orders.specs.Orders.{IsOrder, IsLinearizable}
 use Rattle.configurations.specs.Fronts.{IsFront}
 use Rattle.configurations.specs.Configurations.{Configuration, LeadsTo, IsReachable}
 use Rattle.configurations.proofs.FrontLemmas.{IsNext}
+use Rattle.search.specs.Standing.{pairs_after, IsConfigurationAt}
 use Rattle.search.specs.Undo.{undone}
-use Rattle.call_search.specs.Reads.{HasOrderAfter, pairs_after}
+use Rattle.call_search.specs.Reads.{HasOrderAfter}
 use Rattle.call_search.specs.declared.standing.Level.{Level}
 use Rattle.call_search.specs.declared.standing.Standing.{Standing}
 use Rattle.call_search.specs.declared.standing.Progress.{Progress}
@@ -28,10 +29,6 @@ IsDead start calls path = HasOrderAfter start calls path → ⊥
 -- a configuration is a dead end: all fronts that lead there are
 abbrev pub IsDeadAt : Contents → List Operation → Configuration → Type 0
 IsDeadAt start calls c = (path : List ℕ) → IsFront start calls path → LeadsTo start calls path c → IsDead start calls path
-
--- the configuration to which some calls lead has this place in the memo
-abbrev pub IsConfigurationAt : Contents → List Operation → List Configuration → List ℕ → ℕ → Type 0
-IsConfigurationAt start calls visited path at = (c : Configuration) × (slice_get visited at ≡ Some c) × LeadsTo start calls path c
 
 -- each call listed may come next
 abbrev pub AreNext : Contents → List Operation → List ℕ → List ℕ → Type 0

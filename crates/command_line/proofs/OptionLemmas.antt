@@ -3,7 +3,7 @@ use Rattle.std.proofs.Common.{◌≡◌, ◌∙◌, ◌++◌, true, false, refl,
 use Rattle.std.proofs.Common.{Option, Some, None, codes}
 use Rattle.std.specs.List.{fold}
 use Rattle.std.specs.Str.{bytes_eq}
-use Rattle.std.proofs.lemmas.Bool.{leb-true}
+use Rattle.std.proofs.lemmas.Bool.{leb-true, and_parts, or_parts}
 use Rattle.std.proofs.lemmas.Slice.Eq.{bytes_eq-Decides}
 use Rattle.clap.specs.Faults.{settle_fault, turn_fault, walk_fault}
 use Rattle.clap.specs.Simple.{Shape}
@@ -22,8 +22,8 @@ use Rattle.command_line.specs.Limits.{u64_limit}
 use Rattle.command_line.specs.Tables.{Choice, Flag, Usage, among, are_flags, flag_named, is_choice, within}
 use Rattle.command_line.specs.Words.{AreOptionsOf, Given, IsValue, IsValueOf, has_option, option_words}
 use Rattle.command_line.proofs.PlainLemmas.{IsPlain, value_is_plain}
-use Rattle.command_line.proofs.TableLemmas.{IsFlagWord, IsFound, both, built_calls, built_flag, built_usage, by_id, by_long, flag_word}
-use Rattle.command_line.proofs.TableLemmas.{found_flag, not_either}
+use Rattle.command_line.proofs.TableLemmas.{IsFlagWord, IsFound, built_calls, built_flag, built_usage, by_id, by_long, flag_word}
+use Rattle.command_line.proofs.TableLemmas.{found_flag}
 use Rattle.command_line.proofs.TableLemmas.{same_swapped}
 
 -- ---- rows
@@ -33,7 +33,7 @@ at_new : (id : Text) (change : Row → List Row) (missing rows : List Row) → h
     → at_row id change missing rows ≡ rows ++ missing
 at_new id change missing [] new = refl
 at_new id change missing (r ∷ rs) new =
-    let parts = not_either (bytes_eq r.id id) _ new in
+    let parts = or_parts (bytes_eq r.id id) _ new in
     let other = parts.0 in
     rw other (ap (λ (rest : List Row). r ∷ rest) (at_new id change missing rs parts.1))
 
@@ -55,7 +55,7 @@ pub has_row_more : (id : Text) (rows : List Row) (r : Row) → has_row id rows �
     → has_row id (rows ++ r ∷ []) ≡ false
 has_row_more id [] r none other = rw other refl
 has_row_more id (x ∷ xs) r none other =
-    let parts = not_either (bytes_eq x.id id) _ none in
+    let parts = or_parts (bytes_eq x.id id) _ none in
     let first = parts.0 in
     rw first (has_row_more id xs r parts.1 other)
 
@@ -122,10 +122,10 @@ module _ (u : Usage) (all : are_flags u.flags ≡ true) where
     word = subst IsFlagWord found.name_is (flag_word is.flag.name found.is_flag.filled found.is_flag.no_equals)
 
     plain : IsPlain text
-    plain = value_is_plain is.flag.values text (both _ _ found.is_flag.limits).0 is.value
+    plain = value_is_plain is.flag.values text (and_parts _ _ found.is_flag.limits).0 is.value
 
     passes : accepts false (parser_for is.flag.values) text ≡ true
-    passes = value_passes is.flag.values text (both _ _ found.is_flag.limits).0 is.value
+    passes = value_passes is.flag.values text (and_parts _ _ found.is_flag.limits).0 is.value
 
     -- the walk takes the flag
     flag_walked : (h : Held) → walked shape.rules [] (walk_from h) (45 ∷ 45 ∷ name) ≡ between name h
@@ -223,7 +223,7 @@ module _ (u : Usage) (all : are_flags u.flags ≡ true) where
       → AreNew (rows ++ row_given g ∷ []) gs
   new_after rows g [] once new = tt
   new_after rows g (x ∷ xs) once new =
-      let parts = not_either (bytes_eq x.0 g.0) _ once in
+      let parts = or_parts (bytes_eq x.0 g.0) _ once in
       (has_row_more x.0 rows (row_given g) new.0 (same_swapped g.0 x.0 ∙ parts.0), new_after rows g xs parts.1 new.1)
 
   -- the walk over options, from what is held before them

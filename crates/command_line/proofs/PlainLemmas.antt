@@ -1,8 +1,8 @@
 -- Words that are no flags.
-use Rattle.std.proofs.Common.{◌≡◌, ◌==◌, ◌||◌, ◌&&◌, ℕ, Bool, true, false, not, refl, ap, subst, sym, ◌∙◌, arith, List, [], ◌∷◌, None}
+use Rattle.std.proofs.Common.{◌≡◌, ◌==◌, ◌||◌, ℕ, Bool, true, false, refl, ap, subst, sym, ◌∙◌, arith, List, [], ◌∷◌, None}
 use Rattle.std.specs.List.{list_all}
 use Rattle.std.specs.Str.{bytes_eq}
-use Rattle.std.proofs.lemmas.Bool.{eqb-true}
+use Rattle.std.proofs.lemmas.Bool.{and_parts, eqb-true, not-true}
 use Rattle.std.proofs.lemmas.Slice.Eq.{bytes_eq-Decides}
 use Rattle.std.proofs.lemmas.Str.Parse.{digit_from_value}
 use Rattle.clap.specs.Lexer.{long_of, short_of}
@@ -39,23 +39,13 @@ spelled_is_plain (x ∷ rest) number = plain_start x rest (go (x == 45) refl)
 -- one that begins with no hyphen
 no_flag_is_plain : (text : Text) → is_no_flag text ≡ true → IsPlain text
 no_flag_is_plain [] none = record { not_dashes = refl; not_long = refl; not_short = refl }
-no_flag_is_plain (x ∷ rest) none = plain_start x rest (go (x == 45) none)
-  where
-    go : (b : Bool) → not b ≡ true → b ≡ false
-    go false is = refl
-    go true is = cc
-
--- both of two
-two : (a b : Bool) → (a && b) ≡ true → (a ≡ true) × (b ≡ true)
-two true true h = (refl, refl)
-two true false h = cc
-two false b h = cc
+no_flag_is_plain (x ∷ rest) none = plain_start x rest (not-true (x == 45) none)
 
 -- what holds of all words holds of a text that is one of them
 word_is_no_flag : (text : Text) (words : List Text) → is_among text words ≡ true → list_all is_no_flag words ≡ true → is_no_flag text ≡ true
 word_is_no_flag text [] any all = cc
 word_is_no_flag text (w ∷ ws) any all =
-    let parts = two (is_no_flag w) (list_all is_no_flag ws) all in
+    let parts = and_parts (is_no_flag w) (list_all is_no_flag ws) all in
     go (bytes_eq w text) refl any parts.0 (λ later. word_is_no_flag text ws later parts.1)
   where
     go : (b : Bool) → bytes_eq w text ≡ b → (b || is_among text ws) ≡ true → is_no_flag w ≡ true
@@ -68,4 +58,4 @@ word_is_no_flag text (w ∷ ws) any all =
 pub value_is_plain : (choice : Choice) (text : Text) → is_choice choice ≡ true → IsValue choice text → IsPlain text
 value_is_plain (within least greatest) text sound value = spelled_is_plain text value.0
 value_is_plain (among words) text sound value =
-    no_flag_is_plain text (word_is_no_flag text words value (two _ (list_all is_no_flag words) sound).1)
+    no_flag_is_plain text (word_is_no_flag text words value (and_parts _ (list_all is_no_flag words) sound).1)

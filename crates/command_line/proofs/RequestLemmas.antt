@@ -6,7 +6,7 @@ use Rattle.std.specs.List.{All, find, list_any}
 use Rattle.std.specs.Option.{option_and_then, option_map, option_map_or, unwrap_or}
 use Rattle.std.specs.Prelude.{nat_le, slice_get}
 use Rattle.std.specs.Str.{bytes_eq}
-use Rattle.std.proofs.lemmas.Bool.{leb-true}
+use Rattle.std.proofs.lemmas.Bool.{leb-true, and_parts, or_parts}
 use Rattle.std.proofs.lemmas.Option.{same_Some}
 use Rattle.std.proofs.lemmas.Slice.Eq.{bytes_eq-Decides}
 use Rattle.clap.specs.Facts.{explicit_source}
@@ -28,9 +28,9 @@ use Rattle.command_line.specs.Tables.{usage_named, within}
 use Rattle.command_line.proofs.PlaceLemmas.{place_among}
 use Rattle.command_line.proofs.RowLemmas.{AllOwn, HasValues, IsOwn, RowPasses, RowsPass, level_passes, neither}
 use Rattle.command_line.proofs.StopLemmas.{enters}
-use Rattle.command_line.proofs.TableLemmas.{both, built_calls, built_flag, built_is, built_rules, built_table, built_tail, built_usage}
+use Rattle.command_line.proofs.TableLemmas.{built_calls, built_flag, built_is, built_rules, built_table, built_tail, built_usage}
 use Rattle.command_line.proofs.TableLemmas.{flag_parts, found_usage}
-use Rattle.command_line.proofs.TableLemmas.{named_so, not_either, rules_own, usage_found}
+use Rattle.command_line.proofs.TableLemmas.{named_so, rules_own, usage_found}
 
 -- ---- numbers
 
@@ -71,13 +71,13 @@ values_pass c a (r ∷ rs) own all = go (bytes_eq r.id a.id) refl (values_pass c
 -- a least and a greatest number, as tests
 within_both : (least greatest n : ℕ) → (nat_le least n && nat_le n greatest) ≡ true → (least ≤ n) × (n ≤ greatest)
 within_both least greatest n passes =
-    let parts = both (nat_le least n) (nat_le n greatest) passes in
+    let parts = and_parts (nat_le least n) (nat_le n greatest) passes in
     (leb-true _ _ parts.0, leb-true _ _ parts.1)
 
 -- the default is within the limits
 default_within : (f : Flag) (n : ℕ) → has_limits f ≡ true → f.default ≡ Some n → (least_of f.values ≤ n) × (n ≤ greatest_of f.values)
 default_within f n limits is =
-    let parts = both (is_choice f.values) _ limits in
+    let parts = and_parts (is_choice f.values) _ limits in
     let passes : (nat_le (least_of f.values) n && nat_le n (greatest_of f.values)) ≡ true = rw is at parts.1 in
     within_both (least_of f.values) (greatest_of f.values) n passes
 
@@ -157,8 +157,8 @@ flags_read : (c tail : List Rule) (fs : List Flag) (rows : List Row) → AllOwn 
 flags_read c tail [] rows own all flags there named = ([], tt)
 flags_read c tail (f ∷ fs) rows own all flags there named =
     let parts = flag_parts f fs flags in
-    let missing = not_either (is_missing rows (built_flag f)) _ there in
-    let names = both (is_named f.values (first_of f.name rows)) _ named in
+    let missing = or_parts (is_missing rows (built_flag f)) _ there in
+    let names = and_parts (is_named f.values (first_of f.name rows)) _ named in
     let n = flag_read c f rows own.0 all parts.0.limits missing.0 names.0 in
     let ns = flags_read c tail fs rows own.1 all parts.1 missing.1 names.1 in
     (n.0 ∷ ns.0, (n.1, ns.1))

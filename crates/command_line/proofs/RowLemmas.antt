@@ -107,7 +107,7 @@ AllOwn c [] = Unit {0}
 AllOwn c (a ∷ rest) = IsOwn c a × AllOwn c rest
 
 -- what is found passes the test
-found_passes : {X : Type 0} (p : X → Bool) (xs : List X) (x : X) → find p xs ≡ Some x → p x ≡ true
+pub found_passes : {X : Type 0} (p : X → Bool) (xs : List X) (x : X) → find p xs ≡ Some x → p x ≡ true
 found_passes p [] x found = cc
 found_passes p (y ∷ ys) x found = go (p y) refl (found_passes p ys x) found
   where

@@ -6,6 +6,7 @@ use Rattle.std.specs.Prelude.{count_by}
 use Rattle.std.specs.List.{before_first, find, list_all, list_any, position_or_len}
 use Rattle.std.specs.Option.{option_map}
 use Rattle.std.specs.Str.{bytes_eq}
+use Rattle.std.proofs.lemmas.Bool.{and_parts, or_parts, not-true}
 use Rattle.std.proofs.lemmas.Option.{same_Some}
 use Rattle.std.proofs.lemmas.Slice.Eq.{bytes_eq-Decides}
 use Rattle.clap.specs.Faults.{has_free_rules, is_simple_and_free}
@@ -16,7 +17,7 @@ use Rattle.clap.specs.Lexer.{has_byte, long_of}
 use Rattle.clap.specs.Walk.{Rule, Text, answers_to, arg_by_id, arg_by_index, arg_by_long, is_early_multiple, is_empty, subcommand_met, idle}
 use Rattle.command_line.specs.Commands.{calls_rule, calls_rules, leaf, option_rule, rules_for, table_app}
 use Rattle.command_line.specs.Tables.{Flag, Usage, are_flags, are_usages, flag_named, has_limits, is_flag_name, usage_named}
-use Rattle.command_line.proofs.RowLemmas.{AllOwn, IsOwn}
+use Rattle.command_line.proofs.RowLemmas.{AllOwn, IsOwn, found_passes}
 use Rattle.command_line.proofs.StopLemmas.{is_help}
 use Rattle.command_line.proofs.SubcommandLemmas.{NamesSubcommand}
 
@@ -157,21 +158,6 @@ free_table name u us =
 
 -- ---- finding a subcommand
 
--- both of two
-pub both : (a b : Bool) → (a && b) ≡ true → (a ≡ true) × (b ≡ true)
-both true true h = (refl, refl)
-both true false h = cc
-both false b h = cc
-
--- neither of two
-pub not_either : (a b : Bool) → (a || b) ≡ false → (a ≡ false) × (b ≡ false)
-not_either false b h = (refl, h)
-not_either true b h = cc
-
-pub negated : (b : Bool) → not b ≡ true → b ≡ false
-negated false h = refl
-negated true h = cc
-
 -- two texts, in the other order
 pub same_swapped : (a b : Text) → bytes_eq a b ≡ bytes_eq b a
 same_swapped a b = go (bytes_eq a b) refl (bytes_eq b a) refl
@@ -181,15 +167,6 @@ same_swapped a b = go (bytes_eq a b) refl (bytes_eq b a) refl
     go false ab false ba = refl
     go true ab false ba = absurd (true≢false (sym ((bytes_eq-Decides b a).1 (sym ((bytes_eq-Decides a b).0 ab))) ∙ ba))
     go false ab true ba = absurd (true≢false (sym ((bytes_eq-Decides a b).1 (sym ((bytes_eq-Decides b a).0 ba))) ∙ ab))
-
--- what is found passes the test
-found_passes : {X : Type 0} (p : X → Bool) (xs : List X) (x : X) → find p xs ≡ Some x → p x ≡ true
-found_passes p [] x found = cc
-found_passes p (y ∷ ys) x found = go (p y) refl (found_passes p ys x) found
-  where
-    go : (b : Bool) → p y ≡ b → (find p ys ≡ Some x → p x ≡ true) → cond b (Some y) (find p ys) ≡ Some x → p x ≡ true
-    go true here later is = ap p (sym (same_Some y x is)) ∙ here
-    go false here later is = later is
 
 -- the row that a name finds has the name
 pub named_so : (table : List Usage) (name : Text) (u : Usage) → usage_named name table ≡ Some u → u.name ≡ name
@@ -201,9 +178,9 @@ IsUsage u = (are_flags u.flags ≡ true) × (bytes_eq u.name (codes "help") ≡ 
 
 usage_parts : (u : Usage) (us : List Usage) → are_usages (u ∷ us) ≡ true → IsUsage u × (are_usages us ≡ true)
 usage_parts u us all =
-    let outer = both (not (bytes_eq u.name (codes "help")) && are_flags u.flags) (are_usages us) all in
-    let inner = both (not (bytes_eq u.name (codes "help"))) (are_flags u.flags) outer.0 in
-    ((inner.1, negated _ inner.0), outer.1)
+    let outer = and_parts (not (bytes_eq u.name (codes "help")) && are_flags u.flags) (are_usages us) all in
+    let inner = and_parts (not (bytes_eq u.name (codes "help"))) (are_flags u.flags) outer.0 in
+    ((inner.1, not-true _ inner.0), outer.1)
 
 -- so the options of a row that is found are as they should be, and it is not `help`
 pub found_usage : (table : List Usage) (name : Text) (u : Usage) → are_usages table ≡ true → usage_named name table ≡ Some u → IsUsage u
@@ -286,7 +263,7 @@ usage_found program (v ∷ vs) name s found not_help = go (bytes_eq v.name name)
 own_after : (a : Rule) (c xs : List Rule) → list_any (λ (b : Rule). bytes_eq a.id b.id) xs ≡ false → AllOwn c xs → AllOwn (a ∷ c) xs
 own_after a c [] other own = tt
 own_after a c (x ∷ xs) other own =
-    let parts = not_either (bytes_eq a.id x.id) _ other in
+    let parts = or_parts (bytes_eq a.id x.id) _ other in
     (go (bytes_eq a.id x.id) parts.0 own.0, own_after a c xs parts.1 own.1)
   where
     go : (b : Bool) → b ≡ false → IsOwn c x → cond b (Some a) (find (λ (y : Rule). bytes_eq y.id x.id) c) ≡ Some x
@@ -304,18 +281,18 @@ pub record IsFlag (f : Flag) (others : List Flag) : Type 0 where
 
 pub flag_parts : (f : Flag) (fs : List Flag) → are_flags (f ∷ fs) ≡ true → IsFlag f fs × (are_flags fs ≡ true)
 flag_parts f fs all =
-    let outer = both (is_flag_name f.name fs && has_limits f) (are_flags fs) all in
-    let inner = both (is_flag_name f.name fs) (has_limits f) outer.0 in
-    let n4 = both _ (not (list_any (λ (g : Flag). bytes_eq f.name g.name) fs)) inner.0 in
-    let n3 = both _ (not (bytes_eq f.name (codes "CALL"))) n4.0 in
-    let n2 = both _ (not (bytes_eq f.name (codes "help"))) n3.0 in
-    let n1 = both (not (is_empty f.name)) (not (has_byte 61 f.name)) n2.0 in (
+    let outer = and_parts (is_flag_name f.name fs && has_limits f) (are_flags fs) all in
+    let inner = and_parts (is_flag_name f.name fs) (has_limits f) outer.0 in
+    let n4 = and_parts _ (not (list_any (λ (g : Flag). bytes_eq f.name g.name) fs)) inner.0 in
+    let n3 = and_parts _ (not (bytes_eq f.name (codes "CALL"))) n4.0 in
+    let n2 = and_parts _ (not (bytes_eq f.name (codes "help"))) n3.0 in
+    let n1 = and_parts (not (is_empty f.name)) (not (has_byte 61 f.name)) n2.0 in (
       record {
-        filled = negated _ n1.0;
-        no_equals = negated _ n1.1;
-        not_help = negated _ n2.1;
-        not_calls = negated _ n3.1;
-        other = negated _ n4.1;
+        filled = not-true _ n1.0;
+        no_equals = not-true _ n1.1;
+        not_help = not-true _ n2.1;
+        not_calls = not-true _ n3.1;
+        other = not-true _ n4.1;
         limits = inner.1;
       },
       outer.1,
@@ -328,7 +305,7 @@ other_rules : (f : Flag) (fs : List Flag) (takes_calls : Bool) → bytes_eq f.na
 other_rules f [] true not_help not_calls other = rw (not_help, not_calls) refl
 other_rules f [] false not_help not_calls other = rw not_help refl
 other_rules f (g ∷ gs) takes_calls not_help not_calls other =
-    let parts = not_either (bytes_eq f.name g.name) _ other in
+    let parts = or_parts (bytes_eq f.name g.name) _ other in
     ap₂ (λ (x y : Bool). x || y) parts.0 (other_rules f gs takes_calls not_help not_calls parts.1)
 
 -- each argument of a row is the first of its id
@@ -414,7 +391,7 @@ calls_by_id (g ∷ gs) all =
 before_none : (text : Text) → has_byte 61 text ≡ false → before_first (λ x. x == 61) text ≡ text
 before_none [] none = refl
 before_none (x ∷ xs) none =
-    let parts = not_either (x == 61) (has_byte 61 xs) none in
+    let parts = or_parts (x == 61) (has_byte 61 xs) none in
     let first = parts.0 in
     let step : 1 + position_or_len (λ y. y == 61) xs ≡ suc (position_or_len (λ y. y == 61) xs) = omega arith in
     rw (first, step) (ap (λ (t : Text). x ∷ t) (before_none xs parts.1))

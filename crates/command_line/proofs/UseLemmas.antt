@@ -6,6 +6,7 @@ use Rattle.std.specs.List.{All, find, fold, list_any}
 use Rattle.std.specs.Option.{option_and_then, option_map, option_map_or}
 use Rattle.std.specs.Prelude.{slice_get}
 use Rattle.std.specs.Str.{bytes_eq}
+use Rattle.std.proofs.lemmas.Bool.{and_parts, or_parts}
 use Rattle.std.proofs.lemmas.Option.{same_Some}
 use Rattle.std.proofs.lemmas.Slice.Eq.{bytes_eq-Decides}
 use Rattle.clap.specs.Facts.{explicit_source}
@@ -30,9 +31,9 @@ use Rattle.command_line.proofs.OptionLemmas.{Goes, Settles, new_row, options_go,
 use Rattle.command_line.proofs.PlainLemmas.{IsPlain, spelled_is_plain}
 use Rattle.command_line.proofs.RequestLemmas.{is_missing, number_parser}
 use Rattle.command_line.proofs.SubcommandLemmas.{TakesSubcommand, level_by, level_rest, name_enters, name_faultless}
-use Rattle.command_line.proofs.TableLemmas.{both, built_calls, built_flag, built_is, built_rules, built_table, built_usage, by_index}
+use Rattle.command_line.proofs.TableLemmas.{built_calls, built_flag, built_is, built_rules, built_table, built_usage, by_index}
 use Rattle.command_line.proofs.TableLemmas.{calls_by_id, flag_parts}
-use Rattle.command_line.proofs.TableLemmas.{found_flag, found_usage, names_usage, not_either, same_swapped}
+use Rattle.command_line.proofs.TableLemmas.{found_flag, found_usage, names_usage, same_swapped}
 
 -- ---- no argument has a default of its own
 
@@ -102,7 +103,7 @@ none_missing : (flags : List Flag) (takes_calls : Bool) (given : List Given) (mo
 none_missing [] true given more required = refl
 none_missing [] false given more required = refl
 none_missing (f ∷ fs) takes_calls given more required =
-    let parts = both (is_some f.default || has_option f.name given) _ required in
+    let parts = and_parts (is_some f.default || has_option f.name given) _ required in
     let here : is_missing (map row_given given ++ more) (built_flag f) ≡ false =
     go (is_some f.default) parts.0 (given_there f.name given more) in
     rw here (none_missing fs takes_calls given more parts.1)
@@ -149,7 +150,7 @@ own_after_another : (g : Flag) (flags fs : List Flag) → list_any (λ (f : Flag
     → FlagsOwn (g ∷ flags) fs
 own_after_another g flags [] other own = tt
 own_after_another g flags (f ∷ fs) other own =
-    let parts = not_either (bytes_eq g.name f.name) _ other in
+    let parts = or_parts (bytes_eq g.name f.name) _ other in
     let first = parts.0 in
     (rw first own.0, own_after_another g flags fs parts.1 own.1)
 
@@ -200,7 +201,7 @@ calls_are : (given : List Given) (calls : List Text) → has_row (codes "CALL") 
 calls_are [] [] new = refl
 calls_are [] (t ∷ ts) new = refl
 calls_are (g ∷ gs) calls new =
-    let parts = not_either (bytes_eq g.0 (codes "CALL")) _ new in
+    let parts = or_parts (bytes_eq g.0 (codes "CALL")) _ new in
     let other = parts.0 in
     rw other (calls_are gs calls parts.1)
 

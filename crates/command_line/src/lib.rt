@@ -12,8 +12,6 @@ mod program;
 mod read;
 mod request;
 mod table;
-#[cfg(test)]
-mod tests;
 
 pub use fault::LineFault;
 pub use line::{Line, Tree};

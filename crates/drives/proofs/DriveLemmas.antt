@@ -1,9 +1,9 @@
 -- The passes of all processes after their scripts, and the history that they make.
-use Rattle.std.proofs.Common.{◌≡◌, ℕ, ◌<◌, Bool, true, false, ◌&&◌, nat_lt, List, [], ◌∷◌, length, map, Some, Ok, Err, inl, inr, refl, sym}
+use Rattle.std.proofs.Common.{◌≡◌, ℕ, ◌<◌, Bool, true, false, nat_lt, List, [], ◌∷◌, length, map, Some, Ok, Err, inl, inr, refl, sym}
 use Rattle.std.proofs.Common.{ap, ◌∙◌, arith, subst}
 use Rattle.std.specs.Prelude.{All, Contains, Result, IfOk, flat_map, slice_get, slice_index_or}
 use Rattle.std.specs.List.{list_all, range_with_len}
-use Rattle.std.proofs.lemmas.Bool.{lt-ltb, ltb-true, cases_lt}
+use Rattle.std.proofs.lemmas.Bool.{and_parts, lt-ltb, ltb-true, cases_lt}
 use Rattle.std.proofs.lemmas.List.{get_or-map, length-map}
 use Rattle.std.proofs.lemmas.List.Concat.{flat_map-cons}
 use Rattle.std.proofs.lemmas.List.Elements.{All-head, All-tail, All-cons, All-nil, All-weaker, All-contains}
@@ -89,18 +89,10 @@ list_all-from_All : {X : Type 0} (f : X → Bool) (xs : List X) → All (λ x. f
 list_all-from_All f [] h = refl
 list_all-from_All f (x ∷ xs) h = rw (All-head (λ x. f x ≡ true) x xs h) (list_all-from_All f xs (All-tail (λ x. f x ≡ true) x xs h))
 
-and-left : (a b : Bool) → (a && b) ≡ true → a ≡ true
-and-left true b h = refl
-and-left false b h = cc
-
-and-right : (a b : Bool) → (a && b) ≡ true → b ≡ true
-and-right true b h = h
-and-right false b h = cc
-
 All-from_list_all : {X : Type 0} (f : X → Bool) (xs : List X) → list_all f xs ≡ true → All (λ x. f x ≡ true) xs
 All-from_list_all f [] h = All-nil (λ x. f x ≡ true)
 All-from_list_all f (x ∷ xs) h =
-    All-cons (λ x. f x ≡ true) x xs (and-left (f x) (list_all f xs) h) (All-from_list_all f xs (and-right (f x) (list_all f xs) h))
+    let parts = and_parts (f x) (list_all f xs) h in All-cons (λ x. f x ≡ true) x xs parts.0 (All-from_list_all f xs parts.1)
 
 -- Events of processes below a number, in all logs and in their history.
 

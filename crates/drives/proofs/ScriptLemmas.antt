@@ -1,6 +1,7 @@
 -- What a pass shows after each call of a script.
-use Rattle.std.proofs.Common.{◌≡◌, ℕ, Bool, true, false, cond, ◌&&◌, ◌==◌, List, [], ◌∷◌, ◌++◌, length, nat_le, refl, sym, ap, ◌∙◌, arith}
+use Rattle.std.proofs.Common.{◌≡◌, ℕ, true, cond, ◌==◌, List, [], ◌∷◌, ◌++◌, length, nat_le, refl, sym, ap, ◌∙◌, arith}
 use Rattle.std.proofs.Common.{eq-eqb}
+use Rattle.std.proofs.lemmas.Bool.{and_parts}
 use Rattle.std.proofs.lemmas.List.{map-append, append-nil}
 use Rattle.std.proofs.lemmas.List.Elements.{All-push, All-weaker}
 use Rattle.list_laws.proofs.Lists.{filter_all}
@@ -36,11 +37,7 @@ pub tree-call-range : (call : Call) → is_tree_call call ≡ true → has_range
 tree-call-range (Get key) h = refl
 tree-call-range (Insert key value) h = refl
 tree-call-range (Remove key) h = refl
-tree-call-range (Scan low high) h = and-first (nat_le low high) _ h
-  where
-    and-first : (a b : Bool) → (a && b) ≡ true → a ≡ true
-    and-first true b k = refl
-    and-first false b k = cc
+tree-call-range (Scan low high) h = (and_parts (nat_le low high) _ h).0
 tree-call-range (Replace key old new) h = refl
 
 -- One event more.

@@ -6,8 +6,6 @@ mod ends;
 mod found;
 mod lines;
 mod outcome;
-#[cfg(test)]
-mod tests;
 mod wanted;
 
 pub use ends::{text_from, write_outcome};

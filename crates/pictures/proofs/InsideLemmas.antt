@@ -1,7 +1,7 @@
 -- Marks stay inside of their bars in a window.
-use Rattle.std.proofs.Common.{◌≡◌, ℕ, ◌-◌, ◌<◌, ◌≤◌, ◌&&◌, Bool, true, false, cond, List, Option, Some, None, refl, arith}
+use Rattle.std.proofs.Common.{◌≡◌, ℕ, ◌-◌, ◌<◌, ◌≤◌, Bool, true, false, cond, List, Option, Some, None, refl, arith}
 use Rattle.std.specs.Prelude.{nat_lt, nat_le, IfSome, Contains, option_map}
-use Rattle.std.proofs.lemmas.Bool.{and_parts, le-leb, leb-true, lt-ltb, ltb-true}
+use Rattle.std.proofs.lemmas.Bool.{and_parts, and_from, le-leb, leb-true, lt-ltb, ltb-true}
 use Rattle.pictures.specs.Windows.{cut_end, ends_from, rank, MarksStayInside}
 use Rattle.pictures.proofs.RankLemmas.{ranks_rise}
 
@@ -24,18 +24,13 @@ cut_behind columns from to column (Some e) le is before =
     by_test true less = less
     by_test false less = tt
 
-both_true : (a b : Bool) → a ≡ true → b ≡ true → (a && b) ≡ true
-both_true true true p q = refl
-both_true true false p q = q
-both_true false b p q = p
-
 pub marks_stay_inside : MarksStayInside
 marks_stay_inside columns all lanes from to bar mark inside starts stands lane_is within =
     let (low, high) = and_parts (nat_le from (rank columns mark.column)) (nat_lt (rank columns mark.column) to) within in
     let le : from ≤ rank columns mark.column = leb-true from (rank columns mark.column) low in
     let lt : rank columns mark.column < to = ltb-true (rank columns mark.column) to high in
     let begins : rank columns bar.from < rank columns mark.column = (ranks_rise columns bar.from mark.column).1 starts inside.behind in (
-      both_true (nat_lt (rank columns bar.from) to) (ends_from from (option_map (rank columns) bar.to))
+      and_from (nat_lt (rank columns bar.from) to) (ends_from from (option_map (rank columns) bar.to))
           (lt-ltb (rank columns bar.from) to (omega arith)) (ends_behind columns from mark.column bar.to le stands inside.before),
       record {
         lane = rw (inside.lane, lane_is) refl;

@@ -10,6 +10,3 @@ pub use read_scripts::scripts_of;
 pub use read_text::read_plan;
 pub use text_laws::{one_plan, one_plan_fault};
 pub use write_text::write_plan;
-
-#[cfg(test)]
-mod tests;

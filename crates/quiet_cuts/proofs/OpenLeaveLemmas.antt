@@ -23,7 +23,7 @@ use Rattle.quiet_cuts.specs.OpenLeaves.{LeavesOrWith}
 use Rattle.quiet_cuts.proofs.AroundLemmas.{beside, middle, AllPairs-before, AllPairs-behind, AllPairs-beside}
 use Rattle.quiet_cuts.proofs.ValueLemmas.{same_pairs, rising_after}
 use Rattle.quiet_cuts.proofs.SetLemmas.{Completed, Each, IsOrderOfSet, HasOrderTo, set_from_leaves}
-use Rattle.quiet_cuts.proofs.OneContentsLemmas.{code, turned, touches, put_by, found_by, code_tells, value_turned, untouched, telescoped}
+use Rattle.quiet_cuts.proofs.OneContentsLemmas.{code, turned, touches, put_by, found_by, code_tells, value_turned, untouched, telescoped, commuted}
 use Rattle.quiet_cuts.proofs.OneContentsLemmas.{same_sum}
 
 -- a legal list, by its parts
@@ -47,9 +47,6 @@ own_value (Replace key expected value) = Some value
 abbrev IsPaired : Call → Option ℕ → Option ℕ → Type 0
 IsPaired call found other = (w : Option ℕ → ℕ) → w found + w (own_value call) ≡ w other + w (turned call found)
 
-swapped : (x y : ℕ) → x + y ≡ y + x
-swapped x y = omega arith
-
 paired : (call : Call) → may_change call ≡ true → (found : Option ℕ) → (other : Option ℕ) × IsPaired call found other
 paired (Get key) h found = (None, absurd (false≢true h))
 paired (Insert key value) h found = (found, λ w. refl)
@@ -60,7 +57,7 @@ paired (Replace key expected value) h found = by_test (is_just found expected)
     by_test : (t : Bool) → (other : Option ℕ)
         × ((w : Option ℕ → ℕ) → w found + w (Some value) ≡ w other + w (cond t (Some value) found))
     by_test true = (found, λ w. refl)
-    by_test false = (Some value, λ w. swapped (w found) (w (Some value)))
+    by_test false = (Some value, λ w. commuted (w found) (w (Some value)))
 
 -- whether an open call may change a key
 abbrev may_touch : ℕ → Call → Bool

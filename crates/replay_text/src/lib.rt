@@ -19,6 +19,3 @@ pub const MAX_TURNS: u32 = 1_000_000;
 
 /// The most items of a schedule.
 pub const MAX_ITEMS: usize = 100_000;
-
-#[cfg(test)]
-mod tests;

@@ -6,8 +6,6 @@ mod drawn;
 mod drawn_plans;
 mod laws;
 mod mix;
-#[cfg(test)]
-mod tests;
 
 pub use drawn_plans::plan;
 pub use laws::{calls_follow_the_words, drawn_scripts_are_a_plan};

@@ -3,7 +3,7 @@ use Rattle.art_stages.specs.Scans.{child_from}
 use Rattle.art_scan.specs.Walks.{frame_test, frame_slot}
 use Rattle.art_scan.proofs.ByteLemmas.{bytes_past}
 use Rattle.art_scan.proofs.KeyByteLemmas.{pass, pass_all}
-use Rattle.art_scan.proofs.NextLemmas.{bytes_found, bytes_not, bytes_bare}
+use Rattle.art_scan.proofs.NextLemmas.{bytes_found, bytes_not, bytes_bare, not_tested}
 use Rattle.art_scan.proofs.children.+next_byte.Goals as goal
 
 pub returns-then-bare-left-clause-next : goal.returns-then-bare-left-clause-next
@@ -41,8 +41,17 @@ returns-then-is_walked-clause-next t c = λ w other.
     (λ e. c.if-bare-left.false (omega (arith, e, c.bare_bytes-bare.ensures.most)))
     (sym c.is_walked.ensures ∙ c.if-is_walked.true) (sym c.slot_of.ensures ∙ c.in-Some.is)
 
-pub returns-else-is_walked-clause-next : goal.returns-else-is_walked-clause-next
-returns-else-is_walked-clause-next t c = λ w other.
+pub returns-then-is_behind-clause-next : goal.returns-then-is_behind-clause-next
+returns-then-is_behind-clause-next t c = λ w other.
+    pass (frame_test c.args.frame.row.kind c.args.low c.args.high c.args.frame) (frame_slot c.args.frame.row.kind c.args.frame)
+    (child_from w c.args.frame) c.args.byte c.bare_bytes-bare.result c.args.left other c.bare_bytes-bare.ensures.most
+    c.bare_bytes-bare.ensures.bare
+    ∙ bytes_past (frame_test c.args.frame.row.kind c.args.low c.args.high c.args.frame) (frame_slot c.args.frame.row.kind c.args.frame)
+    (child_from w c.args.frame) (c.args.byte + c.bare_bytes-bare.result) (c.args.left - c.bare_bytes-bare.result) other
+    (λ y m. not_tested c.args.frame.row.kind c.args.low c.args.high c.args.frame y (c.is_behind.ensures c.if-is_behind.true c.args.low y m))
+
+pub returns-else-is_behind-clause-next : goal.returns-else-is_behind-clause-next
+returns-else-is_behind-clause-next t c = λ w other.
     pass (frame_test c.args.frame.row.kind c.args.low c.args.high c.args.frame) (frame_slot c.args.frame.row.kind c.args.frame)
     (child_from w c.args.frame) c.args.byte c.bare_bytes-bare.result c.args.left other c.bare_bytes-bare.ensures.most
     c.bare_bytes-bare.ensures.bare
@@ -50,4 +59,4 @@ returns-else-is_walked-clause-next t c = λ w other.
     (child_from w c.args.frame) (c.args.byte + c.bare_bytes-bare.result) (c.args.left - c.bare_bytes-bare.result) other
     (λ e. c.if-bare-left.false (omega (arith, e, c.bare_bytes-bare.ensures.most)))
     (sym c.is_walked.ensures ∙ c.if-is_walked.false)
-    ∙ c.next_byte-else-is_walked.ensures.next w other)
+    ∙ c.next_byte-else-is_behind.ensures.next w other)

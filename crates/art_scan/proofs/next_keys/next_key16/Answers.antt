@@ -5,16 +5,10 @@ use Rattle.art_scan.proofs.next_keys.next_key16.Goals as goal
 pub returns-then-count-le8 : goal.returns-then-count-le8
 returns-then-count-le8 c = λ y from below.
     few_keys y c.args.count c.args.first c.args.second c.key_count-count.result None (sym c.key_count-count.ensures.count)
-    (grind (arith, c.if-count-le8.true)) (c.least_among.ensures y from below)
+    (grind (arith, c.if-count-le8.true)) (c.least_among.ensures.bare y from below)
 
-pub returns-then-low-high : goal.returns-then-low-high
-returns-then-low-high c = λ y from below.
+pub returns : goal.returns
+returns c = λ y from below.
     many_keys_none y c.args.count c.args.first c.args.second c.key_count-count.result (sym c.key_count-count.ensures.count)
-    (grind (arith, c.if-count-le8.false)) (c.least_among-low.ensures y from below)
-    (c.least_among-high.ensures y from (omega (arith, below, c.if-low-high.true)))
-
-pub returns-else-low-high : goal.returns-else-low-high
-returns-else-low-high c = λ y from below.
-    many_keys_none y c.args.count c.args.first c.args.second c.key_count-count.result (sym c.key_count-count.ensures.count)
-    (grind (arith, c.if-count-le8.false)) (c.least_among-low.ensures y from (omega (arith, below, c.if-low-high.false)))
-    (c.least_among-high.ensures y from below)
+    (grind (arith, c.if-count-le8.false)) (c.least_among-low.ensures.bare y from (omega (arith, below, c.least_among-2.ensures.most)))
+    (c.least_among-2.ensures.bare y from below)

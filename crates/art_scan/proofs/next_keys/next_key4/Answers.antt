@@ -6,4 +6,4 @@ use Rattle.art_scan.proofs.next_keys.next_key4.Goals as goal
 pub returns : goal.returns
 returns c = λ y from below.
     ap (place_of y) (keys4_bytes c.args.keys)
-    ∙ (ap (λ n. place_of y (low_bytes n (c.args.keys / 256))) (sym c.keys_count.ensures.count) ∙ c.least_among.ensures y from below)
+    ∙ (ap (λ n. place_of y (low_bytes n (c.args.keys / 256))) (sym c.keys_count.ensures.count) ∙ c.least_among.ensures.bare y from below)

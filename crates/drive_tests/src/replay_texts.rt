@@ -1,9 +1,9 @@
 // Texts of replays, whole ones and with one fault each.
-use crate::read_replay;
 use art_core::Item;
 use art_rows::Shape;
 use art_steps::{Point, Variant};
 use plans::MachineFault;
+use replay_text::read_replay;
 use std::alloc::Global;
 use std::process::Abort;
 use std::test::Fail;

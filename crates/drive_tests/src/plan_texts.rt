@@ -1,7 +1,7 @@
 // Texts of plans that were written and are read again, and texts with one fault each.
-use crate::{read_plan, scripts_of, write_plan};
 use art_steps::TreeCall;
 use events::Call;
+use plan_text::{read_plan, scripts_of, write_plan};
 use plans::{Plan, PlanFault};
 use serde_json::Value;
 use std::alloc::Global;

@@ -1,7 +1,7 @@
 // The lines of faults, beside the texts of faults for people.
 
-use crate::lines::history_fault_line;
 use events::HistoryFault;
+use outcomes::history_fault_line;
 use std::test::Fail;
 
 // The text of a fault for people is its line without the word before it.

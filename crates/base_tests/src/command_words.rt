@@ -1,4 +1,5 @@
-use crate::{Line, LineFault, Tree, read_line};
+// What the words of a line ask for, and the text for words that are no line.
+use command_line::{Line, LineFault, Tree, read_line};
 use std::test::Fail;
 
 // Words that are no line, and how the text that the user is shown begins.

@@ -1,13 +1,12 @@
 // Plans whose calls were worked out by hand. From the seed 42 the stream 54 has the words that the generator's authors
 // print: 2707161783, 2068313097, 3122475824, 2211639955, 3215226955, 3421331566.
 
-use crate::drawn_plans::plan;
-use crate::mix::Mix;
 use events::Call;
 use plans::PlanFault;
 use std::alloc::Global;
 use std::process::Abort;
 use std::test::Fail;
+use workload::{Mix, plan};
 
 const HALF_GETS: Mix = Mix {
     get: 50,
