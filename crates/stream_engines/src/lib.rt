@@ -10,3 +10,4 @@ mod reports;
 mod small_history;
 
 pub use following::{follow_outcome, run_follow};
+pub use small_history::small_line;

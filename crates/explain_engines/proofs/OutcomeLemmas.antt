@@ -1,0 +1,15 @@
+-- An explanation is an outcome of the text, and an answer to the text that was read is one to the whole.
+use Rattle.std.proofs.Common.{ℕ, ◌+◌, List, take}
+use Rattle.history_text.specs.Limits.{text_limit}
+use Rattle.outcomes.specs.declared.outcome.Answer.{Answer}
+use Rattle.history_engines.proofs.WholeHistories.{IsTextOf-whole}
+use Rattle.explain_engines.specs.Answers.{IsExplainAnswer}
+
+pub IsExplainAnswer-whole : (budget : ℕ) (text : List ℕ) (answer : Answer) (bytes : List ℕ)
+    → IsExplainAnswer budget (take (text_limit + 1) text) answer bytes
+    → IsExplainAnswer budget text answer bytes
+IsExplainAnswer-whole budget text answer bytes h = record {
+  history = h.history;
+  is_text = IsTextOf-whole text h.history h.is_text;
+  explains = h.explains;
+}

@@ -1,0 +1,8 @@
+-- The lines so far and those of the calls left are all lines.
+use Rattle.std.proofs.Common.{◌≡◌, ◌++◌, drop, string_bytes}
+use Rattle.explain_engines.specs.Reports.{rows}
+use Rattle.explain_engines.proofs.reports.row_lines.Given as goal
+
+abbrev pub invariant-loop-number : goal.invariant-loop-number
+invariant-loop-number l =
+    string_bytes l.text ++ rows l.events (drop l.number l.calls) (drop l.number l.reasons) ≡ rows l.events l.calls l.reasons

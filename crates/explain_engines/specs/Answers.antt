@@ -1,0 +1,77 @@
+-- What `explain` answers to the text of a history at a budget.
+use Rattle.std.specs.Prelude.{◌≡◌, ◌⊎◌, ℕ, List, [], ◌++◌}
+use Rattle.serde_json.specs.Written.{compact_text}
+use Rattle.events.specs.HistoryView.{HistoryView}
+use Rattle.events.specs.declared.event.Event.{Event}
+use Rattle.events.specs.declared.operation.Operation.{Operation}
+use Rattle.events.specs.Histories.{IsHistory}
+use Rattle.events.specs.Operations.{operations}
+use Rattle.map_object.specs.MapObject.{Contents}
+use Rattle.orders.specs.Orders.{IsLinearizable}
+use Rattle.configurations.specs.Counts.{ReachesMoreThan}
+use Rattle.segments.specs.SegmentView.{SegmentView}
+use Rattle.quiet_cuts.specs.Groups.{AreAlike}
+use Rattle.history_text.specs.Texts.{Spells}
+use Rattle.judge.specs.declared.verdict.Verdict.{Verdict}
+use Rattle.judge.specs.declared.verdict.Verdict.TheVariants.{Yes, No, Undecided}
+use Rattle.judge.specs.Exact.{IsExactVerdict}
+use Rattle.judge.specs.Reports.{verdict_data}
+use Rattle.judge.specs.Shown.{IsShown}
+use Rattle.explaining.specs.declared.explanation.Explanation.{Explanation}
+use Rattle.explaining.specs.Explained.{IsExplanation}
+use Rattle.outcomes.specs.declared.outcome.Answer.{Answer}
+use Rattle.outcomes.specs.Lines.{line}
+use Rattle.history_engines.specs.Answers.{IsTextOf, answer_of}
+use Rattle.explain_engines.specs.Reports.{rows}
+
+-- the text is that of a history with these calls, at other places and by other processes, from these pairs; and it has no order
+pub record IsHistoryWith (start : Contents) (calls : List Operation) (text : List ℕ) : Type 0 where
+  pub history : HistoryView
+  pub spelled : Spells text history
+  pub is_history : IsHistory history
+  pub start_is : history.start ≡ start
+  pub alike : AreAlike calls (operations history.events)
+  pub refuted : IsLinearizable history.start (operations history.events) → ⊥
+
+-- the line of such a text, or nothing where the calls fit no history
+abbrev pub IsHistoryLine : Contents → List Operation → List ℕ → Type 0
+IsHistoryLine start calls bytes = (bytes ≡ []) ⊎ ((text : List ℕ) × (bytes ≡ line text) × IsHistoryWith start calls text)
+
+-- few calls of a segment that have no order, which is why it has none, in a line each, and a history with them in another
+pub record AreFew (budget : ℕ) (events : List Event) (segment : SegmentView) (bytes : List ℕ) : Type 0 where
+  pub few : Explanation
+  pub explains : IsExplanation segment.start segment.calls budget few
+  pub small : List ℕ
+  pub shown : IsHistoryLine segment.start few.calls.items small
+  pub bytes_are : bytes ≡ rows events few.calls.items few.reasons.items ++ small
+
+-- nothing, where more configurations of the segment are reachable than the budget
+pub record AreNone (budget : ℕ) (segment : SegmentView) (bytes : List ℕ) : Type 0 where
+  pub none : bytes ≡ []
+  pub reaches : ReachesMoreThan segment.start segment.calls budget
+
+-- what stands behind the report of a no that names a segment
+abbrev pub AreDetailsOf : ℕ → List Event → SegmentView → List ℕ → Type 0
+AreDetailsOf budget events segment bytes = AreNone budget segment bytes ⊎ AreFew budget events segment bytes
+
+-- and behind that of each verdict on these events
+abbrev pub AreDetails : ℕ → List Event → Verdict → List ℕ → Type 0
+AreDetails budget events (Yes order) bytes = bytes ≡ []
+AreDetails budget events (No segment) bytes = AreDetailsOf budget events segment bytes
+AreDetails budget events (Undecided segment) bytes = bytes ≡ []
+
+-- what is told of a history: the report of its exact verdict, which is this answer, and of a no what shows it
+pub record IsExplaining (budget : ℕ) (history : HistoryView) (answer : Answer) (bytes : List ℕ) : Type 0 where
+  pub verdict : Verdict
+  pub details : List ℕ
+  pub shown : IsShown history.start budget (operations history.events) verdict
+  pub exact : IsExactVerdict history.start budget (operations history.events) verdict
+  pub shows : AreDetails budget history.events verdict details
+  pub answer_is : answer ≡ answer_of verdict
+  pub bytes_are : bytes ≡ line (compact_text (verdict_data verdict)) ++ details
+
+-- `explain` answers the text at the budget so
+pub record IsExplainAnswer (budget : ℕ) (text : List ℕ) (answer : Answer) (bytes : List ℕ) : Type 0 where
+  pub history : HistoryView
+  pub is_text : IsTextOf text history
+  pub explains : IsExplaining budget history answer bytes

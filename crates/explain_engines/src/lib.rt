@@ -1,0 +1,8 @@
+//! The engine that explains: the judge's verdict on the text of a history, and where that is a no few calls of the segment that it
+//! names, which have no order either and refute it.
+#![tactic(auto)]
+
+mod explained;
+mod reports;
+
+pub use explained::{explain_outcome, run_explain};

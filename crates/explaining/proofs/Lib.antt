@@ -1,0 +1,4 @@
+mod AgreeLemmas
+mod RelaxedLemmas
+mod RestLemmas
+mod EnoughLemmas

@@ -1,0 +1,8 @@
+use Rattle.std.proofs.Common.{take}
+use Rattle.std.specs.List.{AllZip}
+use Rattle.explaining.specs.Explained.{IsReasonForOne}
+use Rattle.explaining.proofs.lessening.look_at_each.Given as goal
+
+-- a reason for each call so far
+abbrev pub invariant-loop-call : goal.invariant-loop-call
+invariant-loop-call l = AllZip (IsReasonForOne l.map l.budget l.calls) (take l.call-index l.calls) l.reasons.items

@@ -1,0 +1,66 @@
+-- What is said of calls without order: few of them that have none either.
+use Rattle.std.specs.Prelude.{◌≡◌, ℕ, ◌<◌, true, List, [], ◌∷◌, length, Contains}
+use Rattle.std.specs.List.{AllZip}
+use Rattle.events.specs.declared.operation.Operation.{Operation}
+use Rattle.events.specs.Precedence.{NonePrecedesItself}
+use Rattle.map_object.specs.MapObject.{Contents}
+use Rattle.orders.specs.Orders.{IsOrder, IsLinearizable}
+use Rattle.configurations.specs.Counts.{ReachesMoreThan}
+use Rattle.quiet_cuts.specs.TimeCuts.{InvocationsRise}
+use Rattle.explaining.specs.Rest.{rest_of, are_held}
+use Rattle.explaining.specs.Relaxed.{IsCallOf}
+use Rattle.explaining.specs.declared.explanation.Reason.{Reason}
+use Rattle.explaining.specs.declared.explanation.Reason.TheVariants as reasons
+use Rattle.explaining.specs.declared.explanation.Explanation.{Explanation}
+use Rattle.explaining.specs.declared.explanation.Explained.{Explained}
+use Rattle.explaining.specs.declared.explanation.Explained.TheVariants.{Order, Few, Spent}
+use Rattle.explaining.specs.declared.leaving.Without.{Without}
+use Rattle.explaining.specs.declared.leaving.Without.TheVariants.{Rest, Kept}
+use Rattle.explaining.specs.declared.lessening.Pass.{Pass}
+use Rattle.explaining.specs.declared.lessening.Pass.TheVariants.{Less, Least}
+
+-- some of the calls, each as it is or without its answer, that have no order; and that alone refutes all of them: an order of all would be
+-- one of these
+pub record AreEnough (start : Contents) (calls kept : List Operation) : Type 0 where
+  pub from : (b : Operation) → Contains kept b → (a : Operation) × Contains calls a × IsCallOf a b
+  pub rise : InvocationsRise kept
+  pub apart : NonePrecedesItself kept
+  pub none : IsLinearizable start kept → ⊥
+  pub refute : IsLinearizable start calls → IsLinearizable start kept
+
+-- why a call is kept: without it, and without the answers that tell what it put, the others have an order; or their search took more than
+-- the budget; or one
+-- that has no answer waits for what it may put
+abbrev pub IsReasonFor : Contents → ℕ → List Operation → List ℕ → Reason → Type 0
+IsReasonFor start budget calls places (reasons.Order order) = IsOrder start (rest_of places calls) order.items
+IsReasonFor start budget calls places reasons.Spent = ReachesMoreThan start (rest_of places calls) budget
+IsReasonFor start budget calls places reasons.Held = are_held places calls ≡ true
+
+-- one call alone
+abbrev pub IsReasonForOne : Contents → ℕ → List Operation → Operation → Reason → Type 0
+IsReasonForOne start budget calls a reason = IsReasonFor start budget calls (a.inv ∷ []) reason
+
+-- few calls that are enough, with the reason why none of them can be left out
+pub record IsExplanation (start : Contents) (calls : List Operation) (budget : ℕ) (e : Explanation) : Type 0 where
+  pub enough : AreEnough start calls e.calls.items
+  pub minimal : AllZip (IsReasonForOne start budget e.calls.items) e.calls.items e.reasons.items
+
+-- what each answer says: an order of all calls; few that are enough; or that more configurations are reachable than the budget
+abbrev pub IsExplained : Contents → List Operation → ℕ → Explained → Type 0
+IsExplained start calls budget (Order order) = IsOrder start calls order.items
+IsExplained start calls budget (Few e) = IsExplanation start calls budget e
+IsExplained start calls budget Spent = ReachesMoreThan start calls budget
+
+-- what became of calls that were to go: the others are enough, and fewer where one of them was there; or these are kept
+pub record IsRest (start : Contents) (calls : List Operation) (places : List ℕ) (rest : List Operation) : Type 0 where
+  pub enough : AreEnough start calls rest
+  pub fewer : (a : Operation) → Contains calls a → Contains places a.inv → length rest < length calls
+
+abbrev pub IsWithout : Contents → List Operation → List ℕ → ℕ → Without → Type 0
+IsWithout start calls places budget (Rest rest) = IsRest start calls places rest.items
+IsWithout start calls places budget (Kept reason) = IsReasonFor start budget calls places reason
+
+-- what a look at each call alone came to: fewer that are enough, or a reason for each
+abbrev pub IsPass : Contents → List Operation → ℕ → Pass → Type 0
+IsPass start calls budget (Less rest) = AreEnough start calls rest.items × (length rest.items < length calls)
+IsPass start calls budget (Least reasons) = AllZip (IsReasonForOne start budget calls) calls reasons.items

@@ -1,0 +1,21 @@
+-- Laws of calls of which some are left out.
+use Rattle.std.specs.Prelude.{◌≡◌, false, ℕ, List}
+use Rattle.events.specs.declared.operation.Operation.{Operation}
+use Rattle.map_object.specs.MapObject.{Contents, IsRising}
+use Rattle.orders.specs.Orders.{IsLinearizable}
+use Rattle.quiet_cuts.specs.TimeCuts.{InvocationsRise}
+use Rattle.explaining.specs.Rest.{rest_of, are_held}
+use Rattle.explaining.specs.Relaxed.{IsRelaxed}
+
+-- where all calls have an order, those that are left have one
+abbrev pub RelaxedCallsHaveOrders : Type 0
+RelaxedCallsHaveOrders =
+    (start : Contents) (calls others : List Operation) → IsRising start → InvocationsRise calls → InvocationsRise others
+    → IsRelaxed calls others
+    → IsLinearizable start calls → IsLinearizable start others
+
+-- calls that go and are not held leave the others so
+abbrev pub RestsAreRelaxed : Type 0
+RestsAreRelaxed =
+    (places : List ℕ) (calls : List Operation) → InvocationsRise calls → are_held places calls ≡ false
+    → IsRelaxed calls (rest_of places calls)

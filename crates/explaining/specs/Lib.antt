@@ -1,0 +1,5 @@
+pub mod Tells
+pub mod Rest
+pub mod Relaxed
+pub mod Laws
+pub mod Explained

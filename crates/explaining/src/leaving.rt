@@ -1,0 +1,45 @@
+// Some calls are left out, where the others have no order either.
+ghost use Rattle.std.specs.Prelude.{◌≡◌, ◌<◌, ◌^◌, AllPairs, IfOk};
+ghost use Rattle.events.specs.Precedence.{NonePrecedesItself};
+ghost use Rattle.explaining.specs.Explained.{IsWithout};
+
+use crate::explanation::Reason;
+use crate::rests::{are_held, gone_of, rest_of};
+use call_search::{Found, search_calls};
+use events::{Memory, Operation};
+use map_object::SortedMap;
+use std::alloc::Global;
+
+/// What became of calls that were to go.
+#[derive(Drop)]
+pub enum Without {
+    /// The others have no order.
+    Rest(Vec<Operation>),
+    /// They are kept.
+    Kept(Reason),
+}
+
+/// Leaves out the calls that were invoked at these places, where the others have no order without them.
+pub(crate) fn leave_out(
+    alloc: Global,
+    map: &SortedMap,
+    calls: &[Operation],
+    places: &[usize],
+    budget: u32,
+) -> Result<Without, Memory>
+    requires rising { AllPairs (λ a b. a.inv < b.inv) calls.now }
+    requires apart { NonePrecedesItself calls.now }
+    ensures { IfOk result (IsWithout map.now calls.now places.now budget) }
+{
+    let gone = gone_of(alloc, calls, places)?;
+    let rest = rest_of(alloc, calls, &gone, places)?;
+    if are_held(&gone, &rest) {
+        return Ok(Without::Kept(Reason::Held));
+    }
+    let start = SortedMap::of(alloc, map.pairs())?;
+    match search_calls(alloc, start, &rest, budget)? {
+        Found::NoOrder => Ok(Without::Rest(rest)),
+        Found::Order(order) => Ok(Without::Kept(Reason::Order(order))),
+        Found::Spent => Ok(Without::Kept(Reason::Spent)),
+    }
+}

@@ -1,0 +1,132 @@
+// What a call may put at its key, and which calls tell it.
+ghost use Rattle.std.specs.Prelude.{◌≡◌, ℕ, Option, Some, None};
+ghost use Rattle.map_object.specs.MapObject.{value_at, is_just};
+ghost use Rattle.call_search.specs.Replies.{says_unchanged};
+ghost use Rattle.explaining.specs.Tells.{names_key, is_same, is_told, waits_for, is_told_by, tells, put_by, put_of, tells_put};
+
+use events::{Call, Operation, Reply, Response};
+
+/// Whether a call tells what another may put.
+pub(crate) fn tells_put(call: &Operation, other: &Operation) -> bool
+    ensures { result ≡ tells_put call.now other.now }
+{
+    match put_of(&other.call, &other.response) {
+        Some(value) => tells(call, other.call.low_key(), value),
+        None => false,
+    }
+}
+
+/// What a call may put at its key: a value, or none in place of one; nothing where its response says that it changed nothing.
+fn put_of(call: &Call, response: &Option<Response>) -> Option<Option<u64>>
+    ensures { result ≡ put_of call.now response.now }
+{
+    match response {
+        Some(response) if says_unchanged(call, &response.reply) => None,
+        _ => put_by(call),
+    }
+}
+
+/// What a call may put at its key, whatever it is answered.
+fn put_by(call: &Call) -> Option<Option<u64>>
+    ensures { result ≡ put_by call.now }
+{
+    match call {
+        Call::Get(_) | Call::Scan(_, _) => None,
+        Call::Insert(_, value) | Call::Replace(_, _, value) => Some(Some(*value)),
+        Call::Remove(_) => Some(None),
+    }
+}
+
+/// Whether a reply says that the call changed nothing.
+fn says_unchanged(call: &Call, reply: &Reply) -> bool
+    ensures { result ≡ says_unchanged call.now reply.now }
+{
+    match (call, reply) {
+        (Call::Get(_) | Call::Scan(_, _), _) | (_, Reply::Refused) => true,
+        (Call::Insert(_, value), Reply::Some(found)) => *found == *value,
+        (Call::Remove(_), Reply::None) => true,
+        (Call::Replace(_, expected, value), Reply::Some(found)) => *found != *expected
+            || *expected == *value,
+        (Call::Replace(_, _, _), Reply::None) => true,
+        _ => false,
+    }
+}
+
+/// Whether a call tells that a key had this value, or none, or waits for it.
+fn tells(call: &Operation, key: u64, value: Option<u64>) -> bool
+    ensures { result ≡ tells call.now key value }
+{
+    names_key(&call.call, key) && is_told_by(&call.call, &call.response, key, value)
+}
+
+/// Whether a key is among those that a call names.
+fn names_key(call: &Call, key: u64) -> bool
+    ensures { result ≡ names_key call.now key }
+{
+    call.low_key() <= key && key <= call.high_key()
+}
+
+/// Whether a response tells that a key had this value, or none; or where there is none, whether the call waits for it.
+fn is_told_by(call: &Call, response: &Option<Response>, key: u64, value: Option<u64>) -> bool
+    ensures { result ≡ is_told_by call.now response.now key value }
+{
+    match response {
+        Some(response) => is_told(&response.reply, key, value),
+        None => waits_for(call, value),
+    }
+}
+
+/// Whether a call that has no answer waits for this value at its key.
+fn waits_for(call: &Call, value: Option<u64>) -> bool
+    ensures { result ≡ waits_for call.now value }
+{
+    match call {
+        Call::Replace(_, expected, _) => is_just(value, *expected),
+        Call::Get(_) | Call::Insert(_, _) | Call::Remove(_) | Call::Scan(_, _) => false,
+    }
+}
+
+/// Whether a value or none is this value.
+fn is_just(value: Option<u64>, expected: u64) -> bool
+    ensures { result ≡ is_just value expected }
+{
+    match value {
+        Some(value) => value == expected,
+        None => false,
+    }
+}
+
+/// Whether a reply tells that a key had this value, or none.
+fn is_told(reply: &Reply, key: u64, value: Option<u64>) -> bool
+    ensures { result ≡ is_told reply.now key value }
+{
+    match reply {
+        Reply::None => is_same(None, value),
+        Reply::Some(found) => is_same(Some(*found), value),
+        Reply::Pairs(pairs) => is_same(value_in(pairs.as_slice(), key), value),
+        Reply::Refused => false,
+    }
+}
+
+/// The value at a key among some pairs, the first where there are several.
+fn value_in(pairs: &[(u64, u64)], key: u64) -> Option<u64>
+    ensures { result ≡ value_at pairs.now key }
+{
+    for (other, value) in pairs {
+        if *other == key {
+            return Some(*value);
+        }
+    }
+    None
+}
+
+/// Whether two values, or none, are the same.
+fn is_same(value: Option<u64>, other: Option<u64>) -> bool
+    ensures { result ≡ is_same value other }
+{
+    match (value, other) {
+        (None, None) => true,
+        (Some(value), Some(other)) => value == other,
+        _ => false,
+    }
+}
