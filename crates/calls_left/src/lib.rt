@@ -9,8 +9,6 @@ mod groups;
 mod laws;
 mod left;
 mod settling;
-#[cfg(test)]
-mod tests;
 
 pub use groups::{KeyRange, group_of, group_range};
 pub use laws::{

@@ -1,5 +1,6 @@
 -- The bars of a text. Each definition gives the text so far with one part more behind it.
-use Rattle.std.specs.Prelude.{ℕ, ◌+◌, ◌-◌, Bool, true, false, if◌then◌else◌, List, [], ◌∷◌, ◌++◌, Option, Some, None, option_map, codes, decimal, string_bytes}
+use Rattle.std.specs.Prelude.{ℕ, ◌+◌, ◌-◌, Bool, true, false, if◌then◌else◌, List, [], ◌∷◌, ◌++◌, Option, Some, None, option_map, codes}
+use Rattle.std.specs.Prelude.{decimal, string_bytes}
 use Rattle.pictures.specs.declared.bars.Bar.{Bar}
 use Rattle.picture_text.specs.Content.{escaped, shown}
 use Rattle.picture_text.specs.Layout.{x_of, y_of, room_of}
@@ -20,22 +21,26 @@ with_reply text (Some words) = text ++ codes ": " ++ escaped words
 
 -- a call with its process and the event at which it is invoked
 abbrev pub called_text : Bar → List ℕ
-called_text bar = codes "<title>call " ++ (decimal bar.number ++ (codes " of process " ++ (decimal bar.process ++ (codes ", event " ++ decimal bar.inv))))
+called_text bar =
+    codes "<title>call " ++ (decimal bar.number ++ (codes " of process " ++ (decimal bar.process ++ (codes ", event " ++ decimal bar.inv))))
 
 -- the title of a bar: its call with its process and events, and all its words
 abbrev pub with_title : List ℕ → Bar → List ℕ
 with_title text bar =
-    with_reply (text ++ called_text bar ++ answered_text bar.res ++ codes ": " ++ escaped (string_bytes bar.call)) (option_map string_bytes bar.reply)
+    with_reply (text ++ called_text bar ++ answered_text bar.res ++ codes ": "
+    ++ escaped (string_bytes bar.call)) (option_map string_bytes bar.reply)
     ++ codes "</title>"
 
 -- a rectangle, and one that is open at the right
 abbrev pub rectangle_text : ℕ → ℕ → ℕ → List ℕ
 rectangle_text x y span =
-    codes "<rect class='bar' x='" ++ (decimal x ++ (codes "' y='" ++ (decimal y ++ (codes "' width='" ++ (decimal span ++ codes "' height='18' rx='3'/>")))))
+    codes "<rect class='bar' x='" ++ (decimal x ++ (codes "' y='" ++ (decimal y ++ (codes "' width='" ++ (decimal span
+    ++ codes "' height='18' rx='3'/>")))))
 
 abbrev pub with_open : List ℕ → ℕ → ℕ → ℕ → List ℕ
 with_open text x y end =
-    text ++ (codes "<path class='bar' d='M" ++ (decimal end ++ (codes " " ++ decimal y))) ++ (codes "H" ++ (decimal x ++ (codes "v18H" ++ (decimal end ++ codes "'/>"))))
+    text ++ (codes "<path class='bar' d='M" ++ (decimal end ++ (codes " " ++ decimal y))) ++ (codes "H" ++ (decimal x ++ (codes "v18H"
+    ++ (decimal end ++ codes "'/>"))))
 
 -- a line to the right, down and back; a rectangle that is open at the left; and one that is at both ends, whose line leaves out
 -- its right side
@@ -71,7 +76,8 @@ number_text width bar =
 
 -- words at a place, cut to their room
 abbrev pub with_label : List ℕ → ℕ → ℕ → List ℕ → ℕ → List ℕ
-with_label text x y words room = text ++ (codes "<text x='" ++ (decimal x ++ (codes "' y='" ++ (decimal y ++ codes "'>")))) ++ shown room words ++ codes "</text>"
+with_label text x y words room =
+    text ++ (codes "<text x='" ++ (decimal x ++ (codes "' y='" ++ (decimal y ++ codes "'>")))) ++ shown room words ++ codes "</text>"
 
 -- the words of a reply, or that it is pending
 abbrev pub reply_label : Option (List ℕ) → List ℕ
@@ -89,5 +95,6 @@ with_words text width columns bar =
 -- a bar
 unfoldable pub with_bar : List ℕ → ℕ → ℕ → Bar → List ℕ
 with_bar text width columns bar =
-    with_words (with_shape (with_title (text ++ (codes "<g class='" ++ (class_of bar ++ codes "'>"))) bar) width columns bar ++ number_text width bar)
+    with_words (with_shape (with_title (text ++ (codes "<g class='" ++ (class_of bar ++ codes "'>"))) bar) width columns bar
+    ++ number_text width bar)
     width columns bar ++ (codes "</g>" ++ 10 ∷ [])

@@ -11,7 +11,8 @@ use Rattle.picture_text.specs.Layout.{y_of}
 -- the head of a text of this size
 abbrev pub head_text : ℕ → ℕ → List ℕ
 head_text width height =
-    codes "<svg xmlns='http://www.w3.org/2000/svg' width='" ++ (decimal width ++ (codes "' height='" ++ (decimal height ++ (codes "'>" ++ 10 ∷ []))))
+    codes "<svg xmlns='http://www.w3.org/2000/svg' width='" ++ (decimal width ++ (codes "' height='" ++ (decimal height ++ (codes "'>"
+    ++ 10 ∷ []))))
 
 -- a range of keys
 abbrev pub keys_text : ℕ → ℕ → List ℕ
@@ -29,15 +30,18 @@ with_heading text heading = text ++ codes "<text class='title' x='16' y='28'>" +
 
 -- the pairs at the start
 abbrev pub with_start : List ℕ → List (ℕ × ℕ) → ℕ → List ℕ
-with_start text start room = text ++ codes "<text x='16' y='50'>starts with " ++ shown room (pairs_words start) ++ (codes "</text>" ++ 10 ∷ [])
+with_start text start room =
+    text ++ codes "<text x='16' y='50'>starts with " ++ shown room (pairs_words start) ++ (codes "</text>" ++ 10 ∷ [])
 
 -- the ground of a lane
 abbrev pub ground_text : ℕ → ℕ → List ℕ
-ground_text end y = codes "<g class='lane'><rect x='8' y='" ++ (decimal y ++ (codes "' width='" ++ (decimal end ++ codes "' height='56'/>")))
+ground_text end y =
+    codes "<g class='lane'><rect x='8' y='" ++ (decimal y ++ (codes "' width='" ++ (decimal end ++ codes "' height='56'/>")))
 
 -- the name of a lane
 abbrev pub name_text : ℕ → ℕ → List ℕ
-name_text y process = codes "<text x='16' y='" ++ (decimal y ++ (codes "'>process " ++ (decimal process ++ (codes "</text></g>" ++ 10 ∷ []))))
+name_text y process =
+    codes "<text x='16' y='" ++ (decimal y ++ (codes "'>process " ++ (decimal process ++ (codes "</text></g>" ++ 10 ∷ []))))
 
 -- the lane of a process
 unfoldable pub with_lane : List ℕ → ℕ → ℕ → ℕ → List ℕ

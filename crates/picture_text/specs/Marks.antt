@@ -5,7 +5,8 @@ use Rattle.picture_text.specs.Layout.{x_of, y_of}
 
 -- what a mark stands for
 abbrev pub mark_title : Mark → List ℕ
-mark_title mark = codes "<g class='mark'><title>place " ++ (decimal mark.place ++ (codes ": call " ++ (decimal mark.number ++ codes "</title>")))
+mark_title mark =
+    codes "<g class='mark'><title>place " ++ (decimal mark.place ++ (codes ": call " ++ (decimal mark.number ++ codes "</title>")))
 
 -- a circle at a place
 abbrev pub circle_text : ℕ → ℕ → List ℕ
@@ -13,7 +14,9 @@ circle_text x y = codes "<circle cx='" ++ (decimal x ++ (codes "' cy='" ++ (deci
 
 -- the place in the order
 abbrev pub place_text : ℕ → ℕ → ℕ → List ℕ
-place_text x y place = codes "<text x='" ++ (decimal x ++ (codes "' y='" ++ (decimal y ++ (codes "'>" ++ (decimal place ++ (codes "</text></g>" ++ 10 ∷ []))))))
+place_text x y place =
+    codes "<text x='" ++ (decimal x ++ (codes "' y='" ++ (decimal y ++ (codes "'>" ++ (decimal place ++ (codes "</text></g>"
+    ++ 10 ∷ []))))))
 
 -- a mark: a circle at its column and in its lane, with its place
 unfoldable pub with_mark : List ℕ → ℕ → Mark → List ℕ

@@ -1,6 +1,7 @@
 // The bars of a text.
 ghost use Rattle.std.specs.Prelude.{◌≡◌, ◌++◌, OnOk, option_map, string_bytes};
-ghost use Rattle.picture_text.specs.Bars.{class_of, answered_text, with_reply, with_title, with_shape, rectangle_text, with_open, number_text, with_label, reply_label, with_words, with_bar};
+ghost use Rattle.picture_text.specs.Bars.{class_of, answered_text, with_reply, with_title, with_shape, rectangle_text, with_open};
+ghost use Rattle.picture_text.specs.Bars.{number_text, with_label, reply_label, with_words, with_bar};
 ghost use Rattle.picture_text.specs.Bars.{turn_text, dashes_text, with_left_open, with_both_open};
 
 use crate::content::{push_content, push_shown};

@@ -1,5 +1,5 @@
 //! Tests of what judges streams of events, through its public calls: which lines spell which events, the first fault of each other line,
-//! sources that are cut at arbitrary places or fail midway, searches of calls, and followers.
+//! sources that are cut at arbitrary places or fail midway, calls left, searches of calls, and followers.
 //!
 //! Expected answers were worked out by hand. Run with each allocation refused in turn, each test has to fail for want of memory alone.
 #![tactic(auto)]
@@ -12,5 +12,7 @@ mod cuts;
 mod faults;
 #[cfg(test)]
 mod followed_streams;
+#[cfg(test)]
+mod left_calls;
 #[cfg(test)]
 mod spelled;

@@ -1,7 +1,8 @@
 // Small lists of calls: whose call is open, groups, and what may go. What is expected was worked out by hand.
-use crate::groups::{KeyRange, group_of, group_range};
-use crate::left::{LeftCall, marked_calls, open_call, put_answer, unmarked};
-use crate::settling::settled;
+use calls_left::{
+    KeyRange, LeftCall, group_of, group_range, marked_calls, open_call, put_answer, settled,
+    unmarked,
+};
 use events::{Call, Operation, Reply, Response};
 use std::alloc::Global;
 use std::process::Abort;
