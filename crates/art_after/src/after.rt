@@ -1,13 +1,15 @@
 // The stage that comes after a word.
-ghost use Rattle.std.specs.Prelude.{◌≡◌, true, Some, None};
+ghost use Rattle.std.specs.Prelude.{◌≡◌, ◌+◌, true, nat_le, Some, None};
 ghost use Rattle.art_rows.specs.Words.{child_of, child_word, is_small_child};
 ghost use Rattle.art_steps.specs.Rows.{locks, releases_early, is_insert};
 ghost use Rattle.art_steps.specs.Steps.{reply_of};
-ghost use Rattle.art_stages.specs.Automaton.{turn_at, stage_after, pair_after, put_keys_after};
+ghost use Rattle.art_stages.specs.Automaton.{turn_at, stage_after, pair_after, put_keys_after, entries_at};
 ghost use Rattle.art_stages.specs.declared.stage.Stage.TheVariants.{ClaimPair as Claiming, ClaimGrow as ClaimingNext, Unlock as UnlockAll};
-ghost use Rattle.art_stages.specs.declared.stage.Stage.TheVariants.{Lock, Exchange, Wait, Between, Check};
+ghost use Rattle.art_stages.specs.declared.stage.Stage.TheVariants.{Lock, Exchange, Wait, Between, Check, FindMore, FindCount, Slot, CheckLast};
+ghost use Rattle.art_stages.specs.declared.stage.Stage.TheVariants.{Take, PutLoad, PutKeys, PutCount, GrowLoad, SpreadLoad, Obsolete};
+ghost use Rattle.art_stages.specs.declared.stage.Target.TheVariants.{Below};
 ghost use Rattle.art_stages.specs.declared.stage.Outcome.TheVariants.{Value, Refused};
-ghost use Rattle.art_setting.specs.Sound.{is_sound, is_sound_target, is_sound_finding};
+ghost use Rattle.art_setting.specs.Sound.{is_sound, is_sound_target, is_sound_finding, is_sound_work, has_keys};
 ghost use Rattle.art_setting.specs.Settings.{setting_of};
 
 use crate::found::{among, below, checked, entered, find, found, over};
@@ -16,7 +18,8 @@ use crate::works::{moves, release, taken};
 use art_rows::{Kind, child_word, row_word, version_is_locked, version_is_obsolete};
 use art_setting::{Setting, next_kind};
 use art_stages::{
-    Down, Finding, Growing, Hold, Keys, Outcome, Pair, PairWord, Position, Spread, Stage, Target,
+    Down, Finding, Growing, Held, Hold, Keys, Outcome, Pair, PairWord, Position, Spread, Stage,
+    Taking, Target,
 };
 
 /// Where LOCK is after a load of the version.
@@ -166,63 +169,23 @@ pub fn stage_after(setting: &Setting, stage: &Stage, got: u64) -> Stage
         Stage::Lock { target, .. } => locked(setting, target, got),
         Stage::Exchange { target, version } => exchanged(setting, target, *version, got),
         Stage::Wait { target } => waited(setting, target, got),
-        Stage::Leave { down } => Stage::Lock {
-            target: Target::Below { down: *down },
-            first: true,
-        },
+        Stage::Leave { down } => left(down),
         Stage::Between { down, kept } => between_passed(setting, down, *kept, got),
         Stage::Info { down, kept } => below(setting, down, *kept, got),
         Stage::Find { place } => find(setting, place, got),
-        Stage::FindKeys { place, count } => Stage::FindMore {
-            place: *place,
-            count: *count,
-            first: got,
-        },
+        Stage::FindKeys { place, count } => first_found(place, *count, got),
         Stage::FindMore {
             place,
             count,
             first,
-        } => among(
-            setting,
-            place,
-            Keys {
-                first: *first,
-                second: got,
-                count: *count,
-            },
-        ),
-        Stage::FindCount { place, index } => {
-            let keys = Keys {
-                first: *index,
-                second: 0,
-                count: got,
-            };
-            checked(setting, place, Finding::Lacks { keys })
-        }
-        Stage::Slot { place, slot } => {
-            let child = setting.shape.child(got);
-            checked(setting, place, Finding::Has { slot: *slot, child })
-        }
+        } => more_found(setting, place, *count, *first, got),
+        Stage::FindCount { place, index } => count_found(setting, place, *index, got),
+        Stage::Slot { place, slot } => child_found(setting, place, *slot, got),
         Stage::Check { place, finding } => row_checked(setting, place, finding, got),
-        Stage::CheckLast { row } => {
-            if got == row.kept {
-                over(None)
-            } else {
-                setting.start()
-            }
-        }
+        Stage::CheckLast { row } => last_checked(setting, row, got),
         Stage::LetGo { place, finding, .. } => found(setting, place, finding),
-        Stage::Take { taking } => {
-            if got == taking.row.kept {
-                taken(setting, taking, taking.row.kept)
-            } else {
-                release(setting, &taking.held, None)
-            }
-        }
-        Stage::Write { hold, reply, .. } => Stage::Unlock {
-            hold: *hold,
-            outcome: Some(Outcome::Value { value: *reply }),
-        },
+        Stage::Take { taking } => tried(setting, taking, got),
+        Stage::Write { hold, reply, .. } => answering(hold, *reply),
         Stage::ClaimPair { hold, pair } => pair_claimed(setting, hold, pair, got),
         Stage::StorePair {
             hold,
@@ -230,27 +193,16 @@ pub fn stage_after(setting: &Setting, stage: &Stage, got: u64) -> Stage
             base,
             word,
         } => pair_stored(hold, pair, *base, *word),
-        Stage::PutLoad { hold, keys, left } => Stage::PutStore {
-            hold: *hold,
-            keys: *keys,
-            left: *left,
-            word: moved(setting, got),
-        },
+        Stage::PutLoad { hold, keys, left } => put_loaded(setting, hold, keys, *left, got),
         Stage::PutStore {
             hold,
             keys,
             left,
             ..
         } => moves(hold, keys, *left),
-        Stage::PutLeaf { hold, keys } => Stage::PutKeys {
-            hold: *hold,
-            keys: *keys,
-        },
+        Stage::PutLeaf { hold, keys } => leaf_put(hold, keys),
         Stage::PutKeys { hold, keys } => put_keys_stored(setting, hold, keys),
-        Stage::PutMore { hold, keys } => Stage::PutCount {
-            hold: *hold,
-            keys: *keys,
-        },
+        Stage::PutMore { hold, keys } => keys_put(hold, keys),
         Stage::PutCount { hold, .. } => put_done(hold),
         Stage::ClaimGrow { hold, slot, keys } => grow_claimed(setting, hold, *slot, keys, got),
         Stage::GrowInfo { growing } => fill(growing),
@@ -258,12 +210,7 @@ pub fn stage_after(setting: &Setting, stage: &Stage, got: u64) -> Stage
             growing,
             place,
             left,
-        } => Stage::GrowStore {
-            growing: *growing,
-            place: *place,
-            left: *left,
-            word: moved(setting, got),
-        },
+        } => grow_loaded(setting, growing, *place, *left, got),
         Stage::GrowStore {
             growing,
             place,
@@ -274,26 +221,12 @@ pub fn stage_after(setting: &Setting, stage: &Stage, got: u64) -> Stage
             growing,
             place,
             left,
-        } => entries(
-            &Spread {
-                growing: *growing,
-                place: *place,
-                left: *left,
-                word: got,
-            },
-            0,
-            8,
-        ),
+        } => index_loaded(growing, *place, *left, got),
         Stage::SpreadLoad {
             spread,
             entry,
             after,
-        } => Stage::SpreadStore {
-            spread: *spread,
-            entry: *entry,
-            after: *after,
-            word: moved(setting, got),
-        },
+        } => spread_loaded(setting, spread, *entry, *after, got),
         Stage::SpreadStore {
             spread,
             entry,
@@ -308,9 +241,7 @@ pub fn stage_after(setting: &Setting, stage: &Stage, got: u64) -> Stage
         } => keys_stored(growing, *place, *left),
         Stage::GrowCount { growing } => Stage::Hang { growing: *growing },
         Stage::Hang { growing } => Stage::Obsolete { hold: growing.hold },
-        Stage::Obsolete { hold } => {
-            release(setting, &hold.above, Some(Outcome::Value { value: None }))
-        }
+        Stage::Obsolete { hold } => obsolete_left(setting, hold),
         Stage::Unlock { hold, outcome } => release(setting, &hold.above, *outcome),
         Stage::Over { .. } => unreachable!(),
     }
@@ -363,4 +294,174 @@ fn put_done(hold: &Hold) -> Stage
         hold: *hold,
         outcome: Some(Outcome::Value { value: None }),
     }
+}
+
+// Where an access leads that makes a stage of several parts. Each stands apart, since a function clears the room of all that it
+// may make when it is entered.
+
+fn left(down: &Down) -> Stage
+    ensures stage { result ≡ Lock (Below down.now) true }
+    ensures sound { is_sound result ≡ true }
+{
+    Stage::Lock {
+        target: Target::Below { down: *down },
+        first: true,
+    }
+}
+
+fn first_found(place: &Position, count: u64, first: u64) -> Stage
+    ensures stage { result ≡ FindMore place.now count first }
+    ensures sound { is_sound result ≡ true }
+{
+    Stage::FindMore {
+        place: *place,
+        count,
+        first,
+    }
+}
+
+fn more_found(setting: &Setting, place: &Position, count: u64, first: u64, second: u64) -> Stage
+    ensures stage { result ≡ stage_after (setting_of setting.now) (FindMore place.now count first) second }
+    ensures sound { is_sound result ≡ true }
+{
+    let keys = Keys {
+        first,
+        second,
+        count,
+    };
+    among(setting, place, keys)
+}
+
+fn count_found(setting: &Setting, place: &Position, index: u64, count: u64) -> Stage
+    ensures stage { result ≡ stage_after (setting_of setting.now) (FindCount place.now index) count }
+    ensures sound { is_sound result ≡ true }
+{
+    let keys = Keys {
+        first: index,
+        second: 0,
+        count,
+    };
+    checked(setting, place, Finding::Lacks { keys })
+}
+
+fn child_found(setting: &Setting, place: &Position, slot: usize, word: u64) -> Stage
+    ensures stage { result ≡ stage_after (setting_of setting.now) (Slot place.now slot) word }
+    ensures sound { is_sound result ≡ true }
+{
+    let child = setting.shape.child(word);
+    checked(setting, place, Finding::Has { slot, child })
+}
+
+fn last_checked(setting: &Setting, row: &Held, got: u64) -> Stage
+    ensures stage { result ≡ stage_after (setting_of setting.now) (CheckLast row.now) got }
+    ensures sound { is_sound result ≡ true }
+{
+    if got == row.kept {
+        over(None)
+    } else {
+        setting.start()
+    }
+}
+
+fn tried(setting: &Setting, taking: &Taking, got: u64) -> Stage
+    requires { is_sound_work taking.now.work ≡ true }
+    ensures stage { result ≡ stage_after (setting_of setting.now) (Take taking.now) got }
+    ensures sound { is_sound result ≡ true }
+{
+    if got == taking.row.kept {
+        taken(setting, taking, taking.row.kept)
+    } else {
+        release(setting, &taking.held, None)
+    }
+}
+
+fn answering(hold: &Hold, reply: Option<u32>) -> Stage
+    ensures stage { result ≡ UnlockAll hold.now (Some (Value reply)) }
+    ensures sound { is_sound result ≡ true }
+{
+    Stage::Unlock {
+        hold: *hold,
+        outcome: Some(Outcome::Value { value: reply }),
+    }
+}
+
+fn put_loaded(setting: &Setting, hold: &Hold, keys: &Keys, left: u32, word: u64) -> Stage
+    requires { has_keys hold.now.row.kind ≡ true }
+    ensures stage { result ≡ stage_after (setting_of setting.now) (PutLoad hold.now keys.now left) word }
+    ensures sound { is_sound result ≡ true }
+{
+    Stage::PutStore {
+        hold: *hold,
+        keys: *keys,
+        left,
+        word: moved(setting, word),
+    }
+}
+
+fn leaf_put(hold: &Hold, keys: &Keys) -> Stage
+    ensures stage { result ≡ PutKeys hold.now keys.now }
+    ensures sound { is_sound result ≡ true }
+{
+    Stage::PutKeys {
+        hold: *hold,
+        keys: *keys,
+    }
+}
+
+fn keys_put(hold: &Hold, keys: &Keys) -> Stage
+    ensures stage { result ≡ PutCount hold.now keys.now }
+    ensures sound { is_sound result ≡ true }
+{
+    Stage::PutCount {
+        hold: *hold,
+        keys: *keys,
+    }
+}
+
+fn grow_loaded(setting: &Setting, growing: &Growing, place: u32, left: u32, word: u64) -> Stage
+    requires { nat_le (place + left) 48 ≡ true }
+    ensures stage { result ≡ stage_after (setting_of setting.now) (GrowLoad growing.now place left) word }
+    ensures sound { is_sound result ≡ true }
+{
+    Stage::GrowStore {
+        growing: *growing,
+        place,
+        left,
+        word: moved(setting, word),
+    }
+}
+
+fn index_loaded(growing: &Growing, place: u32, left: u32, word: u64) -> Stage
+    requires { nat_le (place + left) 31 ≡ true }
+    ensures stage { result ≡ entries_at (record { growing = growing.now; place = place; left = left; word = word }) 0 8 }
+    ensures sound { is_sound result ≡ true }
+{
+    let spread = Spread {
+        growing: *growing,
+        place,
+        left,
+        word,
+    };
+    entries(&spread, 0, 8)
+}
+
+fn spread_loaded(setting: &Setting, spread: &Spread, entry: u32, after: u32, word: u64) -> Stage
+    requires words { nat_le (spread.now.place + spread.now.left) 31 ≡ true }
+    requires few { nat_le (entry + after) 7 ≡ true }
+    ensures stage { result ≡ stage_after (setting_of setting.now) (SpreadLoad spread.now entry after) word }
+    ensures sound { is_sound result ≡ true }
+{
+    Stage::SpreadStore {
+        spread: *spread,
+        entry,
+        after,
+        word: moved(setting, word),
+    }
+}
+
+fn obsolete_left(setting: &Setting, hold: &Hold) -> Stage
+    ensures stage { result ≡ stage_after (setting_of setting.now) (Obsolete hold.now) 0 }
+    ensures sound { is_sound result ≡ true }
+{
+    release(setting, &hold.above, Some(Outcome::Value { value: None }))
 }

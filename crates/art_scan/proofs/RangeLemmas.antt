@@ -16,7 +16,8 @@ reach (suc (suc (suc zero))) p x most h below = omega (arith, h, below)
 reach (suc (suc (suc (suc l)))) p x most h below = absurd (omega (arith, most))
 
 -- its path as a number, and how many keys have one path and byte
-module _ (n : Held) (p k : ℕ) (path : p ≡ big_endian 0 (info_of n.kind n.info).path) (keys : k ≡ 256 ^ (3 - (info_of n.kind n.info).level)) where
+module _ (n : Held) (p k : ℕ) (path : p ≡ big_endian 0 (info_of n.kind n.info).path)
+    (keys : k ≡ 256 ^ (3 - (info_of n.kind n.info).level)) where
   lies_as : (low high x : ℕ) → can_lie low high (row_at n) x ≡ (nat_le ((256 * p + x) * k) high && nat_lt low ((256 * p + x + 1) * k))
   lies_as low high x = rw path (rw keys refl)
 

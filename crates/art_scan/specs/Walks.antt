@@ -10,6 +10,7 @@ use Rattle.art_stages.specs.declared.stage.ScanStep.{ScanStep}
 use Rattle.art_stages.specs.Stages.{keys_among}
 use Rattle.art_stages.specs.Scans.{Walk, ScanAt, at, walked, bytes_at, child_from, lies, word_test, entry_slot, place_slot}
 use Rattle.art_scan.specs.declared.lists.Lists.{Lists}
+use Rattle.art_scan.specs.declared.children.WalkedByte.{WalkedByte}
 
 -- of the rows those that are not yet released; the way has the lowest row first
 abbrev pub walk_of : Lists → Walk
@@ -29,6 +30,11 @@ with_pair low high key value w = record { rows = w.rows; pairs = (with_leaf low 
 abbrev pub step_or : Option ScanStep → Walk → ScanAt → ScanAt
 step_or None w other = other
 step_or (Some step) w other = at step w
+
+-- the scan goes on to this byte of the frame, or else where it otherwise goes
+abbrev pub child_or : Frame → Option WalkedByte → Walk → ScanAt → ScanAt
+child_or f None w other = other
+child_or f (Some b) w other = child_from w f b.next b.left b.slot
 
 -- which bytes of a frame are walked, and the slot of each
 abbrev pub frame_test : Kind → ℕ → ℕ → Frame → ℕ → Bool

@@ -1,8 +1,8 @@
 // The next child of a row that a scan walks.
 ghost use Rattle.std.specs.Prelude.{◌≡◌, ◌+◌, ◌<◌, ◌≤◌, ℕ, true, false, nat_le, None, IfSome};
-ghost use Rattle.art_stages.specs.Scans.{Walk, ScanAt, words_at, frame_at};
+ghost use Rattle.art_stages.specs.Scans.{Walk, ScanAt, at, words_at, frame_at, child_from};
 ghost use Rattle.art_scan.specs.Sound.{is_sound_frame, is_sound_step};
-ghost use Rattle.art_scan.specs.Walks.{step_or, frame_test, frame_slot, bytes_of_frame};
+ghost use Rattle.art_scan.specs.Walks.{step_or, child_or, frame_test, frame_slot, bytes_of_frame};
 
 use crate::met_bytes::is_met_in;
 use crate::next_keys::{next_key4, next_key16};
@@ -12,9 +12,9 @@ use art_setting::{child_slot, key_among};
 use art_stages::{Frame, Held, ScanStep};
 
 /// Is a byte walked?
-fn is_walked(low: u64, high: u64, frame: Frame, byte: u32) -> bool
+fn is_walked(low: u64, high: u64, frame: &Frame, byte: u32) -> bool
     requires { byte < 256 }
-    ensures { result ≡ frame_test frame.row.kind low high frame byte }
+    ensures { result ≡ frame_test frame.now.row.kind low high frame.now byte }
 {
     match frame.row.kind {
         Kind::FortyEight => can_lie(low, high, frame.row, byte) && byte / 8 == frame.index,
@@ -23,9 +23,9 @@ fn is_walked(low: u64, high: u64, frame: Frame, byte: u32) -> bool
 }
 
 /// The slot of a byte, where it has one.
-fn slot_of(frame: Frame, byte: u32) -> Option<usize>
+fn slot_of(frame: &Frame, byte: u32) -> Option<usize>
     requires { byte < 256 }
-    ensures { result ≡ frame_slot frame.row.kind frame byte }
+    ensures { result ≡ frame_slot frame.now.row.kind frame.now byte }
 {
     let row = frame.row;
     match row.kind {
@@ -46,10 +46,10 @@ fn slot_of(frame: Frame, byte: u32) -> Option<usize>
 }
 
 /// So many bytes come before those of a frame's index word, in kind 48.
-fn bytes_before(frame: Frame) -> u32
-    requires { is_sound_frame frame ≡ true }
-    ensures most { result ≤ frame.left }
-    ensures passed { (low high y : ℕ) → frame.byte ≤ y → y < frame.byte + result → frame_test frame.row.kind low high frame y ≡ false }
+fn bytes_before(frame: &Frame) -> u32
+    requires { is_sound_frame frame.now ≡ true }
+    ensures most { result ≤ frame.now.left }
+    ensures passed { (low high y : ℕ) → frame.now.byte ≤ y → y < frame.now.byte + result → frame_test frame.now.row.kind low high frame.now y ≡ false }
 {
     match frame.row.kind {
         Kind::FortyEight => {
@@ -65,8 +65,8 @@ fn bytes_before(frame: Frame) -> u32
 }
 
 /// Do all bytes from this one on come behind those of its index word, in kind 48?
-fn is_past(frame: Frame, byte: u32) -> bool
-    ensures { result ≡ true → (low high y : ℕ) → byte ≤ y → frame_test frame.row.kind low high frame y ≡ false }
+fn is_past(frame: &Frame, byte: u32) -> bool
+    ensures { result ≡ true → (low high y : ℕ) → byte ≤ y → frame_test frame.now.row.kind low high frame.now y ≡ false }
 {
     match frame.row.kind {
         Kind::FortyEight => byte / 8 > frame.index,
@@ -75,8 +75,8 @@ fn is_past(frame: Frame, byte: u32) -> bool
 }
 
 /// The bytes from this one up to the next that may have a slot have none.
-fn next_key(frame: Frame, byte: u32) -> u32
-    ensures { (y : ℕ) → byte ≤ y → y < result → frame_slot frame.row.kind frame y ≡ None }
+fn next_key(frame: &Frame, byte: u32) -> u32
+    ensures { (y : ℕ) → byte ≤ y → y < result → frame_slot frame.now.row.kind frame.now y ≡ None }
 {
     let keys = frame.keys;
     match frame.row.kind {
@@ -87,9 +87,9 @@ fn next_key(frame: Frame, byte: u32) -> u32
 }
 
 /// So many of the bytes from this one on are passed over for that.
-fn bare_bytes(frame: Frame, byte: u32, left: u32) -> u32
+fn bare_bytes(frame: &Frame, byte: u32, left: u32) -> u32
     ensures most { result ≤ left }
-    ensures bare { (y : ℕ) → byte ≤ y → y < byte + result → frame_slot frame.row.kind frame y ≡ None }
+    ensures bare { (y : ℕ) → byte ≤ y → y < byte + result → frame_slot frame.now.row.kind frame.now y ≡ None }
 {
     let next = next_key(frame, byte);
     if next <= byte {
@@ -101,12 +101,19 @@ fn bare_bytes(frame: Frame, byte: u32, left: u32) -> u32
     }
 }
 
-/// The next child among so many bytes from this one on.
-fn next_byte(low: u64, high: u64, frame: Frame, byte: u32, left: u32) -> Option<ScanStep>
+/// A byte that is walked, as the one behind it, with so many bytes left from there on, and its slot.
+#[derive(Clone, Copy)]
+pub struct WalkedByte {
+    pub next: u32,
+    pub left: u32,
+    pub slot: usize,
+}
+
+/// The next that is walked among so many bytes from this one on.
+fn next_byte(low: u64, high: u64, frame: &Frame, byte: u32, left: u32) -> Option<WalkedByte>
     requires bytes { byte + left ≤ 256 }
-    requires words { nat_le (frame.index + frame.words) 31 ≡ true }
-    ensures next { (w : Walk) (other : ScanAt) → bytes_of_frame low high w frame byte left other ≡ step_or result w other }
-    ensures sound { IfSome result (λ s. is_sound_step s ≡ true) }
+    ensures next { (w : Walk) (other : ScanAt) → bytes_of_frame low high w frame.now byte left other ≡ child_or frame.now result w other }
+    ensures left { IfSome result (λ n. nat_le (n.next + n.left) 256 ≡ true) }
 {
     let bare = bare_bytes(frame, byte, left);
     if bare == left {
@@ -121,21 +128,37 @@ fn next_byte(low: u64, high: u64, frame: Frame, byte: u32, left: u32) -> Option<
         None => next_byte(low, high, frame, first + 1, after),
         Some(slot) => {
             if is_walked(low, high, frame, first) {
-                let frame = Frame {
-                    row: frame.row,
-                    keys: frame.keys,
-                    byte: first + 1,
+                Some(WalkedByte {
+                    next: first + 1,
                     left: after,
-                    index: frame.index,
-                    words: frame.words,
-                };
-                Some(ScanStep::Child { frame, slot })
+                    slot,
+                })
             } else if is_behind(high, frame.row, first) {
                 None
             } else {
                 next_byte(low, high, frame, first + 1, after)
             }
         }
+    }
+}
+
+/// The step to a byte of a frame.
+fn child_step(frame: &Frame, byte: WalkedByte) -> ScanStep
+    requires frame { is_sound_frame frame.now ≡ true }
+    requires left { nat_le (byte.next + byte.left) 256 ≡ true }
+    ensures step { (w : Walk) → at result w ≡ child_from w frame.now byte.next byte.left byte.slot }
+    ensures sound { is_sound_step result ≡ true }
+{
+    ScanStep::Child {
+        frame: Frame {
+            row: frame.row,
+            keys: frame.keys,
+            byte: byte.next,
+            left: byte.left,
+            index: frame.index,
+            words: frame.words,
+        },
+        slot: byte.slot,
     }
 }
 
@@ -159,14 +182,14 @@ pub fn next_word(low: u64, high: u64, row: Held, index: u32, words: u32) -> Opti
 }
 
 /// The next child of a row, or the next index word.
-pub fn next_child(low: u64, high: u64, frame: Frame) -> Option<ScanStep>
-    requires { is_sound_frame frame ≡ true }
-    ensures next { (w : Walk) (other : ScanAt) → frame_at frame.row.kind low high w frame other ≡ step_or result w other }
+pub fn next_child(low: u64, high: u64, frame: &Frame) -> Option<ScanStep>
+    requires { is_sound_frame frame.now ≡ true }
+    ensures next { (w : Walk) (other : ScanAt) → frame_at frame.now.row.kind low high w frame.now other ≡ step_or result w other }
     ensures sound { IfSome result (λ s. is_sound_step s ≡ true) }
 {
     let passed = bytes_before(frame);
     match next_byte(low, high, frame, frame.byte + passed, frame.left - passed) {
-        Some(step) => Some(step),
+        Some(byte) => Some(child_step(frame, byte)),
         None => match frame.row.kind {
             Kind::FortyEight => { next_word(low, high, frame.row, frame.index + 1, frame.words) }
             _ => None,

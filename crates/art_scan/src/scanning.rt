@@ -68,7 +68,7 @@ impl Scanning {
         requires asks { reply_of (scan_turn (setting_of setting.now) (scan_of self.now)) ≡ None }
         ensures { access_of (scan_turn (setting_of setting.now) (scan_of self.now)) ≡ Some result }
     {
-        access_at(setting, self.step)
+        access_at(setting, &self.step)
     }
 
     /// The point of the next access; `Answer` where the reply is known.
@@ -90,7 +90,7 @@ impl Scanning {
         match &mut self.lists {
             None => unreachable!(),
             Some(lists) => {
-                self.step = step_after(setting, self.low, self.high, self.step, got, lists);
+                self.step = step_after(setting, self.low, self.high, &self.step, got, lists);
                 match self.step {
                     ScanStep::Over => {}
                     _ => return None,

@@ -48,27 +48,27 @@ fn release(setting: &Setting, row: Held) -> Access
 }
 
 /// The access of a step.
-pub fn access_at(setting: &Setting, step: ScanStep) -> Access
-    requires asks { is_over step ≡ false }
-    requires sound { is_sound_step step ≡ true }
-    ensures { (w : Walk) → access_of (scan_turn (setting_of setting.now) (at step w)) ≡ Some result }
+pub fn access_at(setting: &Setting, step: &ScanStep) -> Access
+    requires asks { is_over step.now ≡ false }
+    requires sound { is_sound_step step.now ≡ true }
+    ensures { (w : Walk) → access_of (scan_turn (setting_of setting.now) (at step.now w)) ≡ Some result }
 {
     let word = match step {
-        ScanStep::Release { row } => return release(setting, row),
+        ScanStep::Release { row } => return release(setting, *row),
         ScanStep::Exchange { entry, version } => {
             return Access::Exchange {
-                word: entry_base(setting, entry),
-                from: version,
-                to: version_locked(version),
+                word: entry_base(setting, *entry),
+                from: *version,
+                to: version_locked(*version),
             };
         }
-        ScanStep::Lock { entry, .. } | ScanStep::Wait { entry } => entry_base(setting, entry),
-        ScanStep::Info { base, .. } => info_slot(base),
-        ScanStep::Keys { row } => first_word(row),
+        ScanStep::Lock { entry, .. } | ScanStep::Wait { entry } => entry_base(setting, *entry),
+        ScanStep::Info { base, .. } => info_slot(*base),
+        ScanStep::Keys { row } => first_word(*row),
         ScanStep::FirstKeys { row, .. } => keys_slot(row.base),
         ScanStep::SecondKeys { row, .. } => more_keys_slot(row.base),
-        ScanStep::Index { row, index, .. } => index_slot(row.base, 8 * index),
-        ScanStep::Child { slot, .. } => slot,
+        ScanStep::Index { row, index, .. } => index_slot(row.base, 8 * *index),
+        ScanStep::Child { slot, .. } => *slot,
         ScanStep::Over => unreachable!(),
     };
     Access::Load { word }

@@ -43,7 +43,7 @@ pub fn resume(setting: &Setting, low: u64, high: u64, lists: &mut Lists) -> Scan
 {
     match lists.ascend() {
         None => close(setting, lists),
-        Some(frame) => match next_child(low, high, frame) {
+        Some(frame) => match next_child(low, high, &frame) {
             Some(step) => step,
             None => resume(setting, low, high, lists),
         },
@@ -51,9 +51,9 @@ pub fn resume(setting: &Setting, low: u64, high: u64, lists: &mut Lists) -> Scan
 }
 
 /// It goes on at this row.
-pub fn go_on(setting: &Setting, low: u64, high: u64, frame: Frame, lists: &mut Lists) -> ScanStep
-    requires { is_sound_frame frame ≡ true }
-    ensures step { at result (walk_of lists.new) ≡ resume_at (setting_of setting.now) low high (with_frame (walk_of lists.old) frame) }
+pub fn go_on(setting: &Setting, low: u64, high: u64, frame: &Frame, lists: &mut Lists) -> ScanStep
+    requires { is_sound_frame frame.now ≡ true }
+    ensures step { at result (walk_of lists.new) ≡ resume_at (setting_of setting.now) low high (with_frame (walk_of lists.old) frame.now) }
     ensures sound { is_sound_step result ≡ true }
 {
     match next_child(low, high, frame) {
@@ -98,7 +98,7 @@ fn begin_row(setting: &Setting, low: u64, high: u64, row: Held, lists: &mut List
             Some(step) => step,
             None => resume(setting, low, high, lists),
         },
-        Kind::Full => { go_on(setting, low, high, frame_of(row, keys_one(0), 0, 0), lists) }
+        Kind::Full => { go_on(setting, low, high, &frame_of(row, keys_one(0), 0, 0), lists) }
     }
 }
 
