@@ -127,6 +127,8 @@ def runs(folder):
     order = ",".join(map(str, range(MOST_CALLS)))
     report = re.escape(f'{{"order":[{order}],"verdict":"yes"}}\n'.encode())
     with open(deep, "rb") as source:
+        yield f"an order of {MOST_CALLS} words", run(["check", *map(str, range(MOST_CALLS))], source), (0, rb"ok\n", NOTHING)
+    with open(deep, "rb") as source:
         yield "a deep search in little stack", run(["judge"], source, before=with_little_stack), (0, report, NOTHING)
 
     with open(deep, "rb") as source:

@@ -1,2 +1,3 @@
 pub mod WholeHistories
 mod WholeLocations
+pub mod PassedTexts

@@ -3,7 +3,9 @@ ghost use Rattle.std.specs.Prelude.{◌<◌, Some};
 ghost use Rattle.history_engines.specs.Answers.{IsCheckAnswer, IsHistoryRefusal};
 ghost use Rattle.outcomes.specs.Ends.{change};
 ghost use Rattle.history_engines.specs.Outcomes.{IsCheckOutcome};
+ghost use Rattle.history_text.specs.Limits.{text_limit};
 ghost use Rattle.outcomes.specs.Outcomes.{IsTextOutcome};
+ghost use Rattle.outcomes.specs.Reads.{IsTextRead};
 ghost use Rattle.outcomes.specs.Runs.{IsRun};
 
 use crate::refusals::refused_text;
@@ -25,10 +27,11 @@ pub fn run_check<S: Source, O: Sink, F: Sink>(
     requires source { S.failures source.old < u64.MAX }
     requires output { O.failures output.old < u64.MAX }
     requires faults { F.failures faults.old < u64.MAX }
-    ensures { IsRun
+    ensures run { IsRun
         (IsCheckOutcome order.now (change S.remaining S.failures source.old source.new))
         (change O.written O.failures output.old output.new)
         (change F.written F.failures faults.old faults.new) result }
+    ensures read { IsTextRead text_limit (change S.remaining S.failures source.old source.new) result }
 {
     match text_from(alloc, source, MAX_TEXT) {
         Ok(text) => write_outcome(output, faults, &check_outcome(alloc, &text, order)),

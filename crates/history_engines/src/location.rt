@@ -1,14 +1,18 @@
 // `bench locate`: the event at which the history on the input goes wrong.
-ghost use Rattle.std.specs.Prelude.{◌≡◌, ℕ, ◌<◌, ◌≤◌, List, Some, IfOk};
+ghost use Rattle.std.specs.Prelude.{◌≡◌, ℕ, ◌<◌, ◌≤◌, List, Some, IfOk, IfSome, IsOk};
 ghost use Rattle.events.specs.HistoryView.{HistoryView};
 ghost use Rattle.history_engines.specs.Answers.{IsHistoryRefusal, IsTextOf};
 ghost use Rattle.history_engines.specs.LocateAnswers.{answer_of_location, IsLocateAnswer};
 ghost use Rattle.history_engines.specs.LocateOutcomes.{IsLocateOutcome};
+ghost use Rattle.history_text.specs.Limits.{text_limit};
+ghost use Rattle.judge.specs.Gates.{WasPassedForText};
 ghost use Rattle.locating.specs.Halvings.{IsExactLocation};
 ghost use Rattle.locating.specs.Locations.{IsLocated};
 ghost use Rattle.outcomes.specs.Ends.{change};
-ghost use Rattle.outcomes.specs.Outcomes.{IsTextOutcome};
+ghost use Rattle.outcomes.specs.Outcomes.{IsTextOutcome, OnAnswered};
+ghost use Rattle.outcomes.specs.Reads.{IsTextRead};
 ghost use Rattle.outcomes.specs.Runs.{IsRun};
+ghost use Rattle.outcomes.specs.Statuses.{OnAnswerStatus};
 ghost use Rattle.pool.specs.Limits.{worker_limit};
 ghost use Rattle.search.specs.Limits.{budget_limit};
 
@@ -39,10 +43,12 @@ pub fn run_locate<R: Threads + Sync, S: Source, O: Sink, F: Sink, G: Gate + Sync
     requires source { S.failures source.old < u64.MAX }
     requires output { O.failures output.old < u64.MAX }
     requires faults { F.failures faults.old < u64.MAX }
-    ensures { IsRun
+    ensures run { IsRun
         (IsLocateOutcome budget (change S.remaining S.failures source.old source.new))
         (change O.written O.failures output.old output.new)
         (change F.written F.failures faults.old faults.new) result }
+    ensures read { IsTextRead text_limit (change S.remaining S.failures source.old source.new) result }
+    ensures passed { OnAnswerStatus result (IfSome (S.remaining source.old) (WasPassedForText (G.was_passed gate.now))) }
 {
     match text_from(alloc, source, MAX_TEXT) {
         Ok(text) => {
@@ -64,7 +70,8 @@ pub fn locate_outcome<R: Threads + Sync, G: Gate + Sync>(
 ) -> Outcome
     requires budget { (1 ≤ budget) × (budget ≤ budget_limit) }
     requires workers { (1 ≤ workers) × (workers ≤ worker_limit) }
-    ensures { IsTextOutcome (IsLocateAnswer budget) IsHistoryRefusal (Some text.now) result }
+    ensures outcome { IsTextOutcome (IsLocateAnswer budget) IsHistoryRefusal (Some text.now) result }
+    ensures passed { OnAnswered result (WasPassedForText (G.was_passed gate.now) text.now) }
 {
     match read_history(alloc, text) {
         Ok(history) => outcome_of(alloc, locate(rt, alloc, &history, budget, workers, gate)),
@@ -85,10 +92,11 @@ pub fn locate_outcome_alone(alloc: Global, text: &[u8], budget: u32) -> Outcome
 
 /// How a location comes out, or want of memory for it.
 fn outcome_of(alloc: Global, located: Result<Location, Memory>) -> Outcome
-    ensures { (budget : ℕ) (text : List ℕ) (history : HistoryView) → IsTextOf text history
+    ensures outcome { (budget : ℕ) (text : List ℕ) (history : HistoryView) → IsTextOf text history
         → IfOk located (IsExactLocation budget history)
         → IfOk located (IsLocated budget history)
         → IsTextOutcome (IsLocateAnswer budget) IsHistoryRefusal (Some text) result }
+    ensures answered { OnAnswered result (IsOk located) }
 {
     let Ok(location) = located else {
         return Outcome::Memory;

@@ -1,11 +1,15 @@
 // `bench judge`: whether the history on the input has an order at all.
-ghost use Rattle.std.specs.Prelude.{◌≡◌, ℕ, ◌<◌, ◌≤◌, List, Some, IfOk, IfErr, string_bytes};
+ghost use Rattle.std.specs.Prelude.{◌≡◌, ℕ, ◌<◌, ◌≤◌, List, Some, IfOk, IfErr, IfSome, IsOk, string_bytes};
 ghost use Rattle.history_engines.specs.Answers.{IsHistoryRefusal, IsJudgeAnswer, answer_of};
+ghost use Rattle.history_text.specs.Limits.{text_limit};
+ghost use Rattle.judge.specs.Gates.{WasPassedForText};
 ghost use Rattle.judge.specs.Judged.{IsJudged, IsUnjudged};
 ghost use Rattle.outcomes.specs.Ends.{change};
 ghost use Rattle.history_engines.specs.Outcomes.{IsJudgeOutcome};
-ghost use Rattle.outcomes.specs.Outcomes.{IsTextOutcome};
+ghost use Rattle.outcomes.specs.Outcomes.{IsTextOutcome, OnAnswered};
+ghost use Rattle.outcomes.specs.Reads.{IsTextRead};
 ghost use Rattle.outcomes.specs.Runs.{IsRun};
+ghost use Rattle.outcomes.specs.Statuses.{OnAnswerStatus};
 ghost use Rattle.pool.specs.Limits.{worker_limit};
 ghost use Rattle.search.specs.Limits.{budget_limit};
 
@@ -36,10 +40,12 @@ pub fn run_judge<R: Threads + Sync, S: Source, O: Sink, F: Sink, G: Gate + Sync>
     requires source { S.failures source.old < u64.MAX }
     requires output { O.failures output.old < u64.MAX }
     requires faults { F.failures faults.old < u64.MAX }
-    ensures { IsRun
+    ensures run { IsRun
         (IsJudgeOutcome budget (change S.remaining S.failures source.old source.new))
         (change O.written O.failures output.old output.new)
         (change F.written F.failures faults.old faults.new) result }
+    ensures read { IsTextRead text_limit (change S.remaining S.failures source.old source.new) result }
+    ensures passed { OnAnswerStatus result (IfSome (S.remaining source.old) (WasPassedForText (G.was_passed gate.now))) }
 {
     match text_from(alloc, source, MAX_TEXT) {
         Ok(text) => {
@@ -61,7 +67,8 @@ pub fn judge_outcome<R: Threads + Sync, G: Gate + Sync>(
 ) -> Outcome
     requires budget { (1 ≤ budget) × (budget ≤ budget_limit) }
     requires workers { (1 ≤ workers) × (workers ≤ worker_limit) }
-    ensures { IsTextOutcome (IsJudgeAnswer budget) IsHistoryRefusal (Some text.now) result }
+    ensures outcome { IsTextOutcome (IsJudgeAnswer budget) IsHistoryRefusal (Some text.now) result }
+    ensures passed { OnAnswered result (WasPassedForText (G.was_passed gate.now) text.now) }
 {
     outcome_of(
         alloc,
@@ -80,9 +87,10 @@ pub fn judge_outcome_alone(alloc: Global, text: &[u8], budget: u32) -> Outcome
 
 /// How the judge's answer to a text comes out.
 fn outcome_of(alloc: Global, text: &[u8], judged: Result<(Verdict, String), JudgeFault>) -> Outcome
-    ensures { (budget : ℕ) → IfOk judged (λ answer. IsJudged budget text.now answer.0 (string_bytes answer.1))
+    ensures outcome { (budget : ℕ) → IfOk judged (λ answer. IsJudged budget text.now answer.0 (string_bytes answer.1))
         → IfErr judged (IsUnjudged text.now)
         → IsTextOutcome (IsJudgeAnswer budget) IsHistoryRefusal (Some text.now) result }
+    ensures answered { IfErr judged (IsUnjudged text.now) → OnAnswered result (IsOk judged) }
 {
     match judged {
         Ok((verdict, report)) => Outcome::answered(answer_of(&verdict), line_of(report)),

@@ -1,2 +1,3 @@
 pub mod ReadText
+pub mod Reading
 pub mod WholeText

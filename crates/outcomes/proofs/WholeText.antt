@@ -1,5 +1,5 @@
 -- A text that was read up to one byte more than a limit, and is no longer than that, was read whole.
-use Rattle.std.proofs.Common.{◌≡◌, ℕ, ◌+◌, ◌<◌, ◌≤◌, List, length, take, inl, inr, arith, length-take-le, take_all}
+use Rattle.std.proofs.Common.{◌≡◌, ℕ, ◌+◌, ◌≤◌, List, length, take, inl, inr, arith, length-take-le, take_all}
 use Rattle.std.proofs.lemmas.Bool.{cases_lt}
 
 -- what was read is the whole, where it is no longer than the limit

@@ -6,3 +6,4 @@ pub mod Ends
 pub mod Outcomes
 pub mod FaultOutcomes
 pub mod Runs
+pub mod Reads

@@ -13,6 +13,11 @@ IsTextOutcome IsAnswer IsRefusal told Memory = ⊤
 IsTextOutcome IsAnswer IsRefusal told (Words bytes) = ⊥
 IsTextOutcome IsAnswer IsRefusal told Failed = ⊥
 
+-- where the outcome is an answer, this holds
+abbrev pub OnAnswered : Outcome → Type 0 → Type 0
+OnAnswered (Answered answer bytes) P = P
+OnAnswered outcome P = ⊤
+
 -- the outcome where there is no text: memory was wanting, or a read failed
 abbrev pub IsUnread : Change → Outcome → Type 0
 IsUnread source Memory = IsSound source

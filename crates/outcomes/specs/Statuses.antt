@@ -1,5 +1,5 @@
 -- The exit statuses.
-use Rattle.std.specs.Prelude.{ℕ}
+use Rattle.std.specs.Prelude.{◌≡◌, ℕ}
 use Rattle.outcomes.specs.declared.outcome.Answer.{Answer}
 use Rattle.outcomes.specs.declared.outcome.Answer.TheVariants.{Yes, No, Undecided}
 
@@ -8,6 +8,10 @@ abbrev pub answer_status : Answer → ℕ
 answer_status Yes = 0
 answer_status No = 1
 answer_status Undecided = 2
+
+-- where the status is that of an answer, this holds
+abbrev pub OnAnswerStatus : ℕ → Type 0 → Type 0
+OnAnswerStatus status P = (answer : Answer) → status ≡ answer_status answer → P
 
 -- the input was refused
 abbrev pub refused_status : ℕ

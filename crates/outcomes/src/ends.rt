@@ -2,6 +2,7 @@
 ghost use Rattle.std.specs.Prelude.{◌≡◌, ◌<◌, ◌+◌, IfErr, IfOk, IfSome, OnOk, take};
 ghost use Rattle.outcomes.specs.Ends.{IsSound, Tries, change};
 ghost use Rattle.outcomes.specs.Outcomes.{IsUnread};
+ghost use Rattle.outcomes.specs.Reads.{ReadsFirst, ReadsAtMost};
 ghost use Rattle.outcomes.specs.Runs.{Leaves};
 
 use crate::outcome::{FAILED, MEMORY, Outcome, REFUSED, WORDS};
@@ -15,6 +16,8 @@ pub fn text_from<S: Source>(alloc: Global, source: &mut S, limit: usize) -> Resu
     requires limit { limit < usize.MAX }
     ensures text { IfOk result (λ bytes. IfSome (S.remaining source.old)
         (λ text. bytes.items ≡ take (limit + 1) text)) }
+    ensures read { OnOk result (ReadsFirst (limit + 1) (change S.remaining S.failures source.old source.new)) }
+    ensures most { ReadsAtMost (limit + 1) (change S.remaining S.failures source.old source.new) }
     ensures sound { OnOk result (IsSound (change S.remaining S.failures source.old source.new)) }
     ensures unread { IfErr result
         (IsUnread (change S.remaining S.failures source.old source.new)) }

@@ -1,13 +1,17 @@
 // `bench draw`: a picture of the verdict on the history on the input.
-ghost use Rattle.std.specs.Prelude.{◌≡◌, ℕ, ◌<◌, ◌≤◌, List, IfOk, Some, string_bytes};
+ghost use Rattle.std.specs.Prelude.{◌≡◌, ℕ, ◌<◌, ◌≤◌, List, IfOk, IfSome, IsOk, OnOk, Some, string_bytes};
 ghost use Rattle.events.specs.HistoryView.{HistoryView};
 ghost use Rattle.events.specs.Operations.{operations};
 ghost use Rattle.history_engines.specs.Answers.{IsHistoryRefusal, IsTextOf};
+ghost use Rattle.history_text.specs.Limits.{text_limit};
 ghost use Rattle.judge.specs.Exact.{IsExactVerdict};
+ghost use Rattle.judge.specs.Gates.{WasPassedForEach, WasPassedForText};
 ghost use Rattle.judge.specs.Shown.{IsShown};
 ghost use Rattle.outcomes.specs.Ends.{change};
-ghost use Rattle.outcomes.specs.Outcomes.{IsTextOutcome};
+ghost use Rattle.outcomes.specs.Outcomes.{IsTextOutcome, OnAnswered};
+ghost use Rattle.outcomes.specs.Reads.{IsTextRead};
 ghost use Rattle.outcomes.specs.Runs.{IsRun};
+ghost use Rattle.outcomes.specs.Statuses.{OnAnswerStatus};
 ghost use Rattle.picture_engines.specs.Drawings.{event_of, whole, IsDrawAnswer, IsViewAnswer, IsDrawing, IsWrongEvent};
 ghost use Rattle.picture_engines.specs.Outcomes.{IsDrawOutcome};
 ghost use Rattle.pictures.specs.declared.windows.View.{View};
@@ -47,10 +51,12 @@ pub fn run_draw<R: Threads + Sync, S: Source, O: Sink, F: Sink, G: Gate + Sync>(
     requires source { S.failures source.old < u64.MAX }
     requires output { O.failures output.old < u64.MAX }
     requires faults { F.failures faults.old < u64.MAX }
-    ensures { IsRun
+    ensures run { IsRun
         (IsDrawOutcome budget view (change S.remaining S.failures source.old source.new))
         (change O.written O.failures output.old output.new)
         (change F.written F.failures faults.old faults.new) result }
+    ensures read { IsTextRead text_limit (change S.remaining S.failures source.old source.new) result }
+    ensures passed { OnAnswerStatus result (IfSome (S.remaining source.old) (WasPassedForText (G.was_passed gate.now))) }
 {
     match text_from(alloc, source, MAX_TEXT) {
         Ok(text) => {
@@ -73,7 +79,8 @@ pub fn draw_outcome<R: Threads + Sync, G: Gate + Sync>(
 ) -> Outcome
     requires budget { (1 ≤ budget) × (budget ≤ budget_limit) }
     requires workers { (1 ≤ workers) × (workers ≤ worker_limit) }
-    ensures { IsTextOutcome (IsViewAnswer budget view) IsHistoryRefusal (Some text.now) result }
+    ensures outcome { IsTextOutcome (IsViewAnswer budget view) IsHistoryRefusal (Some text.now) result }
+    ensures passed { OnAnswered result (WasPassedForText (G.was_passed gate.now) text.now) }
 {
     match read_history(alloc, text) {
         Ok(history) => outcome_of(drawing_of(rt, alloc, &history, budget, workers, view, gate)),
@@ -94,9 +101,10 @@ pub fn draw_outcome_alone(alloc: Global, text: &[u8], budget: u32) -> Outcome
 
 /// How a drawing comes out, or want of memory for it.
 fn outcome_of(drawn: Result<(Answer, String), Memory>) -> Outcome
-    ensures { (budget : ℕ) (view : View) (text : List ℕ) (history : HistoryView) → IsTextOf text history
+    ensures outcome { (budget : ℕ) (view : View) (text : List ℕ) (history : HistoryView) → IsTextOf text history
         → IfOk drawn (λ drawn. IsDrawing budget view history drawn.0 (string_bytes drawn.1))
         → IsTextOutcome (IsViewAnswer budget view) IsHistoryRefusal (Some text) result }
+    ensures answered { OnAnswered result (IsOk drawn) }
 {
     match drawn {
         Ok((answer, drawing)) => Outcome::answered(answer, line_of(drawing)),
@@ -116,7 +124,8 @@ fn drawing_of<R: Threads + Sync, G: Gate + Sync>(
 ) -> Result<(Answer, String), Memory>
     requires budget { (1 ≤ budget) × (budget ≤ budget_limit) }
     requires workers { (1 ≤ workers) × (workers ≤ worker_limit) }
-    ensures { IfOk result (λ drawn. IsDrawing budget view history.now drawn.0 (string_bytes drawn.1)) }
+    ensures drawing { IfOk result (λ drawn. IsDrawing budget view history.now drawn.0 (string_bytes drawn.1)) }
+    ensures passed { OnOk result (WasPassedForEach (G.was_passed gate.now) history.now) }
 {
     let verdict = judge(rt, alloc, history, budget, workers, gate)?;
     let wrong = wrong_event(rt, alloc, history, &verdict, budget, workers, gate)?;

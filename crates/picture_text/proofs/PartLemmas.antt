@@ -20,12 +20,14 @@ part-whole text before behind counts width bottom end many picture part is m b e
 
 -- the whole text
 pub svg-whole : (style top lanes bars names marks legend whole text : List ℕ) (width all end screens many y : ℕ) (picture : Picture)
-    (first second : List ℕ) (each others : List Bar) (places : List Mark) (red : Bool) → width ≡ column_width picture.columns picture.bars.items
+    (first second : List ℕ) (each others : List Bar) (places : List Mark) (red : Bool)
+    → width ≡ column_width picture.columns picture.bars.items
     → all ≡ width_of width picture.columns → top ≡ top_text style all picture → end ≡ all - 16 → first ≡ picture.lanes.items
     → lanes ≡ with_lanes top end 0 first → each ≡ picture.bars.items → bars ≡ with_bars lanes width picture.columns each
     → screens ≡ screens_before width picture.columns → second ≡ picture.lanes.items → names ≡ with_screens bars width second 0 screens
     → places ≡ picture.marks.items → marks ≡ with_marks names width places → many ≡ length picture.lanes.items → y ≡ y_of many
-    → others ≡ picture.bars.items → red ≡ has_wrong others → legend ≡ with_legend marks (y + 20) picture.heading red → whole ≡ with_part legend width picture → text ≡ whole ++ codes "</svg>"
+    → others ≡ picture.bars.items → red ≡ has_wrong others → legend ≡ with_legend marks (y + 20) picture.heading red
+    → whole ≡ with_part legend width picture → text ≡ whole ++ codes "</svg>"
     → IsSvgOf style picture text
 svg-whole style top lanes bars names marks legend whole text width all end screens many y picture first second each others places red
     w a t e f ls ea bs sc se ns pl ms m y_is ot re lg wh tx =

@@ -9,7 +9,7 @@ use Rattle.plan_text.specs.PlanTexts.{SpellsPlan}
 use Rattle.plan_text.specs.PlanTextFaults.{IsPlanTextFault}
 use Rattle.outcomes.specs.declared.outcome.Answer.{Answer}
 use Rattle.outcomes.proofs.WholeText.{same_text}
-use Rattle.plan_engines.specs.Drives.{IsDrivenAnswer, IsDriven, IsDriveRefusal, IsUndriven}
+use Rattle.plan_engines.specs.Drives.{SpellsDrivable, WasPassedForPlan, IsDrivenAnswer, IsDriven, IsDriveRefusal, IsUndriven}
 
 -- a plan that the text read spells is the one of the whole
 SpellsPlan-whole : (text : List ℕ) (scripts : List (List Call)) → SpellsPlan (take (text_limit + 1) text) scripts → SpellsPlan text scripts
@@ -32,16 +32,17 @@ IsUndriven-whole : (text : List ℕ) (fault : PlanFault) → IsUndriven (take (t
 IsUndriven-whole text fault (inl h) = inl (IsPlanTextFault-whole text fault h)
 IsUndriven-whole text fault (inr h) = inr (h.0, (h.1.0, SpellsPlan-whole text h.1.0 h.1.1, h.1.2, h.1.3))
 
+SpellsDrivable-whole : (text : List ℕ) (scripts : List (List Call)) → SpellsDrivable (take (text_limit + 1) text) scripts
+    → SpellsDrivable text scripts
+SpellsDrivable-whole text scripts h =
+    record { spelled = SpellsPlan-whole text scripts h.spelled; are_scripts = h.are_scripts; drivable = h.drivable }
+
 module _ (IsHistoryOf : List (List Call) → HistoryView → Type 0) where
   IsDriven-whole : (text : List ℕ) (history : HistoryView) → IsDriven IsHistoryOf (take (text_limit + 1) text) history
       → IsDriven IsHistoryOf text history
   IsDriven-whole text history h = record {
     scripts = h.scripts;
-    plan = record {
-      spelled = SpellsPlan-whole text h.scripts h.plan.spelled;
-      are_scripts = h.plan.are_scripts;
-      drivable = h.plan.drivable;
-    };
+    plan = SpellsDrivable-whole text h.scripts h.plan;
     driven = h.driven;
   }
 
@@ -55,3 +56,8 @@ module _ (IsHistoryOf : List (List Call) → HistoryView → Type 0) where
 pub IsDriveRefusal-whole : (text bytes : List ℕ) → IsDriveRefusal (take (text_limit + 1) text) bytes → IsDriveRefusal text bytes
 IsDriveRefusal-whole text bytes h =
     record { fault = h.fault; refused = IsUndriven-whole text h.fault h.refused; not_memory = h.not_memory; bytes_are = h.bytes_are }
+
+-- the gate that was passed for the text read was passed for the whole
+pub planned-whole : (WasPassed : ℕ → Type 0) (text : List ℕ) → WasPassedForPlan WasPassed (take (text_limit + 1) text)
+    → WasPassedForPlan WasPassed text
+planned-whole WasPassed text h = record { scripts = h.scripts; plan = SpellsDrivable-whole text h.scripts h.plan; each = h.each }

@@ -1,5 +1,5 @@
 -- What the program answers to the text of a plan that is to be done.
-use Rattle.std.specs.Prelude.{◌≡◌, ◌≢◌, ◌⊎◌, ℕ, List}
+use Rattle.std.specs.Prelude.{◌≡◌, ◌≢◌, ◌⊎◌, ℕ, List, EachIndex}
 use Rattle.serde_json.specs.Written.{compact_text}
 use Rattle.events.specs.declared.event.Call.{Call}
 use Rattle.events.specs.declared.event.Reply.{Reply}
@@ -24,6 +24,12 @@ pub record SpellsDrivable (text : List ℕ) (scripts : List (List Call)) : Type 
   pub spelled : SpellsPlan text scripts
   pub are_scripts : AreScripts scripts
   pub drivable : IsDrivable scripts
+
+-- it spells such a plan, and each of its processes passed the gate before its first step
+pub record WasPassedForPlan (WasPassed : ℕ → Type 0) (text : List ℕ) : Type 0 where
+  pub scripts : List (List Call)
+  pub plan : SpellsDrivable text scripts
+  pub each : EachIndex scripts WasPassed
 
 -- it spells such a plan, and the history is one of its scripts, by what they are done on
 pub record IsDriven (IsHistoryOf : List (List Call) → HistoryView → Type 0) (text : List ℕ) (history : HistoryView) : Type 0 where

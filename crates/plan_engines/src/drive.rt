@@ -1,7 +1,9 @@
 // `bench drive` at a subject: the history of a plan that is done there.
 ghost use Rattle.std.specs.Prelude.{◌<◌, Some};
+ghost use Rattle.history_text.specs.Limits.{text_limit};
 ghost use Rattle.outcomes.specs.Ends.{change};
 ghost use Rattle.outcomes.specs.Outcomes.{IsTextOutcome};
+ghost use Rattle.outcomes.specs.Reads.{IsTextRead};
 ghost use Rattle.outcomes.specs.Runs.{IsRun};
 ghost use Rattle.plan_engines.specs.Drives.{IsDriveAnswer, IsDriveRefusal};
 ghost use Rattle.plan_engines.specs.Outcomes.{IsDriveOutcome};
@@ -28,10 +30,11 @@ pub fn run_drive<R: Threads + Sync, S: Source, O: Sink, F: Sink, J: Subject + Sy
     requires source { S.failures source.old < u64.MAX }
     requires output { O.failures output.old < u64.MAX }
     requires faults { F.failures faults.old < u64.MAX }
-    ensures { IsRun
+    ensures run { IsRun
         (IsDriveOutcome (J.may_answer subject.now) (change S.remaining S.failures source.old source.new))
         (change O.written O.failures output.old output.new)
         (change F.written F.failures faults.old faults.new) result }
+    ensures read { IsTextRead text_limit (change S.remaining S.failures source.old source.new) result }
 {
     match text_from(alloc, source, MAX_TEXT) {
         Ok(text) => {

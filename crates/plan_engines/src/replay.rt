@@ -1,9 +1,11 @@
 // `bench replay`: the history that the run of a replay records.
 ghost use Rattle.std.specs.Prelude.{◌<◌, Some};
 ghost use Rattle.plan_engines.specs.Answers.{IsReplayAnswer, IsReplayRefusal};
+ghost use Rattle.history_text.specs.Limits.{text_limit};
 ghost use Rattle.outcomes.specs.Ends.{change};
 ghost use Rattle.plan_engines.specs.Outcomes.{IsReplayOutcome};
 ghost use Rattle.outcomes.specs.Outcomes.{IsTextOutcome};
+ghost use Rattle.outcomes.specs.Reads.{IsTextRead};
 ghost use Rattle.outcomes.specs.Runs.{IsRun};
 
 use crate::faults::replay_fault_outcome;
@@ -24,10 +26,11 @@ pub fn run_replay<S: Source, O: Sink, F: Sink>(
     requires source { S.failures source.old < u64.MAX }
     requires output { O.failures output.old < u64.MAX }
     requires faults { F.failures faults.old < u64.MAX }
-    ensures { IsRun
+    ensures run { IsRun
         (IsReplayOutcome (change S.remaining S.failures source.old source.new))
         (change O.written O.failures output.old output.new)
         (change F.written F.failures faults.old faults.new) result }
+    ensures read { IsTextRead text_limit (change S.remaining S.failures source.old source.new) result }
 {
     match text_from(alloc, source, MAX_TEXT) {
         Ok(text) => write_outcome(output, faults, &replay_outcome(alloc, &text)),

@@ -1,10 +1,13 @@
 // `bench drive` on a tree: the history of a plan that is done there.
-ghost use Rattle.std.specs.Prelude.{◌<◌, Some};
+ghost use Rattle.std.specs.Prelude.{◌<◌, IfSome, Some};
 ghost use Rattle.art_rows.specs.Table.{IsWithinLimits};
+ghost use Rattle.history_text.specs.Limits.{text_limit};
 ghost use Rattle.outcomes.specs.Ends.{change};
-ghost use Rattle.outcomes.specs.Outcomes.{IsTextOutcome};
+ghost use Rattle.outcomes.specs.Outcomes.{IsTextOutcome, OnAnswered};
+ghost use Rattle.outcomes.specs.Reads.{IsTextRead};
 ghost use Rattle.outcomes.specs.Runs.{IsRun};
-ghost use Rattle.plan_engines.specs.Drives.{IsTreeDriveAnswer, IsDriveRefusal};
+ghost use Rattle.outcomes.specs.Statuses.{OnAnswerStatus};
+ghost use Rattle.plan_engines.specs.Drives.{IsTreeDriveAnswer, IsDriveRefusal, WasPassedForPlan};
 ghost use Rattle.plan_engines.specs.Outcomes.{IsTreeDriveOutcome};
 
 use crate::drivable::{drivable_plan, history_outcome};
@@ -35,10 +38,12 @@ pub fn run_tree_drive<R: Threads + Sync, S: Source, O: Sink, F: Sink, G: Gate + 
     requires output { O.failures output.old < u64.MAX }
     requires faults { F.failures faults.old < u64.MAX }
     requires shape { IsWithinLimits shape }
-    ensures { IsRun
+    ensures run { IsRun
         (IsTreeDriveOutcome shape variant limit (change S.remaining S.failures source.old source.new))
         (change O.written O.failures output.old output.new)
         (change F.written F.failures faults.old faults.new) result }
+    ensures read { IsTextRead text_limit (change S.remaining S.failures source.old source.new) result }
+    ensures passed { OnAnswerStatus result (IfSome (S.remaining source.old) (WasPassedForPlan (G.was_passed gate.now))) }
 {
     match text_from(alloc, source, MAX_TEXT) {
         Ok(text) => {
@@ -60,7 +65,8 @@ pub fn tree_drive_outcome<R: Threads + Sync, G: Gate + Sync>(
     gate: &G,
 ) -> Outcome
     requires { IsWithinLimits shape }
-    ensures { IsTextOutcome (IsTreeDriveAnswer shape variant limit) IsDriveRefusal (Some text.now) result }
+    ensures outcome { IsTextOutcome (IsTreeDriveAnswer shape variant limit) IsDriveRefusal (Some text.now) result }
+    ensures passed { OnAnswered result (WasPassedForPlan (G.was_passed gate.now) text.now) }
 {
     let plan = match drivable_plan(alloc, text) {
         Ok(plan) => plan,

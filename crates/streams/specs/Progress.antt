@@ -1,10 +1,10 @@
 -- How far a reading or a writing of several calls came before one of them failed.
-use Rattle.std.specs.Prelude.{ℕ, ◌<◌, List, length, take, Option}
+use Rattle.std.specs.Prelude.{ℕ, ◌<◌, ◌≤◌, List, length, take, Option}
 use Rattle.std.specs.Io.KnownBytes.{Appends, Consumes}
 
--- some of the bytes to come were read
-abbrev pub ConsumesSome : Option (List ℕ) → Option (List ℕ) → Type 0
-ConsumesSome old new = (bytes : List ℕ) × Consumes old new bytes
+-- some of the bytes to come were read, at most so many
+abbrev pub ConsumesAtMost : ℕ → Option (List ℕ) → Option (List ℕ) → Type 0
+ConsumesAtMost count old new = (bytes : List ℕ) × (length bytes ≤ count) × Consumes old new bytes
 
 -- a proper beginning of the bytes was written
 abbrev pub AppendsBeginning : Option (List ℕ) → Option (List ℕ) → List ℕ → Type 0

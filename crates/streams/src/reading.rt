@@ -1,6 +1,6 @@
 ghost use Rattle.std.specs.Prelude.{◌≡◌, ◌+◌, ◌<◌, ◌≤◌, ◌++◌, Ok, take, length, vec_len, IfOk, OnOk, OnErr, IfSome, IsErrOf};
 ghost use Rattle.std.specs.Io.KnownBytes.{Consumes, IsAtEnd};
-ghost use Rattle.streams.specs.Progress.{ConsumesSome};
+ghost use Rattle.streams.specs.Progress.{ConsumesAtMost};
 
 use crate::{ReadFault, Source};
 use std::alloc::Global;
@@ -20,7 +20,7 @@ pub fn read_up_to<S: Source>(
     ensures within { IfOk result (λ bytes. vec_len bytes ≤ limit) }
     ensures consumed { IfOk result (λ bytes.
         Consumes (S.remaining source.old) (S.remaining source.new) bytes.items) }
-    ensures stopped { OnErr result (ConsumesSome (S.remaining source.old) (S.remaining source.new)) }
+    ensures stopped { OnErr result (ConsumesAtMost limit (S.remaining source.old) (S.remaining source.new)) }
 
     // The count of failures rises exactly where the answer is that a read failed.
     ensures counted { OnOk result (S.failures source.new ≡ S.failures source.old) }
@@ -51,7 +51,7 @@ fn read_once<S: Source>(
     ensures consumed { IfOk result (λ count.
         Consumes (S.remaining source.old) (S.remaining source.new) (take count chunk.new)) }
     ensures end { result ≡ Ok 0 → 0 < length chunk.new → IsAtEnd (S.remaining source.new) }
-    ensures stopped { OnErr result (ConsumesSome (S.remaining source.old) (S.remaining source.new)) }
+    ensures stopped { OnErr result (ConsumesAtMost (length chunk.old) (S.remaining source.old) (S.remaining source.new)) }
 
     ensures counted { OnOk result (S.failures source.new ≡ S.failures source.old) }
     ensures memory { IsErrOf result ReadFault.Memory → S.failures source.new ≡ S.failures source.old }

@@ -25,10 +25,12 @@ opened g c =
 
 -- all processes did their scripts
 done : (g : _) (c : In_ok-pass g)
-    → AreDone (g.G.Gate.was_passed c.args.gate.now) c.in_ok-arena.arena c.args.limit (map (λ script. script.items) c.scripts-scripts.result.now) (length c.in_ok-done.done.items)
+    → AreDone (g.G.Gate.was_passed c.args.gate.now) c.in_ok-arena.arena c.args.limit
+    (map (λ script. script.items) c.scripts-scripts.result.now) (length c.in_ok-done.done.items)
     (shows c.in_ok-pass.pass).processes
 done g c =
-    joined-done (g.G.Gate.was_passed c.args.gate.now) c.in_ok-arena.arena c.args.limit (map (λ script. script.items) c.scripts-scripts.result.now) c.in_ok-done.done.items
+    joined-done (g.G.Gate.was_passed c.args.gate.now) c.in_ok-arena.arena c.args.limit
+    (map (λ script. script.items) c.scripts-scripts.result.now) c.in_ok-done.done.items
     (shows c.in_ok-pass.pass).processes c.in_ok-done.ensures.done c.in_ok-pass.ensures.joined
 
 pub do_scripts-requires-clause-room : goal.do_scripts-requires-clause-room
@@ -52,14 +54,16 @@ want_of_memory-requires g c =
 pub returns-in-Ok-clause-drive : goal.returns-in-Ok-clause-drive
 returns-in-Ok-clause-drive g c =
     let d = (goal.at.returns-in-Ok-clause-drive g c).In_ok-pass in
+    let WasPassed = g.G.Gate.was_passed c.args.gate.now in
     let scripts = map (λ script. script.items) c.scripts-scripts.result.now in
     let setup = opened g d in
     let v = shows c.in_ok-pass.pass in
     let h = c.in-Ok.history in
     subst (λ plan. IsArenaDriveOf c.args.shape c.args.variant c.args.limit plan h) c.scripts-scripts.ensures.same
-    (drive-of (g.G.Gate.was_passed c.args.gate.now) c.args.shape c.args.variant c.args.limit scripts v h (subst (λ s. IsHistoryOf s v h) setup c.in-Ok.ensures.history)
+    (drive-of WasPassed c.args.shape c.args.variant c.args.limit scripts v h
+    (subst (λ s. IsHistoryOf s v h) setup c.in-Ok.ensures.history)
     (subst (λ s. HasOwnEvents s v h.events) setup c.in-Ok.ensures.own_events)
-    (subst (λ s. All (HasDoneOwn (g.G.Gate.was_passed c.args.gate.now) s c.args.limit scripts) v.processes) setup (done g d).done) (omega (arith, c.ranges.limit))
+    (subst (λ s. All (HasDoneOwn WasPassed s c.args.limit scripts) v.processes) setup (done g d).done) (omega (arith, c.ranges.limit))
     (subst (λ s. IsLinearizableIn s v h) setup c.in-Ok.ensures.linearizable))
 
 pub returns-in-Ok-clause-passed : goal.returns-in-Ok-clause-passed

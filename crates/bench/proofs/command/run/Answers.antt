@@ -14,9 +14,9 @@ use Rattle.bench.proofs.command.run.Goals as goal
 
 pub returns-in-Check-clause-run : goal.returns-in-Check-clause-run
 returns-in-Check-clause-run g c = record {
-  outcome = c.run_check.ensures.outcome;
+  outcome = c.run_check.ensures.run.outcome;
   comes = read-words IsLineOutcome (IsCheckAnswer c.in-Check.order.items) IsHistoryRefusal (texts c.args.words.now)
-      (change g.S.Source.remaining g.S.Source.failures c.args.source.now c.run_check.new.source) c.run_check.ensures.outcome
+      (change g.S.Source.remaining g.S.Source.failures c.args.source.now c.run_check.new.source) c.run_check.ensures.run.outcome
       (λ comes. record {
         line = c.in-Ok.line;
         accepted = c.in-Ok.ensures.line.1;
@@ -24,15 +24,15 @@ returns-in-Check-clause-run g c = record {
         comes = rw
             c.in-Check.is comes;
       })
-      (rw (← c.deref.ensures.value) c.run_check.ensures.comes);
-  leaves = c.run_check.ensures.leaves;
+      (rw (← c.deref.ensures.value) c.run_check.ensures.run.comes);
+  leaves = c.run_check.ensures.run.leaves;
 }
 
 pub returns-in-Judge-clause-run : goal.returns-in-Judge-clause-run
 returns-in-Judge-clause-run g c = record {
-  outcome = c.run_judge.ensures.outcome;
+  outcome = c.run_judge.ensures.run.outcome;
   comes = read-words IsLineOutcome (IsJudgeAnswer c.in-Judge.budget) IsHistoryRefusal (texts c.args.words.now)
-      (change g.S.Source.remaining g.S.Source.failures c.args.source.now c.run_judge.new.source) c.run_judge.ensures.outcome
+      (change g.S.Source.remaining g.S.Source.failures c.args.source.now c.run_judge.new.source) c.run_judge.ensures.run.outcome
       (λ comes. record {
         line = c.in-Ok.line;
         accepted = c.in-Ok.ensures.line.1;
@@ -40,15 +40,15 @@ returns-in-Judge-clause-run g c = record {
         comes = rw
             c.in-Judge.is comes;
       })
-      c.run_judge.ensures.comes;
-  leaves = c.run_judge.ensures.leaves;
+      c.run_judge.ensures.run.comes;
+  leaves = c.run_judge.ensures.run.leaves;
 }
 
 pub returns-in-Locate-clause-run : goal.returns-in-Locate-clause-run
 returns-in-Locate-clause-run g c = record {
-  outcome = c.run_locate.ensures.outcome;
+  outcome = c.run_locate.ensures.run.outcome;
   comes = read-words IsLineOutcome (IsLocateAnswer c.in-Locate.budget) IsHistoryRefusal (texts c.args.words.now)
-      (change g.S.Source.remaining g.S.Source.failures c.args.source.now c.run_locate.new.source) c.run_locate.ensures.outcome
+      (change g.S.Source.remaining g.S.Source.failures c.args.source.now c.run_locate.new.source) c.run_locate.ensures.run.outcome
       (λ comes. record {
         line = c.in-Ok.line;
         accepted = c.in-Ok.ensures.line.1;
@@ -56,16 +56,16 @@ returns-in-Locate-clause-run g c = record {
         comes = rw
             c.in-Locate.is comes;
       })
-      c.run_locate.ensures.comes;
-  leaves = c.run_locate.ensures.leaves;
+      c.run_locate.ensures.run.comes;
+  leaves = c.run_locate.ensures.run.leaves;
 }
 
 pub returns-in-Draw-clause-run : goal.returns-in-Draw-clause-run
 returns-in-Draw-clause-run g c = record {
-  outcome = c.run_draw.ensures.outcome;
+  outcome = c.run_draw.ensures.run.outcome;
   comes = read-words IsLineOutcome (IsViewAnswer c.in-Draw.budget (record { around = c.in-Draw.around; calls = c.in-Draw.calls }))
       IsHistoryRefusal (texts c.args.words.now)
-      (change g.S.Source.remaining g.S.Source.failures c.args.source.now c.run_draw.new.source) c.run_draw.ensures.outcome
+      (change g.S.Source.remaining g.S.Source.failures c.args.source.now c.run_draw.new.source) c.run_draw.ensures.run.outcome
       (λ comes. record {
         line = c.in-Ok.line;
         accepted = c.in-Ok.ensures.line.1;
@@ -73,8 +73,8 @@ returns-in-Draw-clause-run g c = record {
         comes = rw
             c.in-Draw.is comes;
       })
-      c.run_draw.ensures.comes;
-  leaves = c.run_draw.ensures.leaves;
+      c.run_draw.ensures.run.comes;
+  leaves = c.run_draw.ensures.run.leaves;
 }
 
 pub returns-in-Follow-clause-run : goal.returns-in-Follow-clause-run
@@ -111,9 +111,9 @@ returns-in-Generate-clause-run g c = record {
 
 pub returns-in-Replay-clause-run : goal.returns-in-Replay-clause-run
 returns-in-Replay-clause-run g c = record {
-  outcome = c.run_replay.ensures.outcome;
+  outcome = c.run_replay.ensures.run.outcome;
   comes = read-words IsLineOutcome IsReplayAnswer IsReplayRefusal (texts c.args.words.now)
-      (change g.S.Source.remaining g.S.Source.failures c.args.source.now c.run_replay.new.source) c.run_replay.ensures.outcome
+      (change g.S.Source.remaining g.S.Source.failures c.args.source.now c.run_replay.new.source) c.run_replay.ensures.run.outcome
       (λ comes. record {
         line = c.in-Ok.line;
         accepted = c.in-Ok.ensures.line.1;
@@ -121,8 +121,8 @@ returns-in-Replay-clause-run g c = record {
         comes = rw
             c.in-Replay.is comes;
       })
-      c.run_replay.ensures.comes;
-  leaves = c.run_replay.ensures.leaves;
+      c.run_replay.ensures.run.comes;
+  leaves = c.run_replay.ensures.run.leaves;
 }
 
 pub returns-in-Err-clause-run : goal.returns-in-Err-clause-run

@@ -9,9 +9,9 @@ use Rattle.history_bench.proofs.command.run.Goals as goal
 
 pub returns-in-Check-clause-run : goal.returns-in-Check-clause-run
 returns-in-Check-clause-run g c = record {
-  outcome = c.run_check.ensures.outcome;
+  outcome = c.run_check.ensures.run.outcome;
   comes = inl (read-words IsHistoryLineOutcome (IsCheckAnswer c.in-Check.order.items) IsHistoryRefusal (texts c.args.words.now)
-      (change g.S.Source.remaining g.S.Source.failures c.args.source.now c.run_check.new.source) c.run_check.ensures.outcome
+      (change g.S.Source.remaining g.S.Source.failures c.args.source.now c.run_check.new.source) c.run_check.ensures.run.outcome
       (λ comes. record {
         line = c.in-Ok.line;
         accepted = c.in-Ok.ensures.line.1;
@@ -19,15 +19,15 @@ returns-in-Check-clause-run g c = record {
         comes = rw
             c.in-Check.is comes;
       })
-      (rw (← c.deref.ensures.value) c.run_check.ensures.comes));
-  leaves = c.run_check.ensures.leaves;
+      (rw (← c.deref.ensures.value) c.run_check.ensures.run.comes));
+  leaves = c.run_check.ensures.run.leaves;
 }
 
 pub returns-in-Judge-clause-run : goal.returns-in-Judge-clause-run
 returns-in-Judge-clause-run g c = record {
-  outcome = c.run_judge.ensures.outcome;
+  outcome = c.run_judge.ensures.run.outcome;
   comes = inl (read-words IsHistoryLineOutcome (IsJudgeAnswer c.in-Judge.budget) IsHistoryRefusal (texts c.args.words.now)
-      (change g.S.Source.remaining g.S.Source.failures c.args.source.now c.run_judge.new.source) c.run_judge.ensures.outcome
+      (change g.S.Source.remaining g.S.Source.failures c.args.source.now c.run_judge.new.source) c.run_judge.ensures.run.outcome
       (λ comes. record {
         line = c.in-Ok.line;
         accepted = c.in-Ok.ensures.line.1;
@@ -35,15 +35,15 @@ returns-in-Judge-clause-run g c = record {
         comes = rw
             c.in-Judge.is comes;
       })
-      c.run_judge.ensures.comes);
-  leaves = c.run_judge.ensures.leaves;
+      c.run_judge.ensures.run.comes);
+  leaves = c.run_judge.ensures.run.leaves;
 }
 
 pub returns-in-Locate-clause-run : goal.returns-in-Locate-clause-run
 returns-in-Locate-clause-run g c = record {
-  outcome = c.run_locate.ensures.outcome;
+  outcome = c.run_locate.ensures.run.outcome;
   comes = inl (read-words IsHistoryLineOutcome (IsLocateAnswer c.in-Locate.budget) IsHistoryRefusal (texts c.args.words.now)
-      (change g.S.Source.remaining g.S.Source.failures c.args.source.now c.run_locate.new.source) c.run_locate.ensures.outcome
+      (change g.S.Source.remaining g.S.Source.failures c.args.source.now c.run_locate.new.source) c.run_locate.ensures.run.outcome
       (λ comes. record {
         line = c.in-Ok.line;
         accepted = c.in-Ok.ensures.line.1;
@@ -51,8 +51,8 @@ returns-in-Locate-clause-run g c = record {
         comes = rw
             c.in-Locate.is comes;
       })
-      c.run_locate.ensures.comes);
-  leaves = c.run_locate.ensures.leaves;
+      c.run_locate.ensures.run.comes);
+  leaves = c.run_locate.ensures.run.leaves;
 }
 
 pub returns-in-Err-clause-run : goal.returns-in-Err-clause-run

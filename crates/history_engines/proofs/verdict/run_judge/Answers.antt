@@ -1,18 +1,51 @@
+use Rattle.std.specs.Prelude.{IfSome}
 use Rattle.history_text.specs.Limits.{text_limit}
 use Rattle.history_engines.specs.Answers.{IsJudgeAnswer, IsHistoryRefusal}
+use Rattle.judge.specs.Gates.{WasPassedForText}
 use Rattle.outcomes.specs.Ends.{change}
 use Rattle.outcomes.proofs.ReadText.{IsReadOutcome-read}
+use Rattle.outcomes.proofs.Reading.{IsTextRead-unread, told-status, unread-status}
+use Rattle.history_engines.proofs.PassedTexts.{passed-whole}
 use Rattle.history_engines.proofs.WholeHistories.{IsJudgeAnswer-whole, IsHistoryRefusal-whole}
 use Rattle.history_engines.proofs.verdict.run_judge.Goals as goal
 
-pub returns-in-Ok : goal.returns-in-Ok
-returns-in-Ok g c =
+pub returns-in-Ok-clause-run : goal.returns-in-Ok-clause-run
+returns-in-Ok-clause-run g c =
     let budget = c.args.budget in
     let source = change g.S.Source.remaining g.S.Source.failures c.args.source.now c.text_from.new.source in
     record {
       outcome = c.judge_outcome-outcome.result;
       comes = IsReadOutcome-read (IsJudgeAnswer budget) IsHistoryRefusal text_limit
           (IsJudgeAnswer-whole budget) IsHistoryRefusal-whole source c.deref.result.now c.judge_outcome-outcome.result
-          (rw c.deref.ensures.value c.in-Ok.ensures.text) c.in-Ok.ensures.sound c.judge_outcome-outcome.ensures;
+          (rw c.deref.ensures.value c.in-Ok.ensures.text) c.in-Ok.ensures.sound c.judge_outcome-outcome.ensures.outcome;
       leaves = c.write_outcome.ensures;
     }
+
+pub returns-in-Ok-clause-read : goal.returns-in-Ok-clause-read
+returns-in-Ok-clause-read g c = record { whole = λ _ _. c.in-Ok.ensures.read; most = c.text_from.ensures.most }
+
+pub returns-in-Err-clause-read : goal.returns-in-Err-clause-read
+returns-in-Err-clause-read g c =
+    IsTextRead-unread text_limit (change g.S.Source.remaining g.S.Source.failures c.args.source.now c.text_from.new.source)
+    (change g.O.Sink.written g.O.Sink.failures c.args.output.now c.write_outcome-in-Err.new.output)
+    (change g.F.Sink.written g.F.Sink.failures c.args.faults.now c.write_outcome-in-Err.new.faults) c.in-Err.outcome
+    c.write_outcome-in-Err.result
+    c.in-Err.ensures.unread c.text_from.ensures.most c.write_outcome-in-Err.ensures
+
+pub returns-in-Ok-clause-passed : goal.returns-in-Ok-clause-passed
+returns-in-Ok-clause-passed g c =
+    let WasPassed = g.G.Gate.was_passed c.args.gate.now in
+    told-status (WasPassedForText WasPassed) text_limit (g.S.Source.remaining c.args.source.now) c.deref.result.now
+    c.judge_outcome-outcome.result
+    (change g.O.Sink.written g.O.Sink.failures c.args.output.now c.write_outcome.new.output)
+    (change g.F.Sink.written g.F.Sink.failures c.args.faults.now c.write_outcome.new.faults) c.write_outcome.result (passed-whole WasPassed)
+    (rw c.deref.ensures.value c.in-Ok.ensures.text) c.write_outcome.ensures c.judge_outcome-outcome.ensures.passed
+
+pub returns-in-Err-clause-passed : goal.returns-in-Err-clause-passed
+returns-in-Err-clause-passed g c =
+    unread-status (IfSome (g.S.Source.remaining c.args.source.now) (WasPassedForText (g.G.Gate.was_passed c.args.gate.now)))
+    (change g.S.Source.remaining g.S.Source.failures c.args.source.now c.text_from.new.source)
+    (change g.O.Sink.written g.O.Sink.failures c.args.output.now c.write_outcome-in-Err.new.output)
+    (change g.F.Sink.written g.F.Sink.failures c.args.faults.now c.write_outcome-in-Err.new.faults) c.in-Err.outcome
+    c.write_outcome-in-Err.result
+    c.in-Err.ensures.unread c.write_outcome-in-Err.ensures

@@ -2,7 +2,7 @@ use Rattle.std.proofs.Common.{string_bytes}
 use Rattle.picture_engines.proofs.DrawingLemmas.{IsTextOutcome-drawn}
 use Rattle.picture_engines.proofs.drawing.outcome_of.Goals as goal
 
-pub returns-in-Ok : goal.returns-in-Ok
-returns-in-Ok c budget view text history is_text drawn =
+pub returns-in-Ok-clause-outcome : goal.returns-in-Ok-clause-outcome
+returns-in-Ok-clause-outcome c budget view text history is_text drawn =
     IsTextOutcome-drawn budget view text history c.in-Ok.answer (string_bytes c.in-Ok.drawing) c.line_of.result c.answered.result is_text
     (rw c.in-Ok.is at drawn) c.line_of.ensures c.answered.ensures
