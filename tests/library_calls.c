@@ -10,10 +10,10 @@
 #include <stdlib.h>
 #include <string.h>
 
-enum { THREADS = 64, ROOM = 1 << 20, LITTLE_STACK = 256 * 1024 };
+enum { CALLS = 4, THREADS = 64, ROOM = 1 << 20, LITTLE_STACK = 256 * 1024 };
 
 typedef uint32_t call(const char *, size_t, uint32_t, char *, size_t, size_t *);
-static call *const calls[] = {potzendai_judge, potzendai_locate, potzendai_draw};
+static call *const calls[] = {potzendai_judge, potzendai_locate, potzendai_draw, potzendai_follow};
 
 struct answer { uint32_t status; size_t length; char *room; };
 
@@ -114,14 +114,14 @@ static void ask_beyond(call *made, const char *text)
     }
 }
 
-struct work { char **texts; struct answer (*wanted)[3]; int count; };
+struct work { char **texts; struct answer (*wanted)[CALLS]; int count; };
 
 static void *run(void *given)
 {
     struct work *work = given;
     char *room = calloc(1, ROOM);
     for (int i = 0; i < work->count; i++)
-        for (int c = 0; c < 3; c++)
+        for (int c = 0; c < CALLS; c++)
             assert(is_same(ask(calls[c], work->texts[i], room, ROOM, 0), work->wanted[i][c]));
     __real_free(room);
     return NULL;
@@ -138,14 +138,14 @@ static char *text_of(const char *path)
 int main(int count, char **paths)
 {
     static char *texts[256];
-    static struct answer wanted[256][3];
+    static struct answer wanted[256][CALLS];
     char *room = calloc(1, ROOM);
     long all_refused = 0;
     count -= 1;
     assert(room && 0 < count && count <= 256);
     for (int i = 0; i < count; i++) {
         texts[i] = text_of(paths[i + 1]);
-        for (int c = 0; c < 3; c++) {
+        for (int c = 0; c < CALLS; c++) {
             held = 0;
             wanted[i][c] = ask(calls[c], texts[i], calloc(1, ROOM), ROOM, 0);
             assert(held == 0);

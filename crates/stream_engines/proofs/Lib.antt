@@ -1,10 +1,11 @@
 mod AlikeLemmas
 mod ReportLemmas
 mod SmallLemmas
-mod StreamLemmas
+pub mod StreamLemmas
 mod OverlapLemmas
 mod FirstLemmas
 mod FollowedLemmas
 mod RefusalLemmas
 mod JudgedLemmas
 mod ReadingLemmas
+mod HandedLemmas

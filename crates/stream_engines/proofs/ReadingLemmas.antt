@@ -77,7 +77,7 @@ record BeginsLong (bytes : List ℕ) (count : ℕ) : Type 0 where
 other_byte : (byte : ℕ) → byte ≢ line_feed → (byte == line_feed) ≡ false
 other_byte byte h = grind (arith, nat_tests)
 
-with_byte : (byte : ℕ) (bytes : List ℕ) (lines : List (List ℕ)) → byte ≢ line_feed → lines_of bytes ≡ lines
+pub with_byte : (byte : ℕ) (bytes : List ℕ) (lines : List (List ℕ)) → byte ≢ line_feed → lines_of bytes ≡ lines
     → lines_of (byte ∷ bytes) ≡ before_lines byte lines
 with_byte byte bytes lines h is = rw (other_byte byte h) (ap (before_lines byte) is)
 

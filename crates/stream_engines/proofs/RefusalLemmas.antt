@@ -43,7 +43,7 @@ pub next_of : (text : List ℕ) (read rest : List (List ℕ)) (line : List ℕ) 
     → lines_of text ≡ read ++ line ∷ rest
 next_of text read rest line h = h ∙ append_assoc read (line ∷ []) rest
 
-numbered : (count number : ℕ) (name bytes : List ℕ) → count ≡ number → bytes ≡ stream_fault_line number name
+pub numbered : (count number : ℕ) (name bytes : List ℕ) → count ≡ number → bytes ≡ stream_fault_line number name
     → bytes ≡ stream_fault_line count name
 numbered count number name bytes same is = is ∙ ap (λ (n : ℕ). stream_fault_line n name) (sym same)
 

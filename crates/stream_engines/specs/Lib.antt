@@ -8,3 +8,4 @@ pub mod Answers
 pub mod Leaves
 pub mod Outcomes
 pub mod Reading
+pub mod Handed

@@ -177,8 +177,8 @@ impl Followed {
     }
 
     /// All lines were taken.
-    pub fn finish(self, alloc: Global) -> Outcome
-        ensures { (told : Option (List ℕ)) (read : List (List ℕ)) (budget : ℕ) → IsFollowed read self → AreLinesOf told read
+    pub fn finish(&self, alloc: Global) -> Outcome
+        ensures { (told : Option (List ℕ)) (read : List (List ℕ)) (budget : ℕ) → IsFollowed read self.now → AreLinesOf told read
             → IsStreamOutcome budget told result }
     {
         yes_outcome(alloc, self.follower.calls(), self.overlap)

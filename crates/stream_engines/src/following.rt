@@ -15,7 +15,7 @@ use stream_text::{LineFault, NoLine, Window, lines_one_by_one, next_line};
 use streams::{Sink, Source};
 
 /// The most lines that are read.
-const MOST_LINES: u64 = u64::MAX - 1;
+pub(crate) const MOST_LINES: u64 = u64::MAX - 1;
 
 /// Reads the lines of a stream one by one, each at most `MAX_LINE` bytes, and judges each answer as it comes: a search of its
 /// group meets at most `budget` configurations. It ends at the end of the source, or at the first line that goes wrong. Memory

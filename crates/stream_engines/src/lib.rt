@@ -5,9 +5,11 @@
 mod alike;
 mod followed;
 mod following;
+mod handed;
 mod refusals;
 mod reports;
 mod small_history;
 
 pub use following::{follow_outcome, run_follow};
+pub use handed::{LineFollower, follow_text};
 pub use small_history::small_line;

@@ -17,6 +17,7 @@ mod window;
 mod write_line;
 
 pub use event::{FirstLine, StreamEvent};
+pub use feeds::first_line_feed;
 pub use laws::{lines_one_by_one, one_event_line, one_line_fault};
 pub use line_fault::LineFault;
 pub use line_reader::{LineReader, next_line};

@@ -4,5 +4,5 @@ use Rattle.stream_engines.proofs.followed.Followed.finish.Goals as goal
 
 pub returns : goal.returns
 returns c = λ told read budget followed lines.
-    whole_at budget told read c.args.self c.calls.result c.args.self.overlap c.yes_outcome.result followed lines
+    whole_at budget told read c.args.self.now c.calls.result c.args.self.now.overlap c.yes_outcome.result followed lines
     (c.calls.ensures ∙ followed.follows.calls) followed.overlap c.yes_outcome.ensures

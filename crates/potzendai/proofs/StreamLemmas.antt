@@ -1,0 +1,62 @@
+-- What the status of a stream says of its lines.
+use Rattle.std.proofs.Common.{◌≡◌, ℕ, List, [], ◌∷◌, ◌++◌, Some, sym, ◌∙◌, subst, append_assoc}
+use Rattle.events.specs.declared.event.Event.{Event}
+use Rattle.events.specs.declared.event.Event.TheVariants as events
+use Rattle.events.specs.HistoryView.{with_event}
+use Rattle.events.specs.Operations.{operations}
+use Rattle.orders.specs.Orders.{IsLinearizable}
+use Rattle.outcomes.specs.declared.outcome.Answer.TheVariants.{Yes, No, Undecided}
+use Rattle.outcomes.specs.declared.outcome.Outcome.{Outcome}
+use Rattle.outcomes.specs.declared.outcome.Outcome.TheVariants.{Answered, Refused, Memory, Words, Failed}
+use Rattle.follow.specs.declared.answered.Loss.{Loss}
+use Rattle.stream_text.specs.Cuts.{lines_of}
+use Rattle.stream_engines.specs.Answers.{GoesWrongHere}
+use Rattle.stream_engines.specs.Outcomes.{IsStreamOutcome}
+use Rattle.stream_engines.proofs.StreamLemmas.{SpellStream-push}
+use Rattle.potzendai.specs.Calls.{status_of}
+use Rattle.potzendai.specs.Streams.{SpellLinearizable, BeginUnlinearizable}
+
+-- the events before the wrong answer, with it, have no order
+wrong_lines : (budget : ℕ) (lines : List (List ℕ)) (loss : Loss) → GoesWrongHere budget lines loss → BeginUnlinearizable lines
+wrong_lines budget lines loss wrong =
+    let at = wrong.judged in
+    let answer = events.Answer at.process at.reply in
+    record {
+      stream = with_event at.stream answer;
+      has_start = at.has_start;
+      first = at.read ++ at.next ∷ [];
+      rest = at.rest;
+      parts = at.parts ∙ sym (append_assoc at.read (at.next ∷ []) at.rest);
+      spelled = SpellStream-push at.has_start at.read at.stream at.next answer at.spelled at.answer;
+      refuted = λ more has_order. (wrong.wrong more).0
+          (subst (λ (all : List Event). IsLinearizable at.stream.start (operations all))
+          (append_assoc at.stream.events (answer ∷ []) more) has_order);
+    }
+
+-- the status of yes is that of lines with an order
+pub yes_has_order : (budget : ℕ) (text : List ℕ) (outcome : Outcome) → IsStreamOutcome budget (Some text) outcome
+    → status_of outcome ≡ 0 → SpellLinearizable (lines_of text)
+yes_has_order budget text (Answered Yes bytes) comes is = record {
+  stream = comes.stream;
+  has_start = comes.has_start;
+  spelled = comes.spelled;
+  well_formed = comes.well_formed;
+  linearizable = comes.linearizable;
+}
+yes_has_order budget text (Answered No bytes) comes is = cc
+yes_has_order budget text (Answered Undecided bytes) comes is = cc
+yes_has_order budget text (Refused bytes) comes is = cc
+yes_has_order budget text Memory comes is = cc
+yes_has_order budget text (Words bytes) comes is = cc
+yes_has_order budget text Failed comes is = cc
+
+-- the status of no is that of lines without
+pub no_has_none : (budget : ℕ) (text : List ℕ) (outcome : Outcome) → IsStreamOutcome budget (Some text) outcome
+    → status_of outcome ≡ 1 → BeginUnlinearizable (lines_of text)
+no_has_none budget text (Answered Yes bytes) comes is = cc
+no_has_none budget text (Answered No bytes) comes is = wrong_lines budget (lines_of text) comes.0 comes.1
+no_has_none budget text (Answered Undecided bytes) comes is = cc
+no_has_none budget text (Refused bytes) comes is = cc
+no_has_none budget text Memory comes is = cc
+no_has_none budget text (Words bytes) comes is = cc
+no_has_none budget text Failed comes is = cc

@@ -1,0 +1,36 @@
+// The call that follows the text of a stream.
+ghost use Rattle.std.specs.Prelude.{◌≡◌, Some};
+ghost use Rattle.outcomes.specs.Outcomes.{IsTextOutcome};
+ghost use Rattle.potzendai.specs.Calls.{IsCall};
+ghost use Rattle.potzendai.specs.Streams.{SpellLinearizable, BeginUnlinearizable};
+ghost use Rattle.stream_engines.specs.Answers.{IsFollowAnswer, IsStreamRefusal};
+ghost use Rattle.stream_text.specs.Cuts.{lines_of};
+
+use crate::told::{is_budget, tell, tell_budget};
+use std::alloc::Global;
+use stream_engines::follow_text;
+
+/// Follows the stream whose events the lines of the text spell, as `bench follow` does: each answer is judged as it comes, by
+/// searches of at most `budget` configurations. A text has as many bytes as it will. Else as `potzendai_judge`.
+#[unsafe(no_mangle)]
+pub extern "C" fn potzendai_follow(
+    alloc: Global,
+    text: &[u8],
+    budget: u32,
+    room: &mut [u8],
+    size: &mut usize,
+) -> u32
+    ensures call { IsCall (IsTextOutcome (IsFollowAnswer budget) IsStreamRefusal (Some text.now))
+        budget room.old room.new size.new result }
+
+    // What an answer of yes or no says of the stream.
+    ensures yes { result ≡ 0 → SpellLinearizable (lines_of text.now) }
+    ensures no { result ≡ 1 → BeginUnlinearizable (lines_of text.now) }
+{
+    if is_budget(budget) {
+        let outcome = follow_text(alloc, text, budget);
+        tell(&outcome, room, size)
+    } else {
+        tell_budget(room, size)
+    }
+}

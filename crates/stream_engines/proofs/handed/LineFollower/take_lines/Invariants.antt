@@ -1,0 +1,13 @@
+-- Some lines were taken, and those of the bytes at hand are to come.
+use Rattle.std.proofs.Common.{◌≡◌, ℕ, List, ◌++◌, length}
+use Rattle.stream_text.specs.Cuts.{lines_of}
+use Rattle.stream_engines.specs.Handed.{IsHanded}
+use Rattle.stream_engines.proofs.handed.LineFollower.take_lines.Given as goal
+
+abbrev pub invariant-loop-count : goal.invariant-loop-count
+invariant-loop-count l =
+    (read : List (List ℕ)) × (lines_of l.fn.bytes ≡ read ++ lines_of l.rest)
+    × ((budget : ℕ) (lines : List (List ℕ)) → IsHanded budget lines l.fn.self → IsHanded budget (lines ++ read) l.follower)
+
+abbrev pub decreases-loop-count : goal.decreases-loop-count
+decreases-loop-count l = length l.rest

@@ -1,0 +1,19 @@
+use Rattle.std.proofs.Common.{[], Some, refl, subst}
+use Rattle.stream_text.specs.Cuts.{lines_of}
+use Rattle.stream_engines.specs.declared.handed.LineFollower.{LineFollower}
+use Rattle.stream_engines.specs.Handed.{IsHanded}
+use Rattle.stream_engines.proofs.HandedLemmas.{ended_with}
+use Rattle.stream_engines.proofs.handed.follow_text.Goals as goal
+
+pub returns-in-Going : goal.returns-in-Going
+returns-in-Going c =
+    let lines = lines_of c.args.text.now in
+    let handed = subst (λ (f : LineFollower). IsHanded c.args.budget lines f) c.in-Going.is
+    (c.take_lines.ensures c.args.budget [] c.in-Ok.ensures) in
+    c.finish.ensures (Some c.args.text.now) lines c.args.budget handed.3 refl
+
+pub returns-in-Ended : goal.returns-in-Ended
+returns-in-Ended c =
+    ended_with c.args.budget c.args.text.now c.in-Ended.outcome
+    (subst (λ (f : LineFollower). IsHanded c.args.budget (lines_of c.args.text.now) f) c.in-Ended.is
+    (c.take_lines.ensures c.args.budget [] c.in-Ok.ensures))
