@@ -5,11 +5,13 @@
 //! go that each call which stays lets go (`settled`). The laws say what this comes to for the calls as a list of operations.
 #![tactic(auto)]
 
+mod copies;
 mod groups;
 mod laws;
 mod left;
 mod settling;
 
+pub use copies::copied;
 pub use groups::{KeyRange, group_of, group_range};
 pub use laws::{
     answers_fill_one_place, groups_are_parts, groups_name_keys_within, marked_are_early,

@@ -39,7 +39,7 @@ use Rattle.follow.proofs.PlaceLemmas.{same_process, one_open}
 use Rattle.follow.proofs.JudgeLemmas.{IsAnswering, answering, answered_shaped, answered_call, answered_inv}
 
 -- a call left, with the answer of one of them, is the same call behind the answer
-call_answered : (events : List Event) (e : Event) (inv place : ℕ) (reply : Reply) (c : LeftCall)
+pub call_answered : (events : List Event) (e : Event) (inv place : ℕ) (reply : Reply) (c : LeftCall)
     → operations (events ++ e ∷ []) ≡ map (answered_at inv place reply) (operations events) → IsCallOf events c
     → IsCallOf (events ++ e ∷ []) (answered_left inv place reply c)
 call_answered events e inv place reply c all h = record {
@@ -64,7 +64,7 @@ still_pending inv place reply a pending = by_test (a.inv == inv) refl pending
     by_test false e h = (h, λ same. both_ways (a.inv == inv) e (eq-eqb a.inv inv same))
 
 -- calls that were invoked at one place have one process
-same_place : (events : List Event) (c d : LeftCall) → IsCallOf events c → IsCallOf events d → c.operation.inv ≡ d.operation.inv
+pub same_place : (events : List Event) (c d : LeftCall) → IsCallOf events c → IsCallOf events d → c.operation.inv ≡ d.operation.inv
     → c.process ≡ d.process
 same_place events c d at_c at_d same =
     same_process c.process d.process c.operation.call d.operation.call (sym at_c.invoked ∙ (ap (slice_get events) same ∙ at_d.invoked))

@@ -90,7 +90,7 @@ calls_with_answer events c reply h turns =
     ∙ ap (λ inv. map (answered_at inv (length (h.before ++ Invoke c.process c.operation.call ∷ h.between)) reply)
     (operations (h.before ++ Invoke c.process c.operation.call ∷ h.between))) (sym h.place))
 
-left_with_answer : (events : List Event) (dropped : List ℕ) (c : LeftCall) (reply : Reply) → IsOpenIn events c
+pub left_with_answer : (events : List Event) (dropped : List ℕ) (c : LeftCall) (reply : Reply) → IsOpenIn events c
     → IsTrue (takes_turns false (events_of c.process events))
     → left_of (events ++ Answer c.process reply ∷ []) dropped ≡ map (answered_at c.operation.inv (length events) reply)
     (left_of events dropped)

@@ -1,7 +1,7 @@
 pub mod PlaceLemmas
-mod InvokeLemmas
+pub mod InvokeLemmas
 pub mod JudgeLemmas
-mod AnswerLemmas
+pub mod AnswerLemmas
 pub mod SettleLemmas
 mod FollowLemmas
 mod ViewLemmas
@@ -9,4 +9,5 @@ mod HeldLemmas
 mod HoldLemmas
 mod GroupSearchLemmas
 mod GoneLemmas
-mod FaultLemmas
+pub mod FaultLemmas
+mod FoundValueLemmas

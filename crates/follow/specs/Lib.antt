@@ -8,3 +8,4 @@ pub mod Faults
 pub mod Parts
 pub mod Settlements
 pub mod Outcomes
+pub mod Values

@@ -1,5 +1,6 @@
 // The follower of a stream.
-ghost use Rattle.std.specs.Prelude.{◌≡◌, ◌<◌, ◌-◌, ◌^◌, ◌++◌, ◌∷◌, [], true, List, length, All, None, Some, slice_get, IfOk, IfErr, OnOk, OnErr};
+ghost use Rattle.std.specs.Prelude.{◌≡◌, ◌<◌, ◌-◌, ◌^◌, ◌++◌, ◌∷◌, [], true, List, length, All, None, Some, slice_get};
+ghost use Rattle.std.specs.Prelude.{IfOk, IfErr, IfSome, IfNone, OnOk, OnErr};
 ghost use Rattle.events.specs.declared.event.Event.{Event};
 ghost use Rattle.events.specs.declared.event.Event.TheVariants.{Invoke};
 ghost use Rattle.events.specs.Precedence.{is_completed};
@@ -9,17 +10,19 @@ ghost use Rattle.follow.specs.Following.{IsFollowing};
 ghost use Rattle.follow.specs.Faults.{invocation_fault, shown};
 ghost use Rattle.follow.specs.Parts.{IsOpenAt};
 ghost use Rattle.follow.specs.Sparing.{IsHeldByOpen};
+ghost use Rattle.follow.specs.Values.{AreFound, HasNoOpenChange};
 ghost use Rattle.follow.specs.Outcomes.{IsAnswered, IsJudged};
 
 use crate::answered::Answered;
 use crate::fault::FollowFault;
 use crate::groups::{group_at, search_part};
 use crate::laws::{
-    answers_follow, answers_refute, calls_kept_are_held, following_begins, invocations_follow,
-    invocations_hold, quiet_followers_keep_no_call, settlements_hold,
+    answers_follow, answers_refute, calls_kept_are_held, changes_find_values, following_begins,
+    invocations_follow, invocations_hold, quiet_followers_keep_no_call, settlements_hold,
 };
 use crate::settling::{Settled, settle};
 use crate::standing::Standing;
+use crate::values::{OpenChange, values_at};
 use call_search::Found;
 use calls_left::{LeftCall, open_call};
 use events::{Call, Memory, Reply};
@@ -64,6 +67,32 @@ impl Follower {
         calls_kept_are_held();
         quiet_followers_keep_no_call();
         self.standing.left().len()
+    }
+
+    /// The same follower again.
+    pub fn copy(&self, alloc: Global) -> Result<Follower, Memory>
+        ensures { IfOk result (λ f. f ≡ self.now) }
+    {
+        let standing = self.standing.copy(alloc)?;
+        Ok(Follower { standing })
+    }
+
+    /// The open call of a process, where it may change the map, and the values that it may have found by now, with others.
+    pub fn open_change(&self, alloc: Global, process: u16) -> Result<Option<OpenChange>, Memory>
+        ensures found { (start : Contents) (events : List Event) → IsFollowing start events self.now
+            → IfOk result (λ found. IfSome found (AreFound start events process)) }
+        ensures none { IfOk result (λ found. IfNone found (HasNoOpenChange self.now process)) }
+    {
+        changes_find_values();
+        let Some(place) = open_call(self.standing.left(), process) else {
+            return Ok(None);
+        };
+        let call = self.standing.left()[place].operation.call;
+        if !call.may_change() {
+            return Ok(None);
+        }
+        let values = values_at(alloc, &self.standing, call.low_key())?;
+        Ok(Some(OpenChange { call, values }))
     }
 
     /// How many calls were invoked.

@@ -1,4 +1,5 @@
 // Laws of following, each the contract of a function that does nothing but call the laws it rests on.
+ghost use Rattle.follow.specs.Values.{ChangesFindValues};
 ghost use Rattle.follow.specs.Laws.{
   AnswersAreJudged,
   AnswersFollow,
@@ -136,4 +137,9 @@ pub fn settlements_hold()
 /// Where no call is open, all calls left may go; so a follower whose calls are all held keeps none then.
 pub fn quiet_followers_keep_no_call()
     ensures { QuietFollowersKeepNoCall }
+{}
+
+/// The replies that an open call which may change the map may have had by now are values that its key may have had.
+pub fn changes_find_values()
+    ensures { ChangesFindValues }
 {}

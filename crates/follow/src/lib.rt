@@ -11,12 +11,15 @@ mod groups;
 mod laws;
 mod settling;
 mod standing;
+mod values;
 
 pub use answered::{Answered, Loss};
 pub use fault::FollowFault;
 pub use follower::Follower;
 pub use laws::{
-    answers_are_judged, answers_follow, answers_refute, calls_kept_are_held, followers_are_exact,
-    following_begins, invocations_follow, invocations_hold, quiet_followers_keep_no_call,
-    settlements_follow, settlements_have_orders, settlements_hold, steps_make_followers,
+    answers_are_judged, answers_follow, answers_refute, calls_kept_are_held, changes_find_values,
+    followers_are_exact, following_begins, invocations_follow, invocations_hold,
+    quiet_followers_keep_no_call, settlements_follow, settlements_have_orders, settlements_hold,
+    steps_make_followers,
 };
+pub use values::OpenChange;

@@ -6,7 +6,7 @@ ghost use Rattle.orders.specs.Orders.{after_calls, calls_at};
 ghost use Rattle.follow.specs.FollowerView.{IsFollowerView, new_follower, after_invocation, after_answer, after_settlement};
 
 use crate::laws::steps_make_followers;
-use calls_left::{LeftCall, put_answer, unmarked};
+use calls_left::{LeftCall, copied, put_answer, unmarked};
 use events::{Call, Memory, Operation, Reply};
 use map_object::SortedMap;
 use orders::apply;
@@ -45,6 +45,18 @@ impl Standing {
             left: Vec::new(alloc),
             events: 0,
             calls: 0,
+        })
+    }
+
+    /// The same again.
+    pub(crate) fn copy(&self, alloc: Global) -> Result<Standing, Memory>
+        ensures { IfOk result (λ s. s ≡ self.now) }
+    {
+        Ok(Standing {
+            known: self.known.copy(alloc)?,
+            left: copied(alloc, &self.left)?,
+            events: self.events,
+            calls: self.calls,
         })
     }
 

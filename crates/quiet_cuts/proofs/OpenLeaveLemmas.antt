@@ -60,16 +60,16 @@ paired (Replace key expected value) h found = by_test (is_just found expected)
     by_test false = (Some value, λ w. commuted (w found) (w (Some value)))
 
 -- whether an open call may change a key
-abbrev may_touch : ℕ → Call → Bool
+abbrev pub may_touch : ℕ → Call → Bool
 may_touch k call = may_change call && (low_key call == k)
 
-value_kept : (m : Contents) (call : Call) (k : ℕ) → may_touch k call ≡ false → value_at (after m call) k ≡ value_at m k
+pub value_kept : (m : Contents) (call : Call) (k : ℕ) → may_touch k call ≡ false → value_at (after m call) k ≡ value_at m k
 value_kept m call k none =
     let given = Some (record { res = 0; reply = replies.None }) in
     let out : touches k call given ≡ false = rw none refl in
     untouched m (record { call = call; inv = 0; response = given }) k refl out
 
-value_then : (m : Contents) (call : Call) (k : ℕ) → may_touch k call ≡ true → value_at (after m call) k ≡ turned call (value_at m k)
+pub value_then : (m : Contents) (call : Call) (k : ℕ) → may_touch k call ≡ true → value_at (after m call) k ≡ turned call (value_at m k)
 value_then m call k is =
     let parts = and_parts (may_change call) (low_key call == k) is in
     subst (λ key. value_at (after m call) key ≡ turned call (value_at m key)) (eqb-true (low_key call) k parts.1)

@@ -1,0 +1,5 @@
+pub mod BranchLemmas
+pub mod TakenLemmas
+pub mod TurnLemmas
+mod WrongLemmas
+mod FollowedLemmas
