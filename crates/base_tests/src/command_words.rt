@@ -268,6 +268,20 @@ fn asks_for_a_stream(rt: HostRuntime) -> Result<(), Fail> {
 }
 
 #[test]
+fn asks_for_an_explanation(rt: HostRuntime) -> Result<(), Fail> {
+    for (words, want) in [
+        (&["bench", "explain"][..], 100000),
+        (&["bench", "explain", "--budget", "7"][..], 7),
+    ] {
+        match read_line(rt.alloc(), words)? {
+            Line::Explain { budget } => assert_eq!(rt; budget, want),
+            other => assert!(rt; false, "{other:?}"),
+        }
+    }
+    Ok(())
+}
+
+#[test]
 fn asks_for_a_plan(rt: HostRuntime) -> Result<(), Fail> {
     match read_line(rt.alloc(), &GENERATE)? {
         Line::Generate {

@@ -6,12 +6,13 @@ use Rattle.art_steps.specs.declared.variant.Variant.TheVariants as variants
 use Rattle.command_line.specs.declared.line.Tree.{Tree}
 use Rattle.command_line.specs.declared.line.Tree.TheVariants as trees
 use Rattle.command_line.specs.declared.line.Line.{Line}
-use Rattle.command_line.specs.declared.line.Line.TheVariants.{Check, Judge, Locate, Draw, Follow, Generate, Replay, Drive}
+use Rattle.command_line.specs.declared.line.Line.TheVariants.{Check, Judge, Locate, Explain, Draw, Follow, Generate, Replay, Drive}
 use Rattle.locked_map.specs.Answers.{IsAnswerOf}
 use Rattle.outcomes.specs.declared.outcome.Outcome.{Outcome}
 use Rattle.outcomes.specs.Ends.{Change, IsUnused}
 use Rattle.history_engines.specs.Outcomes.{IsCheckOutcome, IsJudgeOutcome}
 use Rattle.history_engines.specs.LocateOutcomes.{IsLocateOutcome}
+use Rattle.explain_engines.specs.Outcomes.{IsExplainOutcome}
 use Rattle.picture_engines.specs.Outcomes.{IsDrawOutcome}
 use Rattle.stream_engines.specs.Outcomes.{IsFollowOutcome}
 use Rattle.plan_engines.specs.Outcomes.{IsDriveOutcome, IsGenerateOutcome, IsReplayOutcome, IsTreeDriveOutcome}
@@ -36,6 +37,7 @@ abbrev pub IsLineOutcome : Line → Change → Outcome → Type 0
 IsLineOutcome (Check order) source outcome = IsCheckOutcome order.items source outcome
 IsLineOutcome (Judge budget workers) source outcome = IsJudgeOutcome budget source outcome
 IsLineOutcome (Locate budget workers) source outcome = IsLocateOutcome budget source outcome
+IsLineOutcome (Explain budget) source outcome = IsExplainOutcome budget source outcome
 IsLineOutcome (Draw budget workers around calls) source outcome =
     IsDrawOutcome budget (record { around = around; calls = calls }) source outcome
 IsLineOutcome (Follow budget) source outcome = IsFollowOutcome budget source outcome

@@ -9,6 +9,7 @@ ghost use Rattle.bench.specs.Outcomes.{IsLineOutcome, variant_of};
 
 use art::{Shape, Variant};
 use command_line::{Line, Tree};
+use explain_engines::run_explain;
 use history_engines::{run_check, run_judge, run_locate};
 use line_outcomes::asked_line;
 use locked_map::LockedMap;
@@ -59,6 +60,7 @@ pub fn run<R: Threads + Wait + Sync, S: Source, O: Sink, F: Sink, G: Gate + Sync
         Line::Locate { budget, workers } => {
             run_locate(rt, alloc, source, output, faults, budget, workers, gate)
         }
+        Line::Explain { budget } => run_explain(alloc, source, output, faults, budget),
         Line::Draw {
             budget,
             workers,

@@ -14,7 +14,7 @@ use Rattle.command_line.specs.Trees.{name_of, place_of}
 use Rattle.command_line.specs.Words.{AreOptionsOf, Given, value_given}
 use Rattle.command_line.specs.Words.{option_words as words_of}
 use Rattle.command_line.specs.declared.line.Line.{Line}
-use Rattle.command_line.specs.declared.line.Line.TheVariants.{Check, Judge, Locate, Draw, Follow, Generate, Replay, Drive}
+use Rattle.command_line.specs.declared.line.Line.TheVariants.{Check, Judge, Locate, Explain, Draw, Follow, Generate, Replay, Drive}
 use Rattle.command_line.specs.declared.line.Tree.{Tree}
 use Rattle.command_line.specs.declared.line.Tree.TheVariants.{Optimistic}
 
@@ -25,6 +25,7 @@ asked_by (Judge budget workers) =
     record { name = codes "judge"; numbers = budget ∷ workers ∷ []; calls = [] }
 asked_by (Locate budget workers) =
     record { name = codes "locate"; numbers = budget ∷ workers ∷ []; calls = [] }
+asked_by (Explain budget) = record { name = codes "explain"; numbers = budget ∷ []; calls = [] }
 asked_by (Draw budget workers around calls) =
     record { name = codes "draw"; numbers = budget ∷ workers ∷ around ∷ calls ∷ []; calls = [] }
 asked_by (Follow budget) = record { name = codes "follow"; numbers = budget ∷ []; calls = [] }
@@ -51,6 +52,7 @@ IsWithinLimits (Judge budget workers) =
     (1 ≤ budget) × (budget ≤ budget_limit) × (1 ≤ workers) × (workers ≤ workers_limit)
 IsWithinLimits (Locate budget workers) =
     (1 ≤ budget) × (budget ≤ budget_limit) × (1 ≤ workers) × (workers ≤ workers_limit)
+IsWithinLimits (Explain budget) = (1 ≤ budget) × (budget ≤ budget_limit)
 IsWithinLimits (Draw budget workers around calls) = (1 ≤ budget) × (budget ≤ budget_limit) × (1 ≤ workers)
     × (workers ≤ workers_limit) × (around ≤ around_limit) × (calls ≤ shown_limit)
 IsWithinLimits (Follow budget) = (1 ≤ budget) × (budget ≤ budget_limit)

@@ -36,6 +36,14 @@ judge_usage = search_usage (codes "judge")
 abbrev pub locate_usage : Usage
 locate_usage = search_usage (codes "locate")
 
+-- a subcommand of this name with a budget: `NAME [--budget N]`
+abbrev pub budget_usage : Text → Usage
+budget_usage name = record { name = name; flags = number_flag (codes "budget") 1 budget_limit budget_default ∷ []; takes_calls = false }
+
+-- `explain [--budget N]`
+abbrev pub explain_usage : Usage
+explain_usage = budget_usage (codes "explain")
+
 -- `draw [--budget N] [--workers N] [--around N] [--calls N]`
 abbrev pub draw_usage : Usage
 draw_usage = record {
@@ -49,7 +57,7 @@ draw_usage = record {
 
 -- `follow [--budget N]`
 abbrev pub follow_usage : Usage
-follow_usage = record { name = codes "follow"; flags = number_flag (codes "budget") 1 budget_limit budget_default ∷ []; takes_calls = false }
+follow_usage = budget_usage (codes "follow")
 
 -- `--NAME N`, which may not be left out, with any number up to the greatest
 abbrev pub required_flag : Text → ℕ → Flag
@@ -93,7 +101,8 @@ drive_usage = record {
 
 -- the subcommands of the program
 abbrev pub bench_table : List Usage
-bench_table = check_usage ∷ judge_usage ∷ locate_usage ∷ draw_usage ∷ follow_usage ∷ generate_usage ∷ replay_usage ∷ drive_usage ∷ []
+bench_table =
+    check_usage ∷ judge_usage ∷ locate_usage ∷ explain_usage ∷ draw_usage ∷ follow_usage ∷ generate_usage ∷ replay_usage ∷ drive_usage ∷ []
 
 -- the program, as `clap` reads it
 unfoldable pub bench_app : App

@@ -18,6 +18,11 @@ pub enum Line {
         budget: u32,
         workers: u32,
     },
+    /// Few calls of the history on standard input that are not linearizable, where one thread judges it and searches at most
+    /// `budget` configurations of each segment, and of some of its calls, within the limits of `Judge`.
+    Explain {
+        budget: u32,
+    },
     /// A picture of the verdict that `Judge` asks for, within the same limits: its part around an event, with room for so many
     /// calls. An event that the history has not names none, and it may be one at most that no history has, 8,192. There is room
     /// for 4,096 calls at most, and 0 asks for the whole picture.

@@ -57,7 +57,7 @@ macro_rules! search_options {
 }
 
 /// The subcommands of the program.
-pub(crate) static SUBCOMMANDS: [Subcommand<'static>; 8] = [
+pub(crate) static SUBCOMMANDS: [Subcommand<'static>; 9] = [
     Subcommand {
         name: "check",
         about: "Tells whether calls, in this order, are an order of the history on standard input",
@@ -74,6 +74,14 @@ pub(crate) static SUBCOMMANDS: [Subcommand<'static>; 8] = [
         name: "locate",
         about: "Tells at which event the history on standard input stops being linearizable",
         options: search_options!(),
+        takes_calls: false,
+    },
+    Subcommand {
+        name: "explain",
+        about: "Tells of few calls of the history on standard input that are not linearizable, and why",
+        options: &[budget_option!(
+            "How many configurations of each segment are searched at most, and of some of its calls"
+        )],
         takes_calls: false,
     },
     Subcommand {

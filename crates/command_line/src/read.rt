@@ -86,6 +86,9 @@ fn line_of(request: Request<'_>) -> Line
             budget: request.number(0),
             workers: request.number(1),
         },
+        "explain" => Line::Explain {
+            budget: request.number(0),
+        },
         "draw" => Line::Draw {
             budget: request.number(0),
             workers: request.number(1),

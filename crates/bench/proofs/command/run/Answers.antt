@@ -2,6 +2,7 @@ use Rattle.std.specs.Prelude.{refl}
 use Rattle.clap.specs.Walk.{texts}
 use Rattle.history_engines.specs.Answers.{IsCheckAnswer, IsHistoryRefusal, IsJudgeAnswer}
 use Rattle.history_engines.specs.LocateAnswers.{IsLocateAnswer}
+use Rattle.explain_engines.specs.Answers.{IsExplainAnswer}
 use Rattle.picture_engines.specs.Drawings.{IsViewAnswer}
 use Rattle.stream_engines.specs.Answers.{IsFollowAnswer, IsStreamRefusal}
 use Rattle.plan_engines.specs.Answers.{IsReplayAnswer, IsReplayRefusal}
@@ -58,6 +59,22 @@ returns-in-Locate-clause-run g c = record {
       })
       c.run_locate.ensures.run.comes;
   leaves = c.run_locate.ensures.run.leaves;
+}
+
+pub returns-in-Explain-clause-run : goal.returns-in-Explain-clause-run
+returns-in-Explain-clause-run g c = record {
+  outcome = c.run_explain.ensures.outcome;
+  comes = read-words IsLineOutcome (IsExplainAnswer c.in-Explain.budget) IsHistoryRefusal (texts c.args.words.now)
+      (change g.S.Source.remaining g.S.Source.failures c.args.source.now c.run_explain.new.source) c.run_explain.ensures.outcome
+      (λ comes. record {
+        line = c.in-Ok.line;
+        accepted = c.in-Ok.ensures.line.1;
+        asked = c.in-Ok.ensures.line.0;
+        comes = rw
+            c.in-Explain.is comes;
+      })
+      c.run_explain.ensures.comes;
+  leaves = c.run_explain.ensures.leaves;
 }
 
 pub returns-in-Draw-clause-run : goal.returns-in-Draw-clause-run
