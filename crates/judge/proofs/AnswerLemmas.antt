@@ -29,7 +29,7 @@ HaveShown budget segments orders None = AllZip (IsOrderedBy budget) segments ord
 HaveShown budget segments orders (Some segment) = IsLowestSpent budget segments segment
 
 -- one more of each
-pub AllZip-more : {A B : Type 0} (R : A → B → Type 0) (xs : List A) (ys : List B) (x : A) (y : B) → AllZip R xs ys → R x y
+AllZip-more : {A B : Type 0} (R : A → B → Type 0) (xs : List A) (ys : List B) (x : A) (y : B) → AllZip R xs ys → R x y
     → AllZip R (xs ++ x ∷ []) (ys ++ y ∷ [])
 AllZip-more R [] [] x y h r = (r, tt)
 AllZip-more R [] (b ∷ ys) x y h r = absurd h

@@ -1,8 +1,6 @@
 // The verdict on a history, found by one thread.
 ghost use Rattle.std.specs.Prelude.{◌≤◌, IfOk};
-ghost use Rattle.std.specs.List.{AllZip};
 ghost use Rattle.events.specs.Operations.{operations};
-ghost use Rattle.search.specs.Exact.{IsExactAnswer};
 ghost use Rattle.judge.specs.Shown.{IsShown};
 ghost use Rattle.judge.specs.Exact.{IsExactVerdict};
 ghost use Rattle.search.specs.Limits.{budget_limit};
@@ -11,8 +9,7 @@ use crate::conclusion::conclude;
 use crate::verdict::Verdict;
 use cutter::cut;
 use events::{History, Memory};
-use search::{Found, search};
-use segments::Segment;
+use pool::{OpenGate, search_alone};
 use std::alloc::Global;
 
 /// Judges a history, by a search of at most `budget` configurations in each of its segments, one after
@@ -25,18 +22,6 @@ pub fn judge_alone(alloc: Global, history: &History, budget: u32) -> Result<Verd
     ensures exact { IfOk result (IsExactVerdict history.now.start budget (operations history.now.events)) }
 {
     let segments = cut(alloc, history)?;
-    let answers = search_each(alloc, &segments, budget)?;
+    let answers = search_alone(alloc, &segments, budget, &OpenGate)?;
     conclude(alloc, history, budget, segments, answers)
-}
-
-/// What the search of each segment finds.
-fn search_each(alloc: Global, segments: &[Segment], budget: u32) -> Result<Vec<Found>, Memory>
-    requires { (1 ≤ budget) × (budget ≤ budget_limit) }
-    ensures { IfOk result (λ v. AllZip (IsExactAnswer budget) segments.now v.items) }
-{
-    let mut answers = Vec::with_capacity(alloc, segments.len())?;
-    for segment in segments {
-        answers.push(search(alloc, segment, budget)?)?;
-    }
-    Ok(answers)
 }

@@ -31,7 +31,7 @@ pub(crate) fn in_place(
 }
 
 /// As many segments, of which no answer is known.
-fn none_known(alloc: Global, segments: usize) -> Result<Vec<Option<Found>>, Memory>
+pub(crate) fn none_known(alloc: Global, segments: usize) -> Result<Vec<Option<Found>>, Memory>
     ensures { IfOk result (λ v. v.items ≡ replicate segments None) }
 {
     let mut known = Vec::with_capacity(alloc, segments)?;

@@ -6,12 +6,10 @@ mod gate;
 mod hands;
 mod known;
 mod pool;
-#[cfg(test)]
-mod tests;
 mod worker;
 
 pub use gate::{Gate, OpenGate};
-pub use pool::search_all;
+pub use pool::{search_all, search_alone};
 
 /// The most workers of a search.
 pub const MAX_WORKERS: u32 = 64;

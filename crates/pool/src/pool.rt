@@ -9,7 +9,7 @@ ghost use Rattle.search.specs.Limits.{budget_limit};
 
 use crate::gate::Gate;
 use crate::hands::deal;
-use crate::known::{complete, in_place};
+use crate::known::{complete, in_place, none_known};
 use crate::worker::{SegmentAnswer, work};
 use events::Memory;
 use search::Found;
@@ -43,6 +43,21 @@ pub fn search_all<R: Threads + Sync, G: Gate + Sync>(
 {
     let answers = search_apart(rt, alloc, segments, budget, workers, gate)?;
     let known = in_place(alloc, segments.len(), answers)?;
+    complete(alloc, segments, budget, gate, known)
+}
+
+/// Searches each segment as `search_all` does, by the caller's thread alone: one after another, each behind the gate.
+pub fn search_alone<G: Gate>(
+    alloc: Global,
+    segments: &[Segment],
+    budget: u32,
+    gate: &G,
+) -> Result<Vec<Found>, Memory>
+    requires { (1 ≤ budget) × (budget ≤ budget_limit) }
+    ensures exact { IfOk result (λ v. AllZip (IsExactAnswer budget) segments.now v.items) }
+    ensures passed { OnOk result (EachIndex segments.now (G.was_passed gate.now)) }
+{
+    let known = none_known(alloc, segments.len())?;
     complete(alloc, segments, budget, gate, known)
 }
 

@@ -17,4 +17,6 @@ mod meetings;
 #[cfg(test)]
 mod searches_by_workers;
 #[cfg(test)]
+mod undrawn_segments;
+#[cfg(test)]
 mod verdicts;

@@ -1,9 +1,8 @@
-// The search of segments that no worker drew, which no public call shows: workers draw until none is left.
+// The search of segments by one thread, as of those that no worker drew.
 ghost use Rattle.std.specs.Prelude.{⊤};
 
-use crate::gate::Gate;
-use crate::known::{complete, in_place};
 use history_text::read_history;
+use pool::{Gate, search_alone};
 use search::Found;
 use segments::Segment;
 use std::alloc::Global;
@@ -35,14 +34,13 @@ fn one_insert_twice(alloc: Global) -> Result<Vec<Segment>, Fail> {
 }
 
 #[test]
-fn segments_that_no_worker_drew_are_searched(rt: HostRuntime) -> Result<(), Fail> {
+fn segments_are_searched_by_one_thread(rt: HostRuntime) -> Result<(), Fail> {
     let alloc = rt.alloc();
     let segments = one_insert_twice(alloc)?;
     let gate = Entries {
         count: AtomicU64::new(0),
     };
-    let known = in_place(alloc, segments.len(), Vec::new(alloc))?;
-    let found = complete(alloc, &segments, 1000, &gate, known)?;
+    let found = search_alone(alloc, &segments, 1000, &gate)?;
     assert!(rt; found.len() == 2 && gate.count.load(Ordering::SeqCst) == 2);
     for found in found {
         assert!(rt; found == Found::Order(vec![in alloc; 0]?));
