@@ -57,7 +57,10 @@ fn explanation_of(
     }
 }
 
-/// Leaves out calls by halves, quarters and so on.
+/// How many configurations a search meets at most that is to leave out many calls at once.
+const FEW_CONFIGURATIONS: u32 = 16_384;
+
+/// Leaves out calls by halves, quarters and so on, where short searches show that the others have no order.
 fn fewer(
     alloc: Global,
     map: &SortedMap,
@@ -71,8 +74,9 @@ fn fewer(
 {
     let mut kept = copies_of(alloc, calls)?;
     let mut size = kept.len() / 2;
+    let few = budget.min(FEW_CONFIGURATIONS);
     while size > 0 {
-        kept = lessen(alloc, map, kept, size, budget)?;
+        kept = lessen(alloc, map, kept, size, few)?;
         size /= 2;
     }
     Ok(kept)

@@ -10,4 +10,5 @@ returns-in-Four c = λ y from below.
 
 pub returns-in-Sixteen : goal.returns-in-Sixteen
 returns-in-Sixteen c = λ y from below.
-    ap (λ k. frame_slot k c.args.frame.now y) c.in-Sixteen.is ∙ bare_slot Sixteen c.args.frame.now y refl (c.next_key16.ensures y from below)
+    ap (λ k. frame_slot k c.args.frame.now y) c.in-Sixteen.is ∙ bare_slot Sixteen c.args.frame.now y refl
+    (c.next_key16.ensures y from below)
