@@ -47,6 +47,7 @@ REFUSED = {
 }
 ANSWERED = {"judge": (0, 1, 2), "locate": (0, 1, 2), "draw": (0, 1, 2), "replay": (0,), "drive": (0,), "follow": (0, 1, 2)}
 ANSWERS = {"draw": PICTURE, "follow": LINE_OR_TWO}
+NOTES = {"follow": rb"(note: [ -~]+\n)?"}
 # What reads an example, by the ending of its name. Of several subcommands each text is given to one.
 READERS = {"-stream.json": ("follow",), "-replay.json": ("replay",), "-plan.json": ("drive",), ".json": ("judge", "locate", "draw")}
 
@@ -92,7 +93,7 @@ def fails(subcommand, text):
     """What is wrong with the run on a text, or None."""
     ran = subprocess.run([PROGRAM, subcommand], input=text, capture_output=True, timeout=60, check=False)
     if ran.returncode in ANSWERED[subcommand]:
-        wanted = ANSWERS.get(subcommand, LINE), NOTHING
+        wanted = ANSWERS.get(subcommand, LINE), NOTES.get(subcommand, NOTHING)
     elif ran.returncode == 3:
         wanted = NOTHING, rb"(?:" + REFUSED[subcommand] + rb")" + WANTED
     else:

@@ -7,7 +7,8 @@ Histories are those of the examples that are not refused, and drawn ones, 5,000 
 call a map, each call has its effect at a moment while it is open, and some stay open; then answers of half of them are changed,
 or swapped with what stands beside them. Where `judge` says yes `follow` counts the calls and how much they overlap; where
 `locate` finds an event it is the one that `follow` stops at, and the small history that it writes has no order. Where one of
-them is undecided the others may say what fits. The last line counts what passed and failed.
+them is undecided the others may say what fits. Standard error has the note on a yes of calls that do not overlap, and else nothing.
+The last line counts what passed and failed.
 """
 
 import concurrent.futures
@@ -27,6 +28,7 @@ MOST_CALLS = 160
 # With many open calls a search of a whole segment may meet millions of configurations.
 BUDGET = ["--budget", "20000"]
 REFUSED = 3
+NOTE = b"note: no two calls overlap, and of such a history a yes says little\n"
 
 
 def text_of(history):
@@ -131,10 +133,15 @@ def overlap_of(events):
     return calls, overlap
 
 
-def said(subcommand, text):
-    """The exit status of a run, and each line that it writes on standard output, as a value."""
+def run(subcommand, text):
+    """The exit status of a run, each line that it writes on standard output, as a value, and what it writes on standard error."""
     ran = subprocess.run([PROGRAM, subcommand, *BUDGET], input=text, capture_output=True, timeout=120, check=False)
-    return ran.returncode, [json.loads(line) for line in ran.stdout.splitlines()]
+    return ran.returncode, [json.loads(line) for line in ran.stdout.splitlines()], ran.stderr
+
+
+def said(subcommand, text):
+    """The same without standard error."""
+    return run(subcommand, text)[:2]
 
 
 def wrong_with_yes(history, text, report):
@@ -167,7 +174,7 @@ def wrong_with_no(text, report, small):
 def verdict(history):
     """The verdict of `follow`, and what is wrong with it, or None."""
     text = text_of(history)
-    status, lines = said("follow", lines_of(history))
+    status, lines, told = run("follow", lines_of(history))
     if status > 2:
         return "refused", "refused"
     report, *small = lines
@@ -176,6 +183,9 @@ def verdict(history):
         wrong = wrong_with_yes(history, text, lines)
     elif status == 1:
         wrong = wrong_with_no(text, report, small)
+    calls, overlap = overlap_of(history["events"])
+    if told != (NOTE if status == 0 and calls >= 2 and overlap == 0 else b""):
+        wrong = wrong or f"{told} on standard error, with {lines}"
     return report["verdict"], wrong and f"follow says {wrong}: {text.decode()}"
 
 

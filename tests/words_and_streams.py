@@ -8,17 +8,21 @@ else. The last line counts the runs that passed and failed.
 """
 
 import os
+import pty
 import re
 import resource
+import select
 import subprocess
 import sys
 import tempfile
+import time
 
 TOP = os.path.dirname(os.path.dirname(os.path.abspath(__file__)))
 PROGRAM = os.path.join(TOP, "crates", "bench", "out", "bench")
 EXAMPLES = os.path.join(TOP, "examples")
 ORDERED = os.path.join(EXAMPLES, "insert-then-get.json")
 CUT_SHORT = os.path.join(EXAMPLES, "cut-short.json")
+OVERLAPPING = os.path.join(EXAMPLES, "get-overlaps-insert-stream.json")
 FULL = "/dev/full"
 LONGEST_TEXT = 16_777_216
 MOST_CALLS = 4096
@@ -83,6 +87,20 @@ def run(words, source, output=subprocess.PIPE, error=subprocess.PIPE, before=Non
     return ran.returncode, ran.stdout or b"", ran.stderr or b""
 
 
+def on_terminal(words, lines, pause):
+    """The same of a program whose standard error is a terminal, and that reads its last line after a pause."""
+    terminal, error = pty.openpty()
+    ran = subprocess.Popen([PROGRAM, *words], stdin=subprocess.PIPE, stdout=subprocess.PIPE, stderr=error)
+    os.close(error)
+    ran.stdin.write(b"".join(lines[:-1]))
+    ran.stdin.flush()
+    time.sleep(pause)
+    output = ran.communicate(lines[-1], timeout=60)[0]
+    told = os.read(terminal, 1 << 16) if select.select([terminal], [], [], 0)[0] else b""
+    os.close(terminal)
+    return ran.returncode, output, told.replace(b"\r\n", b"\n")
+
+
 def with_little_stack():
     resource.setrlimit(resource.RLIMIT_STACK, (LITTLE_STACK, LITTLE_STACK))
 
@@ -145,6 +163,12 @@ def runs(folder):
         for seed in range(1, 21):
             result = piped([*MIXED, "--seed", str(seed)], ["drive", "--tree", tree], ["judge", "--budget", "1000000", "--workers", "4"])
             yield f"plan {seed} that four threads do at the {tree} tree", result, (0, YES, NOTHING)
+
+    with open(OVERLAPPING, "rb") as source:
+        lines = source.read().splitlines(keepends=True)
+    yes = rb'\{"calls":2,"overlap":1,"verdict":"yes"\}\n'
+    yield "a slow stream", on_terminal(["follow"], lines, 1.1), (0, yes, rb"2 calls, [0-2] a second, 0 left\n")
+    yield "a fast stream", on_terminal(["follow"], lines, 0), (0, yes, NOTHING)
 
     unreadable = os.open(EXAMPLES, os.O_RDONLY)
     yield "input that is a folder", run(["check"], unreadable), (6, NOTHING, rb"io\n")

@@ -20,13 +20,14 @@ use pool::Gate;
 use std::alloc::Global;
 use std::sync::Wait;
 use std::thread::Threads;
-use stream_engines::run_follow;
+use stream_engines::{Progress, run_follow};
 use streams::{Sink, Source};
 use workload::Mix;
 
 /// Does what the words of the command line ask for, the program's name first, and answers the exit status.
-/// Workers pass the gate before each segment that they search, and the processes of a drive on a tree before they begin.
-pub fn run<R: Threads + Wait + Sync, S: Source, O: Sink, F: Sink, G: Gate + Sync>(
+/// Workers pass the gate before each segment that they search, and the processes of a drive on a tree before they begin; how far a stream
+/// was followed is shown.
+pub fn run<R: Threads + Wait + Sync, S: Source, O: Sink, F: Sink, G: Gate + Sync, P: Progress>(
     rt: &R,
     alloc: Global,
     source: &mut S,
@@ -34,6 +35,7 @@ pub fn run<R: Threads + Wait + Sync, S: Source, O: Sink, F: Sink, G: Gate + Sync
     faults: &mut F,
     words: &[&str],
     gate: &G,
+    progress: &mut P,
 ) -> u8
     requires source { S.failures source.old < u64.MAX }
     requires output { O.failures output.old < u64.MAX }
@@ -72,7 +74,7 @@ pub fn run<R: Threads + Wait + Sync, S: Source, O: Sink, F: Sink, G: Gate + Sync
                 rt, alloc, source, output, faults, budget, workers, view, gate,
             )
         }
-        Line::Follow { budget } => run_follow(alloc, source, output, faults, budget),
+        Line::Follow { budget } => run_follow(alloc, source, output, faults, budget, progress),
         Line::Generate {
             seed,
             processes,

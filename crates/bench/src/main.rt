@@ -6,6 +6,7 @@
 #![tactic(auto)]
 
 mod command;
+mod progress;
 #[cfg(test)]
 mod tests;
 
@@ -13,6 +14,7 @@ use command::run;
 use line_outcomes::{texts_of, words_of};
 use outcomes::{Outcome, write_outcome};
 use pool::OpenGate;
+use progress::TerminalProgress;
 use std::process::ExitCode;
 use streams::{StandardError, StandardInput, StandardOutput};
 
@@ -20,6 +22,7 @@ fn main(rt: HostRuntime) -> ExitCode {
     let mut source = StandardInput::new(rt.stdin());
     let mut output = StandardOutput::new(rt.stdout());
     let mut faults = StandardError::new(rt.stderr());
+    let mut progress = TerminalProgress::new(&rt, rt.stderr());
     let words = match words_of(&rt, rt.alloc()) {
         Ok(words) => words,
         Err(outcome) => return ExitCode::from(write_outcome(&mut output, &mut faults, &outcome)),
@@ -33,6 +36,7 @@ fn main(rt: HostRuntime) -> ExitCode {
             &mut faults,
             &texts,
             &OpenGate,
+            &mut progress,
         ),
         Err(_) => write_outcome(&mut output, &mut faults, &Outcome::Memory),
     };

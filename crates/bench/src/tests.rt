@@ -16,6 +16,7 @@ use std::process::Abort;
 use std::sync::Wait;
 use std::test::Fail;
 use std::thread::Threads;
+use stream_engines::Unshown;
 use streams::memory_ends::{MemorySink, MemorySource};
 
 // The two lines of a fault.
@@ -56,6 +57,7 @@ fn leaves<R: Threads + Wait + Sync + Abort>(
         &mut err,
         &words,
         &OpenGate,
+        &mut Unshown,
     );
     assert_eq!(rt; answer, status, "{line}");
     assert!(rt; out.bytes() == output.as_bytes(), "{line}");

@@ -4,7 +4,7 @@ use Rattle.clap.specs.Words.{Text}
 use Rattle.command_line.specs.declared.line.Line.{Line}
 use Rattle.outcomes.specs.declared.outcome.Answer.{Answer}
 use Rattle.outcomes.specs.declared.outcome.Outcome.{Outcome}
-use Rattle.outcomes.specs.declared.outcome.Outcome.TheVariants.{Answered, Refused, Memory, Words, Failed}
+use Rattle.outcomes.specs.declared.outcome.Outcome.TheVariants.{Answered, Noted, Refused, Memory, Words, Failed}
 use Rattle.outcomes.specs.Ends.{Change, IsSound}
 use Rattle.outcomes.specs.Outcomes.{IsReadOutcome}
 use Rattle.line_outcomes.specs.Outcomes.{IsAskedOutcome, IsFaultOutcome, IsWordsOutcome}
@@ -15,6 +15,7 @@ pub read-words : (L : Line → Change → Outcome → Type 0) (A : List ℕ → 
     → (IsReadOutcome A R source outcome → IsAskedOutcome L words source outcome) → IsReadOutcome A R source outcome
     → IsWordsOutcome L words source outcome
 read-words L A R words source (Answered answer bytes) ask comes = ask comes
+read-words L A R words source (Noted answer bytes note) ask comes = ask comes
 read-words L A R words source (Refused bytes) ask comes = ask comes
 read-words L A R words source Memory ask (inl unread) = unread
 read-words L A R words source Memory ask (inr read) = read.0
@@ -26,6 +27,7 @@ read-words L A R words source Failed ask comes = ask comes
 pub fault-words : (L : Line → Change → Outcome → Type 0) (words : List Text) (source : Change) (outcome : Outcome)
     → IsFaultOutcome words outcome → IsSound source → IsWordsOutcome L words source outcome
 fault-words L words source (Answered answer bytes) fault sound = absurd fault
+fault-words L words source (Noted answer bytes note) fault sound = absurd fault
 fault-words L words source (Refused bytes) fault sound = absurd fault
 fault-words L words source Memory fault sound = sound
 fault-words L words source (Words text) fault sound = (fault, sound)

@@ -2,7 +2,7 @@
 use Rattle.std.proofs.Common.{◌≡◌, ℕ, ◌+◌, List, Option, Some, None, IfSome, take, subst, inr, string_bytes}
 use Rattle.outcomes.specs.declared.outcome.Answer.{Answer}
 use Rattle.outcomes.specs.declared.outcome.Outcome.{Outcome}
-use Rattle.outcomes.specs.declared.outcome.Outcome.TheVariants.{Answered, Refused, Memory, Words, Failed}
+use Rattle.outcomes.specs.declared.outcome.Outcome.TheVariants.{Answered, Noted, Refused, Memory, Words, Failed}
 use Rattle.outcomes.specs.Ends.{Change, IsSound}
 use Rattle.outcomes.specs.Outcomes.{IsTextOutcome, IsReadOutcome}
 
@@ -18,6 +18,7 @@ IsTextOutcome-told IsAnswer IsRefusal limit answers refuses (Some text) read (An
     answers text answer (string_bytes bytes) (subst (λ (t : List ℕ). IsAnswer t answer (string_bytes bytes)) is h)
 IsTextOutcome-told IsAnswer IsRefusal limit answers refuses (Some text) read (Refused bytes) is h =
     refuses text (string_bytes bytes) (subst (λ (t : List ℕ). IsRefusal t (string_bytes bytes)) is h)
+IsTextOutcome-told IsAnswer IsRefusal limit answers refuses told read (Noted answer bytes note) is h = h
 IsTextOutcome-told IsAnswer IsRefusal limit answers refuses told read Memory is h = tt
 IsTextOutcome-told IsAnswer IsRefusal limit answers refuses told read (Words bytes) is h = h
 IsTextOutcome-told IsAnswer IsRefusal limit answers refuses told read Failed is h = h

@@ -4,7 +4,7 @@ use Rattle.std.specs.Prelude.{OnOk, IsOk}
 use Rattle.outcomes.specs.declared.outcome.Answer.{Answer}
 use Rattle.outcomes.specs.declared.outcome.Answer.TheVariants.{Yes, No, Undecided}
 use Rattle.outcomes.specs.declared.outcome.Outcome.{Outcome}
-use Rattle.outcomes.specs.declared.outcome.Outcome.TheVariants.{Answered, Refused, Memory, Words, Failed}
+use Rattle.outcomes.specs.declared.outcome.Outcome.TheVariants.{Answered, Noted, Refused, Memory, Words, Failed}
 use Rattle.outcomes.specs.Ends.{Change}
 use Rattle.outcomes.specs.Outcomes.{OnAnswered, IsUnread}
 use Rattle.outcomes.specs.Reads.{ReadsAtMost, IsTextRead}
@@ -19,6 +19,7 @@ IsTextRead-unread limit source output faults Memory status unread most leaves =
 IsTextRead-unread limit source output faults Failed status unread most leaves =
     record { whole = λ not_memory not_failed. absurd (not_failed leaves.2); most = most }
 IsTextRead-unread limit source output faults (Answered answer bytes) status unread most leaves = absurd unread
+IsTextRead-unread limit source output faults (Noted answer bytes note) status unread most leaves = absurd unread
 IsTextRead-unread limit source output faults (Refused bytes) status unread most leaves = absurd unread
 IsTextRead-unread limit source output faults (Words bytes) status unread most leaves = absurd unread
 
@@ -32,6 +33,7 @@ no-answer status past Undecided is = omega (arith, past, is)
 pub answered-status : (P : Type 0) (outcome : Outcome) (output faults : Change) (status : ℕ) → Leaves outcome output faults status
     → OnAnswered outcome P → OnAnswerStatus status P
 answered-status P (Answered given bytes) output faults status leaves h answer is = h
+answered-status P (Noted given bytes note) output faults status leaves h answer is = h
 answered-status P (Refused bytes) output faults status leaves h answer is = absurd (no-answer status (omega (arith, leaves.2)) answer is)
 answered-status P Memory output faults status leaves h answer is = absurd (no-answer status (omega (arith, leaves.2)) answer is)
 answered-status P (Words bytes) output faults status leaves h answer is = absurd (no-answer status (omega (arith, leaves.2)) answer is)
@@ -41,6 +43,7 @@ answered-status P Failed output faults status leaves h answer is = absurd (no-an
 pub unread-status : (P : Type 0) (source output faults : Change) (outcome : Outcome) (status : ℕ) → IsUnread source outcome
     → Leaves outcome output faults status → OnAnswerStatus status P
 unread-status P source output faults (Answered given bytes) status unread leaves = absurd unread
+unread-status P source output faults (Noted given bytes note) status unread leaves = absurd unread
 unread-status P source output faults (Refused bytes) status unread leaves = absurd unread
 unread-status P source output faults (Words bytes) status unread leaves = absurd unread
 unread-status P source output faults Memory status unread leaves = answered-status P Memory output faults status leaves tt
@@ -49,6 +52,7 @@ unread-status P source output faults Failed status unread leaves = answered-stat
 -- what holds of an answer is weakened
 pub OnAnswered-map : (P Q : Type 0) (outcome : Outcome) → (P → Q) → OnAnswered outcome P → OnAnswered outcome Q
 OnAnswered-map P Q (Answered given bytes) f h = f h
+OnAnswered-map P Q (Noted given bytes note) f h = f h
 OnAnswered-map P Q (Refused bytes) f h = tt
 OnAnswered-map P Q Memory f h = tt
 OnAnswered-map P Q (Words bytes) f h = tt

@@ -2,12 +2,13 @@
 use Rattle.std.specs.Prelude.{◌⊎◌, ⊤, ℕ, List, Option, IfSome, string_bytes}
 use Rattle.outcomes.specs.declared.outcome.Answer.{Answer}
 use Rattle.outcomes.specs.declared.outcome.Outcome.{Outcome}
-use Rattle.outcomes.specs.declared.outcome.Outcome.TheVariants.{Answered, Refused, Memory, Words, Failed}
+use Rattle.outcomes.specs.declared.outcome.Outcome.TheVariants.{Answered, Noted, Refused, Memory, Words, Failed}
 use Rattle.outcomes.specs.Ends.{Change, IsSound, FailsOnce}
 
--- the outcome of a text: an answer to it or its refusal, as far as the text is told, or want of memory
+-- the outcome of a text: an answer to it, without a note, or its refusal, as far as the text is told, or want of memory
 abbrev pub IsTextOutcome : (List ℕ → Answer → List ℕ → Type 0) → (List ℕ → List ℕ → Type 0) → Option (List ℕ) → Outcome → Type 0
 IsTextOutcome IsAnswer IsRefusal told (Answered answer bytes) = IfSome told (λ text. IsAnswer text answer (string_bytes bytes))
+IsTextOutcome IsAnswer IsRefusal told (Noted answer bytes note) = ⊥
 IsTextOutcome IsAnswer IsRefusal told (Refused bytes) = IfSome told (λ text. IsRefusal text (string_bytes bytes))
 IsTextOutcome IsAnswer IsRefusal told Memory = ⊤
 IsTextOutcome IsAnswer IsRefusal told (Words bytes) = ⊥
@@ -16,6 +17,7 @@ IsTextOutcome IsAnswer IsRefusal told Failed = ⊥
 -- where the outcome is an answer, this holds
 abbrev pub OnAnswered : Outcome → Type 0 → Type 0
 OnAnswered (Answered answer bytes) P = P
+OnAnswered (Noted answer bytes note) P = P
 OnAnswered outcome P = ⊤
 
 -- the outcome where there is no text: memory was wanting, or a read failed

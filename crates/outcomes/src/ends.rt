@@ -29,8 +29,8 @@ pub fn text_from<S: Source>(alloc: Global, source: &mut S, limit: usize) -> Resu
     }
 }
 
-/// Writes an outcome to the output or to the faults, and answers the exit status. A failed write to the faults
-/// changes nothing else.
+/// Writes an outcome to the output or to the faults, and answers the exit status; a note goes to the faults behind its answer.
+/// A failed write to the faults changes nothing else.
 pub fn write_outcome<O: Sink, F: Sink>(output: &mut O, faults: &mut F, outcome: &Outcome) -> u8
     requires output { O.failures output.old < u64.MAX }
     requires faults { F.failures faults.old < u64.MAX }
@@ -42,6 +42,12 @@ pub fn write_outcome<O: Sink, F: Sink>(output: &mut O, faults: &mut F, outcome: 
             Ok(()) => answer.status(),
             Err(_) => tell(faults, b"io\n", FAILED),
         },
+        Outcome::Noted { answer, line, note } => {
+            if write_whole(output, line.as_bytes()).is_err() {
+                return tell(faults, b"io\n", FAILED);
+            }
+            tell(faults, note.as_bytes(), answer.status())
+        }
         Outcome::Refused(line) => tell(faults, line.as_bytes(), REFUSED),
         Outcome::Memory => tell(faults, b"memory\n", MEMORY),
         Outcome::Words(text) => tell(faults, text.as_bytes(), WORDS),

@@ -56,7 +56,16 @@ impl Answer {
 #[derive(Debug, Drop)]
 pub enum Outcome {
     /// The input is answered, with this line for standard output.
-    Answered { answer: Answer, line: String },
+    Answered {
+        answer: Answer,
+        line: String,
+    },
+    /// The same, with a note on the answer for standard error.
+    Noted {
+        answer: Answer,
+        line: String,
+        note: String,
+    },
     /// The input is refused, with these lines for standard error.
     Refused(String),
     /// Want of memory.
@@ -76,6 +85,25 @@ impl Outcome {
     {
         match line {
             Ok(line) => Outcome::Answered { answer, line },
+            Err(_) => Outcome::Memory,
+        }
+    }
+
+    /// An answer with this line and this note, if there was memory for both.
+    pub fn noted(
+        answer: Answer,
+        line: Result<String, AllocError>,
+        note: Result<String, AllocError>,
+    ) -> Outcome
+        ensures { MatchResult line
+            (λ text. MatchResult note (λ told. result ≡ Outcome.Noted answer text told) (λ _. result ≡ Outcome.Memory))
+            (λ _. result ≡ Outcome.Memory) }
+    {
+        let Ok(line) = line else {
+            return Outcome::Memory;
+        };
+        match note {
+            Ok(note) => Outcome::Noted { answer, line, note },
             Err(_) => Outcome::Memory,
         }
     }

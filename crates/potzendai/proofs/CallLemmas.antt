@@ -8,7 +8,7 @@ use Rattle.judge.specs.declared.verdict.Verdict.TheVariants as verdicts
 use Rattle.judge.specs.Shown.{IsShown}
 use Rattle.outcomes.specs.declared.outcome.Answer.TheVariants.{Yes, No, Undecided}
 use Rattle.outcomes.specs.declared.outcome.Outcome.{Outcome}
-use Rattle.outcomes.specs.declared.outcome.Outcome.TheVariants.{Answered, Refused, Memory, Words, Failed}
+use Rattle.outcomes.specs.declared.outcome.Outcome.TheVariants.{Answered, Noted, Refused, Memory, Words, Failed}
 use Rattle.outcomes.specs.Outcomes.{IsTextOutcome}
 use Rattle.history_engines.specs.Answers.{answer_of, IsHistoryRefusal, IsJudgeAnswer}
 use Rattle.potzendai.specs.Calls.{IsBudget, IsCall, status_of, text_of, written}
@@ -51,6 +51,7 @@ yes_is_linearizable budget text (Answered Yes bytes) comes is =
     )
 yes_is_linearizable budget text (Answered No bytes) comes is = cc
 yes_is_linearizable budget text (Answered Undecided bytes) comes is = cc
+yes_is_linearizable budget text (Noted answer bytes note) comes is = absurd comes
 yes_is_linearizable budget text (Refused bytes) comes is = cc
 yes_is_linearizable budget text Memory comes is = cc
 yes_is_linearizable budget text (Words bytes) comes is = cc
@@ -69,6 +70,7 @@ no_is_unlinearizable budget text (Answered No bytes) comes is =
           comes.answer_is judged.shown,
     )
 no_is_unlinearizable budget text (Answered Undecided bytes) comes is = cc
+no_is_unlinearizable budget text (Noted answer bytes note) comes is = absurd comes
 no_is_unlinearizable budget text (Refused bytes) comes is = cc
 no_is_unlinearizable budget text Memory comes is = cc
 no_is_unlinearizable budget text (Words bytes) comes is = cc

@@ -7,7 +7,7 @@ use Rattle.events.specs.Operations.{operations}
 use Rattle.orders.specs.Orders.{IsLinearizable}
 use Rattle.outcomes.specs.declared.outcome.Answer.TheVariants.{Yes, No, Undecided}
 use Rattle.outcomes.specs.declared.outcome.Outcome.{Outcome}
-use Rattle.outcomes.specs.declared.outcome.Outcome.TheVariants.{Answered, Refused, Memory, Words, Failed}
+use Rattle.outcomes.specs.declared.outcome.Outcome.TheVariants.{Answered, Noted, Refused, Memory, Words, Failed}
 use Rattle.follow.specs.declared.answered.Loss.{Loss}
 use Rattle.stream_text.specs.Cuts.{lines_of}
 use Rattle.stream_engines.specs.Answers.{GoesWrongHere}
@@ -45,6 +45,15 @@ yes_has_order budget text (Answered Yes bytes) comes is = record {
 }
 yes_has_order budget text (Answered No bytes) comes is = cc
 yes_has_order budget text (Answered Undecided bytes) comes is = cc
+yes_has_order budget text (Noted Yes bytes note) comes is = record {
+  stream = comes.stream;
+  has_start = comes.has_start;
+  spelled = comes.spelled;
+  well_formed = comes.well_formed;
+  linearizable = comes.linearizable;
+}
+yes_has_order budget text (Noted No bytes note) comes is = cc
+yes_has_order budget text (Noted Undecided bytes note) comes is = cc
 yes_has_order budget text (Refused bytes) comes is = cc
 yes_has_order budget text Memory comes is = cc
 yes_has_order budget text (Words bytes) comes is = cc
@@ -56,6 +65,9 @@ pub no_has_none : (budget : ℕ) (text : List ℕ) (outcome : Outcome) → IsStr
 no_has_none budget text (Answered Yes bytes) comes is = cc
 no_has_none budget text (Answered No bytes) comes is = wrong_lines budget (lines_of text) comes.0 comes.1
 no_has_none budget text (Answered Undecided bytes) comes is = cc
+no_has_none budget text (Noted Yes bytes note) comes is = cc
+no_has_none budget text (Noted No bytes note) comes is = wrong_lines budget (lines_of text) comes.0 comes.1
+no_has_none budget text (Noted Undecided bytes note) comes is = cc
 no_has_none budget text (Refused bytes) comes is = cc
 no_has_none budget text Memory comes is = cc
 no_has_none budget text (Words bytes) comes is = cc

@@ -2,7 +2,7 @@
 use Rattle.std.specs.Prelude.{◌≡◌, ◌⊎◌, ℕ, ◌≤◌, List, [], ◌∷◌, ◌++◌, length, take, drop, min, codes, string_bytes}
 use Rattle.search.specs.Limits.{budget_limit}
 use Rattle.outcomes.specs.declared.outcome.Outcome.{Outcome}
-use Rattle.outcomes.specs.declared.outcome.Outcome.TheVariants.{Answered, Refused, Memory, Words, Failed}
+use Rattle.outcomes.specs.declared.outcome.Outcome.TheVariants.{Answered, Noted, Refused, Memory, Words, Failed}
 use Rattle.outcomes.specs.Lines.{line, memory_line, io_line}
 use Rattle.outcomes.specs.Statuses.{answer_status, refused_status, memory_status, words_status, failed_status}
 
@@ -13,14 +13,16 @@ IsBudget budget = (1 ≤ budget) × (budget ≤ budget_limit)
 -- the status of an outcome, as the program ends with it
 abbrev pub status_of : Outcome → ℕ
 status_of (Answered answer bytes) = answer_status answer
+status_of (Noted answer bytes note) = answer_status answer
 status_of (Refused bytes) = refused_status
 status_of Memory = memory_status
 status_of (Words bytes) = words_status
 status_of Failed = failed_status
 
--- the text of an outcome, as the program writes it, to whichever end
+-- the text of an outcome, as the program writes it, to whichever end; without a note on it
 abbrev pub text_of : Outcome → List ℕ
 text_of (Answered answer bytes) = string_bytes bytes
+text_of (Noted answer bytes note) = string_bytes bytes
 text_of (Refused bytes) = string_bytes bytes
 text_of Memory = memory_line
 text_of (Words bytes) = string_bytes bytes

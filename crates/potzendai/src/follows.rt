@@ -1,9 +1,8 @@
 // The call that follows the text of a stream.
 ghost use Rattle.std.specs.Prelude.{◌≡◌, Some};
-ghost use Rattle.outcomes.specs.Outcomes.{IsTextOutcome};
 ghost use Rattle.potzendai.specs.Calls.{IsCall};
 ghost use Rattle.potzendai.specs.Streams.{SpellLinearizable, BeginUnlinearizable};
-ghost use Rattle.stream_engines.specs.Answers.{IsFollowAnswer, IsStreamRefusal};
+ghost use Rattle.stream_engines.specs.Outcomes.{IsStreamOutcome};
 ghost use Rattle.stream_text.specs.Cuts.{lines_of};
 
 use crate::told::{is_budget, tell, tell_budget};
@@ -20,8 +19,7 @@ pub extern "C" fn potzendai_follow(
     room: &mut [u8],
     size: &mut usize,
 ) -> u32
-    ensures call { IsCall (IsTextOutcome (IsFollowAnswer budget) IsStreamRefusal (Some text.now))
-        budget room.old room.new size.new result }
+    ensures call { IsCall (IsStreamOutcome budget (Some text.now)) budget room.old room.new size.new result }
 
     // What an answer of yes or no says of the stream.
     ensures yes { result ≡ 0 → SpellLinearizable (lines_of text.now) }

@@ -42,7 +42,7 @@ fn text_of(outcome: &Outcome) -> &[u8]
     ensures { result.now ≡ text_of outcome.now }
 {
     match outcome {
-        Outcome::Answered { line, .. } => line.as_bytes(),
+        Outcome::Answered { line, .. } | Outcome::Noted { line, .. } => line.as_bytes(),
         Outcome::Refused(line) => line.as_bytes(),
         Outcome::Words(text) => text.as_bytes(),
         Outcome::Memory => b"memory\n",
@@ -55,7 +55,7 @@ fn status_of(outcome: &Outcome) -> u8
     ensures { result ≡ status_of outcome.now }
 {
     match outcome {
-        Outcome::Answered { answer, .. } => answer.status(),
+        Outcome::Answered { answer, .. } | Outcome::Noted { answer, .. } => answer.status(),
         Outcome::Refused(_) => REFUSED,
         Outcome::Words(_) => WORDS,
         Outcome::Memory => MEMORY,

@@ -7,7 +7,7 @@ use Rattle.std.proofs.lemmas.List.{take_all}
 use Rattle.std.proofs.lemmas.List.Elements.{All-head, All-tail}
 use Rattle.stream_text.specs.Cuts.{line_feed, HasNoLineFeed, lines_of}
 use Rattle.outcomes.specs.declared.outcome.Outcome.{Outcome}
-use Rattle.outcomes.specs.declared.outcome.Outcome.TheVariants.{Answered, Refused, Memory, Words, Failed}
+use Rattle.outcomes.specs.declared.outcome.Outcome.TheVariants.{Answered, Noted, Refused, Memory, Words, Failed}
 use Rattle.stream_engines.specs.declared.followed.Followed.{Followed}
 use Rattle.stream_engines.specs.declared.handed.LineFollower.{LineFollower}
 use Rattle.stream_engines.specs.declared.handed.LineFollower.TheVariants.{Going, Ended}
@@ -82,6 +82,7 @@ handed_many budget given count number lines line f outcome handed many numbers i
         → IsStreamOutcome budget told outcome
     refused told Memory begins is = tt
     refused told (Answered answer bytes) begins is = absurd is
+    refused told (Noted answer bytes note) begins is = absurd is
     refused told (Words bytes) begins is = absurd is
     refused told Failed begins is = absurd is
     refused None (Refused bytes) begins is = tt

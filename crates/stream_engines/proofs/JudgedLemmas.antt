@@ -1,5 +1,5 @@
 -- What an answer that was judged comes to, and the end of the lines.
-use Rattle.std.proofs.Common.{◌≡◌, ℕ, List, [], ◌∷◌, ◌++◌, length, codes, Option, Some, None, sym, ap, ◌∙◌, subst}
+use Rattle.std.proofs.Common.{◌≡◌, ℕ, List, [], ◌∷◌, ◌++◌, length, codes, Option, Some, None, refl, sym, ap, ◌∙◌, subst}
 use Rattle.std.proofs.Common.{string_bytes}
 use Rattle.serde_json.specs.Written.{compact_text}
 use Rattle.events.specs.declared.event.Reply.{Reply}
@@ -18,15 +18,16 @@ use Rattle.follow.specs.Outcomes.{IsTakenAs}
 use Rattle.outcomes.specs.declared.outcome.Answer as answers
 use Rattle.outcomes.specs.declared.outcome.Answer.TheVariants.{Yes, Undecided}
 use Rattle.outcomes.specs.declared.outcome.Outcome.{Outcome}
-use Rattle.outcomes.specs.declared.outcome.Outcome.TheVariants.{Answered, Refused, Memory, Words, Failed}
+use Rattle.outcomes.specs.declared.outcome.Outcome.TheVariants.{Answered, Noted, Refused, Memory, Words, Failed}
 use Rattle.outcomes.specs.Lines.{line}
 use Rattle.stream_engines.specs.declared.followed.Followed.{Followed}
 use Rattle.stream_engines.specs.Followed.{IsFollowed}
 use Rattle.stream_engines.specs.StreamTexts.{SpellStream, BeginsWith}
 use Rattle.stream_engines.specs.Overlaps.{overlap_of}
 use Rattle.stream_engines.specs.Reports.{yes_data, loss_data}
+use Rattle.stream_engines.specs.Notes.{note_of}
 use Rattle.stream_engines.specs.Reading.{AreLinesOf}
-use Rattle.stream_engines.specs.Leaves.{IsAnsweredBy, IsLostOutcome}
+use Rattle.stream_engines.specs.Leaves.{IsAnsweredBy, IsYesOutcome, IsLostOutcome}
 use Rattle.stream_engines.specs.Answers.{IsWholeAnswer, IsJudgedAnswer, GoesWrongHere, IsFollowAnswer}
 use Rattle.stream_engines.specs.Outcomes.{IsStreamOutcome}
 use Rattle.stream_engines.proofs.RefusalLemmas.{next_of}
@@ -80,12 +81,13 @@ pub lost_at : (budget : ℕ) (told : Option (List ℕ)) (read : List (List ℕ))
     → IsLostOutcome loss outcome → IsStreamOutcome budget told outcome
 lost_at budget told read next f process reply loss Memory followed spelled begins taken is = tt
 lost_at budget told read next f process reply loss (Refused bytes) followed spelled begins taken is = absurd is
+lost_at budget told read next f process reply loss (Noted answer bytes note) followed spelled begins taken is = absurd is
 lost_at budget told read next f process reply loss (Words bytes) followed spelled begins taken is = absurd is
 lost_at budget told read next f process reply loss Failed followed spelled begins taken is = absurd is
 lost_at budget None read next f process reply loss (Answered answer bytes) followed spelled begins taken is = tt
 lost_at budget (Some text) read next f process reply loss (Answered answer bytes) followed spelled begins taken is =
-    subst (λ (a : answers.Answer). IsFollowAnswer budget text a (string_bytes bytes)) (sym is.0)
-    (loss, wrong_of budget text read begins.0 next f process reply loss followed spelled begins.1 taken, is.1.0, is.1.1, is.1.2)
+    subst (λ (a : answers.Answer). IsFollowAnswer budget text a (string_bytes bytes) []) (sym is.0)
+    (loss, wrong_of budget text read begins.0 next f process reply loss followed spelled begins.1 taken, is.1.0, is.1.1, is.1.2, refl)
 
 pub spent_at : (budget : ℕ) (told : Option (List ℕ)) (read : List (List ℕ)) (next : List ℕ) (f : Followed) (process : ℕ)
     (reply : Reply) (loss : Loss)
@@ -95,37 +97,53 @@ pub spent_at : (budget : ℕ) (told : Option (List ℕ)) (read : List (List ℕ)
     → IsAnsweredBy Undecided (line (compact_text (loss_data loss (codes "undecided")))) outcome → IsStreamOutcome budget told outcome
 spent_at budget told read next f process reply loss Memory followed spelled begins taken is = tt
 spent_at budget told read next f process reply loss (Refused bytes) followed spelled begins taken is = absurd is
+spent_at budget told read next f process reply loss (Noted answer bytes note) followed spelled begins taken is = absurd is
 spent_at budget told read next f process reply loss (Words bytes) followed spelled begins taken is = absurd is
 spent_at budget told read next f process reply loss Failed followed spelled begins taken is = absurd is
 spent_at budget None read next f process reply loss (Answered answer bytes) followed spelled begins taken is = tt
 spent_at budget (Some text) read next f process reply loss (Answered answer bytes) followed spelled begins taken is =
-    subst (λ (a : answers.Answer). IsFollowAnswer budget text a (string_bytes bytes)) (sym is.0)
-    (loss, judged_of budget text read begins.0 next f process reply judged.Spent loss followed spelled begins.1 taken, is.1)
+    subst (λ (a : answers.Answer). IsFollowAnswer budget text a (string_bytes bytes) []) (sym is.0)
+    (loss, judged_of budget text read begins.0 next f process reply judged.Spent loss followed spelled begins.1 taken, is.1, refl)
+
+-- what is said of a yes, by its calls and how much they overlap
+abbrev IsSaid : ℕ → ℕ → List ℕ → List ℕ → Type 0
+IsSaid calls overlap bytes note = (bytes ≡ line (compact_text (yes_data calls overlap))) × (note ≡ note_of calls overlap)
 
 -- all lines were read
-whole_of : (text : List ℕ) (read : List (List ℕ)) (f : Followed) (bytes : List ℕ) (followed : IsFollowed read f) → lines_of text ≡ read
-    → bytes ≡ line (compact_text (yes_data (length (operations followed.stream.events)) (overlap_of followed.stream.events)))
-    → IsWholeAnswer (lines_of text) bytes
-whole_of text read f bytes followed lines is = record {
+whole_of : (text : List ℕ) (read : List (List ℕ)) (f : Followed) (bytes note : List ℕ) (followed : IsFollowed read f)
+    → lines_of text ≡ read → IsSaid (length (operations followed.stream.events)) (overlap_of followed.stream.events) bytes note
+    → IsWholeAnswer (lines_of text) bytes note
+whole_of text read f bytes note followed lines is = record {
   stream = followed.stream;
   has_start = f.has_start;
   spelled = subst (λ (ls : List (List ℕ)). SpellStream f.has_start ls followed.stream) (sym lines) followed.spelled;
   well_formed = followed.follows.well_formed;
   linearizable = followed.follows.linearizable;
-  bytes_are = is;
+  bytes_are = is.0;
+  note_is = is.1;
 }
+
+-- a yes that was given
+yes_of : (budget : ℕ) (text : List ℕ) (read : List (List ℕ)) (f : Followed) (calls overlap : ℕ) (answer : answers.Answer)
+    (bytes note : List ℕ) (followed : IsFollowed read f) → lines_of text ≡ read
+    → calls ≡ length (operations followed.stream.events) → overlap ≡ overlap_of followed.stream.events → answer ≡ Yes
+    → IsSaid calls overlap bytes note → IsFollowAnswer budget text answer bytes note
+yes_of budget text read f calls overlap answer bytes note followed lines count many says is =
+    subst (λ (a : answers.Answer). IsFollowAnswer budget text a bytes note) (sym says)
+    (whole_of text read f bytes note followed lines
+    (subst (λ (n : ℕ). IsSaid (length (operations followed.stream.events)) n bytes note) many
+    (subst (λ (n : ℕ). IsSaid n overlap bytes note) count is)))
 
 pub whole_at : (budget : ℕ) (told : Option (List ℕ)) (read : List (List ℕ)) (f : Followed) (calls overlap : ℕ) (outcome : Outcome)
     (followed : IsFollowed read f) → AreLinesOf told read → calls ≡ length (operations followed.stream.events)
-    → overlap ≡ overlap_of followed.stream.events
-    → IsAnsweredBy Yes (line (compact_text (yes_data calls overlap))) outcome → IsStreamOutcome budget told outcome
+    → overlap ≡ overlap_of followed.stream.events → IsYesOutcome calls overlap outcome → IsStreamOutcome budget told outcome
 whole_at budget told read f calls overlap Memory followed lines count many is = tt
 whole_at budget told read f calls overlap (Refused bytes) followed lines count many is = absurd is
 whole_at budget told read f calls overlap (Words bytes) followed lines count many is = absurd is
 whole_at budget told read f calls overlap Failed followed lines count many is = absurd is
 whole_at budget None read f calls overlap (Answered answer bytes) followed lines count many is = tt
+whole_at budget None read f calls overlap (Noted answer bytes note) followed lines count many is = tt
 whole_at budget (Some text) read f calls overlap (Answered answer bytes) followed lines count many is =
-    subst (λ (a : answers.Answer). IsFollowAnswer budget text a (string_bytes bytes)) (sym is.0)
-    (whole_of text read f (string_bytes bytes) followed lines
-    (is.1 ∙ (ap (λ (n : ℕ). line (compact_text (yes_data n overlap))) count
-    ∙ ap (λ (n : ℕ). line (compact_text (yes_data (length (operations followed.stream.events)) n))) many)))
+    yes_of budget text read f calls overlap answer (string_bytes bytes) [] followed lines count many is.0 (is.1, sym is.2)
+whole_at budget (Some text) read f calls overlap (Noted answer bytes note) followed lines count many is =
+    yes_of budget text read f calls overlap answer (string_bytes bytes) (string_bytes note) followed lines count many is.0 (is.1, is.2)

@@ -9,7 +9,7 @@ use Rattle.stream_text.specs.LineLaws.{TakesFirstLine}
 use Rattle.stream_text.specs.LineLimits.{line_limit}
 use Rattle.stream_text.specs.Cuts.{line_feed, HasNoLineFeed, lines_of, before_lines, Advances, TakesLine, FindsEnd, BeginsTooLong}
 use Rattle.outcomes.specs.declared.outcome.Outcome.{Outcome}
-use Rattle.outcomes.specs.declared.outcome.Outcome.TheVariants.{Answered, Refused, Memory, Words, Failed}
+use Rattle.outcomes.specs.declared.outcome.Outcome.TheVariants.{Answered, Noted, Refused, Memory, Words, Failed}
 use Rattle.stream_engines.specs.declared.followed.Followed.{Followed}
 use Rattle.stream_engines.specs.Followed.{IsFollowed}
 use Rattle.stream_engines.specs.StreamTexts.{BeginsWith}
@@ -134,6 +134,7 @@ pub long_at : (budget : ℕ) (told : Option (List ℕ)) (read : List (List ℕ))
     → IsStreamOutcome budget told outcome
 long_at budget told read f number old Memory followed count has long is = tt
 long_at budget told read f number old (Answered answer bytes) followed count has long is = absurd is
+long_at budget told read f number old (Noted answer bytes note) followed count has long is = absurd is
 long_at budget told read f number old (Words bytes) followed count has long is = absurd is
 long_at budget told read f number old Failed followed count has long is = absurd is
 long_at budget None read f number old (Refused bytes) followed count has long is = tt
@@ -160,6 +161,7 @@ pub many_at : (budget : ℕ) (told : Option (List ℕ)) (read : List (List ℕ))
     → IsStreamOutcome budget told outcome
 many_at budget told read f number new Memory followed many count has is = tt
 many_at budget told read f number new (Answered answer bytes) followed many count has is = absurd is
+many_at budget told read f number new (Noted answer bytes note) followed many count has is = absurd is
 many_at budget told read f number new (Words bytes) followed many count has is = absurd is
 many_at budget told read f number new Failed followed many count has is = absurd is
 many_at budget None read f number new (Refused bytes) followed many count has is = tt

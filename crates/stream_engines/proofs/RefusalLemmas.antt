@@ -10,7 +10,7 @@ use Rattle.stream_text.specs.LineFaults.{IsEventLineFault}
 use Rattle.follow.specs.declared.fault.FollowFault.{FollowFault}
 use Rattle.follow.specs.Faults.{shown}
 use Rattle.outcomes.specs.declared.outcome.Outcome.{Outcome}
-use Rattle.outcomes.specs.declared.outcome.Outcome.TheVariants.{Answered, Refused, Memory, Words, Failed}
+use Rattle.outcomes.specs.declared.outcome.Outcome.TheVariants.{Answered, Noted, Refused, Memory, Words, Failed}
 use Rattle.stream_engines.specs.declared.followed.Followed.{Followed}
 use Rattle.stream_engines.specs.Followed.{IsFollowed}
 use Rattle.stream_engines.specs.StreamTexts.{BeginsWith}
@@ -54,6 +54,7 @@ pub refused_at : (budget : ℕ) (told : Option (List ℕ)) (read : List (List �
     → IsLineRefusal number line fault outcome → IsStreamOutcome budget told outcome
 refused_at budget told read line f number fault Memory followed count wrong begins is = tt
 refused_at budget told read line f number fault (Answered answer bytes) followed count wrong begins is = absurd is
+refused_at budget told read line f number fault (Noted answer bytes note) followed count wrong begins is = absurd is
 refused_at budget told read line f number fault (Words bytes) followed count wrong begins is = absurd is
 refused_at budget told read line f number fault Failed followed count wrong begins is = absurd is
 refused_at budget None read line f number fault (Refused bytes) followed count wrong begins is = tt
@@ -78,6 +79,7 @@ pub refused_turn : (budget : ℕ) (told : Option (List ℕ)) (read : List (List 
     → BeginsWith told (read ++ line ∷ []) → IsTurnRefusal number line fault outcome → IsStreamOutcome budget told outcome
 refused_turn budget told read line f number e fault Memory followed count spelled wrong begins is = tt
 refused_turn budget told read line f number e fault (Answered answer bytes) followed count spelled wrong begins is = absurd is
+refused_turn budget told read line f number e fault (Noted answer bytes note) followed count spelled wrong begins is = absurd is
 refused_turn budget told read line f number e fault (Words bytes) followed count spelled wrong begins is = absurd is
 refused_turn budget told read line f number e fault Failed followed count spelled wrong begins is = absurd is
 refused_turn budget None read line f number e fault (Refused bytes) followed count spelled wrong begins is = tt

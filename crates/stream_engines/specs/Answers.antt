@@ -27,15 +27,17 @@ use Rattle.stream_engines.specs.StreamTexts.{SpellStream}
 use Rattle.stream_engines.specs.Overlaps.{overlap_of}
 use Rattle.stream_engines.specs.Refusals.{stream_fault_line, StopsFor}
 use Rattle.stream_engines.specs.Reports.{yes_data, loss_data}
+use Rattle.stream_engines.specs.Notes.{note_of}
 
--- all lines spell a stream, whose events have an order
-pub record IsWholeAnswer (lines : List (List ℕ)) (bytes : List ℕ) : Type 0 where
+-- all lines spell a stream, whose events have an order; the note is that on its calls and how much they overlap
+pub record IsWholeAnswer (lines : List (List ℕ)) (bytes note : List ℕ) : Type 0 where
   pub stream : HistoryView
   pub has_start : Bool
   pub spelled : SpellStream has_start lines stream
   pub well_formed : IsWellFormed stream.events
   pub linearizable : IsLinearizable stream.start (operations stream.events)
   pub bytes_are : bytes ≡ line (compact_text (yes_data (length (operations stream.events)) (overlap_of stream.events)))
+  pub note_is : note ≡ note_of (length (operations stream.events)) (overlap_of stream.events)
 
 -- the lines begin with those of a stream whose events have an order, and then comes an answer that was judged, from where a follower
 -- of these events stood
@@ -77,14 +79,15 @@ pub record IsSmallHistory (loss : Loss) (text : List ℕ) : Type 0 where
 abbrev pub IsSmallLine : Loss → List ℕ → Type 0
 IsSmallLine loss bytes = (bytes ≡ []) ⊎ ((text : List ℕ) × (bytes ≡ line text) × IsSmallHistory loss text)
 
--- `follow` answers the lines at the budget so
-abbrev pub IsLinesAnswer : ℕ → List (List ℕ) → outcomes.Answer → List ℕ → Type 0
-IsLinesAnswer budget lines verdicts.Yes bytes = IsWholeAnswer lines bytes
-IsLinesAnswer budget lines verdicts.No bytes =
+-- `follow` answers the lines at the budget so, with this note, which only a yes may have
+abbrev pub IsLinesAnswer : ℕ → List (List ℕ) → outcomes.Answer → List ℕ → List ℕ → Type 0
+IsLinesAnswer budget lines verdicts.Yes bytes note = IsWholeAnswer lines bytes note
+IsLinesAnswer budget lines verdicts.No bytes note =
     (loss : Loss) × GoesWrongHere budget lines loss × (small : List ℕ) × IsSmallLine loss small
-    × (bytes ≡ line (compact_text (loss_data loss (codes "no"))) ++ small)
-IsLinesAnswer budget lines verdicts.Undecided bytes =
+    × (bytes ≡ line (compact_text (loss_data loss (codes "no"))) ++ small) × (note ≡ [])
+IsLinesAnswer budget lines verdicts.Undecided bytes note =
     (loss : Loss) × IsJudgedAnswer budget lines Spent loss × (bytes ≡ line (compact_text (loss_data loss (codes "undecided"))))
+    × (note ≡ [])
 
 -- with this line `follow` refuses the lines: those before it are followed, and there it stops
 pub record IsLinesRefusal (lines : List (List ℕ)) (bytes : List ℕ) : Type 0 where
@@ -101,8 +104,8 @@ pub record IsLinesRefusal (lines : List (List ℕ)) (bytes : List ℕ) : Type 0 
   pub bytes_are : bytes ≡ stream_fault_line (length read + 1) name
 
 -- the same of a text
-abbrev pub IsFollowAnswer : ℕ → List ℕ → outcomes.Answer → List ℕ → Type 0
-IsFollowAnswer budget text answer bytes = IsLinesAnswer budget (lines_of text) answer bytes
+abbrev pub IsFollowAnswer : ℕ → List ℕ → outcomes.Answer → List ℕ → List ℕ → Type 0
+IsFollowAnswer budget text answer bytes note = IsLinesAnswer budget (lines_of text) answer bytes note
 
 abbrev pub IsStreamRefusal : List ℕ → List ℕ → Type 0
 IsStreamRefusal text bytes = IsLinesRefusal (lines_of text) bytes

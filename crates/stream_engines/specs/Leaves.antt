@@ -1,18 +1,19 @@
 -- How single answers and refusals come out.
 use Rattle.stream_text.specs.declared.line_fault.LineFault.TheVariants as lines
 use Rattle.follow.specs.declared.fault.FollowFault.TheVariants as turns
-use Rattle.std.specs.Prelude.{◌≡◌, ◌≢◌, ℕ, List, ◌++◌, codes, ⊤, string_bytes}
+use Rattle.std.specs.Prelude.{◌≡◌, ◌≢◌, ℕ, List, [], ◌++◌, codes, ⊤, string_bytes}
 use Rattle.serde_json.specs.Written.{compact_text}
 use Rattle.stream_text.specs.declared.line_fault.LineFault.{LineFault}
 use Rattle.follow.specs.declared.fault.FollowFault.{FollowFault}
 use Rattle.follow.specs.declared.answered.Loss.{Loss}
 use Rattle.outcomes.specs.declared.outcome.Answer.{Answer}
-use Rattle.outcomes.specs.declared.outcome.Answer.TheVariants.{No}
+use Rattle.outcomes.specs.declared.outcome.Answer.TheVariants.{Yes, No}
 use Rattle.outcomes.specs.declared.outcome.Outcome.{Outcome}
-use Rattle.outcomes.specs.declared.outcome.Outcome.TheVariants.{Answered, Refused, Memory}
+use Rattle.outcomes.specs.declared.outcome.Outcome.TheVariants.{Answered, Noted, Refused, Memory}
 use Rattle.outcomes.specs.Lines.{line}
 use Rattle.stream_engines.specs.Refusals.{line_fault_told, turn_fault_told, many_told, stream_fault_line}
-use Rattle.stream_engines.specs.Reports.{loss_data}
+use Rattle.stream_engines.specs.Reports.{yes_data, loss_data}
+use Rattle.stream_engines.specs.Notes.{note_of}
 use Rattle.stream_engines.specs.Answers.{IsSmallLine}
 
 -- the outcome of the line of this number, which has this fault
@@ -40,6 +41,15 @@ abbrev pub IsAnsweredBy : Answer → List ℕ → Outcome → Type 0
 IsAnsweredBy answer bytes (Answered given text) = (given ≡ answer) × (string_bytes text ≡ bytes)
 IsAnsweredBy answer bytes Memory = ⊤
 IsAnsweredBy answer bytes outcome = ⊥
+
+-- the outcome of so many calls that have an order, with so much overlap in all: a yes with its note, where it has one
+abbrev pub IsYesOutcome : ℕ → ℕ → Outcome → Type 0
+IsYesOutcome calls overlap (Answered given text) = (given ≡ Yes) × (string_bytes text ≡ line (compact_text (yes_data calls overlap)))
+    × (note_of calls overlap ≡ [])
+IsYesOutcome calls overlap (Noted given text note) = (given ≡ Yes)
+    × (string_bytes text ≡ line (compact_text (yes_data calls overlap))) × (string_bytes note ≡ note_of calls overlap)
+IsYesOutcome calls overlap Memory = ⊤
+IsYesOutcome calls overlap outcome = ⊥
 
 -- the outcome where an answer was judged and the events go wrong
 abbrev pub IsLostOutcome : Loss → Outcome → Type 0

@@ -8,6 +8,7 @@ ghost use Rattle.stream_engines.specs.Outcomes.{IsFollowOutcome};
 ghost use Rattle.stream_engines.specs.Reading.{HasRead};
 
 use crate::followed::Followed;
+use crate::progress::Progress;
 use crate::refusals::{refused_line, refused_many};
 use outcomes::{Outcome, write_outcome};
 use std::alloc::Global;
@@ -19,13 +20,14 @@ pub(crate) const MOST_LINES: u64 = u64::MAX - 1;
 
 /// Reads the lines of a stream one by one, each at most `MAX_LINE` bytes, and judges each answer as it comes: a search of its
 /// group meets at most `budget` configurations. It ends at the end of the source, or at the first line that goes wrong. Memory
-/// is taken for the longest line, and for what a `Follower` keeps. Answers the exit status.
-pub fn run_follow<S: Source, O: Sink, F: Sink>(
+/// is taken for the longest line, and for what a `Follower` keeps. Behind each line it is told how far this is. Answers the exit status.
+pub fn run_follow<S: Source, O: Sink, F: Sink, P: Progress>(
     alloc: Global,
     source: &mut S,
     output: &mut O,
     faults: &mut F,
     budget: u32,
+    progress: &mut P,
 ) -> u8
     requires source { S.failures source.old < u64.MAX }
     requires output { O.failures output.old < u64.MAX }
@@ -35,12 +37,17 @@ pub fn run_follow<S: Source, O: Sink, F: Sink>(
         (change O.written O.failures output.old output.new)
         (change F.written F.failures faults.old faults.new) result }
 {
-    let outcome = follow_outcome(alloc, source, budget);
+    let outcome = follow_outcome(alloc, source, budget, progress);
     write_outcome(output, faults, &outcome)
 }
 
 /// What a stream is answered, before anything is written.
-pub fn follow_outcome<S: Source>(alloc: Global, source: &mut S, budget: u32) -> Outcome
+pub fn follow_outcome<S: Source, P: Progress>(
+    alloc: Global,
+    source: &mut S,
+    budget: u32,
+    progress: &mut P,
+) -> Outcome
     requires { S.failures source.old < u64.MAX }
     ensures { IsFollowOutcome budget (change S.remaining S.failures source.old source.new) result }
 {
@@ -50,16 +57,17 @@ pub fn follow_outcome<S: Source>(alloc: Global, source: &mut S, budget: u32) -> 
     let Ok(followed) = Followed::new(alloc) else {
         return Outcome::Memory;
     };
-    follow_lines(alloc, &mut window, source, followed, budget)
+    follow_lines(alloc, &mut window, source, followed, budget, progress)
 }
 
 /// Takes line after line.
-fn follow_lines<S: Source>(
+fn follow_lines<S: Source, P: Progress>(
     alloc: Global,
     window: &mut Window,
     source: &mut S,
     followed: Followed,
     budget: u32,
+    progress: &mut P,
 ) -> Outcome
     requires few { S.failures source.old < u64.MAX }
     requires empty { window.old.bytes ≡ [] }
@@ -69,7 +77,10 @@ fn follow_lines<S: Source>(
     let mut followed = followed;
     for before in 0..MOST_LINES {
         match follow_next(alloc, window, source, followed, before, budget) {
-            Ok(next) => followed = next,
+            Ok(next) => {
+                progress.show(next.follower.calls(), next.follower.left());
+                followed = next;
+            }
             Err(outcome) => return outcome,
         }
     }

@@ -6,10 +6,12 @@ mod alike;
 mod followed;
 mod following;
 mod handed;
+mod progress;
 mod refusals;
 mod reports;
 mod small_history;
 
 pub use following::{follow_outcome, run_follow};
 pub use handed::{LineFollower, follow_text};
+pub use progress::{Progress, Unshown};
 pub use small_history::small_line;

@@ -1,8 +1,9 @@
 // The lines that a stream is answered with.
 ghost use Rattle.std.specs.Prelude.{◌≡◌, ℕ, ◌++◌, List, IfOk, codes, string_bytes};
 ghost use Rattle.orders.specs.Orders.{IsLinearizable};
-ghost use Rattle.outcomes.specs.declared.outcome.Answer.TheVariants.{Yes, Undecided};
-ghost use Rattle.stream_engines.specs.Leaves.{IsAnsweredBy, IsLostOutcome};
+ghost use Rattle.outcomes.specs.declared.outcome.Answer.TheVariants.{Undecided};
+ghost use Rattle.stream_engines.specs.Leaves.{IsAnsweredBy, IsLostOutcome, IsYesOutcome};
+ghost use Rattle.stream_engines.specs.Notes.{overlap_note};
 ghost use Rattle.serde_json.specs.View.{view};
 ghost use Rattle.serde_json.specs.Written.{compact_text};
 ghost use Rattle.outcomes.specs.Lines.{line};
@@ -16,11 +17,25 @@ use outcomes::{Answer, Outcome, line_of};
 use serde_json::{Value, json};
 use std::alloc::{AllocError, Global};
 
-/// The answer to a stream whose events have an order.
+/// The answer to a stream whose events have an order. Where there are two calls at least, and none overlaps another, a note says so.
 pub fn yes_outcome(alloc: Global, calls: usize, overlap: u64) -> Outcome
-    ensures { IsAnsweredBy Yes (line (compact_text (yes_data calls overlap))) result }
+    ensures { IsYesOutcome calls overlap result }
 {
-    Outcome::answered(Answer::Yes, yes_line(alloc, calls, overlap))
+    let line = yes_line(alloc, calls, overlap);
+    if calls < 2 || overlap > 0 {
+        return Outcome::answered(Answer::Yes, line);
+    }
+    Outcome::noted(Answer::Yes, line, overlap_note(alloc))
+}
+
+/// What is told of a yes where no call was open while another one began.
+fn overlap_note(alloc: Global) -> Result<String, AllocError>
+    ensures { IfOk result (λ text. string_bytes text ≡ overlap_note) }
+{
+    String::from_str(
+        alloc,
+        "note: no two calls overlap, and of such a history a yes says little\n",
+    )
 }
 
 /// The answer where a search was given up.

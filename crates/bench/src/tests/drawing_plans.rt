@@ -4,6 +4,7 @@ use super::{BAD_MIX, TOO_MANY, leaves};
 use crate::command::run;
 use pool::OpenGate;
 use std::test::Fail;
+use stream_engines::Unshown;
 use streams::memory_ends::{MemorySink, MemorySource};
 
 // Of two processes each insert's value is the third word of a stream of its own, modulo 2^30.
@@ -78,6 +79,7 @@ fn generate_reads_nothing(rt: HostRuntime) -> Result<(), Fail> {
         &mut err,
         &words,
         &OpenGate,
+        &mut Unshown,
     );
     assert_eq!(rt; status, 3);
     assert!(rt; out.bytes().is_empty());

@@ -15,6 +15,7 @@ use std::process::Abort;
 use std::sync::Wait;
 use std::test::Fail;
 use std::thread::Threads;
+use stream_engines::Unshown;
 use streams::memory_ends::{MemorySink, MemorySource};
 
 // process 0: `insert 5 7, get 5`
@@ -156,6 +157,7 @@ fn output_of<R: Threads + Wait + Sync + Abort>(
         &mut err,
         &words,
         &OpenGate,
+        &mut Unshown,
     );
     assert_eq!(rt; answer, status, "{line}");
     assert!(rt; err.bytes().is_empty(), "{line}");

@@ -9,6 +9,7 @@ use std::process::Abort;
 use std::sync::Wait;
 use std::test::Fail;
 use std::thread::Threads;
+use stream_engines::Unshown;
 use streams::memory_ends::{MemorySink, MemorySource};
 
 // Two gets at key 5, by one process.
@@ -73,7 +74,16 @@ pub(super) fn assert_reads_fail<R: Threads + Wait + Sync + Abort>(
         let mut source = MemorySource::new(Vec::from_slice(alloc, text)?, 1, Some(n));
         let mut out = MemorySink::new(Vec::new(alloc), 100, None);
         let mut err = MemorySink::new(Vec::new(alloc), 1, None);
-        let answer = run(rt, alloc, &mut source, &mut out, &mut err, words, &OpenGate);
+        let answer = run(
+            rt,
+            alloc,
+            &mut source,
+            &mut out,
+            &mut err,
+            words,
+            &OpenGate,
+            &mut Unshown,
+        );
         let (wanted, said, told) = if n < reads {
             (6, "", "io\n")
         } else {
@@ -100,7 +110,16 @@ pub(super) fn assert_writes_fail<R: Threads + Wait + Sync + Abort>(
         let mut source = MemorySource::new(Vec::from_slice(alloc, text)?, 100, None);
         let mut out = MemorySink::new(Vec::new(alloc), 1, Some(n as u64));
         let mut err = MemorySink::new(Vec::new(alloc), 1, None);
-        let status_of_run = run(rt, alloc, &mut source, &mut out, &mut err, words, &OpenGate);
+        let status_of_run = run(
+            rt,
+            alloc,
+            &mut source,
+            &mut out,
+            &mut err,
+            words,
+            &OpenGate,
+            &mut Unshown,
+        );
         let (wanted, told) = if n < answer.len() {
             (6, "io\n")
         } else {
@@ -163,6 +182,7 @@ fn failing_writes_to_the_faults(rt: HostRuntime) -> Result<(), Fail> {
                 &mut err,
                 words,
                 &OpenGate,
+                &mut Unshown,
             );
             assert_eq!(rt; answer, status, "write {n} of the fault");
             assert!(rt; out.bytes().is_empty(), "write {n} of the fault");

@@ -10,6 +10,15 @@ const OVERLAPPING: &str = r#"{"invoke":["insert",5,7],"process":0}
 {"answer":7,"process":70}
 "#;
 
+/// `+70 get 5`
+const ONE: &str = r#"{"invoke":["get",5],"process":70}"#;
+
+/// `+0 insert 5 7, -0 none, +70 get 5`
+const APART: &str = r#"{"invoke":["insert",5,7],"process":0}
+{"answer":null,"process":0}
+{"invoke":["get",5],"process":70}
+"#;
+
 /// From 1 at key 5 and 9 at key 9, `+1000 insert 5 7, +2 get 9, -1000 1, +3 get 5, -3 1`, and a line that is not read.
 const MISSED: &str = r#"{"start":[[5,1],[9,9]],"version":2}
 {"invoke":["insert",5,7],"process":1000}
@@ -27,12 +36,17 @@ fn streams_are_followed(rt: HostRuntime) -> Result<(), Fail> {
     let no =
         "{\"call\":2,\"calls\":[2],\"event\":4,\"hi\":5,\"lo\":5,\"verdict\":\"no\"}\n{\"events\":[{\"invoke\":[\"get\",5],\"process\":0},{\"answer\":1,\"process\":0}],\"start\":[[5,7]],\"version\":2}\n";
     let none = "{\"calls\":0,\"overlap\":0,\"verdict\":\"yes\"}\n";
-    for (text, status, report) in [
-        (OVERLAPPING, 0, yes),
-        (OVERLAPPING.trim_end(), 0, yes),
-        (MISSED, 1, no),
-        ("", 0, none),
-        ("{\"start\":[],\"version\":2}", 0, none),
+    let one = "{\"calls\":1,\"overlap\":0,\"verdict\":\"yes\"}\n";
+    let two = "{\"calls\":2,\"overlap\":0,\"verdict\":\"yes\"}\n";
+    let note = "note: no two calls overlap, and of such a history a yes says little\n";
+    for (text, status, report, told) in [
+        (OVERLAPPING, 0, yes, ""),
+        (OVERLAPPING.trim_end(), 0, yes, ""),
+        (MISSED, 1, no, ""),
+        ("", 0, none, ""),
+        ("{\"start\":[],\"version\":2}", 0, none, ""),
+        (APART, 0, two, note),
+        (ONE, 0, one, ""),
     ] {
         leaves(
             &rt,
@@ -41,7 +55,7 @@ fn streams_are_followed(rt: HostRuntime) -> Result<(), Fail> {
             text.as_bytes(),
             status,
             report,
-            "",
+            told,
         )?;
     }
     Ok(())

@@ -11,6 +11,7 @@ use std::sync::atomic::{AtomicBool, AtomicU64, Ordering};
 use std::test::Fail;
 use std::thread;
 use std::thread::Threads;
+use stream_engines::Unshown;
 use streams::memory_ends::{MemorySink, MemorySource};
 
 // Holds each that comes until the next one is there too, two by two, for a bounded number of turns; once one has waited in
@@ -56,7 +57,16 @@ fn met_at<R: Threads + Wait + Sync + Abort>(
     let mut source = MemorySource::new(Vec::from_slice(alloc, text.as_bytes())?, 100, None);
     let mut out = MemorySink::new(Vec::new(alloc), 100, None);
     let mut err = MemorySink::new(Vec::new(alloc), 100, None);
-    let status = run(rt, alloc, &mut source, &mut out, &mut err, words, &gate);
+    let status = run(
+        rt,
+        alloc,
+        &mut source,
+        &mut out,
+        &mut err,
+        words,
+        &gate,
+        &mut Unshown,
+    );
     assert!(rt; err.bytes().is_empty());
     let output = Vec::from_slice(alloc, out.bytes())?;
     Ok((gate.met.load(Ordering::SeqCst), status, output))

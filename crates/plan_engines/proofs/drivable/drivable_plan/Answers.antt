@@ -6,7 +6,7 @@ use Rattle.plans.specs.Plans.{AreScripts}
 use Rattle.plan_text.specs.PlanTexts.{SpellsPlan}
 use Rattle.drives.specs.Drives.{IsDrivable}
 use Rattle.outcomes.specs.declared.outcome.Outcome.{Outcome}
-use Rattle.outcomes.specs.declared.outcome.Outcome.TheVariants.{Answered, Refused, Memory, Words, Failed}
+use Rattle.outcomes.specs.declared.outcome.Outcome.TheVariants.{Answered, Noted, Refused, Memory, Words, Failed}
 use Rattle.plan_engines.specs.Drives.{IsUndriven}
 use Rattle.plan_engines.specs.Faults.{IsPlanFaultOutcome}
 use Rattle.plan_engines.specs.Outcomes.{IsUndrivenOutcome}
@@ -21,6 +21,7 @@ denied false P same is p = let yes = same.1 p in cc
 undriven : (text : List ℕ) (fault : PlanFault) (outcome : Outcome) → IsUndriven text fault → IsPlanFaultOutcome fault outcome
     → IsUndrivenOutcome text outcome
 undriven text fault (Answered answer bytes) is h = h
+undriven text fault (Noted answer bytes note) is h = h
 undriven text fault (Refused bytes) is h = record { fault = fault; refused = is; not_memory = h.0; bytes_are = h.1 }
 undriven text fault Memory is h = tt
 undriven text fault (Words bytes) is h = h

@@ -1,0 +1,15 @@
+// How far a stream was followed, for whoever waits.
+
+/// What is told behind each line that was taken. No clause speaks of what becomes of it.
+pub trait Progress {
+    /// So many calls were taken, and the follower keeps so many of them.
+    fn show(&mut self, calls: usize, left: usize);
+}
+
+/// Nothing becomes of it.
+#[derive(Clone, Copy, Debug)]
+pub struct Unshown;
+
+impl Progress for Unshown {
+    fn show(&mut self, _calls: usize, _left: usize) {}
+}
