@@ -96,7 +96,11 @@ def on_terminal(words, lines, pause):
     ran.stdin.flush()
     time.sleep(pause)
     output = ran.communicate(lines[-1], timeout=60)[0]
-    told = os.read(terminal, 1 << 16) if select.select([terminal], [], [], 0)[0] else b""
+    try:
+        told = os.read(terminal, 1 << 16) if select.select([terminal], [], [], 0)[0] else b""
+    except OSError:
+        # The program has closed its end and has told nothing.
+        told = b""
     os.close(terminal)
     return ran.returncode, output, told.replace(b"\r\n", b"\n")
 
