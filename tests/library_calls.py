@@ -32,7 +32,8 @@ def main():
                 words = [word, "--budget", str(budget), *(["--calls", "0"] if word == "draw" else [])]
                 ran = subprocess.run([program, *words], input=text, capture_output=True, timeout=60, check=False)
                 status, told = potzendai.call("potzendai_" + word, text, budget)
-                if (status, told) == (ran.returncode, (ran.stdout + ran.stderr).decode()):
+                # Beside an answer the program may write a note to standard error, which the library does not tell.
+                if (status, told) == (ran.returncode, (ran.stdout or ran.stderr).decode()):
                     passed += 1
                 else:
                     failed += 1
