@@ -1,3 +1,4 @@
+// Why a list of numbers is no order.
 use events::Memory;
 
 /// Why a list of numbers is no order: the first place that shows a fault, or what is missing at the end.

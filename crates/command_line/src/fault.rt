@@ -1,3 +1,4 @@
+// Why words ask for nothing.
 ghost use Rattle.std.specs.Prelude.{◌≡◌};
 ghost use Rattle.clap.specs.Words.{kind_of};
 ghost use Rattle.command_line.specs.declared.fault.LineFault.TheVariants.{Memory};

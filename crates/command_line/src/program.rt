@@ -1,3 +1,4 @@
+// The table of the program's subcommands and options.
 use crate::table::{Subcommand, ValueOption, Values};
 
 /// The program's name in its help.

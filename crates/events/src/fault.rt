@@ -1,3 +1,4 @@
+// Why a text, or pairs and events, are no history.
 use crate::memory::Memory;
 use std::alloc::AllocFailed;
 use thiserror::Error;

@@ -1,3 +1,4 @@
+// Verdicts on a history.
 use segments::Segment;
 
 /// What the judge finds out of a history.

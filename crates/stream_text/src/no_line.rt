@@ -1,3 +1,4 @@
+// Why no line was read.
 ghost use Rattle.std.specs.Prelude.{◌≡◌};
 
 use streams::Failed;

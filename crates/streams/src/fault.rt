@@ -1,3 +1,4 @@
+// Calls of sources and sinks that fail.
 ghost use Rattle.std.specs.Prelude.{◌≡◌};
 
 use std::alloc::AllocError;

@@ -1,3 +1,4 @@
+// Sources of bytes.
 ghost use Rattle.std.specs.Prelude.{◌≡◌, ℕ, List, Option, Ok, ◌+◌, ◌<◌, ◌≤◌, length, take, IfOk, OnOk, OnErr};
 ghost use Rattle.std.specs.Io.KnownBytes.{Consumes, IsAtEnd, Keeps};
 
