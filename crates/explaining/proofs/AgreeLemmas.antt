@@ -2,15 +2,15 @@
 use Rattle.events.specs.declared.event.Reply.TheVariants as replies
 use Rattle.std.proofs.Common.{◌≡◌, ℕ, ◌≤◌, Bool, true, false, nat_le, cond, ◌&&◌, ◌++◌, Option, Some, None, refl, sym, ap, ◌∙◌, subst, inl}
 use Rattle.std.proofs.Common.{inr, ⊎_elim}
-use Rattle.std.proofs.Common.{arith, List}
-use Rattle.std.specs.Prelude.{◌⊎◌, ◌≢◌, if◌then◌else◌, Contains}
-use Rattle.std.proofs.lemmas.Bool.{both_ways, and_from, le-leb, eq-eqb}
+use Rattle.std.proofs.Common.{arith}
+use Rattle.std.specs.Prelude.{◌⊎◌, ◌≢◌, ◌==◌, ◌||◌, not, is_some, if◌then◌else◌}
+use Rattle.std.proofs.lemmas.Bool.{both_ways, and_from, le-leb, eq-eqb, false≢true}
 use Rattle.events.specs.declared.event.Call.{Call}
 use Rattle.events.specs.declared.event.Call.TheVariants.{Get, Insert, Remove, Scan, Replace}
 use Rattle.events.specs.declared.event.Reply.{Reply}
 use Rattle.events.specs.declared.operation.Operation.{Operation}
 use Rattle.events.specs.declared.operation.Response.{Response}
-use Rattle.events.specs.Keys.{low_key, high_key}
+use Rattle.events.specs.Keys.{low_key, high_key, may_change}
 use Rattle.map_object.specs.MapObject.{Contents, IsRising, value_at, below, above, put, is_just, value_reply, reply_to, after, after_reply}
 use Rattle.map_object.specs.MapObject.{IsLegalReply}
 use Rattle.map_object.proofs.MapLemmas.{AreBelow-below, AreAbove-above, value_at_found, value_at_gap}
@@ -20,15 +20,15 @@ use Rattle.segments.proofs.RangeLemmas.{value_at-within}
 use Rattle.quiet_cuts.proofs.ValueLemmas.{IsOut, in_or_out, same_within, value_left}
 use Rattle.call_search.specs.Replies.{says_unchanged}
 use Rattle.call_search.proofs.ReplyLemmas.{unchanged}
-use Rattle.explaining.specs.Tells.{names_key, is_same, is_told, tells, put_by, put_of, tells_put_at}
+use Rattle.explaining.specs.Tells.{names_key, is_same, is_told, tells, put_by, put_of}
 
--- no call tells that a key has this value, or waits for it
-abbrev pub IsHidden : List Operation → ℕ → Option ℕ → Type 0
-IsHidden others key value = (b : Operation) → Contains others b → tells b key value ≡ false
+-- two maps have the same value at each key, or one that is hidden
+abbrev pub Agree : (ℕ → Option ℕ → Type 0) → Contents → Contents → Type 0
+Agree Hidden m n = (key : ℕ) → (value_at m key ≡ value_at n key) ⊎ Hidden key (value_at m key)
 
--- two maps have the same value at each key, or one that no call tells
-abbrev pub Agree : List Operation → Contents → Contents → Type 0
-Agree others m n = (key : ℕ) → (value_at m key ≡ value_at n key) ⊎ IsHidden others key (value_at m key)
+-- a call tells no value that is hidden, nor waits for one
+abbrev pub IsBlind : (ℕ → Option ℕ → Type 0) → Operation → Type 0
+IsBlind Hidden b = (key : ℕ) (value : Option ℕ) → Hidden key value → tells b key value ≡ false
 
 -- they have the same values at the keys of a call
 abbrev AgreeOn : Call → Contents → Contents → Type 0
@@ -71,19 +71,19 @@ same_here m n (Replace at expected value) same key low high =
     replaced false found = found
 
 -- a call that leaves the same at its keys keeps the maps in agreement
-agree_set : (others : List Operation) (m n : Contents) (call : Call) → Agree others m n → AgreeOn call (after m call) (after n call)
-    → Agree others (after m call) (after n call)
-agree_set others m n call agree same key = ⊎_elim
+agree_set : (Hidden : ℕ → Option ℕ → Type 0) (m n : Contents) (call : Call) → Agree Hidden m n → AgreeOn call (after m call) (after n call)
+    → Agree Hidden (after m call) (after n call)
+agree_set Hidden m n call agree same key = ⊎_elim
     (λ inside. inl (same key inside.0 inside.1))
     (λ out. ⊎_elim
     (λ is. inl (left_alone m call key out ∙ (is ∙ sym (left_alone n call key out))))
-    (λ hidden. inr (subst (IsHidden others key) (sym (left_alone m call key out)) hidden))
+    (λ hidden. inr (subst (Hidden key) (sym (left_alone m call key out)) hidden))
     (agree key))
     (in_or_out (low_key call) (high_key call) key)
 
-agree_both : (others : List Operation) (m n : Contents) (call : Call) → Agree others m n → AgreeOn call m n
-    → Agree others (after m call) (after n call)
-agree_both others m n call agree same = agree_set others m n call agree (same_here m n call same)
+agree_both : (Hidden : ℕ → Option ℕ → Type 0) (m n : Contents) (call : Call) → Agree Hidden m n → AgreeOn call m n
+    → Agree Hidden (after m call) (after n call)
+agree_both Hidden m n call agree same = agree_set Hidden m n call agree (same_here m n call same)
 
 -- ---- a completed call that stays
 
@@ -118,12 +118,12 @@ named call key low high = and_from (nat_le (low_key call) key) (nat_le key (high
     (le-leb key (high_key call) high)
 
 -- maps agree on the keys of a call that tells the values of the one
-agree_on : (others : List Operation) (m n : Contents) (call : Call) (inv res : ℕ) (reply : Reply)
-    → Contains others (record { call = call; inv = inv; response = Some (record { res = res; reply = reply }) }) → reply ≡ reply_to m call
-    → Agree others m n → AgreeOn call m n
-agree_on others m n call inv res reply here is agree key low high = ⊎_elim
+agree_on : (Hidden : ℕ → Option ℕ → Type 0) (m n : Contents) (call : Call) (inv res : ℕ) (reply : Reply)
+    → IsBlind Hidden (record { call = call; inv = inv; response = Some (record { res = res; reply = reply }) })
+    → reply ≡ reply_to m call → Agree Hidden m n → AgreeOn call m n
+agree_on Hidden m n call inv res reply blind is agree key low high = ⊎_elim
     (λ same. same)
-    (λ hidden. absurd (both_ways _ (hidden (record { call = call; inv = inv; response = Some (record { res = res; reply = reply }) }) here)
+    (λ hidden. absurd (both_ways _ (blind key (value_at m key) hidden)
     (and_from (names_key call key) (is_told reply key (value_at m key)) (named call key low high)
     (subst (λ r. is_told r key (value_at m key) ≡ true) (sym is) (told_value m call key low high)))))
     (agree key)
@@ -136,27 +136,97 @@ same_reply m n (Remove key) m_rises n_rises same = ap value_reply (same key (ome
 same_reply m n (Scan low high) m_rises n_rises same = ap replies.Pairs (same_within low high m n m_rises n_rises same)
 same_reply m n (Replace key expected value) m_rises n_rises same = ap value_reply (same key (omega arith) (omega arith))
 
--- what a completed call that stays comes to at the other map
-pub record IsStep (others : List Operation) (m n : Contents) (call : Call) (response : Option Response) : Type 0 where
-  pub legal : IsLegalCall n call response
-  pub agree : Agree others (after_call m call response) (after_call n call response)
+-- ---- a call that says that it put something
 
-pub stays_step : (others : List Operation) (m n : Contents) (call : Call) (inv res : ℕ) (reply : Reply)
-    → Contains others (record { call = call; inv = inv; response = Some (record { res = res; reply = reply }) }) → IsRising m → IsRising n
-    → IsLegalReply m call reply → Agree others m n → IsStep others m n call (Some (record { res = res; reply = reply }))
-stays_step others m n call inv res reply here m_rises n_rises legal agree = ⊎_elim
+put_by_none : (call : Call) → may_change call ≡ false → put_by call ≡ None
+put_by_none (Get key) h = refl
+put_by_none (Insert key value) h = absurd (false≢true (sym h))
+put_by_none (Remove key) h = absurd (false≢true (sym h))
+put_by_none (Scan low high) h = refl
+put_by_none (Replace key expected value) h = absurd (false≢true (sym h))
+
+-- a call that changes nothing puts nothing
+pub put_none : (call : Call) (response : Option Response) → may_change call ≡ false → put_of call response ≡ None
+put_none call None h = put_by_none call h
+put_none call (Some response) h = by_test (says_unchanged call response.reply)
+  where
+    by_test : (t : Bool) → (if t then None else put_by call) ≡ None
+    by_test true = refl
+    by_test false = put_by_none call h
+
+-- one that puts something may change the map
+pub put_changes : (call : Call) (response : Option Response) → is_some (put_of call response) ≡ true → may_change call ≡ true
+put_changes call response puts = by_test (may_change call) refl
+  where
+    by_test : (t : Bool) → may_change call ≡ t → may_change call ≡ true
+    by_test true e = e
+    by_test false e = absurd (false≢true (subst (λ (o : Option (Option ℕ)). is_some o ≡ true) (put_none call response e) puts))
+
+put_says : (call : Call) (reply : Reply) (res : ℕ) → is_some (put_of call (Some (record { res = res; reply = reply }))) ≡ true
+    → says_unchanged call reply ≡ false
+put_says call reply res puts = by_test (says_unchanged call reply) refl puts
+  where
+    by_test : (t : Bool) → says_unchanged call reply ≡ t → is_some (if t then None else put_by call) ≡ true
+        → says_unchanged call reply ≡ false
+    by_test true e h = absurd (false≢true h)
+    by_test false e h = e
+
+refused_says : (call : Call) → says_unchanged call replies.Refused ≡ true
+refused_says (Get key) = refl
+refused_says (Scan low high) = refl
+refused_says (Insert key value) = refl
+refused_says (Remove key) = refl
+refused_says (Replace key expected value) = refl
+
+-- and was not refused
+put_answered : (call : Call) (reply : Reply) (res : ℕ) → is_some (put_of call (Some (record { res = res; reply = reply }))) ≡ true
+    → reply ≢ replies.Refused
+put_answered call reply res puts refused =
+    false≢true (sym (put_says call reply res puts) ∙ (ap (says_unchanged call) refused ∙ refused_says call))
+
+-- maps that agree on its keys have the same value at its key
+at_key : (m n : Contents) (call : Call) → may_change call ≡ true → AgreeOn call m n → value_at m (low_key call) ≡ value_at n (low_key call)
+at_key m n (Get key) h same = absurd (false≢true h)
+at_key m n (Insert key value) h same = same key (omega arith) (omega arith)
+at_key m n (Remove key) h same = same key (omega arith) (omega arith)
+at_key m n (Scan low high) h same = absurd (false≢true h)
+at_key m n (Replace key expected value) h same = same key (omega arith) (omega arith)
+
+-- maps after a call: they agree, and where it says that it put something they have the same value at its key
+pub record IsAfter (Hidden : ℕ → Option ℕ → Type 0) (call : Call) (response : Option Response) (m n : Contents) : Type 0 where
+  pub agree : Agree Hidden m n
+  pub same : (is_some response && is_some (put_of call response)) ≡ true → value_at m (low_key call) ≡ value_at n (low_key call)
+
+-- what a completed call that stays comes to at the other map
+pub record IsStep (Hidden : ℕ → Option ℕ → Type 0) (m n : Contents) (call : Call) (response : Option Response) : Type 0 where
+  pub legal : IsLegalCall n call response
+  pub follows : IsAfter Hidden call response (after_call m call response) (after_call n call response)
+
+pub stays_step : (Hidden : ℕ → Option ℕ → Type 0) (m n : Contents) (call : Call) (inv res : ℕ) (reply : Reply)
+    → IsBlind Hidden (record { call = call; inv = inv; response = Some (record { res = res; reply = reply }) }) → IsRising m → IsRising n
+    → IsLegalReply m call reply → Agree Hidden m n → IsStep Hidden m n call (Some (record { res = res; reply = reply }))
+stays_step Hidden m n call inv res reply blind m_rises n_rises legal agree = ⊎_elim
     (λ refused. record {
       legal = inl refused;
-      agree = subst (λ (r : Reply). Agree others (after_reply m call r) (after_reply n call r)) (sym refused) agree;
+      follows = record {
+        agree = subst (λ (r : Reply). Agree Hidden (after_reply m call r) (after_reply n call r)) (sym refused) agree;
+        same = λ puts. absurd (put_answered call reply res puts refused);
+      };
     })
     (λ is.
-    let same = agree_on others m n call inv res reply here is agree in
+    let same = agree_on Hidden m n call inv res reply blind is agree in
     let answered : reply ≢ replies.Refused = λ refused. reply_to_answers m call (sym is ∙ refused) in
+    let m_is = after_reply-answer m call reply answered in
+    let n_is = after_reply-answer n call reply answered in
     record {
       legal = inr (is ∙ same_reply m n call m_rises n_rises same);
-      agree = subst (λ (a : Contents). Agree others a (after_reply n call reply)) (sym (after_reply-answer m call reply answered))
-          (subst (λ (b : Contents). Agree others (after m call) b) (sym (after_reply-answer n call reply answered))
-          (agree_both others m n call agree same));
+      follows = record {
+        agree = subst (λ (a : Contents). Agree Hidden a (after_reply n call reply)) (sym m_is)
+            (subst (λ (b : Contents). Agree Hidden (after m call) b) (sym n_is) (agree_both Hidden m n call agree same));
+        same = λ puts. ap (λ (a : Contents). value_at a (low_key call)) m_is
+            ∙ (at_key (after m call) (after n call) call (put_changes call (Some (record { res = res; reply = reply })) puts)
+            (same_here m n call same) ∙ sym (ap (λ (a : Contents). value_at a (low_key call)) n_is));
+      };
     })
     legal
 
@@ -175,87 +245,164 @@ after_either m call (Some response) = by_reply response.reply
     by_reply replies.Refused = inl refl
 
 -- it is done at the other map too, or left out there
-open_done : (others : List Operation) (m n : Contents) (call : Call) (inv : ℕ)
-    → Contains others (record { call = call; inv = inv; response = None })
-    → Agree others m n → Agree others (after m call) (after n call) ⊎ Agree others (after m call) n
-open_done others m n (Get key) inv here agree = inr agree
-open_done others m n (Scan low high) inv here agree = inr agree
-open_done others m n (Insert at value) inv here agree =
-    inl (agree_set others m n (Insert at value) agree (λ key low high. let is : at ≡ key = omega arith in
+open_done : (Hidden : ℕ → Option ℕ → Type 0) (m n : Contents) (call : Call) (inv : ℕ)
+    → IsBlind Hidden (record { call = call; inv = inv; response = None })
+    → Agree Hidden m n → Agree Hidden (after m call) (after n call) ⊎ Agree Hidden (after m call) n
+open_done Hidden m n (Get key) inv blind agree = inr agree
+open_done Hidden m n (Scan low high) inv blind agree = inr agree
+open_done Hidden m n (Insert at value) inv blind agree =
+    inl (agree_set Hidden m n (Insert at value) agree (λ key low high. let is : at ≡ key = omega arith in
     subst (λ k. value_at (put at value m) k ≡ value_at (put at value n) k) is (put_value m at value ∙ sym (put_value n at value))))
-open_done others m n (Remove at) inv here agree =
-    inl (agree_set others m n (Remove at) agree (λ key low high. let is : at ≡ key = omega arith in
+open_done Hidden m n (Remove at) inv blind agree =
+    inl (agree_set Hidden m n (Remove at) agree (λ key low high. let is : at ≡ key = omega arith in
     subst (λ k. value_at (below at m ++ above at m) k ≡ value_at (below at n ++ above at n) k) is
     (removed_value m at ∙ sym (removed_value n at))))
-open_done others m n (Replace at expected value) inv here agree = ⊎_elim
-    (λ same. inl (agree_both others m n (Replace at expected value) agree (λ key low high. let is : at ≡ key = omega arith in
+open_done Hidden m n (Replace at expected value) inv blind agree = ⊎_elim
+    (λ same. inl (agree_both Hidden m n (Replace at expected value) agree (λ key low high. let is : at ≡ key = omega arith in
     subst (λ k. value_at m k ≡ value_at n k) is same)))
-    (λ hidden. inr (by_test (is_just (value_at m at) expected) refl
-    (hidden (record { call = Replace at expected value; inv = inv; response = None }) here)))
+    (λ hidden. inr (by_test (is_just (value_at m at) expected) refl (blind at (value_at m at) hidden)))
     (agree at)
   where
     by_test : (t : Bool) → is_just (value_at m at) expected ≡ t
         → (names_key (Replace at expected value) at && is_just (value_at m at) expected) ≡ false
-        → Agree others (if is_just (value_at m at) expected then put at value m else m) n
+        → Agree Hidden (if is_just (value_at m at) expected then put at value m else m) n
     by_test true found none =
         absurd (both_ways _ none (and_from (names_key (Replace at expected value) at) (is_just (value_at m at) expected)
         (named (Replace at expected value) at (omega arith) (omega arith)) found))
     by_test false found none = rw found agree
 
-pub open_step : (others : List Operation) (m n : Contents) (call : Call) (inv : ℕ) (response : Option Response)
-    → Contains others (record { call = call; inv = inv; response = None }) → Agree others m n
-    → Agree others (after_call m call response) (after n call) ⊎ Agree others (after_call m call response) n
-open_step others m n call inv response here agree = ⊎_elim
-    (λ still. inr (subst (λ (a : Contents). Agree others a n) (sym still) agree))
-    (λ done. subst (λ (a : Contents). Agree others a (after n call) ⊎ Agree others a n) (sym done)
-    (open_done others m n call inv here agree))
-    (after_either m call response)
+-- a replace that says that it put its value found the one that it expected
+found_expected : (m : Contents) (at expected value : ℕ) (reply : Reply) → reply ≡ value_reply (value_at m at)
+    → says_unchanged (Replace at expected value) reply ≡ false → is_just (value_at m at) expected ≡ true
+found_expected m at expected value reply is says =
+    by_value (value_at m at) (subst (λ (r : Reply). says_unchanged (Replace at expected value) r ≡ false) is says)
+  where
+    by_eq : (t : Bool) → (not t || (expected == value)) ≡ false → t ≡ true
+    by_eq true h = refl
+    by_eq false h = absurd (false≢true (sym h))
+
+    by_value : (o : Option ℕ) → says_unchanged (Replace at expected value) (value_reply o) ≡ false → is_just o expected ≡ true
+    by_value None h = absurd (false≢true (sym h))
+    by_value (Some found) h = by_eq (found == expected) h
+
+-- one that says that it put something is done at the other map too, and leaves the same value at its key
+put_done : (Hidden : ℕ → Option ℕ → Type 0) (m n : Contents) (call : Call) (inv : ℕ) (reply : Reply)
+    → IsBlind Hidden (record { call = call; inv = inv; response = None }) → may_change call ≡ true → reply ≡ reply_to m call
+    → says_unchanged call reply ≡ false → Agree Hidden m n
+    → Agree Hidden (after m call) (after n call) × (value_at (after m call) (low_key call) ≡ value_at (after n call) (low_key call))
+put_done Hidden m n (Get key) inv reply blind changes is says agree = absurd (false≢true changes)
+put_done Hidden m n (Scan low high) inv reply blind changes is says agree = absurd (false≢true changes)
+put_done Hidden m n (Insert at value) inv reply blind changes is says agree = (
+  agree_set Hidden m n (Insert at value) agree (λ key low high. let is : at ≡ key = omega arith in
+      subst (λ k. value_at (put at value m) k ≡ value_at (put at value n) k) is (put_value m at value ∙ sym (put_value n at value))),
+  put_value m at value ∙ sym (put_value n at value),
+)
+put_done Hidden m n (Remove at) inv reply blind changes is says agree = (
+  agree_set Hidden m n (Remove at) agree (λ key low high. let is : at ≡ key = omega arith in
+      subst (λ k. value_at (below at m ++ above at m) k ≡ value_at (below at n ++ above at n) k) is
+      (removed_value m at ∙ sym (removed_value n at))),
+  removed_value m at ∙ sym (removed_value n at),
+)
+put_done Hidden m n (Replace at expected value) inv reply blind changes is says agree = ⊎_elim
+    (λ same.
+    let here : AgreeOn (Replace at expected value) m n = λ key low high. let is : at ≡ key = omega arith in
+    subst (λ k. value_at m k ≡ value_at n k) is same in (
+      agree_both Hidden m n (Replace at expected value) agree here,
+      at_key (after m (Replace at expected value)) (after n (Replace at expected value)) (Replace at expected value) refl
+          (same_here m n (Replace at expected value) here),
+    ))
+    (λ hidden. absurd (both_ways _ (blind at (value_at m at) hidden)
+    (and_from (names_key (Replace at expected value) at) (is_just (value_at m at) expected)
+    (named (Replace at expected value) at (omega arith) (omega arith)) (found_expected m at expected value reply is says))))
+    (agree at)
+
+pub open_step : (Hidden : ℕ → Option ℕ → Type 0) (m n : Contents) (call : Call) (inv : ℕ) (response : Option Response)
+    → IsBlind Hidden (record { call = call; inv = inv; response = None }) → IsLegalCall m call response → Agree Hidden m n
+    → IsAfter Hidden call response (after_call m call response) (after n call)
+    ⊎ IsAfter Hidden call response (after_call m call response) n
+open_step Hidden m n call inv None blind legal agree = ⊎_elim
+    (λ done. inl (record { agree = done; same = λ puts. absurd (false≢true puts) }))
+    (λ one. inr (record { agree = one; same = λ puts. absurd (false≢true puts) }))
+    (open_done Hidden m n call inv blind agree)
+open_step Hidden m n call inv (Some response) blind legal agree = by_test (is_some (put_of call (Some response))) refl
+  where
+    left : Contents
+    left = after_reply m call response.reply
+
+    silent : (next : Contents) → is_some (put_of call (Some response)) ≡ false → Agree Hidden left next
+        → IsAfter Hidden call (Some response) left next
+    silent next e done = record { agree = done; same = λ puts. absurd (false≢true (sym e ∙ puts)) }
+
+    loud : is_some (put_of call (Some response)) ≡ true → IsAfter Hidden call (Some response) left (after n call)
+    loud e =
+        let answered = put_answered call response.reply response.res e in
+        let is : response.reply ≡ reply_to m call = ⊎_elim (λ refused. absurd (answered refused)) (λ same. same) legal in
+        let done = put_done Hidden m n call inv response.reply blind (put_changes call (Some response) e) is
+        (put_says call response.reply response.res e) agree in
+        let m_is = after_reply-answer m call response.reply answered in
+        record {
+          agree = subst (λ (a : Contents). Agree Hidden a (after n call)) (sym m_is) done.0;
+          same = λ puts. ap (λ (a : Contents). value_at a (low_key call)) m_is ∙ done.1;
+        }
+
+    by_test : (t : Bool) → is_some (put_of call (Some response)) ≡ t
+        → IsAfter Hidden call (Some response) left (after n call) ⊎ IsAfter Hidden call (Some response) left n
+    by_test true e = inl (loud e)
+    by_test false e = ⊎_elim
+        (λ still. inr (silent n e (subst (λ (a : Contents). Agree Hidden a n) (sym still) agree)))
+        (λ done. ⊎_elim
+        (λ both. inl (silent (after n call) e (subst (λ (a : Contents). Agree Hidden a (after n call)) (sym done) both)))
+        (λ one. inr (silent n e (subst (λ (a : Contents). Agree Hidden a n) (sym done) one)))
+        (open_done Hidden m n call inv blind agree))
+        (after_either m call (Some response))
 
 -- ---- a call that is left out
 
--- no call tells what is put
-abbrev IsUntold : List Operation → ℕ → Option (Option ℕ) → Type 0
-IsUntold others key value = (b : Operation) → Contains others b → tells_put_at b key value ≡ false
+-- what is put is hidden
+abbrev IsPutHidden : (ℕ → Option ℕ → Type 0) → ℕ → Option (Option ℕ) → Type 0
+IsPutHidden Hidden key o = (value : Option ℕ) → o ≡ Some value → Hidden key value
 
--- a value at its key that no call tells
-agree_hidden : (others : List Operation) (m n : Contents) (call : Call) → Agree others m n
-    → ((key : ℕ) → low_key call ≤ key → key ≤ high_key call → IsHidden others key (value_at (after m call) key))
-    → Agree others (after m call) n
-agree_hidden others m n call agree hidden key = ⊎_elim
+-- a value at its key that is hidden
+agree_hidden : (Hidden : ℕ → Option ℕ → Type 0) (m n : Contents) (call : Call) → Agree Hidden m n
+    → ((key : ℕ) → low_key call ≤ key → key ≤ high_key call → Hidden key (value_at (after m call) key))
+    → Agree Hidden (after m call) n
+agree_hidden Hidden m n call agree hidden key = ⊎_elim
     (λ inside. inr (hidden key inside.0 inside.1))
-    (λ out. subst (λ o. (o ≡ value_at n key) ⊎ IsHidden others key o) (sym (left_alone m call key out)) (agree key))
+    (λ out. subst (λ o. (o ≡ value_at n key) ⊎ Hidden key o) (sym (left_alone m call key out)) (agree key))
     (in_or_out (low_key call) (high_key call) key)
 
-gone_done : (others : List Operation) (m n : Contents) (call : Call) → IsUntold others (low_key call) (put_by call) → Agree others m n
-    → Agree others (after m call) n
-gone_done others m n (Get key) untold agree = agree
-gone_done others m n (Scan low high) untold agree = agree
-gone_done others m n (Insert at value) untold agree =
-    agree_hidden others m n (Insert at value) agree (λ key low high. let is : at ≡ key = omega arith in
-    subst (λ k. IsHidden others k (value_at (put at value m) k)) is (subst (IsHidden others at) (sym (put_value m at value)) untold))
-gone_done others m n (Remove at) untold agree =
-    agree_hidden others m n (Remove at) agree (λ key low high. let is : at ≡ key = omega arith in
-    subst (λ k. IsHidden others k (value_at (below at m ++ above at m) k)) is
-    (subst (IsHidden others at) (sym (removed_value m at)) untold))
-gone_done others m n (Replace at expected value) untold agree = by_test (is_just (value_at m at) expected) refl
+gone_done : (Hidden : ℕ → Option ℕ → Type 0) (m n : Contents) (call : Call) → IsPutHidden Hidden (low_key call) (put_by call)
+    → Agree Hidden m n → Agree Hidden (after m call) n
+gone_done Hidden m n (Get key) hides agree = agree
+gone_done Hidden m n (Scan low high) hides agree = agree
+gone_done Hidden m n (Insert at value) hides agree =
+    agree_hidden Hidden m n (Insert at value) agree (λ key low high. let is : at ≡ key = omega arith in
+    subst (λ k. Hidden k (value_at (put at value m) k)) is (subst (Hidden at) (sym (put_value m at value)) (hides (Some value) refl)))
+gone_done Hidden m n (Remove at) hides agree =
+    agree_hidden Hidden m n (Remove at) agree (λ key low high. let is : at ≡ key = omega arith in
+    subst (λ k. Hidden k (value_at (below at m ++ above at m) k)) is
+    (subst (Hidden at) (sym (removed_value m at)) (hides None refl)))
+gone_done Hidden m n (Replace at expected value) hides agree = by_test (is_just (value_at m at) expected) refl
   where
     by_test : (t : Bool) → is_just (value_at m at) expected ≡ t
-        → Agree others (if is_just (value_at m at) expected then put at value m else m) n
+        → Agree Hidden (if is_just (value_at m at) expected then put at value m else m) n
     by_test true found = rw found
-        (agree_hidden others m n (Insert at value) agree (λ key low high. let is : at ≡ key = omega arith in
-        subst (λ k. IsHidden others k (value_at (put at value m) k)) is (subst (IsHidden others at) (sym (put_value m at value)) untold)))
+        (agree_hidden Hidden m n (Insert at value) agree (λ key low high. let is : at ≡ key = omega arith in
+        subst (λ k. Hidden k (value_at (put at value m) k)) is
+        (subst (Hidden at) (sym (put_value m at value)) (hides (Some value) refl))))
     by_test false found = rw found agree
 
-pub gone_step : (others : List Operation) (m n : Contents) (call : Call) (response : Option Response) → IsRising m
+pub gone_step : (Hidden : ℕ → Option ℕ → Type 0) (m n : Contents) (call : Call) (response : Option Response) → IsRising m
     → IsLegalCall m call response
-    → IsUntold others (low_key call) (put_of call response) → Agree others m n → Agree others (after_call m call response) n
-gone_step others m n call None rising legal untold agree = gone_done others m n call untold agree
-gone_step others m n call (Some response) rising legal untold agree = by_test (says_unchanged call response.reply) refl
+    → ((value : Option ℕ) → put_of call response ≡ Some value → Hidden (low_key call) value)
+    → Agree Hidden m n → Agree Hidden (after_call m call response) n
+gone_step Hidden m n call None rising legal hides agree = gone_done Hidden m n call hides agree
+gone_step Hidden m n call (Some response) rising legal hides agree = by_test (says_unchanged call response.reply) refl
   where
-    by_test : (t : Bool) → says_unchanged call response.reply ≡ t → Agree others (after_reply m call response.reply) n
-    by_test true says = subst (λ (a : Contents). Agree others a n) (sym (unchanged m call response.reply rising says legal)) agree
+    by_test : (t : Bool) → says_unchanged call response.reply ≡ t → Agree Hidden (after_reply m call response.reply) n
+    by_test true says = subst (λ (a : Contents). Agree Hidden a n) (sym (unchanged m call response.reply rising says legal)) agree
     by_test false says = ⊎_elim
-        (λ still. subst (λ (a : Contents). Agree others a n) (sym still) agree)
-        (λ done. subst (λ (a : Contents). Agree others a n) (sym done)
-        (gone_done others m n call (rw says at untold) agree))
+        (λ still. subst (λ (a : Contents). Agree Hidden a n) (sym still) agree)
+        (λ done. subst (λ (a : Contents). Agree Hidden a n) (sym done)
+        (gone_done Hidden m n call (λ value is. hides value (rw says is)) agree))
         (after_either m call (Some response))

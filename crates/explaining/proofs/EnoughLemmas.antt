@@ -1,40 +1,21 @@
--- Calls that are enough, and fewer of them that are.
-use Rattle.std.proofs.Common.{◌≡◌, ℕ, false, List, refl, sym, ap, ◌∙◌, subst, inl, inr, ⊎_elim}
+-- Calls that are enough.
+use Rattle.std.proofs.Common.{◌≡◌, ℕ, ◌<◌, ◌≤◌, Bool, true, false, cond, List, [], ◌∷◌, length, refl, sym, ap, ◌∙◌, subst}
+use Rattle.std.proofs.Common.{⊎_elim, arith}
+use Rattle.std.specs.Prelude.{◌==◌, not, filter, Contains}
+use Rattle.std.proofs.lemmas.Bool.{false≢true, eq-eqb}
+use Rattle.std.proofs.lemmas.List.{length-map}
+use Rattle.list_laws.proofs.Lists.{Contains-nil, Contains-cases}
 use Rattle.events.specs.declared.operation.Operation.{Operation}
 use Rattle.events.specs.Precedence.{NonePrecedesItself}
 use Rattle.map_object.specs.MapObject.{Contents, IsRising}
 use Rattle.orders.specs.Orders.{IsLinearizable}
 use Rattle.quiet_cuts.specs.TimeCuts.{InvocationsRise}
-use Rattle.explaining.specs.Rest.{opened, rest_of, are_held}
-use Rattle.explaining.specs.Relaxed.{IsCallOf}
-use Rattle.explaining.specs.Explained.{AreEnough, IsRest}
+use Rattle.explaining.specs.Rest.{rest_of, are_held}
+use Rattle.explaining.specs.Explained.{IsRest, others_than}
 use Rattle.explaining.proofs.RelaxedLemmas.{relaxed_order}
-use Rattle.explaining.proofs.RestLemmas.{rest_rises, rest_apart, rest_relaxed, rest_fewer}
+use Rattle.explaining.proofs.RestLemmas.{rest_rises, rest_apart, rest_relaxed, rest_few}
 
-call_of_call : (a b c : Operation) → IsCallOf a b → IsCallOf b c → IsCallOf a c
-call_of_call a b c first second = ⊎_elim
-    (λ same. subst (IsCallOf a) (sym same) first)
-    (λ bare. ⊎_elim
-    (λ is. inr (bare ∙ ap opened is))
-    (λ was. inr (bare ∙ ap opened was))
-    first)
-    second
-
--- of enough calls those that are enough are enough
-pub enough_of : (start : Contents) (calls kept less : List Operation) → AreEnough start calls kept → AreEnough start kept less
-    → AreEnough start calls less
-enough_of start calls kept less first second = record {
-  from = λ c is.
-      let b = second.from c is in
-      let a = first.from b.0 b.1 in
-      (a.0, a.1, call_of_call a.0 b.0 c a.2 b.2);
-  rise = second.rise;
-  apart = second.apart;
-  none = second.none;
-  refute = λ h. second.refute (first.refute h);
-}
-
--- those that are left without order are enough
+-- those that are left without order are
 pub rest_enough : (start : Contents) (calls : List Operation) (places : List ℕ) (rest : List Operation) → IsRising start
     → InvocationsRise calls
     → NonePrecedesItself calls → are_held places calls ≡ false → rest ≡ rest_of places calls → (IsLinearizable start rest → ⊥)
@@ -49,5 +30,38 @@ rest_enough start calls places rest rising rise apart free is none =
         refute = relaxed_order start calls (rest_of places calls) rising rise (rest_rises places calls rise)
             (rest_relaxed places calls rise free);
       };
-      fewer = λ a a_is at. rest_fewer places calls a a_is at;
+      fewer = rest_few places calls rise;
     })
+
+-- ---- the places but for one are fewer
+
+no_longer : {X : Type 0} (p : X → Bool) (xs : List X) → length (filter p xs) ≤ length xs
+no_longer p [] = omega arith
+no_longer p (x ∷ xs) = by_test (no_longer p xs) (p x)
+  where
+    by_test : length (filter p xs) ≤ length xs → (t : Bool) → length (cond t (x ∷ filter p xs) (filter p xs)) ≤ length (x ∷ xs)
+    by_test most true = omega (arith, most)
+    by_test most false = omega (arith, most)
+
+fewer_others : (kept : List Operation) (a : Operation) → Contains kept a
+    → length (filter (λ (b : Operation). not (b.inv == a.inv)) kept) < length kept
+fewer_others [] a is = absurd (Contains-nil a is)
+fewer_others (b ∷ kept) a is =
+    by_test (no_longer (λ (c : Operation). not (c.inv == a.inv)) kept) (λ later. fewer_others kept a later) (b.inv == a.inv) refl
+  where
+    rest : List Operation
+    rest = filter (λ (c : Operation). not (c.inv == a.inv)) kept
+
+    by_test : length rest ≤ length kept → (Contains kept a → length rest < length kept) → (t : Bool) → (b.inv == a.inv) ≡ t
+        → length (cond (not t) (b ∷ rest) rest) < length (b ∷ kept)
+    by_test most less true e = omega (arith, most)
+    by_test most less false e = ⊎_elim
+        (λ same. absurd (false≢true (sym e ∙ eq-eqb b.inv a.inv (ap (λ (o : Operation). o.inv) same))))
+        (λ later. let fewer = less later in omega (arith, fewer))
+        (Contains-cases b kept a is)
+
+pub others_fewer : (kept : List Operation) (a : Operation) → Contains kept a → length (others_than kept a.inv) < length kept
+others_fewer kept a is =
+    let less = fewer_others kept a is in
+    let same = length-map (filter (λ (b : Operation). not (b.inv == a.inv)) kept) (λ (b : Operation). b.inv) in
+    omega (arith, less, same)

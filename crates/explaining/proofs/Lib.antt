@@ -1,3 +1,4 @@
+mod AnyLemmas
 mod AgreeLemmas
 mod RelaxedLemmas
 mod RestLemmas

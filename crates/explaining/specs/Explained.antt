@@ -1,5 +1,5 @@
 -- What is said of calls without order: few of them that have none either.
-use Rattle.std.specs.Prelude.{◌≡◌, ℕ, ◌<◌, true, List, [], ◌∷◌, length, Contains}
+use Rattle.std.specs.Prelude.{◌≡◌, ℕ, ◌==◌, ◌<◌, ◌≤◌, true, not, List, length, map, filter, Contains}
 use Rattle.std.specs.List.{AllZip}
 use Rattle.events.specs.declared.operation.Operation.{Operation}
 use Rattle.events.specs.Precedence.{NonePrecedesItself}
@@ -28,22 +28,25 @@ pub record AreEnough (start : Contents) (calls kept : List Operation) : Type 0 w
   pub none : IsLinearizable start kept → ⊥
   pub refute : IsLinearizable start calls → IsLinearizable start kept
 
--- why a call is kept: without it, and without the answers that tell what it put, the others have an order; or their search took more than
--- the budget; or one
--- that has no answer waits for what it may put
+-- why calls do not go, where those stay that were invoked at these places: the others, without the answers that tell what those that go
+-- put, have an order; or their search took more than the budget; or one that has no answer waits for what one of these may put
 abbrev pub IsReasonFor : Contents → ℕ → List Operation → List ℕ → Reason → Type 0
 IsReasonFor start budget calls places (reasons.Order order) = IsOrder start (rest_of places calls) order.items
 IsReasonFor start budget calls places reasons.Spent = ReachesMoreThan start (rest_of places calls) budget
 IsReasonFor start budget calls places reasons.Held = are_held places calls ≡ true
 
--- one call alone
-abbrev pub IsReasonForOne : Contents → ℕ → List Operation → Operation → Reason → Type 0
-IsReasonForOne start budget calls a reason = IsReasonFor start budget calls (a.inv ∷ []) reason
+-- the places at which some calls were invoked, but for one
+abbrev pub others_than : List Operation → ℕ → List ℕ
+others_than kept place = map (λ (b : Operation). b.inv) (filter (λ b. not (b.inv == place)) kept)
+
+-- why one of those kept does not go
+abbrev pub IsReasonForOne : Contents → ℕ → List Operation → List Operation → Operation → Reason → Type 0
+IsReasonForOne start budget calls kept a reason = IsReasonFor start budget calls (others_than kept a.inv) reason
 
 -- few calls that are enough, with the reason why none of them can be left out
 pub record IsExplanation (start : Contents) (calls : List Operation) (budget : ℕ) (e : Explanation) : Type 0 where
   pub enough : AreEnough start calls e.calls.items
-  pub minimal : AllZip (IsReasonForOne start budget e.calls.items) e.calls.items e.reasons.items
+  pub minimal : AllZip (IsReasonForOne start budget calls e.calls.items) e.calls.items e.reasons.items
 
 -- what each answer says: an order of all calls; few that are enough; or that more configurations are reachable than the budget
 abbrev pub IsExplained : Contents → List Operation → ℕ → Explained → Type 0
@@ -51,16 +54,16 @@ IsExplained start calls budget (Order order) = IsOrder start calls order.items
 IsExplained start calls budget (Few e) = IsExplanation start calls budget e
 IsExplained start calls budget Spent = ReachesMoreThan start calls budget
 
--- what became of calls that were to go: the others are enough, and fewer where one of them was there; or these are kept
+-- what became of calls that were to go: those that stay are enough, and no more than there were to stay; or these are kept
 pub record IsRest (start : Contents) (calls : List Operation) (places : List ℕ) (rest : List Operation) : Type 0 where
   pub enough : AreEnough start calls rest
-  pub fewer : (a : Operation) → Contains calls a → Contains places a.inv → length rest < length calls
+  pub fewer : length rest ≤ length places
 
 abbrev pub IsWithout : Contents → List Operation → List ℕ → ℕ → Without → Type 0
 IsWithout start calls places budget (Rest rest) = IsRest start calls places rest.items
 IsWithout start calls places budget (Kept reason) = IsReasonFor start budget calls places reason
 
--- what a look at each call alone came to: fewer that are enough, or a reason for each
-abbrev pub IsPass : Contents → List Operation → ℕ → Pass → Type 0
-IsPass start calls budget (Less rest) = AreEnough start calls rest.items × (length rest.items < length calls)
-IsPass start calls budget (Least reasons) = AllZip (IsReasonForOne start budget calls) calls reasons.items
+-- what a look at each call kept came to: fewer that are enough, or a reason for each
+abbrev pub IsPass : Contents → List Operation → List Operation → ℕ → Pass → Type 0
+IsPass start calls kept budget (Less rest) = AreEnough start calls rest.items × (length rest.items < length kept)
+IsPass start calls kept budget (Least reasons) = AllZip (IsReasonForOne start budget calls kept) kept reasons.items

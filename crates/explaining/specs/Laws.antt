@@ -14,7 +14,7 @@ RelaxedCallsHaveOrders =
     → IsRelaxed calls others
     → IsLinearizable start calls → IsLinearizable start others
 
--- calls that go and are not held leave the others so
+-- calls that stay where no other is held are left so
 abbrev pub RestsAreRelaxed : Type 0
 RestsAreRelaxed =
     (places : List ℕ) (calls : List Operation) → InvocationsRise calls → are_held places calls ≡ false

@@ -1,4 +1,5 @@
 pub mod Tells
+pub mod Overwriting
 pub mod Rest
 pub mod Relaxed
 pub mod Laws

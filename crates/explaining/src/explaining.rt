@@ -6,6 +6,7 @@ ghost use Rattle.explaining.specs.Explained.{AreEnough, IsExplanation, IsExplain
 
 use crate::explanation::{Explained, Explanation};
 use crate::lessening::{Pass, lessen, look_at_each};
+use crate::windows::{first_calls, last_calls};
 use call_search::{Found, search_calls};
 use events::{Memory, Operation};
 use map_object::SortedMap;
@@ -13,8 +14,8 @@ use std::alloc::Global;
 
 /// Explains why calls have no order from a map, or gives one: few calls that have none, as which all have none, each of them
 /// needed. The calls stand by rising invocation, at any places; a call of the explanation is told by its invocation.
-/// Each search may meet as many configurations as the budget. Of n calls that leave r there are about r log n of them, and seldom
-/// more than n.
+/// Each search may meet as many configurations as the budget. Of n calls that leave r there are about log n + 6 r of them, where
+/// they go wrong at few calls that stand beside each other, and seldom more than n.
 pub fn explain(
     alloc: Global,
     map: &SortedMap,
@@ -47,7 +48,7 @@ fn explanation_of(
 {
     let mut kept = fewer(alloc, map, calls, budget)?;
     loop {
-        match look_at_each(alloc, map, &kept, budget)? {
+        match look_at_each(alloc, map, calls, &kept, budget)? {
             Pass::Less(rest) => kept = rest,
             Pass::Least(reasons) => return Ok(Explanation {
                 calls: kept,
@@ -60,7 +61,8 @@ fn explanation_of(
 /// How many configurations a search meets at most that is to leave out many calls at once.
 const FEW_CONFIGURATIONS: u32 = 16_384;
 
-/// Leaves out calls by halves, quarters and so on, where short searches show that the others have no order.
+/// Leaves out the last calls, then the first ones, then those between by halves, quarters and so on, where short searches show that
+/// the others have no order.
 fn fewer(
     alloc: Global,
     map: &SortedMap,
@@ -72,11 +74,12 @@ fn fewer(
     requires none { IsLinearizable map.now calls.now → ⊥ }
     ensures { IfOk result (λ kept. AreEnough map.now calls.now kept.items) }
 {
-    let mut kept = copies_of(alloc, calls)?;
-    let mut size = kept.len() / 2;
     let few = budget.min(FEW_CONFIGURATIONS);
+    let first = first_calls(alloc, map, calls, copies_of(alloc, calls)?, few)?;
+    let mut kept = last_calls(alloc, map, calls, first, few)?;
+    let mut size = kept.len() / 2;
     while size > 0 {
-        kept = lessen(alloc, map, kept, size, few)?;
+        kept = lessen(alloc, map, calls, kept, size, few)?;
         size /= 2;
     }
     Ok(kept)

@@ -4,7 +4,7 @@ ghost use Rattle.events.specs.Precedence.{NonePrecedesItself};
 ghost use Rattle.explaining.specs.Explained.{IsWithout};
 
 use crate::explanation::Reason;
-use crate::rests::{are_held, gone_of, rest_of};
+use crate::rests::{are_held, gone_of, puts_of, rest_of};
 use call_search::{Found, search_calls};
 use events::{Memory, Operation};
 use map_object::SortedMap;
@@ -19,7 +19,7 @@ pub enum Without {
     Kept(Reason),
 }
 
-/// Leaves out the calls that were invoked at these places, where the others have no order without them.
+/// Leaves out the calls but those that were invoked at these places, where these have no order either.
 pub(crate) fn leave_out(
     alloc: Global,
     map: &SortedMap,
@@ -32,10 +32,11 @@ pub(crate) fn leave_out(
     ensures { IfOk result (IsWithout map.now calls.now places.now budget) }
 {
     let gone = gone_of(alloc, calls, places)?;
-    let rest = rest_of(alloc, calls, &gone, places)?;
-    if are_held(&gone, &rest) {
+    let puts = puts_of(alloc, calls, places)?;
+    if are_held(calls, &puts, &gone, places) {
         return Ok(Without::Kept(Reason::Held));
     }
+    let rest = rest_of(alloc, calls, &puts, &gone, places)?;
     let start = SortedMap::of(alloc, map.pairs())?;
     match search_calls(alloc, start, &rest, budget)? {
         Found::NoOrder => Ok(Without::Rest(rest)),

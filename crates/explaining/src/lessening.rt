@@ -1,8 +1,7 @@
 // Calls without order are made fewer.
 ghost use Rattle.std.specs.Prelude.{◌≡◌, ◌<◌, ◌≤◌, AllPairs, IfOk};
 ghost use Rattle.events.specs.Precedence.{NonePrecedesItself};
-ghost use Rattle.orders.specs.Orders.{IsLinearizable};
-ghost use Rattle.explaining.specs.Explained.{AreEnough, IsPass};
+ghost use Rattle.explaining.specs.Explained.{AreEnough, IsPass, others_than};
 
 use crate::explanation::Reason;
 use crate::leaving::{Without, leave_out};
@@ -10,7 +9,7 @@ use events::{Memory, Operation};
 use map_object::SortedMap;
 use std::alloc::Global;
 
-/// What a look at each call alone came to.
+/// What a look at each call kept came to.
 #[derive(Drop)]
 pub enum Pass {
     /// One of them can be left out: the others.
@@ -19,27 +18,29 @@ pub enum Pass {
     Least(Vec<Reason>),
 }
 
-/// Tries to leave out so many calls at a time, each once, those with the greatest keys first, and of one key the last ones.
+/// Tries to leave out so many of the calls kept at a time, each once, those with the greatest keys first, and of one key the last
+/// ones.
 pub(crate) fn lessen(
     alloc: Global,
     map: &SortedMap,
-    calls: Vec<Operation>,
+    calls: &[Operation],
+    kept: Vec<Operation>,
     size: usize,
     budget: u32,
 ) -> Result<Vec<Operation>, Memory>
     requires some { 1 ≤ size }
-    requires rising { AllPairs (λ a b. a.inv < b.inv) calls.items }
-    requires apart { NonePrecedesItself calls.items }
-    requires none { IsLinearizable map.now calls.items → ⊥ }
-    ensures { IfOk result (λ kept. AreEnough map.now calls.items kept.items) }
+    requires rising { AllPairs (λ a b. a.inv < b.inv) calls.now }
+    requires apart { NonePrecedesItself calls.now }
+    requires enough { AreEnough map.now calls.now kept.items }
+    ensures { IfOk result (λ kept. AreEnough map.now calls.now kept.items) }
 {
-    let mut kept = calls;
+    let mut kept = kept;
     let mut at = kept.len();
     while at > 0 {
         let from = at.saturating_sub(size);
-        let places = places_between(alloc, &kept, from, at)?;
+        let places = places_outside(alloc, &kept, from, at)?;
         at = from;
-        match leave_out(alloc, map, &kept, &places, budget)? {
+        match leave_out(alloc, map, calls, &places, budget)? {
             Without::Rest(rest) => kept = rest,
             Without::Kept(_) => {}
         }
@@ -47,8 +48,8 @@ pub(crate) fn lessen(
     Ok(kept)
 }
 
-/// The places of some calls, counted by rising key, and of one key by rising invocation.
-fn places_between(
+/// The places of the calls but for some, counted by rising key, and of one key by rising invocation.
+fn places_outside(
     alloc: Global,
     calls: &[Operation],
     from: usize,
@@ -61,31 +62,45 @@ fn places_between(
     sorted.sort()?;
     let mut places = Vec::new(alloc);
     for (number, (_, place)) in sorted.iter().enumerate() {
-        if from <= number && number < to {
+        if number < from || to <= number {
             places.push(*place)?;
         }
     }
     Ok(places)
 }
 
-/// Tries to leave out each call alone.
+/// Tries to leave out each of the calls kept.
 pub(crate) fn look_at_each(
     alloc: Global,
     map: &SortedMap,
     calls: &[Operation],
+    kept: &[Operation],
     budget: u32,
 ) -> Result<Pass, Memory>
     requires rising { AllPairs (λ a b. a.inv < b.inv) calls.now }
     requires apart { NonePrecedesItself calls.now }
-    requires none { IsLinearizable map.now calls.now → ⊥ }
-    ensures { IfOk result (IsPass map.now calls.now budget) }
+    ensures { IfOk result (IsPass map.now calls.now kept.now budget) }
 {
     let mut reasons = Vec::new(alloc);
-    for call in calls {
-        match leave_out(alloc, map, calls, &[call.inv], budget)? {
+    for call in kept {
+        let places = others_than(alloc, kept, call.inv)?;
+        match leave_out(alloc, map, calls, &places, budget)? {
             Without::Rest(rest) => return Ok(Pass::Less(rest)),
             Without::Kept(reason) => reasons.push(reason)?,
         }
     }
     Ok(Pass::Least(reasons))
+}
+
+/// The places of the calls kept but for one.
+fn others_than(alloc: Global, kept: &[Operation], place: usize) -> Result<Vec<usize>, Memory>
+    ensures { IfOk result (λ places. places.items ≡ others_than kept.now place) }
+{
+    let mut places = Vec::new(alloc);
+    for call in kept {
+        if call.inv != place {
+            places.push(call.inv)?;
+        }
+    }
+    Ok(places)
 }

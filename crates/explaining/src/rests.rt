@@ -1,34 +1,39 @@
-// What is left of calls where some go.
-ghost use Rattle.std.specs.Prelude.{◌≡◌, IfOk};
+// What is left of calls where some stay and the others go.
+ghost use Rattle.std.specs.Prelude.{◌≡◌, ◌&&◌, IfOk};
 ghost use Rattle.std.specs.List.{list_any};
+ghost use Rattle.events.specs.Precedence.{precedes};
 ghost use Rattle.list_laws.specs.Lists.{has_number};
-ghost use Rattle.explaining.specs.Rest.{opened, gone_of, is_touched, if_belongs, left_of, rest_of};
+ghost use Rattle.explaining.specs.Overwriting.{says_put, is_between};
+ghost use Rattle.explaining.specs.Rest.{opened, gone_of, puts_of, is_overwritten, may_tell, is_touched, is_held, if_belongs, left_of};
+ghost use Rattle.explaining.specs.Rest.{rest_of};
 
-use crate::telling::tells_put;
+use crate::telling::{puts, tells_put};
 use events::{Memory, Operation};
 use std::alloc::Global;
 
-/// What is left of calls where those go that were invoked at these places: copies of the others, without their answers where they
-/// tell what one of those may put.
+/// What is left of calls where those stay that were invoked at these places: copies of them, without their answers where they tell
+/// what one that goes may have put.
 pub(crate) fn rest_of(
     alloc: Global,
     calls: &[Operation],
+    puts: &[Operation],
     gone: &[Operation],
     places: &[usize],
 ) -> Result<Vec<Operation>, Memory>
-    requires { gone.now ≡ gone_of places.now calls.now }
+    requires puts { puts.now ≡ puts_of places.now calls.now }
+    requires gone { gone.now ≡ gone_of places.now calls.now }
     ensures { IfOk result (λ rest. rest.items ≡ rest_of places.now calls.now) }
 {
     let mut rest = Vec::new(alloc);
     for call in calls {
-        if let Some(call) = left_of(alloc, places, gone, call)? {
+        if let Some(call) = left_of(alloc, places, puts, gone, call)? {
             rest.push(call)?;
         }
     }
     Ok(rest)
 }
 
-/// The calls that were invoked at some places: copies.
+/// The calls that go where those stay that were invoked at these places: copies.
 pub(crate) fn gone_of(
     alloc: Global,
     calls: &[Operation],
@@ -38,26 +43,51 @@ pub(crate) fn gone_of(
 {
     let mut gone = Vec::new(alloc);
     for call in calls {
-        if has_place(places, call.inv) {
+        if !has_place(places, call.inv) {
             gone.push(call.copy(alloc)?)?;
         }
     }
     Ok(gone)
 }
 
+/// Those that stay and say that they put something: copies.
+pub(crate) fn puts_of(
+    alloc: Global,
+    calls: &[Operation],
+    places: &[usize],
+) -> Result<Vec<Operation>, Memory>
+    ensures { IfOk result (λ puts. puts.items ≡ puts_of places.now calls.now) }
+{
+    let mut puts = Vec::new(alloc);
+    for call in calls {
+        if has_place(places, call.inv) && says_put(call) {
+            puts.push(call.copy(alloc)?)?;
+        }
+    }
+    Ok(puts)
+}
+
+/// Whether a call was answered, and so that it put something at its key.
+fn says_put(call: &Operation) -> bool
+    ensures { result ≡ says_put call.now }
+{
+    call.response.is_some() && puts(call)
+}
+
 /// What becomes of a call where others go.
 fn left_of(
     alloc: Global,
     places: &[usize],
+    puts: &[Operation],
     gone: &[Operation],
     call: &Operation,
 ) -> Result<Option<Operation>, Memory>
-    ensures { IfOk result (λ left. left ≡ left_of places.now gone.now call.now) }
+    ensures { IfOk result (λ left. left ≡ left_of places.now puts.now gone.now call.now) }
 {
-    if has_place(places, call.inv) {
+    if !has_place(places, call.inv) {
         return Ok(None);
     }
-    let call = if is_touched(gone, call) {
+    let call = if is_touched(puts, gone, call) {
         opened(call)
     } else {
         call.copy(alloc)?
@@ -83,28 +113,93 @@ fn opened(call: &Operation) -> Operation
     }
 }
 
-/// Whether those that go are held by the others: one of these tells or waits for what one of them may put.
-pub(crate) fn are_held(gone: &[Operation], rest: &[Operation]) -> bool
-    ensures { result ≡ list_any (is_touched gone.now) rest.now }
+/// Whether those that go are held by the others: one that stays tells what one of them may have put, and then waits for such a
+/// value.
+pub(crate) fn are_held(
+    calls: &[Operation],
+    puts: &[Operation],
+    gone: &[Operation],
+    places: &[usize],
+) -> bool
+    ensures { result ≡ list_any (λ b. has_number places.now b.inv && is_held puts.now gone.now b) calls.now }
 {
-    for call in rest {
-        if is_touched(gone, call) {
+    for call in calls {
+        if has_place(places, call.inv) && is_held(puts, gone, call) {
             return true;
         }
     }
     false
 }
 
-/// Whether a call tells what one of those that go may put.
-fn is_touched(gone: &[Operation], call: &Operation) -> bool
-    ensures { result ≡ is_touched gone.now call.now }
+/// Whether a call tells what one of those that go may have put, and without its answer waits for what one of them may put.
+fn is_held(puts: &[Operation], gone: &[Operation], call: &Operation) -> bool
+    ensures { result ≡ is_held puts.now gone.now call.now }
 {
+    is_touched(puts, gone, call) && waits(puts, gone, call)
+}
+
+/// Whether a call without its answer waits for what one of those that go may put.
+fn waits(puts: &[Operation], gone: &[Operation], call: &Operation) -> bool
+    ensures { result ≡ list_any (λ a. may_tell puts.now a call.now (opened call.now)) gone.now }
+{
+    let open = opened(call);
     for other in gone {
-        if tells_put(call, other) {
+        if may_tell(puts, other, call, &open) {
             return true;
         }
     }
     false
+}
+
+/// Whether a call tells what one of those that go may have put.
+fn is_touched(puts: &[Operation], gone: &[Operation], call: &Operation) -> bool
+    ensures { result ≡ is_touched puts.now gone.now call.now }
+{
+    for other in gone {
+        if may_tell(puts, other, call, call) {
+            return true;
+        }
+    }
+    false
+}
+
+/// Whether what is left of a call tells what another put that may stand before it, and that none which stays overwrites.
+fn may_tell(puts: &[Operation], other: &Operation, call: &Operation, left: &Operation) -> bool
+    ensures { result ≡ may_tell puts.now other.now call.now left.now }
+{
+    !precedes(call, other) && tells_put(left, other) && !is_overwritten(puts, other, call)
+}
+
+/// Whether one of those that stay overwrites what a call put before another comes.
+fn is_overwritten(puts: &[Operation], first: &Operation, second: &Operation) -> bool
+    ensures { result ≡ is_overwritten puts.now first.now second.now }
+{
+    for put in puts {
+        if is_between(first, put, second) {
+            return true;
+        }
+    }
+    false
+}
+
+/// Whether a call of the first one's key stands between two others in each order.
+fn is_between(first: &Operation, put: &Operation, second: &Operation) -> bool
+    ensures { result ≡ is_between first.now put.now second.now }
+{
+    precedes(first, put)
+        && precedes(put, second)
+        && put.inv < second.inv
+        && put.call.low_key() == first.call.low_key()
+}
+
+/// Whether a call was answered before another was invoked.
+fn precedes(first: &Operation, second: &Operation) -> bool
+    ensures { result ≡ precedes first.now second.now }
+{
+    match &first.response {
+        Some(response) => response.res < second.inv,
+        None => false,
+    }
 }
 
 /// Whether a place is listed.

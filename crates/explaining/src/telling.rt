@@ -1,5 +1,5 @@
 // What a call may put at its key, and which calls tell it.
-ghost use Rattle.std.specs.Prelude.{◌≡◌, ℕ, Option, Some, None};
+ghost use Rattle.std.specs.Prelude.{◌≡◌, ℕ, Option, Some, None, is_some};
 ghost use Rattle.map_object.specs.MapObject.{value_at, is_just};
 ghost use Rattle.call_search.specs.Replies.{says_unchanged};
 ghost use Rattle.explaining.specs.Tells.{names_key, is_same, is_told, waits_for, is_told_by, tells, put_by, put_of, tells_put};
@@ -14,6 +14,13 @@ pub(crate) fn tells_put(call: &Operation, other: &Operation) -> bool
         Some(value) => tells(call, other.call.low_key(), value),
         None => false,
     }
+}
+
+/// Whether a call may put something at its key, as far as its response says.
+pub(crate) fn puts(call: &Operation) -> bool
+    ensures { result ≡ is_some (put_of call.now.call call.now.response) }
+{
+    put_of(&call.call, &call.response).is_some()
 }
 
 /// What a call may put at its key: a value, or none in place of one; nothing where its response says that it changed nothing.

@@ -3,7 +3,7 @@ use Rattle.explaining.proofs.lessening.lessen.Given as goal
 
 -- those kept so far are enough
 abbrev pub invariant-loop-at : goal.invariant-loop-at
-invariant-loop-at l = AreEnough l.map l.fn.calls.items l.kept.items
+invariant-loop-at l = AreEnough l.map l.calls l.kept.items
 
 -- each turn is at calls before
 abbrev pub decreases-loop-at : goal.decreases-loop-at

@@ -1,9 +1,9 @@
-use Rattle.std.proofs.Common.{List, ◌≡◌, ◌+◌, ◌∙◌, [], ◌∷◌, ◌++◌, take, sym, ap, subst}
+use Rattle.std.proofs.Common.{List, ℕ, ◌≡◌, ◌≤◌, ◌+◌, ◌∙◌, [], ◌∷◌, ◌++◌, length, take, sym, ap, subst, arith}
 use Rattle.std.specs.List.{AllZip}
 use Rattle.std.proofs.lemmas.List.{take_more}
-use Rattle.list_laws.proofs.Lists.{Contains-first}
 use Rattle.explaining.specs.declared.leaving.Without.{Without}
-use Rattle.explaining.specs.Explained.{IsWithout, IsReasonForOne}
+use Rattle.explaining.specs.Explained.{IsWithout, IsReasonFor, IsReasonForOne, others_than}
+use Rattle.explaining.proofs.EnoughLemmas.{others_fewer}
 use Rattle.explaining.proofs.lessening.look_at_each.Goals as goal
 
 -- one pair more
@@ -16,24 +16,28 @@ AllZip-push R (z ∷ xs) (w ∷ ys) x y each here = (each.0, AllZip-push R xs ys
 
 pub returns-in-Rest : goal.returns-in-Rest
 returns-in-Rest c =
-    let rest = subst (λ (found : Without). IsWithout c.args.map.now c.args.calls.now (c.call-item.result.inv ∷ []) c.args.budget
-    found) c.in-Rest.is
-    c.in_ok-rest.ensures in (
-      rest.enough,
-      rest.fewer c.call-item.result (c.loop-call.call-index, c.loop-call-test.true, sym c.call-item.is)
-          (Contains-first c.call-item.result.inv []),
-    )
+    let kept = c.args.kept.now in
+    let at = c.call-item.result in
+    let found = subst (λ (w : Without). IsWithout c.args.map.now c.args.calls.now c.deref.result.now c.args.budget w) c.in-Rest.is
+    c.in_ok-rest.ensures in
+    let places : c.deref.result.now ≡ others_than kept at.inv = c.deref.ensures.value ∙ c.in_ok-places.ensures in
+    let few : length c.in-Rest.rest.items ≤ length (others_than kept at.inv) =
+    subst (λ (l : List ℕ). length c.in-Rest.rest.items ≤ length l) places found.fewer in
+    let less = others_fewer kept at (c.loop-call.call-index, c.loop-call-test.true, sym c.call-item.is) in
+    (found.enough, omega (arith, few, less))
 
 pub loop-call-preserved : goal.loop-call-preserved
 loop-call-preserved c =
-    let reason = subst (λ (found : Without). IsWithout c.args.map.now c.args.calls.now (c.call-item.result.inv ∷ []) c.args.budget
-    found) c.in-Kept.is
-    c.in_ok-rest.ensures in
-    let calls = c.args.calls.now in
-    let R = IsReasonForOne c.args.map.now c.args.budget calls in
+    let kept = c.args.kept.now in
+    let R = IsReasonForOne c.args.map.now c.args.budget c.args.calls.now kept in
     let i = c.loop-call.call-index in
-    let more : take (i + 1) calls ≡ take i calls ++ c.call-item.result ∷ [] =
-    take_more calls i c.call-item.result c.loop-call-test.true ∙ ap (λ a. take i calls ++ a ∷ []) (sym c.call-item.is) in
-    subst (AllZip R (take (i + 1) calls)) (sym c.in_ok-push-in-Kept.ensures.items)
+    let found = subst (λ (w : Without). IsWithout c.args.map.now c.args.calls.now c.deref.result.now c.args.budget w) c.in-Kept.is
+    c.in_ok-rest.ensures in
+    let reason : R c.call-item.result c.in-Kept.reason =
+    subst (λ (l : List ℕ). IsReasonFor c.args.map.now c.args.budget c.args.calls.now l c.in-Kept.reason)
+    (c.deref.ensures.value ∙ c.in_ok-places.ensures) found in
+    let more : take (i + 1) kept ≡ take i kept ++ c.call-item.result ∷ [] =
+    take_more kept i c.call-item.result c.loop-call-test.true ∙ ap (λ a. take i kept ++ a ∷ []) (sym c.call-item.is) in
+    subst (AllZip R (take (i + 1) kept)) (sym c.in_ok-push-in-Kept.ensures.items)
     (subst (λ l. AllZip R l (c.loop-call.reasons.items ++ c.in-Kept.reason ∷ [])) (sym more)
-    (AllZip-push R (take i calls) c.loop-call.reasons.items c.call-item.result c.in-Kept.reason c.loop-call.invariant reason))
+    (AllZip-push R (take i kept) c.loop-call.reasons.items c.call-item.result c.in-Kept.reason c.loop-call.invariant reason))

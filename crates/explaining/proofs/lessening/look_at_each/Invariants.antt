@@ -5,4 +5,4 @@ use Rattle.explaining.proofs.lessening.look_at_each.Given as goal
 
 -- a reason for each call so far
 abbrev pub invariant-loop-call : goal.invariant-loop-call
-invariant-loop-call l = AllZip (IsReasonForOne l.map l.budget l.calls) (take l.call-index l.calls) l.reasons.items
+invariant-loop-call l = AllZip (IsReasonForOne l.map l.budget l.calls l.kept) (take l.call-index l.kept) l.reasons.items

@@ -4,4 +4,4 @@ use Rattle.explaining.proofs.rests.is_touched.Given as goal
 
 -- what those so far put is not told
 abbrev pub invariant-loop-other : goal.invariant-loop-other
-invariant-loop-other l = is_touched (drop l.other-index l.gone) l.call ≡ is_touched l.gone l.call
+invariant-loop-other l = is_touched l.puts (drop l.other-index l.gone) l.call ≡ is_touched l.puts l.gone l.call

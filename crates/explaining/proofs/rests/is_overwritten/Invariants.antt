@@ -1,0 +1,7 @@
+use Rattle.std.proofs.Common.{◌≡◌, drop}
+use Rattle.explaining.specs.Rest.{is_overwritten}
+use Rattle.explaining.proofs.rests.is_overwritten.Given as goal
+
+-- none of those so far does
+abbrev pub invariant-loop-put : goal.invariant-loop-put
+invariant-loop-put l = is_overwritten (drop l.put-index l.puts) l.first l.second ≡ is_overwritten l.puts l.first l.second

@@ -1,0 +1,75 @@
+// The part of calls without order at which they go wrong.
+ghost use Rattle.std.specs.Prelude.{◌≡◌, ◌<◌, AllPairs, IfOk};
+ghost use Rattle.events.specs.Precedence.{NonePrecedesItself};
+ghost use Rattle.explaining.specs.Explained.{AreEnough};
+
+use crate::leaving::{Without, leave_out};
+use events::{Memory, Operation};
+use map_object::SortedMap;
+use std::alloc::Global;
+
+/// The first calls that have no order, as few as a halving by their number finds.
+pub(crate) fn first_calls(
+    alloc: Global,
+    map: &SortedMap,
+    calls: &[Operation],
+    kept: Vec<Operation>,
+    budget: u32,
+) -> Result<Vec<Operation>, Memory>
+    requires rising { AllPairs (λ a b. a.inv < b.inv) calls.now }
+    requires apart { NonePrecedesItself calls.now }
+    requires enough { AreEnough map.now calls.now kept.items }
+    ensures { IfOk result (λ kept. AreEnough map.now calls.now kept.items) }
+{
+    let mut kept = kept;
+    let mut low = 0;
+    let mut high = calls.len();
+    while low < high {
+        let middle = low + (high - low) / 2;
+        let places = places_of(alloc, &calls[..middle])?;
+        match leave_out(alloc, map, calls, &places, budget)? {
+            Without::Rest(rest) => {
+                kept = rest;
+                high = middle;
+            }
+            Without::Kept(_) => low = middle + 1,
+        }
+    }
+    Ok(kept)
+}
+
+/// How many of the last calls are tried first.
+const FEW_CALLS: usize = 8;
+
+/// The last of the calls kept that have no order: few of them, or twice, four times as many, and so on.
+pub(crate) fn last_calls(
+    alloc: Global,
+    map: &SortedMap,
+    calls: &[Operation],
+    kept: Vec<Operation>,
+    budget: u32,
+) -> Result<Vec<Operation>, Memory>
+    requires rising { AllPairs (λ a b. a.inv < b.inv) calls.now }
+    requires apart { NonePrecedesItself calls.now }
+    requires enough { AreEnough map.now calls.now kept.items }
+    ensures { IfOk result (λ kept. AreEnough map.now calls.now kept.items) }
+{
+    let mut size = FEW_CALLS;
+    while size < kept.len() {
+        let places = places_of(alloc, &kept[kept.len() - size..])?;
+        match leave_out(alloc, map, calls, &places, budget)? {
+            Without::Rest(rest) => return Ok(rest),
+            Without::Kept(_) => size = size.saturating_mul(2),
+        }
+    }
+    Ok(kept)
+}
+
+/// The places of calls.
+fn places_of(alloc: Global, calls: &[Operation]) -> Result<Vec<usize>, Memory> {
+    let mut places = Vec::with_capacity(alloc, calls.len())?;
+    for call in calls {
+        places.push(call.inv)?;
+    }
+    Ok(places)
+}
