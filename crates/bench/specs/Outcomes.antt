@@ -27,12 +27,13 @@ variant_of trees.ScanUnvalidated = Some variants.ScanUnvalidated
 variant_of trees.LockUnchecked = Some variants.LockUnchecked
 variant_of trees.EarlyRelease = Some variants.EarlyRelease
 
--- the outcome of a drive: on a tree of this shape within the limit, or at the map under a lock
+-- the outcome of a drive: on a tree of this shape, with at most so many steps of each call beside that of its invocation; or at a subject
+-- that may answer as the map under a lock
 abbrev pub IsDrivenOutcome : Option Variant → Shape → ℕ → Change → Outcome → Type 0
 IsDrivenOutcome (Some variant) shape limit source outcome = IsTreeDriveOutcome shape variant limit source outcome
 IsDrivenOutcome None shape limit source outcome = IsDriveOutcome IsAnswerOf source outcome
 
--- the outcome of what a line asks for
+-- the outcome of what a line asks for, whatever the number of workers
 abbrev pub IsLineOutcome : Line → Change → Outcome → Type 0
 IsLineOutcome (Check order) source outcome = IsCheckOutcome order.items source outcome
 IsLineOutcome (Judge budget workers) source outcome = IsJudgeOutcome budget source outcome

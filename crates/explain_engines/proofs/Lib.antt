@@ -1,3 +1,8 @@
+mod FrontLemmas
 mod LineLemmas
+mod LongestLemmas
+mod NoneLemmas
 mod OutcomeLemmas
 mod RowLemmas
+mod StuckLemmas
+mod WholeLemmas

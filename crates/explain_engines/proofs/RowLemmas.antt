@@ -9,7 +9,7 @@ use Rattle.explaining.specs.declared.explanation.Reason.{Reason}
 use Rattle.explain_engines.specs.Reports.{answer_data, row_data}
 
 -- what counts of an answer has no float
-has_float-answer : (response : Option Response) → has_float (answer_data response) ≡ false
+pub has_float-answer : (response : Option Response) → has_float (answer_data response) ≡ false
 has_float-answer None = refl
 has_float-answer (Some response) = has_float-reply response.reply
 

@@ -9,7 +9,9 @@ use Rattle.events.specs.Operations.{operations}
 use Rattle.map_object.specs.MapObject.{Contents}
 use Rattle.orders.specs.Orders.{IsLinearizable}
 use Rattle.configurations.specs.Counts.{ReachesMoreThan}
+use Rattle.search.specs.LongestFront.{IsLongestFront}
 use Rattle.segments.specs.SegmentView.{SegmentView}
+use Rattle.segments.specs.WholeSegments.{IsWholeSegment}
 use Rattle.quiet_cuts.specs.Groups.{AreAlike}
 use Rattle.history_text.specs.Texts.{Spells}
 use Rattle.judge.specs.declared.verdict.Verdict.{Verdict}
@@ -23,6 +25,7 @@ use Rattle.outcomes.specs.declared.outcome.Answer.{Answer}
 use Rattle.outcomes.specs.Lines.{line}
 use Rattle.history_engines.specs.Answers.{IsTextOf, answer_of}
 use Rattle.explain_engines.specs.Reports.{rows}
+use Rattle.explain_engines.specs.Fronts.{front_data}
 
 -- the text is that of a history with these calls, at other places and by other processes, from these pairs; and it has no order
 pub record IsHistoryWith (start : Contents) (calls : List Operation) (text : List ℕ) : Type 0 where
@@ -33,16 +36,32 @@ pub record IsHistoryWith (start : Contents) (calls : List Operation) (text : Lis
   pub alike : AreAlike calls (operations history.events)
   pub refuted : IsLinearizable history.start (operations history.events) → ⊥
 
--- the line of such a text, or nothing where the calls fit no history
-abbrev pub IsHistoryLine : Contents → List Operation → List ℕ → Type 0
-IsHistoryLine start calls bytes = (bytes ≡ []) ⊎ ((text : List ℕ) × (bytes ≡ line text) × IsHistoryWith start calls text)
+-- the longest front that a search at the budget meets of the calls of a text, by their numbers
+pub record IsFrontOfText (budget : ℕ) (text : List ℕ) (front : List ℕ) : Type 0 where
+  pub history : HistoryView
+  pub spelled : Spells text history
+  pub segment : SegmentView
+  pub whole : IsWholeSegment history.start (operations history.events) segment
+  pub longest : IsLongestFront budget segment front
 
--- few calls of a segment that have no order, which is why it has none, in a line each, and a history with them in another
+-- the line of a history with these calls, and that of its longest front, with what it leaves and which calls would come next
+pub record AreTwoLines (budget : ℕ) (start : Contents) (calls : List Operation) (bytes : List ℕ) : Type 0 where
+  pub text : List ℕ
+  pub front : List ℕ
+  pub is_history : IsHistoryWith start calls text
+  pub is_front : IsFrontOfText budget text front
+  pub bytes_are : bytes ≡ line text ++ line (compact_text (front_data start calls front))
+
+-- these lines, or nothing where the calls fit no history
+abbrev pub AreHistoryLines : ℕ → Contents → List Operation → List ℕ → Type 0
+AreHistoryLines budget start calls bytes = (bytes ≡ []) ⊎ AreTwoLines budget start calls bytes
+
+-- few calls of a segment that have no order, which is why it has none, in a line each, and behind them a history with them and its front
 pub record AreFew (budget : ℕ) (events : List Event) (segment : SegmentView) (bytes : List ℕ) : Type 0 where
   pub few : Explanation
   pub explains : IsExplanation segment.start segment.calls budget few
   pub small : List ℕ
-  pub shown : IsHistoryLine segment.start few.calls.items small
+  pub shown : AreHistoryLines budget segment.start few.calls.items small
   pub bytes_are : bytes ≡ rows events few.calls.items few.reasons.items ++ small
 
 -- nothing, where more configurations of the segment are reachable than the budget

@@ -1,3 +1,5 @@
 pub mod Reports
+pub mod Fronts
 pub mod Answers
+pub mod Laws
 pub mod Outcomes

@@ -3,9 +3,11 @@ ghost use Rattle.std.specs.Prelude.{◌≡◌, ℕ, ◌<◌, ◌≤◌, List, So
 ghost use Rattle.events.specs.HistoryView.{HistoryView};
 ghost use Rattle.events.specs.Operations.{operations};
 ghost use Rattle.history_engines.specs.Answers.{IsHistoryRefusal, IsTextOf};
+ghost use Rattle.history_text.specs.Limits.{text_limit};
 ghost use Rattle.judge.specs.Shown.{IsShown};
 ghost use Rattle.outcomes.specs.Ends.{change};
 ghost use Rattle.outcomes.specs.Outcomes.{IsTextOutcome};
+ghost use Rattle.outcomes.specs.Reads.{IsTextRead};
 ghost use Rattle.outcomes.specs.Runs.{IsRun};
 ghost use Rattle.search.specs.Limits.{budget_limit};
 ghost use Rattle.segments.specs.SegmentOrders.{HasNoOrder};
@@ -37,10 +39,11 @@ pub fn run_explain<S: Source, O: Sink, F: Sink>(
     requires source { S.failures source.old < u64.MAX }
     requires output { O.failures output.old < u64.MAX }
     requires faults { F.failures faults.old < u64.MAX }
-    ensures { IsRun
+    ensures run { IsRun
         (IsExplainOutcome budget (change S.remaining S.failures source.old source.new))
         (change O.written O.failures output.old output.new)
         (change F.written F.failures faults.old faults.new) result }
+    ensures read { IsTextRead text_limit (change S.remaining S.failures source.old source.new) result }
 {
     match text_from(alloc, source, MAX_TEXT) {
         Ok(text) => {
@@ -117,7 +120,7 @@ fn segment_details(
 {
     let start = SortedMap::of(alloc, segment.start())?;
     match explain(alloc, &start, segment.calls(), budget)? {
-        Explained::Few(few) => few_lines(alloc, events, segment, few),
+        Explained::Few(few) => few_lines(alloc, events, segment, few, budget),
         Explained::Order(_) | Explained::Spent => Ok(String::new(alloc)),
     }
 }

@@ -3,6 +3,9 @@
 #![tactic(auto)]
 
 mod explained;
+mod fronts;
+mod laws;
 mod reports;
 
 pub use explained::{explain_outcome, run_explain};
+pub use laws::{no_front_is_longer, no_next_call_is_legal};

@@ -62,9 +62,9 @@ returns-in-Locate-clause-run g c = record {
 
 pub returns-in-Explain-clause-run : goal.returns-in-Explain-clause-run
 returns-in-Explain-clause-run g c = record {
-  outcome = c.run_explain.ensures.outcome;
+  outcome = c.run_explain.ensures.run.outcome;
   comes = read-words IsLineOutcome (IsExplainAnswer c.in-Explain.budget) IsHistoryRefusal (texts c.args.words.now)
-      (change g.S.Source.remaining g.S.Source.failures c.args.source.now c.run_explain.new.source) c.run_explain.ensures.outcome
+      (change g.S.Source.remaining g.S.Source.failures c.args.source.now c.run_explain.new.source) c.run_explain.ensures.run.outcome
       (λ comes. record {
         line = c.in-Ok.line;
         accepted = c.in-Ok.ensures.line.1;
@@ -72,8 +72,8 @@ returns-in-Explain-clause-run g c = record {
         comes = rw
             c.in-Explain.is comes;
       })
-      c.run_explain.ensures.comes;
-  leaves = c.run_explain.ensures.leaves;
+      c.run_explain.ensures.run.comes;
+  leaves = c.run_explain.ensures.run.leaves;
 }
 
 pub returns-in-Draw-clause-run : goal.returns-in-Draw-clause-run

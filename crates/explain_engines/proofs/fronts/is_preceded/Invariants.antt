@@ -1,0 +1,7 @@
+-- Those so far do not precede the call.
+use Rattle.std.proofs.Common.{◌≡◌, drop}
+use Rattle.explain_engines.specs.Fronts.{is_preceded}
+use Rattle.explain_engines.proofs.fronts.is_preceded.Given as goal
+
+abbrev pub invariant-loop-other : goal.invariant-loop-other
+invariant-loop-other l = is_preceded (drop l.other-index l.rest) l.call ≡ is_preceded l.rest l.call

@@ -1,0 +1,7 @@
+-- Those so far are other calls.
+use Rattle.std.proofs.Common.{◌≡◌, drop}
+use Rattle.explain_engines.specs.Fronts.{is_taken}
+use Rattle.explain_engines.proofs.fronts.is_taken.Given as goal
+
+abbrev pub invariant-loop-other : goal.invariant-loop-other
+invariant-loop-other l = is_taken (drop l.other-index l.taken) l.call ≡ is_taken l.taken l.call

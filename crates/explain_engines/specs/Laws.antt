@@ -1,0 +1,29 @@
+-- Laws of how far an order of few calls gets.
+use Rattle.std.specs.Prelude.{◌≡◌, ℕ, ◌≤◌, true, List, length, Contains}
+use Rattle.events.specs.declared.operation.Operation.{Operation}
+use Rattle.events.specs.Precedence.{NonePrecedesItself, belongs}
+use Rattle.map_object.specs.MapObject.{Contents}
+use Rattle.orders.specs.Orders.{calls_at, after_calls, IsLegalCall}
+use Rattle.configurations.specs.Counts.{ReachesMoreThan}
+use Rattle.configurations.specs.Fronts.{IsFront}
+use Rattle.segments.specs.SegmentOrders.{HasNoOrder}
+use Rattle.segments.specs.SegmentView.{SegmentView}
+use Rattle.quiet_cuts.specs.TimeCuts.{InvocationsRise}
+use Rattle.search.specs.LongestFront.{IsLongestFront}
+use Rattle.explain_engines.specs.Fronts.{next_of}
+use Rattle.explain_engines.specs.Answers.{IsHistoryWith, IsFrontOfText}
+
+-- where no more configurations are reachable than the budget, no front is longer than the longest that a search meets
+abbrev pub NoFrontIsLonger : Type 0
+NoFrontIsLonger =
+    (budget : ℕ) (segment : SegmentView) (front other : List ℕ) → NonePrecedesItself segment.calls → HasNoOrder segment
+    → (ReachesMoreThan segment.start segment.calls budget → ⊥) → IsLongestFront budget segment front
+    → IsFront segment.start segment.calls other → length other ≤ length front
+
+-- and behind that of the few calls none that is told as next can come: the map would answer it otherwise
+abbrev pub NoNextCallIsLegal : Type 0
+NoNextCallIsLegal =
+    (budget : ℕ) (start : Contents) (calls : List Operation) (text front : List ℕ) (a : Operation) → InvocationsRise calls
+    → IsHistoryWith start calls text → (h : IsFrontOfText budget text front)
+    → (ReachesMoreThan h.segment.start h.segment.calls budget → ⊥) → Contains (next_of (calls_at calls front) calls) a
+    → belongs a ≡ true → IsLegalCall (after_calls start (calls_at calls front)) a.call a.response → ⊥

@@ -1,0 +1,231 @@
+// How far an order of few calls gets, and what stands in its way.
+ghost use Rattle.std.specs.Prelude.{◌≡◌, map, IfOk, string_bytes, slice_get};
+ghost use Rattle.serde_json.specs.View.{view};
+ghost use Rattle.serde_json.specs.Written.{compact_text};
+ghost use Rattle.events.specs.Precedence.{precedes};
+ghost use Rattle.history_text.specs.Texts.{list_data};
+ghost use Rattle.map_object.specs.MapObject.{IsRising, reply_to};
+ghost use Rattle.orders.specs.Orders.{calls_at, after_calls};
+ghost use Rattle.outcomes.specs.Lines.{line};
+ghost use Rattle.explain_engines.specs.Fronts.{front_data, taken_data, members_data, event_data, answers_data, stuck_data};
+ghost use Rattle.explain_engines.specs.Fronts.{is_taken, is_preceded, left_by, unpreceded, next_of};
+
+use crate::reports::answer_value;
+use events::{Call, Memory, Operation, Reply};
+use history_text::{pairs_value, reply_value};
+use map_object::SortedMap;
+use orders::apply;
+use outcomes::line_of;
+use serde_json::{Value, json};
+use std::alloc::{AllocError, Global};
+
+/// The line of a front of few calls from some pairs: the calls, the pairs that they leave, and the calls that would come next.
+pub(crate) fn front_line(
+    alloc: Global,
+    start: &[(u64, u64)],
+    calls: &[Operation],
+    front: &[u32],
+) -> Result<String, Memory>
+    requires { IsRising start.now }
+    ensures { IfOk result (λ text. string_bytes text ≡ line (compact_text (front_data start.now calls.now front.now))) }
+{
+    let value = front_value(alloc, start, calls, front)?;
+    Ok(line_of(value.to_string(alloc)?)?)
+}
+
+fn front_value(
+    alloc: Global,
+    start: &[(u64, u64)],
+    calls: &[Operation],
+    front: &[u32],
+) -> Result<Value, Memory>
+    requires { IsRising start.now }
+    ensures { IfOk result (λ value. view value ≡ front_data start.now calls.now front.now) }
+{
+    let taken = calls_at(alloc, calls, front)?;
+    let held = map_after(alloc, start, &taken)?;
+    let next = next_of(alloc, calls, &taken)?;
+    taken_value(alloc, &taken, &held, &next)
+}
+
+/// The calls with these numbers.
+fn calls_at(alloc: Global, calls: &[Operation], front: &[u32]) -> Result<Vec<Operation>, Memory>
+    ensures { IfOk result (λ taken. taken.items ≡ calls_at calls.now front.now) }
+{
+    let mut taken = Vec::new(alloc);
+    for number in front {
+        if let Some(call) = call_at(alloc, calls, *number as usize)? {
+            taken.push(call)?;
+        }
+    }
+    Ok(taken)
+}
+
+/// The call with this number, if there is one: a copy.
+fn call_at(alloc: Global, calls: &[Operation], number: usize) -> Result<Option<Operation>, Memory>
+    ensures { IfOk result (λ found. found ≡ slice_get calls.now number) }
+{
+    match calls.get(number) {
+        Some(call) => Ok(Some(call.copy(alloc)?)),
+        None => Ok(None),
+    }
+}
+
+/// The map that calls leave.
+fn map_after(alloc: Global, start: &[(u64, u64)], taken: &[Operation]) -> Result<SortedMap, Memory>
+    requires { IsRising start.now }
+    ensures { IfOk result (λ map. map ≡ after_calls start.now taken.now) }
+{
+    let mut map = SortedMap::of(alloc, start)?;
+    for call in taken {
+        apply(alloc, &mut map, call)?;
+    }
+    Ok(map)
+}
+
+/// The calls that are not taken, and that none of these precedes.
+fn next_of(
+    alloc: Global,
+    calls: &[Operation],
+    taken: &[Operation],
+) -> Result<Vec<Operation>, Memory>
+    ensures { IfOk result (λ next. next.items ≡ next_of taken.now calls.now) }
+{
+    let rest = left_by(alloc, calls, taken)?;
+    unpreceded(alloc, &rest)
+}
+
+/// The calls that none of them precedes.
+fn unpreceded(alloc: Global, rest: &[Operation]) -> Result<Vec<Operation>, Memory>
+    ensures { IfOk result (λ next. next.items ≡ unpreceded rest.now rest.now) }
+{
+    let mut next = Vec::new(alloc);
+    for call in rest {
+        if !is_preceded(rest, call) {
+            next.push(call.copy(alloc)?)?;
+        }
+    }
+    Ok(next)
+}
+
+/// The calls that are not taken.
+fn left_by(
+    alloc: Global,
+    calls: &[Operation],
+    taken: &[Operation],
+) -> Result<Vec<Operation>, Memory>
+    ensures { IfOk result (λ rest. rest.items ≡ left_by taken.now calls.now) }
+{
+    let mut rest = Vec::new(alloc);
+    for call in calls {
+        if !is_taken(taken, call) {
+            rest.push(call.copy(alloc)?)?;
+        }
+    }
+    Ok(rest)
+}
+
+/// Whether a call is one of those taken.
+fn is_taken(taken: &[Operation], call: &Operation) -> bool
+    ensures { result ≡ is_taken taken.now call.now }
+{
+    for other in taken {
+        if other.inv == call.inv {
+            return true;
+        }
+    }
+    false
+}
+
+/// Whether one of some calls precedes a call.
+fn is_preceded(rest: &[Operation], call: &Operation) -> bool
+    ensures { result ≡ is_preceded rest.now call.now }
+{
+    for other in rest {
+        if precedes(other, call) {
+            return true;
+        }
+    }
+    false
+}
+
+/// Whether a call was answered before another began.
+fn precedes(call: &Operation, other: &Operation) -> bool
+    ensures { result ≡ precedes call.now other.now }
+{
+    match &call.response {
+        Some(response) => response.res < other.inv,
+        None => false,
+    }
+}
+
+fn taken_value(
+    alloc: Global,
+    taken: &[Operation],
+    held: &SortedMap,
+    next: &[Operation],
+) -> Result<Value, Memory>
+    ensures { IfOk result (λ value. view value ≡ taken_data taken.now held.now next.now) }
+{
+    let front = events_value(alloc, taken)?;
+    let holds = pairs_value(alloc, held.pairs())?;
+    let stuck = all_stuck(alloc, held, next)?;
+    Ok(members_value(alloc, front, holds, stuck)?)
+}
+
+fn members_value(
+    alloc: Global,
+    front: Value,
+    holds: Value,
+    next: Value,
+) -> Result<Value, AllocError>
+    ensures { IfOk result (λ value. view value ≡ members_data (view front) (view holds) (view next)) }
+{
+    json!(in alloc; {"front": front, "holds": holds, "next": next})
+}
+
+/// The events of calls.
+fn events_value(alloc: Global, calls: &[Operation]) -> Result<Value, AllocError>
+    ensures { IfOk result (λ value. view value ≡ list_data (map event_data calls.now)) }
+{
+    let mut items = Vec::with_capacity(alloc, calls.len())?;
+    for call in calls {
+        items.push(Value::from(call.inv))?;
+    }
+    Ok(Value::from(items))
+}
+
+/// What calls that would come next were answered, and would be.
+fn all_stuck(alloc: Global, held: &SortedMap, next: &[Operation]) -> Result<Value, Memory>
+    ensures { IfOk result (λ value. view value ≡ list_data (map (stuck_data held.now) next.now)) }
+{
+    let mut items = Vec::with_capacity(alloc, next.len())?;
+    for call in next {
+        items.push(stuck_value(alloc, held, call)?)?;
+    }
+    Ok(Value::from(items))
+}
+
+fn stuck_value(alloc: Global, held: &SortedMap, call: &Operation) -> Result<Value, Memory>
+    ensures { IfOk result (λ value. view value ≡ stuck_data held.now call.now) }
+{
+    let would = reply_to(alloc, held, &call.call)?;
+    Ok(answers_value(alloc, call, &would)?)
+}
+
+/// What a map answers to a call.
+fn reply_to(alloc: Global, held: &SortedMap, call: &Call) -> Result<Reply, Memory>
+    ensures { IfOk result (λ reply. reply ≡ reply_to held.now call.now) }
+{
+    let mut here = held.copy(alloc)?;
+    here.step(alloc, call)
+}
+
+fn answers_value(alloc: Global, call: &Operation, would: &Reply) -> Result<Value, AllocError>
+    ensures { IfOk result (λ value. view value ≡ answers_data call.now would.now) }
+{
+    let answer = answer_value(alloc, &call.response)?;
+    let reply = reply_value(alloc, would)?;
+    let event = call.inv;
+    json!(in alloc; {"answer": answer, "event": event, "would": reply})
+}
