@@ -3,3 +3,4 @@ pub mod TakenLemmas
 pub mod TurnLemmas
 mod WrongLemmas
 mod FollowedLemmas
+mod ChoiceLemmas

@@ -1,3 +1,4 @@
+pub mod Choices
 pub mod Followed
 pub mod Outcomes
 pub mod Turns

@@ -1,8 +1,9 @@
 // Answers that an alternative has ahead of the events.
-ghost use Rattle.std.specs.Prelude.{◌≡◌, ◌↔◌, IsTrue, Any, IfSome, IfNone};
+ghost use Rattle.std.specs.Prelude.{◌≡◌, ◌↔◌, ◌∷◌, ◌++◌, IsTrue, Any, IfOk, IfSome, IfNone};
 ghost use Rattle.followers.specs.Turns.{IsAheadOf, IsAheadAt};
 
-use events::Reply;
+use events::{Memory, Reply};
+use std::alloc::Global;
 
 /// The place at which a process is answered ahead; none where it is not.
 pub(crate) fn ahead_at(ahead: &[(u16, Reply)], process: u16) -> Option<usize>
@@ -40,4 +41,43 @@ pub(crate) fn is_same_reply(reply: &Reply, other: &Reply) -> bool
             _ => false,
         },
     }
+}
+
+/// Copies of replies that are ahead.
+pub(crate) fn copied_ahead(
+    alloc: Global,
+    ahead: &[(u16, Reply)],
+) -> Result<Vec<(u16, Reply)>, Memory>
+    ensures { IfOk result (λ all. all.items ≡ ahead.now) }
+{
+    with_ahead(alloc, Vec::new(alloc), ahead)
+}
+
+/// A reply that is ahead, and copies of others behind it.
+pub(crate) fn with_own(
+    alloc: Global,
+    process: u16,
+    reply: &Reply,
+    others: &[(u16, Reply)],
+) -> Result<Vec<(u16, Reply)>, Memory>
+    ensures { IfOk result (λ all. all.items ≡ (process, reply.now) ∷ others.now) }
+{
+    let mut own = Vec::new(alloc);
+    own.push((process, reply.copy(alloc)?))?;
+    with_ahead(alloc, own, others)
+}
+
+/// Replies that are ahead, and copies of others behind them.
+fn with_ahead(
+    alloc: Global,
+    mut ahead: Vec<(u16, Reply)>,
+    others: &[(u16, Reply)],
+) -> Result<Vec<(u16, Reply)>, Memory>
+    ensures { IfOk result (λ all. all.items ≡ ahead.items ++ others.now) }
+{
+    for place in 0..others.len() {
+        let (process, reply) = &others[place];
+        ahead.push((*process, reply.copy(alloc)?))?;
+    }
+    Ok(ahead)
 }

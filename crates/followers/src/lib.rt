@@ -4,13 +4,15 @@
 
 mod ahead;
 mod branch;
+mod choose;
 mod reason;
+mod relief;
 mod taken;
 mod taking;
 mod together;
 mod turning;
 
 pub use branch::Branch;
-pub use reason::{Answered, Part, Reason};
+pub use reason::{Answered, Chosen, Part, Reason};
 pub use taken::Taken;
 pub use together::Followers;

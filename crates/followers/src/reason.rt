@@ -1,4 +1,4 @@
-// What an answer makes of a stream that is followed by alternatives.
+// What an answer makes of a stream that is followed by alternatives, and what a choice makes of these.
 use crate::together::Followers;
 use follow::{FollowFault, Loss};
 
@@ -9,8 +9,8 @@ pub struct Part {
     pub loss: Loss,
 }
 
-/// Why a stream is lost or undecided: the event, the number of its call, and what was searched in the last alternative in which
-/// something was.
+/// Why a stream is lost or undecided, or a choice is not made: the event, the number of its call, and what was searched in the last
+/// alternative in which something was.
 #[derive(Debug, Drop)]
 pub struct Reason {
     pub event: usize,
@@ -29,4 +29,13 @@ pub enum Answered {
     Spent(Reason),
     /// The answer is out of turn, or an event too many: the followers are as they were.
     Refused(Followers, FollowFault),
+}
+
+/// What comes of choosing whether the open call of a process is done by now or begins now.
+#[derive(Drop)]
+pub enum Chosen {
+    /// The followers follow the same events.
+    Going(Followers),
+    /// A search was given up at its budget, or more alternatives came about than are followed.
+    Spent(Reason),
 }

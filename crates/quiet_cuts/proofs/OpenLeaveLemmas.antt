@@ -23,7 +23,8 @@ use Rattle.quiet_cuts.specs.OpenLeaves.{LeavesOrWith}
 use Rattle.quiet_cuts.proofs.AroundLemmas.{beside, middle, AllPairs-before, AllPairs-behind, AllPairs-beside}
 use Rattle.quiet_cuts.proofs.ValueLemmas.{same_pairs, rising_after}
 use Rattle.quiet_cuts.proofs.SetLemmas.{Completed, Each, IsOrderOfSet, HasOrderTo, set_from_leaves}
-use Rattle.quiet_cuts.proofs.OneContentsLemmas.{code, turned, touches, put_by, found_by, code_tells, value_turned, untouched, telescoped, commuted}
+use Rattle.quiet_cuts.proofs.OneContentsLemmas.{code, turned, touches, put_by, found_by, code_tells, value_turned, untouched, telescoped}
+use Rattle.quiet_cuts.proofs.OneContentsLemmas.{commuted}
 use Rattle.quiet_cuts.proofs.OneContentsLemmas.{same_sum}
 
 -- a legal list, by its parts
