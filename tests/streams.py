@@ -8,10 +8,15 @@ call a map, each call has its effect at a moment while it is open, and some stay
 or swapped with what stands beside them. Where `judge` says yes `follow` counts the calls and how much they overlap; where
 `locate` finds an event it is the one that `follow` stops at, and the small history that it writes has no order. Where one of
 them is undecided the others may say what fits. Standard error has the note on a yes of calls that do not overlap, and else nothing.
+
+Then streams are followed in which processes die: each stops inside an insert, a remove, a replace or a get and never answers, and the
+others call the map at its key thousands of times; into half of these streams wrong answers come late. What is expected of them a model
+in this file works out: it keeps, key by key, each value that the key may have, with the open calls that were done by then.
 The last line counts what passed and failed.
 """
 
 import concurrent.futures
+import itertools
 import json
 import os
 import random
@@ -28,6 +33,9 @@ MOST_CALLS = 160
 # With many open calls a search of a whole segment may meet millions of configurations.
 BUDGET = ["--budget", "20000"]
 REFUSED = 3
+# Streams with processes that die, one for each 125 histories, and their calls.
+DEAD_SHARE = 125
+DEAD_CALLS = 3000
 NOTE = b"note: no two calls overlap, and of such a history a yes says little\n"
 
 
@@ -122,6 +130,91 @@ def drawn_history(seed):
     return history
 
 
+def drawn_deaths(seed):
+    """A long history of few keys, without scans, in which processes die inside their calls, before the effect or behind it. Few processes
+    at a time take turns, until all of their calls have ended but those of the dead."""
+    chance = random.Random(seed)
+    keys, living = chance.randint(1, 3), list(range(chance.randint(5, 8)))
+    deaths = {process: chance.randrange(DEAD_CALLS) for process in range(chance.randint(1, 2))}
+    held = {key: chance.randrange(3) for key in range(keys) if chance.randrange(2)}
+    start = [list(pair) for pair in held.items()]
+    events, opened, answers = [], {}, {}
+    while len(events) < 2 * DEAD_CALLS:
+        team = chance.sample(living, chance.randint(1, 3))
+        turns = chance.choices(team, k=6 * len(team))
+        for turn, process in enumerate(turns + 3 * team):
+            if process not in living or (turn >= len(turns) and process not in opened):
+                continue
+            if process in opened and chance.randrange(2) and deaths.get(process, len(events)) < len(events):
+                living.remove(process)
+            elif process in answers:
+                events.append({"answer": answers.pop(process), "process": process})
+                del opened[process]
+            elif process in opened:
+                answers[process] = answer_of(held, *opened[process])
+            else:
+                opened[process] = drawn_call(chance, keys, ["get", "get", "insert", "remove", "replace"])
+                events.append({"invoke": opened[process], "process": process})
+    late = [place for place, event in enumerate(events) if "answer" in event and place > len(events) // 2]
+    for place in chance.sample(late, chance.randrange(2)):
+        events[place] = {"answer": chance.choice([None, 0, 1, 2]), "process": events[place]["process"]}
+    return {"start": start, "version": 2, "events": events}
+
+
+def behind_answer(cases, opened, process, answer):
+    """What may be the case at a key behind an answer: the value, and the answers of the calls that are done by then and still open."""
+    todo, seen, found = list(cases), set(cases), set()
+    while todo:
+        value, done = todo.pop()
+        answers = dict(done)
+        if process in answers:
+            if answers[process] == answer:
+                found.add((value, done - {(process, answer)}))
+            continue
+        for other, (call, is_answered) in opened.items():
+            if other not in answers:
+                held = {} if value is None else {call[1]: value}
+                given = answer_of(held, *call)
+                more = held.get(call[1]), done | {(other, given if is_answered else None)}
+                if more not in seen:
+                    seen.add(more)
+                    todo.append(more)
+    return found
+
+
+def expected(history):
+    """The first event with which a history without scans has no order, or None. An open get that is never answered does not count."""
+    events = history["events"]
+    start, last = dict(history["start"]), {event["process"]: event for event in events}
+    cases, opened, keys = {}, {}, {}
+    for place, event in enumerate(events):
+        process = event["process"]
+        if "invoke" in event:
+            call, is_answered = event["invoke"], event is not last[process]
+            keys[process] = call[1]
+            if is_answered or call[0] != "get":
+                opened.setdefault(call[1], {})[process] = call, is_answered
+            continue
+        key = keys[process]
+        cases[key] = behind_answer(cases.get(key, {(start.get(key), frozenset())}), opened[key], process, event["answer"])
+        del opened[key][process]
+        if not cases[key]:
+            return place
+    return None
+
+
+def verdict_with_deaths(history):
+    """The verdict of `follow` on a stream with processes that die, and what is wrong with it, or None."""
+    _, lines, told = run("follow", lines_of(history))
+    report, *small = lines
+    wrong = expected(history)
+    if report["verdict"] != ("yes" if wrong is None else "no") or report.get("event") != wrong or told:
+        return report["verdict"], f"{report} and {told} of a stream that goes wrong at {wrong}: {text_of(history).decode()}"
+    if ("calls" in report) < len(small) or (small and said("judge", text_of(small[0]))[0] == 0):
+        return report["verdict"], f"{report} with small histories {small}: {text_of(history).decode()}"
+    return report["verdict"], None
+
+
 def overlap_of(events):
     """How many calls there are, and how many other ones are open at their invocations, in all."""
     calls = opened = overlap = 0
@@ -208,13 +301,14 @@ def main():
     failed = 0
     verdicts = {"yes": 0, "no": 0, "undecided": 0, "refused": 0}
     with concurrent.futures.ThreadPoolExecutor(os.cpu_count()) as runs:
-        for found, wrong in runs.map(verdict, histories):
+        deaths = [drawn_deaths(SEED + number) for number in range(count // DEAD_SHARE)]
+        for found, wrong in itertools.chain(runs.map(verdict, histories), runs.map(verdict_with_deaths, deaths)):
             verdicts[found] += 1
             if wrong is not None:
                 failed += 1
                 print(wrong)
     print(", ".join(f"{number} {found}" for found, number in verdicts.items()))
-    print(f"{len(histories) - failed} passed, {failed} failed")
+    print(f"{sum(verdicts.values()) - failed} passed, {failed} failed")
     return 1 if failed else 0
 
 

@@ -1,7 +1,7 @@
 -- What an event makes of a stream that is followed.
 use Rattle.follow.specs.declared.fault.FollowFault.TheVariants as turns
 use Rattle.std.proofs.Common.{◌≡◌, ℕ, ◌+◌, ◌-◌, ◌^◌, ◌<◌, ◌≤◌, min, Bool, true, false, List, [], ◌∷◌, ◌++◌, length, Option, Some}
-use Rattle.std.proofs.Common.{None, cond, refl, sym, ap, ◌∙◌, subst, inl, inr, arith}
+use Rattle.std.proofs.Common.{None, cond, refl, sym, ap, ◌∙◌, inl, inr, arith}
 use Rattle.std.proofs.Math.Nat.{min-eq_left, min_comm}
 use Rattle.std.proofs.lemmas.Bool.{cases_lt, false≢true}
 use Rattle.std.proofs.lemmas.Bool.Decides.{nat_tests}
@@ -14,13 +14,10 @@ use Rattle.events.specs.HistoryView.{with_event}
 use Rattle.events.specs.HistoryFaults.{has_open_call}
 use Rattle.events.specs.Keys.{low_key, high_key}
 use Rattle.stream_text.specs.Lines.{SpellsEvent}
-use Rattle.follow.specs.FollowerView.{FollowerView}
-use Rattle.follow.specs.Following.{IsFollowing}
 use Rattle.follow.specs.Faults.{event_limit, invocation_fault}
 use Rattle.follow.specs.declared.fault.FollowFault.{FollowFault}
-use Rattle.follow.specs.declared.answered.Answered.TheVariants.{Going}
-use Rattle.follow.specs.Outcomes.{IsAnswered}
-use Rattle.map_object.specs.MapObject.{Contents}
+use Rattle.followers.specs.declared.together.Followers.{Followers}
+use Rattle.followers.specs.Followed.{IsFollowedBy}
 use Rattle.stream_engines.specs.declared.followed.Followed.{Followed}
 use Rattle.stream_engines.specs.Followed.{IsFollowed}
 use Rattle.stream_engines.specs.Overlaps.{pending_after, overlap_after, overlap_of}
@@ -53,13 +50,14 @@ room events process call h =
     turns.Shape turns.NotWellFormed turns.TooMany h in
     grind (arith, nat_tests)
 
-pub invoked : (read : List (List ℕ)) (line : List ℕ) (f : Followed) (g : FollowerView) (process : ℕ) (call : Call) (pending overlap : ℕ)
+pub invoked : (read : List (List ℕ)) (line : List ℕ) (f : Followed) (g : Followers) (process : ℕ) (call : Call)
+    (pending overlap limit : ℕ)
     (followed : IsFollowed read f) → SpellsEvent f.has_start line (Invoke process call)
-    → IsFollowing followed.stream.start (followed.stream.events ++ Invoke process call ∷ []) g
+    → IsFollowedBy followed.stream.start (followed.stream.events ++ Invoke process call ∷ []) g
     → invocation_fault followed.stream.events process call ≡ None → pending ≡ min (f.pending + 1) (2 ^ 64 - 1)
     → overlap ≡ min (f.overlap + f.pending) (2 ^ 64 - 1)
-    → IsFollowed (read ++ line ∷ []) (record { follower = g; has_start = f.has_start; pending = pending; overlap = overlap })
-invoked read line f g process call pending overlap followed spelled follows accepted pending_is overlap_is =
+    → IsFollowed (read ++ line ∷ []) (record { followers = g; has_start = f.has_start; pending = pending; overlap = overlap; limit = limit })
+invoked read line f g process call pending overlap limit followed spelled follows accepted pending_is overlap_is =
     let events = followed.stream.events in
     let few : length events < 2 ^ 64 - 1 = room events process call accepted in
     let bound = pending_le 0 events in
@@ -76,11 +74,11 @@ invoked read line f g process call pending overlap followed spelled follows acce
           ∙ ap (λ (n : ℕ). min n (2 ^ 64 - 1)) (sym (overlap-invoke 0 events process call)))));
     }
 
-pub answered : (read : List (List ℕ)) (line : List ℕ) (f : Followed) (g : FollowerView) (process : ℕ) (reply : Reply) (pending : ℕ)
+pub answered : (read : List (List ℕ)) (line : List ℕ) (f : Followed) (g : Followers) (process : ℕ) (reply : Reply) (pending limit : ℕ)
     (followed : IsFollowed read f) → SpellsEvent f.has_start line (Answer process reply)
-    → IsFollowing followed.stream.start (followed.stream.events ++ Answer process reply ∷ []) g → pending ≡ f.pending - 1
-    → IsFollowed (read ++ line ∷ []) (record { follower = g; has_start = f.has_start; pending = pending; overlap = f.overlap })
-answered read line f g process reply pending followed spelled follows pending_is =
+    → IsFollowedBy followed.stream.start (followed.stream.events ++ Answer process reply ∷ []) g → pending ≡ f.pending - 1
+    → IsFollowed (read ++ line ∷ []) (record { followers = g; has_start = f.has_start; pending = pending; overlap = f.overlap; limit = limit })
+answered read line f g process reply pending limit followed spelled follows pending_is =
     let events = followed.stream.events in
     record {
       stream = with_event followed.stream (Answer process reply);
@@ -89,9 +87,3 @@ answered read line f g process reply pending followed spelled follows pending_is
       pending = pending_is ∙ (ap (λ (n : ℕ). n - 1) followed.pending ∙ sym (pending-answer 0 events process reply));
       overlap = followed.overlap ∙ ap (λ (n : ℕ). min n (2 ^ 64 - 1)) (sym (overlap-answer 0 events process reply));
     }
-
--- the follower that goes on, of what an answer comes to
-pub going_on : (start : Contents) (events : List Event) (f g : FollowerView) (process : ℕ) (reply : Reply) (budget : ℕ)
-    → IsAnswered start events f process reply budget (Going g) → IsFollowing start (events ++ Answer process reply ∷ []) g
-going_on start events f g process reply budget taken =
-    subst (λ (p : ℕ). IsFollowing start (events ++ Answer p reply ∷ []) g) taken.is_open.0 taken.judged.follows

@@ -1,20 +1,21 @@
 -- What an answer that was judged comes to, and the end of the lines.
-use Rattle.std.proofs.Common.{◌≡◌, ℕ, List, [], ◌∷◌, ◌++◌, length, codes, Option, Some, None, refl, sym, ap, ◌∙◌, subst}
+use Rattle.std.proofs.Common.{◌≡◌, ℕ, List, [], ◌∷◌, ◌++◌, length, codes, Option, Some, None, refl, sym, subst}
 use Rattle.std.proofs.Common.{string_bytes}
+use Rattle.std.specs.Prelude.{IfSome}
 use Rattle.serde_json.specs.Written.{compact_text}
 use Rattle.events.specs.declared.event.Reply.{Reply}
 use Rattle.events.specs.declared.event.Event.{Event}
 use Rattle.events.specs.declared.event.Event.TheVariants.{Answer}
 use Rattle.events.specs.Operations.{operations}
 use Rattle.orders.specs.Orders.{IsLinearizable}
-use Rattle.prefixes.specs.Prefixes.{GoesWrongAt}
 use Rattle.map_object.specs.MapObject.{Contents}
 use Rattle.stream_text.specs.Cuts.{lines_of}
 use Rattle.stream_text.specs.Lines.{SpellsEvent}
 use Rattle.follow.specs.declared.answered.Loss.{Loss}
-use Rattle.follow.specs.declared.answered.Answered.{Answered as Judged}
-use Rattle.follow.specs.declared.answered.Answered.TheVariants as judged
-use Rattle.follow.specs.Outcomes.{IsTakenAs}
+use Rattle.follow.specs.declared.answered.Answered.TheVariants as single
+use Rattle.followers.specs.declared.reason.Part.{Part}
+use Rattle.followers.specs.declared.reason.Reason.{Reason}
+use Rattle.followers.specs.Outcomes.{IsPartOf, IsLost, IsSpent}
 use Rattle.outcomes.specs.declared.outcome.Answer as answers
 use Rattle.outcomes.specs.declared.outcome.Answer.TheVariants.{Yes, Undecided}
 use Rattle.outcomes.specs.declared.outcome.Outcome.{Outcome}
@@ -24,21 +25,20 @@ use Rattle.stream_engines.specs.declared.followed.Followed.{Followed}
 use Rattle.stream_engines.specs.Followed.{IsFollowed}
 use Rattle.stream_engines.specs.StreamTexts.{SpellStream, BeginsWith}
 use Rattle.stream_engines.specs.Overlaps.{overlap_of}
-use Rattle.stream_engines.specs.Reports.{yes_data, loss_data}
+use Rattle.stream_engines.specs.Reports.{yes_data, reason_data}
 use Rattle.stream_engines.specs.Notes.{note_of}
 use Rattle.stream_engines.specs.Reading.{AreLinesOf}
 use Rattle.stream_engines.specs.Leaves.{IsAnsweredBy, IsYesOutcome, IsLostOutcome}
-use Rattle.stream_engines.specs.Answers.{IsWholeAnswer, IsJudgedAnswer, GoesWrongHere, IsFollowAnswer}
+use Rattle.stream_engines.specs.Answers.{IsWholeAnswer, Judgement, IsJudgedAnswer, IsFollowAnswer}
 use Rattle.stream_engines.specs.Outcomes.{IsStreamOutcome}
 use Rattle.stream_engines.proofs.RefusalLemmas.{next_of}
 
 -- the answer of the next line, as it was judged
 judged_of : (budget : ℕ) (text : List ℕ) (read rest : List (List ℕ)) (next : List ℕ) (f : Followed) (process : ℕ) (reply : Reply)
-    (what : Loss → Judged) (loss : Loss)
-    (followed : IsFollowed read f) → SpellsEvent f.has_start next (Answer process reply) → lines_of text ≡ (read ++ next ∷ []) ++ rest
-    → IsTakenAs followed.stream.start followed.stream.events f.follower process reply budget (what loss)
-    → IsJudgedAnswer budget (lines_of text) what loss
-judged_of budget text read rest next f process reply what loss followed spelled parts taken = record {
+    (IsWhat : Judgement) (reason : Reason) (followed : IsFollowed read f) → SpellsEvent f.has_start next (Answer process reply)
+    → lines_of text ≡ (read ++ next ∷ []) ++ rest → IsWhat followed.stream.start followed.stream.events process reply budget reason
+    → IsJudgedAnswer budget (lines_of text) IsWhat reason
+judged_of budget text read rest next f process reply IsWhat reason followed spelled parts judged = record {
   stream = followed.stream;
   has_start = f.has_start;
   read = read;
@@ -51,59 +51,49 @@ judged_of budget text read rest next f process reply what loss followed spelled 
   process = process;
   reply = reply;
   answer = spelled;
-  follower = f.follower;
-  follows = followed.follows;
-  taken = taken;
+  judged = judged;
 }
 
--- the events go wrong, whatever comes behind the answer
-abbrev WrongWith : Contents → List Event → ℕ → Reply → Loss → Type 0
-WrongWith start events process reply loss = (more : List Event) → let all = events ++ Answer process reply ∷ more in
-    (IsLinearizable start (operations all) → ⊥) × GoesWrongAt (record { start = start; events = all }) loss.number loss.event
+-- what was searched has no order
+abbrev pub IsLossRefuted : Loss → Type 0
+IsLossRefuted loss = IsLinearizable loss.start.items loss.calls.items → ⊥
 
-wrong_of : (budget : ℕ) (text : List ℕ) (read rest : List (List ℕ)) (next : List ℕ) (f : Followed) (process : ℕ)
-    (reply : Reply) (loss : Loss)
-    (followed : IsFollowed read f) → SpellsEvent f.has_start next (Answer process reply) → lines_of text ≡ (read ++ next ∷ []) ++ rest
-    → IsTakenAs followed.stream.start followed.stream.events f.follower process reply budget (judged.Lost loss)
-    → GoesWrongHere budget (lines_of text) loss
-unfolding judged_of
-wrong_of budget text read rest next f process reply loss followed spelled parts taken = record {
-  judged = judged_of budget text read rest next f process reply judged.Lost loss followed spelled parts taken;
-  place = taken.judged.at.event ∙ followed.follows.places;
-  wrong = subst (λ (p : ℕ). WrongWith followed.stream.start followed.stream.events p reply loss) taken.is_open.0 taken.judged.wrong;
-}
+pub parts_refuted : (start : Contents) (events : List Event) (process : ℕ) (reply : Reply) (budget : ℕ) (part : Option Part)
+    → IfSome part (IsPartOf start events process reply budget single.Lost) → IfSome part (λ p. IsLossRefuted p.loss)
+parts_refuted start events process reply budget None is = tt
+parts_refuted start events process reply budget (Some part) is = is.taken.judged.refuted
 
 pub lost_at : (budget : ℕ) (told : Option (List ℕ)) (read : List (List ℕ)) (next : List ℕ) (f : Followed) (process : ℕ)
-    (reply : Reply) (loss : Loss)
+    (reply : Reply) (reason : Reason)
     (outcome : Outcome) (followed : IsFollowed read f) → SpellsEvent f.has_start next (Answer process reply)
     → BeginsWith told (read ++ next ∷ [])
-    → IsTakenAs followed.stream.start followed.stream.events f.follower process reply budget (judged.Lost loss)
-    → IsLostOutcome loss outcome → IsStreamOutcome budget told outcome
-lost_at budget told read next f process reply loss Memory followed spelled begins taken is = tt
-lost_at budget told read next f process reply loss (Refused bytes) followed spelled begins taken is = absurd is
-lost_at budget told read next f process reply loss (Noted answer bytes note) followed spelled begins taken is = absurd is
-lost_at budget told read next f process reply loss (Words bytes) followed spelled begins taken is = absurd is
-lost_at budget told read next f process reply loss Failed followed spelled begins taken is = absurd is
-lost_at budget None read next f process reply loss (Answered answer bytes) followed spelled begins taken is = tt
-lost_at budget (Some text) read next f process reply loss (Answered answer bytes) followed spelled begins taken is =
+    → IsLost followed.stream.start followed.stream.events process reply budget reason
+    → IsLostOutcome reason outcome → IsStreamOutcome budget told outcome
+lost_at budget told read next f process reply reason Memory followed spelled begins judged is = tt
+lost_at budget told read next f process reply reason (Refused bytes) followed spelled begins judged is = absurd is
+lost_at budget told read next f process reply reason (Noted answer bytes note) followed spelled begins judged is = absurd is
+lost_at budget told read next f process reply reason (Words bytes) followed spelled begins judged is = absurd is
+lost_at budget told read next f process reply reason Failed followed spelled begins judged is = absurd is
+lost_at budget None read next f process reply reason (Answered answer bytes) followed spelled begins judged is = tt
+lost_at budget (Some text) read next f process reply reason (Answered answer bytes) followed spelled begins judged is =
     subst (λ (a : answers.Answer). IsFollowAnswer budget text a (string_bytes bytes) []) (sym is.0)
-    (loss, wrong_of budget text read begins.0 next f process reply loss followed spelled begins.1 taken, is.1.0, is.1.1, is.1.2, refl)
+    (reason, judged_of budget text read begins.0 next f process reply IsLost reason followed spelled begins.1 judged, is.1, refl)
 
 pub spent_at : (budget : ℕ) (told : Option (List ℕ)) (read : List (List ℕ)) (next : List ℕ) (f : Followed) (process : ℕ)
-    (reply : Reply) (loss : Loss)
+    (reply : Reply) (reason : Reason)
     (outcome : Outcome) (followed : IsFollowed read f) → SpellsEvent f.has_start next (Answer process reply)
     → BeginsWith told (read ++ next ∷ [])
-    → IsTakenAs followed.stream.start followed.stream.events f.follower process reply budget (judged.Spent loss)
-    → IsAnsweredBy Undecided (line (compact_text (loss_data loss (codes "undecided")))) outcome → IsStreamOutcome budget told outcome
-spent_at budget told read next f process reply loss Memory followed spelled begins taken is = tt
-spent_at budget told read next f process reply loss (Refused bytes) followed spelled begins taken is = absurd is
-spent_at budget told read next f process reply loss (Noted answer bytes note) followed spelled begins taken is = absurd is
-spent_at budget told read next f process reply loss (Words bytes) followed spelled begins taken is = absurd is
-spent_at budget told read next f process reply loss Failed followed spelled begins taken is = absurd is
-spent_at budget None read next f process reply loss (Answered answer bytes) followed spelled begins taken is = tt
-spent_at budget (Some text) read next f process reply loss (Answered answer bytes) followed spelled begins taken is =
+    → IsSpent followed.stream.start followed.stream.events process reply budget reason
+    → IsAnsweredBy Undecided (line (compact_text (reason_data reason (codes "undecided")))) outcome → IsStreamOutcome budget told outcome
+spent_at budget told read next f process reply reason Memory followed spelled begins judged is = tt
+spent_at budget told read next f process reply reason (Refused bytes) followed spelled begins judged is = absurd is
+spent_at budget told read next f process reply reason (Noted answer bytes note) followed spelled begins judged is = absurd is
+spent_at budget told read next f process reply reason (Words bytes) followed spelled begins judged is = absurd is
+spent_at budget told read next f process reply reason Failed followed spelled begins judged is = absurd is
+spent_at budget None read next f process reply reason (Answered answer bytes) followed spelled begins judged is = tt
+spent_at budget (Some text) read next f process reply reason (Answered answer bytes) followed spelled begins judged is =
     subst (λ (a : answers.Answer). IsFollowAnswer budget text a (string_bytes bytes) []) (sym is.0)
-    (loss, judged_of budget text read begins.0 next f process reply judged.Spent loss followed spelled begins.1 taken, is.1, refl)
+    (reason, judged_of budget text read begins.0 next f process reply IsSpent reason followed spelled begins.1 judged, is.1, refl)
 
 -- what is said of a yes, by its calls and how much they overlap
 abbrev IsSaid : ℕ → ℕ → List ℕ → List ℕ → Type 0

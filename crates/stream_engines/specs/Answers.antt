@@ -1,5 +1,5 @@
 -- What the program answers to the lines of a stream.
-use Rattle.std.specs.Prelude.{◌≡◌, ◌⊎◌, ℕ, ◌+◌, Bool, List, [], ◌∷◌, ◌++◌, length, codes}
+use Rattle.std.specs.Prelude.{◌≡◌, ◌⊎◌, ℕ, ◌+◌, Bool, List, [], ◌∷◌, ◌++◌, length, MatchOption, codes}
 use Rattle.serde_json.specs.Written.{compact_text}
 use Rattle.events.specs.HistoryView.{HistoryView}
 use Rattle.events.specs.declared.event.Reply.{Reply}
@@ -9,24 +9,21 @@ use Rattle.events.specs.Events.{IsWellFormed}
 use Rattle.events.specs.Histories.{IsHistory}
 use Rattle.events.specs.Operations.{operations}
 use Rattle.orders.specs.Orders.{IsLinearizable}
+use Rattle.map_object.specs.MapObject.{Contents}
 use Rattle.quiet_cuts.specs.Groups.{AreAlike}
-use Rattle.prefixes.specs.Prefixes.{GoesWrongAt}
 use Rattle.history_text.specs.Texts.{Spells}
 use Rattle.stream_text.specs.Cuts.{lines_of}
 use Rattle.stream_text.specs.Lines.{SpellsEvent}
-use Rattle.follow.specs.FollowerView.{FollowerView}
-use Rattle.follow.specs.Following.{IsFollowing}
-use Rattle.follow.specs.Outcomes.{IsTakenAs}
 use Rattle.follow.specs.declared.answered.Loss.{Loss}
-use Rattle.follow.specs.declared.answered.Answered.{Answered}
-use Rattle.follow.specs.declared.answered.Answered.TheVariants.{Lost, Spent}
+use Rattle.followers.specs.declared.reason.Reason.{Reason}
+use Rattle.followers.specs.Outcomes.{IsLost, IsSpent}
 use Rattle.outcomes.specs.declared.outcome.Answer as outcomes
 use Rattle.outcomes.specs.declared.outcome.Answer.TheVariants as verdicts
 use Rattle.outcomes.specs.Lines.{line}
 use Rattle.stream_engines.specs.StreamTexts.{SpellStream}
 use Rattle.stream_engines.specs.Overlaps.{overlap_of}
 use Rattle.stream_engines.specs.Refusals.{stream_fault_line, StopsFor}
-use Rattle.stream_engines.specs.Reports.{yes_data, loss_data}
+use Rattle.stream_engines.specs.Reports.{yes_data, own_part, reason_data}
 use Rattle.stream_engines.specs.Notes.{note_of}
 
 -- all lines spell a stream, whose events have an order; the note is that on its calls and how much they overlap
@@ -39,9 +36,12 @@ pub record IsWholeAnswer (lines : List (List ℕ)) (bytes note : List ℕ) : Typ
   pub bytes_are : bytes ≡ line (compact_text (yes_data (length (operations stream.events)) (overlap_of stream.events)))
   pub note_is : note ≡ note_of (length (operations stream.events)) (overlap_of stream.events)
 
--- the lines begin with those of a stream whose events have an order, and then comes an answer that was judged, from where a follower
--- of these events stood
-pub record IsJudgedAnswer (budget : ℕ) (lines : List (List ℕ)) (what : Loss → Answered) (loss : Loss) : Type 0 where
+-- what an answer of a process comes to, at a budget, behind events from some pairs
+abbrev pub Judgement : Type 1
+Judgement = Contents → List Event → ℕ → Reply → ℕ → Reason → Type 0
+
+-- the lines begin with those of a stream whose events have an order, and then comes an answer that was judged
+pub record IsJudgedAnswer (budget : ℕ) (lines : List (List ℕ)) (IsWhat : Judgement) (reason : Reason) : Type 0 where
   pub stream : HistoryView
   pub has_start : Bool
   pub read : List (List ℕ)
@@ -54,17 +54,11 @@ pub record IsJudgedAnswer (budget : ℕ) (lines : List (List ℕ)) (what : Loss 
   pub process : ℕ
   pub reply : Reply
   pub answer : SpellsEvent has_start next (Answer process reply)
-  pub follower : FollowerView
-  pub follows : IsFollowing stream.start stream.events follower
-  pub taken : IsTakenAs stream.start stream.events follower process reply budget (what loss)
+  pub judged : IsWhat stream.start stream.events process reply budget reason
 
 -- with this answer, and whatever comes behind it, the events go wrong
-pub record GoesWrongHere (budget : ℕ) (lines : List (List ℕ)) (loss : Loss) : Type 0 where
-  pub judged : IsJudgedAnswer budget lines Lost loss
-  pub place : loss.event ≡ length judged.stream.events
-  pub wrong : (more : List Event) → let all = judged.stream.events ++ Answer judged.process judged.reply ∷ more in
-      (IsLinearizable judged.stream.start (operations all) → ⊥)
-      × GoesWrongAt (record { start = judged.stream.start; events = all }) loss.number loss.event
+abbrev pub GoesWrongHere : ℕ → List (List ℕ) → Reason → Type 0
+GoesWrongHere budget lines reason = IsJudgedAnswer budget lines IsLost reason
 
 -- the text is that of a history with these calls, at other places and by other processes, from these pairs; and it has no order
 pub record IsSmallHistory (loss : Loss) (text : List ℕ) : Type 0 where
@@ -79,15 +73,19 @@ pub record IsSmallHistory (loss : Loss) (text : List ℕ) : Type 0 where
 abbrev pub IsSmallLine : Loss → List ℕ → Type 0
 IsSmallLine loss bytes = (bytes ≡ []) ⊎ ((text : List ℕ) × (bytes ≡ line text) × IsSmallHistory loss text)
 
+-- what is told where the events go wrong; a small history only where the stream itself was searched
+abbrev pub IsLostText : Reason → List ℕ → Type 0
+IsLostText reason bytes = (small : List ℕ) × MatchOption (own_part reason.part) (small ≡ []) (λ loss. IsSmallLine loss small)
+    × (bytes ≡ line (compact_text (reason_data reason (codes "no"))) ++ small)
+
 -- `follow` answers the lines at the budget so, with this note, which only a yes may have
 abbrev pub IsLinesAnswer : ℕ → List (List ℕ) → outcomes.Answer → List ℕ → List ℕ → Type 0
 IsLinesAnswer budget lines verdicts.Yes bytes note = IsWholeAnswer lines bytes note
 IsLinesAnswer budget lines verdicts.No bytes note =
-    (loss : Loss) × GoesWrongHere budget lines loss × (small : List ℕ) × IsSmallLine loss small
-    × (bytes ≡ line (compact_text (loss_data loss (codes "no"))) ++ small) × (note ≡ [])
+    (reason : Reason) × GoesWrongHere budget lines reason × IsLostText reason bytes × (note ≡ [])
 IsLinesAnswer budget lines verdicts.Undecided bytes note =
-    (loss : Loss) × IsJudgedAnswer budget lines Spent loss × (bytes ≡ line (compact_text (loss_data loss (codes "undecided"))))
-    × (note ≡ [])
+    (reason : Reason) × IsJudgedAnswer budget lines IsSpent reason
+    × (bytes ≡ line (compact_text (reason_data reason (codes "undecided")))) × (note ≡ [])
 
 -- with this line `follow` refuses the lines: those before it are followed, and there it stops
 pub record IsLinesRefusal (lines : List (List ℕ)) (bytes : List ℕ) : Type 0 where

@@ -1,20 +1,20 @@
 -- How single answers and refusals come out.
 use Rattle.stream_text.specs.declared.line_fault.LineFault.TheVariants as lines
 use Rattle.follow.specs.declared.fault.FollowFault.TheVariants as turns
-use Rattle.std.specs.Prelude.{◌≡◌, ◌≢◌, ℕ, List, [], ◌++◌, codes, ⊤, string_bytes}
+use Rattle.std.specs.Prelude.{◌≡◌, ◌≢◌, ℕ, List, [], ⊤, string_bytes}
 use Rattle.serde_json.specs.Written.{compact_text}
 use Rattle.stream_text.specs.declared.line_fault.LineFault.{LineFault}
 use Rattle.follow.specs.declared.fault.FollowFault.{FollowFault}
-use Rattle.follow.specs.declared.answered.Loss.{Loss}
+use Rattle.followers.specs.declared.reason.Reason.{Reason}
 use Rattle.outcomes.specs.declared.outcome.Answer.{Answer}
 use Rattle.outcomes.specs.declared.outcome.Answer.TheVariants.{Yes, No}
 use Rattle.outcomes.specs.declared.outcome.Outcome.{Outcome}
 use Rattle.outcomes.specs.declared.outcome.Outcome.TheVariants.{Answered, Noted, Refused, Memory}
 use Rattle.outcomes.specs.Lines.{line}
 use Rattle.stream_engines.specs.Refusals.{line_fault_told, turn_fault_told, many_told, stream_fault_line}
-use Rattle.stream_engines.specs.Reports.{yes_data, loss_data}
+use Rattle.stream_engines.specs.Reports.{yes_data}
 use Rattle.stream_engines.specs.Notes.{note_of}
-use Rattle.stream_engines.specs.Answers.{IsSmallLine}
+use Rattle.stream_engines.specs.Answers.{IsLostText}
 
 -- the outcome of the line of this number, which has this fault
 abbrev pub IsLineRefusal : ℕ → List ℕ → LineFault → Outcome → Type 0
@@ -52,8 +52,7 @@ IsYesOutcome calls overlap Memory = ⊤
 IsYesOutcome calls overlap outcome = ⊥
 
 -- the outcome where an answer was judged and the events go wrong
-abbrev pub IsLostOutcome : Loss → Outcome → Type 0
-IsLostOutcome loss (Answered given text) = (given ≡ No)
-    × ((small : List ℕ) × IsSmallLine loss small × (string_bytes text ≡ line (compact_text (loss_data loss (codes "no"))) ++ small))
-IsLostOutcome loss Memory = ⊤
-IsLostOutcome loss outcome = ⊥
+abbrev pub IsLostOutcome : Reason → Outcome → Type 0
+IsLostOutcome reason (Answered given text) = (given ≡ No) × IsLostText reason (string_bytes text)
+IsLostOutcome reason Memory = ⊤
+IsLostOutcome reason outcome = ⊥

@@ -11,19 +11,23 @@ ghost use Rattle.stream_engines.specs.StreamTexts.{BeginsWith};
 use crate::refusals::{refused_event, refused_line};
 use crate::reports::{lost_outcome, spent_outcome, yes_outcome};
 use events::{Call, Memory, Pairs, Reply};
-use follow::{Answered, Follower};
+use followers::{Answered, Followers};
 use outcomes::Outcome;
 use std::alloc::Global;
 use stream_text::{FirstLine, StreamEvent, read_event_line, read_first_line};
 
-/// A stream, as far as it was followed: its follower, whether it began with starting pairs, how many calls are open, and how many
-/// other calls were open at the invocations, in all.
+/// How many calls may be left at first before choices are tried.
+const FIRST_LIMIT: usize = 256;
+
+/// A stream, as far as it was followed: its followers, whether it began with starting pairs, how many calls are open, how many other
+/// calls were open at the invocations, in all, and how many calls may be left before choices are tried.
 #[derive(Drop)]
 pub struct Followed {
-    pub follower: Follower,
+    pub followers: Followers,
     pub has_start: bool,
     pub pending: u64,
     pub overlap: u64,
+    pub limit: usize,
 }
 
 impl Followed {
@@ -31,12 +35,13 @@ impl Followed {
     pub fn new(alloc: Global) -> Result<Followed, Memory>
         ensures { IfOk result (IsFollowed []) }
     {
-        let follower = Follower::new(alloc, &[])?;
+        let followers = Followers::new(alloc, &[])?;
         Ok(Followed {
-            follower,
+            followers,
             has_start: false,
             pending: 0,
             overlap: 0,
+            limit: FIRST_LIMIT,
         })
     }
 
@@ -45,12 +50,13 @@ impl Followed {
         requires { KeysRise start.now }
         ensures { (line : List ℕ) → SpellsStart line start.now → IfOk result (IsFollowed (line ∷ [])) }
     {
-        let follower = Follower::new(alloc, start.as_slice())?;
+        let followers = Followers::new(alloc, start.as_slice())?;
         Ok(Followed {
-            follower,
+            followers,
             has_start: true,
             pending: 0,
             overlap: 0,
+            limit: FIRST_LIMIT,
         })
     }
 
@@ -133,13 +139,15 @@ impl Followed {
             → IsFollowed read self → SpellsEvent self.has_start line.now (events.Invoke process call)
             → BeginsWith told (read ++ line.now ∷ []) → IfErr result (IsStreamOutcome budget told) }
     {
-        let mut follower = self.follower;
-        match follower.invoke(process, call) {
-            Ok(()) => Ok(Followed {
-                follower,
-                has_start: self.has_start,
-                pending: self.pending.saturating_add(1),
-                overlap: self.overlap.saturating_add(self.pending),
+        let (has_start, limit) = (self.has_start, self.limit);
+        let (pending, overlap) = (self.pending, self.overlap);
+        match self.followers.invoke(process, call) {
+            Ok(followers) => Ok(Followed {
+                followers,
+                has_start,
+                pending: pending.saturating_add(1),
+                overlap: overlap.saturating_add(pending),
+                limit,
             }),
             Err(fault) => Err(refused_event(alloc, number, line, &fault)),
         }
@@ -161,16 +169,26 @@ impl Followed {
             → IsFollowed read self → SpellsEvent self.has_start line.now (events.Answer process reply)
             → BeginsWith told (read ++ line.now ∷ []) → IfErr result (IsStreamOutcome budget told) }
     {
-        let (has_start, pending, overlap) = (self.has_start, self.pending, self.overlap);
-        match self.follower.answer(alloc, process, reply, budget) {
-            Ok(Answered::Going(follower)) => Ok(Followed {
-                follower,
-                has_start,
-                pending: pending.saturating_sub(1),
-                overlap,
-            }),
-            Ok(Answered::Lost(loss)) => Err(lost_outcome(alloc, loss)),
-            Ok(Answered::Spent(loss)) => Err(spent_outcome(alloc, &loss)),
+        let (has_start, limit) = (self.has_start, self.limit);
+        let (pending, overlap) = (self.pending, self.overlap);
+        match self.followers.answer(alloc, process, reply, budget) {
+            Ok(Answered::Going(followers)) => {
+                match followers.relieved(alloc, limit, budget) {
+                    Ok(followers) => {
+                        let limit = limit_behind(&followers, limit);
+                        Ok(Followed {
+                            followers,
+                            has_start,
+                            pending: pending.saturating_sub(1),
+                            overlap,
+                            limit,
+                        })
+                    }
+                    Err(_) => Err(Outcome::Memory),
+                }
+            }
+            Ok(Answered::Lost(reason)) => Err(lost_outcome(alloc, reason)),
+            Ok(Answered::Spent(reason)) => Err(spent_outcome(alloc, reason)),
             Ok(Answered::Refused(_, fault)) => Err(refused_event(alloc, number, line, &fault)),
             Err(_) => Err(Outcome::Memory),
         }
@@ -181,6 +199,15 @@ impl Followed {
         ensures { (told : Option (List ℕ)) (read : List (List ℕ)) (budget : ℕ) → IsFollowed read self.now → AreLinesOf told read
             → IsStreamOutcome budget told result }
     {
-        yes_outcome(alloc, self.follower.calls(), self.overlap)
+        yes_outcome(alloc, self.followers.calls(), self.overlap)
+    }
+}
+
+/// How many calls may be left from now on before choices are tried: twice as many where more than that are left.
+fn limit_behind(followers: &Followers, limit: usize) -> usize {
+    if followers.left() <= limit {
+        limit
+    } else {
+        limit.saturating_mul(2)
     }
 }

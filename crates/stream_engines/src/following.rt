@@ -20,7 +20,7 @@ pub(crate) const MOST_LINES: u64 = u64::MAX - 1;
 
 /// Reads the lines of a stream one by one, each at most `MAX_LINE` bytes, and judges each answer as it comes: a search of its
 /// group meets at most `budget` configurations. It ends at the end of the source, or at the first line that goes wrong. Memory
-/// is taken for the longest line, and for what a `Follower` keeps. Behind each line it is told how far this is. Answers the exit status.
+/// is taken for the longest line, and for what `Followers` keep. Behind each line it is told how far this is. Answers the exit status.
 pub fn run_follow<S: Source, O: Sink, F: Sink, P: Progress>(
     alloc: Global,
     source: &mut S,
@@ -78,7 +78,7 @@ fn follow_lines<S: Source, P: Progress>(
     for before in 0..MOST_LINES {
         match follow_next(alloc, window, source, followed, before, budget) {
             Ok(next) => {
-                progress.show(next.follower.calls(), next.follower.left());
+                progress.show(next.followers.calls(), next.followers.left());
                 followed = next;
             }
             Err(outcome) => return outcome,

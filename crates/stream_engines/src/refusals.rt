@@ -1,7 +1,8 @@
 // Why a line of a stream is refused, as an outcome.
 ghost use Rattle.std.specs.Prelude.{◌≡◌, IfOk, string_bytes};
 ghost use Rattle.stream_engines.specs.Leaves.{IsLineRefusal, IsTurnRefusal, IsManyRefusal};
-ghost use Rattle.stream_engines.specs.Refusals.{line_fault_name, turn_fault_name, line_fault_told, turn_fault_told, many_told, stream_fault_line};
+ghost use Rattle.stream_engines.specs.Refusals.{line_fault_name, turn_fault_name, line_fault_told, turn_fault_told, many_told};
+ghost use Rattle.stream_engines.specs.Refusals.{stream_fault_line};
 ghost use Rattle.stream_engines.specs.Wanted.{too_many_wanted, line_wanted, turn_wanted_for, name_with_wanted, name_with_found};
 
 use follow::FollowFault;

@@ -1,5 +1,5 @@
 // The lines that a stream is answered with.
-ghost use Rattle.std.specs.Prelude.{◌≡◌, ℕ, ◌++◌, List, IfOk, codes, string_bytes};
+ghost use Rattle.std.specs.Prelude.{◌≡◌, ℕ, ◌++◌, List, [], IfOk, IfSome, MatchOption, codes, string_bytes};
 ghost use Rattle.orders.specs.Orders.{IsLinearizable};
 ghost use Rattle.outcomes.specs.declared.outcome.Answer.TheVariants.{Undecided};
 ghost use Rattle.stream_engines.specs.Leaves.{IsAnsweredBy, IsLostOutcome, IsYesOutcome};
@@ -8,11 +8,12 @@ ghost use Rattle.serde_json.specs.View.{view};
 ghost use Rattle.serde_json.specs.Written.{compact_text};
 ghost use Rattle.outcomes.specs.Lines.{line};
 ghost use Rattle.stream_engines.specs.Answers.{IsSmallLine};
-ghost use Rattle.stream_engines.specs.Reports.{yes_data, numbers_data, loss_data};
+ghost use Rattle.stream_engines.specs.Reports.{yes_data, numbers_data, loss_data, own_part, judged_data, reason_data};
 
 use crate::small_history::small_line;
 use events::Memory;
 use follow::Loss;
+use followers::{Part, Reason};
 use outcomes::{Answer, Outcome, line_of};
 use serde_json::{Value, json};
 use std::alloc::{AllocError, Global};
@@ -39,17 +40,24 @@ fn overlap_note(alloc: Global) -> Result<String, AllocError>
 }
 
 /// The answer where a search was given up.
-pub fn spent_outcome(alloc: Global, loss: &Loss) -> Outcome
-    ensures { IsAnsweredBy Undecided (line (compact_text (loss_data loss.now (codes "undecided")))) result }
+pub fn spent_outcome(alloc: Global, reason: Reason) -> Outcome
+    ensures { IsAnsweredBy Undecided (line (compact_text (reason_data reason (codes "undecided")))) result }
 {
-    Outcome::answered(Answer::Undecided, loss_line(alloc, loss, "undecided"))
+    let (call, event) = (reason.number, reason.event);
+    let own = own_part(reason.part);
+    Outcome::answered(
+        Answer::Undecided,
+        judged_line(alloc, call, event, &own, "undecided"),
+    )
 }
 
-/// The answer where the calls of a group have no order: its line, and the line of the small history.
-pub fn lost_outcome(alloc: Global, loss: Loss) -> Outcome
-    ensures { (IsLinearizable loss.start.items loss.calls.items → ⊥) → IsLostOutcome loss result }
+/// The answer where the events go wrong: its line, and where the stream itself was searched the line of the small history.
+pub fn lost_outcome(alloc: Global, reason: Reason) -> Outcome
+    ensures { IfSome reason.part (λ part. IsLinearizable part.loss.start.items part.loss.calls.items → ⊥) → IsLostOutcome reason result }
 {
-    match lost_lines(alloc, &loss) {
+    let (call, event) = (reason.number, reason.event);
+    let own = own_part(reason.part);
+    match lost_lines(alloc, call, event, &own) {
         Ok(lines) => Outcome::Answered {
             answer: Answer::No,
             line: lines,
@@ -58,14 +66,42 @@ pub fn lost_outcome(alloc: Global, loss: Loss) -> Outcome
     }
 }
 
-fn lost_lines(alloc: Global, loss: &Loss) -> Result<String, Memory>
-    ensures { (IsLinearizable loss.now.start.items loss.now.calls.items → ⊥) → IfOk result (λ text. (small : List ℕ)
-        × IsSmallLine loss.now small × (string_bytes text ≡ line (compact_text (loss_data loss.now (codes "no"))) ++ small)) }
+/// What was searched in the stream itself, where it was.
+fn own_part(part: Option<Part>) -> Option<Loss>
+    ensures { result ≡ own_part part }
 {
-    let mut text = loss_line(alloc, loss, "no")?;
+    match part {
+        Some(part) => { if part.plain { Some(part.loss) } else { None } }
+        None => None,
+    }
+}
+
+fn lost_lines(
+    alloc: Global,
+    call: usize,
+    event: usize,
+    own: &Option<Loss>,
+) -> Result<String, Memory>
+    ensures { IfSome own.now (λ loss. IsLinearizable loss.start.items loss.calls.items → ⊥) → IfOk result (λ text. (small : List ℕ)
+        × MatchOption own.now (small ≡ []) (λ loss. IsSmallLine loss small)
+        × (string_bytes text ≡ line (compact_text (judged_data call event own.now (codes "no"))) ++ small)) }
+{
+    let line = judged_line(alloc, call, event, own, "no")?;
+    match own {
+        Some(loss) => with_small_line(alloc, line, loss),
+        None => Ok(line),
+    }
+}
+
+/// A text, and behind it the line of the small history.
+fn with_small_line(alloc: Global, text: String, loss: &Loss) -> Result<String, Memory>
+    ensures { (IsLinearizable loss.now.start.items loss.now.calls.items → ⊥) → IfOk result (λ all. (small : List ℕ)
+        × IsSmallLine loss.now small × (string_bytes all ≡ string_bytes text ++ small)) }
+{
+    let mut all = text;
     let small = small_line(alloc, loss)?;
-    text.push_str(small.as_str())?;
-    Ok(text)
+    all.push_str(small.as_str())?;
+    Ok(all)
 }
 
 /// The line of a stream whose events have an order: how many calls there were, and how much they overlap.
@@ -83,18 +119,44 @@ fn yes_value(alloc: Global, calls: usize, overlap: u64) -> Result<Value, AllocEr
 }
 
 /// The line of an answer that was judged, with a word for what came of it.
-fn loss_line(alloc: Global, loss: &Loss, word: &str) -> Result<String, AllocError>
-    ensures { IfOk result (λ text. string_bytes text ≡ line (compact_text (loss_data loss.now word.now))) }
+fn judged_line(
+    alloc: Global,
+    call: usize,
+    event: usize,
+    own: &Option<Loss>,
+    word: &str,
+) -> Result<String, AllocError>
+    ensures { IfOk result (λ text. string_bytes text ≡ line (compact_text (judged_data call event own.now word.now))) }
 {
-    let value = loss_value(alloc, loss, word)?;
+    let value = judged_value(alloc, call, event, own, word)?;
     line_of(value.to_string(alloc)?)
 }
 
-fn loss_value(alloc: Global, loss: &Loss, word: &str) -> Result<Value, AllocError>
-    ensures { IfOk result (λ value. view value ≡ loss_data loss.now word.now) }
+fn judged_value(
+    alloc: Global,
+    call: usize,
+    event: usize,
+    own: &Option<Loss>,
+    word: &str,
+) -> Result<Value, AllocError>
+    ensures { IfOk result (λ value. view value ≡ judged_data call event own.now word.now) }
+{
+    match own {
+        Some(loss) => loss_value(alloc, call, event, loss, word),
+        None => json!(in alloc; {"call": call, "event": event, "verdict": word}),
+    }
+}
+
+fn loss_value(
+    alloc: Global,
+    call: usize,
+    event: usize,
+    loss: &Loss,
+    word: &str,
+) -> Result<Value, AllocError>
+    ensures { IfOk result (λ value. view value ≡ loss_data call event loss.now word.now) }
 {
     let calls = numbers_value(alloc, &loss.numbers)?;
-    let (call, event) = (loss.number, loss.event);
     let range = loss.range;
     json!(in alloc; {
         "call": call,

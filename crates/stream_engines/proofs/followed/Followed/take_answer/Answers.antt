@@ -1,23 +1,23 @@
-use Rattle.std.proofs.Common.{subst}
+use Rattle.std.proofs.Common.{[], ◌∷◌, ◌++◌, subst}
 use Rattle.events.specs.declared.event.Event.TheVariants.{Answer}
-use Rattle.follow.specs.declared.answered.Answered.{Answered}
-use Rattle.follow.specs.Outcomes.{IsAnswered}
-use Rattle.stream_engines.proofs.FollowedLemmas.{answered, going_on}
-use Rattle.stream_engines.proofs.JudgedLemmas.{lost_at, spent_at}
+use Rattle.followers.specs.declared.reason.Answered.{Answered}
+use Rattle.followers.specs.Outcomes.{IsAnswered}
+use Rattle.stream_engines.proofs.FollowedLemmas.{answered}
+use Rattle.stream_engines.proofs.JudgedLemmas.{lost_at, spent_at, parts_refuted}
 use Rattle.stream_engines.proofs.RefusalLemmas.{refused_turn}
 use Rattle.stream_engines.proofs.followed.Followed.take_answer.Goals as goal
 
-pub returns-in-Ok-Going-clause-taken : goal.returns-in-Ok-Going-clause-taken
-returns-in-Ok-Going-clause-taken c = λ read followed spelled.
+pub returns-in-Ok-clause-taken : goal.returns-in-Ok-clause-taken
+returns-in-Ok-clause-taken c = λ read followed spelled.
     let line = c.args.line.now in
     let stream = followed.stream in
     let process = c.args.process in
     let reply = c.args.reply in
-    let taken = subst (λ (a : Answered). IsAnswered stream.start stream.events c.args.self.follower process reply c.args.budget a)
+    let taken = subst (λ (a : Answered). IsAnswered stream.start stream.events c.args.self.followers process reply c.args.budget a)
     c.in-Ok-Going.field-0-is
     (c.in-Ok-Going.ensures stream.start stream.events followed.follows) in
-    answered read line c.args.self c.in-Ok-Going.follower process reply c.saturating_sub.result followed spelled
-    (going_on stream.start stream.events c.args.self.follower c.in-Ok-Going.follower process reply c.args.budget taken)
+    answered read line c.args.self c.in-Ok.followers process reply c.saturating_sub.result c.limit_behind-limit.result followed spelled
+    (c.in-Ok.ensures.follows stream.start (stream.events ++ Answer process reply ∷ []) taken.1)
     c.saturating_sub.ensures
 
 pub returns-in-Ok-Lost-clause-stopped : goal.returns-in-Ok-Lost-clause-stopped
@@ -26,11 +26,12 @@ returns-in-Ok-Lost-clause-stopped c = λ told read count followed spelled begins
     let stream = followed.stream in
     let process = c.args.process in
     let reply = c.args.reply in
-    let taken = subst (λ (a : Answered). IsAnswered stream.start stream.events c.args.self.follower process reply c.args.budget a)
+    let taken = subst (λ (a : Answered). IsAnswered stream.start stream.events c.args.self.followers process reply c.args.budget a)
     c.in-Ok-Lost.field-0-is
     (c.in-Ok-Lost.ensures stream.start stream.events followed.follows) in
-    lost_at c.args.budget told read line c.args.self process reply c.in-Ok-Lost.loss c.lost_outcome.result followed spelled begins taken
-    (c.lost_outcome.ensures taken.judged.refuted)
+    lost_at c.args.budget told read line c.args.self process reply c.in-Ok-Lost.reason c.lost_outcome.result followed spelled begins taken
+    (c.lost_outcome.ensures
+    (parts_refuted stream.start stream.events process reply c.args.budget c.in-Ok-Lost.reason.part taken.part))
 
 pub returns-in-Ok-Spent-clause-stopped : goal.returns-in-Ok-Spent-clause-stopped
 returns-in-Ok-Spent-clause-stopped c = λ told read count followed spelled begins.
@@ -38,10 +39,10 @@ returns-in-Ok-Spent-clause-stopped c = λ told read count followed spelled begin
     let stream = followed.stream in
     let process = c.args.process in
     let reply = c.args.reply in
-    let taken = subst (λ (a : Answered). IsAnswered stream.start stream.events c.args.self.follower process reply c.args.budget a)
+    let taken = subst (λ (a : Answered). IsAnswered stream.start stream.events c.args.self.followers process reply c.args.budget a)
     c.in-Ok-Spent.field-0-is
     (c.in-Ok-Spent.ensures stream.start stream.events followed.follows) in
-    spent_at c.args.budget told read line c.args.self process reply c.in-Ok-Spent.loss c.spent_outcome.result followed spelled begins taken
+    spent_at c.args.budget told read line c.args.self process reply c.in-Ok-Spent.reason c.spent_outcome.result followed spelled begins taken
     c.spent_outcome.ensures
 
 pub returns-in-Ok-Refused-clause-stopped : goal.returns-in-Ok-Refused-clause-stopped
@@ -50,7 +51,7 @@ returns-in-Ok-Refused-clause-stopped c = λ told read count followed spelled beg
     let stream = followed.stream in
     let process = c.args.process in
     let reply = c.args.reply in
-    let taken = subst (λ (a : Answered). IsAnswered stream.start stream.events c.args.self.follower process reply c.args.budget a)
+    let taken = subst (λ (a : Answered). IsAnswered stream.start stream.events c.args.self.followers process reply c.args.budget a)
     c.in-Ok-Refused.field-0-is
     (c.in-Ok-Refused.ensures stream.start stream.events followed.follows) in
     refused_turn c.args.budget told read line c.args.self c.args.number (Answer process reply) c.in-Ok-Refused.fault c.refused_event.result
