@@ -10,10 +10,48 @@
 #include <stdlib.h>
 #include <string.h>
 
-enum { CALLS = 4, THREADS = 64, ROOM = 1 << 20, LITTLE_STACK = 256 * 1024 };
+enum { CALLS = 6, THREADS = 64, ROOM = 1 << 20, LITTLE_STACK = 256 * 1024 };
 
 typedef uint32_t call(const char *, size_t, uint32_t, char *, size_t, size_t *);
-static call *const calls[] = {potzendai_judge, potzendai_locate, potzendai_draw, potzendai_follow};
+
+/* Tells a status that comes without a text. */
+static uint32_t tell(uint32_t status, const char *text, char *room, size_t room_length, size_t *length)
+{
+    *length = strlen(text);
+    if (room_length > 0)
+        snprintf(room, room_length, "%s", text);
+    return status;
+}
+
+/* As potzendai_follow, by a follower to which the lines are handed over one by one. A status that is not 0 stays, a verdict keeps
+ * what is followed, and a follower that is closed answers nothing else. */
+static uint32_t by_lines(const char *text, size_t text_length, uint32_t budget, char *room, size_t room_length, size_t *length)
+{
+    struct potzendai_follower follower = {0};
+    char closed[32] = "";
+    uint32_t status = potzendai_follow_open(&follower, budget);
+    if (status != POTZENDAI_YES)
+        return tell(status, status == POTZENDAI_MEMORY ? "memory\n" : "budget: from 1 to 1000000\n", room, room_length, length);
+    for (const char *line = text, *end = text + text_length; line < end;) {
+        const char *feed = memchr(line, '\n', (size_t)(end - line)), *next = feed ? feed + 1 : end;
+        uint32_t now = potzendai_follow_event(&follower, line, (size_t)(next - line));
+        assert(status == POTZENDAI_YES || now == status);
+        status = now;
+        line = next;
+    }
+    uint32_t verdict = potzendai_follow_verdict(&follower, room, room_length, length);
+    assert(verdict == status || verdict == POTZENDAI_MEMORY);
+    assert(potzendai_follow_event(&follower, "", 0) == status);
+    potzendai_follow_close(&follower);
+    potzendai_follow_close(&follower);
+    assert(potzendai_follow_event(&follower, "", 0) == POTZENDAI_WORDS);
+    size_t closed_length;
+    assert(potzendai_follow_verdict(&follower, closed, sizeof closed, &closed_length) == POTZENDAI_WORDS);
+    assert(closed_length == 15 && strcmp(closed, "follower: none\n") == 0);
+    return verdict;
+}
+
+static call *const calls[] = {potzendai_judge, potzendai_locate, potzendai_explain, potzendai_draw, potzendai_follow, by_lines};
 
 struct answer { uint32_t status; size_t length; char *room; };
 
@@ -153,6 +191,7 @@ int main(int count, char **paths)
             fill_each(calls[c], texts[i], wanted[i][c]);
             ask_beyond(calls[c], texts[i]);
         }
+        assert(is_same(wanted[i][CALLS - 2], wanted[i][CALLS - 1]));
     }
     pthread_t threads[THREADS];
     pthread_attr_t little;

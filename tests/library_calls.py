@@ -27,7 +27,7 @@ def main():
     program = os.path.join(TOP, "crates", "bench", "out", "bench")
     passed = failed = 0
     for name, text in [*texts(), ("no text", b""), ("no JSON", b"\xff{")]:
-        for word in ("judge", "locate", "draw", "follow"):
+        for word in ("judge", "locate", "explain", "draw", "follow"):
             for budget in (1, 3, 100_000, 1_000_000):
                 words = [word, "--budget", str(budget), *(["--calls", "0"] if word == "draw" else [])]
                 ran = subprocess.run([program, *words], input=text, capture_output=True, timeout=60, check=False)

@@ -44,12 +44,12 @@ int main(void)
     for (unsigned p = 0; p < THREADS; p++)
         assert(pthread_join(threads[p], NULL) == 0);
 
-    /* The history as a text in memory, and the verdict on it. */
+    /* The history as a text in memory, and the verdict on it; behind a no stand few calls that show it. */
     char *text, report[POTZENDAI_REPORT] = "";
     size_t text_length, length;
     FILE *out = open_memstream(&text, &text_length);
     assert(out && recording_write(&recorded, out) == 0 && fclose(out) == 0);
-    uint32_t verdict = potzendai_judge(text, text_length, POTZENDAI_BUDGET, report, sizeof report, &length);
+    uint32_t verdict = potzendai_explain(text, text_length, POTZENDAI_BUDGET, report, sizeof report, &length);
     if (verdict != POTZENDAI_YES)
         fputs(report, stderr);
     assert(verdict == POTZENDAI_YES);

@@ -51,6 +51,10 @@ class Recorded:
             self.values[key] = value
         self.note(process, answer=old)
 
+    def get(self, process, key, answer):
+        self.note(process, invoke=["get", key])
+        self.note(process, answer=answer)
+
     def text(self):
         return json.dumps({"version": 1, "events": [event for _, event in sorted(self.notes, key=lambda note: note[0])]}).encode()
 
@@ -71,6 +75,13 @@ def main():
     status, report = potzendai.call("potzendai_judge", recorded.text())
     assert status == YES, report
     print(len(recorded.notes) // 2, "calls have an order")
+
+    # A read of what nobody wrote: behind the report of the no stand few calls that show it, a history of them, and how far an order gets.
+    recorded.get(4, 0, 1_000_000)
+    status, report = potzendai.call("potzendai_explain", recorded.text())
+    _, *rows, history, front = report.splitlines()
+    assert status == NO and json.loads(history)["events"] and json.loads(front)["next"], report
+    print("with a wrong read", len(rows), "call has none")
 
 
 if __name__ == "__main__":

@@ -1,5 +1,5 @@
-/* A test of a map of one's own whose run may be as long as it will: threads call it, a stream of what they do is written while they
- * run, and is followed behind them. From the top of the repository:
+/* A test of a map of one's own that is judged while it runs: threads call it, one writes what they do into a pipe, and each line of
+ * it is handed to a follower. From the top of the repository:
  *
  *     ./library .
  *     cc -std=c11 -O2 -pthread -I. -o own_stream examples/library/own_stream.c libpotzendai.a
@@ -35,35 +35,46 @@ static void *run(void *number)
     return NULL;
 }
 
-static void *write_all(void *unused)
+/* Writes what they do into the pipe, and closes it behind the last line. */
+static void *write_all(void *ends)
 {
-    assert(streaming_write(&streamed) == 0);
-    return unused;
+    assert(streaming_write(&streamed) == 0 && close(((int *)ends)[1]) == 0);
+    return NULL;
+}
+
+/* Joins the threads that record, and ends the stream behind them. */
+static void *end_all(void *threads)
+{
+    for (unsigned p = 0; p < THREADS; p++)
+        assert(pthread_join(((pthread_t *)threads)[p], NULL) == 0);
+    streaming_end(&streamed);
+    return NULL;
 }
 
 int main(void)
 {
-    pthread_t threads[THREADS], writer;
-    FILE *file = tmpfile();
-    assert(file && streaming_open(&streamed, THREADS, 4096, 0, fileno(file)) == 0);
-    assert(pthread_create(&writer, NULL, write_all, NULL) == 0);
+    int ends[2];
+    pthread_t threads[THREADS], writer, ender;
+    assert(pipe(ends) == 0 && streaming_open(&streamed, THREADS, 4096, 0, ends[1]) == 0);
     for (unsigned p = 0; p < THREADS; p++)
         assert(pthread_create(&threads[p], NULL, run, (void *)(uintptr_t)p) == 0);
-    for (unsigned p = 0; p < THREADS; p++)
-        assert(pthread_join(threads[p], NULL) == 0);
-    streaming_end(&streamed);
-    assert(pthread_join(writer, NULL) == 0);
-    streaming_close(&streamed);
+    assert(pthread_create(&writer, NULL, write_all, ends) == 0 && pthread_create(&ender, NULL, end_all, threads) == 0);
 
-    /* The stream as a text in memory, and what it is answered. */
-    long text_length = fseek(file, 0, SEEK_END) == 0 ? ftell(file) : -1;
-    char *text = malloc((size_t)text_length + 1), report[POTZENDAI_REPORT] = "";
-    size_t length;
-    rewind(file);
-    assert(text_length > 0 && text && fread(text, 1, (size_t)text_length, file) == (size_t)text_length);
-    uint32_t verdict = potzendai_follow(text, (size_t)text_length, POTZENDAI_BUDGET, report, sizeof report, &length);
+    /* Each line as it comes: the first answer that goes wrong ends the test. */
+    struct potzendai_follower follower = {0};
+    char *line = NULL, report[POTZENDAI_REPORT] = "";
+    size_t room = 0, length;
+    FILE *in = fdopen(ends[0], "r");
+    assert(in && potzendai_follow_open(&follower, POTZENDAI_BUDGET) == POTZENDAI_YES);
+    for (ssize_t count; (count = getline(&line, &room, in)) > 0;)
+        if (potzendai_follow_event(&follower, line, (size_t)count) != POTZENDAI_YES)
+            break;
+    uint32_t verdict = potzendai_follow_verdict(&follower, report, sizeof report, &length);
+    potzendai_follow_close(&follower);
     fputs(report, verdict == POTZENDAI_YES ? stdout : stderr);
     assert(verdict == POTZENDAI_YES);
-    free(text);
-    return fclose(file);
+    assert(pthread_join(ender, NULL) == 0 && pthread_join(writer, NULL) == 0);
+    streaming_close(&streamed);
+    free(line);
+    return fclose(in);
 }

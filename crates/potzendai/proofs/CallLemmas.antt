@@ -11,6 +11,7 @@ use Rattle.outcomes.specs.declared.outcome.Outcome.{Outcome}
 use Rattle.outcomes.specs.declared.outcome.Outcome.TheVariants.{Answered, Noted, Refused, Memory, Words, Failed}
 use Rattle.outcomes.specs.Outcomes.{IsTextOutcome}
 use Rattle.history_engines.specs.Answers.{answer_of, IsHistoryRefusal, IsJudgeAnswer}
+use Rattle.explain_engines.specs.Answers.{IsExplainAnswer}
 use Rattle.potzendai.specs.Calls.{IsBudget, IsCall, status_of, text_of, written}
 use Rattle.potzendai.specs.Verdicts.{SpellsLinearizable, SpellsUnlinearizable}
 
@@ -75,3 +76,38 @@ no_is_unlinearizable budget text (Refused bytes) comes is = cc
 no_is_unlinearizable budget text Memory comes is = cc
 no_is_unlinearizable budget text (Words bytes) comes is = cc
 no_is_unlinearizable budget text Failed comes is = cc
+
+-- the same of one that is explained
+pub explained_yes_is_linearizable : (budget : ℕ) (text : List ℕ) (outcome : Outcome)
+    → IsTextOutcome (IsExplainAnswer budget) IsHistoryRefusal (Some text) outcome
+    → status_of outcome ≡ 0 → SpellsLinearizable text
+explained_yes_is_linearizable budget text (Answered Yes bytes) comes is =
+    let told = comes.explains in (
+      comes.history,
+      comes.is_text,
+      order_of_yes budget comes.history told.verdict told.answer_is told.shown,
+    )
+explained_yes_is_linearizable budget text (Answered No bytes) comes is = cc
+explained_yes_is_linearizable budget text (Answered Undecided bytes) comes is = cc
+explained_yes_is_linearizable budget text (Noted answer bytes note) comes is = absurd comes
+explained_yes_is_linearizable budget text (Refused bytes) comes is = cc
+explained_yes_is_linearizable budget text Memory comes is = cc
+explained_yes_is_linearizable budget text (Words bytes) comes is = cc
+explained_yes_is_linearizable budget text Failed comes is = cc
+
+pub explained_no_is_unlinearizable : (budget : ℕ) (text : List ℕ) (outcome : Outcome)
+    → IsTextOutcome (IsExplainAnswer budget) IsHistoryRefusal (Some text) outcome
+    → status_of outcome ≡ 1 → SpellsUnlinearizable text
+explained_no_is_unlinearizable budget text (Answered Yes bytes) comes is = cc
+explained_no_is_unlinearizable budget text (Answered No bytes) comes is =
+    let told = comes.explains in (
+      comes.history,
+      comes.is_text,
+      none_of_no budget comes.history told.verdict told.answer_is told.shown,
+    )
+explained_no_is_unlinearizable budget text (Answered Undecided bytes) comes is = cc
+explained_no_is_unlinearizable budget text (Noted answer bytes note) comes is = absurd comes
+explained_no_is_unlinearizable budget text (Refused bytes) comes is = cc
+explained_no_is_unlinearizable budget text Memory comes is = cc
+explained_no_is_unlinearizable budget text (Words bytes) comes is = cc
+explained_no_is_unlinearizable budget text Failed comes is = cc

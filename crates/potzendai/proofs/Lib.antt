@@ -1,3 +1,6 @@
 mod CallLemmas
 mod StreamLemmas
 mod RoomLemmas
+mod FollowLemmas
+mod LooseValues
+mod HandleValues

@@ -8,7 +8,7 @@ use Rattle.orders.specs.Orders.{IsLinearizable}
 use Rattle.outcomes.specs.declared.outcome.Answer.TheVariants.{Yes, No, Undecided}
 use Rattle.outcomes.specs.declared.outcome.Outcome.{Outcome}
 use Rattle.outcomes.specs.declared.outcome.Outcome.TheVariants.{Answered, Noted, Refused, Memory, Words, Failed}
-use Rattle.follow.specs.declared.answered.Loss.{Loss}
+use Rattle.followers.specs.declared.reason.Reason.{Reason}
 use Rattle.stream_text.specs.Cuts.{lines_of}
 use Rattle.stream_engines.specs.Answers.{GoesWrongHere}
 use Rattle.stream_engines.specs.Outcomes.{IsStreamOutcome}
@@ -17,9 +17,8 @@ use Rattle.potzendai.specs.Calls.{status_of}
 use Rattle.potzendai.specs.Streams.{SpellLinearizable, BeginUnlinearizable}
 
 -- the events before the wrong answer, with it, have no order
-wrong_lines : (budget : ℕ) (lines : List (List ℕ)) (loss : Loss) → GoesWrongHere budget lines loss → BeginUnlinearizable lines
-wrong_lines budget lines loss wrong =
-    let at = wrong.judged in
+wrong_lines : (budget : ℕ) (lines : List (List ℕ)) (reason : Reason) → GoesWrongHere budget lines reason → BeginUnlinearizable lines
+wrong_lines budget lines reason at =
     let answer = events.Answer at.process at.reply in
     record {
       stream = with_event at.stream answer;
@@ -28,7 +27,7 @@ wrong_lines budget lines loss wrong =
       rest = at.rest;
       parts = at.parts ∙ sym (append_assoc at.read (at.next ∷ []) at.rest);
       spelled = SpellStream-push at.has_start at.read at.stream at.next answer at.spelled at.answer;
-      refuted = λ more has_order. (wrong.wrong more).0
+      refuted = λ more has_order. (at.judged.wrong more).0
           (subst (λ (all : List Event). IsLinearizable at.stream.start (operations all))
           (append_assoc at.stream.events (answer ∷ []) more) has_order);
     }

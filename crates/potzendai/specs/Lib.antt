@@ -1,3 +1,5 @@
 pub mod Calls
 pub mod Verdicts
 pub mod Streams
+pub mod Handle
+pub mod Follows

@@ -1,5 +1,6 @@
 // The calls that are exported.
 ghost use Rattle.std.specs.Prelude.{◌≡◌, Some};
+ghost use Rattle.explain_engines.specs.Answers.{IsExplainAnswer};
 ghost use Rattle.history_engines.specs.Answers.{IsHistoryRefusal, IsJudgeAnswer};
 ghost use Rattle.history_engines.specs.LocateAnswers.{IsLocateAnswer};
 ghost use Rattle.outcomes.specs.Outcomes.{IsTextOutcome};
@@ -8,6 +9,7 @@ ghost use Rattle.potzendai.specs.Calls.{IsCall};
 ghost use Rattle.potzendai.specs.Verdicts.{SpellsLinearizable, SpellsUnlinearizable};
 
 use crate::told::{is_budget, tell, tell_budget};
+use explain_engines::explain_outcome;
 use history_engines::{judge_outcome_alone, locate_outcome_alone};
 use picture_engines::draw_outcome_alone;
 use std::alloc::Global;
@@ -52,6 +54,31 @@ pub extern "C" fn potzendai_locate(
 {
     if is_budget(budget) {
         let outcome = locate_outcome_alone(alloc, text, budget);
+        tell(&outcome, room, size)
+    } else {
+        tell_budget(room, size)
+    }
+}
+
+/// Explains the verdict on the history that the text spells, as `bench explain` does: behind the report of a no, few calls that
+/// show it. Else as `potzendai_judge`.
+#[unsafe(no_mangle)]
+pub extern "C" fn potzendai_explain(
+    alloc: Global,
+    text: &[u8],
+    budget: u32,
+    room: &mut [u8],
+    size: &mut usize,
+) -> u32
+    ensures call { IsCall (IsTextOutcome (IsExplainAnswer budget) IsHistoryRefusal (Some text.now))
+        budget room.old room.new size.new result }
+
+    // What an answer of yes or no says of the history.
+    ensures yes { result ≡ 0 → SpellsLinearizable text.now }
+    ensures no { result ≡ 1 → SpellsUnlinearizable text.now }
+{
+    if is_budget(budget) {
+        let outcome = explain_outcome(alloc, text, budget);
         tell(&outcome, room, size)
     } else {
         tell_budget(room, size)

@@ -2,9 +2,11 @@
 ghost use Rattle.std.specs.Prelude.{◌≡◌, ◌≤◌, ◌↔◌, IsTrue, length};
 ghost use Rattle.outcomes.specs.Statuses.{words_status};
 ghost use Rattle.potzendai.specs.Calls.{budget_line, IsBudget, status_of, text_of, written};
+ghost use Rattle.potzendai.specs.Follows.{IsToldClosed, standing};
 
 use judge::MAX_BUDGET;
 use outcomes::{FAILED, MEMORY, Outcome, REFUSED, WORDS};
+use stream_engines::LineFollower;
 
 /// Whether a search may have this budget.
 pub(crate) fn is_budget(budget: u32) -> bool
@@ -35,6 +37,26 @@ pub(crate) fn tell_budget(room: &mut [u8], size: &mut usize) -> u32
     *size = text.len();
     write(text, room);
     u32::from(WORDS)
+}
+
+/// Tells that there is no follower.
+pub(crate) fn tell_closed(room: &mut [u8], size: &mut usize) -> u32
+    ensures { IsToldClosed room.old room.new size.new result }
+{
+    let text = b"follower: none\n";
+    *size = text.len();
+    write(text, room);
+    u32::from(WORDS)
+}
+
+/// The status of a stream so far: 0 while it is followed.
+pub(crate) fn standing(follower: &LineFollower) -> u32
+    ensures { result ≡ standing follower.now }
+{
+    match follower {
+        LineFollower::Going { .. } => 0,
+        LineFollower::Ended(outcome) => u32::from(status_of(outcome)),
+    }
 }
 
 /// The text of an outcome.

@@ -1,0 +1,34 @@
+-- What is told of a follower that C holds.
+use Rattle.std.proofs.Common.{◌≡◌, ℕ, List, [], Option, Some, None, refl, sym, ◌∙◌, append-nil}
+use Rattle.stream_engines.specs.declared.handed.LineFollower.{LineFollower}
+use Rattle.stream_engines.specs.declared.handed.LineFollower.TheVariants.{Going, Ended}
+use Rattle.stream_engines.specs.Reading.{AreLinesOf}
+use Rattle.stream_engines.specs.StreamTexts.{BeginsWith}
+use Rattle.stream_text.specs.Cuts.{lines_of}
+use Rattle.potzendai.specs.Follows.{Follows, standing_of, IsToldSoFar}
+use Rattle.potzendai.specs.Streams.{SpellLinearizable, BeginUnlinearizable}
+use Rattle.potzendai.proofs.StreamLemmas.{yes_has_order, no_has_none}
+
+-- a text with these lines begins with them
+pub all_begin : (told : Option (List ℕ)) (lines : List (List ℕ)) → AreLinesOf told lines → BeginsWith told lines
+all_begin None lines are = tt
+all_begin (Some text) lines are = ([], are ∙ sym (append-nil lines))
+
+-- the status of no, of what is followed, is that of lines without an order
+pub standing_no : (budget : ℕ) (all : List ℕ) (follows : Option LineFollower) → Follows budget (lines_of all) follows
+    → standing_of follows ≡ 1 → BeginUnlinearizable (lines_of all)
+standing_no budget all None follows is = absurd follows
+standing_no budget all (Some (Going followed lines given)) follows is = cc
+standing_no budget all (Some (Ended outcome)) follows is =
+    no_has_none budget all outcome (follows (Some all) (all_begin (Some all) (lines_of all) refl)) is
+
+-- the same of what is told of a follower, and of yes
+pub told_yes : (budget : ℕ) (all before after : List ℕ) (size status : ℕ) → IsToldSoFar budget (lines_of all) before after size status
+    → status ≡ 0 → SpellLinearizable (lines_of all)
+told_yes budget all before after size status told is =
+    yes_has_order budget all told.outcome (told.comes (Some all) refl) (sym told.status_is ∙ is)
+
+pub told_no : (budget : ℕ) (all before after : List ℕ) (size status : ℕ) → IsToldSoFar budget (lines_of all) before after size status
+    → status ≡ 1 → BeginUnlinearizable (lines_of all)
+told_no budget all before after size status told is =
+    no_has_none budget all told.outcome (told.comes (Some all) refl) (sym told.status_is ∙ is)

@@ -1,0 +1,20 @@
+use Rattle.std.proofs.Common.{◌++◌, Option, Some, ap, sym, ◌∙◌, subst}
+use Rattle.stream_text.specs.Cuts.{lines_of}
+use Rattle.stream_engines.specs.Handed.{IsHanded}
+use Rattle.stream_engines.specs.declared.handed.LineFollower.{LineFollower}
+use Rattle.potzendai.specs.Follows.{Follows, standing_of}
+use Rattle.potzendai.proofs.FollowLemmas.{standing_no}
+use Rattle.potzendai.proofs.by_lines.potzendai_follow_event.Goals as goal
+
+pub returns-clause-handed : goal.returns-clause-handed
+returns-clause-handed c = λ budget lines follows.
+    let held = subst (λ (f : Option LineFollower). Follows budget lines f) (sym c.in-Some.ensures.taken) follows in
+    let taken = sym (c.replace-follower.ensures.value ∙ c.deref_mut.ensures.value) in
+    let handed = c.take_lines.ensures budget lines (subst (λ (f : LineFollower). IsHanded budget lines f) taken held) in
+    subst (λ (f : Option LineFollower). Follows budget (lines ++ lines_of c.args.text.now) f) (sym c.put.ensures) handed
+
+pub returns-clause-no : goal.returns-clause-no
+returns-clause-no c = λ budget all follows one.
+    let stands = ap standing_of c.put.ensures in
+    let told = c.standing-status.ensures ∙ ap (λ (f : LineFollower). standing_of (Some f)) c.deref.ensures in
+    standing_no budget all c.put.new.handle.follows follows (stands ∙ sym told ∙ one)

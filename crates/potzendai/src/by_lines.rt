@@ -1,0 +1,116 @@
+// The calls on a stream whose lines are handed over as they come.
+ghost use Rattle.std.specs.Prelude.{◌≡◌, ℕ, List, ◌++◌, None};
+ghost use Rattle.potzendai.specs.Follows.{Follows, standing_of, IsOpening, IsToldSoFar, IsToldClosed};
+ghost use Rattle.potzendai.specs.Streams.{SpellLinearizable, BeginUnlinearizable};
+ghost use Rattle.stream_engines.specs.Handed.{IsHanded};
+ghost use Rattle.stream_text.specs.Cuts.{lines_of};
+
+use crate::handle::{PotzendaiFollower, put, take};
+use crate::told::{is_budget, standing, tell, tell_closed};
+use outcomes::{MEMORY, Outcome, WORDS};
+use std::alloc::Global;
+use std::mem::replace;
+use stream_engines::LineFollower;
+
+/// Begins to follow a stream, before its first line: each answer is to be judged by searches of at most `budget` configurations.
+/// What the handle held is closed first. Answers 0; or the status of want of memory, or of a budget that is none, and then the
+/// handle is closed.
+#[unsafe(no_mangle)]
+pub extern "C" fn potzendai_follow_open(
+    alloc: Global,
+    handle: &mut PotzendaiFollower,
+    budget: u32,
+) -> u32
+    ensures { IsOpening budget handle.new.follows result }
+{
+    drop(take(alloc, handle));
+    if !is_budget(budget) {
+        return u32::from(WORDS);
+    }
+    let Ok(follower) = LineFollower::new(alloc, budget) else {
+        return u32::from(MEMORY);
+    };
+    let Ok(boxed) = Box::new(alloc, follower) else {
+        return u32::from(MEMORY);
+    };
+    put(alloc, handle, boxed);
+    0
+}
+
+/// Hands over the next lines of the stream: those of the text, each ended by a line feed, which the last may lack. Answers the
+/// status of the stream so far: 0 while it is followed; else that of `bench follow`, which has ended with a line handed over, and
+/// stays. A handle that is closed stays so.
+#[unsafe(no_mangle)]
+pub extern "C" fn potzendai_follow_event(
+    alloc: Global,
+    handle: &mut PotzendaiFollower,
+    text: &[u8],
+) -> u32
+    ensures handed { (budget : ℕ) (lines : List (List ℕ)) → Follows budget lines handle.old.follows
+        → Follows budget (lines ++ lines_of text.now) handle.new.follows }
+    ensures closed { handle.old.follows ≡ None → handle.new.follows ≡ None }
+    ensures status { result ≡ standing_of handle.new.follows }
+
+    // What an answer of no says of a stream of which all lines so far were handed over.
+    ensures no { (budget : ℕ) (all : List ℕ) → Follows budget (lines_of all) handle.new.follows
+        → result ≡ 1 → BeginUnlinearizable (lines_of all) }
+{
+    let Some(boxed) = take(alloc, handle) else {
+        return u32::from(WORDS);
+    };
+    let mut boxed = boxed;
+    let follower = replace(&mut *boxed, LineFollower::Ended(Outcome::Memory));
+    *boxed = follower.take_lines(alloc, text);
+    let status = standing(&boxed);
+    put(alloc, handle, boxed);
+    status
+}
+
+/// Tells what `bench follow` writes where the lines so far are all. The handle keeps its follower, so that more lines may come.
+#[unsafe(no_mangle)]
+pub extern "C" fn potzendai_follow_verdict(
+    alloc: Global,
+    handle: &mut PotzendaiFollower,
+    room: &mut [u8],
+    size: &mut usize,
+) -> u32
+    ensures kept { handle.new.follows ≡ handle.old.follows }
+    ensures told { (budget : ℕ) (lines : List (List ℕ)) → Follows budget lines handle.old.follows
+        → IsToldSoFar budget lines room.old room.new size.new result }
+    ensures closed { handle.old.follows ≡ None → IsToldClosed room.old room.new size.new result }
+
+    // What an answer of yes or no says of a stream of which all lines so far were handed over.
+    ensures yes { (budget : ℕ) (all : List ℕ) → Follows budget (lines_of all) handle.old.follows
+        → result ≡ 0 → SpellLinearizable (lines_of all) }
+    ensures no { (budget : ℕ) (all : List ℕ) → Follows budget (lines_of all) handle.old.follows
+        → result ≡ 1 → BeginUnlinearizable (lines_of all) }
+{
+    let Some(boxed) = take(alloc, handle) else {
+        return tell_closed(room, size);
+    };
+    let status = tell_follower(alloc, &boxed, room, size);
+    put(alloc, handle, boxed);
+    status
+}
+
+/// Ends it, and gives back all memory.
+#[unsafe(no_mangle)]
+pub extern "C" fn potzendai_follow_close(alloc: Global, handle: &mut PotzendaiFollower)
+    ensures { handle.new.follows ≡ None }
+{
+    drop(take(alloc, handle));
+}
+
+/// Tells what a follower comes to, were the lines so far all.
+fn tell_follower(alloc: Global, follower: &LineFollower, room: &mut [u8], size: &mut usize) -> u32
+    ensures { (budget : ℕ) (lines : List (List ℕ)) → IsHanded budget lines follower.now
+        → IsToldSoFar budget lines room.old room.new size.new result }
+{
+    match follower {
+        LineFollower::Going { followed, .. } => {
+            let outcome = followed.finish(alloc);
+            tell(&outcome, room, size)
+        }
+        LineFollower::Ended(outcome) => tell(outcome, room, size),
+    }
+}
