@@ -4,7 +4,7 @@ use Rattle.std.proofs.Common.{Some}
 use Rattle.std.specs.Str.{bytes_eq}
 use Rattle.std.proofs.lemmas.Option.{same_Some}
 use Rattle.clap.specs.Words.{Row, Text}
-use Rattle.command_line.specs.Requests.{AreCallsOf, AreNumbersOf, AreWithinFrom, Asked, Asks, Fits, IsAskable, numbers_from}
+use Rattle.command_line.specs.Requests.{AreCallsOf, AreFlagsOf, AreNumbersOf, AreWithinFrom, Asked, Asks, Fits, IsAskable, numbers_from}
 use Rattle.command_line.specs.Tables.{Flag, Usage, usage_named}
 use Rattle.command_line.proofs.TableLemmas.{same_swapped}
 
@@ -50,6 +50,24 @@ fits_first (v ∷ vs) u asked named fits = (
     there : (b : Bool) → b ≡ false → cond b (Some v) (usage_named asked.name vs) ≡ Some u
         → (usage_named asked.name vs ≡ Some u → IsAskable vs asked)
         → IsAskable vs asked
+    there false is found later = later found
+    there true is found later = cc
+
+-- the options of the first subcommand of a name are those of one that is found by it
+pub described : (table : List Usage) (u : Usage) (name : Text) → usage_named name table ≡ Some u → AreFlagsOf table name u.flags
+described [] u name named = cc
+described (v ∷ vs) u name named = (
+  λ is. here (bytes_eq v.name name) (same_swapped v.name name ∙ is) named,
+  λ is. there (bytes_eq v.name name) (same_swapped v.name name ∙ is) named (described vs u name),
+)
+  where
+    here : (b : Bool) → b ≡ true → cond b (Some v) (usage_named name vs) ≡ Some u → u.flags ≡ v.flags
+    here true is found = ap (λ (w : Usage). w.flags) (sym (same_Some v u found))
+    here false is found = cc
+
+    there : (b : Bool) → b ≡ false → cond b (Some v) (usage_named name vs) ≡ Some u
+        → (usage_named name vs ≡ Some u → AreFlagsOf vs name u.flags)
+        → AreFlagsOf vs name u.flags
     there false is found later = later found
     there true is found later = cc
 

@@ -12,7 +12,8 @@ use Rattle.command_line.specs.Limits.{around_limit, shown_default, shown_limit}
 use Rattle.command_line.specs.Limits.{budget_default, budget_limit, rows16_default, rows16_limit, rows256_default, rows256_limit}
 use Rattle.command_line.specs.Limits.{rows4_default, rows4_limit}
 use Rattle.command_line.specs.Limits.{rows48_default, rows48_limit, steps_limit, workers_default, workers_limit}
-use Rattle.command_line.specs.Lines.{ChecksNumbers, Draws, Drives, NamesTree, IsCheck, IsDraw, IsDrive, IsJudge, IsLocate, IsSearch, asked_by}
+use Rattle.command_line.specs.Lines.{ChecksNumbers, Draws, Drives, NamesTree, IsCheck, IsDraw, IsDrive, IsJudge, IsLocate, IsSearch}
+use Rattle.command_line.specs.Lines.{asked_by}
 use Rattle.command_line.specs.Lines.{option_words as words_of}
 use Rattle.command_line.specs.Numbers.{IsNumberWithin, number_of}
 use Rattle.command_line.specs.Program.{bench_table, check_usage, draw_usage, drive_usage, judge_usage, locate_usage, number_flag}

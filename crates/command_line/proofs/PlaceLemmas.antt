@@ -1,13 +1,16 @@
--- The place of a text among words.
+-- The place of a text among words, and of an option among those of a table.
 use Rattle.std.proofs.Common.{◌≡◌, ◌∙◌, subst, ◌<◌, ◌≤◌, ◌-◌, ◌+◌, ℕ, Bool, true, false, cond, not, ◌||◌, option_map, refl, sym, ap, ap₂}
-use Rattle.std.proofs.Common.{arith, length, List, [], ◌∷◌, Option, Some, map, nat_lt, lt-ltb, suc}
+use Rattle.std.proofs.Common.{arith, length, List, [], ◌∷◌, Option, Some, None, map, nat_lt, lt-ltb, ltb-false, suc}
 use Rattle.std.specs.List.{list_any, position, position_or_len}
+use Rattle.std.specs.Prelude.{unwrap_or}
+use Rattle.std.proofs.lemmas.List.Sums.{prefix_len-le-length}
 use Rattle.std.specs.Borrow.{Bor}
 use Rattle.std.specs.Str.{bytes_eq}
 use Rattle.clap.specs.Walk.{Text, texts}
 use Rattle.clap.proofs.WalkLemmas.{list_any-map}
 use Rattle.command_line.specs.Requests.{StandsFor, is_named}
-use Rattle.command_line.specs.Tables.{choice_of, is_among}
+use Rattle.command_line.specs.Tables.{Flag, choice_of, flag_of, is_among, place_named}
+use Rattle.command_line.specs.declared.table.ValueOption.{ValueOption}
 use Rattle.command_line.specs.declared.table.Values.{Values}
 use Rattle.command_line.specs.declared.table.Values.TheVariants.{Among}
 
@@ -27,6 +30,20 @@ place_behind text words =
     let place = place_or_len (λ (w : Text). bytes_eq w text) (λ (w : Bor Text). w.now) words in
     let many = map_length (λ (w : Bor Text). w.now) words in
     rw (place, many) refl
+
+-- the place of the first option of a name, or their number
+pub place_of_flag : (name : Text) (options : List ValueOption)
+    → unwrap_or (position (λ o. bytes_eq o.name.now name) options) (length options) ≡ place_named name (map flag_of options)
+place_of_flag name options =
+    place_or_length _ options ∙ place_or_len (λ (f : Flag). bytes_eq f.name name) flag_of options
+  where
+    here : (place many : ℕ) → place ≤ many → (b : Bool) → nat_lt place many ≡ b
+        → unwrap_or (cond b (Some place) None) many ≡ place
+    here place many within true is = refl
+    here place many within false is = let behind = ltb-false place many is in omega (arith, within, behind)
+
+    place_or_length : (p : ValueOption → Bool) (os : List ValueOption) → unwrap_or (position p os) (length os) ≡ position_or_len p os
+    place_or_length p os = here (position_or_len p os) (length os) (prefix_len-le-length _ os) _ refl
 
 -- where an element passes, the first that does is before the end
 place_before_end : {X : Type 0} (p : X → Bool) (xs : List X) → list_any p xs ≡ true → position_or_len p xs < length xs

@@ -7,7 +7,8 @@ use Rattle.std.specs.Option.{option_map_or}
 use Rattle.std.specs.Str.{bytes_eq}
 use Rattle.clap.specs.Words.{Row, Text, all_of, first_of}
 use Rattle.command_line.specs.Numbers.{IsNumber, IsSpelled, number_of}
-use Rattle.command_line.specs.Tables.{Choice, Flag, Usage, among, greatest_of, is_among, least_of, usage_named, within}
+use Rattle.command_line.specs.Tables.{Choice, Flag, Usage, among, greatest_of, is_among, least_of, place_named}
+use Rattle.command_line.specs.Tables.{usage_named, usage_of, within}
 use Rattle.command_line.specs.declared.request.Request.{Request}
 
 -- a subcommand, the numbers of its options in the order of the table, and the numbers of its calls
@@ -17,7 +18,19 @@ pub record Asked : Type 0 where
   pub calls : List ℕ
 
 abbrev pub asked_of : Request → Asked
-asked_of r = record { name = r.name.now; numbers = r.numbers.items; calls = r.calls.items }
+asked_of r = record { name = r.subcommand.now.name.now; numbers = r.numbers.items; calls = r.calls.items }
+
+-- the options of its subcommand
+abbrev pub flags_of : Request → List Flag
+flags_of r = (usage_of r.subcommand.now).flags
+
+-- the number of its option of this name
+abbrev pub number_named : Text → Request → ℕ
+number_named name r = slice_index r.numbers.items (place_named name (flags_of r))
+
+-- its subcommand is the first of its name
+abbrev pub IsDescribedBy : List Usage → Request → Type 0
+IsDescribedBy table r = usage_named r.subcommand.now.name.now table ≡ Some (usage_of r.subcommand.now)
 
 -- the text stands for the number: it spells the number, or is the word at this place, the first that
 -- is this text
@@ -114,3 +127,8 @@ abbrev pub IsAskable : List Usage → Asked → Type 0
 IsAskable [] asked = ⊥
 IsAskable (u ∷ us) asked = (bytes_eq asked.name u.name ≡ true → Fits u asked)
     × (bytes_eq asked.name u.name ≡ false → IsAskable us asked)
+
+-- these are the options of the first subcommand of this name, and there is one
+abbrev pub AreFlagsOf : List Usage → Text → List Flag → Type 0
+AreFlagsOf [] name flags = ⊥
+AreFlagsOf (u ∷ us) name flags = (bytes_eq name u.name ≡ true → flags ≡ u.flags) × (bytes_eq name u.name ≡ false → AreFlagsOf us name flags)

@@ -1,7 +1,7 @@
 -- Tables of subcommands: the name of each, its options with their values and defaults, and whether it
 -- takes the numbers of calls.
 use Rattle.std.specs.Prelude.{◌-◌, ◌==◌, ℕ, Bool, true, false, not, ◌&&◌, nat_le, length, List, [], ◌∷◌, Option, map, codes, find}
-use Rattle.std.specs.List.{list_all, list_any}
+use Rattle.std.specs.List.{list_all, list_any, position_or_len}
 use Rattle.std.specs.Option.{option_map_or}
 use Rattle.std.specs.Str.{bytes_eq}
 use Rattle.clap.specs.Lexer.{has_byte}
@@ -67,6 +67,10 @@ usage_named name table = find (λ u. bytes_eq u.name name) table
 -- the first option of this name
 abbrev pub flag_named : Text → List Flag → Option Flag
 flag_named name flags = find (λ f. bytes_eq f.name name) flags
+
+-- its place, and the number of options where none is of this name
+abbrev pub place_named : Text → List Flag → ℕ
+place_named name flags = position_or_len (λ f. bytes_eq f.name name) flags
 
 -- ---- tables that `clap` reads as they are meant
 

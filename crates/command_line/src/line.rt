@@ -1,3 +1,5 @@
+// What words ask for, subcommand by subcommand.
+
 /// What the words ask for: a subcommand, with its values.
 #[derive(Debug, Drop)]
 pub enum Line {

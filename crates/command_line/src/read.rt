@@ -1,3 +1,4 @@
+// From words to the line that they ask for.
 ghost use Rattle.std.specs.Prelude.{◌≡◌, ◌<◌, ℕ, IfErr, IfOk, List, MatchResult, OnOk, Option, true};
 ghost use Rattle.std.specs.Option.{option_map_or};
 ghost use Rattle.clap.specs.Words.{Text, takes};
@@ -9,7 +10,7 @@ ghost use Rattle.command_line.specs.Lines.{IsJudge, IsLineOf, IsLocate, IsWithin
 ghost use Rattle.command_line.specs.Trees.{place_of};
 ghost use Rattle.command_line.specs.Numbers.{number_of};
 ghost use Rattle.command_line.specs.Program.{bench_app, bench_table};
-ghost use Rattle.command_line.specs.Requests.{IsAskable, asked_of};
+ghost use Rattle.command_line.specs.Requests.{AreFlagsOf, IsAskable, asked_of, flags_of};
 ghost use Rattle.command_line.specs.Tables.{Usage};
 ghost use Rattle.command_line.specs.Words.{Given, Gives, IsUse};
 
@@ -70,53 +71,54 @@ pub fn read_line<'a>(alloc: Global, words: &'a [&'a str]) -> Result<Line, LineFa
 
 // The line of a request.
 fn line_of(request: Request<'_>) -> Line
-    requires { IsAskable bench_table (asked_of request) }
+    requires askable { IsAskable bench_table (asked_of request) }
+    requires described { AreFlagsOf bench_table request.subcommand.now.name.now (flags_of request) }
     ensures same { asked_by result ≡ asked_of request.entry }
     ensures limits { IsWithinLimits result }
 {
-    match request.name {
+    match request.subcommand.name {
         "check" => Line::Check {
             order: request.calls,
         },
         "judge" => Line::Judge {
-            budget: request.number(0),
-            workers: request.number(1),
+            budget: request.number("budget"),
+            workers: request.number("workers"),
         },
         "locate" => Line::Locate {
-            budget: request.number(0),
-            workers: request.number(1),
+            budget: request.number("budget"),
+            workers: request.number("workers"),
         },
         "explain" => Line::Explain {
-            budget: request.number(0),
+            budget: request.number("budget"),
         },
         "draw" => Line::Draw {
-            budget: request.number(0),
-            workers: request.number(1),
-            around: request.number(2),
-            calls: request.number(3),
+            budget: request.number("budget"),
+            workers: request.number("workers"),
+            around: request.number("around"),
+            calls: request.number("calls"),
         },
         "follow" => Line::Follow {
-            budget: request.number(0),
+            budget: request.number("budget"),
         },
         "generate" => Line::Generate {
-            seed: request.wide_number(0),
-            processes: request.number(1),
-            calls: request.number(2),
-            get: request.number(3),
-            insert: request.number(4),
-            remove: request.number(5),
-            scan: request.number(6),
-            lo: request.number(7),
-            hi: request.number(8),
+            seed: request.wide_number("seed"),
+            processes: request.number("processes"),
+            calls: request.number("calls"),
+            get: request.number("get"),
+            insert: request.number("insert"),
+            remove: request.number("remove"),
+            scan: request.number("scan"),
+            lo: request.number("lo"),
+            hi: request.number("hi"),
         },
         "replay" => Line::Replay,
         "drive" => Line::Drive {
-            tree: tree_at(request.number(0)),
-            rows4: request.number(1),
-            rows16: request.number(2),
-            rows48: request.number(3),
-            rows256: request.number(4),
-            limit: request.number(5),
+            tree: tree_at(request.number("tree")),
+            rows4: request.number("rows4"),
+            rows16: request.number("rows16"),
+            rows48: request.number("rows48"),
+            rows256: request.number("rows256"),
+            limit: request.number("limit"),
         },
         _ => unreachable!(),
     }

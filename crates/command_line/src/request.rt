@@ -1,3 +1,4 @@
+// From words to a subcommand of any table, with its numbers.
 ghost use Rattle.std.specs.Prelude.{◌≡◌, ◌<◌, ◌^◌, ℕ, [], IfErr, IfOk, List, MatchResult, OnOk, Some};
 ghost use Rattle.std.specs.Prelude.{Option, codes, is_some, length, map, not, option_map, position, slice_index, true};
 ghost use Rattle.std.specs.List.{All, list_any};
@@ -8,8 +9,9 @@ ghost use Rattle.clap.specs.Walk.{texts};
 ghost use Rattle.command_line.specs.Commands.{table_app};
 ghost use Rattle.command_line.specs.Numbers.{IsNumber, number_of};
 ghost use Rattle.command_line.specs.Requests.{AreCallsOf, AreNumbersOf, Asks, Meets, are_named};
-ghost use Rattle.command_line.specs.Requests.{IsNumberOf, StandsFor, asked_of, has_named, is_named, values_of};
-ghost use Rattle.command_line.specs.Tables.{Usage, choice_of, flag_of, is_table, usage_named, usage_of};
+ghost use Rattle.command_line.specs.Requests.{IsDescribedBy, IsNumberOf, StandsFor, asked_of, flags_of, has_named};
+ghost use Rattle.command_line.specs.Requests.{is_named, number_named, values_of};
+ghost use Rattle.command_line.specs.Tables.{Usage, choice_of, flag_of, is_table, place_named, usage_named, usage_of};
 ghost use Rattle.command_line.specs.Words.{Given, Gives, IsUse};
 
 use crate::command::command_of;
@@ -21,8 +23,8 @@ use std::alloc::{AllocError, Global};
 /// What words ask for: a subcommand of a table, with its numbers.
 #[derive(Debug, Drop)]
 pub(crate) struct Request<'a> {
-    /// The name of the subcommand.
-    pub(crate) name: &'a str,
+    /// The subcommand.
+    pub(crate) subcommand: &'a Subcommand<'a>,
     /// The number of each of its options, in their order.
     pub(crate) numbers: Vec<u64>,
     /// The numbers of its calls.
@@ -30,21 +32,21 @@ pub(crate) struct Request<'a> {
 }
 
 impl Request<'_> {
-    /// The number of the option at this place.
-    pub(crate) fn number(&self, place: usize) -> u32
-        requires there { place < length self.now.numbers.items }
-        requires fits { slice_index self.now.numbers.items place < 2 ^ 32 }
-        ensures { result ≡ slice_index self.now.numbers.items place }
+    /// The number of the option of this name.
+    pub(crate) fn number(&self, name: &str) -> u32
+        requires there { place_named name.now (flags_of self.now) < length self.now.numbers.items }
+        requires fits { number_named name.now self.now < 2 ^ 32 }
+        ensures { result ≡ number_named name.entry.now self.now }
     {
-        self.numbers[place] as u32
+        self.wide_number(name) as u32
     }
 
-    /// The number of the option at this place, which may be past what a `u32` holds.
-    pub(crate) fn wide_number(&self, place: usize) -> u64
-        requires { place < length self.now.numbers.items }
-        ensures { result ≡ slice_index self.now.numbers.items place }
+    /// The number of the option of this name, which may be past what a `u32` holds.
+    pub(crate) fn wide_number(&self, name: &str) -> u64
+        requires { place_named name.now (flags_of self.now) < length self.now.numbers.items }
+        ensures { result ≡ number_named name.entry.now self.now }
     {
-        self.numbers[place]
+        self.numbers[place_of_option(self.subcommand.options, name)]
     }
 }
 
@@ -60,6 +62,7 @@ pub(crate) fn read_request<'a>(
     ensures asked { IfOk result (λ r. Asks (map usage_of table.entry.now)
         (subcommand_of (table_app name.entry.now (map usage_of table.entry.now))
         (texts words.entry.now)) (asked_of r)) }
+    ensures described { IfOk result (IsDescribedBy (map usage_of table.entry.now)) }
     ensures accepted { OnOk result
         (fault_of (table_app name.entry.now (map usage_of table.entry.now))
         (texts words.entry.now) ≡ []) }
@@ -100,6 +103,7 @@ fn request_of<'a>(
     requires { Meets (map usage_of table.now) (subcommand_rows_of matches.now) }
     ensures asked { IfOk result (λ r. Asks (map usage_of table.entry.now)
         (subcommand_rows_of matches.now) (asked_of r)) }
+    ensures described { IfOk result (IsDescribedBy (map usage_of table.entry.now)) }
     ensures named { OnOk result
         (has_named (map usage_of table.entry.now) (subcommand_rows_of matches.now) ≡ true) }
     ensures refused { has_named (map usage_of table.entry.now) (subcommand_rows_of matches.now)
@@ -112,7 +116,7 @@ fn request_of<'a>(
         return Err(LineFault::unknown(alloc, option, value));
     }
     Ok(Request {
-        name: subcommand.name,
+        subcommand,
         numbers: numbers_of_options(alloc, matched, subcommand.options)?,
         calls: calls_of(alloc, matched, subcommand.takes_calls)?,
     })
@@ -156,6 +160,20 @@ fn place_of(text: &str, words: &[&str]) -> Option<usize>
     ensures { result ≡ position (λ word. bytes_eq word.now text.now) words.now }
 {
     words.iter().position(|word| *word == text)
+}
+
+// The place of the option of this name, the first where it is several times there, and behind them where it is not.
+fn place_of_option(options: &[ValueOption<'_>], name: &str) -> usize
+    ensures { result ≡ place_named name.now (map flag_of options.now) }
+{
+    first_named(options, name).unwrap_or(options.len())
+}
+
+// The place of the first option of this name.
+fn first_named(options: &[ValueOption<'_>], name: &str) -> Option<usize>
+    ensures { result ≡ position (λ option. bytes_eq option.name.now name.now) options.now }
+{
+    options.iter().position(|option| option.name == name)
 }
 
 // The subcommand of this name.

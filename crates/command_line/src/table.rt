@@ -1,3 +1,5 @@
+// Tables of subcommands and their options.
+
 /// What the value of an option may be, and the number that it stands for.
 #[derive(Debug, Clone, Copy)]
 pub(crate) enum Values<'a> {

@@ -4,10 +4,11 @@ use Rattle.clap.specs.Words.{Text, subcommand_of}
 use Rattle.command_line.specs.LineFaults.{IsAccepted, IsFaultAt}
 use Rattle.command_line.specs.Program.{bench_app, bench_table, check_usage, draw_usage, drive_usage, judge_usage, locate_usage}
 use Rattle.command_line.specs.Requests.{Asks}
+use Rattle.command_line.specs.Tables.{usage_of}
 use Rattle.command_line.specs.Words.{Gives}
 use Rattle.command_line.specs.declared.fault.LineFault.{LineFault}
 use Rattle.command_line.specs.declared.fault.LineFault.TheVariants as faults
-use Rattle.command_line.proofs.AskableLemmas.{askable}
+use Rattle.command_line.proofs.AskableLemmas.{askable, described}
 use Rattle.command_line.proofs.LineLemmas.{check_use, checks, draw_use, draws, drive_use, drives, judge_given, judge_use}
 use Rattle.command_line.proofs.LineLemmas.{judges, locate_given, locate_use, locates}
 use Rattle.command_line.proofs.read.read_line.Goals as goal
@@ -17,8 +18,13 @@ fault_at : (words : List Text) (fault : LineFault) → (IsAccepted words → fau
 fault_at words (faults.Line text) memory = λ accepted. let never = memory accepted in cc
 fault_at words faults.Memory memory = tt
 
-pub line_of-requires : goal.line_of-requires
-line_of-requires c = askable bench_table _ _ c.in-Ok.ensures.asked
+pub line_of-requires-clause-askable : goal.line_of-requires-clause-askable
+line_of-requires-clause-askable c = askable bench_table _ _ c.in-Ok.ensures.asked
+
+pub line_of-requires-clause-described : goal.line_of-requires-clause-described
+line_of-requires-clause-described c =
+    described bench_table (usage_of c.in-Ok.request.subcommand.now)
+    c.in-Ok.request.subcommand.now.name.now c.in-Ok.ensures.described
 
 pub returns-in-Ok-clause-line : goal.returns-in-Ok-clause-line
 unfolding bench_app

@@ -75,6 +75,13 @@ returns-clause-asked c =
       calls = c.in_ok-calls_of.ensures;
     }
 
+pub returns-clause-described : goal.returns-clause-described
+returns-clause-described c =
+    let u : Usage = usage_of c.subcommand_named-subcommand.result.now in
+    let table : List Usage = map usage_of c.args.table.now in
+    ap (λ (n : Text). usage_named n table) (named_so table c.unwrap.result.0.now u c.subcommand_named-subcommand.ensures)
+    ∙ c.subcommand_named-subcommand.ensures
+
 pub returns-clause-named : goal.returns-clause-named
 returns-clause-named c =
     let met = met_is c.args.matches.now c.subcommand.result c.unwrap.result c.unwrap.ensures c.subcommand.ensures.name
