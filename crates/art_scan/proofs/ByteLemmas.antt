@@ -1,7 +1,7 @@
 -- The bytes of one index word, and bytes that are passed over.
 use Rattle.std.proofs.Common.{◌≡◌, ℕ, zero, suc, ◌+◌, ◌-◌, ◌*◌, ◌/◌, ◌<◌, ◌≤◌, List, [], ◌∷◌, ◌++◌, refl, ap, ◌∙◌, Bool, true, false, arith}
 use Rattle.std.proofs.Common.{sym, ⊎_elim}
-use Rattle.std.proofs.lemmas.Bool.{eq-eqb, ne_eqb, cases_lt}
+use Rattle.std.proofs.lemmas.Bool.{eq-eqb, ne_eqb, cases_lt, false≢true}
 use Rattle.std.proofs.lemmas.List.{append-nil}
 use Rattle.std.proofs.lemmas.List.Elements.{filter-append}
 use Rattle.std.specs.Prelude.{if◌then◌else◌, filter, Option}
@@ -52,10 +52,24 @@ all_in j p x (suc n) h = go (p x) (all_in j p (x + 1) n (λ y a b. h y (omega (a
         (h x (omega arith) (omega arith)) ∙ ap (λ ys. x ∷ ys) e
     go false e = e
 
-before : (j y : ℕ) → y < 8 * j → in_word j y ≡ false
+pub before : (j y : ℕ) → y < 8 * j → in_word j y ≡ false
 before j y h = ne_eqb (y / 8) j (λ e. omega (arith, h, e))
 
-within : (j y : ℕ) → 8 * j ≤ y → y < 8 * j + 8 → in_word j y ≡ true
+-- none is in the word where those from its first byte on are left out
+pub none_from : (j : ℕ) (p : ℕ → Bool) (xs : List ℕ) → ((y : ℕ) → 8 * j ≤ y → p y ≡ false) → filter (in_word j) (filter p xs) ≡ []
+none_from j p [] h = refl
+none_from j p (x ∷ xs) h = go (p x) refl (none_from j p xs h)
+  where
+    below : p x ≡ true → x < 8 * j
+    below e = ⊎_elim (λ less. less) (λ more. absurd (false≢true (sym (h x more) ∙ e))) (cases_lt x (8 * j))
+
+    go : (b : Bool) → p x ≡ b → filter (in_word j) (filter p xs) ≡ []
+        → filter (in_word j) (if b then x ∷ filter p xs else filter p xs) ≡ []
+    go true e none =
+        ap (λ b. if b then x ∷ filter (in_word j) (filter p xs) else filter (in_word j) (filter p xs)) (before j x (below e)) ∙ none
+    go false e none = none
+
+pub within : (j y : ℕ) → 8 * j ≤ y → y < 8 * j + 8 → in_word j y ≡ true
 within j y a b = eq-eqb (y / 8) j (omega (arith, a, b))
 
 pub behind : (j y : ℕ) → 8 * j + 8 ≤ y → in_word j y ≡ false
@@ -86,18 +100,6 @@ pub word_bytes : (j n k : ℕ) (p : ℕ → Bool) → j ≤ 31 → n ≡ 256 →
 word_bytes j n k p h e f = ap (λ m. filter (in_word j) (filter p (numbers 0 m))) (omega (arith, h, e, f)) ∙ word_split j k (248 - 8 * j) p f
 
 -- bytes that are not walked are passed over
-pub bytes_skip : (test : ℕ → Bool) (slot_of : ℕ → Option ℕ) (child : ℕ → ℕ → ℕ → ScanAt) (x d n : ℕ) (other : ScanAt)
-    → ((y : ℕ) → x ≤ y → y < x + d → test y ≡ false)
-    → bytes_at test slot_of child x (d + n) other ≡ bytes_at test slot_of child (x + d) n other
-bytes_skip test slot_of child x zero n other h =
-    ap (λ k. bytes_at test slot_of child x k other) (zero_left n) ∙ ap (λ y. bytes_at test slot_of child y n other) (zero_right x)
-bytes_skip test slot_of child x (suc d) n other h =
-    ap (λ k. bytes_at test slot_of child x k other) (suc_left d n)
-    ∙ (ap (λ b. if b then slot_at (slot_of x) (child (x + 1) (d + n)) (bytes_at test slot_of child (x + 1) (d + n) other)
-    else bytes_at test slot_of child (x + 1) (d + n) other) (h x (omega arith) (omega arith))
-    ∙ (bytes_skip test slot_of child (x + 1) d n other (λ y a b. h y (omega (arith, a)) (omega (arith, b)))
-    ∙ ap (λ y. bytes_at test slot_of child y n other) (suc_right x d)))
-
 pub bytes_past : (test : ℕ → Bool) (slot_of : ℕ → Option ℕ) (child : ℕ → ℕ → ℕ → ScanAt) (x n : ℕ) (other : ScanAt)
     → ((y : ℕ) → x ≤ y → test y ≡ false) → bytes_at test slot_of child x n other ≡ other
 bytes_past test slot_of child x zero other h = refl

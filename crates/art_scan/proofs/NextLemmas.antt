@@ -1,18 +1,19 @@
 -- The next byte, index word or child of a scan, by what is met.
-use Rattle.std.proofs.Common.{◌≡◌, ℕ, zero, suc, ◌+◌, ◌-◌, ◌<◌, ◌≤◌, List, [], ◌∷◌, refl, ap, sym, ◌∙◌, Bool, true, false, arith}
+use Rattle.std.proofs.Common.{◌≡◌, ℕ, zero, suc, ◌+◌, ◌-◌, ◌*◌, ◌≤◌, List, [], ◌∷◌, refl, ap, sym, ◌∙◌, Bool, true, false, arith}
 use Rattle.std.proofs.lemmas.Bool.{false≢true, and_left}
 use Rattle.std.specs.Prelude.{if◌then◌else◌, Option, Some, None, filter}
 use Rattle.art_rows.specs.declared.table.Kind.{Kind}
 use Rattle.art_rows.specs.declared.table.Kind.TheVariants.{Four, Sixteen, FortyEight, Full}
 use Rattle.art_rows.proofs.WriterLemmas.{less_one}
-use Rattle.art_steps.specs.Scan.{bytes_of}
+use Rattle.art_steps.specs.Scan.{bytes_of, can_lie}
+use Rattle.art_steps.specs.Steps.{numbers}
 use Rattle.art_stages.specs.declared.stage.Held.{Held}
 use Rattle.art_stages.specs.declared.stage.Frame.{Frame}
 use Rattle.art_stages.specs.declared.stage.ScanStep.TheVariants.{Index}
 use Rattle.art_stages.specs.Stages.{row_at}
 use Rattle.art_stages.specs.Scans.{Walk, ScanAt, at, in_word, slot_at, bytes_at, child_from, lies, index_at_list, words_at, frame_at}
-use Rattle.art_scan.proofs.ByteLemmas.{bytes_skip}
-use Rattle.art_scan.specs.Walks.{has_any, frame_test, frame_slot}
+use Rattle.art_scan.proofs.ByteLemmas.{none_from}
+use Rattle.art_scan.specs.Walks.{has_any, frame_test, frame_slot, words_behind}
 
 -- index words
 
@@ -39,6 +40,14 @@ words_skip low high n w j zero other some h = absurd (some refl)
 words_skip low high n w j (suc m) other some h =
     list_none n w j m (filter (in_word j) (bytes_of low high (row_at n))) (words_at low high n w (j + 1) m other) h
     ∙ ap (λ k. words_at low high n w (j + 1) k other) (sym (less_one m))
+
+pub words_past : (low high : ℕ) (n : Held) (w : Walk) (j m : ℕ) (other : ScanAt)
+    → ((y : ℕ) → 8 * j ≤ y → can_lie low high (row_at n) y ≡ false) → words_at low high n w j m other ≡ other
+words_past low high n w j zero other h = refl
+words_past low high n w j (suc m) other h =
+    list_none n w j m (filter (in_word j) (bytes_of low high (row_at n))) (words_at low high n w (j + 1) m other)
+    (ap has_any (none_from j (can_lie low high (row_at n)) (numbers 0 256) h))
+    ∙ words_past low high n w (j + 1) m other (λ y from. h y (omega (arith, from)))
 
 -- bytes
 
@@ -71,24 +80,21 @@ module _ (test : ℕ → Bool) (slot_of : ℕ → Option ℕ) (child : ℕ → �
 
 -- a row's children: its bytes, and in kind 48 the index words behind this one
 
-abbrev pub behind_bytes : Kind → ℕ → ℕ → Walk → Frame → ScanAt → ScanAt
-behind_bytes FortyEight low high w f other = words_at low high f.row w (f.index + 1) f.words other
-behind_bytes kind low high w f other = other
-
 pub frame_bytes : (kind : Kind) (low high : ℕ) (w : Walk) (f : Frame) (other : ScanAt)
     → frame_at kind low high w f other
-    ≡ bytes_at (frame_test kind low high f) (frame_slot kind f) (child_from w f) f.byte f.left (behind_bytes kind low high w f other)
+    ≡ bytes_at (frame_test kind low high f) (frame_slot kind f) (child_from w f) f.byte f.left
+    (words_behind kind low high f.row w f.index f.words other)
 frame_bytes Four low high w f other = refl
 frame_bytes Sixteen low high w f other = refl
 frame_bytes FortyEight low high w f other = refl
 frame_bytes Full low high w f other = refl
 
-pub behind_none : (kind : Kind) (low high : ℕ) (w : Walk) (f : Frame) (other : ScanAt) → (kind ≡ FortyEight → ⊥)
-    → behind_bytes kind low high w f other ≡ other
-behind_none Four low high w f other h = refl
-behind_none Sixteen low high w f other h = refl
-behind_none FortyEight low high w f other h = absurd (h refl)
-behind_none Full low high w f other h = refl
+pub behind_none : (kind : Kind) (low high : ℕ) (n : Held) (w : Walk) (j m : ℕ) (other : ScanAt) → (kind ≡ FortyEight → ⊥)
+    → words_behind kind low high n w j m other ≡ other
+behind_none Four low high n w j m other h = refl
+behind_none Sixteen low high n w j m other h = refl
+behind_none FortyEight low high n w j m other h = absurd (h refl)
+behind_none Full low high n w j m other h = refl
 
 -- bytes without a slot are passed over, whether they are walked or not
 pub bytes_bare : (test : ℕ → Bool) (slot_of : ℕ → Option ℕ) (child : ℕ → ℕ → ℕ → ScanAt) (x n : ℕ) (other : ScanAt) → (n ≡ 0 → ⊥)
@@ -99,19 +105,6 @@ bytes_bare test slot_of child x n other some e = go (test x) refl
     go : (b : Bool) → test x ≡ b → bytes_at test slot_of child x n other ≡ bytes_at test slot_of child (x + 1) (n - 1) other
     go true t = bytes_empty test slot_of child x n other some t e
     go false t = bytes_not test slot_of child x n other some t
-
--- from a later byte on
-pub frame_from : (kind : Kind) (low high : ℕ) (w : Walk) (f : Frame) (d : ℕ) (other : ScanAt) → d ≤ f.left
-    → ((y : ℕ) → f.byte ≤ y → y < f.byte + d → frame_test kind low high f y ≡ false)
-    → frame_at kind low high w f other
-    ≡ bytes_at (frame_test kind low high f) (frame_slot kind f) (child_from w f) (f.byte + d) (f.left - d)
-    (behind_bytes kind low high w f other)
-frame_from kind low high w f d other most h =
-    frame_bytes kind low high w f other
-    ∙ (ap (λ n. bytes_at (frame_test kind low high f) (frame_slot kind f) (child_from w f) f.byte n (behind_bytes kind low high w f other))
-    (omega (arith, most))
-    ∙ bytes_skip (frame_test kind low high f) (frame_slot kind f) (child_from w f) f.byte d (f.left - d)
-    (behind_bytes kind low high w f other) h)
 
 -- where no key can lie, a byte is not walked
 pub not_tested : (kind : Kind) (low high : ℕ) (f : Frame) (y : ℕ) → lies low high f y ≡ false → frame_test kind low high f y ≡ false

@@ -12,9 +12,14 @@ use Rattle.art_stages.specs.declared.stage.ScanStep.{ScanStep}
 use Rattle.art_stages.specs.declared.stage.ScanStep.TheVariants.{Lock, Exchange, Wait, Info, Keys, FirstKeys, SecondKeys, Index, Child}
 use Rattle.art_stages.specs.declared.stage.ScanStep.TheVariants.{Release, Over}
 use Rattle.art_stages.specs.Automaton.{keys_one}
-use Rattle.art_stages.specs.Scans.{Walk, at, on_way, with_frame, frame_of, frame_at, way_at, scan_turn, resume_at, row_begins, visit_list}
+use Rattle.art_rows.specs.declared.table.Child.{Child as ChildOf}
+use Rattle.art_rows.specs.declared.table.Child.TheVariants.{Leaf}
+use Rattle.art_rows.specs.Words.{child_of}
+use Rattle.art_stages.specs.Scans.{Walk, ScanAt, at, on_way, with_frame, frame_of, frame_at, way_at, scan_turn, resume_at}
+use Rattle.art_stages.specs.Scans.{row_begins, visit_list}
+use Rattle.art_stages.specs.Scans.{child_after, step_after}
 use Rattle.art_scan.specs.Sound.{is_over}
-use Rattle.art_scan.specs.Walks.{has_any}
+use Rattle.art_scan.specs.Walks.{has_any, with_pair}
 
 -- a way is gone on whatever way the walk has
 pub way_same : (c : Setting) (low high : ℕ) (w : Walk) (other fs : List Frame)
@@ -25,6 +30,19 @@ way_same c low high w other (f ∷ fs) = ap (frame_at f.row.kind low high (on_wa
 pub resume_frame : (c : Setting) (low high : ℕ) (w : Walk) (f : Frame)
     → resume_at c low high (with_frame w f) ≡ frame_at f.row.kind low high w f (resume_at c low high w)
 resume_frame c low high w f = ap (frame_at f.row.kind low high w f) (sym (way_same c low high w (f ∷ w.way) w.way))
+
+-- a child of a frame was read
+
+pub behind_child : (c : Setting) (low high : ℕ) (f : Frame) (slot got : ℕ) (child : ChildOf) (w : Walk) (step : ScanStep) (x : ScanAt)
+    → step ≡ Child f slot → child_of c.shape got ≡ child → child_after c low high (with_frame w f) child ≡ x
+    → x ≡ step_after c low high step w got
+behind_child c low high f slot got child w step x is read e =
+    sym e ∙ (ap (child_after c low high (with_frame w f)) (sym read) ∙ ap (λ s. step_after c low high s w got) (sym is))
+
+pub behind_leaf : (c : Setting) (low high : ℕ) (f : Frame) (key value : ℕ) (w v : Walk) (x : ScanAt) → v ≡ with_pair low high key value w
+    → frame_at f.row.kind low high v f (resume_at c low high v) ≡ x → child_after c low high (with_frame w f) (Leaf key value) ≡ x
+behind_leaf c low high f key value w v x counted e =
+    ap (λ u. resume_at c low high (with_frame u f)) (sym counted) ∙ (resume_frame c low high v f ∙ e)
 
 pub begins_full : (c : Setting) (low high : ℕ) (n : Held) (w : Walk) → n.kind ≡ Full
     → resume_at c low high (with_frame w (frame_of n (keys_one 0) 0 0)) ≡ row_begins n.kind c low high n w

@@ -1,14 +1,15 @@
 -- What a scan has, as its automaton sees it, and the stage with it.
-use Rattle.std.specs.Prelude.{ℕ, List, [], ◌∷◌, Bool, true, false, ◌<◌, Option, Some, None, drop, reverse, vec_len, vec_capacity}
+use Rattle.std.specs.Prelude.{◌≡◌, ◌⊎◌, ℕ, ◌+◌, ◌-◌, ◌*◌, ◌^◌, nat_le, List, [], ◌∷◌, Bool, true, false, ◌<◌, Option, Some, None}
+use Rattle.std.specs.Prelude.{drop, reverse, vec_len, vec_capacity}
 use Rattle.art_rows.specs.declared.table.Kind.{Kind}
 use Rattle.art_rows.specs.declared.table.Kind.TheVariants.{FortyEight, Full}
 use Rattle.art_rows.specs.Table.{child_at}
-use Rattle.art_rows.specs.Words.{place_of}
+use Rattle.art_rows.specs.Words.{big_endian, info_of, place_of}
 use Rattle.art_steps.specs.Scan.{with_leaf}
+use Rattle.art_stages.specs.declared.stage.Held.{Held}
 use Rattle.art_stages.specs.declared.stage.Frame.{Frame}
-use Rattle.art_stages.specs.declared.stage.ScanStep.{ScanStep}
 use Rattle.art_stages.specs.Stages.{keys_among}
-use Rattle.art_stages.specs.Scans.{Walk, ScanAt, at, walked, bytes_at, child_from, lies, word_test, entry_slot, place_slot}
+use Rattle.art_stages.specs.Scans.{Walk, ScanAt, walked, words_at, child_from, lies, word_test, entry_slot, place_slot}
 use Rattle.art_scan.specs.declared.lists.Lists.{Lists}
 use Rattle.art_scan.specs.declared.children.WalkedByte.{WalkedByte}
 
@@ -26,11 +27,6 @@ pub record HasRoomForOneMore (l : Lists) : Type 0 where
 abbrev pub with_pair : ℕ → ℕ → ℕ → ℕ → Walk → Walk
 with_pair low high key value w = record { rows = w.rows; pairs = (with_leaf low high key value (walked w)).pairs; way = w.way }
 
--- the scan is at this step with this walk, or else where it otherwise goes
-abbrev pub step_or : Option ScanStep → Walk → ScanAt → ScanAt
-step_or None w other = other
-step_or (Some step) w other = at step w
-
 -- the scan goes on to this byte of the frame, or else where it otherwise goes
 abbrev pub child_or : Frame → Option WalkedByte → Walk → ScanAt → ScanAt
 child_or f None w other = other
@@ -46,9 +42,19 @@ frame_slot FortyEight f x = entry_slot f x
 frame_slot Full f x = Some (child_at Full f.row.base x)
 frame_slot kind f x = place_slot f.row.kind f.row.base (place_of x (keys_among kind f.keys))
 
--- so many of its bytes from this one on
-abbrev pub bytes_of_frame : ℕ → ℕ → Walk → Frame → ℕ → ℕ → ScanAt → ScanAt
-bytes_of_frame low high w f x n other = bytes_at (frame_test f.row.kind low high f) (frame_slot f.row.kind f) (child_from w f) x n other
+-- one of its bytes has no slot, or is not walked
+abbrev pub IsPassed : Kind → Frame → ℕ → Type 0
+IsPassed kind f y = (frame_slot kind f y ≡ None) ⊎ ((low high : ℕ) → frame_test kind low high f y ≡ false)
+
+-- the keys under a byte of a row do not all come behind this one
+abbrev pub begins_by : ℕ → Held → ℕ → Bool
+begins_by high n x =
+    nat_le ((256 * big_endian 0 (info_of n.kind n.info).path + x) * 256 ^ (3 - (info_of n.kind n.info).level)) high
+
+-- behind the bytes of a row come its index words, in kind 48
+abbrev pub words_behind : Kind → ℕ → ℕ → Held → Walk → ℕ → ℕ → ScanAt → ScanAt
+words_behind FortyEight low high n w j m other = words_at low high n w (j + 1) m other
+words_behind kind low high n w j m other = other
 
 -- the list has an item
 abbrev pub has_any : List ℕ → Bool

@@ -1,103 +1,100 @@
 // The next child of a row that a scan walks.
-ghost use Rattle.std.specs.Prelude.{◌≡◌, ◌+◌, ◌<◌, ◌≤◌, ℕ, true, false, nat_le, None, IfSome};
-ghost use Rattle.art_stages.specs.Scans.{Walk, ScanAt, at, words_at, frame_at, child_from};
+ghost use Rattle.std.specs.Prelude.{◌≡◌, ◌+◌, ◌<◌, ◌≤◌, ℕ, true, false, nat_le, Some, None, IfSome, if◌then◌else◌, ◌⊎◌};
+ghost use Rattle.art_stages.specs.Scans.{Walk, ScanAt, at, words_at, frame_at, child_from, lies, in_word, entry_slot};
+ghost use Rattle.art_stages.specs.declared.stage.ScanStep.TheVariants.{Child};
 ghost use Rattle.art_scan.specs.Sound.{is_sound_frame, is_sound_step};
-ghost use Rattle.art_scan.specs.Walks.{step_or, child_or, frame_test, frame_slot, bytes_of_frame};
+ghost use Rattle.art_scan.specs.Walks.{child_or, words_behind, frame_test, frame_slot, IsPassed};
 
 use crate::met_bytes::is_met_in;
 use crate::next_keys::{next_key4, next_key16};
-use crate::ranges::{can_lie, is_behind};
+use crate::ranges::{bytes_ahead, is_behind};
 use art_rows::{Kind, index_entry};
-use art_setting::{child_slot, key_among};
+use art_setting::child_slot;
 use art_stages::{Frame, Held, ScanStep};
 
-/// Is a byte walked?
-fn is_walked(low: u64, high: u64, frame: &Frame, byte: u32) -> bool
-    requires { byte < 256 }
-    ensures { result ≡ frame_test frame.now.row.kind low high frame.now byte }
+/// A byte that has a slot, and the slot; the byte is 256 where there is none.
+#[derive(Clone, Copy)]
+pub struct ByteSlot {
+    pub byte: u32,
+    pub slot: usize,
+}
+
+/// The next byte with an entry, from this one on among so many of a frame's index word, in kind 48.
+fn next_entry(frame: &Frame, byte: u32, left: u32) -> ByteSlot
+    requires { byte + left ≤ 256 }
+    ensures most { result.byte ≤ 256 }
+    ensures from { byte ≤ result.byte }
+    ensures within { result.byte < 256 → result.byte < byte + left }
+    ensures slot { result.byte < 256 → entry_slot frame.now result.byte ≡ Some result.slot }
+    ensures bare { (y : ℕ) → byte ≤ y → y < result.byte → y < byte + left → entry_slot frame.now y ≡ None }
 {
-    match frame.row.kind {
-        Kind::FortyEight => can_lie(low, high, frame.row, byte) && byte / 8 == frame.index,
-        _ => can_lie(low, high, frame.row, byte),
+    if left == 0 {
+        return ByteSlot { byte: 256, slot: 0 };
+    }
+    let entry = index_entry(frame.keys.first, byte);
+    if entry == 0 {
+        next_entry(frame, byte + 1, left - 1)
+    } else {
+        ByteSlot {
+            byte,
+            slot: child_slot(Kind::FortyEight, frame.row.base, entry - 1),
+        }
     }
 }
 
-/// The slot of a byte, where it has one.
-fn slot_of(frame: &Frame, byte: u32) -> Option<usize>
-    requires { byte < 256 }
-    ensures { result ≡ frame_slot frame.now.row.kind frame.now byte }
+/// The same among those of all its index word.
+fn next_in_word(frame: &Frame, byte: u32) -> ByteSlot
+    requires index { frame.now.index ≤ 31 }
+    requires byte { byte < 256 }
+    ensures most { result.byte ≤ 256 }
+    ensures from { byte ≤ result.byte }
+    ensures word { result.byte < 256 → in_word frame.now.index result.byte ≡ true }
+    ensures slot { result.byte < 256 → entry_slot frame.now result.byte ≡ Some result.slot }
+    ensures bare { (y : ℕ) → byte ≤ y → y < result.byte → (entry_slot frame.now y ≡ None) ⊎ (in_word frame.now.index y ≡ false) }
+{
+    let first = 8 * frame.index;
+    if byte < first {
+        next_entry(frame, first, 8)
+    } else if byte < first + 8 {
+        next_entry(frame, byte, first + 8 - byte)
+    } else {
+        ByteSlot { byte: 256, slot: 0 }
+    }
+}
+
+/// The next byte of a frame that has a slot, from this one on; in kind 48 among those of its index word.
+fn next_slot(frame: &Frame, byte: u32) -> ByteSlot
+    requires index { frame.now.index ≤ 31 }
+    requires byte { byte < 256 }
+    ensures most { result.byte ≤ 256 }
+    ensures from { byte ≤ result.byte }
+    ensures walked { result.byte < 256 → (low high : ℕ)
+        → frame_test frame.now.row.kind low high frame.now result.byte ≡ lies low high frame.now result.byte }
+    ensures slot { result.byte < 256 → frame_slot frame.now.row.kind frame.now result.byte ≡ Some result.slot }
+    ensures bare { (y : ℕ) → byte ≤ y → y < result.byte → IsPassed frame.now.row.kind frame.now y }
 {
     let row = frame.row;
-    match row.kind {
-        Kind::Four | Kind::Sixteen => match key_among(row.kind, frame.keys, byte) {
-            None => None,
-            Some(place) => Some(child_slot(row.kind, row.base, place)),
-        },
-        Kind::FortyEight => {
-            let entry = index_entry(frame.keys.first, byte);
-            if entry == 0 {
-                None
-            } else {
-                Some(child_slot(Kind::FortyEight, row.base, entry - 1))
-            }
-        }
-        Kind::Full => Some(child_slot(Kind::Full, row.base, byte)),
-    }
-}
-
-/// So many bytes come before those of a frame's index word, in kind 48.
-fn bytes_before(frame: &Frame) -> u32
-    requires { is_sound_frame frame.now ≡ true }
-    ensures most { result ≤ frame.now.left }
-    ensures passed { (low high y : ℕ) → frame.now.byte ≤ y → y < frame.now.byte + result → frame_test frame.now.row.kind low high frame.now y ≡ false }
-{
-    match frame.row.kind {
-        Kind::FortyEight => {
-            let first = 8 * frame.index;
-            if frame.byte + frame.left <= first {
-                frame.left
-            } else {
-                first.saturating_sub(frame.byte)
-            }
-        }
-        _ => 0,
-    }
-}
-
-/// Do all bytes from this one on come behind those of its index word, in kind 48?
-fn is_past(frame: &Frame, byte: u32) -> bool
-    ensures { result ≡ true → (low high y : ℕ) → byte ≤ y → frame_test frame.now.row.kind low high frame.now y ≡ false }
-{
-    match frame.row.kind {
-        Kind::FortyEight => byte / 8 > frame.index,
-        _ => false,
-    }
-}
-
-/// The bytes from this one up to the next that may have a slot have none.
-fn next_key(frame: &Frame, byte: u32) -> u32
-    ensures { (y : ℕ) → byte ≤ y → y < result → frame_slot frame.now.row.kind frame.now y ≡ None }
-{
     let keys = frame.keys;
-    match frame.row.kind {
-        Kind::Four => next_key4(keys.first, byte),
-        Kind::Sixteen => next_key16(keys.count, keys.first, keys.second, byte),
-        Kind::FortyEight | Kind::Full => byte,
-    }
-}
-
-/// So many of the bytes from this one on are passed over for that.
-fn bare_bytes(frame: &Frame, byte: u32, left: u32) -> u32
-    ensures most { result ≤ left }
-    ensures bare { (y : ℕ) → byte ≤ y → y < byte + result → frame_slot frame.now.row.kind frame.now y ≡ None }
-{
-    let next = next_key(frame, byte);
-    if next <= byte {
-        0
-    } else if next - byte <= left {
-        next - byte
-    } else {
-        left
+    match row.kind {
+        Kind::Four => {
+            let key = next_key4(keys.first, byte);
+            ByteSlot {
+                byte: key.byte,
+                slot: child_slot(Kind::Four, row.base, key.place),
+            }
+        }
+        Kind::Sixteen => {
+            let key = next_key16(keys.count, keys.first, keys.second, byte);
+            ByteSlot {
+                byte: key.byte,
+                slot: child_slot(Kind::Sixteen, row.base, key.place),
+            }
+        }
+        Kind::FortyEight => next_in_word(frame, byte),
+        Kind::Full => ByteSlot {
+            byte,
+            slot: child_slot(Kind::Full, row.base, byte),
+        },
     }
 }
 
@@ -109,36 +106,114 @@ pub struct WalkedByte {
     pub slot: usize,
 }
 
-/// The next that is walked among so many bytes from this one on.
-fn next_byte(low: u64, high: u64, frame: &Frame, byte: u32, left: u32) -> Option<WalkedByte>
-    requires bytes { byte + left ≤ 256 }
-    ensures next { (w : Walk) (other : ScanAt) → bytes_of_frame low high w frame.now byte left other ≡ child_or frame.now result w other }
+/// The next byte of a frame that is walked.
+fn next_walked(low: u64, high: u64, frame: &Frame) -> Option<WalkedByte>
+    requires { is_sound_frame frame.now ≡ true }
+    ensures next { (w : Walk) (other : ScanAt) → frame_at frame.now.row.kind low high w frame.now other
+        ≡ child_or frame.now result w (words_behind frame.now.row.kind low high frame.now.row w frame.now.index frame.now.words other) }
     ensures left { IfSome result (λ n. nat_le (n.next + n.left) 256 ≡ true) }
 {
-    let bare = bare_bytes(frame, byte, left);
-    if bare == left {
+    let ahead = bytes_ahead(low, frame.row, frame.byte, frame.left);
+    if ahead == frame.left {
         return None;
     }
-    let first = byte + bare;
-    let after = left - bare - 1;
-    if is_past(frame, first) {
+    let end = frame.byte + frame.left;
+    let found = next_slot(frame, frame.byte + ahead);
+    if found.byte >= end {
         return None;
     }
-    match slot_of(frame, first) {
-        None => next_byte(low, high, frame, first + 1, after),
-        Some(slot) => {
-            if is_walked(low, high, frame, first) {
-                Some(WalkedByte {
-                    next: first + 1,
-                    left: after,
-                    slot,
-                })
-            } else if is_behind(high, frame.row, first) {
-                None
-            } else {
-                next_byte(low, high, frame, first + 1, after)
-            }
+    if is_behind(high, frame.row, found.byte) {
+        return None;
+    }
+    Some(WalkedByte {
+        next: found.byte + 1,
+        left: end - found.byte - 1,
+        slot: found.slot,
+    })
+}
+
+/// A frame goes on to the next byte that is walked, and its slot; is there one?
+pub fn move_on(low: u64, high: u64, frame: &mut Frame, slot: &mut usize) -> bool
+    requires { is_sound_frame frame.old ≡ true }
+    ensures found { result ≡ true → (w : Walk) (other : ScanAt) → frame_at frame.old.row.kind low high w frame.old other
+        ≡ at (Child frame.new slot.new) w }
+    ensures none { result ≡ false → (w : Walk) (other : ScanAt) → frame_at frame.old.row.kind low high w frame.old other
+        ≡ words_behind frame.new.row.kind low high frame.new.row w frame.new.index frame.new.words other }
+    ensures sound { is_sound_frame frame.new ≡ true }
+{
+    match next_walked(low, high, frame) {
+        Some(byte) => {
+            frame.byte = byte.next;
+            frame.left = byte.left;
+            *slot = byte.slot;
+            true
         }
+        None => false,
+    }
+}
+
+/// The step goes to the next index word that holds a byte, among so many from this one on; is there one?
+pub fn go_to_word(
+    low: u64,
+    high: u64,
+    row: Held,
+    index: u32,
+    words: u32,
+    step: &mut ScanStep,
+) -> bool
+    requires { index + words ≤ 32 }
+    ensures next { (w : Walk) (other : ScanAt) → words_at low high row w index words other ≡ (if result then at step.new w else other) }
+    ensures sound { result ≡ true → is_sound_step step.new ≡ true }
+{
+    if words == 0 {
+        false
+    } else if is_behind(high, row, 8 * index) {
+        false
+    } else if is_met_in(low, high, row, index) {
+        *step = ScanStep::Index {
+            row,
+            index,
+            words: words - 1,
+        };
+        true
+    } else {
+        go_to_word(low, high, row, index + 1, words - 1, step)
+    }
+}
+
+/// The step goes to the next index word behind this one, among so many, in kind 48; is there one?
+pub fn go_behind(
+    low: u64,
+    high: u64,
+    row: Held,
+    index: u32,
+    words: u32,
+    step: &mut ScanStep,
+) -> bool
+    requires { index + words ≤ 31 }
+    ensures next { (w : Walk) (other : ScanAt) → words_behind row.kind low high row w index words other
+        ≡ (if result then at step.new w else other) }
+    ensures sound { result ≡ true → is_sound_step step.new ≡ true }
+{
+    match row.kind {
+        Kind::FortyEight => go_to_word(low, high, row, index + 1, words, step),
+        _ => false,
+    }
+}
+
+/// The step goes to the next child of a row, or to its next index word; is there one?
+pub fn go_to_child(low: u64, high: u64, frame: &Frame, step: &mut ScanStep) -> bool
+    requires { is_sound_frame frame.now ≡ true }
+    ensures next { (w : Walk) (other : ScanAt) → frame_at frame.now.row.kind low high w frame.now other
+        ≡ (if result then at step.new w else other) }
+    ensures sound { result ≡ true → is_sound_step step.new ≡ true }
+{
+    match next_walked(low, high, frame) {
+        Some(byte) => {
+            *step = child_step(frame, byte);
+            true
+        }
+        None => go_behind(low, high, frame.row, frame.index, frame.words, step),
     }
 }
 
@@ -159,40 +234,5 @@ fn child_step(frame: &Frame, byte: WalkedByte) -> ScanStep
             words: frame.words,
         },
         slot: byte.slot,
-    }
-}
-
-/// The next index word that holds a byte, among so many from this one on.
-pub fn next_word(low: u64, high: u64, row: Held, index: u32, words: u32) -> Option<ScanStep>
-    requires { index + words ≤ 32 }
-    ensures next { (w : Walk) (other : ScanAt) → words_at low high row w index words other ≡ step_or result w other }
-    ensures sound { IfSome result (λ s. is_sound_step s ≡ true) }
-{
-    if words == 0 {
-        None
-    } else if is_met_in(low, high, row, index) {
-        Some(ScanStep::Index {
-            row,
-            index,
-            words: words - 1,
-        })
-    } else {
-        next_word(low, high, row, index + 1, words - 1)
-    }
-}
-
-/// The next child of a row, or the next index word.
-pub fn next_child(low: u64, high: u64, frame: &Frame) -> Option<ScanStep>
-    requires { is_sound_frame frame.now ≡ true }
-    ensures next { (w : Walk) (other : ScanAt) → frame_at frame.now.row.kind low high w frame.now other ≡ step_or result w other }
-    ensures sound { IfSome result (λ s. is_sound_step s ≡ true) }
-{
-    let passed = bytes_before(frame);
-    match next_byte(low, high, frame, frame.byte + passed, frame.left - passed) {
-        Some(byte) => Some(child_step(frame, byte)),
-        None => match frame.row.kind {
-            Kind::FortyEight => { next_word(low, high, frame.row, frame.index + 1, frame.words) }
-            _ => None,
-        },
     }
 }

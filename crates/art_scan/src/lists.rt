@@ -111,17 +111,17 @@ impl Lists {
     }
 
     /// The first row that is not released yet is next to be.
-    pub fn release(&mut self) -> ScanStep
-        ensures step { at result (walk_of self.new) ≡ release_rows (walk_of self.old).rows (walk_of self.old).pairs }
-        ensures sound { is_sound_step result ≡ true }
+    pub fn release(&mut self, step: &mut ScanStep)
+        ensures step { at step.new (walk_of self.new) ≡ release_rows (walk_of self.old).rows (walk_of self.old).pairs }
+        ensures sound { is_sound_step step.new ≡ true }
     {
         self.way.clear();
         if self.released < self.rows.len() {
             let row = self.rows[self.released];
             self.released += 1;
-            ScanStep::Release { row }
+            *step = ScanStep::Release { row };
         } else {
-            ScanStep::Over
+            *step = ScanStep::Over;
         }
     }
 

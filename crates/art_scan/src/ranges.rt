@@ -3,6 +3,7 @@ ghost use Rattle.std.specs.Prelude.{◌≡◌, ℕ, ◌+◌, ◌-◌, ◌*◌, �
 ghost use Rattle.art_rows.specs.Words.{big_endian, info_of};
 ghost use Rattle.art_steps.specs.Scan.{can_lie};
 ghost use Rattle.art_stages.specs.Stages.{row_at};
+ghost use Rattle.art_scan.specs.Walks.{begins_by};
 
 use art_rows::{Kind, info_level};
 use art_stages::Held;
@@ -50,7 +51,8 @@ pub fn can_lie(low: u64, high: u64, row: Held, byte: u32) -> bool
 /// Do all keys that begin with the row's path and this byte, or with a greater one, come behind the last one?
 pub fn is_behind(high: u64, row: Held, byte: u32) -> bool
     requires { byte < 256 }
-    ensures { result ≡ true → (low y : ℕ) → byte ≤ y → can_lie low high (row_at row) y ≡ false }
+    ensures behind { result ≡ true → (low y : ℕ) → byte ≤ y → can_lie low high (row_at row) y ≡ false }
+    ensures not { result ≡ false → begins_by high row byte ≡ true }
 {
     let prefix = 256 * path_number(row.kind, row.info) + u64::from(byte);
     prefix * keys_below(info_level(row.kind, row.info)) > high
@@ -78,6 +80,7 @@ pub fn bytes_ahead(low: u64, row: Held, byte: u32, left: u32) -> u32
     ensures passed { (high y : ℕ) → byte ≤ y → y < byte + result → can_lie low high (row_at row) y ≡ false }
     ensures next { result < left → (high : ℕ) → can_lie low high (row_at row) (byte + result) ≡ false
         → (y : ℕ) → byte + result ≤ y → can_lie low high (row_at row) y ≡ false }
+    ensures reached { result < left → (high y : ℕ) → byte + result ≤ y → can_lie low high (row_at row) y ≡ begins_by high row y }
 {
     let prefix = 256 * path_number(row.kind, row.info) + u64::from(byte);
     let first = paths_below(low, info_level(row.kind, row.info));

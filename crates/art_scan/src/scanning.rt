@@ -3,7 +3,7 @@ ghost use Rattle.std.specs.Prelude.{◌≡◌, true};
 ghost use Rattle.art_scan.specs.Sound.{is_sound_step};
 
 use crate::lists::Lists;
-use crate::steps::step_after;
+use crate::steps::make_step;
 use crate::turns::{access_at, point_at};
 use crate::walks::enter;
 use art_setting::Setting;
@@ -37,10 +37,12 @@ impl Scanning {
         ensures high { high_of result ≡ high }
         ensures begins { scan_of result ≡ scan_start (setting_of setting.now) }
     {
+        let mut step = ScanStep::Over;
+        enter(setting, Entry::Root, &mut step);
         Scanning {
             low,
             high,
-            step: enter(setting, Entry::Root),
+            step,
             lists: None,
         }
     }
@@ -90,7 +92,7 @@ impl Scanning {
         match &mut self.lists {
             None => unreachable!(),
             Some(lists) => {
-                self.step = step_after(setting, self.low, self.high, &self.step, got, lists);
+                make_step(setting, self.low, self.high, &mut self.step, got, lists);
                 match self.step {
                     ScanStep::Over => {}
                     _ => return None,

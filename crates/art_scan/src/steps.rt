@@ -1,25 +1,30 @@
 // What comes after a word that a scan got.
-ghost use Rattle.std.specs.Prelude.{◌≡◌, ◌+◌, ◌<◌, true, nat_le, vec_len, vec_capacity};
+ghost use Rattle.std.specs.Prelude.{◌≡◌, ◌+◌, ◌<◌, true, false, nat_le, vec_len, vec_capacity, if◌then◌else◌};
 ghost use Rattle.art_stages.specs.Stages.{held};
-ghost use Rattle.art_stages.specs.Scans.{at, step_after as step_behind, entry_at, keys_after_word, child_after, release_after, scan_start};
+ghost use Rattle.art_rows.specs.Words.{is_locked};
+ghost use Rattle.art_stages.specs.declared.stage.Entry.TheVariants.{Below};
+ghost use Rattle.art_stages.specs.declared.stage.ScanStep.TheVariants.{Lock, Exchange, Wait};
+ghost use Rattle.art_stages.specs.Scans.{Walk, at, step_after as step_behind, enter_at, entry_at, keys_after_word, release_after};
+ghost use Rattle.art_stages.specs.Scans.{scan_start};
 ghost use Rattle.art_stages.specs.Scans.{with_frame, resume_at, visit_at, frame_of as frame_from};
 ghost use Rattle.art_setting.specs.Settings.{setting_of};
 ghost use Rattle.art_scan.specs.Sound.{is_sound_frame, is_sound_step};
 ghost use Rattle.art_scan.specs.Walks.{walk_of, HasRoomForOneMore};
 
+use crate::children::move_on;
 use crate::lists::Lists;
-use crate::walks::{close, enter, frame_of, go_on, keys_one, visit};
+use crate::walks::{close, enter, frame_of, go_on, keys_one, leave, visit};
 use art_rows::{Child, Kind, version_is_locked, version_is_obsolete};
 use art_setting::Setting;
 use art_stages::{Entry, Frame, Held, Keys, ScanStep};
 
 /// The scan starts again at the root.
-fn restart(setting: &Setting, lists: &mut Lists) -> ScanStep
-    ensures step { at result (walk_of lists.new) ≡ scan_start (setting_of setting.now) }
-    ensures sound { is_sound_step result ≡ true }
+fn restart(setting: &Setting, lists: &mut Lists, step: &mut ScanStep)
+    ensures step { at step.new (walk_of lists.new) ≡ scan_start (setting_of setting.now) }
+    ensures sound { is_sound_step step.new ≡ true }
 {
     lists.forget();
-    enter(setting, Entry::Root)
+    enter(setting, Entry::Root, step);
 }
 
 /// A row is locked, or waited for, with this version.
@@ -30,10 +35,11 @@ fn entered(
     entry: Entry,
     kept: u64,
     lists: &mut Lists,
-) -> ScanStep
+    step: &mut ScanStep,
+)
     requires { vec_len lists.old.rows < vec_capacity lists.old.rows }
-    ensures step { at result (walk_of lists.new) ≡ entry_at (setting_of setting.now) low high entry (walk_of lists.old) kept }
-    ensures sound { is_sound_step result ≡ true }
+    ensures step { at step.new (walk_of lists.new) ≡ entry_at (setting_of setting.now) low high entry (walk_of lists.old) kept }
+    ensures sound { is_sound_step step.new ≡ true }
 {
     match entry {
         Entry::Root => {
@@ -43,9 +49,9 @@ fn entered(
                 info: 3,
                 kept,
             };
-            visit(setting, low, high, row, lists)
+            visit(setting, low, high, row, lists, step);
         }
-        Entry::Below { base, kind } => ScanStep::Info { base, kind, kept },
+        Entry::Below { base, kind } => *step = ScanStep::Info { base, kind, kept },
     }
 }
 
@@ -57,61 +63,35 @@ fn keys_read(
     row: Held,
     word: u64,
     lists: &mut Lists,
-) -> ScanStep
-    ensures step { at result (walk_of lists.new) ≡ keys_after_word row.kind (setting_of setting.now) low high row (walk_of lists.old) word }
-    ensures sound { is_sound_step result ≡ true }
+    step: &mut ScanStep,
+)
+    ensures step { at step.new (walk_of lists.new) ≡ keys_after_word row.kind (setting_of setting.now) low high row (walk_of lists.old) word }
+    ensures sound { is_sound_step step.new ≡ true }
 {
     match row.kind {
-        Kind::Sixteen => ScanStep::FirstKeys { row, count: word },
+        Kind::Sixteen => *step = ScanStep::FirstKeys { row, count: word },
         _ => go_on(
             setting,
             low,
             high,
             &frame_of(row, keys_one(word), 0, 0),
             lists,
+            step,
         ),
     }
 }
 
-/// A child of the row is read.
-fn child_read(
-    setting: &Setting,
-    low: u64,
-    high: u64,
-    frame: &Frame,
-    child: Child,
-    lists: &mut Lists,
-) -> ScanStep
-    requires room { HasRoomForOneMore lists.old }
-    requires sound { is_sound_frame frame.now ≡ true }
-    ensures step { at result (walk_of lists.new) ≡ child_after (setting_of setting.now) low high
-        (with_frame (walk_of lists.old) frame.now) child }
-    ensures sound { is_sound_step result ≡ true }
-{
-    match child {
-        Child::Empty => go_on(setting, low, high, frame, lists),
-        Child::Leaf { key, value } => {
-            lists.count(low, high, key, value);
-            go_on(setting, low, high, frame, lists)
-        }
-        Child::Row { base, kind } => {
-            lists.descend(*frame);
-            enter(setting, Entry::Below { base, kind })
-        }
-    }
-}
-
 /// A row is released or checked.
-fn released(setting: &Setting, row: Held, got: u64, lists: &mut Lists) -> ScanStep
-    ensures step { at result (walk_of lists.new) ≡ release_after (setting_of setting.now) row (walk_of lists.old) got }
-    ensures sound { is_sound_step result ≡ true }
+fn released(setting: &Setting, row: Held, got: u64, lists: &mut Lists, step: &mut ScanStep)
+    ensures step { at step.new (walk_of lists.new) ≡ release_after (setting_of setting.now) row (walk_of lists.old) got }
+    ensures sound { is_sound_step step.new ≡ true }
 {
     if setting.locks() {
-        lists.release()
+        lists.release(step);
     } else if got == row.kept {
-        close(setting, lists)
+        close(setting, lists, step);
     } else {
-        restart(setting, lists)
+        restart(setting, lists, step);
     }
 }
 
@@ -120,24 +100,26 @@ fn words_read(
     setting: &Setting,
     low: u64,
     high: u64,
-    row: &Held,
+    row: Held,
     keys: Keys,
     index: u32,
     words: u32,
     lists: &mut Lists,
-) -> ScanStep
+    step: &mut ScanStep,
+)
     requires sound { nat_le (index + words) 31 ≡ true }
-    ensures step { at result (walk_of lists.new) ≡ resume_at (setting_of setting.now) low high
-        (with_frame (walk_of lists.old) (frame_from row.now keys index words)) }
-    ensures sound { is_sound_step result ≡ true }
+    ensures step { at step.new (walk_of lists.new) ≡ resume_at (setting_of setting.now) low high
+        (with_frame (walk_of lists.old) (frame_from row keys index words)) }
+    ensures sound { is_sound_step step.new ≡ true }
 {
     go_on(
         setting,
         low,
         high,
-        &frame_of(*row, keys, index, words),
+        &frame_of(row, keys, index, words),
         lists,
-    )
+        step,
+    );
 }
 
 /// A row's info is read.
@@ -150,10 +132,11 @@ fn info_read(
     info: u64,
     kept: u64,
     lists: &mut Lists,
-) -> ScanStep
+    step: &mut ScanStep,
+)
     requires { vec_len lists.old.rows < vec_capacity lists.old.rows }
-    ensures step { at result (walk_of lists.new) ≡ visit_at (setting_of setting.now) low high (held base kind info kept) (walk_of lists.old) }
-    ensures sound { is_sound_step result ≡ true }
+    ensures step { at step.new (walk_of lists.new) ≡ visit_at (setting_of setting.now) low high (held base kind info kept) (walk_of lists.old) }
+    ensures sound { is_sound_step step.new ≡ true }
 {
     let row = Held {
         base,
@@ -161,89 +144,184 @@ fn info_read(
         info,
         kept,
     };
-    visit(setting, low, high, row, lists)
+    visit(setting, low, high, row, lists, step);
 }
 
-/// The step after an access that got this word.
-pub fn step_after(
+/// The version of a row that is to be locked is read.
+fn lock_read(entry: Entry, got: u64, step: &mut ScanStep)
+    ensures step { (w : Walk) → at step.new w ≡ (if is_locked got then at (Lock entry false) w else at (Exchange entry got) w) }
+    ensures sound { is_sound_step step.new ≡ true }
+{
+    *step = if version_is_locked(got) {
+        ScanStep::Lock {
+            entry,
+            first: false,
+        }
+    } else {
+        ScanStep::Exchange {
+            entry,
+            version: got,
+        }
+    };
+}
+
+/// The version of a row was exchanged, where it was this one.
+fn exchanged(
     setting: &Setting,
     low: u64,
     high: u64,
-    step: &ScanStep,
+    entry: Entry,
+    version: u64,
     got: u64,
     lists: &mut Lists,
-) -> ScanStep
+    step: &mut ScanStep,
+)
+    requires { vec_len lists.old.rows < vec_capacity lists.old.rows }
+    ensures step { at step.new (walk_of lists.new)
+        ≡ step_behind (setting_of setting.now) low high (Exchange entry version) (walk_of lists.old) got }
+    ensures sound { is_sound_step step.new ≡ true }
+{
+    if got == version {
+        entered(setting, low, high, entry, version, lists, step);
+    } else {
+        *step = ScanStep::Lock {
+            entry,
+            first: false,
+        };
+    }
+}
+
+/// The version of a row is waited for.
+fn waited(
+    setting: &Setting,
+    low: u64,
+    high: u64,
+    entry: Entry,
+    got: u64,
+    lists: &mut Lists,
+    step: &mut ScanStep,
+)
+    requires { vec_len lists.old.rows < vec_capacity lists.old.rows }
+    ensures step { at step.new (walk_of lists.new) ≡ step_behind (setting_of setting.now) low high (Wait entry) (walk_of lists.old) got }
+    ensures sound { is_sound_step step.new ≡ true }
+{
+    if version_is_locked(got) {
+        *step = ScanStep::Wait { entry };
+    } else if version_is_obsolete(got) {
+        restart(setting, lists, step);
+    } else {
+        entered(setting, low, high, entry, got, lists, step);
+    }
+}
+
+/// A row below this one is read.
+fn row_read(
+    setting: &Setting,
+    frame: Frame,
+    base: u32,
+    kind: Kind,
+    lists: &mut Lists,
+    step: &mut ScanStep,
+)
+    requires room { vec_len lists.old.way < vec_capacity lists.old.way }
+    requires sound { is_sound_frame frame ≡ true }
+    ensures step { at step.new (walk_of lists.new)
+        ≡ enter_at (setting_of setting.now) (Below base kind) (with_frame (walk_of lists.old) frame) }
+    ensures sound { is_sound_step step.new ≡ true }
+{
+    lists.descend(frame);
+    enter(setting, Entry::Below { base, kind }, step);
+}
+
+/// The step after an access that got this word.
+pub fn make_step(
+    setting: &Setting,
+    low: u64,
+    high: u64,
+    step: &mut ScanStep,
+    got: u64,
+    lists: &mut Lists,
+)
     requires room { HasRoomForOneMore lists.old }
-    requires sound { is_sound_step step.now ≡ true }
-    ensures step { at result (walk_of lists.new) ≡ step_behind (setting_of setting.now) low high step.now (walk_of lists.old) got }
-    ensures sound { is_sound_step result ≡ true }
+    requires sound { is_sound_step step.old ≡ true }
+    ensures step { at step.new (walk_of lists.new) ≡ step_behind (setting_of setting.now) low high step.old (walk_of lists.old) got }
+    ensures sound { is_sound_step step.new ≡ true }
 {
     match step {
         ScanStep::Lock { entry, .. } => {
-            if version_is_locked(got) {
-                ScanStep::Lock {
-                    entry: *entry,
-                    first: false,
-                }
-            } else {
-                ScanStep::Exchange {
-                    entry: *entry,
-                    version: got,
-                }
-            }
+            let entry = *entry;
+            lock_read(entry, got, step);
         }
         ScanStep::Exchange { entry, version } => {
-            if got == *version {
-                entered(setting, low, high, *entry, *version, lists)
-            } else {
-                ScanStep::Lock {
-                    entry: *entry,
-                    first: false,
-                }
-            }
+            let (entry, version) = (*entry, *version);
+            exchanged(setting, low, high, entry, version, got, lists, step);
         }
         ScanStep::Wait { entry } => {
-            if version_is_locked(got) {
-                ScanStep::Wait { entry: *entry }
-            } else if version_is_obsolete(got) {
-                restart(setting, lists)
-            } else {
-                entered(setting, low, high, *entry, got, lists)
-            }
+            let entry = *entry;
+            waited(setting, low, high, entry, got, lists, step);
         }
         ScanStep::Info { base, kind, kept } => {
-            info_read(setting, low, high, *base, *kind, got, *kept, lists)
+            let (base, kind, kept) = (*base, *kind, *kept);
+            info_read(setting, low, high, base, kind, got, kept, lists, step);
         }
-        ScanStep::Keys { row } => keys_read(setting, low, high, *row, got, lists),
-        ScanStep::FirstKeys { row, count } => ScanStep::SecondKeys {
-            row: *row,
-            count: *count,
-            first: got,
-        },
+        ScanStep::Keys { row } => {
+            let row = *row;
+            keys_read(setting, low, high, row, got, lists, step);
+        }
+        ScanStep::FirstKeys { row, count } => {
+            let (row, count) = (*row, *count);
+            *step = ScanStep::SecondKeys {
+                row,
+                count,
+                first: got,
+            };
+        }
         ScanStep::SecondKeys { row, count, first } => {
+            let row = *row;
             let keys = Keys {
                 first: *first,
                 second: got,
                 count: *count,
             };
-            words_read(setting, low, high, row, keys, 0, 0, lists)
+            words_read(setting, low, high, row, keys, 0, 0, lists, step);
         }
         ScanStep::Index { row, index, words } => {
+            let (row, index, words) = (*row, *index, *words);
             words_read(
                 setting,
                 low,
                 high,
                 row,
                 keys_one(got),
-                *index,
-                *words,
+                index,
+                words,
                 lists,
-            )
+                step,
+            );
         }
-        ScanStep::Child { frame, .. } => {
-            child_read(setting, low, high, frame, setting.shape.child(got), lists)
+        ScanStep::Child { frame, slot } => match setting.shape.child(got) {
+            Child::Row { base, kind } => {
+                let frame = *frame;
+                row_read(setting, frame, base, kind, lists, step);
+            }
+            Child::Leaf { key, value } => {
+                lists.count(low, high, key, value);
+                if !move_on(low, high, frame, slot) {
+                    let (row, index, words) = (frame.row, frame.index, frame.words);
+                    leave(setting, low, high, row, index, words, lists, step);
+                }
+            }
+            Child::Empty => {
+                if !move_on(low, high, frame, slot) {
+                    let (row, index, words) = (frame.row, frame.index, frame.words);
+                    leave(setting, low, high, row, index, words, lists, step);
+                }
+            }
+        },
+        ScanStep::Release { row } => {
+            let row = *row;
+            released(setting, row, got, lists, step);
         }
-        ScanStep::Release { row } => released(setting, *row, got, lists),
-        ScanStep::Over => ScanStep::Over,
+        ScanStep::Over => {}
     }
 }

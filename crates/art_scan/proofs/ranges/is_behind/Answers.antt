@@ -18,8 +18,8 @@ overflow_mul-result c =
     (omega (arith, c.from.ensures, c.requires))) in
     omega (arith, most)
 
-pub returns : goal.returns
-returns c = λ e low y m.
+pub returns-clause-behind : goal.returns-clause-behind
+returns-clause-behind c = λ e low y m.
     all_behind c.args.row c.path_number.result c.keys_below.result c.path_number.ensures.path
     (c.keys_below.ensures ∙ ap (λ l. 256 ^ (3 - l)) c.info_level.ensures.level)
     low c.args.high c.from.result y (omega (arith, m, c.from.ensures)) (ltb-true _ _ e)

@@ -1,6 +1,11 @@
 use Rattle.std.proofs.Common.{sym, ◌∙◌}
-use Rattle.art_scan.proofs.NextLemmas.{words_some, words_skip}
-use Rattle.art_scan.proofs.children.+next_word.Goals as goal
+use Rattle.art_scan.proofs.NextLemmas.{words_some, words_skip, words_past}
+use Rattle.art_scan.proofs.children.+go_to_word.Goals as goal
+
+pub returns-then-is_behind-clause-next : goal.returns-then-is_behind-clause-next
+returns-then-is_behind-clause-next t c = λ w other.
+    words_past c.args.low c.args.high c.args.row w c.args.index c.args.words other
+    (c.is_behind.ensures.behind c.if-is_behind.true c.args.low)
 
 pub returns-then-is_met_in-clause-next : goal.returns-then-is_met_in-clause-next
 returns-then-is_met_in-clause-next t c = λ w other.
@@ -11,4 +16,4 @@ pub returns-else-is_met_in-clause-next : goal.returns-else-is_met_in-clause-next
 returns-else-is_met_in-clause-next t c = λ w other.
     words_skip c.args.low c.args.high c.args.row w c.args.index c.args.words other c.if-words-eq0.false
     (sym c.is_met_in.ensures ∙ c.if-is_met_in.false)
-    ∙ c.next_word.ensures.next w other
+    ∙ c.go_to_word.ensures.next w other
