@@ -1,4 +1,5 @@
-//! Tests of the trees on shared words, through the public calls of arenas and passes, and of the verdicts on what is recorded.
+//! Tests of the trees on shared words, through the public calls of the core, of arenas and of passes, and of the verdicts on what is
+//! recorded.
 //!
 //! A proof covers what the contracts say. What these tests add is that each call answers where memory is ample, and
 //! that the definitions say what was meant: replies and orders were worked out by hand.
@@ -8,6 +9,8 @@
 mod arenas;
 #[cfg(test)]
 mod interleavings;
+#[cfg(test)]
+mod places;
 #[cfg(test)]
 mod setups;
 #[cfg(test)]

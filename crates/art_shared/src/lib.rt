@@ -14,6 +14,3 @@ mod view;
 pub use place::Place;
 pub use shared_core::SharedCore;
 pub use view::{Setup, View};
-
-#[cfg(test)]
-mod tests;

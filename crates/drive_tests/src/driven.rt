@@ -133,22 +133,28 @@ fn a_subject_that_answers_a_wrong_value_is_judged_no(rt: HostRuntime) -> Result<
     Ok(())
 }
 
+/// A script of so many gets.
+fn gets_in_turn(alloc: Global, count: u32) -> Result<String, AllocError> {
+    let mut script = String::new(alloc);
+    for call in 0..count {
+        script.push_str(if call > 0 {
+            r#",["get",5]"#
+        } else {
+            r#"["get",5]"#
+        })?;
+    }
+    Ok(script)
+}
+
 /// The text of a plan with a script of so many gets for each number.
 fn gets(alloc: Global, lengths: &[u32]) -> Result<String, AllocError> {
-    let mut text = String::from_str(alloc, r#"{"scripts":["#)?;
-    for (script, length) in lengths.iter().enumerate() {
-        text.push_str(if script > 0 { ",[" } else { "[" })?;
-        for call in 0..*length {
-            text.push_str(if call > 0 {
-                r#",["get",5]"#
-            } else {
-                r#"["get",5]"#
-            })?;
-        }
-        text.push_str("]")?;
+    let mut scripts = String::new(alloc);
+    for (place, length) in lengths.iter().enumerate() {
+        let comma = if place > 0 { "," } else { "" };
+        let script = gets_in_turn(alloc, *length)?;
+        scripts.push_str(&format!(in alloc; "{comma}[{script}]")?)?;
     }
-    text.push_str(r#"],"version":1}"#)?;
-    Ok(text)
+    format!(in alloc; "{{\"scripts\":[{scripts}],\"version\":1}}")
 }
 
 #[test]

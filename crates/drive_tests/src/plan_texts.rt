@@ -32,25 +32,29 @@ fn expect_fault(rt: &impl Abort, alloc: Global, text: &str, fault: PlanFault) ->
     Ok(())
 }
 
+/// A script of so many gets.
+fn script_of(alloc: Global, calls: usize) -> Result<String, Fail> {
+    let mut script = String::new(alloc);
+    for number in 0..calls {
+        let get = if number > 0 {
+            ",[\"get\",7]"
+        } else {
+            "[\"get\",7]"
+        };
+        script.push_str(get)?;
+    }
+    Ok(script)
+}
+
 /// A text of so many scripts, each with so many calls.
 fn text_of(alloc: Global, scripts: usize, calls: usize) -> Result<String, Fail> {
-    let mut text = String::new(alloc);
-    text.push_str("{\"version\":1,\"scripts\":[")?;
+    let script = script_of(alloc, calls)?;
+    let mut listed = String::new(alloc);
     for place in 0..scripts {
-        if place > 0 {
-            text.push_str(",")?;
-        }
-        text.push_str("[")?;
-        for number in 0..calls {
-            if number > 0 {
-                text.push_str(",")?;
-            }
-            text.push_str("[\"get\",7]")?;
-        }
-        text.push_str("]")?;
+        let comma = if place > 0 { "," } else { "" };
+        listed.push_str(&format!(in alloc; "{comma}[{script}]")?)?;
     }
-    text.push_str("]}")?;
-    Ok(text)
+    Ok(format!(in alloc; "{{\"version\":1,\"scripts\":[{listed}]}}")?)
 }
 
 #[test]

@@ -6,8 +6,6 @@ mod check;
 mod laws;
 mod location;
 mod refusals;
-#[cfg(test)]
-mod tests;
 mod verdict;
 pub mod worked_texts;
 

@@ -100,18 +100,25 @@ fn a_search_of_calls_is_spent_at_its_budget(rt: HostRuntime) -> Result<(), Fail>
     Ok(())
 }
 
+/// Answers of nothing to 60 processes.
+fn empty_answers(alloc: Global) -> Result<String, AllocError> {
+    let mut answers = String::new(alloc);
+    for process in 0..60 {
+        answers.push_str(&format!(in alloc; ",{{\"answer\":null,\"process\":{process}}}")?)?;
+    }
+    Ok(answers)
+}
+
 /// An insert beside 61 gets, all at once: 60 find nothing, and the last one this.
 fn many_readers(alloc: Global, last: &str) -> Result<String, AllocError> {
     let mut events = String::from_str(alloc, r#"{"invoke":["insert",5,7],"process":61}"#)?;
     for process in 0..61 {
         events.push_str(&format!(in alloc; ",{{\"invoke\":[\"get\",5],\"process\":{process}}}")?)?;
     }
-    for process in 0..60 {
-        events.push_str(&format!(in alloc; ",{{\"answer\":null,\"process\":{process}}}")?)?;
-    }
-    events.push_str(&format!(in alloc; ",{{\"answer\":{last},\"process\":60}}")?)?;
-    events.push_str(r#",{"answer":null,"process":61}"#)?;
-    Ok(events)
+    let empty = empty_answers(alloc)?;
+    format!(in alloc;
+        "{events}{empty},{{\"answer\":{last},\"process\":60}},{{\"answer\":null,\"process\":61}}"
+    )
 }
 
 /// In whatever order the gets are taken, they leave the map as it is: the exact search meets each set of them, of which there

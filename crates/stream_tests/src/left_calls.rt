@@ -24,6 +24,24 @@ fn call_of(process: u16, call: Call, inv: usize, res: Option<usize>) -> LeftCall
     }
 }
 
+/// Where calls are invoked.
+fn invocations(alloc: Global, calls: &[Operation]) -> Result<Vec<usize>, Fail> {
+    let mut places = Vec::new(alloc);
+    for call in calls {
+        places.push(call.inv)?;
+    }
+    Ok(places)
+}
+
+/// Where calls that are left are invoked.
+fn invocations_left(alloc: Global, calls: &[LeftCall]) -> Result<Vec<usize>, Fail> {
+    let mut places = Vec::new(alloc);
+    for call in calls {
+        places.push(call.operation.inv)?;
+    }
+    Ok(places)
+}
+
 /// The places of the calls that may go of the group of a key, and then of those that stay.
 fn parted(alloc: Global, left: Vec<LeftCall>, key: u64) -> Result<(Vec<usize>, Vec<usize>), Fail> {
     let range = group_range(
@@ -35,15 +53,9 @@ fn parted(alloc: Global, left: Vec<LeftCall>, key: u64) -> Result<(Vec<usize>, V
     );
     let group = group_of(alloc, &left, range)?;
     let goes = settled(alloc, &left, &group)?;
-    let mut gone = Vec::new(alloc);
-    for call in &marked_calls(alloc, &left, &goes)? {
-        gone.push(call.inv)?;
-    }
-    let mut stays = Vec::new(alloc);
-    for call in &unmarked(alloc, left, &goes)? {
-        stays.push(call.operation.inv)?;
-    }
-    Ok((gone, stays))
+    let gone = marked_calls(alloc, &left, &goes)?;
+    let stays = unmarked(alloc, left, &goes)?;
+    Ok((invocations(alloc, &gone)?, invocations_left(alloc, &stays)?))
 }
 
 /// Whether calls part so.

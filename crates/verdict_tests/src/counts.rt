@@ -42,11 +42,7 @@ fn assert_report<R: Threads + Sync + Abort>(
 }
 
 /// Inserts of one pair by processes from 0 on that all overlap.
-fn overlapping_inserts(
-    alloc: Global,
-    processes: u64,
-    answered: bool,
-) -> Result<String, AllocError> {
+fn overlapping_inserts(alloc: Global, processes: u64) -> Result<String, AllocError> {
     let mut events = String::new(alloc);
     for process in 0..processes {
         let comma = if process > 0 { "," } else { "" };
@@ -54,10 +50,14 @@ fn overlapping_inserts(
             "{comma}{{\"invoke\":[\"insert\",0,0],\"process\":{process}}}"
         )?)?;
     }
-    if answered {
-        for process in 0..processes {
-            events.push_str(&format!(in alloc; ",{{\"answer\":null,\"process\":{process}}}")?)?;
-        }
+    Ok(events)
+}
+
+/// Answers of nothing to 64 processes.
+fn empty_answers(alloc: Global) -> Result<String, AllocError> {
+    let mut events = String::new(alloc);
+    for process in 0..64 {
+        events.push_str(&format!(in alloc; ",{{\"answer\":null,\"process\":{process}}}")?)?;
     }
     Ok(events)
 }
@@ -66,7 +66,8 @@ fn overlapping_inserts(
 #[test]
 fn inserts_that_cannot_both_be_first(rt: HostRuntime) -> Result<(), Fail> {
     let alloc = rt.alloc();
-    let mut events = overlapping_inserts(alloc, 64, true)?;
+    let mut events = overlapping_inserts(alloc, 64)?;
+    events.push_str(&empty_answers(alloc)?)?;
     for _get in 0..64 {
         events.push_str(r#",{"invoke":["get",0],"process":0},{"answer":0,"process":0}"#)?;
     }
@@ -84,7 +85,7 @@ fn inserts_that_cannot_both_be_first(rt: HostRuntime) -> Result<(), Fail> {
 #[test]
 fn pending_inserts_of_what_was_not_seen(rt: HostRuntime) -> Result<(), Fail> {
     let alloc = rt.alloc();
-    let mut events = overlapping_inserts(alloc, 10, false)?;
+    let mut events = overlapping_inserts(alloc, 10)?;
     events.push_str(r#",{"invoke":["get",0],"process":10},{"answer":1,"process":10}"#)?;
     assert_report(&rt, alloc, &events, 1024, &names_all(alloc, 11, 0, "no")?)?;
     assert_report(
@@ -100,7 +101,7 @@ fn pending_inserts_of_what_was_not_seen(rt: HostRuntime) -> Result<(), Fail> {
 #[test]
 fn pending_inserts_alone(rt: HostRuntime) -> Result<(), Fail> {
     let alloc = rt.alloc();
-    let events = overlapping_inserts(alloc, 64, false)?;
+    let events = overlapping_inserts(alloc, 64)?;
     assert_report(&rt, alloc, &events, 1, r#"{"order":[],"verdict":"yes"}"#)
 }
 

@@ -98,6 +98,46 @@ impl Gate for Pair {
     }
 }
 
+/// How often a worker yields before it goes on from the gate.
+const STAY: u32 = 100;
+
+/// Notes whether more workers than there is room for were inside at once. Each stays for some turns.
+#[derive(Drop)]
+pub(crate) struct Room {
+    size: u64,
+    inside: AtomicU64,
+    was_too_small: AtomicBool,
+}
+
+impl Room {
+    pub(crate) fn of(size: u64) -> Room {
+        Room {
+            size,
+            inside: AtomicU64::new(0),
+            was_too_small: AtomicBool::new(false),
+        }
+    }
+
+    /// Whether there was room for each worker that came.
+    pub(crate) fn had_room(&self) -> bool {
+        !self.was_too_small.load(Ordering::SeqCst)
+    }
+}
+
+impl Gate for Room {
+    ghost was_passed = { λ _ _. ⊤ };
+
+    fn enter(&self, _segment: usize) {
+        if self.inside.fetch_add(1, Ordering::SeqCst) >= self.size {
+            self.was_too_small.store(true, Ordering::SeqCst);
+        }
+        for _ in 0..STAY {
+            thread::yield_now();
+        }
+        self.inside.fetch_sub(1, Ordering::SeqCst);
+    }
+}
+
 /// Holds each worker until so many are inside at once, round after round. Each waits for a bounded number of turns, and
 /// once one has waited in vain, none waits any more.
 #[derive(Drop)]

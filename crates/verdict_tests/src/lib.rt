@@ -1,9 +1,11 @@
 //! Tests of the verdict, of locations and of the workers that find them, through their public calls, on the worked histories of the
-//! layers' tests and on long ones: expected answers were worked out by hand.
+//! layers' tests and on long ones, and of what the engines on histories write: expected answers were worked out by hand.
 #![tactic(auto)]
 
 #[cfg(test)]
 mod counts;
+#[cfg(test)]
+mod engine_texts;
 #[cfg(test)]
 mod gate_first;
 #[cfg(test)]

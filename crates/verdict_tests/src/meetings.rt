@@ -1,7 +1,7 @@
 // Workers that meet at a gate: so many of them search side by side, and pass the caller's gate on their way.
 ghost use Rattle.std.specs.Prelude.{◌≤◌};
 
-use crate::gates::{Pair, Rounds, no_visits};
+use crate::gates::{Pair, Room, Rounds, no_visits};
 use cutter::cut;
 use judge::{Verdict, judge, judge_text};
 use layer_tests::worked::{history_of, inserts, text_of};
@@ -149,6 +149,20 @@ fn as_many_workers_as_are_asked_for_meet(rt: HostRuntime) -> Result<(), Fail> {
         locate_behind(&rt, rt.alloc(), 128, workers, &located)?;
         let met = (judged.met(), located.met());
         assert_eq!(rt; met, (128, 128), "{workers} workers");
+    }
+    Ok(())
+}
+
+#[test]
+fn no_more_workers_than_are_asked_for_search_at_once(rt: HostRuntime) -> Result<(), Fail> {
+    for workers in [1, 3] {
+        let (judged, located) = (Room::of(u64::from(workers)), Room::of(u64::from(workers)));
+        judge_text_behind(&rt, rt.alloc(), 128, workers, &judged)?;
+        locate_behind(&rt, rt.alloc(), 128, workers, &located)?;
+        assert!(rt;
+            judged.had_room() && located.had_room(),
+            "{workers} workers"
+        );
     }
     Ok(())
 }

@@ -1,7 +1,7 @@
 // Texts that are refused, and texts as long as they may be, on ends in memory, with lines worked out by hand.
 
-use crate::worked_texts::{EMPTY, INSERT_THEN_GET, many_gets, padded};
-use crate::{run_check, run_judge, run_locate};
+use history_engines::worked_texts::{EMPTY, INSERT_THEN_GET, many_gets, padded};
+use history_engines::{run_check, run_judge, run_locate};
 use pool::OpenGate;
 use std::alloc::{AllocError, Global};
 use std::process::Abort;
@@ -49,6 +49,29 @@ fn checks(
     Ok(())
 }
 
+// A text is refused with these lines where it is judged, or where an event of it is located.
+fn refuses_to<R: Threads + Sync + Abort>(
+    rt: &R,
+    alloc: Global,
+    locates: bool,
+    text: &[u8],
+    told: &str,
+) -> Result<(), AllocError> {
+    let mut source = MemorySource::new(Vec::from_slice(alloc, text)?, 1_000_000, None);
+    let mut out = MemorySink::new(Vec::new(alloc), 7, None);
+    let mut err = MemorySink::new(Vec::new(alloc), 7, None);
+    let (text, output, faults) = (&mut source, &mut out, &mut err);
+    let answer = if locates {
+        run_locate(rt, alloc, text, output, faults, 100_000, 1, &OpenGate)
+    } else {
+        run_judge(rt, alloc, text, output, faults, 100_000, 1, &OpenGate)
+    };
+    assert_eq!(rt; answer, 3, "{told}");
+    assert!(rt; out.bytes().is_empty(), "{told}");
+    assert!(rt; err.bytes() == told.as_bytes(), "{told}");
+    Ok(())
+}
+
 // Each text is refused with these two lines by all engines.
 fn refuses<R: Threads + Sync + Abort>(
     rt: &R,
@@ -59,109 +82,126 @@ fn refuses<R: Threads + Sync + Abort>(
 ) -> Result<(), AllocError> {
     let told = format!(in alloc; "{fault}{wanted}")?;
     checks(rt, alloc, &[0, 1], text, 3, "", &told)?;
-    for locates in [false, true] {
-        let mut source = MemorySource::new(Vec::from_slice(alloc, text)?, 1_000_000, None);
-        let mut out = MemorySink::new(Vec::new(alloc), 7, None);
-        let mut err = MemorySink::new(Vec::new(alloc), 7, None);
-        let (text, output, faults) = (&mut source, &mut out, &mut err);
-        let answer = if locates {
-            run_locate(rt, alloc, text, output, faults, 100_000, 1, &OpenGate)
-        } else {
-            run_judge(rt, alloc, text, output, faults, 100_000, 1, &OpenGate)
-        };
-        assert_eq!(rt; answer, 3, "{fault}");
-        assert!(rt; out.bytes().is_empty(), "{fault}");
-        assert!(rt; err.bytes() == told.as_bytes(), "{fault}");
+    refuses_to(rt, alloc, false, text, &told)?;
+    refuses_to(rt, alloc, true, text, &told)
+}
+
+// Texts, the first line of their fault and what stands behind `wanted`.
+static TEXTS: [(&str, &str, &str); 6] = [
+    ("", "history: 2 NotJson\n", JSON),
+    (r#"{"events":[],"version":3}"#, "history: 3 Version\n", TOP),
+    (r#"{"events":[]}"#, "history: 3 Version\n", TOP),
+    (
+        r#"{"events":[],"more":0,"version":1}"#,
+        "history: 3 Version\n",
+        TOP,
+    ),
+    (r#"{"events":{},"version":1}"#, "history: 3 Version\n", TOP),
+    ("[]", "history: 3 Version\n", TOP),
+];
+
+#[test]
+fn refused_texts(rt: HostRuntime) -> Result<(), Fail> {
+    for (text, fault, wanted) in &TEXTS {
+        refuses(&rt, rt.alloc(), text.as_bytes(), fault, wanted)?;
     }
     Ok(())
 }
 
 #[test]
-fn refused_texts(rt: HostRuntime) -> Result<(), Fail> {
-    let alloc = rt.alloc();
-    let texts = [
-        ("", "history: 2 NotJson\n", JSON),
-        (r#"{"events":[],"version":3}"#, "history: 3 Version\n", TOP),
-        (r#"{"events":[]}"#, "history: 3 Version\n", TOP),
-        (
-            r#"{"events":[],"more":0,"version":1}"#,
-            "history: 3 Version\n",
-            TOP,
-        ),
-        (r#"{"events":{},"version":1}"#, "history: 3 Version\n", TOP),
-        ("[]", "history: 3 Version\n", TOP),
-    ];
-    for (text, fault, wanted) in texts {
-        refuses(&rt, alloc, text.as_bytes(), fault, wanted)?;
-    }
-    let events = [
-        (
-            r#"{"answer":null,"process":1}"#,
-            "history: 6 NotWellFormed at event 0\n",
-            r#"{"answer":null,"process":1}"#,
-            TURN,
-        ),
-        (
-            r#"{"invoke":["scan",2,1],"process":0}"#,
-            "history: 4 Shape at event 0\n",
-            r#"{"invoke":["scan",2,1],"process":0}"#,
-            EVENT,
-        ),
-        (
-            r#"{"invoke":["get",5],"process":64}"#,
-            "history: 5 TooMany\n",
-            "",
-            LIMITS,
-        ),
-        (
-            r#"{"invoke":["scan",2,1],"process":64}"#,
-            "history: 4 Shape at event 0\n",
-            r#"{"invoke":["scan",2,1],"process":64}"#,
-            EVENT,
-        ),
-        (
-            r#"{"answer":null,"process":64}"#,
-            "history: 5 TooMany\n",
-            "",
-            LIMITS,
-        ),
-        (
-            r#"{"invoke":["get",-1],"process":0}"#,
-            "history: 4 Shape at event 0\n",
-            r#"{"invoke":["get",-1],"process":0}"#,
-            EVENT,
-        ),
-        (
-            r#"{"invoke":["get","5"],"process":0}"#,
-            "history: 4 Shape at event 0\n",
-            r#"{"invoke":["get","5"],"process":0}"#,
-            EVENT,
-        ),
-        (
-            r#"{"invoke":["get",5],"process":0,"time":1}"#,
-            "history: 4 Shape at event 0\n",
-            r#"{"invoke":["get",5],"process":0,"time":1}"#,
-            EVENT,
-        ),
-        (
-            r#"{"invoke":["get",5],"process":0},{"invoke":["get",5],"process":0}"#,
-            "history: 6 NotWellFormed at event 1\n",
-            r#"{"invoke":["get",5],"process":0}"#,
-            TURN,
-        ),
-    ];
-    for (events, fault, found, wanted) in events {
-        let text = format!(in alloc; "{{\"events\":[{events}],\"version\":1}}")?;
-        let shown = if found.is_empty() {
-            String::from_str(alloc, wanted)?
-        } else {
-            format!(in alloc; "found {found}; {wanted}")?
-        };
-        refuses(&rt, alloc, text.as_bytes(), fault, &shown)?;
-    }
+fn beginnings_of_a_text(rt: HostRuntime) -> Result<(), Fail> {
     let text = INSERT_THEN_GET.as_bytes();
     for end in 0..text.len() {
-        refuses(&rt, alloc, &text[..end], "history: 2 NotJson\n", JSON)?;
+        let front = &text[..end];
+        refuses(&rt, rt.alloc(), front, "history: 2 NotJson\n", JSON)?;
+    }
+    Ok(())
+}
+
+// Events, the first line of their fault, what stands in its place and what was wanted there.
+static EVENTS: [(&str, &str, &str, &str); 9] = [
+    (
+        r#"{"answer":null,"process":1}"#,
+        "history: 6 NotWellFormed at event 0\n",
+        r#"{"answer":null,"process":1}"#,
+        TURN,
+    ),
+    (
+        r#"{"invoke":["scan",2,1],"process":0}"#,
+        "history: 4 Shape at event 0\n",
+        r#"{"invoke":["scan",2,1],"process":0}"#,
+        EVENT,
+    ),
+    (
+        r#"{"invoke":["get",5],"process":64}"#,
+        "history: 5 TooMany\n",
+        "",
+        LIMITS,
+    ),
+    (
+        r#"{"invoke":["scan",2,1],"process":64}"#,
+        "history: 4 Shape at event 0\n",
+        r#"{"invoke":["scan",2,1],"process":64}"#,
+        EVENT,
+    ),
+    (
+        r#"{"answer":null,"process":64}"#,
+        "history: 5 TooMany\n",
+        "",
+        LIMITS,
+    ),
+    (
+        r#"{"invoke":["get",-1],"process":0}"#,
+        "history: 4 Shape at event 0\n",
+        r#"{"invoke":["get",-1],"process":0}"#,
+        EVENT,
+    ),
+    (
+        r#"{"invoke":["get","5"],"process":0}"#,
+        "history: 4 Shape at event 0\n",
+        r#"{"invoke":["get","5"],"process":0}"#,
+        EVENT,
+    ),
+    (
+        r#"{"invoke":["get",5],"process":0,"time":1}"#,
+        "history: 4 Shape at event 0\n",
+        r#"{"invoke":["get",5],"process":0,"time":1}"#,
+        EVENT,
+    ),
+    (
+        r#"{"invoke":["get",5],"process":0},{"invoke":["get",5],"process":0}"#,
+        "history: 6 NotWellFormed at event 1\n",
+        r#"{"invoke":["get",5],"process":0}"#,
+        TURN,
+    ),
+];
+
+// Events are refused with these two lines by all engines.
+fn refuses_events<R: Threads + Sync + Abort>(
+    rt: &R,
+    alloc: Global,
+    events: &str,
+    fault: &str,
+    wanted: &str,
+) -> Result<(), AllocError> {
+    let text = format!(in alloc; "{{\"events\":[{events}],\"version\":1}}")?;
+    refuses(rt, alloc, text.as_bytes(), fault, wanted)
+}
+
+// What stands in the place of the fault, where there is something, and what was wanted.
+fn shown(alloc: Global, found: &str, wanted: &str) -> Result<String, AllocError> {
+    if found.is_empty() {
+        return String::from_str(alloc, wanted);
+    }
+    format!(in alloc; "found {found}; {wanted}")
+}
+
+#[test]
+fn refused_events(rt: HostRuntime) -> Result<(), Fail> {
+    let alloc = rt.alloc();
+    for (events, fault, found, wanted) in &EVENTS {
+        let second = shown(alloc, found, wanted)?;
+        refuses_events(&rt, alloc, events, fault, &second)?;
     }
     Ok(())
 }
@@ -211,7 +251,7 @@ fn shown_events(rt: HostRuntime) -> Result<(), Fail> {
 }
 
 #[test]
-fn long_and_deep_texts(rt: HostRuntime) -> Result<(), Fail> {
+fn long_texts(rt: HostRuntime) -> Result<(), Fail> {
     let alloc = rt.alloc();
     let most = padded(alloc, EMPTY.as_bytes(), b' ', 16_777_191)?;
     checks(&rt, alloc, &[], &most, 0, "ok\n", "")?;
@@ -219,11 +259,23 @@ fn long_and_deep_texts(rt: HostRuntime) -> Result<(), Fail> {
     refuses(&rt, alloc, &longer, "history: 1 TooLong\n", LENGTH)?;
     let no_json = padded(alloc, b"", 255, 16_777_217)?;
     refuses(&rt, alloc, &no_json, "history: 1 TooLong\n", LENGTH)?;
-    let mut nested = padded(alloc, b"", b'[', 100)?;
-    for _ in 0..100 {
-        nested.push(b']')?;
+    Ok(())
+}
+
+// So many brackets that open, and as many that close.
+fn nested(alloc: Global, depth: usize) -> Result<Vec<u8>, AllocError> {
+    let mut text = padded(alloc, b"", b'[', depth)?;
+    for _ in 0..depth {
+        text.push(b']')?;
     }
-    refuses(&rt, alloc, &nested, "history: 3 Version\n", TOP)?;
+    Ok(text)
+}
+
+#[test]
+fn deep_texts(rt: HostRuntime) -> Result<(), Fail> {
+    let alloc = rt.alloc();
+    let closed = nested(alloc, 100)?;
+    refuses(&rt, alloc, &closed, "history: 3 Version\n", TOP)?;
     let deep = padded(alloc, b"", b'[', 100_000)?;
     refuses(&rt, alloc, &deep, "history: 2 NotJson\n", JSON)?;
     let not_text = padded(alloc, EMPTY.as_bytes(), 255, 1)?;

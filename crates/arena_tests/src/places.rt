@@ -1,6 +1,6 @@
 // Places of one core, one after another on one thread.
-use crate::{Setup, SharedCore};
 use art_rows::Shape;
+use art_shared::{Setup, SharedCore};
 use art_steps::{Access, TreeCall, Variant};
 use events::Call;
 use std::test::Fail;
