@@ -1,5 +1,6 @@
 // The calls that may come next.
-ghost use Rattle.std.specs.Prelude.{◌≡◌, ◌↔◌, ◌+◌, ◌<◌, ◌≤◌, ◌^◌, true, false, length, Some, slice_get, AllPairs, IfOk, MatchOption, IsTrue};
+ghost use Rattle.std.specs.Prelude.{◌≡◌, ◌↔◌, ◌+◌, ◌<◌, ◌≤◌, ◌^◌, true, false, length, Some, slice_get, AllPairs, IfOk, MatchOption};
+ghost use Rattle.std.specs.Prelude.{IsTrue};
 ghost use Rattle.std.specs.Prelude.{IsSomeAnd, Contains, slice_index_or};
 ghost use Rattle.list_laws.specs.Lists.{has_number};
 ghost use Rattle.events.specs.Precedence.{NonePrecedesItself};

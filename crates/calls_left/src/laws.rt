@@ -1,5 +1,6 @@
 // Laws of the calls left, each the contract of a function that does nothing: what marks and answers come to for the calls alone.
-ghost use Rattle.calls_left.specs.Laws.{AnswersFillOnePlace, MarkedAreEarly, UnmarkedAreLate, SettledAreACut, GroupsAreParts, GroupsNameKeysWithin};
+ghost use Rattle.calls_left.specs.Laws.{AnswersFillOnePlace, MarkedAreEarly, UnmarkedAreLate, SettledAreACut, GroupsAreParts};
+ghost use Rattle.calls_left.specs.Laws.{GroupsNameKeysWithin};
 
 /// Where an answer is put at its call, it is put at all calls that were invoked there, which is this one.
 pub fn answers_fill_one_place()

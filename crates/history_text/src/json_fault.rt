@@ -1,3 +1,5 @@
+// Why a text has no JSON value.
+
 /// Why no JSON value was read from a text.
 #[derive(Clone, Copy, Debug, PartialEq, Eq)]
 pub enum JsonFault {

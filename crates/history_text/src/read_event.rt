@@ -9,7 +9,8 @@ ghost use Rattle.events.specs.declared.fault.HistoryFault.TheVariants as faults;
 ghost use Rattle.events.specs.Histories.{has_range};
 ghost use Rattle.events.specs.PlainHistories.{is_replace};
 ghost use Rattle.history_text.specs.Texts.{number_data, list_data, pair_data, call_data, reply_data, event_data, may_stand};
-ghost use Rattle.history_text.specs.ValueFaults.{object_of_two, object_of_three, invocation_data, response_data, IsValueFault, IsPairValueFault};
+ghost use Rattle.history_text.specs.ValueFaults.{object_of_two, object_of_three, invocation_data, response_data, IsValueFault};
+ghost use Rattle.history_text.specs.ValueFaults.{IsPairValueFault};
 ghost use Rattle.events.specs.Limits.{process_limit, start_limit};
 
 use events::{Call, Event, HistoryFault, MAX_START, Memory, Pairs, Reply};

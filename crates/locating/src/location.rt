@@ -1,3 +1,5 @@
+// Locations of the event at which a history goes wrong.
+
 /// Where a history goes wrong, as far as searches within a budget tell. Events and calls are numbered from 0.
 #[derive(Clone, Copy, Debug, PartialEq, Eq)]
 pub enum Location {

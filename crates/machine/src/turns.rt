@@ -139,7 +139,7 @@ impl Runner {
             Doing::Going(task) => {
                 task.ready(alloc)?;
                 if let Some(reply) = advance(words, task) {
-                    self.doing = Doing::Answered(reply);
+                    self.doing.answer(reply);
                 }
                 Ok(())
             }

@@ -1,5 +1,6 @@
 // The memo of a search.
-ghost use Rattle.std.specs.Prelude.{◌≡◌, ◌↔◌, ◌++◌, ◌∷◌, [], length, IsTrue, Some, slice_get, ◌<◌, IfOk, IfErr, OnErr, Contains, if◌then◌else◌};
+ghost use Rattle.std.specs.Prelude.{◌≡◌, ◌↔◌, ◌++◌, ◌∷◌, [], length, IsTrue, Some, slice_get, ◌<◌, IfOk, IfErr, OnErr, Contains};
+ghost use Rattle.std.specs.Prelude.{if◌then◌else◌};
 ghost use Rattle.configurations.specs.Counts.{AreDistinct};
 
 use crate::config::Config;

@@ -1,5 +1,6 @@
 // Bits of words.
-ghost use Rattle.std.specs.Prelude.{◌==◌, ◌≡◌, ◌≢◌, ℕ, ◌+◌, ◌-◌, ◌*◌, ◌/◌, ◌%◌, ◌^◌, ◌<◌, ◌≤◌, length, map, take, slice_index, All, IfOk, bit_or};
+ghost use Rattle.std.specs.Prelude.{◌==◌, ◌≡◌, ◌≢◌, ℕ, ◌+◌, ◌-◌, ◌*◌, ◌/◌, ◌%◌, ◌^◌, ◌<◌, ◌≤◌, length, map, take, slice_index, All, IfOk};
+ghost use Rattle.std.specs.Prelude.{bit_or};
 ghost use Rattle.std.specs.List.{range_with_len};
 ghost use Rattle.memo.specs.Windows.{bit_of, IsTrimmed, AreWords, shifted_word};
 

@@ -1,6 +1,7 @@
 // What stands around the bars of a text: its head, the words at its top, and its lanes.
 ghost use Rattle.std.specs.Prelude.{◌≡◌, ◌++◌, OnOk, string_bytes};
-ghost use Rattle.picture_text.specs.Frame.{head_text, with_heading, with_start, ground_text, name_text, with_lane, has_wrong, marks_text, with_legend};
+ghost use Rattle.picture_text.specs.Frame.{head_text, with_heading, with_start, ground_text, name_text, with_lane, has_wrong, marks_text};
+ghost use Rattle.picture_text.specs.Frame.{with_legend};
 
 use crate::content::push_shown;
 use crate::layout::y_of;

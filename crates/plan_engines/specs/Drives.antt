@@ -25,7 +25,7 @@ pub record SpellsDrivable (text : List ℕ) (scripts : List (List Call)) : Type 
   pub are_scripts : AreScripts scripts
   pub drivable : IsDrivable scripts
 
--- it spells such a plan, and each of its processes passed the gate before its first step
+-- it spells such a plan, and the gate was passed on the way to the script of each of its processes
 pub record WasPassedForPlan (WasPassed : ℕ → Type 0) (text : List ℕ) : Type 0 where
   pub scripts : List (List Call)
   pub plan : SpellsDrivable text scripts

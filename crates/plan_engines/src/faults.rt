@@ -1,6 +1,7 @@
 // How the fault of a plan or of a replay is told.
 ghost use Rattle.std.specs.Prelude.{◌≡◌, IfOk, string_bytes};
-ghost use Rattle.plan_engines.specs.Faults.{plan_fault_line, machine_fault_name, stop_line, replay_fault_line, plan_fault_lines, replay_fault_lines, IsPlanFaultOutcome, IsReplayFaultOutcome};
+ghost use Rattle.plan_engines.specs.Faults.{plan_fault_line, machine_fault_name, stop_line, replay_fault_line, plan_fault_lines};
+ghost use Rattle.plan_engines.specs.Faults.{replay_fault_lines, IsPlanFaultOutcome, IsReplayFaultOutcome};
 
 use crate::wanted::{machine_wanted, plan_wanted};
 use outcomes::{Outcome, push_wanted};

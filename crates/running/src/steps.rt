@@ -110,7 +110,7 @@ impl Runner {
                 match task.take(got) {
                     None => Ok(None),
                     Some(reply) => {
-                        self.doing = Doing::Answered(reply);
+                        self.doing.answer(reply);
                         Ok(None)
                     }
                 }

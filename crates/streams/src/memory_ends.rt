@@ -1,5 +1,6 @@
 //! Ends over memory, for tests: their calls move few bytes at a time, and one of them fails.
-ghost use Rattle.std.specs.Prelude.{◌≡◌, ◌↔◌, ◌<◌, ◌≤◌, ◌+◌, ◌++◌, [], None, Some, Ok, IsTrue, IsErr, min, length, take, drop, vec_len, IfOk, OnErr};
+ghost use Rattle.std.specs.Prelude.{◌≡◌, ◌↔◌, ◌<◌, ◌≤◌, ◌+◌, ◌++◌, [], None, Some, Ok, IsTrue, IsErr, min, length, take, drop, vec_len};
+ghost use Rattle.std.specs.Prelude.{IfOk, OnErr};
 ghost use Rattle.streams.specs.MemoryEnd.{MemoryEnd, after_call};
 
 use crate::{Failed, Sink, Source};

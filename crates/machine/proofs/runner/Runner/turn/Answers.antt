@@ -1,4 +1,4 @@
-use Rattle.std.proofs.Common.{refl, subst, ◌∙◌}
+use Rattle.std.proofs.Common.{refl, sym, subst, ◌∙◌}
 use Rattle.art.specs.Doings.{after_access}
 use Rattle.machine.specs.Fitting.{Advances}
 use Rattle.machine.proofs.TurnLemmas.{goes-on}
@@ -7,9 +7,10 @@ use Rattle.machine.proofs.runner.Runner.turn.Goals as goal
 pub returns-in-Some-clause-moved : goal.returns-in-Some-clause-moved
 returns-in-Some-clause-moved c = λ plan q shape variant fits.
     goes-on plan c.args.process q c.args.self.now c.in-Going.task c.args.words.now c.advance.new.words _ fits c.in-Going.is
-    (λ asked got f. subst (λ o. Advances plan.shape plan.variant asked got c.args.words.now c.advance.new.words
+    (λ asked got f. subst (λ d. Advances plan.shape plan.variant asked got c.args.words.now c.advance.new.words d) (sym c.answer.ensures)
+    (subst (λ o. Advances plan.shape plan.variant asked got c.args.words.now c.advance.new.words
     (after_access c.advance.new.task o)) c.in-Some.is
-    (c.advance.ensures.made plan.shape plan.variant asked got (λ more. c.ready.ensures.same more ∙ f more))) refl refl refl refl
+    (c.advance.ensures.made plan.shape plan.variant asked got (λ more. c.ready.ensures.same more ∙ f more)))) refl refl refl refl
 
 pub returns-in_default-clause-moved : goal.returns-in_default-clause-moved
 returns-in_default-clause-moved c = λ plan q shape variant fits.

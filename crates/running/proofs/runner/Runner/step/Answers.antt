@@ -1,4 +1,4 @@
-use Rattle.std.proofs.Common.{refl, sym, ap}
+use Rattle.std.proofs.Common.{refl, sym, ap, ◌∙◌}
 use Rattle.art.specs.Tasks.{rest_of}
 use Rattle.art.specs.Doings.{after_access}
 use Rattle.running.proofs.StepLemmas.{access-first}
@@ -10,7 +10,7 @@ returns-in-Some-clause-first c =
     c.ready.ensures.same c.next.result
     c.next.ensures.access _ c.access-got.result c.access-got.ensures.made c.take.new.self c.take.result _ c.access-got.ensures.told
     c.take.ensures.reply
-    c.take.ensures.fits (ap (after_access c.take.new.self) (sym c.in-Some.is)) refl refl
+    c.take.ensures.fits (c.answer.ensures ∙ ap (after_access c.take.new.self) (sym c.in-Some.is)) refl refl
 
 pub returns-in-None-clause-first : goal.returns-in-None-clause-first
 returns-in-None-clause-first c =
