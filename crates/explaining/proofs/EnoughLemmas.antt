@@ -7,28 +7,24 @@ use Rattle.std.proofs.lemmas.List.{length-map}
 use Rattle.list_laws.proofs.Lists.{Contains-nil, Contains-cases}
 use Rattle.events.specs.declared.operation.Operation.{Operation}
 use Rattle.events.specs.Precedence.{NonePrecedesItself}
-use Rattle.map_object.specs.MapObject.{Contents, IsRising}
+use Rattle.map_object.specs.MapObject.{Contents}
 use Rattle.orders.specs.Orders.{IsLinearizable}
 use Rattle.quiet_cuts.specs.TimeCuts.{InvocationsRise}
 use Rattle.explaining.specs.Rest.{rest_of, are_held}
 use Rattle.explaining.specs.Explained.{IsRest, others_than}
-use Rattle.explaining.proofs.RelaxedLemmas.{relaxed_order}
 use Rattle.explaining.proofs.RestLemmas.{rest_rises, rest_apart, rest_relaxed, rest_few}
 
 -- those that are left without order are
-pub rest_enough : (start : Contents) (calls : List Operation) (places : List ℕ) (rest : List Operation) → IsRising start
-    → InvocationsRise calls
+pub rest_enough : (start : Contents) (calls : List Operation) (places : List ℕ) (rest : List Operation) → InvocationsRise calls
     → NonePrecedesItself calls → are_held places calls ≡ false → rest ≡ rest_of places calls → (IsLinearizable start rest → ⊥)
     → IsRest start calls places rest
-rest_enough start calls places rest rising rise apart free is none =
+rest_enough start calls places rest rise apart free is none =
     subst (IsRest start calls places) (sym is) (record {
       enough = record {
-        from = (rest_relaxed places calls rise free).from;
+        relaxed = rest_relaxed places calls rise free;
         rise = rest_rises places calls rise;
         apart = rest_apart places calls apart;
         none = subst (λ (l : List Operation). IsLinearizable start l → ⊥) is none;
-        refute = relaxed_order start calls (rest_of places calls) rising rise (rest_rises places calls rise)
-            (rest_relaxed places calls rise free);
       };
       fewer = rest_few places calls rise;
     })

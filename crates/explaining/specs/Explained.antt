@@ -1,5 +1,5 @@
 -- What is said of calls without order: few of them that have none either.
-use Rattle.std.specs.Prelude.{◌≡◌, ℕ, ◌==◌, ◌<◌, ◌≤◌, true, not, List, length, map, filter, Contains}
+use Rattle.std.specs.Prelude.{◌≡◌, ℕ, ◌==◌, ◌<◌, ◌≤◌, true, not, List, length, map, filter}
 use Rattle.std.specs.List.{AllZip}
 use Rattle.events.specs.declared.operation.Operation.{Operation}
 use Rattle.events.specs.Precedence.{NonePrecedesItself}
@@ -8,7 +8,7 @@ use Rattle.orders.specs.Orders.{IsOrder, IsLinearizable}
 use Rattle.configurations.specs.Counts.{ReachesMoreThan}
 use Rattle.quiet_cuts.specs.TimeCuts.{InvocationsRise}
 use Rattle.explaining.specs.Rest.{rest_of, are_held}
-use Rattle.explaining.specs.Relaxed.{IsCallOf}
+use Rattle.explaining.specs.Relaxed.{IsRelaxed}
 use Rattle.explaining.specs.declared.explanation.Reason.{Reason}
 use Rattle.explaining.specs.declared.explanation.Reason.TheVariants as reasons
 use Rattle.explaining.specs.declared.explanation.Explanation.{Explanation}
@@ -19,14 +19,13 @@ use Rattle.explaining.specs.declared.leaving.Without.TheVariants.{Rest, Kept}
 use Rattle.explaining.specs.declared.lessening.Pass.{Pass}
 use Rattle.explaining.specs.declared.lessening.Pass.TheVariants.{Less, Least}
 
--- some of the calls, each as it is or without its answer, that have no order; and that alone refutes all of them: an order of all would be
--- one of these
+-- some of the calls, each as it is or without its answer, that have no order; and none of those left out could mend that: each order of all
+-- would be one of these (the law RelaxedCallsHaveOrders)
 pub record AreEnough (start : Contents) (calls kept : List Operation) : Type 0 where
-  pub from : (b : Operation) → Contains kept b → (a : Operation) × Contains calls a × IsCallOf a b
+  pub relaxed : IsRelaxed calls kept
   pub rise : InvocationsRise kept
   pub apart : NonePrecedesItself kept
   pub none : IsLinearizable start kept → ⊥
-  pub refute : IsLinearizable start calls → IsLinearizable start kept
 
 -- why calls do not go, where those stay that were invoked at these places: the others, without the answers that tell what those that go
 -- put, have an order; or their search took more than the budget; or one that has no answer waits for what one of these may put

@@ -36,7 +36,7 @@ returns-in-NoOrder c =
     (c.deref-2.ensures.value ∙ c.in_ok-gone.ensures) (sym c.are_held.ensures ∙ c.if-are_held.false)) in
     let found = subst (λ (f : Found). IsFound c.in_ok-start.start c.deref-5.result.now c.args.budget f) c.in-NoOrder.is
     c.in_ok-search_calls.ensures in
-    rest_enough c.args.map.now calls places c.in_ok-rest.rest.items c.pairs.ensures.rising c.requires.rising c.requires.apart free
+    rest_enough c.args.map.now calls places c.in_ok-rest.rest.items c.requires.rising c.requires.apart free
     c.in_ok-rest.ensures
     (subst (λ (start : Contents). IsLinearizable start c.in_ok-rest.rest.items → ⊥) (c.in_ok-start.ensures ∙ c.pairs.ensures.pairs)
     (subst (λ (l : List Operation). IsLinearizable c.in_ok-start.start l → ⊥) c.deref-5.ensures.value found))
