@@ -1,0 +1,98 @@
+#!/usr/bin/env python3
+"""Proves and builds the libraries of this repository that a crate stands on, on all cores, and says on standard error how far that is:
+
+    ./prove.py bench
+
+Each is proved once, as soon as those below it are, by rt's own scheduler: first those with the longest chain above them, as many side
+by side as there are processors and memory. What an earlier run has built of the same files is kept, and rt's commands find it built:
+so a run that was interrupted goes on where it was.
+"""
+import copy
+import importlib.machinery
+import os
+import shutil
+import signal
+import sys
+import tempfile
+import threading
+import time
+
+sys.dont_write_bytecode = True
+TOP = os.path.dirname(os.path.realpath(__file__))
+rt = importlib.machinery.SourceFileLoader("rt", os.path.realpath(shutil.which("rt"))).load_module()
+
+
+class Crate(rt.rtlib.Crate):
+    """A crate whose stamp, the sum of all that it is made from, reads each crate below once, and not once for each way down to it."""
+
+    below_one = threading.local()
+
+    def stamp(self):
+        is_outermost = not hasattr(self.below_one, "stamps")
+        stamps = self.below_one.__dict__.setdefault("stamps", {})
+        try:
+            if self.name not in stamps:
+                stamps[self.name] = super().stamp()
+            return stamps[self.name]
+        finally:
+            if is_outermost:
+                del self.below_one.stamps
+
+
+class Progress:
+    """How far it is and, by the lines of the crates that were proved until now, how long the rest will take."""
+
+    def __init__(self, crates):
+        self.began, self.saying = time.monotonic(), threading.Lock()
+        self.left = {it.name: it.count(rb"\n") + sum(rt.rtlib.text_of(file).count("\n") for file in rt.rtlib.files_of(it.folder)) for it in crates}
+        self.whole = sum(self.left.values())
+
+    def say(self, text):
+        print(f"prove: {time.monotonic() - self.began:.0f} s: {text}", file=sys.stderr, flush=True)
+
+    def proved(self, crate):
+        with self.saying:
+            done = self.whole - sum(self.left.values()) + self.left.pop(crate.name)
+            seconds = (time.monotonic() - self.began) * sum(self.left.values()) / done
+            self.say(f"proved {crate.name}; crates left: {len(self.left)}" + f", for some {seconds:.0f} s" * (len(self.left) > 0))
+
+
+def build(crate, jobs, progress):
+    """Proves and builds a library above those that are built. Returns whether it is; why not goes to standard error."""
+    crate = copy.copy(crate)
+    with tempfile.TemporaryFile("w+", errors="replace") as crate.out:
+        is_built = crate.build_rlib(["--jobs", str(jobs)], anew=False) == 0
+        crate.out.seek(0)
+        if is_built:
+            progress.proved(crate)
+        else:
+            sys.stderr.write(crate.out.read())
+    return is_built
+
+
+def main(name):
+    # What was started ends with this, however this ends: at an interrupt too.
+    rt.rtlib.guarded()
+    signal.signal(signal.SIGINT, signal.SIG_DFL)
+    crates = Crate(f"{TOP}/crates/{name}", TOP, {}).below()
+    held = rt.rtlib.lock(crates)
+    for it in crates:
+        rt.rtlib.stop_on_links(it.folder)
+    lacking = [it for it in crates if not it.is_built()]
+    progress = Progress(lacking)
+    if lacking:
+        progress.say(f"crates to prove: {len(lacking)} of {len(crates)}; that takes minutes")
+
+    def work(crate, given, jobs):
+        return crate not in lacking or all(given[it.name, "proof"] for it in crate.below()) and build(crate, jobs, progress)
+
+    tasks = {}
+    for it in crates:
+        waits = [(below.name, "proof") for below in it.below()]
+        tasks[it.name, "proof"] = waits, progress.left.get(it.name, 0), rt.need(it), lambda given, jobs, it=it: work(it, given, jobs)
+    return 0 if all(rt.in_lanes(tasks).values()) and held else 1
+
+
+rt.rtlib.Crate = Crate
+if __name__ == "__main__":
+    sys.exit(main(sys.argv[1]))
