@@ -7,6 +7,8 @@ mod driven;
 #[cfg(test)]
 mod engine;
 #[cfg(test)]
+mod gate_first;
+#[cfg(test)]
 mod gates;
 #[cfg(test)]
 mod setups;
