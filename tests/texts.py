@@ -1,0 +1,263 @@
+#!/usr/bin/env python3
+"""Runs the program on texts of histories and lines of streams that it has to refuse, and on the longest that it reads.
+
+    tests/texts.py
+
+Each text has one first fault, which was worked out by hand, and so were the two lines that tell it. Every subcommand on histories tells
+the same. The last line counts what passed and failed.
+"""
+
+import sys
+
+sys.dont_write_bytecode = True
+from rows import JSON, LENGTH, LONGEST_TEXT, MOST_CALLS, compare, gets, history, pairs_listed, spaced  # noqa: E402
+
+# What is said behind the line of a fault.
+TOP = 'wanted {"version":1,"events":[..]} or {"version":2,"start":[..],"events":[..]}\n'
+EVENT = (
+    'wanted {"process":P,"invoke":C} or {"process":P,"answer":A}; C is ["get",K], ["insert",K,V], ["remove",K], ["scan",LO,HI] '
+    'with LO <= HI, or in version 2 ["replace",K,OLD,NEW]; A is null, V, [[K,V],..] or "refused"; '
+    "numbers are from 0 to 18446744073709551615\n"
+)
+LIMITS = "wanted at most 4096 starting pairs, processes from 0 to 63, at most 4096 calls, at most 4096 pairs in an answer\n"
+TURN = "wanted an invocation where the process has no open call, an answer where it has one\n"
+PAIR = "wanted [K,V] with K above that of the pair before; numbers are from 0 to 18446744073709551615\n"
+START = 'wanted {"version":2,"start":[[K,V],..]}\n'
+PROCESSES = "wanted processes from 0 to 65535, and fewer than 18446744073709551615 lines\n"
+LONGEST_LINE = 1_048_576
+LINE_LENGTH = "wanted at most 1048576 bytes\n"
+
+INSERT_THEN_GET = """{"events":[
+    {"invoke":["insert",5,7],"process":0},{"answer":null,"process":0},
+    {"invoke":["get",5],"process":0},{"answer":7,"process":0}],"version":1}"""
+
+# Texts of another top level.
+OTHER_TOP_LEVELS = [
+    "1",
+    "[]",
+    "{}",
+    '{"events":[]}',
+    '{"version":1}',
+    '{"events":[],"version":3}',
+    '{"events":[],"version":"1"}',
+    '{"events":{},"version":1}',
+    '{"Events":[],"version":1}',
+    '{"events":[],"more":0,"version":1}',
+    '{"events":[],"start":[],"version":1}',
+    '{"events":[],"version":2}',
+    '{"events":[],"start":[],"version":3}',
+    '{"events":[],"start":{},"version":2}',
+    '{"events":{},"start":[7],"version":2}',
+    '{"events":[],"more":[],"start":[],"version":2}',
+]
+
+# First events of another form.
+OTHER_FORMS = [
+    "0",
+    "{}",
+    '{"process":0}',
+    '{"invoke":["get",5]}',
+    '{"invoke":["get",5],"process":0,"time":1}',
+    '{"answer":null,"invoke":["get",5]}',
+    '{"answer":null,"invoke":["get",5],"process":0}',
+    '{"invoke":["get",5],"process":-1}',
+    '{"invoke":["get",5],"process":"0"}',
+    '{"invoke":[],"process":0}',
+    '{"invoke":["get"],"process":0}',
+    '{"invoke":["get",-1],"process":0}',
+    '{"invoke":["get","5"],"process":0}',
+    '{"invoke":["get",5,7],"process":0}',
+    '{"invoke":["insert",5],"process":0}',
+    '{"invoke":["insert",5,7,9],"process":0}',
+    '{"invoke":["Get",5],"process":0}',
+    '{"invoke":["scan",2,1],"process":0}',
+    '{"invoke":["scan",2,1],"process":64}',
+    '{"invoke":["replace",1,2,3],"process":0}',
+    '{"invoke":["replace",1,2,3],"process":300}',
+    '{"answer":true,"process":0}',
+    '{"answer":-1,"process":0}',
+    '{"answer":"Refused","process":0}',
+    '{"answer":{},"process":0}',
+    '{"answer":[1,2],"process":0}',
+    '{"answer":[[1]],"process":0}',
+    '{"answer":[[1,2],[1,2,3]],"process":0}',
+    '{"answer":[[1,null]],"process":300}',
+]
+
+# Events, and the two lines of a text that has them.
+OTHER_EVENTS = [
+    ('{"invoke":["get",5],"process":0},{}', "history: 4 Shape at event 1\nfound {}; " + EVENT),
+    ('{"invoke":["get",5],"process":64}', "history: 5 TooMany\n" + LIMITS),
+    ('{"invoke":["scan",1,2],"process":256}', "history: 5 TooMany\n" + LIMITS),
+    ('{"answer":null,"process":64}', "history: 5 TooMany\n" + LIMITS),
+    ('{"answer":null,"process":18446744073709551615}', "history: 5 TooMany\n" + LIMITS),
+    ('{"answer":null,"process":1}', 'history: 6 NotWellFormed at event 0\nfound {"answer":null,"process":1}; ' + TURN),
+    (
+        '{"invoke":["get",5],"process":0},{"invoke":["get",5],"process":0}',
+        'history: 6 NotWellFormed at event 1\nfound {"invoke":["get",5],"process":0}; ' + TURN,
+    ),
+    (
+        '{"invoke":["get",5],"process":1},{"invoke":["get",5],"process":1}',
+        'history: 6 NotWellFormed at event 1\nfound {"invoke":["get",5],"process":1}; ' + TURN,
+    ),
+]
+
+# Events behind an open get, and what is shown of them: 80 bytes, and a question mark for a byte that is no printable ASCII.
+SHOWN = [
+    (' { "process" : 0 , "invoke" : [ "get" , 1.5 ] } ', '{"invoke":["get",1.5],"process":0}'),
+    (r'"\u00e9 \t~"', r'"?? \t~"'),
+    (
+        '"1234567890123456789012345678901234567890123456789012345678901234567890123456789"',
+        '"1234567890123456789012345678901234567890123456789012345678901234567890123456789..',
+    ),
+    (
+        '"123456789012345678901234567890123456789012345678901234567890123456789012345678"',
+        '"123456789012345678901234567890123456789012345678901234567890123456789012345678"',
+    ),
+]
+
+# Starting pairs, events, and the two lines of a text that has them.
+STARTS = [
+    ("[5,7],[5,8]", "", "history: 8 Start at pair 1\nfound [5,8]; " + PAIR),
+    ("[3,2],[1,2],7", "", "history: 8 Start at pair 1\nfound [1,2]; " + PAIR),
+    ("[1,2],[3]", "", "history: 8 Start at pair 1\nfound [3]; " + PAIR),
+    ('[1,"2"]', "", 'history: 8 Start at pair 0\nfound [1,"2"]; ' + PAIR),
+    ("7", "7", "history: 8 Start at pair 0\nfound 7; " + PAIR),
+    ("[1,2]", "7", "history: 4 Shape at event 0\nfound 7; " + EVENT),
+    (
+        "", '{"invoke":["replace",1,2],"process":0}',
+        'history: 4 Shape at event 0\nfound {"invoke":["replace",1,2],"process":0}; ' + EVENT,
+    ),
+    (pairs_listed(4097), "", "history: 5 TooMany\n" + LIMITS),
+]
+
+
+def refused_texts():
+    """Texts of histories, and the two lines of their faults."""
+    for end in range(len(INSERT_THEN_GET)):
+        yield INSERT_THEN_GET[:end], "history: 2 NotJson\n" + JSON
+    for text in (b'{"events":[],"version":1}\xff', b'"\xff"', b"[" * 100_000):
+        yield text, "history: 2 NotJson\n" + JSON
+    for text in (*OTHER_TOP_LEVELS, "[" * 100 + "]" * 100):
+        yield text, "history: 3 Version\n" + TOP
+    for event in OTHER_FORMS:
+        yield history(event), f"history: 4 Shape at event 0\nfound {event}; {EVENT}"
+    for events, told in OTHER_EVENTS:
+        yield history(events), told
+    for event, shown in SHOWN:
+        text = f'{{"version":1,"events":[{{"process":0,"invoke":["get",5]}},{event}]}}'
+        yield text, f"history: 4 Shape at event 1\nfound {shown}; {EVENT}"
+    for pairs, events, told in STARTS:
+        yield f'{{"events":[{events}],"start":[{pairs}],"version":2}}', told
+    yield history(gets(MOST_CALLS + 1)), "history: 5 TooMany\n" + LIMITS
+    pairs = ",".join(["[5,7]"] * 4097)
+    yield history(f'{{"invoke":["scan",0,9],"process":0}},{{"answer":[{pairs}],"process":0}}'), "history: 5 TooMany\n" + LIMITS
+    for text in (spaced(history(""), LONGEST_TEXT + 1), b"\xff" * (LONGEST_TEXT + 1)):
+        yield text, "history: 1 TooLong\n" + LENGTH
+
+
+# Lines, and their fault as the first line of a stream, and behind an event.
+OTHER_LINES = [
+    ("", "2 NotJson", JSON),
+    (" ", "2 NotJson", JSON),
+    ("{", "2 NotJson", JSON),
+    ("{}{}", "2 NotJson", JSON),
+    ('{"answer":7,"process":3},', "2 NotJson", JSON),
+    ("7", "4 Shape", EVENT),
+    ("[]", "4 Shape", EVENT),
+    ("{}", "4 Shape", EVENT),
+    ('{"process":0}', "4 Shape", EVENT),
+    ('{"invoke":["get",5]}', "4 Shape", EVENT),
+    ('{"invoke":["get",5],"process":0,"time":1}', "4 Shape", EVENT),
+    ('{"answer":null,"invoke":["get",5]}', "4 Shape", EVENT),
+    ('{"invoke":["get",5],"process":-1}', "4 Shape", EVENT),
+    ('{"invoke":["get",5],"process":"0"}', "4 Shape", EVENT),
+    ('{"invoke":["get"],"process":0}', "4 Shape", EVENT),
+    ('{"invoke":["get",5,7],"process":0}', "4 Shape", EVENT),
+    ('{"invoke":["insert",5],"process":0}', "4 Shape", EVENT),
+    ('{"invoke":["Get",5],"process":0}', "4 Shape", EVENT),
+    ('{"invoke":["scan",2,1],"process":0}', "4 Shape", EVENT),
+    ('{"invoke":["scan",2,1],"process":65536}', "4 Shape", EVENT),
+    ('{"invoke":["replace",1,2,3],"process":0}', "4 Shape", EVENT),
+    ('{"invoke":["replace",5,1,2],"process":0}', "4 Shape", EVENT),
+    ('{"invoke":["replace",1,2,3],"process":65536}', "4 Shape", EVENT),
+    ('{"answer":true,"process":0}', "4 Shape", EVENT),
+    ('{"answer":-1,"process":0}', "4 Shape", EVENT),
+    ('{"answer":"Refused","process":0}', "4 Shape", EVENT),
+    ('{"answer":[1,2],"process":0}', "4 Shape", EVENT),
+    ('{"answer":[[1,null]],"process":65536}', "4 Shape", EVENT),
+    ('{"invoke":["get",5],"process":65536}', "5 TooMany", PROCESSES),
+    ('{"answer":null,"process":65536}', "5 TooMany", PROCESSES),
+    ('{"answer":[[1,2]],"process":18446744073709551615}', "5 TooMany", PROCESSES),
+]
+
+# First lines with the members of starting pairs, or nearly so, and their faults.
+FIRST_LINES = [
+    ('{"start":[],"version":1}', "3 Version", START),
+    ('{"start":[],"version":"2"}', "3 Version", START),
+    ('{"start":{},"version":2}', "3 Version", START),
+    ('{"start":[7],"version":1}', "3 Version", START),
+    ('{"start":[7],"version":2}', "8 Start at pair 0", PAIR),
+    ('{"start":[[1,"2"]],"version":2}', "8 Start at pair 0", PAIR),
+    ('{"start":[[1,2],[3]],"version":2}', "8 Start at pair 1", PAIR),
+    ('{"start":[[5,7],[5,8]],"version":2}', "8 Start at pair 1", PAIR),
+    ('{"start":[[7,1],[7,2]],"version":2}', "8 Start at pair 1", PAIR),
+    ('{"start":[[3,2],[4,2],[1,2],7],"version":2}', "8 Start at pair 2", PAIR),
+    ('{"start":[]}', "4 Shape", EVENT),
+    ('{"version":2}', "4 Shape", EVENT),
+    ('{"events":[],"start":[],"version":2}', "4 Shape", EVENT),
+]
+
+# An event of a process that no other line names, and a line of starting pairs.
+ONE_EVENT = '{"invoke":["get",5],"process":9}'
+NO_PAIRS = '{"start":[],"version":2}'
+
+
+def refused_streams():
+    """Streams, and the two lines of their faults."""
+    for line, fault, wanted in OTHER_LINES:
+        yield f"{line}\n", f"stream: line 1: {fault}\nfound {line}; {wanted}"
+        yield f"{ONE_EVENT}\n{line}\n", f"stream: line 2: {fault}\nfound {line}; {wanted}"
+    for line, fault, wanted in FIRST_LINES:
+        yield f"{line}\n", f"stream: line 1: {fault}\nfound {line}; {wanted}"
+    # Starting pairs stand in a first line alone, and behind them a replace is no fault of form.
+    yield f"{ONE_EVENT}\n{NO_PAIRS}\n", f"stream: line 2: 4 Shape\nfound {NO_PAIRS}; {EVENT}"
+    replace = '{"invoke":["replace",1,2,3],"process":65536}'
+    yield f"{NO_PAIRS}\n{replace}\n", f"stream: line 2: 5 TooMany\nfound {replace}; {PROCESSES}"
+    for text, line in ((b'"\xff"\n', 1), (ONE_EVENT.encode() + b'\n"\xff"\n', 2)):
+        yield text, f'stream: line {line}: 2 NotJson\nfound "?"; {JSON}'
+    yield (
+        '{"invoke":["get",5],"process":0}\n{"answer":null,"process":1}\n',
+        f'stream: line 2: 6 NotWellFormed\nfound {{"answer":null,"process":1}}; {TURN}',
+    )
+    yield (
+        '{"invoke":["get",5],"process":300}\n{"invoke":["get",6],"process":300}\n',
+        f'stream: line 2: 6 NotWellFormed\nfound {{"invoke":["get",6],"process":300}}; {TURN}',
+    )
+    # What is too long is not looked at; of the longest line 80 bytes are shown.
+    for front, line in (("", 1), (ONE_EVENT + "\n", 2)):
+        yield front + " " * (LONGEST_LINE + 1), f"stream: line {line}: 1 TooLong\n{LINE_LENGTH}"
+        yield front + " " * LONGEST_LINE, f"stream: line {line}: 2 NotJson\nfound {' ' * 80}..; {JSON}"
+
+
+def rows():
+    """Words, a text, and the status, standard output and standard error that are wanted."""
+    for text, told in refused_texts():
+        for words in (["check", "0", "1"], ["judge"], ["locate"], ["explain"], ["draw"]):
+            yield words, text, 3, "", told
+    yield ["check"], spaced(history(""), LONGEST_TEXT), 0, "ok\n", ""
+    for text, told in refused_streams():
+        yield ["follow"], text, 3, "", told
+    # The longest lines that spell an event, and starting pairs.
+    longest = spaced(ONE_EVENT, LONGEST_LINE) + "\n" + spaced('{"answer":null,"process":9}', LONGEST_LINE)
+    yield ["follow"], longest, 0, '{"calls":1,"overlap":0,"verdict":"yes"}\n', ""
+    longest = spaced('{"start":[[5,7]],"version":2}', LONGEST_LINE) + f'\n{ONE_EVENT}\n{{"answer":7,"process":9}}\n'
+    yield ["follow"], longest, 0, '{"calls":1,"overlap":0,"verdict":"yes"}\n', ""
+
+
+def main():
+    return compare(rows())
+
+
+if __name__ == "__main__":
+    sys.exit(main())

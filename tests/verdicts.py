@@ -1,0 +1,570 @@
+#!/usr/bin/env python3
+"""Runs the program on histories and on streams of events: orders, verdicts, locations, explanations, and what is followed.
+
+    tests/verdicts.py
+
+What is expected was worked out by hand. Of each history the place where it goes wrong is also sought by a verdict on each of its
+first parts. The last line counts what passed and failed.
+"""
+
+import functools
+import json
+import sys
+
+sys.dont_write_bytecode = True
+from rows import LONG, MOST_CALLS, answer, compare, gets, history, numbers, pairs_listed  # noqa: E402
+
+STATUSES = {"yes": 0, "no": 1, "undecided": 2}
+
+# The events of small histories.
+NO_EVENTS = ""
+INSERT_THEN_GET = """
+    {"invoke":["insert",5,7],"process":0}, {"answer":null,"process":0},
+    {"invoke":["get",5],"process":0}, {"answer":7,"process":0}"""
+GET_MISSES_ANSWERED_INSERT = """
+    {"invoke":["insert",5,7],"process":0}, {"answer":null,"process":0},
+    {"invoke":["get",5],"process":1}, {"answer":null,"process":1}"""
+GET_SEES_ANSWERED_INSERT = """
+    {"invoke":["insert",5,7],"process":0}, {"answer":null,"process":0},
+    {"invoke":["get",5],"process":1}, {"answer":7,"process":1}"""
+GET_MISSES_OPEN_INSERT = """
+    {"invoke":["insert",5,7],"process":0},
+    {"invoke":["get",5],"process":1}, {"answer":null,"process":1},
+    {"answer":null,"process":0}"""
+GET_SEES_PENDING_INSERT = """
+    {"invoke":["insert",5,7],"process":0},
+    {"invoke":["get",5],"process":1}, {"answer":7,"process":1}"""
+GET_MISSES_PENDING_INSERT = """
+    {"invoke":["insert",5,7],"process":0},
+    {"invoke":["get",5],"process":1}, {"answer":null,"process":1}"""
+LATER_GET_MISSES_WHAT_WAS_SEEN = """
+    {"invoke":["insert",5,7],"process":0},
+    {"invoke":["get",5],"process":1}, {"answer":7,"process":1},
+    {"invoke":["get",5],"process":1}, {"answer":null,"process":1}"""
+SCAN_MISSES_THE_FIRST_OF_TWO_INSERTS = """
+    {"invoke":["scan",1,2],"process":2},
+    {"invoke":["insert",1,10],"process":0}, {"answer":null,"process":0},
+    {"invoke":["insert",2,20],"process":0}, {"answer":null,"process":0},
+    {"answer":[[2,20]],"process":2}"""
+SCANS_SEE_TWO_INSERTS_IN_DIFFERENT_ORDER = """
+    {"invoke":["insert",1,10],"process":0}, {"invoke":["insert",2,20],"process":1},
+    {"invoke":["scan",1,2],"process":2}, {"invoke":["scan",1,2],"process":3},
+    {"answer":null,"process":0}, {"answer":null,"process":1},
+    {"answer":[[1,10]],"process":2}, {"answer":[[2,20]],"process":3}"""
+TWO_KEYS = """
+    {"invoke":["insert",1,10],"process":0}, {"invoke":["get",1],"process":1},
+    {"invoke":["insert",9,90],"process":2}, {"answer":null,"process":2},
+    {"answer":null,"process":1}, {"answer":null,"process":0}"""
+TWO_KEYS_AND_A_PENDING_SCAN = """
+    {"invoke":["insert",1,10],"process":0}, {"invoke":["get",1],"process":1},
+    {"invoke":["insert",9,90],"process":2}, {"answer":null,"process":2},
+    {"answer":null,"process":1}, {"answer":null,"process":0},
+    {"invoke":["scan",0,100],"process":1}"""
+GET_SEES_WHAT_NOBODY_INSERTED = """
+    {"invoke":["insert",5,7],"process":0},
+    {"invoke":["get",5],"process":1}, {"answer":null,"process":1},
+    {"answer":null,"process":0},
+    {"invoke":["get",9],"process":2}, {"answer":1,"process":2}"""
+SCAN_OF_ALL_KEYS = """
+    {"invoke":["insert",0,1],"process":0}, {"answer":null,"process":0},
+    {"invoke":["insert",18446744073709551615,2],"process":0}, {"answer":null,"process":0},
+    {"invoke":["scan",0,18446744073709551615],"process":0},
+    {"answer":[[0,1],[18446744073709551615,2]],"process":0}"""
+SCAN_LISTS_KEYS_THAT_FALL = """
+    {"invoke":["insert",0,1],"process":0}, {"answer":null,"process":0},
+    {"invoke":["insert",18446744073709551615,2],"process":0}, {"answer":null,"process":0},
+    {"invoke":["scan",0,18446744073709551615],"process":0},
+    {"answer":[[18446744073709551615,2],[0,1]],"process":0}"""
+GET_MISSES_REFUSED_INSERT = """
+    {"invoke":["insert",5,7],"process":0}, {"answer":"refused","process":0},
+    {"invoke":["get",5],"process":0}, {"answer":null,"process":0}"""
+GET_SEES_REFUSED_INSERT = """
+    {"invoke":["insert",5,7],"process":0}, {"answer":"refused","process":0},
+    {"invoke":["get",5],"process":0}, {"answer":7,"process":0}"""
+GET_IS_ANSWERED_BY_A_LIST = """
+    {"invoke":["get",5],"process":0}, {"answer":[],"process":0}"""
+TWO_KEYS_BY_FALLING_KEY = """
+    {"invoke":["insert",9,90],"process":0}, {"answer":null,"process":0},
+    {"invoke":["insert",1,10],"process":0}, {"answer":null,"process":0}"""
+# The insert that is invoked first takes effect last, after a get that follows the insert at another key.
+EFFECT_LATER_THAN_THE_INVOCATION = """
+    {"invoke":["insert",1,10],"process":0}, {"invoke":["insert",9,90],"process":1},
+    {"answer":null,"process":1}, {"invoke":["get",1],"process":1},
+    {"answer":null,"process":1}, {"answer":null,"process":0}"""
+TWO_GETS_SEE_WHAT_NOBODY_INSERTED = """
+    {"invoke":["get",9],"process":0}, {"answer":1,"process":0},
+    {"invoke":["get",1],"process":0}, {"answer":1,"process":0}"""
+INSERT_BESIDE_A_SCAN_IS_ANSWERED_FALSELY = """
+    {"invoke":["scan",1,2],"process":0}, {"answer":[],"process":0},
+    {"invoke":["insert",3,30],"process":0}, {"answer":5,"process":0}"""
+REFUSED_SCAN_TIES_KEYS = """
+    {"invoke":["insert",1,10],"process":0}, {"answer":null,"process":0},
+    {"invoke":["scan",1,2],"process":0}, {"answer":"refused","process":0},
+    {"invoke":["get",2],"process":0}, {"answer":5,"process":0}"""
+PENDING_GET_AND_SCAN = """
+    {"invoke":["get",5],"process":0}, {"invoke":["scan",0,9],"process":1}"""
+PENDING_INSERT = '{"invoke":["insert",5,7],"process":0}'
+PENDING_REMOVE = '{"invoke":["remove",5],"process":0}'
+ONE_INSERT = '{"invoke":["insert",5,7],"process":0}, {"answer":null,"process":0}'
+# The inserts come at the ends of the keys, and the pair at the lower end is removed after the scan.
+SCAN_BEFORE_A_REMOVE = """
+    {"invoke":["insert",18446744073709551615,2],"process":0}, {"answer":null,"process":0},
+    {"invoke":["insert",0,1],"process":0}, {"answer":null,"process":0},
+    {"invoke":["scan",0,18446744073709551615],"process":0},
+    {"answer":[[0,1],[18446744073709551615,2]],"process":0},
+    {"invoke":["remove",0],"process":1}, {"answer":1,"process":1},
+    {"invoke":["get",0],"process":1}, {"answer":null,"process":1}"""
+# A get that the insert beside it answers, until the insert is refused; and the same, where the get misses the insert.
+SEEN_INSERT_IS_REFUSED = """
+    {"invoke":["insert",5,7],"process":0}, {"invoke":["get",5],"process":1},
+    {"answer":7,"process":1}, {"answer":"refused","process":0}"""
+MISSED_INSERT_IS_REFUSED = """
+    {"invoke":["insert",5,7],"process":0}, {"invoke":["get",5],"process":1},
+    {"answer":null,"process":1}, {"answer":"refused","process":0}"""
+# At a budget of one configuration the insert is undecided once it is answered, and the first get refutes all that holds its answer.
+SPENT_BEFORE_A_REFUTATION = """
+    {"invoke":["insert",5,7],"process":0}, {"answer":null,"process":0},
+    {"invoke":["get",9],"process":0}, {"answer":1,"process":0},
+    {"invoke":["get",9],"process":0}, {"answer":null,"process":0},
+    {"invoke":["get",9],"process":0}"""
+
+# Events, words, and the line that is written of them as an order.
+ORDERS = [
+    (NO_EVENTS, "", "ok"),
+    (NO_EVENTS, "0", "fault: 1 Unknown at place 0"),
+    (GET_MISSES_ANSWERED_INSERT, "", "fault: 5 Missing call 0"),
+    (GET_MISSES_ANSWERED_INSERT, "1 0", "fault: 3 Precedence at place 1"),
+    (GET_MISSES_ANSWERED_INSERT, "0", "fault: 5 Missing call 1"),
+    (GET_MISSES_ANSWERED_INSERT, "0 0", "fault: 2 Repeated at place 1"),
+    (GET_MISSES_ANSWERED_INSERT, "0 1", "fault: 4 Reply at place 1"),
+    (GET_MISSES_ANSWERED_INSERT, "7", "fault: 1 Unknown at place 0"),
+    (INSERT_THEN_GET, "0 1", "ok"),
+    (INSERT_THEN_GET, "+0 001", "ok"),
+    (INSERT_THEN_GET, "0 1 4294967295", "fault: 1 Unknown at place 2"),
+    (GET_SEES_PENDING_INSERT, "0 1", "ok"),
+    (GET_SEES_PENDING_INSERT, "1", "fault: 4 Reply at place 0"),
+    (GET_MISSES_PENDING_INSERT, "1", "ok"),
+    (LATER_GET_MISSES_WHAT_WAS_SEEN, "0 1 2", "fault: 4 Reply at place 2"),
+    (GET_MISSES_REFUSED_INSERT, "0 1", "ok"),
+    (TWO_KEYS_AND_A_PENDING_SCAN, "1 0 2", "ok"),
+    (TWO_KEYS_AND_A_PENDING_SCAN, "1 0 2 3", "ok"),
+    (TWO_KEYS_AND_A_PENDING_SCAN, "3 1 0 2", "fault: 3 Precedence at place 1"),
+    (SCAN_OF_ALL_KEYS, "0 1 2", "ok"),
+    (SCAN_LISTS_KEYS_THAT_FALL, "0 1 2", "fault: 4 Reply at place 2"),
+    (SCAN_BEFORE_A_REMOVE, "0 1 2 3 4", "ok"),
+    (SCAN_BEFORE_A_REMOVE, "0 1 2 4", "fault: 4 Reply at place 3"),
+    (gets(100), numbers(99).replace(",", " "), "fault: 5 Missing call 99"),
+    (gets(100), numbers(100).replace(",", " "), "ok"),
+]
+
+# Events, a budget and the report, whatever the number of workers.
+VERDICTS = [
+    (NO_EVENTS, 1000, '{"order":[],"verdict":"yes"}'),
+    (INSERT_THEN_GET, 1000, '{"order":[0,1],"verdict":"yes"}'),
+    (GET_MISSES_OPEN_INSERT, 1000, '{"order":[1,0],"verdict":"yes"}'),
+    (GET_SEES_PENDING_INSERT, 1000, '{"order":[0,1],"verdict":"yes"}'),
+    (GET_MISSES_PENDING_INSERT, 1000, '{"order":[1],"verdict":"yes"}'),
+    (TWO_KEYS, 1000, '{"order":[1,0,2],"verdict":"yes"}'),
+    (TWO_KEYS_AND_A_PENDING_SCAN, 1000, '{"order":[1,0,2],"verdict":"yes"}'),
+    (TWO_KEYS_BY_FALLING_KEY, 1000, '{"order":[0,1],"verdict":"yes"}'),
+    (EFFECT_LATER_THAN_THE_INVOCATION, 1000, '{"order":[1,2,0],"verdict":"yes"}'),
+    (SCAN_OF_ALL_KEYS, 1000, '{"order":[0,1,2],"verdict":"yes"}'),
+    (GET_MISSES_REFUSED_INSERT, 1000, '{"order":[0,1],"verdict":"yes"}'),
+    (PENDING_GET_AND_SCAN, 1000, '{"order":[],"verdict":"yes"}'),
+    (GET_MISSES_ANSWERED_INSERT, 1000, '{"calls":[0,1],"hi":5,"lo":5,"verdict":"no"}'),
+    (LATER_GET_MISSES_WHAT_WAS_SEEN, 1000, '{"calls":[0,1,2],"hi":5,"lo":5,"verdict":"no"}'),
+    (SCAN_MISSES_THE_FIRST_OF_TWO_INSERTS, 1000, '{"calls":[0,1,2],"hi":2,"lo":1,"verdict":"no"}'),
+    (SCANS_SEE_TWO_INSERTS_IN_DIFFERENT_ORDER, 1000, '{"calls":[0,1,2,3],"hi":2,"lo":1,"verdict":"no"}'),
+    (SCAN_LISTS_KEYS_THAT_FALL, 1000, '{"calls":[0,1,2],"hi":18446744073709551615,"lo":0,"verdict":"no"}'),
+    (GET_SEES_REFUSED_INSERT, 1000, '{"calls":[0,1],"hi":5,"lo":5,"verdict":"no"}'),
+    (GET_IS_ANSWERED_BY_A_LIST, 1000, '{"calls":[0],"hi":5,"lo":5,"verdict":"no"}'),
+    (INSERT_BESIDE_A_SCAN_IS_ANSWERED_FALSELY, 1000, '{"calls":[1],"hi":3,"lo":3,"verdict":"no"}'),
+    (REFUSED_SCAN_TIES_KEYS, 1000, '{"calls":[0,1,2],"hi":2,"lo":1,"verdict":"no"}'),
+    (TWO_GETS_SEE_WHAT_NOBODY_INSERTED, 1000, '{"calls":[1],"hi":1,"lo":1,"verdict":"no"}'),
+    # At small budgets.
+    (GET_MISSES_OPEN_INSERT, 4, '{"order":[1,0],"verdict":"yes"}'),
+    (GET_MISSES_OPEN_INSERT, 3, '{"calls":[0,1],"hi":5,"lo":5,"verdict":"undecided"}'),
+    # The later no decides where the segment before it is spent.
+    (GET_SEES_WHAT_NOBODY_INSERTED, 4, '{"calls":[2],"hi":9,"lo":9,"verdict":"no"}'),
+    (GET_SEES_WHAT_NOBODY_INSERTED, 3, '{"calls":[2],"hi":9,"lo":9,"verdict":"no"}'),
+    # One call is decided at a budget of two.
+    (ONE_INSERT, 2, '{"order":[0],"verdict":"yes"}'),
+    (GET_IS_ANSWERED_BY_A_LIST, 2, '{"calls":[0],"hi":5,"lo":5,"verdict":"no"}'),
+    (ONE_INSERT, 1, '{"calls":[0],"hi":5,"lo":5,"verdict":"undecided"}'),
+    (PENDING_REMOVE, 1, '{"order":[],"verdict":"yes"}'),
+    # Each segment has the whole budget.
+    (TWO_KEYS_BY_FALLING_KEY, 2, '{"order":[0,1],"verdict":"yes"}'),
+    (TWO_KEYS_BY_FALLING_KEY, 1, '{"calls":[1],"hi":1,"lo":1,"verdict":"undecided"}'),
+]
+
+WELL = '{"verdict":"yes"}'
+
+# Events, a budget and the line that says where they go wrong, whatever the number of workers.
+LOCATIONS = [
+    (NO_EVENTS, 1, WELL),
+    (INSERT_THEN_GET, 1000, WELL),
+    (GET_SEES_ANSWERED_INSERT, 1000, WELL),
+    (GET_MISSES_OPEN_INSERT, 1000, WELL),
+    (GET_SEES_PENDING_INSERT, 1000, WELL),
+    (GET_MISSES_PENDING_INSERT, 1000, WELL),
+    (TWO_KEYS, 1000, WELL),
+    (TWO_KEYS_AND_A_PENDING_SCAN, 1000, WELL),
+    (TWO_KEYS_BY_FALLING_KEY, 1000, WELL),
+    (EFFECT_LATER_THAN_THE_INVOCATION, 1000, WELL),
+    (SCAN_OF_ALL_KEYS, 1000, WELL),
+    (GET_MISSES_REFUSED_INSERT, 1000, WELL),
+    (MISSED_INSERT_IS_REFUSED, 1000, WELL),
+    (PENDING_GET_AND_SCAN, 1, WELL),
+    (PENDING_INSERT, 1, WELL),
+    (PENDING_REMOVE, 1, WELL),
+    (ONE_INSERT, 2, WELL),
+    (GET_MISSES_ANSWERED_INSERT, 1000, '{"call":1,"event":3,"verdict":"no"}'),
+    (LATER_GET_MISSES_WHAT_WAS_SEEN, 1000, '{"call":2,"event":4,"verdict":"no"}'),
+    (SCAN_MISSES_THE_FIRST_OF_TWO_INSERTS, 1000, '{"call":0,"event":5,"verdict":"no"}'),
+    (SCANS_SEE_TWO_INSERTS_IN_DIFFERENT_ORDER, 1000, '{"call":3,"event":7,"verdict":"no"}'),
+    (SCAN_LISTS_KEYS_THAT_FALL, 1000, '{"call":2,"event":5,"verdict":"no"}'),
+    (GET_SEES_WHAT_NOBODY_INSERTED, 1000, '{"call":2,"event":5,"verdict":"no"}'),
+    (GET_SEES_REFUSED_INSERT, 1000, '{"call":1,"event":3,"verdict":"no"}'),
+    (SEEN_INSERT_IS_REFUSED, 1000, '{"call":0,"event":3,"verdict":"no"}'),
+    (GET_IS_ANSWERED_BY_A_LIST, 1000, '{"call":0,"event":1,"verdict":"no"}'),
+    (TWO_GETS_SEE_WHAT_NOBODY_INSERTED, 1000, '{"call":0,"event":1,"verdict":"no"}'),
+    (INSERT_BESIDE_A_SCAN_IS_ANSWERED_FALSELY, 1000, '{"call":1,"event":3,"verdict":"no"}'),
+    (REFUSED_SCAN_TIES_KEYS, 1000, '{"call":2,"event":5,"verdict":"no"}'),
+    (SPENT_BEFORE_A_REFUTATION, 1000, '{"call":1,"event":3,"verdict":"no"}'),
+    (SPENT_BEFORE_A_REFUTATION, 1, '{"from":1,"to":4,"verdict":"undecided"}'),
+    (GET_SEES_WHAT_NOBODY_INSERTED, 1, '{"from":2,"to":6,"verdict":"undecided"}'),
+    (INSERT_THEN_GET, 1, '{"from":1,"to":5,"verdict":"undecided"}'),
+    (ONE_INSERT, 1, '{"from":1,"to":3,"verdict":"undecided"}'),
+    # Each answered get is undecided at this budget.
+    (gets(MOST_CALLS), 1, '{"from":1,"to":8193,"verdict":"undecided"}'),
+]
+
+# Words, events, and the whole report, or where they go wrong: the number of workers and the place of the options tell nothing.
+OPTIONS = [
+    ("judge", GET_MISSES_OPEN_INSERT, '{"order":[1,0],"verdict":"yes"}'),
+    ("judge --workers 2", GET_MISSES_OPEN_INSERT, '{"order":[1,0],"verdict":"yes"}'),
+    ("judge --budget 1000000", GET_MISSES_OPEN_INSERT, '{"order":[1,0],"verdict":"yes"}'),
+    ("judge --budget 4 --workers 3", GET_MISSES_OPEN_INSERT, '{"order":[1,0],"verdict":"yes"}'),
+    ("judge --workers 3 --budget 4", GET_MISSES_OPEN_INSERT, '{"order":[1,0],"verdict":"yes"}'),
+    ("judge --budget=3 --workers=4", GET_MISSES_OPEN_INSERT, '{"calls":[0,1],"hi":5,"lo":5,"verdict":"undecided"}'),
+    ("judge --workers=4 --budget=3", GET_MISSES_OPEN_INSERT, '{"calls":[0,1],"hi":5,"lo":5,"verdict":"undecided"}'),
+    ("locate", NO_EVENTS, WELL),
+    ("locate --workers 64", GET_MISSES_OPEN_INSERT, WELL),
+    ("locate --workers 3", LATER_GET_MISSES_WHAT_WAS_SEEN, '{"call":2,"event":4,"verdict":"no"}'),
+    ("locate --workers=64 --budget 1000000", GET_MISSES_ANSWERED_INSERT, '{"call":1,"event":3,"verdict":"no"}'),
+]
+
+# The value 5 is overwritten, and read again behind others.
+READ_OF_AN_OVERWRITTEN_VALUE = """
+    {"invoke":["insert",1,4],"process":0}, {"answer":null,"process":0},
+    {"invoke":["insert",1,5],"process":0}, {"answer":4,"process":0},
+    {"invoke":["get",1],"process":0}, {"answer":5,"process":0},
+    {"invoke":["insert",1,6],"process":0}, {"answer":5,"process":0},
+    {"invoke":["insert",2,9],"process":0}, {"answer":null,"process":0},
+    {"invoke":["insert",1,7],"process":0}, {"answer":6,"process":0},
+    {"invoke":["get",1],"process":0}, {"answer":5,"process":0},
+    {"invoke":["scan",1,2],"process":0}, {"answer":[[1,7],[2,9]],"process":0}"""
+# The same, where 5 is inserted a second time, beside the read.
+READ_OF_A_VALUE_THAT_CAME_BACK = """
+    {"invoke":["insert",1,5],"process":0}, {"answer":null,"process":0},
+    {"invoke":["insert",1,6],"process":0}, {"answer":5,"process":0},
+    {"invoke":["insert",1,5],"process":1},
+    {"invoke":["get",1],"process":0}, {"answer":5,"process":0},
+    {"invoke":["get",1],"process":0}, {"answer":6,"process":0}"""
+
+
+def overwrites(count):
+    """So many inserts at one key, each answered by the value of the one before, and then a read of the value of a middle one."""
+    held = ["null", *map(str, range(count))]
+    events = [f'{{"invoke":["insert",5,{value}],"process":0}},{{"answer":{held[value]},"process":0}}' for value in range(count)]
+    return ",".join([*events, f'{{"invoke":["get",5],"process":0}},{{"answer":{count // 2},"process":0}}'])
+
+
+# Events, a budget, and the calls that explain them: of each the event of its invocation, a question mark where its answer does not
+# count, or it has none, and a letter for the reason.
+EXPLANATIONS = [
+    (GET_SEES_ANSWERED_INSERT, 1000, None),
+    (GET_MISSES_ANSWERED_INSERT, 1000, "0o 2o"),
+    # Two configurations are met with both calls, and one without one of them.
+    (GET_MISSES_ANSWERED_INSERT, 2, "0o 2o"),
+    (GET_SEES_WHAT_NOBODY_INSERTED, 1000, "4o"),
+    (LATER_GET_MISSES_WHAT_WAS_SEEN, 1000, "0?o 1o 3o"),
+    # Two inserts that are open or beside, and two scans that cannot both be right.
+    (SCANS_SEE_TWO_INSERTS_IN_DIFFERENT_ORDER, 1000, "0o 1o 2o 3o"),
+    # The insert of 7 overwrites what comes before it, whatever it found.
+    (READ_OF_AN_OVERWRITTEN_VALUE, 1000, "10?o 12o"),
+    (READ_OF_A_VALUE_THAT_CAME_BACK, 1000, "0o 2o 4?o 5o 7o"),
+    # Of three hundred inserts the last stays, as it overwrites what is read behind it, and the read.
+    (overwrites(300), 100_000, "598?o 600o"),
+]
+
+# The get that misses the insert at its key is at another key than the scan, and the scan's group is judged before it.
+GET_OF_ANOTHER_GROUP_GOES_WRONG = """
+    {"invoke":["insert",3,30],"process":0}, {"answer":null,"process":0},
+    {"invoke":["insert",5,7],"process":0}, {"answer":null,"process":0},
+    {"invoke":["insert",1,10],"process":1},
+    {"invoke":["scan",1,3],"process":2}, {"answer":[[3,30]],"process":2},
+    {"invoke":["get",5],"process":3}, {"answer":null,"process":3}"""
+# An insert that is open holds the get beside it; what was answered before both is gone.
+OPEN_INSERT_HOLDS_A_GET = """
+    {"invoke":["insert",5,1],"process":0}, {"answer":null,"process":0},
+    {"invoke":["insert",5,2],"process":1},
+    {"invoke":["get",5],"process":0}, {"answer":2,"process":0}"""
+# Three inserts at one key, answered as if each came first.
+INSERTS_ALL_COME_FIRST = """
+    {"invoke":["insert",5,1],"process":0}, {"invoke":["insert",5,2],"process":1},
+    {"invoke":["insert",5,3],"process":2},
+    {"answer":null,"process":0}, {"answer":null,"process":1}, {"answer":null,"process":2}"""
+
+NOTE = "note: no two calls overlap, and of such a history a yes says little\n"
+
+# Events and what following them comes to: how many calls there are, and how many others were open at their invocations.
+FOLLOWED = [
+    (NO_EVENTS, 0, 0),
+    (INSERT_THEN_GET, 2, 0),
+    (GET_SEES_PENDING_INSERT, 2, 1),
+    (GET_MISSES_PENDING_INSERT, 2, 1),
+    (TWO_KEYS_AND_A_PENDING_SCAN, 4, 3),
+    (SCAN_OF_ALL_KEYS, 3, 0),
+    (GET_MISSES_REFUSED_INSERT, 2, 0),
+    (EFFECT_LATER_THAN_THE_INVOCATION, 3, 2),
+    (PENDING_GET_AND_SCAN, 2, 1),
+    (OPEN_INSERT_HOLDS_A_GET, 3, 1),
+]
+
+# Events, a budget, and what is written of those that go wrong, or where the budget is spent: the report, and the calls that were
+# searched as a history.
+LOST = [
+    (
+        GET_MISSES_ANSWERED_INSERT, 1000,
+        '{"call":1,"calls":[1],"event":3,"hi":5,"lo":5,"verdict":"no"}',
+        '{"events":[{"invoke":["get",5],"process":0},{"answer":null,"process":0}],"start":[[5,7]],"version":2}',
+    ),
+    (
+        LATER_GET_MISSES_WHAT_WAS_SEEN, 1000,
+        '{"call":2,"calls":[0,1,2],"event":4,"hi":5,"lo":5,"verdict":"no"}',
+        '{"events":[{"invoke":["insert",5,7],"process":0},{"invoke":["get",5],"process":1},{"answer":7,"process":1},'
+        '{"invoke":["get",5],"process":1},{"answer":null,"process":1}],"version":1}',
+    ),
+    (
+        SCAN_MISSES_THE_FIRST_OF_TWO_INSERTS, 1000,
+        '{"call":0,"calls":[0,1,2],"event":5,"hi":2,"lo":1,"verdict":"no"}',
+        '{"events":[{"invoke":["scan",1,2],"process":0},{"invoke":["insert",1,10],"process":1},{"answer":null,"process":1},'
+        '{"invoke":["insert",2,20],"process":1},{"answer":null,"process":1},{"answer":[[2,20]],"process":0}],"version":1}',
+    ),
+    (
+        SCANS_SEE_TWO_INSERTS_IN_DIFFERENT_ORDER, 1000,
+        '{"call":3,"calls":[0,1,2,3],"event":7,"hi":2,"lo":1,"verdict":"no"}',
+        '{"events":[{"invoke":["insert",1,10],"process":0},{"invoke":["insert",2,20],"process":1},'
+        '{"invoke":["scan",1,2],"process":2},{"invoke":["scan",1,2],"process":3},{"answer":null,"process":0},'
+        '{"answer":null,"process":1},{"answer":[[1,10]],"process":2},{"answer":[[2,20]],"process":3}],"version":1}',
+    ),
+    (
+        GET_SEES_WHAT_NOBODY_INSERTED, 1000,
+        '{"call":2,"calls":[2],"event":5,"hi":9,"lo":9,"verdict":"no"}',
+        '{"events":[{"invoke":["get",9],"process":0},{"answer":1,"process":0}],"version":1}',
+    ),
+    (
+        SCAN_LISTS_KEYS_THAT_FALL, 1000,
+        '{"call":2,"calls":[2],"event":5,"hi":18446744073709551615,"lo":0,"verdict":"no"}',
+        '{"events":[{"invoke":["scan",0,18446744073709551615],"process":0},'
+        '{"answer":[[18446744073709551615,2],[0,1]],"process":0}],"start":[[0,1],[18446744073709551615,2]],"version":2}',
+    ),
+    (
+        GET_SEES_REFUSED_INSERT, 1000,
+        '{"call":1,"calls":[1],"event":3,"hi":5,"lo":5,"verdict":"no"}',
+        '{"events":[{"invoke":["get",5],"process":0},{"answer":7,"process":0}],"version":1}',
+    ),
+    (
+        GET_IS_ANSWERED_BY_A_LIST, 1000,
+        '{"call":0,"calls":[0],"event":1,"hi":5,"lo":5,"verdict":"no"}',
+        '{"events":[{"invoke":["get",5],"process":0},{"answer":[],"process":0}],"version":1}',
+    ),
+    (
+        REFUSED_SCAN_TIES_KEYS, 1000,
+        '{"call":2,"calls":[2],"event":5,"hi":2,"lo":2,"verdict":"no"}',
+        '{"events":[{"invoke":["get",2],"process":0},{"answer":5,"process":0}],"version":1}',
+    ),
+    (
+        GET_OF_ANOTHER_GROUP_GOES_WRONG, 1000,
+        '{"call":4,"calls":[4],"event":8,"hi":5,"lo":5,"verdict":"no"}',
+        '{"events":[{"invoke":["get",5],"process":0},{"answer":null,"process":0}],"start":[[5,7]],"version":2}',
+    ),
+    (
+        INSERTS_ALL_COME_FIRST, 1000,
+        '{"call":1,"calls":[0,1,2],"event":4,"hi":5,"lo":5,"verdict":"no"}',
+        '{"events":[{"invoke":["insert",5,1],"process":0},{"invoke":["insert",5,2],"process":1},{"invoke":["insert",5,3],"process":2},'
+        '{"answer":null,"process":0},{"answer":null,"process":1}],"version":1}',
+    ),
+    (INSERTS_ALL_COME_FIRST, 1, '{"call":1,"calls":[0,1,2],"event":4,"hi":5,"lo":5,"verdict":"undecided"}', None),
+]
+
+# From 1 at key 5 and 9 at key 9 a get misses what an insert before it was answered for; behind it stands a line that is not read.
+MISSED_STREAM = """{"start":[[5,1],[9,9]],"version":2}
+{"invoke":["insert",5,7],"process":1000}
+{"invoke":["get",9],"process":2}
+{"answer":1,"process":1000}
+{"invoke":["get",5],"process":3}
+{"answer":1,"process":3}
+no line
+"""
+OVERLAPPING_STREAM = """{"invoke":["insert",5,7],"process":0}
+{"invoke":["get",5],"process":70}
+{"answer":null,"process":0}
+{"answer":7,"process":70}
+"""
+APART_STREAM = """{"invoke":["insert",5,7],"process":0}
+{"answer":null,"process":0}
+{"invoke":["get",5],"process":70}
+"""
+
+# Streams, and the status, the output and the faults.
+STREAMS = [
+    (OVERLAPPING_STREAM, 0, '{"calls":2,"overlap":1,"verdict":"yes"}\n', ""),
+    (OVERLAPPING_STREAM.rstrip(), 0, '{"calls":2,"overlap":1,"verdict":"yes"}\n', ""),
+    (
+        MISSED_STREAM, 1,
+        '{"call":2,"calls":[2],"event":4,"hi":5,"lo":5,"verdict":"no"}\n'
+        '{"events":[{"invoke":["get",5],"process":0},{"answer":1,"process":0}],"start":[[5,7]],"version":2}\n', "",
+    ),
+    ("", 0, '{"calls":0,"overlap":0,"verdict":"yes"}\n', ""),
+    ('{"start":[],"version":2}', 0, '{"calls":0,"overlap":0,"verdict":"yes"}\n', ""),
+    (APART_STREAM, 0, '{"calls":2,"overlap":0,"verdict":"yes"}\n', NOTE),
+    ('{"invoke":["get",5],"process":70}', 0, '{"calls":1,"overlap":0,"verdict":"yes"}\n', ""),
+]
+
+
+def stream(events):
+    """The stream of some events, a line each."""
+    return "".join(json.dumps(event) + "\n" for event in json.loads(f"[{events}]"))
+
+
+def status_of(report):
+    return STATUSES[json.loads(report)["verdict"]]
+
+
+def names_all(calls, key, verdict):
+    """A verdict that names a segment of all calls below a count, on one key."""
+    return f'{{"calls":[{numbers(calls)}],"hi":{key},"lo":{key},"verdict":"{verdict}"}}'
+
+
+def orders(order):
+    return f'{{"order":[{order}],"verdict":"yes"}}'
+
+
+def counted():
+    """Events with budgets at which the configurations that count are just as many, or one more."""
+    overlapping = [f'{{"invoke":["insert",0,0],"process":{process}}}' for process in range(64)]
+    answers = [f'{{"answer":null,"process":{process}}}' for process in range(64)]
+    seen = ['{"invoke":["get",0],"process":0},{"answer":0,"process":0}'] * 64
+    # One insert alone can come first, whichever it is, and no other after it; with none taken that makes 65.
+    events = ",".join(overlapping + answers + seen)
+    yield events, 65, names_all(128, 0, "no")
+    yield events, 64, names_all(128, 0, "undecided")
+    # Each set of ten pending inserts can be taken, and none makes the get see another value.
+    events = ",".join([*overlapping[:10], '{"invoke":["get",0],"process":10},{"answer":1,"process":10}'])
+    yield events, 1024, names_all(11, 0, "no")
+    yield events, 1023, names_all(11, 0, "undecided")
+    # Where no call was answered the least order is that of no calls, and nothing else counts.
+    yield ",".join(overlapping), 1, orders("")
+    # Calls in a row have one configuration more than there are calls.
+    yield gets(MOST_CALLS), 4097, orders(numbers(MOST_CALLS))
+    yield gets(MOST_CALLS), 4096, names_all(MOST_CALLS, 5, "undecided")
+
+
+def one_false_get(before, behind):
+    """Gets that find nothing, one that finds what nobody inserted, and gets again."""
+    return ",".join(filter(None, [gets(before), '{"invoke":["get",5],"process":0},{"answer":9,"process":0}', gets(behind)]))
+
+
+def located():
+    """Texts, a budget and the line that says where they go wrong."""
+    for events, budget, line in LOCATIONS:
+        yield history(events), budget, line
+    yield history(one_false_get(500, 1000)), 10_000, '{"call":500,"event":1001,"verdict":"no"}'
+    yield history(one_false_get(0, 4095)), 10_000, '{"call":0,"event":1,"verdict":"no"}'
+    yield history(one_false_get(4095, 0)), 10_000, '{"call":4095,"event":8191,"verdict":"no"}'
+    yield history(gets(MOST_CALLS)), 10_000, WELL
+    get = '{"invoke":["get",5],"process":0}'
+    seen, missed = get + ',{"answer":7,"process":0}', get + ',{"answer":null,"process":0}'
+    yield f'{{"events":[{seen},{missed},{seen}],"start":[[5,7]],"version":2}}', 1000, '{"call":1,"event":3,"verdict":"no"}'
+    yield f'{{"events":[{seen}],"start":[[5,7]],"version":2}}', 1000, WELL
+    yield most_starting_pairs(), 1000, '{"call":1,"event":3,"verdict":"no"}'
+
+
+def most_starting_pairs():
+    """As many starting pairs as there may be: a scan lists them all, and one after it none."""
+    pairs, scan = pairs_listed(4096), '{"invoke":["scan",0,4095],"process":0}'
+    events = f'{scan},{{"answer":[{pairs}],"process":0}},{scan},{{"answer":[],"process":0}}'
+    return f'{{"events":[{events}],"start":[{pairs}],"version":2}}'
+
+
+def rows():
+    """Words, a text, and the status, standard output and standard error that are wanted."""
+    for events, words, line in ORDERS:
+        yield ["check", *words.split()], history(events), int(line != "ok"), line + "\n", ""
+    for events, budget, report in VERDICTS:
+        for workers in ("1", "2", "64"):
+            words = ["judge", "--budget", str(budget), "--workers", workers]
+            yield words, history(events), status_of(report), report + "\n", ""
+    for events, budget, report in counted():
+        for workers in ("1", "64"):
+            words = ["judge", "--budget", str(budget), "--workers", workers]
+            yield words, history(events), status_of(report), report + "\n", ""
+    for text, budget, order in LONG:
+        for workers in ("1", "4"):
+            yield ["judge", "--budget", str(budget), "--workers", workers], text, 0, orders(order) + "\n", ""
+    for text, budget, line in located():
+        for workers in ("1", "3", "64"):
+            yield ["locate", "--budget", str(budget), "--workers", workers], text, status_of(line), line + "\n", ""
+    words = ["judge", "--budget", "1000", "--workers", "4"]
+    yield words, most_starting_pairs(), 1, '{"calls":[0,1],"hi":4095,"lo":0,"verdict":"no"}\n', ""
+    for words, events, report in OPTIONS:
+        yield words.split(), history(events), status_of(report), report + "\n", ""
+    for events, calls, overlap in FOLLOWED:
+        report = f'{{"calls":{calls},"overlap":{overlap},"verdict":"yes"}}\n'
+        yield ["follow"], stream(events), 0, report, NOTE if calls > 1 and overlap == 0 else ""
+    for events, budget, report, small in LOST:
+        output = "".join(line + "\n" for line in (report, small) if line)
+        yield ["follow", "--budget", str(budget)], stream(events), status_of(report), output, ""
+    for text, status, output, faults in STREAMS:
+        yield ["follow"], text, status, output, faults
+
+
+def by_each_part(events):
+    """What is wrong with where a history goes wrong, which a verdict on each first part of it finds too."""
+    listed = json.loads(f"[{events}]")
+    wanted = {"verdict": "yes"}
+    for count in range(1, len(listed) + 1):
+        if answer(["judge", "--budget", "10000"], json.dumps({"events": listed[:count], "version": 1}))[0] == 1:
+            process = listed[count - 1]["process"]
+            begun = max(place for place in range(count) if "invoke" in listed[place] and listed[place]["process"] == process)
+            wanted = {"call": sum("invoke" in event for event in listed[:begun]), "event": count - 1, "verdict": "no"}
+            break
+    for workers in ("1", "3", "64"):
+        status, line, told = answer(["locate", "--budget", "10000", "--workers", workers], history(events))
+        if json.loads(line) != wanted or status != STATUSES[wanted["verdict"]] or told:
+            return f"{line} by {workers} workers, and wanted is {wanted} of {events}"
+    return None
+
+
+def explained(events, budget, wanted):
+    """What is wrong with the calls that explain a no."""
+    status, output, told = answer(["explain", "--budget", str(budget)], history(events))
+    judged = answer(["judge", "--budget", str(budget)], history(events))
+    report, *lines = output.splitlines(keepends=True)
+    calls = [json.loads(line) for line in lines if line.startswith(b'{"answer"')]
+    found = " ".join(f"{call['event']}{'?' * (call['answer'] == 'open')}{call['reason'][0]}" for call in calls)
+    if (status, report, told) != judged or status != int(wanted is not None) or found != (wanted or ""):
+        return f"{output} at {budget}, and wanted is {wanted} of {events[:300]}"
+    return None
+
+
+def main():
+    others = [functools.partial(by_each_part, events) for events in dict.fromkeys(events for events, *_ in LOCATIONS[:-1])]
+    others += [functools.partial(explained, *row) for row in EXPLANATIONS]
+    return compare(rows(), others)
+
+
+if __name__ == "__main__":
+    sys.exit(main())
