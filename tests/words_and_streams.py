@@ -24,59 +24,104 @@ ORDERED = os.path.join(EXAMPLES, "insert-then-get.json")
 CUT_SHORT = os.path.join(EXAMPLES, "cut-short.json")
 OVERLAPPING = os.path.join(EXAMPLES, "get-overlaps-insert-stream.json")
 FULL = "/dev/full"
-LONGEST_TEXT = 16_777_216
 MOST_CALLS = 4096
 LITTLE_STACK = 256 * 1024
 LITTLE_MEMORY = 64 * 1024 * 1024
 WORKER_STACK = 8 * 1024 * 1024
 
-# Words that draw a plan.
-DRAWN = (
-    "generate --seed 7 --processes 4 --calls 1000 --get 40 --insert 40 --remove 20 --scan 0 --lo 0 --hi 99"
-).split()
-
-# And other plans, by the seed behind them.
-MIXED = "generate --processes 4 --calls 50 --get 40 --insert 30 --remove 20 --scan 10 --lo 0 --hi 20".split()
-
 # What a stream gets, as regular expressions over all its bytes.
 NOTHING = rb""
-LINE = rb"[^\n]+\n"
-LINES = rb"([^\n]*\n)+"
-YES = rb'\{"order":\[[0-9,]+\],"verdict":"yes"\}\n'
+
+
+# Words that ask for nothing that can be done, or for help, and how the text begins that they are told. Of an error it ends by pointing at
+# the help.
+FAULTS = [
+    ("", "error: 'bench' requires a subcommand but one was not provided"),
+    ("verify", "error: unrecognized subcommand 'verify'"),
+    ("prove", "error: unrecognized subcommand 'prove'"),
+    ("run", "error: unrecognized subcommand 'run'"),
+    ("check x", "error: invalid value 'x' for '[CALL]...'"),
+    ("check 4294967296", "error: invalid value '4294967296' for '[CALL]...'"),
+    ("check 0 1 4294967296", "error: invalid value '4294967296' for '[CALL]...'"),
+    ("judge 0", "error: unexpected argument '0' found"),
+    ("judge 4", "error: unexpected argument '4' found"),
+    ("judge --budget 0", "error: invalid value '0' for '--budget <N>'"),
+    ("judge --budget 1000001", "error: invalid value '1000001' for '--budget <N>'"),
+    ("judge --budget", "error: a value is required for '--budget <N>' but none was supplied"),
+    ("judge --workers 0", "error: invalid value '0' for '--workers <N>'"),
+    ("judge --workers 65", "error: invalid value '65' for '--workers <N>'"),
+    ("judge --workers=65", "error: invalid value '65' for '--workers <N>'"),
+    ("judge --workers x", "error: invalid value 'x' for '--workers <N>'"),
+    ("judge --workers 4 --workers 4", "error: the argument '--workers <N>' cannot be used multiple times"),
+    ("judge --worker 4", "error: unexpected argument '--worker' found"),
+    ("judge --tree locked", "error: unexpected argument '--tree' found"),
+    ("locate 0", "error: unexpected argument '0' found"),
+    ("locate --budget 0", "error: invalid value '0' for '--budget <N>'"),
+    ("locate --budget 1000001", "error: invalid value '1000001' for '--budget <N>'"),
+    ("locate --workers 65", "error: invalid value '65' for '--workers <N>'"),
+    ("draw --workers 0", "error: invalid value '0' for '--workers <N>'"),
+    ("draw --workers 65", "error: invalid value '65' for '--workers <N>'"),
+    ("draw --around 8193", "error: invalid value '8193' for '--around <N>'"),
+    ("draw --calls 4097", "error: invalid value '4097' for '--calls <N>'"),
+    ("draw --seed 1", "error: unexpected argument '--seed' found"),
+    ("follow --workers 2", "error: unexpected argument '--workers' found"),
+    ("generate", "error: the following required arguments were not provided"),
+    ("generate --seed 1", "error: the following required arguments were not provided"),
+    (
+        "generate --seed 42 --processes 1 --calls 2 --get 100 --insert 0 --remove 0 --scan 0 --lo 5",
+        "error: the following required arguments were not provided",
+    ),
+    (
+        "generate --seed 42 --processes 1 --calls 2 --get 100 --insert 0 --remove 0 --scan 0 --lo 5 --hi 4294967296",
+        "error: invalid value '4294967296' for '--hi <N>'",
+    ),
+    ("generate --seed 18446744073709551616", "error: invalid value '18446744073709551616' for '--seed <N>'"),
+    ("generate --hi 4294967296", "error: invalid value '4294967296' for '--hi <N>'"),
+    ("drive 0", "error: unexpected argument '0' found"),
+    ("drive locked", "error: unexpected argument 'locked' found"),
+    ("drive --tree", "error: a value is required for '--tree <NAME>' but none was supplied"),
+    ("drive --trees locked", "error: unexpected argument '--trees' found"),
+    ("drive --tree locked locked", "error: unexpected argument 'locked' found"),
+    ("drive --rows4 4097", "error: invalid value '4097' for '--rows4 <N>'"),
+    ("drive --rows16 1025", "error: invalid value '1025' for '--rows16 <N>'"),
+    ("drive --rows48 257", "error: invalid value '257' for '--rows48 <N>'"),
+    ("drive --rows256 0", "error: invalid value '0' for '--rows256 <N>'"),
+    ("drive --rows256 65", "error: invalid value '65' for '--rows256 <N>'"),
+    ("drive --limit 0", "error: invalid value '0' for '--limit <N>'"),
+    ("drive --limit 1000001", "error: invalid value '1000001' for '--limit <N>'"),
+    (
+        "drive --tree other",
+        "error: invalid value 'other' for '--tree <NAME>'\n  [possible values: locked, coupled, optimistic, read-unchecked, "
+        "scan-unvalidated, lock-unchecked, early-release]",
+    ),
+    ("help", "Judges recorded histories of a concurrent ordered map"),
+    ("--help", "Judges recorded histories of a concurrent ordered map"),
+    ("check --help", "Tells whether calls"),
+]
+POINTER = "\n\nFor more information, try '--help'.\n"
+
+# What the user is shown who asks for help on `judge`.
+JUDGE_HELP = """Tells whether the history on standard input is linearizable
+
+Usage: bench judge [OPTIONS]
+
+Options:
+      --budget <N>   How many configurations of each segment are searched at most, from 1 to 1000000 [default: 100000]
+      --workers <N>  How many workers search the segments side by side, from 1 to 64 [default: 1]
+  -h, --help         Print help
+"""
 
 
 def refused_words():
-    """Lists of words that ask for nothing that can be done, or for help."""
-    yield "a word that is no text", [b"check", b"\xff"], LINE
-    yield "a word that begins as a text", [b"check", b"0", b"1\xff"], LINE
-    yield "no words", [], LINES
-    yield "help", ["--help"], LINES
-    yield "help on a subcommand", ["check", "--help"], LINES
-    yield "an unknown subcommand", ["prove"], LINES
-    yield "a number past the greatest", ["check", "4294967296"], LINES
-    yield "a budget of 0", ["judge", "--budget", "0"], LINES
-    yield "a budget past the greatest", ["judge", "--budget", "1000001"], LINES
-    yield "no workers", ["judge", "--workers", "0"], LINES
-    yield "too many workers", ["judge", "--workers", "65"], LINES
-    yield "a budget of 0 to locate an event", ["locate", "--budget", "0"], LINES
-    yield "too many workers for a picture", ["draw", "--workers", "65"], LINES
-    yield "an event that no history has", ["draw", "--around", "8193"], LINES
-    yield "room for too many calls", ["draw", "--calls", "4097"], LINES
-    yield "no row of kind 256", ["drive", "--rows256", "0"], LINES
-    yield "too many rows of kind 4", ["drive", "--rows4", "4097"], LINES
-    yield "a limit of no steps", ["drive", "--limit", "0"], LINES
-    yield "a limit past the greatest", ["drive", "--limit", "1000001"], LINES
-    yield "an unknown tree", ["drive", "--tree", "other"], LINES
-    yield "no tree", ["drive", "--tree"], LINES
-
-
-def piped(*lines):
-    """The result of the last of some lists of words, of which each reads what the one before it has written."""
-    text = b""
-    for words in lines:
-        ran = subprocess.run([PROGRAM, *words], input=text, capture_output=True, timeout=60, check=False)
-        text = ran.stdout
-    return ran.returncode, ran.stdout, ran.stderr
+    """What is shown by words that ask for nothing that can be done, or for help, these words, and what they are told."""
+    yield "a word that is no text", [b"check", b"\xff"], re.escape(b"error: a word is no text\n")
+    yield "a word that begins as a text", [b"check", b"0", b"1\xff"], re.escape(b"error: a word is no text\n")
+    for words, begins in FAULTS:
+        # Where an option has few values, nothing stands behind them; help ends with an empty line at most.
+        between = rb"" if "possible" in begins else rb"(?s:.*)"
+        ends = re.escape(POINTER.encode()) if begins.startswith("error") else rb"\n"
+        yield words or "no words", words.split(), re.escape(begins.encode()) + between + ends
+    yield "help on judge", ["judge", "--help"], re.escape(JUDGE_HELP.encode())
 
 
 def run(words, source, output=subprocess.PIPE, error=subprocess.PIPE, before=None):
@@ -137,13 +182,6 @@ def runs(folder):
         with open(ORDERED, "rb") as source:
             yield shows, run(words, source), (5, NOTHING, told)
 
-    long_text = os.path.join(folder, "long")
-    for spaces, wanted in ((0, (0, rb"ok\n", NOTHING)), (1, (3, NOTHING, rb"history: 1 TooLong\nwanted at most 16777216 bytes\n"))):
-        with open(ORDERED, "rb") as source, open(long_text, "wb") as longer:
-            longer.write(source.read().ljust(LONGEST_TEXT + spaces))
-        with open(long_text, "rb") as source:
-            yield f"a text of {LONGEST_TEXT + spaces} bytes", run(["check", "0", "1"], source), wanted
-
     deep = os.path.join(folder, "deep")
     deep_text(deep)
     order = ",".join(map(str, range(MOST_CALLS)))
@@ -162,11 +200,6 @@ def runs(folder):
     with open(wide, "rb") as source:
         words = ["judge", "--budget", "1000000"]
         yield "a wide search in little memory", run(words, source, before=with_little_memory), (4, NOTHING, rb"memory\n")
-    yield "a plan that four threads do", piped(DRAWN, ["drive", "--tree", "locked"], ["judge"]), (0, YES, NOTHING)
-    for tree in ("coupled", "optimistic"):
-        for seed in range(1, 21):
-            result = piped([*MIXED, "--seed", str(seed)], ["drive", "--tree", tree], ["judge", "--budget", "1000000", "--workers", "4"])
-            yield f"plan {seed} that four threads do at the {tree} tree", result, (0, YES, NOTHING)
 
     with open(OVERLAPPING, "rb") as source:
         lines = source.read().splitlines(keepends=True)
