@@ -1,5 +1,5 @@
-"""Whether the library answers each example as the program does: the same status, and the same bytes, at several budgets. Run by
-tests/library.
+"""Whether the library answers each example as the program does: the same status, and the same bytes, at several budgets; and judges
+histories as long as they may be. Run by tests/library.
 
     tests/library_calls.py libpotzendai.so
 """
@@ -12,6 +12,7 @@ TOP = os.path.dirname(os.path.dirname(os.path.abspath(__file__)))
 sys.dont_write_bytecode = True
 sys.path.insert(0, os.path.join(TOP, "examples", "library"))
 from own_map import Potzendai  # noqa: E402
+from rows import LONG  # noqa: E402
 
 
 def texts():
@@ -38,6 +39,13 @@ def main():
                 else:
                     failed += 1
                     print(name, word, budget, status, told[:200], ran)
+    for text, budget, order in LONG:
+        status, told = potzendai.call("potzendai_judge", text.encode(), budget)
+        if (status, told) == (0, f'{{"order":[{order}],"verdict":"yes"}}\n'):
+            passed += 1
+        else:
+            failed += 1
+            print(f"{len(text)} bytes, at {budget}", status, told[:200])
     print(f"{passed} passed, {failed} failed")
     return 1 if failed else 0
 
