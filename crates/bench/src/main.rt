@@ -7,8 +7,6 @@
 
 mod command;
 mod progress;
-#[cfg(test)]
-mod tests;
 
 use command::run;
 use line_outcomes::{texts_of, words_of};

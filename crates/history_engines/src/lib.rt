@@ -7,7 +7,6 @@ mod laws;
 mod location;
 mod refusals;
 mod verdict;
-pub mod worked_texts;
 
 pub use check::{check_outcome, run_check};
 pub use laws::faults_are_found;
