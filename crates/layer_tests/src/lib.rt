@@ -10,10 +10,6 @@ mod long_calls;
 #[cfg(test)]
 mod merges;
 #[cfg(test)]
-mod order_checks;
-#[cfg(test)]
-mod refused_texts;
-#[cfg(test)]
 mod searches;
 #[cfg(test)]
 mod visits;

@@ -1,55 +1,16 @@
 // Calls on histories, lists and maps as long as they may be: none wants memory where it is ample.
 use crate::merges::merged;
 use crate::visits::{config_of, is_new, map_of};
-use crate::worked::{history_of, inserts, pairs_listed, spaced, text_of};
-use certificate::check;
+use crate::worked::{history_of, inserts, pairs_listed};
+use certificate::{check, first_fault_is_unique};
 use cutter::cut;
 use events::{Call, Event, History, MAX_CALLS, MAX_PAIRS, Pairs, Reply};
-use history_text::{MAX_TEXT, read_history, write_history};
 use map_object::SortedMap;
 use memo::Memo;
 use segments::Segment;
 use std::alloc::Global;
 use std::process::Abort;
 use std::test::Fail;
-
-/// The text is read, and written again as it is.
-fn assert_written_again(rt: &impl Abort, alloc: Global, text: &str) -> Result<(), Fail> {
-    let history = read_history(alloc, text.as_bytes())?;
-    let again = write_history(alloc, &history)?;
-    assert!(rt; again.as_str() == text, "{} bytes", text.len());
-    Ok(())
-}
-
-/// So many scans, each of 4,096 pairs.
-fn scans(alloc: Global, count: u32) -> Result<String, Fail> {
-    let pairs = pairs_listed(alloc, 4096)?;
-    let scan = format!(in alloc;
-        "{{\"invoke\":[\"scan\",0,4095],\"process\":0}},{{\"answer\":[{pairs}],\"process\":0}}"
-    )?;
-    let mut events = String::from_str(alloc, &scan)?;
-    for _ in 1..count {
-        events.push_str(",")?;
-        events.push_str(&scan)?;
-    }
-    Ok(events)
-}
-
-#[test]
-fn long_texts_are_read_and_written(rt: HostRuntime) -> Result<(), Fail> {
-    let alloc = rt.alloc();
-    assert_written_again(&rt, alloc, &text_of(alloc, &inserts(alloc, 4096)?)?)?;
-    let text = text_of(alloc, &scans(alloc, 100)?)?;
-    assert!(rt; text.len() > 3_000_000);
-    assert_written_again(&rt, alloc, &text)
-}
-
-#[test]
-fn the_longest_text_is_read(rt: HostRuntime) -> Result<(), Fail> {
-    let history = read_history(rt.alloc(), &spaced(rt.alloc(), MAX_TEXT)?)?;
-    assert!(rt; history.events().is_empty());
-    Ok(())
-}
 
 /// Inserts at all keys below 4,095, and a scan of them all.
 fn inserts_then_scan(alloc: Global) -> Result<History, Fail> {
@@ -63,6 +24,7 @@ fn inserts_then_scan(alloc: Global) -> Result<History, Fail> {
 
 #[test]
 fn a_long_order_is_checked(rt: HostRuntime) -> Result<(), Fail> {
+    first_fault_is_unique();
     let alloc = rt.alloc();
     let order: Vec<u32> = (0..4096).collect(alloc)?;
     assert_eq!(rt; check(alloc, &inserts_then_scan(alloc)?, &order), Ok(()));

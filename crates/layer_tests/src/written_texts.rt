@@ -52,7 +52,7 @@ static COMPACT_AFTER_SPACES: [&str; 19] = [
 ];
 
 /// Whole texts, and the compact text of the same history.
-static REWRITTEN: [(&str, &str); 3] = [
+static REWRITTEN: [(&str, &str); 7] = [
     (
         r#"{"events":[],"version":1}"#,
         r#"{"events":[],"version":1}"#,
@@ -67,6 +67,23 @@ static REWRITTEN: [(&str, &str); 3] = [
  {"invoke": ["get", 5], "process": 0}, {"process": 0, "answer": 7} ] }
 "#,
         r#"{"events":[{"invoke":["insert",5,7],"process":0},{"answer":null,"process":0},{"invoke":["get",5],"process":0},{"answer":7,"process":0}],"version":1}"#,
+    ),
+    // A history is of version 2 where it has starting pairs or a replace.
+    (
+        r#"{"events":[],"start":[],"version":2}"#,
+        r#"{"events":[],"version":1}"#,
+    ),
+    (
+        r#"{"version": 2, "start": [[5, 7], [6, 0]], "events": []}"#,
+        r#"{"events":[],"start":[[5,7],[6,0]],"version":2}"#,
+    ),
+    (
+        r#"{"start":[],"events":[{"process":0,"invoke":["replace",5,7,8]}],"version":2}"#,
+        r#"{"events":[{"invoke":["replace",5,7,8],"process":0}],"start":[],"version":2}"#,
+    ),
+    (
+        r#"{"start":[],"events":[{"process":0,"invoke":["get",5]}],"version":2}"#,
+        r#"{"events":[{"invoke":["get",5],"process":0}],"version":1}"#,
     ),
 ];
 
