@@ -1,6 +1,5 @@
-//! Tests of what judges streams of events, through its public calls: which lines spell which events, the first fault of each other line,
-//! sources that are cut at arbitrary places or fail midway, calls left, searches of calls, and followers. And of the few calls that explain
-//! why others have no order.
+//! Tests of what judges streams of events, through its public calls: which lines spell which events, sources that are cut at arbitrary
+//! places or fail midway, calls left, searches of calls, and followers. And of the few calls that explain why others have no order.
 //!
 //! Expected answers were worked out by hand. Run with each allocation refused in turn, each test has to fail for want of memory alone.
 #![tactic(auto)]
@@ -11,8 +10,6 @@ mod call_searches;
 mod cuts;
 #[cfg(test)]
 mod explanations;
-#[cfg(test)]
-mod faults;
 #[cfg(test)]
 mod followed_streams;
 #[cfg(test)]

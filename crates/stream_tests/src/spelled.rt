@@ -2,7 +2,7 @@
 use events::{Call, Pairs, Reply};
 use std::alloc::Global;
 use std::test::Fail;
-use stream_text::{FirstLine, MAX_LINE, StreamEvent, event_line, read_event_line, read_first_line};
+use stream_text::{FirstLine, StreamEvent, event_line, read_event_line, read_first_line};
 
 /// Lines, and the compact line of the same event.
 static EVENTS: [(&str, &str); 12] = [
@@ -56,66 +56,69 @@ static EVENTS: [(&str, &str); 12] = [
     ),
 ];
 
-const REPLACE: &str = r#"{"invoke":["replace",1,2,3],"process":0}"#;
+/// The compact line of the event that a first line spells.
+fn first_again(alloc: Global, line: &str) -> Result<String, Fail> {
+    match read_first_line(alloc, line.as_bytes())? {
+        FirstLine::Event(event) => Ok(event_line(alloc, &event)?),
+        FirstLine::Start(_pairs) => Err(Fail::new("an event was read as starting pairs")),
+    }
+}
+
+/// The compact line of the event that another line spells.
+fn written_again(alloc: Global, has_start: bool, line: &str) -> Result<String, Fail> {
+    let event = read_event_line(alloc, has_start, line.as_bytes())?;
+    Ok(event_line(alloc, &event)?)
+}
 
 #[test]
 fn events_are_read_and_written(rt: HostRuntime) -> Result<(), Fail> {
     let alloc = rt.alloc();
     for (line, compact) in &EVENTS {
-        for has_start in [false, true] {
-            let event = read_event_line(alloc, has_start, line.as_bytes())?;
-            let again = event_line(alloc, &event)?;
-            assert!(rt; again.as_str() == *compact, "{line}");
-        }
+        assert!(rt; first_again(alloc, line)?.as_str() == *compact, "{line}");
+        assert!(rt;
+            written_again(alloc, false, line)?.as_str() == *compact,
+            "{line}"
+        );
+        assert!(rt;
+            written_again(alloc, true, line)?.as_str() == *compact,
+            "{line}"
+        );
     }
-    let event = read_event_line(alloc, true, REPLACE.as_bytes())?;
-    assert!(rt; event_line(alloc, &event)?.as_str() == REPLACE);
-    Ok(())
-}
-
-#[test]
-fn events_are_what_they_say(rt: HostRuntime) -> Result<(), Fail> {
-    let alloc = rt.alloc();
-    let read = |line: &str| read_event_line(alloc, false, line.as_bytes());
-    let insert = read(r#"{"process":7,"invoke":["insert",5,1]}"#)?;
-    assert!(rt;
-        matches!(
-            insert,
-            StreamEvent::Invoke {
-                process: 7,
-                call: Call::Insert(5, 1)
-            }
-        )
-    );
-    let none = read(r#"{"process":7,"answer":null}"#)?;
-    assert!(rt;
-        matches!(
-            none,
-            StreamEvent::Answer {
-                process: 7,
-                reply: Reply::None
-            }
-        )
-    );
+    let replace = r#"{"invoke":["replace",1,2,3],"process":0}"#;
+    assert!(rt; written_again(alloc, true, replace)?.as_str() == replace);
     Ok(())
 }
 
 #[test]
 fn events_that_were_made_are_written(rt: HostRuntime) -> Result<(), Fail> {
     let alloc = rt.alloc();
-    let call = StreamEvent::Invoke {
-        process: 1,
-        call: Call::Replace(1, 2, 3),
-    };
-    let call = event_line(alloc, &call)?;
-    assert!(rt; call.as_str() == r#"{"invoke":["replace",1,2,3],"process":1}"#);
+    for (process, call, line) in [
+        (
+            7,
+            Call::Insert(5, 1),
+            r#"{"invoke":["insert",5,1],"process":7}"#,
+        ),
+        (
+            1,
+            Call::Replace(1, 2, 3),
+            r#"{"invoke":["replace",1,2,3],"process":1}"#,
+        ),
+    ] {
+        let event = StreamEvent::Invoke { process, call };
+        assert!(rt; event_line(alloc, &event)?.as_str() == line);
+    }
     let pairs = Pairs::new(vec![in alloc; (1, 2), (3, 4)]?);
-    let reply = StreamEvent::Answer {
-        process: 65_535,
-        reply: Reply::Pairs(pairs),
-    };
-    let reply = event_line(alloc, &reply)?;
-    assert!(rt; reply.as_str() == r#"{"answer":[[1,2],[3,4]],"process":65535}"#);
+    for (process, reply, line) in [
+        (7, Reply::None, r#"{"answer":null,"process":7}"#),
+        (
+            65_535,
+            Reply::Pairs(pairs),
+            r#"{"answer":[[1,2],[3,4]],"process":65535}"#,
+        ),
+    ] {
+        let event = StreamEvent::Answer { process, reply };
+        assert!(rt; event_line(alloc, &event)?.as_str() == line);
+    }
     Ok(())
 }
 
@@ -134,42 +137,5 @@ fn starting_pairs(rt: HostRuntime) -> Result<(), Fail> {
     assert!(rt; none.as_slice().is_empty());
     let two = start_of(alloc, br#" {"start": [[1,9], [3,0]], "version": 2}"#)?;
     assert!(rt; two.as_slice() == [(1, 9), (3, 0)].as_slice());
-    Ok(())
-}
-
-#[test]
-fn first_events(rt: HostRuntime) -> Result<(), Fail> {
-    let alloc = rt.alloc();
-    for (line, compact) in &EVENTS {
-        match read_first_line(alloc, line.as_bytes())? {
-            FirstLine::Event(event) => {
-                assert!(rt; event_line(alloc, &event)?.as_str() == *compact, "{line}");
-            }
-            FirstLine::Start(_pairs) => {
-                return Err(Fail::new("an event was read as starting pairs"));
-            }
-        }
-    }
-    Ok(())
-}
-
-/// A text with spaces behind it, of so many bytes together.
-fn padded(alloc: Global, text: &str, size: usize) -> Result<Vec<u8>, Fail> {
-    let mut line = Vec::new(alloc);
-    line.extend_from_slice(text.as_bytes())?;
-    for _ in text.len()..size {
-        line.push(b' ')?;
-    }
-    Ok(line)
-}
-
-#[test]
-fn the_longest_lines(rt: HostRuntime) -> Result<(), Fail> {
-    let alloc = rt.alloc();
-    let event = padded(alloc, r#"{"answer":7,"process":3}"#, MAX_LINE)?;
-    let event = read_event_line(alloc, false, &event)?;
-    assert!(rt; event_line(alloc, &event)?.as_str() == r#"{"answer":7,"process":3}"#);
-    let start = padded(alloc, r#"{"start":[[1,2]],"version":2}"#, MAX_LINE)?;
-    assert!(rt; start_of(alloc, &start)?.as_slice() == [(1, 2)].as_slice());
     Ok(())
 }
