@@ -1,10 +1,9 @@
 // Machines that start with pairs.
 use crate::checks::judged;
-use crate::setups::{opened_with, recorded, words_at};
-use art::{Point, Variant};
+use crate::machines::{opened_with, recorded, words_at};
+use art::Variant;
 use art_core::Item;
 use events::Call;
-use machine::MachineFault;
 use std::test::Fail;
 
 /// The words are those that the inserts leave, but for the clock; the history has the pairs and none of their inserts.
@@ -58,18 +57,6 @@ fn the_inserts_take_no_turns(rt: HostRuntime) -> Result<(), Fail> {
     Ok(())
 }
 
-/// There is no row for the second pair.
-#[test]
-fn a_pair_without_a_place_is_refused(rt: HostRuntime) -> Result<(), Fail> {
-    let alloc = rt.alloc();
-    for variant in [Variant::Coupled, Variant::Optimistic] {
-        let start = [(5, 50), (9, 90)];
-        let opened = opened_with(alloc, [0, 0, 0, 1], variant, &start, [&[], &[]], 1000)?;
-        assert!(rt; matches!(opened, Err(MachineFault::StartRefused)));
-    }
-    Ok(())
-}
-
 /// No pairs at all.
 #[test]
 fn a_machine_may_start_with_no_pairs(rt: HostRuntime) -> Result<(), Fail> {
@@ -80,43 +67,5 @@ fn a_machine_may_start_with_no_pairs(rt: HostRuntime) -> Result<(), Fail> {
         recorded(alloc, &machine)?.as_str(),
         "{\"events\":[],\"version\":1}"
     );
-    Ok(())
-}
-
-/// A replace has found its value when another one replaces it: without a check both have done so.
-#[test]
-fn two_replaces_of_one_value_are_told_apart(rt: HostRuntime) -> Result<(), Fail> {
-    let alloc = rt.alloc();
-    let schedule = [
-        Item::Until {
-            process: 0,
-            point: Point::LockRoot,
-        },
-        Item::End { process: 1 },
-        Item::End { process: 0 },
-    ];
-    for (variant, answer, report) in [
-        (
-            Variant::LockUnchecked,
-            1,
-            "{\"calls\":[0,1],\"hi\":5,\"lo\":5,\"verdict\":\"no\"}",
-        ),
-        (
-            Variant::Optimistic,
-            3,
-            "{\"order\":[1,0],\"verdict\":\"yes\"}",
-        ),
-    ] {
-        let scripts: [&[Call]; 2] = [&[Call::Replace(5, 1, 2)], &[Call::Replace(5, 1, 3)]];
-        let mut machine = opened_with(alloc, [8, 8, 8, 1], variant, &[(5, 1)], scripts, 1000)??;
-        machine.run(alloc, &schedule)?;
-        let expected = format!(in alloc;
-            "{{\"events\":[{{\"invoke\":[\"replace\",5,1,2],\"process\":0}},\
-            {{\"invoke\":[\"replace\",5,1,3],\"process\":1}},{{\"answer\":1,\"process\":1}},\
-            {{\"answer\":{answer},\"process\":0}}],\"start\":[[5,1]],\"version\":2}}"
-        )?;
-        assert_eq!(rt; recorded(alloc, &machine)?, expected);
-        assert_eq!(rt; judged(alloc, &machine.history(alloc)?)?.as_str(), report);
-    }
     Ok(())
 }

@@ -1,90 +1,92 @@
-// A process that is stopped for good in the middle of a call, while another one goes on: it is answered, or it waits for a
-// lock until no turn is left. What is recorded either way has an order.
-use crate::checks::assert_judged;
-use crate::setups::opened;
+// A process that stops for good within its call, and one that goes on.
+ghost use Rattle.running.specs.Passes.{IsPassOf};
+
+use crate::checks::judged;
+use crate::passes::{advance, begin, call, closed, open_two};
 use art::Variant;
-use art_core::Item;
 use events::Call;
-use machine::{MachineFault, RunFault};
+use running::{Arena, Pass};
 use std::alloc::Global;
-use std::process::Abort;
 use std::test::Fail;
 
-const GET: (u8, &str) = (0, "\"invoke\":[\"get\",5]");
+/// So many turns of a get of 5: its invocation, and then steps.
+fn make_turns(alloc: Global, arena: &Arena, pass: &mut Pass, turns: u32) -> Result<(), Fail>
+    requires { IsPassOf arena.now pass.old }
+    ensures { IsPassOf arena.now pass.new }
+{
+    if turns == 0 {
+        return Ok(());
+    }
+    begin(arena, pass, &Call::Get(5))?;
+    if turns == 1 {
+        return Ok(());
+    }
+    advance(alloc, arena, pass, turns - 1)?;
+    Ok(())
+}
 
-const GOT: (u8, &str) = (0, "\"answer\":50");
-
-const INSERT: (u8, &str) = (1, "\"invoke\":[\"insert\",3,30]");
-
-const INSERTED: (u8, &str) = (1, "\"answer\":null");
-
-/// Process 0 runs two inserts to their end, makes so many turns of a get, and no more. Then process 1 runs an insert: it comes
-/// out so, these are the events behind those of the two inserts, and the verdict has this order.
-fn assert_stopped(
-    rt: &impl Abort,
+/// Keys 5 and 9 are inserted, then a get of 5 stops after so many turns, and then another process inserts 3: whether that
+/// insert is answered, and the report on all of it.
+fn insert_beside_stopped_get(
     alloc: Global,
     variant: Variant,
     turns: u32,
-    ran: Result<(), RunFault>,
-    later: &[(u8, &'static str)],
-    order: &str,
+) -> Result<(bool, String), Fail> {
+    let (arena, mut first, mut second) = open_two(alloc, variant, 3)?;
+    call(alloc, &arena, &mut first, &Call::Insert(5, 50))?;
+    call(alloc, &arena, &mut first, &Call::Insert(9, 90))?;
+    make_turns(alloc, &arena, &mut first, turns)?;
+    begin(&arena, &mut second, &Call::Insert(3, 30))?;
+    let answered = advance(alloc, &arena, &mut second, 900)?.is_some();
+    let history = closed(alloc, arena, first, second)?;
+    Ok((answered, judged(alloc, &history)?))
+}
+
+/// From so many turns of the get on and below so many, whether the insert is answered, and the report.
+static OPTIMISTIC: [(u32, u32, bool, &str); 3] = [
+    (0, 1, true, "{\"order\":[0,1,2],\"verdict\":\"yes\"}"),
+    (1, 11, true, "{\"order\":[0,1,3],\"verdict\":\"yes\"}"),
+    (11, 12, true, "{\"order\":[0,1,2,3],\"verdict\":\"yes\"}"),
+];
+
+static COUPLED: [(u32, u32, bool, &str); 5] = [
+    (0, 1, true, "{\"order\":[0,1,2],\"verdict\":\"yes\"}"),
+    (1, 3, true, "{\"order\":[0,1,3],\"verdict\":\"yes\"}"),
+    (3, 11, false, "{\"order\":[0,1],\"verdict\":\"yes\"}"),
+    (11, 12, true, "{\"order\":[0,1,3],\"verdict\":\"yes\"}"),
+    (12, 13, true, "{\"order\":[0,1,2,3],\"verdict\":\"yes\"}"),
+];
+
+#[test]
+fn an_optimistic_get_that_stops_holds_up_no_insert(rt: HostRuntime) -> Result<(), Fail> {
+    let alloc = rt.alloc();
+    for (least, end, answered, report) in &OPTIMISTIC {
+        for turns in *least..*end {
+            let (told, judged) = insert_beside_stopped_get(alloc, Variant::Optimistic, turns)?;
+            assert_eq!(rt;
+                (told, judged.as_str()),
+                (*answered, *report),
+                "{turns} turns"
+            );
+        }
+    }
+    Ok(())
+}
+
+#[test]
+fn a_coupled_get_that_stops_while_it_holds_the_root_holds_up_an_insert(
+    rt: HostRuntime,
 ) -> Result<(), Fail> {
-    let first = [Call::Insert(5, 50), Call::Insert(9, 90), Call::Get(5)];
-    let scripts: [&[Call]; 2] = [&first, &[Call::Insert(3, 30)]];
-    let mut machine = opened(alloc, [8, 8, 8, 1], variant, scripts, 1000)?;
-    machine.run(alloc, &[Item::End { process: 0 }, Item::End { process: 0 }])?;
-    for _ in 0..turns {
-        machine.turn(alloc, 0)?;
-    }
-    assert_eq!(rt; machine.run(alloc, &[Item::End { process: 1 }]), ran);
-    let mut events = Vec::from_slice(
-        alloc,
-        &[
-            (0, "\"invoke\":[\"insert\",5,50]"),
-            (0, "\"answer\":null"),
-            (0, "\"invoke\":[\"insert\",9,90]"),
-            (0, "\"answer\":null"),
-        ],
-    )?;
-    events.extend_from_slice(later)?;
-    let report = format!(in alloc; "{{\"order\":{order},\"verdict\":\"yes\"}}")?;
-    assert_judged(alloc, &machine.history(alloc)?, &events, &report)
-}
-
-/// A get without locks takes eleven turns.
-#[test]
-fn a_stopped_reader_without_locks_stops_nobody(rt: HostRuntime) -> Result<(), Fail> {
     let alloc = rt.alloc();
-    let variant = Variant::Optimistic;
-    let unbegun = [INSERT, INSERTED];
-    assert_stopped(&rt, alloc, variant, 0, Ok(()), &unbegun, "[0,1,2]")?;
-    let open = [GET, INSERT, INSERTED];
-    for turns in 1..11 {
-        assert_stopped(&rt, alloc, variant, turns, Ok(()), &open, "[0,1,3]")?;
+    for (least, end, answered, report) in &COUPLED {
+        for turns in *least..*end {
+            let (told, judged) = insert_beside_stopped_get(alloc, Variant::Coupled, turns)?;
+            assert_eq!(rt;
+                (told, judged.as_str()),
+                (*answered, *report),
+                "{turns} turns"
+            );
+        }
     }
-    let answered = [GET, GOT, INSERT, INSERTED];
-    assert_stopped(&rt, alloc, variant, 11, Ok(()), &answered, "[0,1,2,3]")
-}
-
-/// A get under lock coupling takes twelve turns. The third locks the root, the sixth the row below it, and the eleventh lets
-/// that row go: in between the insert waits.
-#[test]
-fn a_stopped_reader_that_holds_a_lock_stops_a_writer(rt: HostRuntime) -> Result<(), Fail> {
-    let alloc = rt.alloc();
-    let variant = Variant::Coupled;
-    let unbegun = [INSERT, INSERTED];
-    assert_stopped(&rt, alloc, variant, 0, Ok(()), &unbegun, "[0,1,2]")?;
-    let open = [GET, INSERT, INSERTED];
-    for turns in [1, 2, 11] {
-        assert_stopped(&rt, alloc, variant, turns, Ok(()), &open, "[0,1,3]")?;
-    }
-    let waits = Err(RunFault {
-        item: 0,
-        fault: MachineFault::TurnLimit,
-    });
-    for turns in 3..11 {
-        assert_stopped(&rt, alloc, variant, turns, waits, &[GET, INSERT], "[0,1]")?;
-    }
-    let answered = [GET, GOT, INSERT, INSERTED];
-    assert_stopped(&rt, alloc, variant, 12, Ok(()), &answered, "[0,1,2,3]")
+    Ok(())
 }

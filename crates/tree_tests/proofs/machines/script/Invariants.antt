@@ -1,6 +1,6 @@
 use Rattle.std.proofs.Common.{◌≡◌, All, IsTrue, vec_len}
 use Rattle.art_steps.specs.TreeCalls.{is_tree_call}
-use Rattle.tree_tests.proofs.setups.script.Given as goal
+use Rattle.tree_tests.proofs.machines.script.Given as goal
 
 abbrev pub invariant-loop-call : goal.invariant-loop-call
 invariant-loop-call l = record {

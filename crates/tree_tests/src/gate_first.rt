@@ -2,7 +2,7 @@
 // gate, so this goes by the clock.
 ghost use Rattle.std.specs.Prelude.{⊤};
 
-use crate::setups::driven;
+use crate::driving::driven;
 use art::Variant;
 use history_text::write_history;
 use pool::Gate;

@@ -11,7 +11,7 @@ use Rattle.art_core.specs.Core.{Makes, Responds}
 use Rattle.art_shared.specs.declared.view.Setup.{Setup}
 use Rattle.art_shared.specs.declared.view.View.{View}
 use Rattle.art_shared.specs.Views.{next_of, advanced, invoking, last_alone, all_idle}
-use Rattle.arena_tests.proofs.places.two_places_step.Goals as goal
+use Rattle.tree_tests.proofs.places.two_places_step.Goals as goal
 
 abbrev small : Setup
 small = record { shape = record { rows4 = 0; rows16 = 0; rows48 = 0; rows256 = 1 }; variant = Optimistic; processes = 2; calls_each = 1 }

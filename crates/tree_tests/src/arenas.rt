@@ -2,7 +2,7 @@
 ghost use Rattle.std.specs.Prelude.{◌≡◌, IfOk};
 ghost use Rattle.running.specs.Passes.{IsPassOf};
 
-use crate::setups::{advance, begin, closed, closed_alone, open_one, open_two};
+use crate::passes::{advance, begin, closed, closed_alone, open_one, open_two};
 use art::Variant;
 use events::{Call, Reply};
 use history_text::write_history;
