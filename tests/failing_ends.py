@@ -16,11 +16,8 @@ import sys
 import tempfile
 
 sys.dont_write_bytecode = True
-from rows import TOO_MANY_CALLS, TOP, answer, compare  # noqa: E402
+from rows import INSERT_THEN_GET, NO_PLAN, OTHER_TOP_LEVEL, TOO_MANY_CALLS, TOP, answer, compare  # noqa: E402
 
-INSERT_THEN_GET = """{"events":[
-    {"invoke":["insert",5,7],"process":0},{"answer":null,"process":0},
-    {"invoke":["get",5],"process":0},{"answer":7,"process":0}],"version":1}"""
 MISSED_INSERT = """{"events":[
     {"invoke":["insert",5,7],"process":0},{"answer":null,"process":0},
     {"invoke":["get",5],"process":1},{"answer":null,"process":1}],"version":1}"""
@@ -61,17 +58,11 @@ ANSWERED = [
     ("replay", REPLAY, 0, DONE),
 ]
 
-NO_HISTORY = 'history: 3 Version\nwanted {"version":1,"events":[..]} or {"version":2,"start":[..],"events":[..]}\n'
-NO_PLAN = (
-    'plan: 7 Shape\nwanted {"version":1,"scripts":[[C,..],..]}; C is ["get",K], ["insert",K,V], ["remove",K], ["scan",LO,HI] '
-    'with LO <= HI, or in version 2 ["replace",K,OLD,NEW]; keys are from 0 to 4294967295, values from 0 to 1073741823\n'
-)
-
 # Words, the status and the fault, on the text `{}`.
 REFUSED = [
-    ("check", 3, NO_HISTORY),
-    ("judge", 3, NO_HISTORY),
-    ("locate", 3, NO_HISTORY),
+    ("check", 3, OTHER_TOP_LEVEL),
+    ("judge", 3, OTHER_TOP_LEVEL),
+    ("locate", 3, OTHER_TOP_LEVEL),
     (DRAWN.format(0), 3, TOO_MANY_CALLS),
     ("drive", 3, NO_PLAN),
     ("run", 5, "error: unrecognized subcommand 'run'\n\nUsage: bench <COMMAND>\n\nFor more information, try '--help'.\n"),
@@ -89,19 +80,21 @@ TWO_KEYS = """{"events":[
     {"invoke":["insert",9,90],"process":0},{"answer":null,"process":0}],"version":1}"""
 TWO_SCRIPTS = '{"scripts":[[["get",5]],[["insert",5,7]]],"version":1}'
 
-# Words, a text, the status, and how many threads are made: one fewer at each verdict than there are workers, and one fewer than there are
-# scripts, since the first thread does a part.
+ORDERED = b'{"order":[0,1],"verdict":"yes"}\n'
+
+# Words, a text, the status, how the output begins, and how many threads are made: one fewer at each verdict than there are workers, and
+# one fewer than there are scripts, since the first thread does a part.
 THREADS = [
-    ("judge", TWO_KEYS, 0, 0),
-    ("judge --workers 1", TWO_KEYS, 0, 0),
-    ("judge --workers 2", TWO_KEYS, 0, 1),
-    ("judge --workers 64", TWO_KEYS, 0, 63),
-    ("locate --workers 2", LOST_AT_LAST, 1, 4),
-    ("draw --workers 2", LOST_AT_LAST, 1, 5),
-    ("drive", TWO_SCRIPTS, 0, 1),
-    ("drive --tree coupled", TWO_SCRIPTS, 0, 1),
-    ("drive --tree optimistic", TWO_SCRIPTS, 0, 1),
-    ("drive --tree locked", TWO_SCRIPTS, 0, 1),
+    ("judge", TWO_KEYS, 0, ORDERED, 0),
+    ("judge --workers 1", TWO_KEYS, 0, ORDERED, 0),
+    ("judge --workers 2", TWO_KEYS, 0, ORDERED, 1),
+    ("judge --workers 64", TWO_KEYS, 0, ORDERED, 63),
+    ("locate --workers 2", LOST_AT_LAST, 1, b'{"call":3,"event":7,"verdict":"no"}\n', 4),
+    ("draw --workers 2", LOST_AT_LAST, 1, b"<svg", 5),
+    ("drive", TWO_SCRIPTS, 0, b'{"events":[{"invoke"', 1),
+    ("drive --tree coupled", TWO_SCRIPTS, 0, b'{"events":[{"invoke"', 1),
+    ("drive --tree optimistic", TWO_SCRIPTS, 0, b'{"events":[{"invoke"', 1),
+    ("drive --tree locked", TWO_SCRIPTS, 0, b'{"events":[{"invoke"', 1),
 ]
 
 
@@ -154,13 +147,14 @@ def by_sevens(library, words, text, status, output, fault):
     return None if got == wanted else f"{words} by pieces of 7 bytes: {got}, and wanted is {wanted}"
 
 
-def threads(library, words, text, status, count):
+def threads(library, words, text, status, begins, count):
     """What is wrong with how many threads are made."""
     with tempfile.TemporaryDirectory() as folder:
         path = os.path.join(folder, "threads")
-        found, _, told = answer(words.split(), text, {"LD_PRELOAD": library, "THREADS": path})
+        found, output, told = answer(words.split(), text, {"LD_PRELOAD": library, "THREADS": path})
         made = os.path.getsize(path) if os.path.exists(path) else 0
-    return None if (found, told, made) == (status, b"", count) else f"{words}: {made} threads, {found}, {told}"
+    is_right = (found, output[: len(begins)], told, made) == (status, begins, b"", count)
+    return None if is_right else f"{words}: {made} threads, {found}, {output[:300]}, {told}"
 
 
 def main():

@@ -13,15 +13,12 @@ import sys
 
 sys.dont_write_bytecode = True
 from rows import (  # noqa: E402
-    JSON, LENGTH, LONGEST_TEXT, MOST_CALLS, TOO_MANY_CALLS, answer, compare, history, inserts, pairs_listed, piped, scans_of_inserts,
+    JSON, LENGTH, LONGEST_TEXT, MOST_CALLS, NO_PLAN, TOO_MANY_CALLS,
+    answer, compare, history, inserts, pairs_listed, piped, scans_of_inserts,
 )
 
 BAD_MIX = "plan: 1 BadMix\nwanted shares of gets, inserts, removes and scans that are 100 together\n"
 BAD_RANGE = "plan: 2 BadRange\nwanted a least key that is not above the greatest\n"
-NO_PLAN = (
-    'plan: 7 Shape\nwanted {"version":1,"scripts":[[C,..],..]}; C is ["get",K], ["insert",K,V], ["remove",K], ["scan",LO,HI] '
-    'with LO <= HI, or in version 2 ["replace",K,OLD,NEW]; keys are from 0 to 4294967295, values from 0 to 1073741823\n'
-)
 NO_REPLAY = (
     'replay: 7 Shape\nwanted {"version":1,"variant":NAME,"rows":[N,N,N,N],"limit":N,"scripts":[[C,..],..],"schedule":[ITEM,..]}, '
     'and in version 2 "start":[[K,V],..]; ITEM is [P,"turns",N], [P,"end"] or [P,"until",POINT]; C is as in a plan\n'
@@ -34,6 +31,7 @@ TURN_LIMIT = "3 TurnLimit\nwanted no more turns than the limit\n"
 # Each insert's value is the third word of a stream of its own, modulo 2^30.
 DRAWN = [
     ((1, 0, 100, 0, 0, 0, 5, 5), "[[]]"),
+    ((1, 0, 50, 30, 10, 10, 0, 9), "[[]]"),
     ((1, 2, 100, 0, 0, 0, 5, 5), '[[["get",5],["get",5]]]'),
     ((2, 1, 0, 0, 100, 0, 7, 7), '[[["remove",7]],[["remove",7]]]'),
     ((2, 1, 0, 100, 0, 0, 7, 7), '[[["insert",7,357083581]],[["insert",7,418225680]]]'),
@@ -108,9 +106,9 @@ PENDING = '{"events":[{"invoke":["get",5],"process":0}],"version":1}\n'
 ANSWERED = '{"events":[{"invoke":["get",5],"process":0},{"answer":null,"process":0}],"version":1}\n'
 
 # Words behind `drive`, a plan and what is recorded. A get that stops at its limit is pending: under optimistic lock coupling it reads the
-# root's version, the child word and the version again, and stamps its response; under lock coupling it locks the root, reads the child word,
-# unlocks the root, and stamps. The map under a lock has no limit. A tree that has only its root refuses a key that parts from another
-# behind the first byte.
+# root's version, the child word and the version again, and stamps its response; under lock coupling it locks the root, reads the child
+# word, unlocks the root, and stamps. The map under a lock has no limit. A tree that has only its root refuses a key that parts from
+# another behind the first byte.
 LIMITED = [
     ("--limit 3", GET_PLAN, PENDING),
     ("--limit 4", GET_PLAN, ANSWERED),
@@ -229,14 +227,16 @@ REPLAYS_OF_ANOTHER_FORM = [
 # The same of replays that are read: their output, or their fault. As many items, scripts and calls with starting pairs as there may be, and
 # one more; and a process of any number, which is refused when the item runs.
 GETS = "[[" + ",".join(['["get",7]'] * 4095) + "]]"
+SCRIPTS = ["[" + ",".join(["[]"] * count) + "]" for count in (64, 65)]
+ENDS = ["[" + ",".join(['[0,"end"]'] * count) + "]" for count in (100_000, 100_001)]
 OTHER_REPLAYS = [
     (("1", "[4096,1024,256,64]", "[]", "[[]]", ONE), EMPTY, ""),
     (("1000000", "[4096,1024,256,64]", "[]", "[[]]", ONE), EMPTY, ""),
     *((("1", LEAST, "[]", "[[]]", f'"version":1,"variant":"{tree}"'), EMPTY, "") for tree in TREES),
     (("1", LEAST, "[]", "[[]]", '"start":[],"variant":"coupled","version":2'), EMPTY, ""),
-    (("1", LEAST, "[" + ",".join(['[0,"end"]'] * 100_000) + "]", "[" + ",".join(["[]"] * 64) + "]", ONE), "", "schedule: item 0: " + NOTHING_TO_DO),
-    (("1", LEAST, "[" + ",".join(['[0,"end"]'] * 100_001) + "]", "[" + ",".join(["[]"] * 64) + "]", ONE), "", NO_REPLAY),
-    (("1", LEAST, "[]", "[" + ",".join(["[]"] * 65) + "]", ONE), "", NO_REPLAY),
+    (("1", LEAST, ENDS[0], SCRIPTS[0], ONE), "", "schedule: item 0: " + NOTHING_TO_DO),
+    (("1", LEAST, ENDS[1], SCRIPTS[0], ONE), "", NO_REPLAY),
+    (("1", LEAST, "[]", SCRIPTS[1], ONE), "", NO_REPLAY),
     (
         ("1", LEAST, "[]", GETS, '"start":[[5,7]],"variant":"coupled","version":2'),
         '{"events":[],"start":[[5,7]],"version":2}\n', "",
@@ -335,18 +335,16 @@ SERIAL = [
 ]
 
 # A get below the root alone takes an invocation, five steps of the tree and a response under lock coupling: the root has no key bytes to
-# look at, so the first item ends with the response, and the next one begins the next call. The items of process 0, and what is recorded of
-# its two gets, or the fault.
+# look at, so the first item ends with the response, and the next one begins the next call. Items, and what is recorded of two gets.
 ITEMS = [
     ('[0,"until","child"]', '0 ["get",5], 0 null'),
     ('[0,"until","child"],[0,"until","answer"],[0,"until","answer"]', '0 ["get",5], 0 null, 0 ["get",6]'),
     ('[0,"until","child"],[0,"until","answer"],[0,"until","answer"],[0,"turns",1]', '0 ["get",5], 0 null, 0 ["get",6], 0 null'),
-    ('[0,"until","child"],[0,"end"],[0,"until","answer"]', "2 " + NOTHING_TO_DO),
 ]
 
-# A get of process 0 stops for good after so many turns, from the first number on and below the second, and then process 1 inserts. The get
-# takes eleven turns without locks. Under lock coupling it takes twelve, of which the third locks the root, the sixth the row below it, and the
-# eleventh lets that row go: in between the insert waits. What is recorded behind the two inserts before, and the order.
+# A get of process 0 stops for good after so many turns, from the first number on and below the second, and then process 1 inserts. The
+# get takes eleven turns without locks. Under lock coupling it takes twelve, of which the third locks the root, the sixth the row below it,
+# and the eleventh lets that row go: in between the insert waits. What is recorded behind the two inserts before, and the order.
 STOPPED = [
     ("optimistic", 0, 1, '1 ["insert",3,30], 1 null', "[0,1,2]"),
     ("optimistic", 1, 11, '0 ["get",5], 1 ["insert",3,30], 1 null', "[0,1,3]"),
@@ -414,8 +412,8 @@ def refused_schedules():
     start, first, second, schedule = SCHEDULES[3][:4]
     # Under full coupling the remove holds the row above, so the insert that would replace the row waits until no turn is left.
     yield scheduled(start, [first, second], schedule, "coupled"), "schedule: item 5: " + TURN_LIMIT
-    for items, fault in ITEMS[-1:]:
-        yield scheduled([], [[["get", 5], ["get", 6]], []], f"[{items}]", "coupled"), "schedule: item " + fault.replace(" ", ": ", 1)
+    text = scheduled([], [[["get", 5], ["get", 6]], []], '[[0,"until","child"],[0,"end"],[0,"until","answer"]]', "coupled")
+    yield text, "schedule: item 2: " + NOTHING_TO_DO
     # A process is wanted first, then something to do, then a turn, whatever the item is.
     scripts = [[["get", 5]], []]
     for limit, front, item in ((2, "", 0), (2, '[0,"turns",2],', 1)):
@@ -478,7 +476,7 @@ def rows():
         script, items = ",".join(f"[{call}]" for call in calls), ",".join(['[0,"end"]'] * len(calls))
         text = replay((100_000, rows_of_kinds, f"[{items}]", f"[[{script}]]", f'"variant":"{variant}","version":1'))
         yield ["replay"], text, 0, recorded(", ".join(f"0 [{call}], 0 {told}" for call, told in zip(calls, answers)), []), ""
-    for items, events in ITEMS[:-1]:
+    for items, events in ITEMS:
         yield ["replay"], scheduled([], [[["get", 5], ["get", 6]], []], f"[{items}]", "coupled"), 0, recorded(events, []), ""
     # As many starting pairs as there may be beside one call, and as many processes.
     pairs, idle = pairs_listed(4095), ",[]" * 63

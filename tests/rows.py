@@ -10,8 +10,19 @@ EXAMPLES = os.path.join(TOP, "examples")
 LONGEST_TEXT = 16_777_216
 MOST_CALLS = 4096
 
+# An insert, and a get behind it.
+INSERT_THEN_GET = """{"events":[
+    {"invoke":["insert",5,7],"process":0},{"answer":null,"process":0},
+    {"invoke":["get",5],"process":0},{"answer":7,"process":0}],"version":1}"""
+
+# What is told of a fault, or its second line.
 JSON = "wanted JSON in UTF-8\n"
 LENGTH = "wanted at most 16777216 bytes\n"
+OTHER_TOP_LEVEL = 'history: 3 Version\nwanted {"version":1,"events":[..]} or {"version":2,"start":[..],"events":[..]}\n'
+NO_PLAN = (
+    'plan: 7 Shape\nwanted {"version":1,"scripts":[[C,..],..]}; C is ["get",K], ["insert",K,V], ["remove",K], ["scan",LO,HI] '
+    'with LO <= HI, or in version 2 ["replace",K,OLD,NEW]; keys are from 0 to 4294967295, values from 0 to 1073741823\n'
+)
 TOO_MANY_CALLS = (
     "plan: 3 TooMany\nwanted 1 to 64 scripts, at most 4096 calls in all, "
     "and to be done at most 4096 as scripts times the longest of them\n"

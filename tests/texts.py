@@ -10,10 +10,11 @@ the same. The last line counts what passed and failed.
 import sys
 
 sys.dont_write_bytecode = True
-from rows import JSON, LENGTH, LONGEST_TEXT, MOST_CALLS, compare, gets, history, pairs_listed, spaced  # noqa: E402
+from rows import (  # noqa: E402
+    INSERT_THEN_GET, JSON, LENGTH, LONGEST_TEXT, MOST_CALLS, OTHER_TOP_LEVEL, compare, gets, history, pairs_listed, spaced,
+)
 
 # What is said behind the line of a fault.
-TOP = 'wanted {"version":1,"events":[..]} or {"version":2,"start":[..],"events":[..]}\n'
 EVENT = (
     'wanted {"process":P,"invoke":C} or {"process":P,"answer":A}; C is ["get",K], ["insert",K,V], ["remove",K], ["scan",LO,HI] '
     'with LO <= HI, or in version 2 ["replace",K,OLD,NEW]; A is null, V, [[K,V],..] or "refused"; '
@@ -26,10 +27,6 @@ START = 'wanted {"version":2,"start":[[K,V],..]}\n'
 PROCESSES = "wanted processes from 0 to 65535, and fewer than 18446744073709551615 lines\n"
 LONGEST_LINE = 1_048_576
 LINE_LENGTH = "wanted at most 1048576 bytes\n"
-
-INSERT_THEN_GET = """{"events":[
-    {"invoke":["insert",5,7],"process":0},{"answer":null,"process":0},
-    {"invoke":["get",5],"process":0},{"answer":7,"process":0}],"version":1}"""
 
 # Texts of another top level.
 OTHER_TOP_LEVELS = [
@@ -139,7 +136,7 @@ def refused_texts():
     for text in (b'{"events":[],"version":1}\xff', b'"\xff"', b"[" * 100_000):
         yield text, "history: 2 NotJson\n" + JSON
     for text in (*OTHER_TOP_LEVELS, "[" * 100 + "]" * 100):
-        yield text, "history: 3 Version\n" + TOP
+        yield text, OTHER_TOP_LEVEL
     for event in OTHER_FORMS:
         yield history(event), f"history: 4 Shape at event 0\nfound {event}; {EVENT}"
     for events, told in OTHER_EVENTS:
@@ -224,7 +221,7 @@ def refused_streams():
     yield f"{ONE_EVENT}\n{NO_PAIRS}\n", f"stream: line 2: 4 Shape\nfound {NO_PAIRS}; {EVENT}"
     replace = '{"invoke":["replace",1,2,3],"process":65536}'
     yield f"{NO_PAIRS}\n{replace}\n", f"stream: line 2: 5 TooMany\nfound {replace}; {PROCESSES}"
-    for text, line in ((b'"\xff"\n', 1), (ONE_EVENT.encode() + b'\n"\xff"\n', 2)):
+    for text, line in ((b'"\xff"\n', 1), *((front.encode() + b'\n"\xff"\n', 2) for front in (ONE_EVENT, NO_PAIRS))):
         yield text, f'stream: line {line}: 2 NotJson\nfound "?"; {JSON}'
     yield (
         '{"invoke":["get",5],"process":0}\n{"answer":null,"process":1}\n',

@@ -165,12 +165,3 @@ pub fn gets(alloc: Global, count: u64) -> Result<String, AllocError> {
     }
     Ok(events)
 }
-
-/// The text of no events, with spaces up to so many bytes.
-pub fn spaced(alloc: Global, len: usize) -> Result<Vec<u8>, AllocError> {
-    let mut text = Vec::from_slice(alloc, br#"{"events":[],"version":1}"#)?;
-    for _ in text.len()..len {
-        text.push(b' ')?;
-    }
-    Ok(text)
-}
