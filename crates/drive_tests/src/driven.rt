@@ -42,11 +42,17 @@ fn answered_get(history: &History, key: u64) -> Option<(usize, usize, u64)> {
     None
 }
 
+/// Two processes that meet: the first two, or the last two of as many as there may be.
+static FIRST_TWO: &str = r#"{"scripts":[[["get",0],["get",2]],[["get",1]]],"version":1}"#;
+
+static LAST_TWO: &str =
+    r#"{"scripts":[[],[],[],[],[],[],[],[],[],[],[],[],[],[],[],[],[],[],[],[],[],[],[],[],[],[],[],[],[],[],[],[],[],[],[],[],[],[],[],[],[],[],[],[],[],[],[],[],[],[],[],[],[],[],[],[],[],[],[],[],[],[],[["get",0],["get",2]],[["get",1]]],"version":1}"#;
+
 #[test]
 fn two_subject_calls(rt: HostRuntime) -> Result<(), Fail> {
     let alloc = rt.alloc();
-    let text = r#"{"scripts":[[["get",0],["get",2]],[["get",1]]],"version":1}"#;
     for round in 0..100 {
+        let text = if round < 50 { FIRST_TWO } else { LAST_TWO };
         let subject = Meeting::new();
         let history = driven(&rt, alloc, text, &subject)?;
         assert_eq!(rt; subject.met(), 2, "both have seen the other, round {round}");
