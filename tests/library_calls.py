@@ -12,7 +12,7 @@ TOP = os.path.dirname(os.path.dirname(os.path.abspath(__file__)))
 sys.dont_write_bytecode = True
 sys.path.insert(0, os.path.join(TOP, "examples", "library"))
 from own_map import Potzendai  # noqa: E402
-from rows import LONG  # noqa: E402
+from rows import LONG, MOST_PAIRS, scan_from_pairs, started  # noqa: E402
 
 
 def texts():
@@ -27,7 +27,8 @@ def main():
     potzendai = Potzendai(os.path.abspath(sys.argv[1]))
     program = os.path.join(TOP, "crates", "bench", "out", "bench")
     passed = failed = 0
-    for name, text in [*texts(), ("no text", b""), ("no JSON", b"\xff{")]:
+    scans = [(f"a scan of {listed} pairs", started(*scan_from_pairs(MOST_PAIRS, listed)).encode()) for listed in (MOST_PAIRS, 0)]
+    for name, text in [*texts(), *scans, ("no text", b""), ("no JSON", b"\xff{")]:
         for word in ("judge", "locate", "explain", "draw", "follow"):
             for budget in (1, 3, 100_000, 1_000_000):
                 words = [word, "--budget", str(budget), *(["--calls", "0"] if word == "draw" else [])]

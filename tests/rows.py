@@ -9,6 +9,7 @@ PROGRAM = os.path.join(TOP, "crates", "bench", "out", "bench")
 EXAMPLES = os.path.join(TOP, "examples")
 LONGEST_TEXT = 16_777_216
 MOST_CALLS = 4096
+MOST_PAIRS = 4096
 
 # An insert, and a get behind it.
 INSERT_THEN_GET = """{"events":[
@@ -127,6 +128,17 @@ def scans_of_inserts(keys, scans):
     """Inserts at so many keys, and then so many scans that list them all."""
     scan = f'{{"invoke":["scan",0,9000],"process":0}},{{"answer":[{pairs_listed(keys)}],"process":0}}'
     return ",".join([inserts(keys), *[scan] * scans])
+
+
+def scan_from_pairs(count, listed):
+    """The starting pairs of 1 at the keys below a count, and the events of a scan of all of them that lists so many of them."""
+    events = f'{{"invoke":["scan",0,{count - 1}],"process":0}},{{"answer":[{pairs_listed(listed)}],"process":0}}'
+    return pairs_listed(count), events
+
+
+def started(pairs, events):
+    """The text of a history, of its starting pairs and its events."""
+    return f'{{"events":[{events}],"start":[{pairs}],"version":2}}'
 
 
 def spaced(text, length):

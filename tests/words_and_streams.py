@@ -23,6 +23,7 @@ EXAMPLES = os.path.join(TOP, "examples")
 ORDERED = os.path.join(EXAMPLES, "insert-then-get.json")
 CUT_SHORT = os.path.join(EXAMPLES, "cut-short.json")
 OVERLAPPING = os.path.join(EXAMPLES, "get-overlaps-insert-stream.json")
+MISSED = os.path.join(EXAMPLES, "get-misses-insert-stream.json")
 FULL = "/dev/full"
 MOST_CALLS = 4096
 LITTLE_STACK = 256 * 1024
@@ -132,6 +133,19 @@ def run(words, source, output=subprocess.PIPE, error=subprocess.PIPE, before=Non
     return ran.returncode, ran.stdout or b"", ran.stderr or b""
 
 
+def before_the_end(words, text):
+    """The same, where the program reads this text from a pipe that stays open: it has to end by itself."""
+    source, kept_open = os.pipe()
+    os.write(kept_open, text)
+    try:
+        return run(words, source)
+    except subprocess.TimeoutExpired:
+        return None, b"", b""
+    finally:
+        os.close(source)
+        os.close(kept_open)
+
+
 def on_terminal(words, lines, pause):
     """The same of a program whose standard error is a terminal, and that reads its last line after a pause."""
     terminal, error = pty.openpty()
@@ -206,6 +220,12 @@ def runs(folder):
     yes = rb'\{"calls":2,"overlap":1,"verdict":"yes"\}\n'
     yield "a slow stream", on_terminal(["follow"], lines, 1.1), (0, yes, rb"2 calls, [0-2] a second, 0 left\n")
     yield "a fast stream", on_terminal(["follow"], lines, 0), (0, yes, NOTHING)
+
+    with open(MISSED, "rb") as source:
+        missed = source.read()
+    answer = rb'\{"call":2,"calls":\[2\],"event":4,[^\n]*\n[^\n]+\n'
+    yield "a stream that goes wrong before it ends", before_the_end(["follow"], missed), (1, answer, NOTHING)
+    yield "a line that is none in a stream that goes on", before_the_end(["follow"], b"[]\n"), (3, NOTHING, rb"([^\n]+\n)+")
 
     unreadable = os.open(EXAMPLES, os.O_RDONLY)
     yield "input that is a folder", run(["check"], unreadable), (6, NOTHING, rb"io\n")

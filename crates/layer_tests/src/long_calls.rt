@@ -7,6 +7,7 @@ use cutter::cut;
 use events::{Call, Event, History, MAX_CALLS, MAX_PAIRS, Pairs, Reply};
 use map_object::SortedMap;
 use memo::Memo;
+use search::{Turn, Walk};
 use segments::Segment;
 use std::alloc::Global;
 use std::process::Abort;
@@ -32,7 +33,7 @@ fn a_long_order_is_checked(rt: HostRuntime) -> Result<(), Fail> {
 }
 
 #[test]
-fn a_long_segment_is_copied(rt: HostRuntime) -> Result<(), Fail> {
+fn a_long_segment_is_copied_and_searched_turn_by_turn(rt: HostRuntime) -> Result<(), Fail> {
     let alloc = rt.alloc();
     let Some(whole) = Segment::whole(alloc, &inserts_then_scan(alloc)?)? else {
         return Err(Fail::new("no call belongs to a segment"));
@@ -40,6 +41,8 @@ fn a_long_segment_is_copied(rt: HostRuntime) -> Result<(), Fail> {
     let copy = whole.copy(alloc)?;
     assert!(rt; copy.numbers().len() == MAX_CALLS);
     assert!(rt; copy.lo() == 0 && copy.hi() == 9000);
+    let first = Walk::open(alloc, &whole, 1000)?.turn(alloc)?;
+    assert!(rt; matches!(first, Turn::Going(walk) if walk.len() == 2));
     Ok(())
 }
 
