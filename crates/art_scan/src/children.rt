@@ -107,6 +107,7 @@ pub struct WalkedByte {
 }
 
 /// The next byte of a frame that is walked.
+#[inline(always)]
 fn next_walked(low: u64, high: u64, frame: &Frame) -> Option<WalkedByte>
     requires { is_sound_frame frame.now ≡ true }
     ensures next { (w : Walk) (other : ScanAt) → frame_at frame.now.row.kind low high w frame.now other

@@ -50,6 +50,7 @@ impl Lists {
     }
 
     /// The room for a row, a pair and a row on the way.
+    #[inline(always)]
     pub fn reserve(&mut self) -> Result<(), Memory>
         ensures room { OnOk result (HasRoomForOneMore self.new) }
         ensures same { walk_of self.new ≡ walk_of self.old }

@@ -23,17 +23,33 @@ fn least_among(word: u64, count: u32, byte: u32, place: u32, found: KeyPlace) ->
     ensures place { result.byte < found.byte → place_of result.byte (low_bytes count word) ≡ Some (result.place - place) }
     ensures bare { (y : ℕ) → byte ≤ y → y < result.byte → place_of y (low_bytes count word) ≡ None }
 {
+    let mut least = found;
+    find_least(word, count, byte, place, &mut least);
+    least
+}
+
+/// It is found in place, so that what is left of the word is a loop.
+fn find_least(word: u64, count: u32, byte: u32, place: u32, found: &mut KeyPlace)
+    requires { place + count ≤ 16 }
+    ensures most { found.new.byte ≤ found.old.byte }
+    ensures same { found.old.byte ≤ found.new.byte → found.new ≡ found.old }
+    ensures from { found.new.byte < found.old.byte → byte ≤ found.new.byte }
+    ensures few { found.old.place < 16 → found.new.place < 16 }
+    ensures later { found.new.byte < found.old.byte → place ≤ found.new.place }
+    ensures place { found.new.byte < found.old.byte → place_of found.new.byte (low_bytes count word) ≡ Some (found.new.place - place) }
+    ensures bare { (y : ℕ) → byte ≤ y → y < found.new.byte → place_of y (low_bytes count word) ≡ None }
+{
     if count == 0 {
-        return found;
+        return;
     }
     let key = (word % 256) as u32;
     if key < byte {
-        least_among(word / 256, count - 1, byte, place + 1, found)
+        find_least(word / 256, count - 1, byte, place + 1, found);
     } else if found.byte <= key {
-        least_among(word / 256, count - 1, byte, place + 1, found)
+        find_least(word / 256, count - 1, byte, place + 1, found);
     } else {
-        let nearer = KeyPlace { byte: key, place };
-        least_among(word / 256, count - 1, byte, place + 1, nearer)
+        *found = KeyPlace { byte: key, place };
+        find_least(word / 256, count - 1, byte, place + 1, found);
     }
 }
 

@@ -48,6 +48,7 @@ impl Scanning {
     }
 
     /// Takes the room that the next access may want.
+    #[inline(always)]
     pub fn ready(&mut self, alloc: Global) -> Result<(), Memory>
         ensures low { low_of self.new ≡ low_of self.old }
         ensures high { high_of self.new ≡ high_of self.old }

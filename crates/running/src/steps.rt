@@ -84,6 +84,7 @@ impl Runner {
     }
 
     /// One step of the open call: an access, or the stamp of its response. Where memory is wanting nothing has changed.
+    #[inline(always)]
     fn step(
         &mut self,
         alloc: Global,

@@ -1,4 +1,0 @@
-use Rattle.art_scan.proofs.next_keys.+least_among.Given as goal
-
-abbrev pub decreases-least_among : goal.decreases-least_among
-decreases-least_among l = l.count
