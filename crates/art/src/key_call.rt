@@ -4,7 +4,7 @@ ghost use Rattle.art_stages.specs.Stages.{reply_for};
 ghost use Rattle.art_setting.specs.Sound.{is_sound};
 
 use art_access::{access_at, point_at};
-use art_after::stage_after;
+use art_after::make_stage;
 use art_setting::Setting;
 use art_stages::{Outcome, Stage};
 use art_steps::{Access, Point};
@@ -55,7 +55,7 @@ impl KeyCall {
         ensures next { self.new.stage ≡ stage_behind (setting_of setting.now) self.old.stage got }
         ensures reply { reply_of (turn_at (setting_of setting.now) self.new.stage) ≡ result }
     {
-        self.stage = stage_after(setting, &self.stage, got);
+        make_stage(setting, &mut self.stage, got);
         match self.stage {
             Stage::Over { outcome } => Some(reply_with(outcome)),
             _ => None,

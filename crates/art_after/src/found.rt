@@ -27,23 +27,27 @@ use art_setting::{Setting, child_slot, is_full, key_among};
 use art_stages::{Down, Finding, Held, Hold, Keys, Outcome, Pair, Position, Stage, Target, Work};
 
 /// Where a get or remove that locks is once FIND is done.
-fn seek_locked(setting: &Setting, row: Held, finding: Finding) -> Stage
-    ensures stage { result ≡ seek_coupled (releases_early setting.now.variant) (setting_of setting.now) row finding }
-    ensures sound { is_sound result ≡ true }
+fn seek_locked(setting: &Setting, row: Held, finding: Finding, stage: &mut Stage)
+    ensures stage { stage.new ≡ seek_coupled (releases_early setting.now.variant) (setting_of setting.now) row finding }
+    ensures sound { is_sound stage.new ≡ true }
 {
     match finding {
-        Finding::Lacks { .. } => unlocked(row, None),
+        Finding::Lacks { .. } => unlocked(row, None, stage),
+
         Finding::Has { slot, child } => match child {
-            Child::Empty => unlocked(row, None),
-            Child::Row { base, kind } => leave(setting, down_from(row, slot, base, kind)),
+            Child::Empty => unlocked(row, None, stage),
+
+            Child::Row { base, kind } => leave(setting, down_from(row, slot, base, kind), stage),
+
             Child::Leaf { key, value } => {
                 if key == setting.call.key() {
                     match setting.call.overwriting(value) {
-                        Some(word) => write(row, slot, word, Some(value)),
-                        None => unlocked(row, Some(value)),
+                        Some(word) => write(row, slot, word, Some(value), stage),
+
+                        None => unlocked(row, Some(value), stage),
                     }
                 } else {
-                    unlocked(row, None)
+                    unlocked(row, None, stage);
                 }
             }
         },
@@ -51,44 +55,47 @@ fn seek_locked(setting: &Setting, row: Held, finding: Finding) -> Stage
 }
 
 /// On to a row below, which is locked before the row above is unlocked, or after it.
-fn leave(setting: &Setting, down: Down) -> Stage
-    ensures stage { result ≡ (if releases_early setting.now.variant then Leave down else Lock (BelowRow down) true) }
-    ensures sound { is_sound result ≡ true }
+fn leave(setting: &Setting, down: Down, stage: &mut Stage)
+    ensures stage { stage.new ≡ (if releases_early setting.now.variant then Leave down else Lock (BelowRow down) true) }
+    ensures sound { is_sound stage.new ≡ true }
 {
     if setting.releases_early() {
-        Stage::Leave { down }
+        *stage = Stage::Leave { down };
     } else {
-        Stage::Lock {
+        *stage = Stage::Lock {
             target: Target::Below { down },
             first: true,
-        }
+        };
     }
 }
 
 /// Where a get or remove that does not lock is once FIND is done and its row is checked.
-fn seek_free(setting: &Setting, row: Held, finding: Finding) -> Stage
-    ensures stage { result ≡ seek_unlocked (setting_of setting.now) row finding }
-    ensures sound { is_sound result ≡ true }
+fn seek_free(setting: &Setting, row: Held, finding: Finding, stage: &mut Stage)
+    ensures stage { stage.new ≡ seek_unlocked (setting_of setting.now) row finding }
+    ensures sound { is_sound stage.new ≡ true }
 {
     match finding {
-        Finding::Lacks { .. } => over(None),
+        Finding::Lacks { .. } => over(None, stage),
+
         Finding::Has { slot, child } => match child {
-            Child::Empty => over(None),
-            Child::Row { base, kind } => wait_below(down_from(row, slot, base, kind)),
+            Child::Empty => over(None, stage),
+
+            Child::Row { base, kind } => wait_below(down_from(row, slot, base, kind), stage),
+
             Child::Leaf { key, value } => {
                 if key == setting.call.key() {
-                    overwrite(setting, row, slot, value)
+                    overwrite(setting, row, slot, value, stage);
                 } else {
-                    over(None)
+                    over(None, stage);
                 }
             }
         },
     }
 }
 
-fn overwrite(setting: &Setting, row: Held, slot: usize, value: u32) -> Stage
-    ensures stage { result ≡ overwrite_unlocked (setting_of setting.now) row slot value (overwriting setting.now.call value) }
-    ensures sound { is_sound result ≡ true }
+fn overwrite(setting: &Setting, row: Held, slot: usize, value: u32, stage: &mut Stage)
+    ensures stage { stage.new ≡ overwrite_unlocked (setting_of setting.now) row slot value (overwriting setting.now.call value) }
+    ensures sound { is_sound stage.new ≡ true }
 {
     match setting.call.overwriting(value) {
         Some(word) => take_alone(
@@ -99,8 +106,10 @@ fn overwrite(setting: &Setting, row: Held, slot: usize, value: u32) -> Stage
                 word,
                 reply: Some(value),
             },
+            stage,
         ),
-        None => over(Some(value)),
+
+        None => over(Some(value), stage),
     }
 }
 
@@ -134,27 +143,30 @@ fn pair_work(setting: &Setting, slot: usize, key: u32, value: u32) -> Work
 }
 
 /// Where an insert that locks is once FIND is done and the row above is unlocked.
-fn insert_locked(setting: &Setting, row: Held, finding: Finding) -> Stage
+fn insert_locked(setting: &Setting, row: Held, finding: Finding, stage: &mut Stage)
     requires { is_sound_finding finding ≡ true }
-    ensures stage { result ≡ insert_coupled (setting_of setting.now) row finding }
-    ensures sound { is_sound result ≡ true }
+    ensures stage { stage.new ≡ insert_coupled (setting_of setting.now) row finding }
+    ensures sound { is_sound stage.new ≡ true }
 {
     let hold = Hold { row, above: None };
     match finding {
-        Finding::Lacks { keys } => begin_work(setting, hold, Work::Put { keys }),
+        Finding::Lacks { keys } => begin_work(setting, hold, Work::Put { keys }, stage),
+
         Finding::Has { slot, child } => match child {
-            Child::Empty => begin_work(setting, hold, leaf_work(setting, slot, None)),
-            Child::Row { base, kind } => Stage::Lock {
+            Child::Empty => begin_work(setting, hold, leaf_work(setting, slot, None), stage),
+
+            Child::Row { base, kind } => *stage = Stage::Lock {
                 target: Target::Below {
                     down: down_from(row, slot, base, kind),
                 },
                 first: true,
             },
+
             Child::Leaf { key, value } => {
                 if key == setting.call.key() {
-                    begin_work(setting, hold, leaf_work(setting, slot, Some(value)))
+                    begin_work(setting, hold, leaf_work(setting, slot, Some(value)), stage);
                 } else {
-                    begin_work(setting, hold, pair_work(setting, slot, key, value))
+                    begin_work(setting, hold, pair_work(setting, slot, key, value), stage);
                 }
             }
         },
@@ -162,14 +174,22 @@ fn insert_locked(setting: &Setting, row: Held, finding: Finding) -> Stage
 }
 
 /// The same before the row above is unlocked.
-fn let_go(setting: &Setting, row: Held, above: Option<Held>, slot: usize, finding: Finding) -> Stage
+fn let_go(
+    setting: &Setting,
+    row: Held,
+    above: Option<Held>,
+    slot: usize,
+    finding: Finding,
+    stage: &mut Stage,
+)
     requires { is_sound_finding finding ≡ true }
-    ensures stage { result ≡ let_go_at (setting_of setting.now) row above slot finding }
-    ensures sound { is_sound result ≡ true }
+    ensures stage { stage.new ≡ let_go_at (setting_of setting.now) row above slot finding }
+    ensures sound { is_sound stage.new ≡ true }
 {
     match above {
-        None => insert_locked(setting, row, finding),
-        Some(above) => Stage::LetGo {
+        None => insert_locked(setting, row, finding, stage),
+
+        Some(above) => *stage = Stage::LetGo {
             above,
             place: Position {
                 row,
@@ -182,120 +202,142 @@ fn let_go(setting: &Setting, row: Held, above: Option<Held>, slot: usize, findin
 }
 
 /// Where an insert that locks is once FIND is done.
-fn place_locked(setting: &Setting, place: Position, finding: Finding) -> Stage
+fn place_locked(setting: &Setting, place: Position, finding: Finding, stage: &mut Stage)
     requires { is_sound_finding finding ≡ true }
-    ensures stage { result ≡ place_coupled (setting_of setting.now) place finding }
-    ensures sound { is_sound result ≡ true }
+    ensures stage { stage.new ≡ place_coupled (setting_of setting.now) place finding }
+    ensures sound { is_sound stage.new ≡ true }
 {
     match finding {
-        Finding::Has { .. } => let_go(setting, place.row, place.above, place.slot, finding),
+        Finding::Has { .. } => let_go(setting, place.row, place.above, place.slot, finding, stage),
+
         Finding::Lacks { keys } => {
             if is_full(place.row.kind, keys) {
-                Stage::ClaimGrow {
+                *stage = Stage::ClaimGrow {
                     hold: Hold {
                         row: place.row,
                         above: place.above,
                     },
                     slot: place.slot,
                     keys,
-                }
+                };
             } else {
-                let_go(setting, place.row, place.above, place.slot, finding)
+                let_go(setting, place.row, place.above, place.slot, finding, stage);
             }
         }
     }
 }
 
 /// Where an insert that does not lock is once its row is full.
-fn grow_free(setting: &Setting, row: Held, above: Option<Held>, slot: usize, keys: Keys) -> Stage
-    ensures stage { result ≡ grow_unlocked (setting_of setting.now) row above slot keys }
-    ensures sound { is_sound result ≡ true }
+fn grow_free(
+    setting: &Setting,
+    row: Held,
+    above: Option<Held>,
+    slot: usize,
+    keys: Keys,
+    stage: &mut Stage,
+)
+    ensures stage { stage.new ≡ grow_unlocked (setting_of setting.now) row above slot keys }
+    ensures sound { is_sound stage.new ≡ true }
 {
     match above {
-        None => take_alone(setting, row, Work::Grow { slot, keys }),
-        Some(above) => take_above(setting, above, row, Work::Grow { slot, keys }),
+        None => take_alone(setting, row, Work::Grow { slot, keys }, stage),
+
+        Some(above) => take_above(setting, above, row, Work::Grow { slot, keys }, stage),
     }
 }
 
 /// Where an insert that does not lock is once FIND is done and its row is checked.
-fn insert_free(setting: &Setting, place: Position, finding: Finding) -> Stage
+fn insert_free(setting: &Setting, place: Position, finding: Finding, stage: &mut Stage)
     requires { is_sound_finding finding ≡ true }
-    ensures stage { result ≡ insert_unlocked (setting_of setting.now) place finding }
-    ensures sound { is_sound result ≡ true }
+    ensures stage { stage.new ≡ insert_unlocked (setting_of setting.now) place finding }
+    ensures sound { is_sound stage.new ≡ true }
 {
     let row = place.row;
     match finding {
         Finding::Lacks { keys } => {
             if is_full(row.kind, keys) {
-                grow_free(setting, row, place.above, place.slot, keys)
+                grow_free(setting, row, place.above, place.slot, keys, stage);
             } else {
-                take_alone(setting, row, Work::Put { keys })
+                take_alone(setting, row, Work::Put { keys }, stage);
             }
         }
         Finding::Has { slot, child } => match child {
-            Child::Empty => take_alone(setting, row, leaf_work(setting, slot, None)),
-            Child::Row { base, kind } => wait_below(down_from(row, slot, base, kind)),
-            Child::Leaf { key, value } => insert_at_leaf(setting, row, slot, key, value),
+            Child::Empty => take_alone(setting, row, leaf_work(setting, slot, None), stage),
+
+            Child::Row { base, kind } => wait_below(down_from(row, slot, base, kind), stage),
+
+            Child::Leaf { key, value } => insert_at_leaf(setting, row, slot, key, value, stage),
         },
     }
 }
 
 /// The same where FIND has found a leaf.
-fn insert_at_leaf(setting: &Setting, row: Held, slot: usize, key: u32, value: u32) -> Stage
+fn insert_at_leaf(
+    setting: &Setting,
+    row: Held,
+    slot: usize,
+    key: u32,
+    value: u32,
+    stage: &mut Stage,
+)
     requires { is_small_child (Leaf key value) ≡ true }
-    ensures stage { result ≡ insert_unlocked (setting_of setting.now) (record { row = row; above = None; slot = 0 })
+    ensures stage { stage.new ≡ insert_unlocked (setting_of setting.now) (record { row = row; above = None; slot = 0 })
         (Has slot (Leaf key value)) }
-    ensures sound { is_sound result ≡ true }
+    ensures sound { is_sound stage.new ≡ true }
 {
     if key == setting.call.key() {
-        take_alone(setting, row, leaf_work(setting, slot, Some(value)))
+        take_alone(setting, row, leaf_work(setting, slot, Some(value)), stage);
     } else if key_difference(key, setting.call.key()) <= info_level(row.kind, row.info) {
-        Stage::Wait {
+        *stage = Stage::Wait {
             target: Target::Root,
-        }
+        };
     } else {
-        take_alone(setting, row, pair_work(setting, slot, key, value))
+        take_alone(setting, row, pair_work(setting, slot, key, value), stage);
     }
 }
 
 /// Where a call is once FIND is done and its row is checked, where its variant checks it.
-pub(crate) fn found(setting: &Setting, place: &Position, finding: &Finding) -> Stage
+pub(crate) fn found(setting: &Setting, place: &Position, finding: &Finding, stage: &mut Stage)
     requires { is_sound_finding finding.now ≡ true }
-    ensures stage { result ≡ after_found (setting_of setting.now) place.now finding.now }
-    ensures sound { is_sound result ≡ true }
+    ensures stage { stage.new ≡ after_found (setting_of setting.now) place.now finding.now }
+    ensures sound { is_sound stage.new ≡ true }
 {
     match (setting.locks(), setting.is_insert()) {
-        (true, false) => seek_locked(setting, place.row, *finding),
-        (true, true) => place_locked(setting, *place, *finding),
-        (false, false) => seek_free(setting, place.row, *finding),
-        (false, true) => insert_free(setting, *place, *finding),
+        (true, false) => seek_locked(setting, place.row, *finding, stage),
+
+        (true, true) => place_locked(setting, *place, *finding, stage),
+
+        (false, false) => seek_free(setting, place.row, *finding, stage),
+
+        (false, true) => insert_free(setting, *place, *finding, stage),
     }
 }
 
 /// Where a call is once FIND is done.
-pub(crate) fn checked(setting: &Setting, place: &Position, finding: Finding) -> Stage
+pub(crate) fn checked(setting: &Setting, place: &Position, finding: Finding, stage: &mut Stage)
     requires { is_sound_finding finding ≡ true }
-    ensures stage { result ≡ after_finding (setting_of setting.now) place.now finding }
-    ensures sound { is_sound result ≡ true }
+    ensures stage { stage.new ≡ after_finding (setting_of setting.now) place.now finding }
+    ensures sound { is_sound stage.new ≡ true }
 {
     if setting.locks() || setting.leaves_out_check() {
-        found(setting, place, &finding)
+        found(setting, place, &finding, stage);
     } else {
-        Stage::Check {
+        *stage = Stage::Check {
             place: *place,
             finding,
-        }
+        };
     }
 }
 
 /// Where a call is once the key words of its row are loaded.
-pub(crate) fn among(setting: &Setting, place: &Position, keys: Keys) -> Stage
-    ensures stage { result ≡ after_words (setting_of setting.now) place.now keys }
-    ensures sound { is_sound result ≡ true }
+pub(crate) fn among(setting: &Setting, place: &Position, keys: Keys, stage: &mut Stage)
+    ensures stage { stage.new ≡ after_words (setting_of setting.now) place.now keys }
+    ensures sound { is_sound stage.new ≡ true }
 {
     match key_among(place.row.kind, keys, setting.byte(place.row)) {
-        None => checked(setting, place, Finding::Lacks { keys }),
-        Some(i) => Stage::Slot {
+        None => checked(setting, place, Finding::Lacks { keys }, stage),
+
+        Some(i) => *stage = Stage::Slot {
             place: *place,
             slot: child_slot(place.row.kind, place.row.base, i),
         },
@@ -303,22 +345,22 @@ pub(crate) fn among(setting: &Setting, place: &Position, keys: Keys) -> Stage
 }
 
 /// Where a call is once the index word of its byte is loaded.
-fn indexed(setting: &Setting, place: &Position, index: u64) -> Stage
+fn indexed(setting: &Setting, place: &Position, index: u64, stage: &mut Stage)
     requires { place.now.row.kind ≡ Kind.FortyEight }
-    ensures stage { result ≡ after_index (setting_of setting.now) place.now index }
-    ensures sound { is_sound result ≡ true }
+    ensures stage { stage.new ≡ after_index (setting_of setting.now) place.now index }
+    ensures sound { is_sound stage.new ≡ true }
 {
     let entry = index_entry(index, setting.byte(place.row));
     if entry != 0 {
-        Stage::Slot {
+        *stage = Stage::Slot {
             place: *place,
             slot: child_slot(Kind::FortyEight, place.row.base, entry - 1),
-        }
+        };
     } else if setting.is_insert() {
-        Stage::FindCount {
+        *stage = Stage::FindCount {
             place: *place,
             index,
-        }
+        };
     } else {
         checked(
             setting,
@@ -326,34 +368,38 @@ fn indexed(setting: &Setting, place: &Position, index: u64) -> Stage
             Finding::Lacks {
                 keys: keys_one(index),
             },
-        )
+            stage,
+        );
     }
 }
 
 /// Where a call is once the first word of FIND is loaded.
-pub(crate) fn find(setting: &Setting, place: &Position, got: u64) -> Stage
-    ensures stage { result ≡ after_first (setting_of setting.now) place.now got }
-    ensures sound { is_sound result ≡ true }
+pub(crate) fn find(setting: &Setting, place: &Position, got: u64, stage: &mut Stage)
+    ensures stage { stage.new ≡ after_first (setting_of setting.now) place.now got }
+    ensures sound { is_sound stage.new ≡ true }
 {
     match place.row.kind {
-        Kind::Four => among(setting, place, keys_one(got)),
-        Kind::Sixteen => Stage::FindKeys {
+        Kind::Four => among(setting, place, keys_one(got), stage),
+
+        Kind::Sixteen => *stage = Stage::FindKeys {
             place: *place,
             count: got,
         },
-        Kind::FortyEight => indexed(setting, place, got),
+
+        Kind::FortyEight => indexed(setting, place, got, stage),
+
         Kind::Full => {
             let slot = child_slot(Kind::Full, place.row.base, setting.byte(place.row));
             let child = setting.shape.child(got);
-            checked(setting, place, Finding::Has { slot, child })
+            checked(setting, place, Finding::Has { slot, child }, stage);
         }
     }
 }
 
 /// Where a call is once the row below its own is locked or waited for.
-fn arrived(setting: &Setting, down: &Down, kept: u64) -> Stage
-    ensures stage { result ≡ after_arrival (setting_of setting.now) down.now kept }
-    ensures sound { is_sound result ≡ true }
+fn arrived(setting: &Setting, down: &Down, kept: u64, stage: &mut Stage)
+    ensures stage { stage.new ≡ after_arrival (setting_of setting.now) down.now kept }
+    ensures sound { is_sound stage.new ≡ true }
 {
     let straight = if setting.locks() {
         setting.releases_early() || setting.is_insert()
@@ -361,19 +407,19 @@ fn arrived(setting: &Setting, down: &Down, kept: u64) -> Stage
         setting.leaves_out_check()
     };
     if straight {
-        Stage::Info { down: *down, kept }
+        *stage = Stage::Info { down: *down, kept };
     } else {
-        Stage::Between { down: *down, kept }
+        *stage = Stage::Between { down: *down, kept };
     }
 }
 
-pub(crate) fn entered(setting: &Setting, target: &Target, kept: u64) -> Stage
+pub(crate) fn entered(setting: &Setting, target: &Target, kept: u64, stage: &mut Stage)
     requires { is_sound_target target.now ≡ true }
-    ensures stage { result ≡ after_entry (setting_of setting.now) target.now kept }
-    ensures sound { is_sound result ≡ true }
+    ensures stage { stage.new ≡ after_entry (setting_of setting.now) target.now kept }
+    ensures sound { is_sound stage.new ≡ true }
 {
     match target {
-        Target::Root => Stage::Find {
+        Target::Root => *stage = Stage::Find {
             place: Position {
                 row: Held {
                     base: setting.shape.root() as u32,
@@ -385,15 +431,17 @@ pub(crate) fn entered(setting: &Setting, target: &Target, kept: u64) -> Stage
                 slot: setting.shape.root(),
             },
         },
-        Target::Below { down } => arrived(setting, down, kept),
-        Target::Taken { taking } => taken(setting, taking, kept),
+
+        Target::Below { down } => arrived(setting, down, kept, stage),
+
+        Target::Taken { taking } => taken(setting, taking, kept, stage),
     }
 }
 
 /// Where a call is once the info of the row below its own is loaded.
-pub(crate) fn below(setting: &Setting, down: &Down, kept: u64, info: u64) -> Stage
-    ensures stage { result ≡ after_info (setting_of setting.now) down.now (held down.now.base down.now.kind info kept) }
-    ensures sound { is_sound result ≡ true }
+pub(crate) fn below(setting: &Setting, down: &Down, kept: u64, info: u64, stage: &mut Stage)
+    ensures stage { stage.new ≡ after_info (setting_of setting.now) down.now (held down.now.base down.now.kind info kept) }
+    ensures sound { is_sound stage.new ≡ true }
 {
     let row = Held {
         base: down.base,
@@ -402,22 +450,23 @@ pub(crate) fn below(setting: &Setting, down: &Down, kept: u64, info: u64) -> Sta
         kept,
     };
     match path_difference(down.kind, info, setting.call.key()) {
-        None => Stage::Find {
+        None => *stage = Stage::Find {
             place: Position {
                 row,
                 above: Some(down.above),
                 slot: down.slot,
             },
         },
-        Some(level) => beside(setting, *down, row, level),
+
+        Some(level) => beside(setting, *down, row, level, stage),
     }
 }
 
 /// Where a call is once its key has turned out to differ at this level from the path of the row below its own.
-fn beside(setting: &Setting, down: Down, row: Held, level: u32) -> Stage
-    ensures stage { result ≡ below_at (locks setting.now.variant) (is_insert setting.now.call) (setting_of setting.now) down row
+fn beside(setting: &Setting, down: Down, row: Held, level: u32, stage: &mut Stage)
+    ensures stage { stage.new ≡ below_at (locks setting.now.variant) (is_insert setting.now.call) (setting_of setting.now) down row
         (Some level) }
-    ensures sound { is_sound result ≡ true }
+    ensures sound { is_sound stage.new ≡ true }
 {
     let pair = Pair {
         slot: down.slot,
@@ -429,72 +478,74 @@ fn beside(setting: &Setting, down: Down, row: Held, level: u32) -> Stage
         },
     };
     match (setting.locks(), setting.is_insert()) {
-        (true, false) => unlocked(row, None),
-        (true, true) => Stage::ClaimPair {
+        (true, false) => unlocked(row, None, stage),
+
+        (true, true) => *stage = Stage::ClaimPair {
             hold: Hold {
                 row,
                 above: Some(down.above),
             },
             pair,
         },
+
         (false, false) => {
             if setting.leaves_out_check() {
-                over(None)
+                over(None, stage);
             } else {
-                Stage::CheckLast { row }
+                *stage = Stage::CheckLast { row };
             }
         }
         (false, true) => {
             if level <= info_level(down.above.kind, down.above.info) {
-                Stage::Wait {
+                *stage = Stage::Wait {
                     target: Target::Root,
-                }
+                };
             } else {
-                take_alone(setting, down.above, Work::Pair { pair })
+                take_alone(setting, down.above, Work::Pair { pair }, stage);
             }
         }
     }
 }
 
 /// Where a call is that unlocks its row and then answers this value.
-fn unlocked(row: Held, value: Option<u32>) -> Stage
-    ensures stage { result ≡ UnlockAll (hold_alone row) (Some (Value value)) }
-    ensures sound { is_sound result ≡ true }
+fn unlocked(row: Held, value: Option<u32>, stage: &mut Stage)
+    ensures stage { stage.new ≡ UnlockAll (hold_alone row) (Some (Value value)) }
+    ensures sound { is_sound stage.new ≡ true }
 {
-    Stage::Unlock {
+    *stage = Stage::Unlock {
         hold: Hold { row, above: None },
         outcome: Some(Outcome::Value { value }),
-    }
+    };
 }
 
-pub(crate) fn over(value: Option<u32>) -> Stage
-    ensures stage { result ≡ Ended (Value value) }
-    ensures sound { is_sound result ≡ true }
+pub(crate) fn over(value: Option<u32>, stage: &mut Stage)
+    ensures stage { stage.new ≡ Ended (Value value) }
+    ensures sound { is_sound stage.new ≡ true }
 {
-    Stage::Over {
+    *stage = Stage::Over {
         outcome: Outcome::Value { value },
-    }
+    };
 }
 
-fn wait_below(down: Down) -> Stage
-    ensures stage { result ≡ WaitFor (BelowRow down) }
-    ensures sound { is_sound result ≡ true }
+fn wait_below(down: Down, stage: &mut Stage)
+    ensures stage { stage.new ≡ WaitFor (BelowRow down) }
+    ensures sound { is_sound stage.new ≡ true }
 {
-    Stage::Wait {
+    *stage = Stage::Wait {
         target: Target::Below { down },
-    }
+    };
 }
 
-fn write(row: Held, slot: usize, word: u64, reply: Option<u32>) -> Stage
-    ensures stage { result ≡ WriteTo (hold_alone row) slot word reply }
-    ensures sound { is_sound result ≡ true }
+fn write(row: Held, slot: usize, word: u64, reply: Option<u32>, stage: &mut Stage)
+    ensures stage { stage.new ≡ WriteTo (hold_alone row) slot word reply }
+    ensures sound { is_sound stage.new ≡ true }
 {
-    Stage::Write {
+    *stage = Stage::Write {
         hold: Hold { row, above: None },
         slot,
         word,
         reply,
-    }
+    };
 }
 
 fn down_from(above: Held, slot: usize, base: u32, kind: Kind) -> Down

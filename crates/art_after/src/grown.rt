@@ -8,141 +8,149 @@ use art_setting::count;
 use art_stages::{Growing, Spread, Stage};
 
 /// Where GROW is behind its row's info.
-pub(crate) fn fill(growing: &Growing) -> Stage
-    ensures stage { result ≡ fill_at growing.now.hold.row.kind growing.now }
-    ensures sound { is_sound result ≡ true }
+pub(crate) fn fill(growing: &Growing, stage: &mut Stage)
+    ensures stage { stage.new ≡ fill_at growing.now.hold.row.kind growing.now }
+    ensures sound { is_sound stage.new ≡ true }
 {
     match growing.hold.row.kind {
-        Kind::Four | Kind::Sixteen => copies(growing, count(growing.hold.row.kind, growing.keys)),
-        Kind::FortyEight => Stage::SpreadIndex {
+        Kind::Four | Kind::Sixteen => copies(
+            growing,
+            count(growing.hold.row.kind, growing.keys),
+            stage,
+        ),
+
+        Kind::FortyEight => *stage = Stage::SpreadIndex {
             growing: *growing,
             place: 0,
             left: 31,
         },
-        Kind::Full => Stage::Hang { growing: *growing },
+
+        Kind::Full => *stage = Stage::Hang { growing: *growing },
     }
 }
 
 /// Where GROW is with so many children to be copied.
 #[tactic(auto, using(crate::proofs::LoopLemmas::copies_none, crate::proofs::LoopLemmas::copies_some))]
-fn copies(growing: &Growing, left: u32) -> Stage
+fn copies(growing: &Growing, left: u32, stage: &mut Stage)
     requires { left ≤ 48 }
-    ensures stage { result ≡ copies_at growing.now 0 left }
-    ensures sound { is_sound result ≡ true }
+    ensures stage { stage.new ≡ copies_at growing.now 0 left }
+    ensures sound { is_sound stage.new ≡ true }
 {
     if left == 0 {
-        Stage::GrowLeaf { growing: *growing }
+        *stage = Stage::GrowLeaf { growing: *growing };
     } else {
-        Stage::GrowLoad {
+        *stage = Stage::GrowLoad {
             growing: *growing,
             place: 0,
             left: left - 1,
-        }
+        };
     }
 }
 
 /// Where GROW is with so many children to be copied behind this one.
 #[tactic(auto, using(crate::proofs::LoopLemmas::copies_none, crate::proofs::LoopLemmas::copies_some))]
-pub(crate) fn copied(growing: &Growing, place: u32, left: u32) -> Stage
+pub(crate) fn copied(growing: &Growing, place: u32, left: u32, stage: &mut Stage)
     requires { nat_le (place + left) 48 ≡ true }
-    ensures stage { result ≡ copies_at growing.now (place + 1) left }
-    ensures sound { is_sound result ≡ true }
+    ensures stage { stage.new ≡ copies_at growing.now (place + 1) left }
+    ensures sound { is_sound stage.new ≡ true }
 {
     if left == 0 {
-        Stage::GrowLeaf { growing: *growing }
+        *stage = Stage::GrowLeaf { growing: *growing };
     } else {
-        Stage::GrowLoad {
+        *stage = Stage::GrowLoad {
             growing: *growing,
             place: place + 1,
             left: left - 1,
-        }
+        };
     }
 }
 
 /// Where GROW is with so many index words to be spread behind this one.
 #[tactic(auto, using(crate::proofs::LoopLemmas::spreads_none, crate::proofs::LoopLemmas::spreads_some))]
-fn spreads(growing: &Growing, place: u32, left: u32) -> Stage
+fn spreads(growing: &Growing, place: u32, left: u32, stage: &mut Stage)
     requires { nat_le (place + left) 31 ≡ true }
-    ensures stage { result ≡ spreads_at growing.now (place + 1) left }
-    ensures sound { is_sound result ≡ true }
+    ensures stage { stage.new ≡ spreads_at growing.now (place + 1) left }
+    ensures sound { is_sound stage.new ≡ true }
 {
     if left == 0 {
-        Stage::GrowLeaf { growing: *growing }
+        *stage = Stage::GrowLeaf { growing: *growing };
     } else {
-        Stage::SpreadIndex {
+        *stage = Stage::SpreadIndex {
             growing: *growing,
             place: place + 1,
             left: left - 1,
-        }
+        };
     }
 }
 
 /// Where GROW is with so many entries of an index word to be spread, from this one on.
 #[tactic(auto, using(crate::proofs::LoopLemmas::entries_none, crate::proofs::LoopLemmas::entries_skip, crate::proofs::LoopLemmas::entries_some))]
-pub(crate) fn entries(spread: &Spread, entry: u32, left: u32) -> Stage
+pub(crate) fn entries(spread: &Spread, entry: u32, left: u32, stage: &mut Stage)
     requires words { nat_le (spread.now.place + spread.now.left) 31 ≡ true }
     requires few { entry + left ≤ 8 }
-    ensures stage { result ≡ entries_at spread.now entry left }
-    ensures sound { is_sound result ≡ true }
+    ensures stage { stage.new ≡ entries_at spread.now entry left }
+    ensures sound { is_sound stage.new ≡ true }
 {
     if left == 0 {
-        spreads(&spread.growing, spread.place, spread.left)
+        spreads(&spread.growing, spread.place, spread.left, stage);
     } else if entry_at(spread.word, entry) == 0 {
-        entries(spread, entry + 1, left - 1)
+        entries(spread, entry + 1, left - 1, stage);
     } else {
-        Stage::SpreadLoad {
+        *stage = Stage::SpreadLoad {
             spread: *spread,
             entry,
             after: left - 1,
-        }
+        };
     }
 }
 
 /// Where GROW is with so many entries of an index word to be spread behind this one.
-pub(crate) fn spread_on(spread: &Spread, entry: u32, after: u32) -> Stage
+pub(crate) fn spread_on(spread: &Spread, entry: u32, after: u32, stage: &mut Stage)
     requires words { nat_le (spread.now.place + spread.now.left) 31 ≡ true }
     requires few { nat_le (entry + after) 7 ≡ true }
-    ensures stage { result ≡ entries_at spread.now (entry + 1) after }
-    ensures sound { is_sound result ≡ true }
+    ensures stage { stage.new ≡ entries_at spread.now (entry + 1) after }
+    ensures sound { is_sound stage.new ≡ true }
 {
-    entries(spread, entry + 1, after)
+    entries(spread, entry + 1, after, stage);
 }
 
 /// Where GROW is behind the leaf of the key.
-pub(crate) fn leaf_stored(growing: &Growing) -> Stage
-    ensures stage { result ≡ leaf_after growing.now.hold.row.kind growing.now }
-    ensures sound { is_sound result ≡ true }
+pub(crate) fn leaf_stored(growing: &Growing, stage: &mut Stage)
+    ensures stage { stage.new ≡ leaf_after growing.now.hold.row.kind growing.now }
+    ensures sound { is_sound stage.new ≡ true }
 {
     match growing.hold.row.kind {
-        Kind::Four => Stage::GrowKeys {
+        Kind::Four => *stage = Stage::GrowKeys {
             growing: *growing,
             place: 0,
             left: 1,
         },
-        Kind::Sixteen => Stage::GrowKeys {
+
+        Kind::Sixteen => *stage = Stage::GrowKeys {
             growing: *growing,
             place: 0,
             left: 31,
         },
-        Kind::FortyEight | Kind::Full => Stage::Hang { growing: *growing },
+
+        Kind::FortyEight | Kind::Full => *stage = Stage::Hang { growing: *growing },
     }
 }
 
 /// Where GROW is with so many key words or index words to be written behind this one.
 #[tactic(auto, using(crate::proofs::LoopLemmas::keys_none, crate::proofs::LoopLemmas::keys_some))]
-pub(crate) fn keys_stored(growing: &Growing, place: u32, left: u32) -> Stage
+pub(crate) fn keys_stored(growing: &Growing, place: u32, left: u32, stage: &mut Stage)
     requires kind { has_keys growing.now.hold.row.kind ≡ true }
     requires few { nat_le (place + left) 31 ≡ true }
-    ensures stage { result ≡ keys_at_after growing.now place left }
-    ensures sound { is_sound result ≡ true }
+    ensures stage { stage.new ≡ keys_at_after growing.now place left }
+    ensures sound { is_sound stage.new ≡ true }
 {
     if left == 0 {
-        Stage::GrowCount { growing: *growing }
+        *stage = Stage::GrowCount { growing: *growing };
     } else {
-        Stage::GrowKeys {
+        *stage = Stage::GrowKeys {
             growing: *growing,
             place: place + 1,
             left: left - 1,
-        }
+        };
     }
 }

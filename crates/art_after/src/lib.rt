@@ -6,4 +6,4 @@ mod found;
 mod grown;
 mod works;
 
-pub use after::stage_after;
+pub use after::make_stage;

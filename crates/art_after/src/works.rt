@@ -12,26 +12,26 @@ use art_setting::{Setting, count};
 use art_stages::{Held, Hold, Keys, Outcome, Stage, Taking, Target, Work};
 
 /// Where a call is that takes a row: it locks the row from the version that it kept, or in one variant from any.
-fn take_row(setting: &Setting, taking: Taking) -> Stage
+fn take_row(setting: &Setting, taking: Taking, stage: &mut Stage)
     requires { is_sound_work taking.work ≡ true }
-    ensures stage { result ≡ take_at (setting_of setting.now) taking }
-    ensures sound { is_sound result ≡ true }
+    ensures stage { stage.new ≡ take_at (setting_of setting.now) taking }
+    ensures sound { is_sound stage.new ≡ true }
 {
     if setting.takes_unchecked() {
-        Stage::Lock {
+        *stage = Stage::Lock {
             target: Target::Taken { taking },
             first: true,
-        }
+        };
     } else {
-        Stage::Take { taking }
+        *stage = Stage::Take { taking };
     }
 }
 
 /// Where a call is that takes its row for some work in it.
-pub(crate) fn take_alone(setting: &Setting, row: Held, work: Work) -> Stage
+pub(crate) fn take_alone(setting: &Setting, row: Held, work: Work, stage: &mut Stage)
     requires { is_sound_work work ≡ true }
-    ensures stage { result ≡ take_alone (setting_of setting.now) row work }
-    ensures sound { is_sound result ≡ true }
+    ensures stage { stage.new ≡ take_alone (setting_of setting.now) row work }
+    ensures sound { is_sound stage.new ≡ true }
 {
     take_row(
         setting,
@@ -41,14 +41,15 @@ pub(crate) fn take_alone(setting: &Setting, row: Held, work: Work) -> Stage
             below: None,
             work,
         },
-    )
+        stage,
+    );
 }
 
 /// Where a call is that takes a row, and then the row below it, for some work in both.
-pub(crate) fn take_above(setting: &Setting, above: Held, row: Held, work: Work) -> Stage
+pub(crate) fn take_above(setting: &Setting, above: Held, row: Held, work: Work, stage: &mut Stage)
     requires { is_sound_work work ≡ true }
-    ensures stage { result ≡ take_at (setting_of setting.now) (record { row = above; held = None; below = Some row; work = work }) }
-    ensures sound { is_sound result ≡ true }
+    ensures stage { stage.new ≡ take_at (setting_of setting.now) (record { row = above; held = None; below = Some row; work = work }) }
+    ensures sound { is_sound stage.new ≡ true }
 {
     take_row(
         setting,
@@ -58,15 +59,16 @@ pub(crate) fn take_above(setting: &Setting, above: Held, row: Held, work: Work) 
             below: Some(row),
             work,
         },
-    )
+        stage,
+    );
 }
 
 /// Where a call is once it has taken a row, with this version.
-pub(crate) fn taken(setting: &Setting, taking: &Taking, kept: u64) -> Stage
+pub(crate) fn taken(setting: &Setting, taking: &Taking, kept: u64, stage: &mut Stage)
     requires { is_sound_work taking.now.work ≡ true }
-    ensures stage { result ≡ taken_at (setting_of setting.now) taking.now.held taking.now.below taking.now.work
+    ensures stage { stage.new ≡ taken_at (setting_of setting.now) taking.now.held taking.now.below taking.now.work
         (record taking.now.row { kept = kept }) }
-    ensures sound { is_sound result ≡ true }
+    ensures sound { is_sound stage.new ≡ true }
 {
     let row = Held {
         base: taking.row.base,
@@ -83,7 +85,9 @@ pub(crate) fn taken(setting: &Setting, taking: &Taking, kept: u64) -> Stage
                 below: None,
                 work: taking.work,
             },
+            stage,
         ),
+
         None => begin_work(
             setting,
             Hold {
@@ -91,42 +95,49 @@ pub(crate) fn taken(setting: &Setting, taking: &Taking, kept: u64) -> Stage
                 above: taking.held,
             },
             taking.work,
+            stage,
         ),
     }
 }
 
 /// Where some work in held rows begins.
-pub(crate) fn begin_work(setting: &Setting, hold: Hold, work: Work) -> Stage
+pub(crate) fn begin_work(setting: &Setting, hold: Hold, work: Work, stage: &mut Stage)
     requires { is_sound_work work ≡ true }
-    ensures stage { result ≡ work_at (setting_of setting.now) hold work }
-    ensures sound { is_sound result ≡ true }
+    ensures stage { stage.new ≡ work_at (setting_of setting.now) hold work }
+    ensures sound { is_sound stage.new ≡ true }
 {
     match work {
-        Work::Write { slot, word, reply } => Stage::Write {
+        Work::Write { slot, word, reply } => *stage = Stage::Write {
             hold,
             slot,
             word,
             reply,
         },
-        Work::Pair { pair } => Stage::ClaimPair { hold, pair },
-        Work::Put { keys } => put(setting, hold, keys),
-        Work::Grow { slot, keys } => Stage::ClaimGrow { hold, slot, keys },
+
+        Work::Pair { pair } => *stage = Stage::ClaimPair { hold, pair },
+
+        Work::Put { keys } => put(setting, hold, keys, stage),
+
+        Work::Grow { slot, keys } => *stage = Stage::ClaimGrow { hold, slot, keys },
     }
 }
 
 /// Where PUT begins.
-fn put(setting: &Setting, hold: Hold, keys: Keys) -> Stage
-    ensures stage { result ≡ put_at hold.row.kind (setting_of setting.now) hold keys }
-    ensures sound { is_sound result ≡ true }
+fn put(setting: &Setting, hold: Hold, keys: Keys, stage: &mut Stage)
+    ensures stage { stage.new ≡ put_at hold.row.kind (setting_of setting.now) hold keys }
+    ensures sound { is_sound stage.new ≡ true }
 {
     match hold.row.kind {
         Kind::Four | Kind::Sixteen => moves(
             &hold,
             &keys,
             count(hold.row.kind, keys).saturating_sub(setting.place(hold, keys)),
+            stage,
         ),
-        Kind::FortyEight => Stage::PutLeaf { hold, keys },
-        Kind::Full => Stage::Unlock {
+
+        Kind::FortyEight => *stage = Stage::PutLeaf { hold, keys },
+
+        Kind::Full => *stage = Stage::Unlock {
             hold,
             outcome: Some(Outcome::Value { value: None }),
         },
@@ -134,42 +145,49 @@ fn put(setting: &Setting, hold: Hold, keys: Keys) -> Stage
 }
 
 /// Where a call is that has its outcome and still holds a row above, if any.
-pub(crate) fn release(setting: &Setting, above: &Option<Held>, outcome: Option<Outcome>) -> Stage
-    ensures stage { result ≡ release_at (locks setting.now.variant) above.now outcome }
-    ensures sound { is_sound result ≡ true }
+pub(crate) fn release(
+    setting: &Setting,
+    above: &Option<Held>,
+    outcome: Option<Outcome>,
+    stage: &mut Stage,
+)
+    ensures stage { stage.new ≡ release_at (locks setting.now.variant) above.now outcome }
+    ensures sound { is_sound stage.new ≡ true }
 {
     match above {
-        Some(row) => Stage::Unlock {
+        Some(row) => *stage = Stage::Unlock {
             hold: Hold {
                 row: *row,
                 above: None,
             },
             outcome,
         },
+
         None => match outcome {
-            Some(outcome) => Stage::Over { outcome },
-            None => setting.start(),
+            Some(outcome) => *stage = Stage::Over { outcome },
+
+            None => *stage = setting.start(),
         },
     }
 }
 
 /// Where PUT is with so many children still to be moved.
 #[tactic(auto, using(crate::proofs::LoopLemmas::moves_none, crate::proofs::LoopLemmas::moves_some))]
-pub(crate) fn moves(hold: &Hold, keys: &Keys, left: u32) -> Stage
+pub(crate) fn moves(hold: &Hold, keys: &Keys, left: u32, stage: &mut Stage)
     requires { has_keys hold.now.row.kind ≡ true }
-    ensures stage { result ≡ moves_at hold.now keys.now left }
-    ensures sound { is_sound result ≡ true }
+    ensures stage { stage.new ≡ moves_at hold.now keys.now left }
+    ensures sound { is_sound stage.new ≡ true }
 {
     if left == 0 {
-        Stage::PutLeaf {
+        *stage = Stage::PutLeaf {
             hold: *hold,
             keys: *keys,
-        }
+        };
     } else {
-        Stage::PutLoad {
+        *stage = Stage::PutLoad {
             hold: *hold,
             keys: *keys,
             left: left - 1,
-        }
+        };
     }
 }
