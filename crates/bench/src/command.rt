@@ -16,7 +16,7 @@ use locked_map::LockedMap;
 use outcomes::write_outcome;
 use picture_engines::{View, run_draw};
 use plan_engines::{run_drive, run_generate, run_replay, run_tree_drive};
-use pool::Gate;
+use pool::OpenGate;
 use std::alloc::Global;
 use std::sync::Wait;
 use std::thread::Threads;
@@ -25,16 +25,15 @@ use streams::{Sink, Source};
 use workload::Mix;
 
 /// Does what the words of the command line ask for, the program's name first, and answers the exit status.
-/// Workers pass the gate before each segment that they search, and the processes of a drive on a tree before they begin; how far a stream
-/// was followed is shown.
-pub fn run<R: Threads + Wait + Sync, S: Source, O: Sink, F: Sink, G: Gate + Sync, P: Progress>(
+/// Nothing stops workers before a segment that they search, or the processes of a drive before they begin; how far a stream was followed
+/// is shown.
+pub fn run<R: Threads + Wait + Sync, S: Source, O: Sink, F: Sink, P: Progress>(
     rt: &R,
     alloc: Global,
     source: &mut S,
     output: &mut O,
     faults: &mut F,
     words: &[&str],
-    gate: &G,
     progress: &mut P,
 ) -> u8
     requires source { S.failures source.old < u64.MAX }
@@ -57,10 +56,14 @@ pub fn run<R: Threads + Wait + Sync, S: Source, O: Sink, F: Sink, G: Gate + Sync
     match line {
         Line::Check { order } => run_check(alloc, source, output, faults, &order),
         Line::Judge { budget, workers } => {
-            run_judge(rt, alloc, source, output, faults, budget, workers, gate)
+            run_judge(
+                rt, alloc, source, output, faults, budget, workers, &OpenGate,
+            )
         }
         Line::Locate { budget, workers } => {
-            run_locate(rt, alloc, source, output, faults, budget, workers, gate)
+            run_locate(
+                rt, alloc, source, output, faults, budget, workers, &OpenGate,
+            )
         }
         Line::Explain { budget } => run_explain(alloc, source, output, faults, budget),
         Line::Draw {
@@ -71,7 +74,7 @@ pub fn run<R: Threads + Wait + Sync, S: Source, O: Sink, F: Sink, G: Gate + Sync
         } => {
             let view = View { around, calls };
             run_draw(
-                rt, alloc, source, output, faults, budget, workers, view, gate,
+                rt, alloc, source, output, faults, budget, workers, view, &OpenGate,
             )
         }
         Line::Follow { budget } => run_follow(alloc, source, output, faults, budget, progress),
@@ -116,7 +119,7 @@ pub fn run<R: Threads + Wait + Sync, S: Source, O: Sink, F: Sink, G: Gate + Sync
                 rows256,
             };
             run_tree_drive(
-                rt, alloc, source, output, faults, shape, variant, limit, gate,
+                rt, alloc, source, output, faults, shape, variant, limit, &OpenGate,
             )
         }
     }

@@ -11,7 +11,6 @@ mod progress;
 use command::run;
 use line_outcomes::{texts_of, words_of};
 use outcomes::{Outcome, write_outcome};
-use pool::OpenGate;
 use progress::TerminalProgress;
 use std::process::ExitCode;
 use streams::{StandardError, StandardInput, StandardOutput};
@@ -33,7 +32,6 @@ fn main(rt: HostRuntime) -> ExitCode {
             &mut output,
             &mut faults,
             &texts,
-            &OpenGate,
             &mut progress,
         ),
         Err(_) => write_outcome(&mut output, &mut faults, &Outcome::Memory),

@@ -10,21 +10,20 @@ use command_line::Line;
 use history_engines::{run_check, run_judge, run_locate};
 use line_outcomes::asked_line;
 use outcomes::{Outcome, write_outcome};
-use pool::Gate;
+use pool::OpenGate;
 use std::alloc::Global;
 use std::thread::Threads;
 use streams::{Sink, Source};
 
 /// Does what the words of the command line ask of a history, the program's name first, and answers the exit status. Words that
-/// ask for anything else are told so. Workers pass the gate before each segment that they search.
-pub fn run<R: Threads + Sync, S: Source, O: Sink, F: Sink, G: Gate + Sync>(
+/// ask for anything else are told so. Nothing stops workers before a segment that they search.
+pub fn run<R: Threads + Sync, S: Source, O: Sink, F: Sink>(
     rt: &R,
     alloc: Global,
     source: &mut S,
     output: &mut O,
     faults: &mut F,
     words: &[&str],
-    gate: &G,
 ) -> u8
     requires source { S.failures source.old < u64.MAX }
     requires output { O.failures output.old < u64.MAX }
@@ -46,10 +45,14 @@ pub fn run<R: Threads + Sync, S: Source, O: Sink, F: Sink, G: Gate + Sync>(
     match line {
         Line::Check { order } => run_check(alloc, source, output, faults, &order),
         Line::Judge { budget, workers } => {
-            run_judge(rt, alloc, source, output, faults, budget, workers, gate)
+            run_judge(
+                rt, alloc, source, output, faults, budget, workers, &OpenGate,
+            )
         }
         Line::Locate { budget, workers } => {
-            run_locate(rt, alloc, source, output, faults, budget, workers, gate)
+            run_locate(
+                rt, alloc, source, output, faults, budget, workers, &OpenGate,
+            )
         }
         _ => write_outcome(output, faults, &elsewhere(alloc)),
     }

@@ -10,7 +10,6 @@ mod command;
 use command::run;
 use line_outcomes::{texts_of, words_of};
 use outcomes::{Outcome, write_outcome};
-use pool::OpenGate;
 use std::process::ExitCode;
 use streams::{StandardError, StandardInput, StandardOutput};
 
@@ -30,7 +29,6 @@ fn main(rt: HostRuntime) -> ExitCode {
             &mut output,
             &mut faults,
             &texts,
-            &OpenGate,
         ),
         Err(_) => write_outcome(&mut output, &mut faults, &Outcome::Memory),
     };

@@ -20,6 +20,8 @@ mod gates;
 #[cfg(test)]
 mod interleavings;
 #[cfg(test)]
+mod largest;
+#[cfg(test)]
 mod machines;
 #[cfg(test)]
 mod passes;
