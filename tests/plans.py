@@ -88,6 +88,16 @@ DONE = [
     ),
     (' { "version" : 1 , "scripts" : [ [ ] ] } ', EMPTY),
     (
+        '{"scripts":[[["insert",4294967295,1073741823],["remove",0],["scan",3,3]]],"version":1}',
+        '{"events":[{"invoke":["insert",4294967295,1073741823],"process":0},{"answer":null,"process":0},'
+        '{"invoke":["remove",0],"process":0},{"answer":null,"process":0},'
+        '{"invoke":["scan",3,3],"process":0},{"answer":[],"process":0}],"version":1}\n',
+    ),
+    (
+        '{"scripts":[[["get",5]]],"version":2}',
+        '{"events":[{"invoke":["get",5],"process":0},{"answer":null,"process":0}],"version":1}\n',
+    ),
+    (
         '{"scripts":[[["insert",5,7],["replace",5,7,8],["get",5]]],"version":2}',
         '{"events":[{"invoke":["insert",5,7],"process":0},{"answer":null,"process":0},{"invoke":["replace",5,7,8],"process":0},'
         '{"answer":7,"process":0},{"invoke":["get",5],"process":0},{"answer":8,"process":0}],"start":[],"version":2}\n',
@@ -246,6 +256,28 @@ OTHER_REPLAYS = [
         ("1000", "[8,16,0,1]", '[[0,"end"],[1,"until","child"],[18446744073709551615,"turns",1000000]]',
          '[[["insert",5,50]],[["get",5],["scan",0,4294967295]]]', '"version":1,"variant":"read-unchecked"'),
         "", "schedule: item 2: " + NO_PROCESS,
+    ),
+    # The greatest and least keys and values at the start, and a replace in a script.
+    (
+        ("1", "[0,0,0,64]", "[]", '[[["replace",5,1,2]]]',
+         '"start":[[0,1073741823],[4294967295,0]],"variant":"early-release","version":2'),
+        '{"events":[],"start":[[0,1073741823],[4294967295,0]],"version":2}\n', "",
+    ),
+    # The inserts at the start take no turns: under lock coupling seven are enough for a get below the root alone.
+    *(
+        (
+            (limit, LEAST, '[[0,"end"]]', '[[["get",5]],[]]', f'"start":[[5,50]],"variant":"{tree}","version":2'),
+            '{"events":[{"invoke":["get",5],"process":0},{"answer":50,"process":0}],"start":[[5,50]],"version":2}\n', "",
+        )
+        for tree, limit in (("coupled", "7"), *((tree, "1000") for tree in TREES[1:]))
+    ),
+    # Three keys at the start that stand in two rows.
+    (
+        ("1000", "[8,0,0,1]", '[[0,"end"]]', '[[["scan",0,4294967295]],[]]',
+         '"start":[[16777217,1],[16777218,2],[16842752,3]],"variant":"coupled","version":2'),
+        '{"events":[{"invoke":["scan",0,4294967295],"process":0},'
+        '{"answer":[[16777217,1],[16777218,2],[16842752,3]],"process":0}],'
+        '"start":[[16777217,1],[16777218,2],[16842752,3]],"version":2}\n', "",
     ),
     *(
         (("1000", LEAST, "[]", "[[],[]]", f'"start":[[5,50],[9,90]],"variant":"{tree}","version":2'),
@@ -430,9 +462,10 @@ def refused_schedules():
 
 
 def long_plans():
-    """Plans of one process at a map under a lock, with what is recorded: 4,096 inserts, and many long scans."""
+    """Plans of one process at a map under a lock, with what is recorded: 4,096 inserts, the longest scan, and many long ones."""
     listed = [["insert", key, 1] for key in range(MOST_CALLS)]
     yield listed, history(inserts(MOST_CALLS))
+    yield [*listed[:4095], ["scan", 0, 9000]], history(scans_of_inserts(4095, 1))
     yield [*listed[:3996], *[["scan", 0, 9000]] * 100], history(scans_of_inserts(3996, 100))
 
 

@@ -1,89 +1,165 @@
-// What passes tell, and when an arena closes.
-ghost use Rattle.std.specs.Prelude.{◌≡◌, IfOk};
+// Two processes on an arena, whose steps are interleaved: what leaving out a check makes of a call, which the verdict refutes, what
+// the full trees answer, and whom a process holds up that stops for good within its call.
 ghost use Rattle.running.specs.Passes.{IsPassOf};
 
-use crate::passes::{advance, begin, closed, closed_alone, open_one, open_two};
-use art::Variant;
-use events::{Call, Reply};
-use history_text::write_history;
-use running::{Arena, ArenaClose, Pass};
+use crate::shapes::eights;
+use art::{TreeCall, Variant};
+use events::Call;
+use judge::{judge_alone, report};
+use running::{Arena, Pass};
 use std::alloc::Global;
 use std::test::Fail;
 
-const PENDING: &str = "{\"events\":[{\"invoke\":[\"get\",5],\"process\":0}],\"version\":1}";
+/// More steps than any call here has.
+const WHOLE: u32 = 900;
 
-const ANSWERED: &str =
-    "{\"events\":[{\"invoke\":[\"get\",5],\"process\":0},{\"answer\":null,\"process\":0}],\"version\":1}";
-
-/// A get on an empty tree reads the root's version, a child and the version again; under coupling it locks the root, reads
-/// twice and unlocks it.
-#[test]
-fn a_get_alone_is_answered_by_its_last_step(rt: HostRuntime) -> Result<(), Fail> {
-    let alloc = rt.alloc();
-    for (variant, few, enough) in [(Variant::Optimistic, 3, 4), (Variant::Coupled, 4, 5)] {
-        let (arena, mut pass) = open_one(alloc, variant, 1)?;
-        begin(&arena, &mut pass, &Call::Get(5))?;
-        assert!(rt; advance(alloc, &arena, &mut pass, few)?.is_none());
-        let history = closed_alone(alloc, arena, pass)?;
-        assert_eq!(rt; write_history(alloc, &history)?.as_str(), PENDING);
-
-        let (arena, mut pass) = open_one(alloc, variant, 1)?;
-        begin(&arena, &mut pass, &Call::Get(5))?;
-        assert!(rt;
-            matches!(
-                advance(alloc, &arena, &mut pass, enough)?,
-                Some(Reply::None)
-            )
-        );
-        let history = closed_alone(alloc, arena, pass)?;
-        assert_eq!(rt; write_history(alloc, &history)?.as_str(), ANSWERED);
-    }
-    Ok(())
-}
-
-/// An arena that a pass alone does not close: both come back.
-fn still_out(alloc: Global, arena: Arena, pass: Pass) -> Result<(Arena, Pass), Fail>
-    requires { IsPassOf arena pass }
-    ensures arena { IfOk result (λ r. r.0 ≡ arena) }
-    ensures pass { IfOk result (λ r. IsPassOf r.0 r.1) }
+/// The pass's process begins a call.
+fn begin(arena: &Arena, pass: &mut Pass, call: &Call) -> Result<(), Fail>
+    requires { IsPassOf arena.now pass.old }
+    ensures { IsPassOf arena.now pass.new }
 {
-    match arena.close(alloc, pass) {
-        Err(ArenaClose::StillOut(arena, pass)) => Ok((arena, pass)),
-        _ => Err(Fail::new("a process was missing")),
+    let Some(call) = TreeCall::new(call) else {
+        return Err(Fail::new("beyond the trees' limits"));
+    };
+    if !pass.idle() {
+        return Err(Fail::new("a call is open"));
     }
+    if pass.left() == 0 {
+        return Err(Fail::new("no call is left"));
+    }
+    Ok(arena.begin(pass, call)?)
 }
 
-#[test]
-fn without_a_pass_all_come_back_and_go_on(rt: HostRuntime) -> Result<(), Fail> {
-    let alloc = rt.alloc();
-    let (arena, mut first, second) = open_two(alloc, Variant::Optimistic, 1)?;
-    begin(&arena, &mut first, &Call::Get(5))?;
-    let (arena, second) = still_out(alloc, arena, second)?;
-    let (arena, mut first) = still_out(alloc, arena, first)?;
-    assert!(rt; matches!(advance(alloc, &arena, &mut first, 900)?, Some(Reply::None)));
-    let history = closed(alloc, arena, second, first)?;
-    assert_eq!(rt; write_history(alloc, &history)?.as_str(), ANSWERED);
+/// The pass's process begins a call where it is told one, and makes so many steps of its open call.
+fn make_steps(
+    alloc: Global,
+    arena: &Arena,
+    pass: &mut Pass,
+    call: &Option<Call>,
+    steps: u32,
+) -> Result<(), Fail>
+    requires { IsPassOf arena.now pass.old }
+    ensures { IsPassOf arena.now pass.new }
+{
+    if let Some(call) = call {
+        begin(arena, pass, call)?;
+    }
+    if pass.idle() {
+        return Err(Fail::new("no call is open"));
+    }
+    arena.advance(alloc, pass, steps)?;
     Ok(())
 }
 
+/// The report on what is recorded where the two processes make these steps: which of them, the call that it begins before, and
+/// how many.
+fn interleaved(
+    alloc: Global,
+    variant: Variant,
+    parts: &[(u8, Option<Call>, u32)],
+) -> Result<String, Fail> {
+    let (arena, mut first) = Arena::open(alloc, eights(), variant, 2, 3)?;
+    let mut second = arena.split(alloc, &mut first)?;
+    for part in parts {
+        let (process, call, steps) = part;
+        if *process == 0 {
+            make_steps(alloc, &arena, &mut first, call, *steps)?;
+        } else {
+            make_steps(alloc, &arena, &mut second, call, *steps)?;
+        }
+    }
+    arena.join(&mut first, second);
+    let Ok(history) = arena.close(alloc, first) else {
+        return Err(Fail::new("the arena was not closed"));
+    };
+    let verdict = judge_alone(alloc, &history, 1000)?;
+    Ok(report(alloc, &verdict)?)
+}
+
+/// A scan has read the root's first slot when two inserts come, the second of them behind it.
+static SCAN: [(u8, Option<Call>, u32); 4] = [
+    (0, Some(Call::Scan(16777216, 33554432)), 2),
+    (1, Some(Call::Insert(16777216, 1)), WHOLE),
+    (1, Some(Call::Insert(33554432, 2)), WHOLE),
+    (0, None, WHOLE),
+];
+
+/// An insert has read the root when another one hangs its leaf there, which is sought then.
+static LOCK: [(u8, Option<Call>, u32); 4] = [
+    (0, Some(Call::Insert(5, 50)), 3),
+    (1, Some(Call::Insert(9, 90)), WHOLE),
+    (0, None, WHOLE),
+    (1, Some(Call::Get(9)), WHOLE),
+];
+
 #[test]
-fn a_pass_tells_of_its_least_process(rt: HostRuntime) -> Result<(), Fail> {
-    let alloc = rt.alloc();
-    let (arena, mut first, mut second) = open_two(alloc, Variant::Coupled, 2)?;
-    assert_eq!(rt; (first.process(), first.left(), first.idle()), (0, 2, true));
-    assert_eq!(rt;
-        (second.process(), second.left(), second.idle()),
-        (1, 2, true)
-    );
-    begin(&arena, &mut second, &Call::Get(5))?;
-    assert_eq!(rt; (second.left(), second.idle()), (1, false));
-    assert!(rt; matches!(advance(alloc, &arena, &mut second, 900)?, Some(Reply::None)));
-    assert_eq!(rt; (second.left(), second.idle()), (1, true));
-    begin(&arena, &mut first, &Call::Get(5))?;
-    arena.join(&mut second, first);
-    assert_eq!(rt;
-        (second.process(), second.left(), second.idle()),
-        (0, 1, false)
-    );
+fn what_a_check_left_out_makes_of_a_call_is_refuted(rt: HostRuntime) -> Result<(), Fail> {
+    for (variant, parts, wanted) in [
+        (
+            Variant::ScanUnvalidated,
+            &SCAN,
+            "{\"calls\":[0,1,2],\"hi\":33554432,\"lo\":16777216,\"verdict\":\"no\"}",
+        ),
+        (
+            Variant::Optimistic,
+            &SCAN,
+            "{\"order\":[1,2,0],\"verdict\":\"yes\"}",
+        ),
+        (
+            Variant::LockUnchecked,
+            &LOCK,
+            "{\"calls\":[1,2],\"hi\":9,\"lo\":9,\"verdict\":\"no\"}",
+        ),
+        (
+            Variant::Optimistic,
+            &LOCK,
+            "{\"order\":[0,1,2],\"verdict\":\"yes\"}",
+        ),
+    ] {
+        assert!(rt; interleaved(rt.alloc(), variant, parts)?.as_str() == wanted);
+    }
+    Ok(())
+}
+
+/// Calls 0 and 1 insert 5 and 9, call 2 is a get of 5 that stops after some steps, and call 3 another process's insert: it is
+/// answered beside the get that is not.
+const BESIDE: &str = "{\"order\":[0,1,3],\"verdict\":\"yes\"}";
+
+/// The insert waits.
+const HELD_UP: &str = "{\"order\":[0,1],\"verdict\":\"yes\"}";
+
+/// The get was answered.
+const BOTH: &str = "{\"order\":[0,1,2,3],\"verdict\":\"yes\"}";
+
+/// By the steps that the get makes, the reports under optimistic lock coupling and under lock coupling.
+static STOPPED: [(&str, &str); 12] = [
+    (BESIDE, BESIDE),
+    (BESIDE, BESIDE),
+    (BESIDE, HELD_UP),
+    (BESIDE, HELD_UP),
+    (BESIDE, HELD_UP),
+    (BESIDE, HELD_UP),
+    (BESIDE, HELD_UP),
+    (BESIDE, HELD_UP),
+    (BESIDE, HELD_UP),
+    (BESIDE, HELD_UP),
+    (BOTH, BESIDE),
+    (BOTH, BOTH),
+];
+
+#[test]
+fn a_get_that_stops_while_it_holds_a_lock_holds_up_an_insert(rt: HostRuntime) -> Result<(), Fail> {
+    for (steps, (optimistic, coupled)) in STOPPED.iter().enumerate() {
+        let parts = [
+            (0, Some(Call::Insert(5, 50)), WHOLE),
+            (0, Some(Call::Insert(9, 90)), WHOLE),
+            (0, Some(Call::Get(5)), steps as u32),
+            (1, Some(Call::Insert(3, 30)), WHOLE),
+        ];
+        let told = interleaved(rt.alloc(), Variant::Optimistic, &parts)?;
+        assert!(rt; told.as_str() == *optimistic, "{steps} steps");
+        let told = interleaved(rt.alloc(), Variant::Coupled, &parts)?;
+        assert!(rt; told.as_str() == *coupled, "{steps} steps");
+    }
     Ok(())
 }

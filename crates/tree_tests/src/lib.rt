@@ -1,39 +1,21 @@
-//! Tests of the trees: under schedules, through the step machine's public calls; on shared words by two passes on one thread, through those
-//! of the core, of arenas and of passes; and by threads that do a plan, which meet at a gate.
+//! Tests of trees and of plans: a tree under a schedule, through the step machine's public calls; a tree on shared words, by two passes on
+//! one thread; and plans that threads do on a tree or at a subject, where they meet at a gate or within their calls.
 //!
-//! A proof covers what the contracts say. What these tests add is that each call answers where memory is ample, and
-//! that the definitions say what was meant: words, replies and orders were worked out by hand.
+//! A proof covers what the contracts say. What these tests add is that each call answers where memory is ample, that threads
+//! overlap, and that the definitions say what was meant: words, replies and orders were worked out by hand.
 #![tactic(auto)]
 
 #[cfg(test)]
 mod arenas;
 #[cfg(test)]
-mod checks;
-#[cfg(test)]
-mod driven;
-#[cfg(test)]
-mod driving;
-#[cfg(test)]
 mod gate_first;
-#[cfg(test)]
-mod gates;
-#[cfg(test)]
-mod interleavings;
-#[cfg(test)]
-mod largest;
 #[cfg(test)]
 mod machines;
 #[cfg(test)]
-mod passes;
+mod meetings;
 #[cfg(test)]
-mod places;
+mod plan_texts;
 #[cfg(test)]
-mod refusals;
+mod shapes;
 #[cfg(test)]
-mod serial;
-#[cfg(test)]
-mod started;
-#[cfg(test)]
-mod stopped;
-#[cfg(test)]
-mod wrong_values;
+mod subjects;

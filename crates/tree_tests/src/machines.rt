@@ -1,145 +1,86 @@
-// Machines for the tests, and what they have recorded.
-ghost use Rattle.std.specs.Prelude.{◌≡◌, ◌≤◌, length, map, sum, All, IfOk, OnOk, IsTrue, vec_len};
-ghost use Rattle.map_object.specs.MapObject.{IsRising};
-ghost use Rattle.art_rows.specs.Table.{IsWithinLimits};
-ghost use Rattle.art_steps.specs.TreeCalls.{is_tree_call};
-ghost use Rattle.art_core.specs.Plans.{IsPlan};
-ghost use Rattle.art_core.specs.Starts.{inserts};
-ghost use Rattle.machine.specs.Running.{plan_of};
-
-use crate::checks::is_within_limits;
-use art::{Shape, TreeCall, Variant};
-use events::{Call, History};
-use history_text::write_history;
-use machine::{Machine, MachineFault};
-use std::alloc::Global;
+// Machines that are opened for plans, and the words that turns leave.
+use crate::shapes::eights;
+use art::Variant;
+use art_core::Item;
+use machine::{Machine, MachineFault, RunFault};
+use plan_text::read_plan;
+use std::alloc::{AllocError, Global};
 use std::test::Fail;
 
-/// A shape, by its rows of the kinds 4, 16, 48 and 256.
-pub fn shape(rows: [u32; 4]) -> Shape {
-    let [rows4, rows16, rows48, rows256] = rows;
-    Shape {
-        rows4,
-        rows16,
-        rows48,
-        rows256,
-    }
+/// A machine for the plan that a text spells.
+fn opened(alloc: Global, text: &str) -> Result<Machine, Fail> {
+    let plan = read_plan(alloc, text.as_bytes())?;
+    let scripts = plan.into_scripts();
+    Ok(Machine::open(alloc, eights(), Variant::Optimistic, scripts, 100_000)?)
 }
 
-/// A machine with two processes.
-pub fn opened(
-    alloc: Global,
-    rows: [u32; 4],
-    variant: Variant,
-    scripts: [&[Call]; 2],
-    limit: u32,
-) -> Result<Machine, Fail> {
-    let shape = shape(rows);
-    if !is_within_limits(shape) {
-        return Err(Fail::new("no such shape"));
+/// The text, so many times, with commas between.
+fn repeated(alloc: Global, text: &str, count: usize) -> Result<String, AllocError> {
+    let mut all = String::from_str(alloc, text)?;
+    for _ in 1..count {
+        all.push_str(",")?;
+        all.push_str(text)?;
     }
-    let both = both(alloc, shape, variant, scripts)?;
-    Ok(Machine::open(alloc, shape, variant, both, limit)?)
+    Ok(all)
 }
 
-/// A machine with two processes that starts with pairs, or why it is not opened.
-pub fn opened_with(
-    alloc: Global,
-    rows: [u32; 4],
-    variant: Variant,
-    start: &[(u64, u64)],
-    scripts: [&[Call]; 2],
-    limit: u32,
-) -> Result<Result<Machine, MachineFault>, Fail> {
-    let shape = shape(rows);
-    if !is_within_limits(shape) {
-        return Err(Fail::new("no such shape"));
-    }
-    let both = both(alloc, shape, variant, scripts)?;
-    let start = starting_pairs(alloc, start)?;
-    Ok(Machine::open_with(alloc, shape, variant, start, both, limit))
+/// How many events a machine has recorded before its first turn, for a plan of so many scripts of so many gets each.
+fn recorded_of_gets(alloc: Global, scripts: usize, gets: usize) -> Result<usize, Fail> {
+    let script = format!(in alloc; "[{}]", repeated(alloc, "[\"get\",5]", gets)?)?;
+    let text = format!(in alloc;
+        "{{\"scripts\":[{}],\"version\":1}}",
+        repeated(alloc, &script, scripts)?
+    )?;
+    let machine = opened(alloc, &text)?;
+    Ok(machine.history(alloc)?.events().len())
 }
 
-/// Two scripts.
-fn both(
-    alloc: Global,
-    shape: Shape,
-    variant: Variant,
-    scripts: [&[Call]; 2],
-) -> Result<Vec<Vec<TreeCall>>, Fail>
-    requires { IsWithinLimits shape }
-    ensures plan { IfOk result (λ both. IsPlan (plan_of shape variant (map (λ script. script.items) both.items))) }
-    ensures few { IfOk result (λ both. sum (map (λ script. length script) (map (λ script. script.items) both.items)) ≤ 200) }
-{
-    let first = script(alloc, scripts[0])?;
-    let second = script(alloc, scripts[1])?;
-    let mut both = Vec::new(alloc);
-    both.push(first)?;
-    both.push(second)?;
-    Ok(both)
-}
-
-/// The pairs, if a machine may start with them.
-fn starting_pairs(alloc: Global, pairs: &[(u64, u64)]) -> Result<Vec<(u64, u64)>, Fail>
-    ensures rising { IfOk result (λ start. IsRising start.items) }
-    ensures calls { IfOk result (λ start. All (λ call. IsTrue (is_tree_call call)) (inserts start.items)) }
-    ensures few { IfOk result (λ start. vec_len start ≤ 100) }
-{
-    if pairs.len() > 100 {
-        return Err(Fail::new("too many pairs"));
-    }
-    test_pairs(pairs)?;
-    let start = Vec::from_slice(alloc, pairs)?;
-    History::with_start(alloc, start, Vec::new(alloc))?;
-    Ok(Vec::from_slice(alloc, pairs)?)
-}
-
-/// Whether the pairs are within the trees' limits.
-fn test_pairs(pairs: &[(u64, u64)]) -> Result<(), Fail>
-    ensures { OnOk result (All (λ call. IsTrue (is_tree_call call)) (inserts pairs.now)) }
-{
-    for (key, value) in pairs {
-        tree_call(&Call::Insert(*key, *value))?;
-    }
+#[test]
+fn a_machine_is_opened_for_the_largest_plans(rt: HostRuntime) -> Result<(), Fail> {
+    assert_eq!(rt; recorded_of_gets(rt.alloc(), 64, 64)?, 0);
+    assert_eq!(rt; recorded_of_gets(rt.alloc(), 1, 4096)?, 0);
     Ok(())
 }
 
-fn script(alloc: Global, calls: &[Call]) -> Result<Vec<TreeCall>, Fail>
-    ensures calls { IfOk result (λ script. All (λ call. IsTrue (is_tree_call call)) script.items) }
-    ensures few { IfOk result (λ script. vec_len script ≤ 100) }
-{
-    if calls.len() > 100 {
-        return Err(Fail::new("too many calls"));
-    }
-    let mut script = Vec::new(alloc);
-    for call in calls {
-        script.push(tree_call(call)?)?;
-    }
-    Ok(script)
-}
+static INSERTS: &str =
+    r#"{"scripts":[[["insert",0,1],["insert",1,1],["insert",2,1],["insert",3,1],["insert",4,1],["insert",5,1],["insert",6,1],["insert",7,1],["insert",8,1],["insert",9,1],["insert",10,1],["insert",11,1],["insert",12,1],["insert",13,1],["insert",14,1],["insert",15,1],["insert",16,1]]],"version":1}"#;
 
-fn tree_call(call: &Call) -> Result<TreeCall, Fail>
-    ensures call { IfOk result (λ made. made ≡ call.now) }
-    ensures fits { IfOk result (λ call. IsTrue (is_tree_call call)) }
-{
-    match TreeCall::new(call) {
-        Some(call) => Ok(call),
-        None => Err(Fail::new("beyond the trees' limits")),
-    }
-}
+/// Words after 17 inserts, each with its place: of the clock, of the claims of each kind, of the rows that were replaced, of the
+/// row of kind 48, and of the root.
+static GROWN: [(usize, u64); 14] = [
+    (0, 34),
+    (1, 1),
+    (2, 1),
+    (3, 1),
+    (4, 1),
+    (5, 13),
+    (61, 49),
+    (229, 0),
+    (230, 14),
+    (231, 578437695752307201),
+    (233, 17),
+    (263, 17),
+    (893, 16),
+    (895, 917),
+];
 
-/// The text of what the machine has recorded.
-pub fn recorded(alloc: Global, machine: &Machine) -> Result<String, Fail> {
-    let history = machine.history(alloc)?;
-    Ok(write_history(alloc, &history)?)
-}
-
-/// The words at these places.
-pub fn words_at(alloc: Global, machine: &Machine, places: &[usize]) -> Result<Vec<u64>, Fail> {
-    let mut words = Vec::new(alloc);
-    for place in places {
-        let word = machine.words().get(*place).ok_or("past the table")?;
-        words.push(*word)?;
+/// One turn, and then all others.
+#[test]
+fn a_row_grows_from_4_to_16_to_48_children(rt: HostRuntime) -> Result<(), Fail> {
+    let alloc = rt.alloc();
+    let mut machine = opened(alloc, INSERTS)?;
+    assert_eq!(rt; machine.turn(alloc, 0), Ok(()));
+    let others = [Item::Turns {
+        process: 0,
+        turns: 90_000,
+    }];
+    let done = RunFault {
+        item: 0,
+        fault: MachineFault::NothingToDo,
+    };
+    assert_eq!(rt; machine.run(alloc, &others), Err(done));
+    for (place, word) in &GROWN {
+        assert_eq!(rt; machine.words().get(*place), Some(word));
     }
-    Ok(words)
+    Ok(())
 }

@@ -1,0 +1,97 @@
+// A plan that is driven at a subject, each script in a thread of its own: calls wait for each other there, and are answered wrongly.
+ghost use Rattle.std.specs.Prelude.{◌≡◌, ℕ};
+ghost use Rattle.events.specs.declared.event.Reply.TheVariants as replies;
+
+use crate::meetings::wait_for;
+use drives::{drive_subject, is_drivable};
+use events::{Call, History, Reply, Response};
+use judge::{MAX_BUDGET, Verdict, judge_alone};
+use plan_text::read_plan;
+use recorder::Subject;
+use std::sync::atomic::{AtomicBool, AtomicU64, Ordering};
+use std::test::Fail;
+
+/// Answers a key plus 7. A call on key 0 waits for one on key 1, and that for one on key 2. It counts the calls that saw that the
+/// one for which they waited had begun.
+#[derive(Drop)]
+struct Meeting {
+    first: AtomicBool,
+    second: AtomicBool,
+    met: AtomicU64,
+}
+
+impl Subject for Meeting {
+    ghost may_answer = { λ _ _ reply. (value : ℕ) × (reply ≡ replies.Some value) };
+
+    fn call(&self, call: &Call) -> Reply {
+        let key = call.low_key();
+        match key {
+            0 => wait_for(&self.first, &self.met),
+            1 => {
+                self.first.store(true, Ordering::SeqCst);
+                wait_for(&self.second, &self.met);
+            }
+            _ => self.second.store(true, Ordering::SeqCst),
+        }
+        Reply::Some(key.wrapping_add(7))
+    }
+}
+
+/// A get of a key: the places of its invocation and its response, and the value that it was answered.
+fn answered_get(history: &History, key: u64) -> Option<(usize, usize, u64)> {
+    for operation in history.calls() {
+        if operation.call == Call::Get(key) {
+            if let Some(
+                Response {
+                    res,
+                    reply: Reply::Some(value),
+                },
+            ) = &operation.response
+            {
+                return Some((operation.inv, *res, *value));
+            }
+        }
+    }
+    None
+}
+
+/// Two processes that meet: the first two, or the last two of as many as there may be.
+static FIRST_TWO: &str = r#"{"scripts":[[["get",0],["get",2]],[["get",1]]],"version":1}"#;
+
+static LAST_TWO: &str =
+    r#"{"scripts":[[],[],[],[],[],[],[],[],[],[],[],[],[],[],[],[],[],[],[],[],[],[],[],[],[],[],[],[],[],[],[],[],[],[],[],[],[],[],[],[],[],[],[],[],[],[],[],[],[],[],[],[],[],[],[],[],[],[],[],[],[],[],[["get",0],["get",2]],[["get",1]]],"version":1}"#;
+
+#[test]
+fn two_subject_calls(rt: HostRuntime) -> Result<(), Fail> {
+    let alloc = rt.alloc();
+    for round in 0..100 {
+        let subject = Meeting {
+            first: AtomicBool::new(false),
+            second: AtomicBool::new(false),
+            met: AtomicU64::new(0),
+        };
+        let text = if round < 50 { FIRST_TWO } else { LAST_TWO };
+        let plan = read_plan(alloc, text.as_bytes())?;
+        if !is_drivable(&plan) {
+            return Err(Fail::new("the plan has too many calls"));
+        }
+        let history = drive_subject(&rt, alloc, &plan, &subject)?;
+        assert!(rt; subject.met.load(Ordering::SeqCst) == 2, "round {round}");
+        let (Some(first), Some(second), Some(third)) = (
+            answered_get(&history, 0),
+            answered_get(&history, 1),
+            answered_get(&history, 2),
+        ) else {
+            panic!(rt; "each get is answered by a value, round {round}");
+        };
+        assert!(rt; (first.2, second.2, third.2) == (7, 8, 9));
+        assert!(rt;
+            second.0 < first.1,
+            "the get of 1 comes before the answer of 0"
+        );
+        assert!(rt; first.1 < third.0, "the get of 2 comes after that of 0");
+        let verdict = judge_alone(alloc, &history, MAX_BUDGET)?;
+        assert!(rt; matches!(verdict, Verdict::No(_)), "nothing was inserted");
+    }
+    Ok(())
+}
