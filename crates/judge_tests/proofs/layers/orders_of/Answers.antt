@@ -3,8 +3,8 @@ use Rattle.std.proofs.Common.{[], ◌∷◌, ◌++◌, take, map, sym, subst, ap
 use Rattle.std.specs.List.{AllZip}
 use Rattle.std.proofs.lemmas.List.{map-append, take_more, take_all}
 use Rattle.segments.specs.SegmentOrders.{IsOrderOf}
-use Rattle.layer_tests.proofs.ZipLemmas.{AllZip-more}
-use Rattle.layer_tests.proofs.merges.orders_of.Goals as goal
+use Rattle.judge_tests.proofs.ZipLemmas.{AllZip-more}
+use Rattle.judge_tests.proofs.layers.orders_of.Goals as goal
 
 pub loop-segment-init : goal.loop-segment-init
 loop-segment-init c = rw c.in_ok-orders.ensures.items tt

@@ -1,7 +1,7 @@
-use Rattle.std.proofs.Common.{[], map, take}
+use Rattle.std.proofs.Common.{map, take}
 use Rattle.std.specs.List.{AllZip}
 use Rattle.segments.specs.SegmentOrders.{IsOrderOf}
-use Rattle.layer_tests.proofs.merges.orders_of.Given as goal
+use Rattle.judge_tests.proofs.layers.orders_of.Given as goal
 
 abbrev pub invariant-loop-segment : goal.invariant-loop-segment
 invariant-loop-segment l = AllZip IsOrderOf (take l.segment-index l.segments) (map (λ order. order.items) l.orders.items)

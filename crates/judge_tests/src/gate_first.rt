@@ -2,8 +2,9 @@
 // the time that it takes, so this goes by the clock.
 ghost use Rattle.std.specs.Prelude.{⊤};
 
+use crate::worked::gets;
 use cutter::cut;
-use layer_tests::worked::{gets, history_of};
+use events::{Call, Event, History};
 use pool::{Gate, search_all};
 use segments::Segment;
 use std::alloc::Global;
@@ -55,19 +56,17 @@ fn until_entered<R: Threads + Clock + Sync>(
     Ok((first, second.saturating_sub(first)))
 }
 
-/// Many gets at one key, and an insert at another.
-fn long_and_short(alloc: Global) -> Result<Vec<Segment>, Fail> {
-    let gets = gets(alloc, 4095)?;
-    let events = format!(in alloc; "{gets},{{\"invoke\":[\"insert\",9,90],\"process\":1}}")?;
-    Ok(cut(alloc, &history_of(alloc, &events)?)?)
-}
-
-/// The first of two segments takes long to search, and hardly anything is done before it is entered. So less time passes
-/// before it is entered than from then until the other segment is, unless the thread is held up in between, hence the
-/// least of five tries.
+/// The first of two segments, of many gets at one key, takes long to search, and hardly anything is done before it is entered. So less
+/// time passes before it is entered than from then until the other one is, unless the thread is held up in between, hence the least of
+/// five tries.
 #[test]
 fn a_segment_is_entered_before_it_is_searched(rt: HostRuntime) -> Result<(), Fail> {
-    let segments = long_and_short(rt.alloc())?;
+    let mut events = gets(rt.alloc(), 4095, 4095)?;
+    events.push(Event::Invoke {
+        process: 1,
+        call: Call::Insert(9, 90),
+    })?;
+    let segments = cut(rt.alloc(), &History::from_events(rt.alloc(), events)?)?;
     assert!(rt; segments.len() == 2);
     let (mut before, mut between) = (u64::MAX, u64::MAX);
     for _ in 0..5u32 {

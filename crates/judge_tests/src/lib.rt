@@ -1,0 +1,20 @@
+//! Tests of what judges histories and streams, through public calls: workers that meet and pass gates, verdicts by one thread and by
+//! many, searches turn by turn, and lines of sources that are cut at odd places or fail midway.
+//!
+//! Expected answers were worked out by hand. Run with each allocation refused in turn, a test has to fail for want of memory alone.
+#![tactic(auto)]
+
+#[cfg(test)]
+mod gate_first;
+#[cfg(test)]
+mod gates;
+#[cfg(test)]
+mod layers;
+#[cfg(test)]
+mod lines;
+#[cfg(test)]
+mod meetings;
+#[cfg(test)]
+mod verdicts;
+#[cfg(test)]
+mod worked;
