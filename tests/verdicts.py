@@ -12,7 +12,7 @@ import json
 import sys
 
 sys.dont_write_bytecode = True
-from rows import LONG, MOST_CALLS, answer, compare, gets, history, numbers, pairs_listed  # noqa: E402
+from rows import LONG, MOST_CALLS, answer, compare, gets, history, numbers, pairs_listed, scans_of_inserts  # noqa: E402
 
 STATUSES = {"yes": 0, "no": 1, "undecided": 2}
 
@@ -127,6 +127,46 @@ SPENT_BEFORE_A_REFUTATION = """
     {"invoke":["get",9],"process":0}, {"answer":1,"process":0},
     {"invoke":["get",9],"process":0}, {"answer":null,"process":0},
     {"invoke":["get",9],"process":0}"""
+# The pending remove has the lower number, and changes nothing here.
+GET_MISSES_BESIDE_A_PENDING_REMOVE = """
+    {"invoke":["remove",5],"process":0},
+    {"invoke":["get",5],"process":1}, {"answer":null,"process":1}"""
+# Three calls can be taken and leave nothing, or a pair: the pending insert goes first or last.
+PENDING_INSERT_GOES_BEFORE_OR_AFTER_A_REMOVE = """
+    {"invoke":["insert",0,0],"process":0}, {"answer":null,"process":0},
+    {"invoke":["insert",0,0],"process":1},
+    {"invoke":["remove",0],"process":0}, {"answer":0,"process":0},
+    {"invoke":["get",0],"process":2}, {"answer":0,"process":2}"""
+PENDING_REMOVE_AND_INSERT = """
+    {"invoke":["remove",5],"process":0}, {"invoke":["insert",5,7],"process":1}"""
+# A scan that a value answers holds its keys together, as any completed scan does.
+SCAN_IS_ANSWERED_BY_A_VALUE = """
+    {"invoke":["insert",1,10],"process":0}, {"answer":null,"process":0},
+    {"invoke":["scan",1,2],"process":0}, {"answer":7,"process":0},
+    {"invoke":["get",2],"process":0}, {"answer":5,"process":0}"""
+SCANS_OF_NEIGHBOURS = """
+    {"invoke":["scan",3,4],"process":0}, {"answer":[],"process":0},
+    {"invoke":["scan",1,2],"process":0}, {"answer":[],"process":0}"""
+SCANS_THAT_SHARE_A_KEY = """
+    {"invoke":["scan",2,4],"process":0}, {"answer":[],"process":0},
+    {"invoke":["scan",1,2],"process":0}, {"answer":[],"process":0}"""
+SCAN_INSIDE_ANOTHER = """
+    {"invoke":["insert",8,80],"process":0}, {"answer":null,"process":0},
+    {"invoke":["scan",2,3],"process":0}, {"answer":[],"process":0},
+    {"invoke":["scan",1,9],"process":0}, {"answer":[],"process":0}"""
+LAST_KEY_AND_ITS_NEIGHBOUR = """
+    {"invoke":["scan",18446744073709551615,18446744073709551615],"process":0}, {"answer":[],"process":0},
+    {"invoke":["get",18446744073709551614],"process":0}, {"answer":null,"process":0}"""
+# Pending inserts and removes stand with their key, pending gets and scans nowhere.
+PENDING_CALLS_OF_EACH_KIND = """
+    {"invoke":["insert",5,7],"process":0}, {"invoke":["remove",4],"process":1},
+    {"invoke":["get",3],"process":2}, {"invoke":["scan",0,9],"process":3},
+    {"invoke":["get",5],"process":4}, {"answer":7,"process":4}"""
+# An insert that is open beside three hundred gets, is answered, and is seen.
+OPEN_INSERT_BESIDE_MANY_GETS = ",".join([
+    '{"invoke":["insert",5,9],"process":1}', gets(300), '{"answer":null,"process":1}',
+    '{"invoke":["get",5],"process":0},{"answer":9,"process":0}',
+])
 
 # Events, words, and the line that is written of them as an order.
 ORDERS = [
@@ -155,6 +195,7 @@ ORDERS = [
     (SCAN_BEFORE_A_REMOVE, "0 1 2 4", "fault: 4 Reply at place 3"),
     (gets(100), numbers(99).replace(",", " "), "fault: 5 Missing call 99"),
     (gets(100), numbers(100).replace(",", " "), "ok"),
+    (scans_of_inserts(MOST_CALLS - 1, 1), numbers(MOST_CALLS).replace(",", " "), "ok"),
 ]
 
 # Events, a budget and the report, whatever the number of workers.
@@ -195,6 +236,49 @@ VERDICTS = [
     # Each segment has the whole budget.
     (TWO_KEYS_BY_FALLING_KEY, 2, '{"order":[0,1],"verdict":"yes"}'),
     (TWO_KEYS_BY_FALLING_KEY, 1, '{"calls":[1],"hi":1,"lo":1,"verdict":"undecided"}'),
+    # The budget is of new configurations.
+    (GET_MISSES_ANSWERED_INSERT, 2, '{"calls":[0,1],"hi":5,"lo":5,"verdict":"no"}'),
+    (GET_MISSES_ANSWERED_INSERT, 1, '{"calls":[0,1],"hi":5,"lo":5,"verdict":"undecided"}'),
+    (GET_IS_ANSWERED_BY_A_LIST, 1, '{"calls":[0],"hi":5,"lo":5,"verdict":"no"}'),
+    (LATER_GET_MISSES_WHAT_WAS_SEEN, 3, '{"calls":[0,1,2],"hi":5,"lo":5,"verdict":"no"}'),
+    (LATER_GET_MISSES_WHAT_WAS_SEEN, 2, '{"calls":[0,1,2],"hi":5,"lo":5,"verdict":"undecided"}'),
+    (SCANS_SEE_TWO_INSERTS_IN_DIFFERENT_ORDER, 8, '{"calls":[0,1,2,3],"hi":2,"lo":1,"verdict":"no"}'),
+    (SCANS_SEE_TWO_INSERTS_IN_DIFFERENT_ORDER, 7, '{"calls":[0,1,2,3],"hi":2,"lo":1,"verdict":"undecided"}'),
+    # A pending call need not be taken; the least order takes the lower number first, also of such a call.
+    (PENDING_INSERT, 1, '{"order":[],"verdict":"yes"}'),
+    (PENDING_REMOVE_AND_INSERT, 1, '{"order":[],"verdict":"yes"}'),
+    (GET_MISSES_BESIDE_A_PENDING_REMOVE, 3, '{"order":[0,1],"verdict":"yes"}'),
+    (GET_MISSES_BESIDE_A_PENDING_REMOVE, 2, '{"calls":[0,1],"hi":5,"lo":5,"verdict":"undecided"}'),
+    # The same calls taken count once for each list of pairs that they leave.
+    (PENDING_INSERT_GOES_BEFORE_OR_AFTER_A_REMOVE, 7, '{"order":[0,2,1,3],"verdict":"yes"}'),
+    (PENDING_INSERT_GOES_BEFORE_OR_AFTER_A_REMOVE, 6, '{"calls":[0,1,2,3],"hi":0,"lo":0,"verdict":"undecided"}'),
+    # Which calls are in one segment: where the budget is spent, the first one is told.
+    (SCAN_IS_ANSWERED_BY_A_VALUE, 1000, '{"calls":[0,1,2],"hi":2,"lo":1,"verdict":"no"}'),
+    (SCANS_OF_NEIGHBOURS, 2, '{"order":[0,1],"verdict":"yes"}'),
+    (SCANS_OF_NEIGHBOURS, 1, '{"calls":[1],"hi":2,"lo":1,"verdict":"undecided"}'),
+    (SCANS_THAT_SHARE_A_KEY, 2, '{"calls":[0,1],"hi":4,"lo":1,"verdict":"undecided"}'),
+    (SCAN_INSIDE_ANOTHER, 1000, '{"calls":[0,1,2],"hi":9,"lo":1,"verdict":"no"}'),
+    (
+        LAST_KEY_AND_ITS_NEIGHBOUR, 1,
+        '{"calls":[1],"hi":18446744073709551614,"lo":18446744073709551614,"verdict":"undecided"}',
+    ),
+    (PENDING_CALLS_OF_EACH_KIND, 1000, '{"order":[0,4],"verdict":"yes"}'),
+    (PENDING_CALLS_OF_EACH_KIND, 1, '{"calls":[0,4],"hi":5,"lo":5,"verdict":"undecided"}'),
+]
+
+# Texts that spell a history otherwise than the compact form does, and their orders.
+SPELLED = [
+    (
+        """{ "version": 1,
+ "events": [ {"process": 0, "invoke": ["insert", 5, 7]}, {"process": 0, "answer": null},
+ {"invoke": ["get", 5], "process": 0}, {"process": 0, "answer": 7} ] }
+""", "0,1",
+    ),
+    ('{"events":[],"start":[],"version":2}', ""),
+    (
+        """{"version": 2, "start": [[5, 7], [6, 0]], "events": [{"invoke": ["replace", 5, 7, 8], "process": 0},
+ {"answer": 7, "process": 0}, {"process": 0, "invoke": ["get", 5]}, {"process": 0, "answer": 8}]}""", "0,1",
+    ),
 ]
 
 WELL = '{"verdict":"yes"}'
@@ -316,6 +400,29 @@ INSERTS_ALL_COME_FIRST = """
     {"invoke":["insert",5,3],"process":2},
     {"answer":null,"process":0}, {"answer":null,"process":1}, {"answer":null,"process":2}"""
 
+# The insert that is open holds the get and, through it, the remove before it; the first insert was answered before all of these. Then
+# the open one is answered by what the remove took.
+INSERT_HOLDS_A_REMOVE = """
+    {"invoke":["insert",1,5],"process":0}, {"answer":null,"process":0},
+    {"invoke":["remove",1],"process":1}, {"invoke":["get",1],"process":2}, {"answer":5,"process":1},
+    {"invoke":["insert",1,8],"process":3}, {"answer":8,"process":2}, {"answer":5,"process":3}"""
+# The first insert has a key apart from the open scan's; the last one has so too, but the scan that stays holds it.
+PENDING_SCAN_HOLDS_WHAT_OVERLAPS_IT = """
+    {"invoke":["insert",4,5],"process":0}, {"invoke":["scan",1,3],"process":1}, {"answer":null,"process":0},
+    {"invoke":["insert",3,5],"process":2}, {"answer":null,"process":2},
+    {"invoke":["scan",3,4],"process":3}, {"answer":[[3,5],[4,5]],"process":3},
+    {"invoke":["insert",4,6],"process":4}, {"answer":5,"process":4},
+    {"invoke":["get",4],"process":0}, {"answer":null,"process":0}"""
+
+
+def many_readers(last):
+    """An insert beside 61 gets, all at once: 60 find nothing, and the last one this. In whatever order the gets are taken, they leave the
+    map as it is: the exact search meets each set of them, and reads first one list of them."""
+    begun = ['{"invoke":["insert",5,7],"process":0}', *(f'{{"invoke":["get",5],"process":{process}}}' for process in range(1, 62))]
+    missed = [f'{{"answer":null,"process":{process}}}' for process in range(1, 61)]
+    return ",".join([*begun, *missed, f'{{"answer":{last},"process":61}}'])
+
+
 NOTE = "note: no two calls overlap, and of such a history a yes says little\n"
 
 # Events and what following them comes to: how many calls there are, and how many others were open at their invocations.
@@ -330,6 +437,9 @@ FOLLOWED = [
     (EFFECT_LATER_THAN_THE_INVOCATION, 3, 2),
     (PENDING_GET_AND_SCAN, 2, 1),
     (OPEN_INSERT_HOLDS_A_GET, 3, 1),
+    (OPEN_INSERT_BESIDE_MANY_GETS, 302, 300),
+    (many_readers("7"), 62, sum(range(62))),
+    (gets(60_000), 60_000, 0),
 ]
 
 # Events, a budget, and what is written of those that go wrong, or where the budget is spent: the report, and the calls that were
@@ -397,6 +507,24 @@ LOST = [
         '{"answer":null,"process":0},{"answer":null,"process":1}],"version":1}',
     ),
     (INSERTS_ALL_COME_FIRST, 1, '{"call":1,"calls":[0,1,2],"event":4,"hi":5,"lo":5,"verdict":"undecided"}', None),
+    (
+        INSERT_HOLDS_A_REMOVE, 1000,
+        '{"call":3,"calls":[1,2,3],"event":7,"hi":1,"lo":1,"verdict":"no"}',
+        '{"events":[{"invoke":["remove",1],"process":0},{"invoke":["get",1],"process":1},{"answer":5,"process":0},'
+        '{"invoke":["insert",1,8],"process":0},{"answer":8,"process":1},{"answer":5,"process":0}],"start":[[1,5]],"version":2}',
+    ),
+    (
+        PENDING_SCAN_HOLDS_WHAT_OVERLAPS_IT, 1000,
+        '{"call":5,"calls":[2,3,4,5],"event":10,"hi":4,"lo":3,"verdict":"no"}',
+        '{"events":[{"invoke":["insert",3,5],"process":0},{"answer":null,"process":0},'
+        '{"invoke":["scan",3,4],"process":0},{"answer":[[3,5],[4,5]],"process":0},'
+        '{"invoke":["insert",4,6],"process":0},{"answer":5,"process":0},'
+        '{"invoke":["get",4],"process":0},{"answer":null,"process":0}],"start":[[4,5]],"version":2}',
+    ),
+    (
+        many_readers("9"), 100,
+        f'{{"call":61,"calls":[{numbers(62)}],"event":122,"hi":5,"lo":5,"verdict":"no"}}', history(many_readers("9")),
+    ),
 ]
 
 # From 1 at key 5 and 9 at key 9 a get misses what an insert before it was answered for; behind it stands a line that is not read.
@@ -418,6 +546,17 @@ APART_STREAM = """{"invoke":["insert",5,7],"process":0}
 {"invoke":["get",5],"process":70}
 """
 
+# Lines that spell events otherwise than the compact form does.
+SPELLED_STREAM = r""" { "invoke" : [ "get" , 5 ] , "process" : 1 }
+{"process":1,"answer":null}@
+{"invoke":["\u0067et",5],"process":300}
+{"answer":null, "process":300}
+{"process":65535,"invoke":["remove",0]}
+{"process":65535,"answer":null}
+{"invoke":["scan",0,18446744073709551615],"process":2}
+{"answer":[],"process":2}
+""".replace("@", "\r")
+
 # Streams, and the status, the output and the faults.
 STREAMS = [
     (OVERLAPPING_STREAM, 0, '{"calls":2,"overlap":1,"verdict":"yes"}\n', ""),
@@ -430,6 +569,7 @@ STREAMS = [
     ("", 0, '{"calls":0,"overlap":0,"verdict":"yes"}\n', ""),
     ('{"start":[],"version":2}', 0, '{"calls":0,"overlap":0,"verdict":"yes"}\n', ""),
     (APART_STREAM, 0, '{"calls":2,"overlap":0,"verdict":"yes"}\n', NOTE),
+    (SPELLED_STREAM, 0, '{"calls":4,"overlap":0,"verdict":"yes"}\n', NOTE),
     ('{"invoke":["get",5],"process":70}', 0, '{"calls":1,"overlap":0,"verdict":"yes"}\n', ""),
 ]
 
@@ -465,6 +605,8 @@ def counted():
     events = ",".join([*overlapping[:10], '{"invoke":["get",0],"process":10},{"answer":1,"process":10}'])
     yield events, 1024, names_all(11, 0, "no")
     yield events, 1023, names_all(11, 0, "undecided")
+    # Each set of 61 gets can be taken.
+    yield many_readers("9"), 500, names_all(62, 5, "undecided")
     # Where no call was answered the least order is that of no calls, and nothing else counts.
     yield ",".join(overlapping), 1, orders("")
     # Calls in a row have one configuration more than there are calls.
@@ -511,6 +653,8 @@ def rows():
         for workers in ("1", "64"):
             words = ["judge", "--budget", str(budget), "--workers", workers]
             yield words, history(events), status_of(report), report + "\n", ""
+    for text, order in SPELLED:
+        yield ["judge"], text, 0, orders(order) + "\n", ""
     for text, budget, order in LONG:
         for workers in ("1", "4"):
             yield ["judge", "--budget", str(budget), "--workers", workers], text, 0, orders(order) + "\n", ""

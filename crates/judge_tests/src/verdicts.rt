@@ -39,14 +39,14 @@ fn histories_are_judged_by_one_thread(rt: HostRuntime) -> Result<(), Fail> {
 fn equal_answers_for_every_number_of_workers(rt: HostRuntime) -> Result<(), Fail> {
     let alloc = rt.alloc();
     let segments = cut(alloc, &read_history(alloc, THREE_KEYS)?)?;
-    let want = vec![in alloc;
+    let want = [
         Found::Spent,
         Found::NoOrder,
-        Found::Order(vec![in alloc; 3]?),
-    ]?;
+        Found::Order(Vec::from_slice(alloc, &[3])?),
+    ];
     for workers in [1, 2, 4, 64] {
         let found = search_all(&rt, alloc, &segments, 3, workers, &OpenGate)?;
-        assert!(rt; found == want, "{workers} workers gave {found:?}");
+        assert!(rt; found.as_slice() == want.as_slice(), "{workers} workers");
     }
     Ok(())
 }
