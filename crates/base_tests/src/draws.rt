@@ -1,4 +1,4 @@
-// Numbers drawn by one thread and by two.
+// Numbers drawn by two threads, and a part of the draws that is missing.
 ghost use Rattle.std.specs.Prelude.{◌≡◌, ◌++◌, IfOk};
 ghost use Rattle.tickets.specs.Hands.{counter, counter_of, drawn_by};
 
@@ -30,29 +30,11 @@ fn two_threads_draw_each_number_once(rt: HostRuntime) -> Result<(), Fail> {
         &mut || draw_all(alloc, &tickets, &mut first),
         &mut || draw_all(alloc, &tickets, &mut second),
     );
-    tickets.join(&mut first, second);
-    assert!(rt; tickets.close(first).is_ok_and(|n| n == 1000));
     let mut numbers = firsts?;
-    for number in seconds? {
-        numbers.push(number)?;
-    }
+    numbers.extend_from_slice(&seconds?)?;
     numbers.sort_unstable();
     let wanted: Vec<u64> = (0..1000).collect(alloc)?;
-    assert_eq!(rt; numbers, wanted);
-    Ok(())
-}
-
-#[test]
-fn one_thread_draws_splits_joins_and_closes(rt: HostRuntime) -> Result<(), Fail> {
-    let (tickets, mut first) = Tickets::open(rt.alloc(), 5)?;
-    assert_eq!(rt; tickets.draw(&mut first), 0);
-    let mut second = tickets.split(&mut first, 2);
-    assert_eq!(rt; (first.left(), second.left()), (2, 2));
-    assert_eq!(rt; tickets.draw(&mut second), 1);
-    assert_eq!(rt; tickets.draw(&mut first), 2);
-    tickets.join(&mut first, second);
-    assert_eq!(rt; first.left(), 2);
-    assert!(rt; tickets.close(first).is_ok_and(|n| n == 3));
+    assert!(rt; numbers == wanted);
     Ok(())
 }
 
@@ -60,23 +42,12 @@ fn one_thread_draws_splits_joins_and_closes(rt: HostRuntime) -> Result<(), Fail>
 fn without_a_part_both_come_back_and_go_on(rt: HostRuntime) -> Result<(), Fail> {
     let (tickets, mut first) = Tickets::open(rt.alloc(), 3)?;
     let mut second = tickets.split(&mut first, 1);
-    assert_eq!(rt; tickets.draw(&mut first), 0);
+    assert!(rt; tickets.draw(&mut first) == 0);
     let Err((tickets, mut first)) = tickets.close(first) else {
         panic!(rt; "a part was missing");
     };
-    assert_eq!(rt; tickets.draw(&mut second), 1);
-    assert_eq!(rt; tickets.draw(&mut first), 2);
+    assert!(rt; tickets.draw(&mut second) == 1 && tickets.draw(&mut first) == 2);
     tickets.join(&mut first, second);
-    assert!(rt; tickets.close(first).is_ok_and(|n| n == 3));
-    Ok(())
-}
-
-#[test]
-fn no_draws_are_counted_as_none(rt: HostRuntime) -> Result<(), Fail> {
-    let (tickets, mut first) = Tickets::open(rt.alloc(), 0)?;
-    let second = tickets.split(&mut first, 0);
-    assert_eq!(rt; (first.left(), second.left()), (0, 0));
-    tickets.join(&mut first, second);
-    assert!(rt; tickets.close(first).is_ok_and(|n| n == 0));
+    assert!(rt; matches!(tickets.close(first), Ok(3)));
     Ok(())
 }

@@ -1,21 +1,15 @@
-//! Tests of the layers that stand beside the judge's, through their public calls: the sorted map, histories
-//! with a start, tickets, the recorder, streams, the words of the command line and the lines of faults.
+//! Tests of the layers that stand beside the judge's, through their public calls: tickets, the recorder, a map under a
+//! lock, streams, and what no subcommand of the program calls of histories and segments.
 //!
-//! A proof covers what the contracts say. What these tests add is that each call answers where memory is ample, and
-//! that the definitions say what was meant: expected answers were worked out by hand.
+//! A proof covers what the contracts say. What these tests add is that threads draw and record side by side, what comes
+//! back where a pass is missing, and reads and writes that come in pieces and fail midway.
 #![tactic(auto)]
 
-#[cfg(test)]
-mod command_words;
 #[cfg(test)]
 mod draws;
 #[cfg(test)]
 mod ends;
 #[cfg(test)]
-mod fault_lines;
-#[cfg(test)]
-mod maps;
+mod pieces;
 #[cfg(test)]
 mod recorded;
-#[cfg(test)]
-mod starting_pairs;

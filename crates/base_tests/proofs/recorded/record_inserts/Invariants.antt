@@ -3,7 +3,7 @@ use Rattle.recorder.specs.Recorders.{IsPassOf}
 use Rattle.base_tests.proofs.recorded.record_inserts.Given as goal
 
 abbrev pub invariant-loop-key : goal.invariant-loop-key
-invariant-loop-key g l = record {
+invariant-loop-key l = record {
   own : IsPassOf l.recorder l.pass;
   few : l.done ≤ l.key;
 }
