@@ -111,6 +111,41 @@ DONE = [
     ),
 ]
 
+# Calls that one process makes, and what each map answers them: the pairs come in out of order, and lie at both ends of the keys too.
+IN_TURN = [
+    [
+        ('"get",7', "null"),
+        ('"insert",7,70', "null"),
+        ('"insert",4,40', "null"),
+        ('"insert",9,90', "null"),
+        ('"insert",7,71', "70"),
+        ('"get",7', "71"),
+        ('"get",8', "null"),
+        ('"remove",8', "null"),
+        ('"remove",4', "40"),
+        ('"get",4', "null"),
+        ('"scan",0,4294967295', "[[7,71],[9,90]]"),
+    ],
+    [
+        ('"insert",7,70', "null"),
+        ('"insert",4294967295,9', "null"),
+        ('"insert",0,1', "null"),
+        ('"insert",4,40', "null"),
+        ('"scan",4,7', "[[4,40],[7,70]]"),
+        ('"scan",5,4294967295', "[[7,70],[4294967295,9]]"),
+        ('"scan",0,0', "[[0,1]]"),
+        ('"scan",8,9', "[]"),
+        ('"replace",7,70,71', "70"),
+        ('"get",7', "71"),
+        ('"replace",7,70,72', "71"),
+        ('"get",7', "71"),
+        ('"replace",5,0,1', "null"),
+        ('"get",5', "null"),
+        ('"replace",4,40,40', "40"),
+        ('"scan",0,4294967295', "[[0,1],[4,40],[7,71],[4294967295,9]]"),
+    ],
+]
+
 GET_PLAN = '{"scripts":[[["get",5]]],"version":1}'
 PENDING = '{"events":[{"invoke":["get",5],"process":0}],"version":1}\n'
 ANSWERED = '{"events":[{"invoke":["get",5],"process":0},{"answer":null,"process":0}],"version":1}\n'
@@ -414,8 +449,16 @@ def recorded(events, start):
         process, what = word.split(" ", 1)
         kind = "invoke" if what.startswith('["') else "answer"
         parts.append(f'{{"{kind}":{what},"process":{process}}}')
-    behind = f'"start":{json.dumps(start, separators=(",", ":"))},"version":2' if start else '"version":1'
+    is_second = start or '"replace"' in events
+    behind = f'"start":{json.dumps(start, separators=(",", ":"))},"version":2' if is_second else '"version":1'
     return f'{{"events":[{",".join(parts)}],{behind}}}\n'
+
+
+def in_turn(steps):
+    """The plan of some calls of one process, and what is recorded of them."""
+    calls = ",".join(f"[{call}]" for call, _ in steps)
+    version = 2 if "replace" in calls else 1
+    return f'{{"scripts":[[{calls}]],"version":{version}}}', recorded(", ".join(f"0 [{call}], 0 {told}" for call, told in steps), [])
 
 
 def scheduled(start, scripts, schedule, variant, limit=1000):
@@ -476,7 +519,11 @@ def rows():
     for numbers, fault in UNDRAWN:
         yield drawing(42, numbers), "{}", 3, "", fault
     yield drawing(18446744073709551615, UNDRAWN[5][0]), "{}", 3, "", BAD_MIX
-    for text, written in DONE:
+    # The options in another order, and the greatest seed.
+    words = "generate --hi 7 --lo 7 --scan 0 --remove 0 --insert 100 --get 0 --calls 1 --processes 2 --seed 42"
+    yield words.split(), "", 0, '{"scripts":[[["insert",7,357083581]],[["insert",7,418225680]]],"version":1}\n', ""
+    yield drawing(18446744073709551615, (1, 2, 100, 0, 0, 0, 5, 5)), "", 0, '{"scripts":[[["get",5],["get",5]]],"version":1}\n', ""
+    for text, written in (*DONE, *map(in_turn, IN_TURN)):
         for words in (["drive"], *(["drive", "--tree", tree] for tree in ("locked", *TREES))):
             yield words, text, 0, written, ""
     for words, text, written in LIMITED:

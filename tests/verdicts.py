@@ -12,7 +12,11 @@ import json
 import sys
 
 sys.dont_write_bytecode = True
+<<<<<<< HEAD
 from rows import LONG, MOST_CALLS, answer, compare, gets, history, numbers, pairs_listed, scans_of_inserts  # noqa: E402
+=======
+from rows import LONG, MOST_CALLS, answer, compare, gets, history, numbers, pairs_listed, started  # noqa: E402
+>>>>>>> a89c7301 (base_tests: events are compared as they stand, so no text is written; rows of the map, of options and of an explanation)
 
 STATUSES = {"yes": 0, "no": 1, "undecided": 2}
 
@@ -198,6 +202,25 @@ ORDERS = [
     (scans_of_inserts(MOST_CALLS - 1, 1), numbers(MOST_CALLS).replace(",", " "), "ok"),
 ]
 
+# Starting pairs, and a call from them with answers that make it an order and with others that do not.
+HELD = "[0,1],[4,40],[7,70],[18446744073709551615,9]"
+ANSWERS = [
+    ('"get",4', ["40", '"refused"'], ["70", "null", "[[4,40]]"]),
+    ('"insert",4,1', ["40", '"refused"'], ["70", "1", "null", "[[4,40]]"]),
+    ('"remove",4', ["40", '"refused"'], ["70", "null", "[[4,40]]"]),
+    ('"replace",4,40,1', ["40", '"refused"'], ["1", "null", "[[4,40]]"]),
+    ('"replace",4,1,40', ["40"], ["1", "null"]),
+    ('"get",5', ["null", '"refused"'], ["40", "[]"]),
+    ('"insert",5,1', ["null"], ["1", "[]"]),
+    ('"remove",5', ["null"], ["40"]),
+    ('"replace",5,0,1', ["null"], ["0", "1"]),
+    ('"scan",4,7', ["[[4,40],[7,70]]", '"refused"'], ["[[7,70],[4,40]]", "[[4,40],[7,71]]", "[[4,40]]", "40", "null"]),
+    ('"scan",5,6', ["[]"], ["[[4,40]]", "null"]),
+    ('"scan",0,0', ["[[0,1]]"], ["[]"]),
+    ('"scan",5,18446744073709551615', ["[[7,70],[18446744073709551615,9]]"], ["[[7,70]]"]),
+    ('"scan",0,18446744073709551615', [f"[{HELD}]"], ["[]"]),
+]
+
 # Events, a budget and the report, whatever the number of workers.
 VERDICTS = [
     (NO_EVENTS, 1000, '{"order":[],"verdict":"yes"}'),
@@ -381,6 +404,15 @@ EXPLANATIONS = [
     # Of three hundred inserts the last stays, as it overwrites what is read behind it, and the read.
     (overwrites(300), 100_000, "598?o 600o"),
 ]
+
+# A scan that misses a pair in the middle of those that are held, and its explanation, from the pairs within its keys.
+HELD_BY_A_SCAN = "[1,10],[4,40],[5,50],[6,60],[9,90]"
+SCAN_MISSES_A_PAIR = '{"invoke":["scan",4,6],"process":0},{"answer":[[4,40],[6,60]],"process":0}'
+SCAN_EXPLAINED = """{"calls":[0],"hi":6,"lo":4,"verdict":"no"}
+{"answer":[[4,40],[6,60]],"call":["scan",4,6],"event":0,"process":0,"reason":"order"}
+{"events":[{"invoke":["scan",4,6],"process":0},{"answer":[[4,40],[6,60]],"process":0}],"start":[[4,40],[5,50],[6,60]],"version":2}
+{"front":[],"holds":[[4,40],[5,50],[6,60]],"next":[{"answer":[[4,40],[6,60]],"event":0,"would":[[4,40],[5,50],[6,60]]}]}
+"""
 
 # The get that misses the insert at its key is at another key than the scan, and the scan's group is judged before it.
 GET_OF_ANOTHER_GROUP_GOES_WRONG = """
@@ -645,6 +677,11 @@ def rows():
     """Words, a text, and the status, standard output and standard error that are wanted."""
     for events, words, line in ORDERS:
         yield ["check", *words.split()], history(events), int(line != "ok"), line + "\n", ""
+    for call, fitting, others in ANSWERS:
+        for reply in (*fitting, *others):
+            text = started(HELD, f'{{"invoke":[{call}],"process":0}},{{"answer":{reply},"process":0}}')
+            line = "ok" if reply in fitting else "fault: 4 Reply at place 0"
+            yield ["check", "0"], text, int(line != "ok"), line + "\n", ""
     for events, budget, report in VERDICTS:
         for workers in ("1", "2", "64"):
             words = ["judge", "--budget", str(budget), "--workers", workers]
@@ -663,6 +700,7 @@ def rows():
             yield ["locate", "--budget", str(budget), "--workers", workers], text, status_of(line), line + "\n", ""
     words = ["judge", "--budget", "1000", "--workers", "4"]
     yield words, most_starting_pairs(), 1, '{"calls":[0,1],"hi":4095,"lo":0,"verdict":"no"}\n', ""
+    yield ["explain"], started(HELD_BY_A_SCAN, SCAN_MISSES_A_PAIR), 1, SCAN_EXPLAINED, ""
     for words, events, report in OPTIONS:
         yield words.split(), history(events), status_of(report), report + "\n", ""
     for events, calls, overlap in FOLLOWED:

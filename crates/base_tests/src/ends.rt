@@ -25,9 +25,10 @@ fn each_read_fails_in_turn(rt: HostRuntime) -> Result<(), Fail> {
 // Five bytes at a time the text takes three writes.
 #[test]
 fn each_write_fails_in_turn(rt: HostRuntime) -> Result<(), Fail> {
-    for (fails_in, written) in [(0, 0), (1, 5), (2, 10), (3, 12), (4, 12)] {
+    for fails_in in 0..5 {
         let mut sink = MemorySink::new(Vec::new(rt.alloc()), 5, Some(fails_in));
         let is_whole = write_whole(&mut sink, TEXT).is_ok();
+        let written = TEXT.len().min(5 * fails_in as usize);
         assert!(rt; is_whole == (fails_in > 2) && sink.bytes() == &TEXT[..written]);
         assert!(rt; sink.failures() == u64::from(fails_in < 3));
     }

@@ -10,6 +10,6 @@ mod draws;
 #[cfg(test)]
 mod ends;
 #[cfg(test)]
-mod pieces;
+mod histories;
 #[cfg(test)]
 mod recorded;

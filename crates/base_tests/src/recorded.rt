@@ -1,9 +1,8 @@
 // What a recorder records, by hand and of two threads, and what a map under a lock answers.
-ghost use Rattle.std.specs.Prelude.{◌≡◌, ◌≤◌, IfOk};
+ghost use Rattle.std.specs.Prelude.{◌≤◌, IfOk};
 ghost use Rattle.recorder.specs.Recorders.{IsPassOf};
 
-use events::{Call, Reply};
-use history_text::write_history;
+use events::{Call, Event, Reply};
 use locked_map::LockedMap;
 use recorder::{CloseFault, Pass, Recorder, RecorderFault, Subject};
 use std::alloc::Global;
@@ -24,20 +23,47 @@ fn open_two(alloc: Global, calls_each: u32) -> Result<(Recorder, Pass, Pass), Fa
     }
 }
 
-const OVERLAPPING: &str =
-    r#"{"events":[{"invoke":["insert",5,7],"process":0},{"invoke":["get",5],"process":1},{"answer":null,"process":1},{"answer":null,"process":0}],"version":1}"#;
+/// Whether a call of process 1 was begun and answered within one of process 0.
+fn are_overlapping(events: &[Event]) -> bool {
+    matches!(
+        events,
+        [
+            Event::Invoke { process: 0, .. },
+            Event::Invoke { process: 1, .. },
+            Event::Answer { process: 1, .. },
+            Event::Answer { process: 0, .. },
+        ]
+    )
+}
 
-// The two calls overlap, what is out of turn is not recorded, and passes come back in any order.
+/// An insert and a get that overlap, and a response out of turn: whether what is in turn is recorded, and no more.
+fn overlap(recorder: &Recorder, first: &mut Pass, second: &mut Pass) -> bool
+    requires first { IsPassOf recorder.now first.old }
+    requires second { IsPassOf recorder.now second.old }
+    ensures { IsPassOf recorder.now first.new × IsPassOf recorder.now second.new }
+{
+    let recorded = [
+        recorder.invoke(first, Call::Insert(5, 7)),
+        recorder.invoke(second, Call::Get(5)),
+        recorder.answer(second, Reply::None),
+        recorder.answer(second, Reply::None),
+        recorder.answer(first, Reply::None),
+    ];
+    recorded
+        == [
+            Ok(()),
+            Ok(()),
+            Ok(()),
+            Err(RecorderFault::OutOfTurn),
+            Ok(()),
+        ]
+}
+
 #[test]
 fn without_a_pass_all_come_back_and_go_on(rt: HostRuntime) -> Result<(), Fail> {
     let alloc = rt.alloc();
-    let (recorder, mut first, mut second) = open_two(alloc, 1)?;
-    assert!(rt; recorder.invoke(&mut first, Call::Insert(5, 7)).is_ok());
-    assert!(rt; recorder.invoke(&mut second, Call::Get(5)).is_ok());
-    assert!(rt; recorder.answer(&mut second, Reply::None).is_ok());
-    assert!(rt; recorder.answer(&mut second, Reply::None) == Err(RecorderFault::OutOfTurn));
-    assert!(rt; recorder.invoke(&mut second, Call::Get(5)) == Err(RecorderFault::TooMany));
-    assert!(rt; recorder.answer(&mut first, Reply::None).is_ok());
+    let (recorder, mut first, mut second) = open_two(alloc, 2)?;
+    assert!(rt; overlap(&recorder, &mut first, &mut second));
     let passes = vec![in alloc; second]?;
     let Err(CloseFault::StillOut(recorder, mut passes)) = recorder.close(alloc, passes) else {
         panic!(rt; "a pass was missing");
@@ -46,7 +72,7 @@ fn without_a_pass_all_come_back_and_go_on(rt: HostRuntime) -> Result<(), Fail> {
     let Ok(history) = recorder.close(alloc, passes) else {
         panic!(rt; "all passes were there");
     };
-    assert!(rt; write_history(alloc, &history)?.as_str() == OVERLAPPING);
+    assert!(rt; are_overlapping(history.events()));
     Ok(())
 }
 
