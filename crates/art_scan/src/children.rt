@@ -134,6 +134,7 @@ fn next_walked(low: u64, high: u64, frame: &Frame) -> Option<WalkedByte>
 }
 
 /// A frame goes on to the next byte that is walked, and its slot; is there one?
+#[inline(always)]
 pub fn move_on(low: u64, high: u64, frame: &mut Frame, slot: &mut usize) -> bool
     requires { is_sound_frame frame.old ≡ true }
     ensures found { result ≡ true → (w : Walk) (other : ScanAt) → frame_at frame.old.row.kind low high w frame.old other

@@ -90,12 +90,12 @@ impl Lists {
     }
 
     /// The way goes on with a row.
-    pub fn descend(&mut self, frame: Frame)
+    pub fn descend(&mut self, frame: &Frame)
         requires room { vec_len self.old.way < vec_capacity self.old.way }
-        requires sound { is_sound_frame frame ≡ true }
-        ensures { walk_of self.new ≡ with_frame (walk_of self.old) frame }
+        requires sound { is_sound_frame frame.now ≡ true }
+        ensures { walk_of self.new ≡ with_frame (walk_of self.old) frame.now }
     {
-        match self.way.push(frame) {
+        match self.way.push(*frame) {
             Ok(()) => {}
             Err(_) => unreachable!(),
         }

@@ -214,25 +214,6 @@ fn waited(
     }
 }
 
-/// A row below this one is read.
-fn row_read(
-    setting: &Setting,
-    frame: Frame,
-    base: u32,
-    kind: Kind,
-    lists: &mut Lists,
-    step: &mut ScanStep,
-)
-    requires room { vec_len lists.old.way < vec_capacity lists.old.way }
-    requires sound { is_sound_frame frame ≡ true }
-    ensures step { at step.new (walk_of lists.new)
-        ≡ enter_at (setting_of setting.now) (Below base kind) (with_frame (walk_of lists.old) frame) }
-    ensures sound { is_sound_step step.new ≡ true }
-{
-    lists.descend(frame);
-    enter(setting, Entry::Below { base, kind }, step);
-}
-
 /// The step after an access that got this word.
 pub fn make_step(
     setting: &Setting,
@@ -301,8 +282,8 @@ pub fn make_step(
         }
         ScanStep::Child { frame, slot } => match setting.shape.child(got) {
             Child::Row { base, kind } => {
-                let frame = *frame;
-                row_read(setting, frame, base, kind, lists, step);
+                lists.descend(frame);
+                enter(setting, Entry::Below { base, kind }, step);
             }
             Child::Leaf { key, value } => {
                 lists.count(low, high, key, value);
