@@ -12,11 +12,7 @@ import json
 import sys
 
 sys.dont_write_bytecode = True
-<<<<<<< HEAD
-from rows import LONG, MOST_CALLS, answer, compare, gets, history, numbers, pairs_listed, scans_of_inserts  # noqa: E402
-=======
-from rows import LONG, MOST_CALLS, answer, compare, gets, history, numbers, pairs_listed, started  # noqa: E402
->>>>>>> a89c7301 (base_tests: events are compared as they stand, so no text is written; rows of the map, of options and of an explanation)
+from rows import LONG, MOST_CALLS, answer, compare, gets, history, numbers, pairs_listed, scans_of_inserts, started  # noqa: E402
 
 STATUSES = {"yes": 0, "no": 1, "undecided": 2}
 
