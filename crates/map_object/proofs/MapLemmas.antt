@@ -119,3 +119,11 @@ module _ (m : Contents) (rising : IsRising m) (key : ℕ) where
       All-cons (λ (b : ℕ × ℕ). key_of < b.0) (key, value) (above key m) low (λ j e in_back.
       let high = AreAbove-above m key j e in_back in
       omega arith))
+
+  -- with the pair of the key taken away
+  pub IsRising-remove : IsRising (below key m ++ above key m)
+  IsRising-remove = IsRising-append (below key m) (above key m) rising_below rising_above (λ i d in_front.
+      let low = AreBelow-below m key i d in_front in
+      λ j e in_back.
+      let high = AreAbove-above m key j e in_back in
+      omega arith)

@@ -3,7 +3,7 @@ use Rattle.std.proofs.Common.{◌≡◌, ℕ, suc, ◌+◌, ◌<◌, ◌≤◌, 
 use Rattle.std.proofs.Common.{Err, IfOk, IfErr, refl, sym, ap}
 use Rattle.std.proofs.Common.{eq-eqb, inl, inr}
 use Rattle.std.proofs.lemmas.Bool.Decides.{eqb_tells}
-use Rattle.std.proofs.Common.{subst, arith, drop-cons}
+use Rattle.std.proofs.Common.{subst, arith, drop-cons, add-one}
 use Rattle.std.specs.List.{insert}
 use Rattle.std.specs.List.Sorted.{IsSearchInRange, IsBinarySearchResult, IsNonDecreasingBy}
 use Rattle.std.specs.Ordering.{nat_cmp, ordering_index}
@@ -13,7 +13,7 @@ use Rattle.std.proofs.lemmas.List.Sorted.{IsNonDecreasingBy-from_default}
 use Rattle.std.proofs.lemmas.Bool.Decides.{nat_tests}
 use Rattle.map_object.specs.MapObject.{Contents, IsRising, value_at, below, above, after}
 use Rattle.events.specs.declared.event.Call.TheVariants.{Replace}
-use Rattle.map_object.proofs.MapLemmas.{IsRising-insert, AreBelow, AreAbove, below_gap, above_gap, value_at_gap, below_found, above_found}
+use Rattle.map_object.proofs.MapLemmas.{IsRising-insert, IsRising-remove, AreBelow, AreAbove, below_gap, above_gap, value_at_gap, below_found, above_found}
 use Rattle.map_object.proofs.MapLemmas.{value_at_found}
 use Rattle.map_object.specs.Places.{IsAt, IsGapFor}
 
@@ -81,10 +81,27 @@ module _ (m : Contents) (rising : IsRising m) (key : ℕ) where
         (higher_back m key i (λ j d le lt. ranked _ key _ (sym ((parted comparisons_rise).1 j d le lt))));
   }
 
+-- the pair at the place of the key: its value is the key's, and the pairs without it are those below the key and those above
+module _ (m : Contents) (key i : ℕ) where
+  pub value_found : (found : ℕ × ℕ) → IsAt m key i → found ≡ get_or m i found → Some found.1 ≡ value_at m key
+  value_found found at is = rw (at.value found, ← is) refl
+
+  pub taken_out : IsAt m key i → take i m ++ drop (i + 1) m ≡ below key m ++ above key m
+  taken_out at = rw (add-one, at.below, at.above) refl
+
+  pub none_taken_out : IsGapFor m key i → m ≡ below key m ++ above key m
+  none_taken_out gap = rw (gap.below, gap.above) (sym (take-append-drop i m))
+
+  pub rising_taken_out : IsRising m → IsAt m key i → IsRising (take i m ++ drop (i + 1) m)
+  rising_taken_out rising at = rw (taken_out at) (IsRising-remove m rising key)
+
 -- writing over the pair of the key, and putting a pair into the gap, as an insert asks
 module _ (m : Contents) (key i value : ℕ) where
   pub written : IsAt m key i → slice_set m i (key, value) ≡ below key m ++ (key, value) ∷ above key m
   written at = rw (at.below, at.above) (set_split m i (key, value) at.in_range)
+
+  pub put_in : IsGapFor m key i → insert m i (key, value) ≡ below key m ++ (key, value) ∷ above key m
+  put_in gap = rw (gap.below, gap.above) refl
 
   -- a replacement of the value there
   pub replaced : (expected : ℕ) (found : ℕ × ℕ) → IsAt m key i → found ≡ get_or m i found → found.1 ≡ expected
@@ -102,4 +119,4 @@ module _ (m : Contents) (key i value : ℕ) where
   rising_written rising at = rw (written at) (IsRising-insert m rising key value)
 
   pub rising_put : IsRising m → IsGapFor m key i → IsRising (insert m i (key, value))
-  rising_put rising gap = rw (← gap.below, ← gap.above) (IsRising-insert m rising key value)
+  rising_put rising gap = rw (put_in gap) (IsRising-insert m rising key value)
