@@ -1,12 +1,14 @@
 -- Pairs and events have one first fault at most, and with one they are no history.
+use Rattle.events.specs.declared.fault.HistoryFault.TheVariants as faults
 use Rattle.std.proofs.Common.{◌≡◌, ℕ, List, [], ◌∷◌, ◌++◌, Option, Some, None, sym, ap, ◌∙◌, refl, subst, inl, inr, ⊎_elim}
 use Rattle.std.specs.Prelude.{◌⊎◌}
 use Rattle.std.proofs.lemmas.Option.{same_Some}
 use Rattle.events.specs.declared.event.Event.{Event}
 use Rattle.events.specs.declared.fault.HistoryFault.{HistoryFault}
+use Rattle.events.specs.HistoryView.{HistoryView}
 use Rattle.events.specs.Starts.{IsStart}
 use Rattle.events.specs.Histories.{AreHistoryEvents}
-use Rattle.events.specs.HistoryFaults.{pair_fault_after, fault_after, IsFirstFaultOf, IsFirstPairFault, IsFirstEventFault}
+use Rattle.events.specs.HistoryFaults.{pair_fault_after, fault_after, IsFirstFaultOf, IsFirstPairFault, IsFirstEventFault, IsFirstFault, IsRefusedFor, IsRefusedAfter, IsPairRefusedAfter}
 use Rattle.events.specs.Laws.{HasOneFirstFault, FaultyIsNoHistory}
 use Rattle.events.proofs.HistoryLemmas.{AreHistoryEvents-next}
 use Rattle.events.proofs.StartLemmas.{IsStart-next}
@@ -82,3 +84,37 @@ one_first_fault history fault other (inr first) (inr second) =
 pub faulty_is_no_history : FaultyIsNoHistory
 faulty_is_no_history history fault (inl first) h = IsFirstPairFault-not_start history.start fault first h.start
 faulty_is_no_history history fault (inr first) h = IsFirstEventFault-not_events history.events fault first.1 h.events
+
+-- a first fault is why pairs and events are refused, and what is wrong with an event or a pair is why it is
+pub IsRefusedFor-from_first : (history : HistoryView) (fault : HistoryFault) → IsFirstFault history fault → IsRefusedFor history fault
+IsRefusedFor-from_first history faults.TooLong h = h
+IsRefusedFor-from_first history faults.NotJson h = h
+IsRefusedFor-from_first history faults.Version h = h
+IsRefusedFor-from_first history (faults.Shape event) h = h
+IsRefusedFor-from_first history faults.TooMany h = h
+IsRefusedFor-from_first history (faults.NotWellFormed event) h = h
+IsRefusedFor-from_first history faults.Memory h = tt
+IsRefusedFor-from_first history (faults.Start pair) h = h
+
+pub IsRefusedAfter-from_fault : (before : List Event) (e : Event) (fault : HistoryFault) → fault_after before e ≡ Some fault
+    → IsRefusedAfter before e fault
+IsRefusedAfter-from_fault before e faults.TooLong h = h
+IsRefusedAfter-from_fault before e faults.NotJson h = h
+IsRefusedAfter-from_fault before e faults.Version h = h
+IsRefusedAfter-from_fault before e (faults.Shape event) h = h
+IsRefusedAfter-from_fault before e faults.TooMany h = h
+IsRefusedAfter-from_fault before e (faults.NotWellFormed event) h = h
+IsRefusedAfter-from_fault before e faults.Memory h = tt
+IsRefusedAfter-from_fault before e (faults.Start pair) h = h
+
+pub IsPairRefusedAfter-from_fault : (before : List (ℕ × ℕ)) (pair : ℕ × ℕ) (fault : HistoryFault)
+    → pair_fault_after before pair ≡ Some fault
+    → IsPairRefusedAfter before pair fault
+IsPairRefusedAfter-from_fault before pair faults.TooLong h = h
+IsPairRefusedAfter-from_fault before pair faults.NotJson h = h
+IsPairRefusedAfter-from_fault before pair faults.Version h = h
+IsPairRefusedAfter-from_fault before pair (faults.Shape event) h = h
+IsPairRefusedAfter-from_fault before pair faults.TooMany h = h
+IsPairRefusedAfter-from_fault before pair (faults.NotWellFormed event) h = h
+IsPairRefusedAfter-from_fault before pair faults.Memory h = tt
+IsPairRefusedAfter-from_fault before pair (faults.Start place) h = h

@@ -67,6 +67,10 @@ IsWellFormed-push before e h turn p =
 pub call_count-push : (before : List Event) (e : Event) → call_count (before ++ e ∷ []) ≡ call_count before + cond (is_invocation e) 1 0
 call_count-push before e = sum_by-append (λ x. cond (is_invocation x) 1 0) before (e ∷ []) ∙ omega arith
 
+-- no events are those of a history
+pub AreHistoryEvents-none : AreHistoryEvents []
+AreHistoryEvents-none = record { shaped = refl; small = refl; calls = omega arith; well_formed = λ p. refl }
+
 -- what it means that nothing is wrong with an event
 record IsSound (calls : ℕ) (has_open : Bool) (e : Event) : Type 0 where
   shaped : is_shaped e ≡ true

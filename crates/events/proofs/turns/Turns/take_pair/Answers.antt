@@ -1,12 +1,29 @@
-use Rattle.std.proofs.Common.{◌≡◌, [], ap, sym, ◌∙◌}
+use Rattle.std.proofs.Common.{[], sym, ◌∙◌, refl}
 use Rattle.std.proofs.lemmas.Option.{none-some}
-use Rattle.events.specs.HistoryView.{HistoryView}
+use Rattle.std.proofs.lemmas.Result.{err_from_is_err_and}
 use Rattle.events.proofs.StartLemmas.{IsStart-next}
+use Rattle.events.proofs.FirstFaultLemmas.{IsPairRefusedAfter-from_fault}
 use Rattle.events.proofs.turns.Turns.take_pair.Goals as goal
 
-pub returns-in_err-test_pair-clause-accepted : goal.returns-in_err-test_pair-clause-accepted
-returns-in_err-test_pair-clause-accepted c = λ h.
+pub returns-in_err-test_pair : goal.returns-in_err-test_pair
+returns-in_err-test_pair c =
+    let p = err_from_is_err_and c.from_residual.result c.from_residual.ensures.1 in
     let pairs = c.self.inside.start.items in
-    let same : c.args.self.now.start ≡ pairs = ap (λ (v : HistoryView). v.start) (sym c.self.view_is) in
     let shows = rw c.deref.ensures.value at c.in_err-test_pair.ensures.fault in
-    absurd (none-some _ (sym (IsStart-next pairs [] c.args.pair (rw same at h)) ∙ shows))
+    rw (p.1, p.2, ← c.self.view_is) (record {
+      taken = tt;
+      history = c.self.invariant.0;
+      refused = IsPairRefusedAfter-from_fault pairs c.args.pair c.in_err-test_pair.field-0.0 shows;
+      accepted = λ h. absurd (none-some _ (sym (IsStart-next pairs [] c.args.pair h) ∙ shows));
+      unchanged = refl;
+    })
+
+-- want of memory: the pair is not taken
+pub returns-in_err-push : goal.returns-in_err-push
+returns-in_err-push c =
+    let p = err_from_is_err_and c.from_residual-in_err-push.result c.from_residual-in_err-push.ensures.1 in
+    rw (p.1, p.2, ← c.self.view_is, c.in_err-push.ensures.items)
+    (record { taken = tt; history = c.self.invariant.0; refused = tt; accepted = λ h. refl; unchanged = refl })
+
+pub invariant_of-self : goal.invariant_of-self
+invariant_of-self c = rw c.in_err-push.ensures.items c.self.invariant
