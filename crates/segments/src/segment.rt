@@ -1,5 +1,5 @@
 // Segments: some calls of a history, which an order is searched for by themselves.
-ghost use Rattle.std.specs.Prelude.{◌≡◌, ◌≢◌, ◌↔◌, ℕ, ◌<◌, ◌^◌, [], length, map, All, Contains, IfOk, MatchOption};
+ghost use Rattle.std.specs.Prelude.{◌≡◌, ◌≢◌, ◌↔◌, ℕ, ◌<◌, ◌^◌, ◌++◌, ◌∷◌, [], length, map, All, Contains, IfOk, OnOk, MatchOption};
 ghost use Rattle.std.specs.List.Sorted.{IsStrictlyIncreasing};
 ghost use Rattle.list_laws.specs.Lists.{least, greatest};
 ghost use Rattle.events.specs.Keys.{low_key, high_key};
@@ -150,7 +150,7 @@ fn copies_of(alloc: Global, calls: &[Operation], numbers: &[u32]) -> Result<Vec<
 {
     let mut taken = Vec::new(alloc);
     for number in numbers {
-        taken.push(calls[*number as usize].copy(alloc)?)?;
+        push_copy(alloc, &mut taken, &calls[*number as usize])?;
     }
     Ok(taken)
 }
@@ -179,9 +179,17 @@ fn copies(alloc: Global, calls: &[Operation]) -> Result<Vec<Operation>, Memory>
 {
     let mut taken = Vec::new(alloc);
     for call in calls {
-        taken.push(call.copy(alloc)?)?;
+        push_copy(alloc, &mut taken, call)?;
     }
     Ok(taken)
+}
+
+/// Puts a copy of the call behind the others.
+fn push_copy(alloc: Global, taken: &mut Vec<Operation>, call: &Operation) -> Result<(), Memory>
+    ensures { OnOk result (taken.new.items ≡ taken.old.items ++ call.now ∷ []) }
+{
+    taken.push(call.copy(alloc)?)?;
+    Ok(())
 }
 
 /// The least key that the calls name, or 0 where there is no call.

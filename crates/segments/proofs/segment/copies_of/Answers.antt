@@ -13,4 +13,4 @@ loop-number-preserved c =
     slice_get_read calls (length calls) (get_or numbers i 0) c.index-calls-number.result refl
     (c.requires i 0 c.loop-number-test.true) c.index-calls-number.is in
     let more = calls_at-more calls numbers i 0 c.index-calls-number.result c.loop-number-test.true here in
-    cc (c.in_ok-push.ensures.items, c.in_ok-copy.ensures)
+    cc (c.in_ok-push_copy.ensures)
