@@ -1,12 +1,13 @@
--- How many calls a list of events makes.
-use Rattle.std.proofs.Common.{◌≡◌, ℕ, suc, ◌≤◌, cond, List, [], ◌∷◌, length, refl, arith}
+-- The calls that a list of events makes: how many there are, and what each event adds.
+use Rattle.std.proofs.Common.{◌≡◌, ℕ, suc, ◌+◌, ◌<◌, ◌≤◌, cond, List, [], ◌∷◌, length, get_or, drop, refl, arith, add-one, drop-cons}
 use Rattle.std.proofs.lemmas.List.Sums.{sum_by-cons}
+use Rattle.events.specs.declared.event.Call.{Call}
 use Rattle.events.specs.declared.event.Event.{Event}
 use Rattle.events.specs.declared.event.Event.TheVariants.{Invoke, Answer}
 use Rattle.events.specs.Limits.{call_limit}
 use Rattle.events.specs.Events.{is_invocation}
 use Rattle.events.specs.Histories.{call_count, AreHistoryEvents}
-use Rattle.events.specs.Operations.{operations_from, operations}
+use Rattle.events.specs.Operations.{response_from, operations_from, operations}
 
 pub length-operations_from : (i : ℕ) (events : List Event) → length (operations_from i events) ≡ call_count events
 length-operations_from i [] = refl
@@ -17,3 +18,16 @@ length-operations_from i (Invoke p call ∷ events) =
 -- a history has at most the calls that the limit allows
 pub length-operations_le : (events : List Event) → AreHistoryEvents events → length (operations events) ≤ call_limit
 length-operations_le events h = omega (arith, length-operations_from 0 events, h.calls)
+
+-- an invocation adds its call, and a response none
+pub operations_from-invocation : (events : List Event) (i p : ℕ) (call : Call) → i < length events
+    → Invoke p call ≡ get_or events i (Invoke p call)
+    → operations_from i (drop i events)
+    ≡ record { call = call; inv = i; response = response_from p (i + 1) (drop (i + 1) events) } ∷ operations_from (i + 1) (drop (i + 1) events)
+operations_from-invocation events i p call inside is = rw (add-one, drop-cons events i (Invoke p call) inside, ← is) refl
+
+pub operations_from-response : (events : List Event) (i : ℕ) (e : Event) → i < length events → e ≡ get_or events i e
+    → ((p : ℕ) (call : Call) → e ≡ Invoke p call → ⊥)
+    → operations_from i (drop i events) ≡ operations_from (i + 1) (drop (i + 1) events)
+operations_from-response events i (Invoke p call) inside is other = absurd (other p call refl)
+operations_from-response events i (Answer p reply) inside is other = rw (add-one, drop-cons events i (Answer p reply) inside, ← is) refl
