@@ -1,5 +1,6 @@
 // Where a walk stands, and its steps.
-ghost use Rattle.std.specs.Prelude.{◌≡◌, ◌+◌, ◌<◌, ◌≤◌, ◌^◌, ℕ, [], true, false, length, take, drop, All, AllPairs, IfOk, OnOk};
+ghost use Rattle.std.specs.Prelude.{◌≡◌, ◌↔◌, ◌+◌, ◌<◌, ◌≤◌, ◌^◌, ◌∷◌, ◌++◌, ℕ, [], true, false, length, take, drop, All, AllPairs, IfOk, OnOk};
+ghost use Rattle.std.specs.Prelude.{if◌then◌else◌, IsTrue, Contains};
 ghost use Rattle.std.specs.List.{range_with_len};
 ghost use Rattle.events.specs.Precedence.{NonePrecedesItself, is_before};
 ghost use Rattle.map_object.specs.MapObject.{Contents};
@@ -59,13 +60,9 @@ pub fn open_standing(alloc: Global, map: SortedMap, calls: &[Operation]) -> Resu
     ensures one { IfOk result (λ s. length s.memo ≡ 1) }
 {
     let size = calls.len() as u32;
-    let mut memo = Memo::new(alloc);
-    let start = Config::start(alloc, &map)?;
-    if let Err((_config, memory)) = memo.visit(start) {
-        return Err(memory);
-    }
     let by_number = all_linked(alloc, size)?;
     let by_answer = linked_by_answer(alloc, calls)?;
+    let memo = visited_at_start(alloc, &map)?;
     Ok(Standing {
         levels: Vec::new(alloc),
         next: by_number.after(size),
@@ -75,6 +72,27 @@ pub fn open_standing(alloc: Global, map: SortedMap, calls: &[Operation]) -> Resu
         calls: by_number,
         answers: by_answer,
     })
+}
+
+/// The configurations visited before any call: the one at the map.
+fn visited_at_start(alloc: Global, map: &SortedMap) -> Result<Memo, Memory>
+    ensures { IfOk result (λ visited. visited ≡ record { taken = []; pairs = map.now } ∷ []) }
+{
+    let start = Config::start(alloc, map)?;
+    let mut memo = Memo::new(alloc);
+    let _new = visit(&mut memo, start)?;
+    Ok(memo)
+}
+
+/// Whether a configuration is new; from now on it is not.
+fn visit(memo: &mut Memo, config: Config) -> Result<bool, Memory>
+    ensures new { IfOk result (λ new. IsTrue new ↔ (Contains memo.old config → ⊥)) }
+    ensures visited { IfOk result (λ new. memo.new ≡ (if new then memo.old ++ config ∷ [] else memo.old)) }
+{
+    match memo.visit(config) {
+        Ok(new) => Ok(new),
+        Err((_config, memory)) => Err(memory),
+    }
 }
 
 /// One step: the next call is tried where it may come next, and else the walk goes back.
@@ -138,18 +156,14 @@ fn try_call(alloc: Global, calls: &[Operation], standing: &mut Standing) -> Resu
         .memo
         .at(standing.at)
         .with(alloc, place, &standing.map)?;
-    match standing.memo.visit(config) {
-        Ok(true) => {
-            push(calls.len() as u32, standing, place, undo)?;
-            Ok(())
-        }
-        Ok(false) => {
-            undo_call(alloc, &mut standing.map, undo)?;
-            standing.next = standing.calls.after(place);
-            Ok(())
-        }
-        Err((_config, memory)) => Err(memory),
+    let new = visit(&mut standing.memo, config)?;
+    if new {
+        push(calls.len() as u32, standing, place, undo)?;
+        return Ok(());
     }
+    undo_call(alloc, &mut standing.map, undo)?;
+    standing.next = standing.calls.after(place);
+    Ok(())
 }
 
 /// One call further, at the configuration that was visited last.

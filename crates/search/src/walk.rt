@@ -1,9 +1,11 @@
 // A search turn by turn.
 ghost use Rattle.std.specs.Prelude.{◌≡◌, ◌<◌, ◌≤◌, length, map, slice_index, All, IfOk};
+ghost use Rattle.std.specs.Result.{result_map_both};
 ghost use Rattle.search.specs.Exact.{IsExactAnswer};
 ghost use Rattle.search.specs.Found.{IsSoundAnswer};
 ghost use Rattle.search.specs.Standing.{places, Stands};
 ghost use Rattle.search.specs.Turn.{IsTurn, IsTurnAt};
+ghost use Rattle.search.specs.declared.walk.Turn.TheVariants.{Done};
 ghost use Rattle.search.specs.Limits.{budget_limit};
 
 use crate::found::Found;
@@ -77,15 +79,22 @@ impl Walk {
             budget,
             mut standing,
         } = self;
-        match make_turn(alloc, &segment, budget, &mut standing)? {
+        match make_turn(alloc, &segment, budget, &mut standing).transpose() {
             None => Ok(Turn::Going(Walk {
                 segment,
                 budget,
                 standing,
             })),
-            Some(found) => Ok(Turn::Done(found)),
+            Some(found) => done(found),
         }
     }
+}
+
+/// The search is over, with what it found.
+fn done(found: Result<Found, Memory>) -> Result<Turn, Memory>
+    ensures { result ≡ result_map_both Done (λ memory. memory) found }
+{
+    Ok(Turn::Done(found?))
 }
 
 /// Before any call of a segment, at its starting pairs.
@@ -147,8 +156,22 @@ pub fn search(alloc: Global, segment: &Segment, budget: u32) -> Result<Found, Me
     ensures sound { IfOk result (IsSoundAnswer budget segment.now) }
 {
     let mut standing = begin(alloc, segment)?;
+    search_on(alloc, segment, budget, &mut standing)
+}
+
+/// Searches a segment on from where a walk of it stands.
+fn search_on(
+    alloc: Global,
+    segment: &Segment,
+    budget: u32,
+    standing: &mut Standing,
+) -> Result<Found, Memory>
+    requires { Stands segment.now.start segment.now.calls standing.old }
+    ensures exact { IfOk result (IsExactAnswer budget segment.now) }
+    ensures sound { IfOk result (IsSoundAnswer budget segment.now) }
+{
     loop {
-        if let Some(found) = make_turn(alloc, segment, budget, &mut standing)? {
+        if let Some(found) = make_turn(alloc, segment, budget, standing)? {
             return Ok(found);
         }
     }

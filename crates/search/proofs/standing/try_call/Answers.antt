@@ -48,8 +48,8 @@ with-requires g c = λ h.
     let same = same_Some s.stands_at.0 c.at.result.now (sym s.stands_at.1 ∙ c.at.ensures) in
     s.left c.requires.1.1.1.known ((s.stands_at.2.taken w.next).0 (subst (λ (d : Configuration). Contains d.taken w.next) (sym same) h))
 
-pub returns-in_ok-undo_call-in-Ok-false : goal.returns-in_ok-undo_call-in-Ok-false
-returns-in_ok-undo_call-in-Ok-false g c =
+pub returns : goal.returns
+returns g c =
     let calls = c.args.calls.now in
     let w = c.args.standing.now in
     let s = c.requires.1.1.0 in
@@ -63,9 +63,8 @@ returns-in_ok-undo_call-in-Ok-false g c =
     may.preceded legal
     c.at.result.now config c.at.ensures c.in_ok-config.ensures.rising c.in_ok-config.ensures.taken
     (c.in_ok-config.ensures.pairs ∙ c.in_ok-undo.ensures.after) in
-    let visited_is = rw c.in-Ok-false.field-0-test at c.in-Ok-false.ensures.visited in
-    let within : Contains w.memo config = not_new config w.memo c.in-Ok-false.field-0 c.in-Ok-false.ensures.new
-    c.in-Ok-false.field-0-test in
+    let visited_is = rw c.if-new.false at c.in_ok-new.ensures.visited in
+    let within : Contains w.memo config = not_new config w.memo c.in_ok-new.new c.in_ok-new.ensures.new c.if-new.false in
     let cursor =
     cursor-seen g.start calls c.requires.1.0 w.levels.items w.next w.at w.map w.memo w.calls w.answers s may.known may.not_order a here
     may.preceded legal
@@ -78,16 +77,16 @@ returns-in_ok-undo_call-in-Ok-false g c =
     record {
       stands =
           StandsWith-same g.start calls w.levels.items w.levels.items
-          (slice_index w.calls.after w.next) c.after-standing-in-Ok-false.result w.at w.at w.map c.undo_call.new.map w.memo
-          c.visit.new.self w.calls w.calls
-          w.answers w.answers refl c.after-standing-in-Ok-false.ensures.after refl
-          (c.in_ok-undo_call-in-Ok-false.ensures ∙ c.in_ok-undo.ensures.undo)
+          (slice_index w.calls.after w.next) c.after-standing-2.result w.at w.at w.map c.undo_call.new.map w.memo
+          c.visit.new.memo w.calls w.calls
+          w.answers w.answers refl c.after-standing-2.ensures.after refl
+          (c.in_ok-undo_call.ensures ∙ c.in_ok-undo.ensures.undo)
           visited_is refl refl stands;
-      progress = inl (visited_is, rw c.after-standing-in-Ok-false.ensures.after less);
+      progress = inl (visited_is, rw c.after-standing-2.ensures.after less);
     }
 
-pub returns-in_ok-push-in-Ok-true : goal.returns-in_ok-push-in-Ok-true
-returns-in_ok-push-in-Ok-true g c =
+pub returns-then-new : goal.returns-then-new
+returns-then-new g c =
     let calls = c.args.calls.now in
     let w = c.args.standing.now in
     let s = c.requires.1.1.0 in
@@ -101,9 +100,9 @@ returns-in_ok-push-in-Ok-true g c =
     may.preceded legal
     c.at.result.now config c.at.ensures c.in_ok-config.ensures.rising c.in_ok-config.ensures.taken
     (c.in_ok-config.ensures.pairs ∙ c.in_ok-undo.ensures.after) in
-    let visited_is = rw c.in-Ok-true.field-0-test at c.in-Ok-true.ensures.visited in
-    let new = c.in-Ok-true.ensures.new.0 c.in-Ok-true.field-0-test in
-    let p = c.in_ok-push-in-Ok-true.ensures in
+    let visited_is = rw c.if-new.true at c.in_ok-new.ensures.visited in
+    let new = c.in_ok-new.ensures.new.0 c.if-new.true in
+    let p = c.in_ok-push.ensures in
     let level : Level = record { place = w.next; undo = c.in_ok-undo.undo; at = w.at } in
     let stands =
     StandsWith-push g.start calls c.requires.1.0 w.levels.items w.next w.at w.map w.memo w.calls w.answers s may.known may.not_order

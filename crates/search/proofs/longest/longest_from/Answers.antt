@@ -2,19 +2,19 @@ use Rattle.std.proofs.Common.{ap, ◌∙◌, arith}
 use Rattle.std.specs.Prelude.{map, slice_index}
 use Rattle.search.specs.Standing.{places}
 use Rattle.search.proofs.LongestLemmas.{as_long_as, as_long, longest-open, longest-kept, longest-longer, longest-most}
-use Rattle.search.proofs.longest.longest_front.Goals as goal
+use Rattle.search.proofs.longest.longest_from.Goals as goal
 
 pub loop-longest-init : goal.loop-longest-init
 loop-longest-init c =
     let segment = c.args.segment.now in
-    let standing = c.in_ok-standing.standing in
-    let stands = c.in_ok-standing.ensures.stands in
+    let standing = c.args.standing.now in
+    let stands = c.requires.stands in
     let is = c.in_ok-longest.ensures ∙ ap (λ ns. map (λ place. slice_index ns place) (places standing.levels.items))
     c.numbers.ensures.numbers in (
       stands,
-      longest-open segment standing stands c.in_ok-longest.longest.items is c.in_ok-standing.ensures.one,
+      longest-open segment standing stands c.in_ok-longest.longest.items is c.requires.one,
       omega
-          (arith, c.in_ok-standing.ensures.one),
+          (arith, c.requires.one),
     )
 
 pub loop-longest-preserved-then-len : goal.loop-longest-preserved-then-len
