@@ -29,15 +29,15 @@ pub fn search_calls(
     if calls.len() >= u32::MAX as usize {
         return Err(Memory);
     }
-    let standing = open(alloc, map, calls)?;
-    search_on(alloc, calls, standing, budget)
+    let mut standing = open(alloc, map, calls)?;
+    search_on(alloc, calls, &mut standing, budget)
 }
 
 /// Searches on from where a search stands.
 fn search_on(
     alloc: Global,
     calls: &[Operation],
-    standing: Standing,
+    standing: &mut Standing,
     budget: u32,
 ) -> Result<Found, Memory>
     ghost start: { Contents }
@@ -45,21 +45,20 @@ fn search_on(
     requires apart { NonePrecedesItself calls.now }
     requires rising { AllPairs (λ a b. a.inv < b.inv) calls.now }
     requires start_rises { IsRising start }
-    requires stands { StandsBare start calls.now standing }
+    requires stands { StandsBare start calls.now standing.old }
     ensures { IfOk result (IsFound start calls.now budget) }
 {
-    let mut standing = standing;
-    match look_on(alloc, calls, &mut standing)? {
+    match look_on(alloc, calls, standing)? {
         Progress::Made => {}
-        Progress::Order | Progress::NoOrder => return Ok(Found::Order(order_of(alloc, &standing)?)),
+        Progress::Order | Progress::NoOrder => return Ok(Found::Order(order_of(alloc, standing)?)),
     }
     loop {
         if standing.memo.len() > budget as usize {
             return Ok(Found::Spent);
         }
-        match make_step(alloc, calls, &mut standing)? {
+        match make_step(alloc, calls, standing)? {
             Progress::Made => {}
-            Progress::Order => return Ok(Found::Order(order_of(alloc, &standing)?)),
+            Progress::Order => return Ok(Found::Order(order_of(alloc, standing)?)),
             Progress::NoOrder => return Ok(Found::NoOrder),
         }
     }

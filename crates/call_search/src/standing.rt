@@ -1,5 +1,6 @@
 // Where a search stands, and its steps.
-ghost use Rattle.std.specs.Prelude.{◌≡◌, ◌+◌, ◌<◌, ◌≤◌, ◌^◌, length, [], AllPairs, IfOk, OnOk, Contains};
+ghost use Rattle.std.specs.Prelude.{◌≡◌, ◌↔◌, ◌+◌, ◌<◌, ◌≤◌, ◌^◌, ◌∷◌, ◌++◌, length, [], AllPairs, IfOk, OnOk, Contains};
+ghost use Rattle.std.specs.Prelude.{if◌then◌else◌, IsTrue};
 ghost use Rattle.events.specs.Precedence.{NonePrecedesItself};
 ghost use Rattle.map_object.specs.MapObject.{Contents, IsRising};
 ghost use Rattle.orders.specs.Orders.{IsOrder, IsLinearizable};
@@ -53,13 +54,9 @@ pub(crate) fn open(alloc: Global, map: SortedMap, calls: &[Operation]) -> Result
     ensures none { IfOk result (λ s. s.levels.items ≡ []) }
     ensures one { IfOk result (λ s. length s.memo ≡ 1) }
 {
-    let mut memo = Memo::new(alloc);
-    let start = Config::start(alloc, &map)?;
-    if let Err((_config, memory)) = memo.visit(start) {
-        return Err(memory);
-    }
     let mut taken = Vec::new(alloc);
     taken.resize(calls.len(), false)?;
+    let memo = visited_at_start(alloc, &map)?;
     Ok(Standing {
         levels: Vec::new(alloc),
         rest: Vec::new(alloc),
@@ -69,6 +66,27 @@ pub(crate) fn open(alloc: Global, map: SortedMap, calls: &[Operation]) -> Result
         taken,
         low: 0,
     })
+}
+
+/// The configurations visited before any call: the one at the map.
+fn visited_at_start(alloc: Global, map: &SortedMap) -> Result<Memo, Memory>
+    ensures { IfOk result (λ visited. visited ≡ record { taken = []; pairs = map.now } ∷ []) }
+{
+    let start = Config::start(alloc, map)?;
+    let mut memo = Memo::new(alloc);
+    let _new = visit(&mut memo, start)?;
+    Ok(memo)
+}
+
+/// Whether a configuration is new; from now on it is not.
+fn visit(memo: &mut Memo, config: Config) -> Result<bool, Memory>
+    ensures new { IfOk result (λ new. IsTrue new ↔ (Contains memo.old config → ⊥)) }
+    ensures visited { IfOk result (λ new. memo.new ≡ (if new then memo.old ++ config ∷ [] else memo.old)) }
+{
+    match memo.visit(config) {
+        Ok(new) => Ok(new),
+        Err((_config, memory)) => Err(memory),
+    }
 }
 
 /// One step: the next call is tried, or the search goes back where there is none.
@@ -113,17 +131,13 @@ fn take(
         .memo
         .at(standing.at)
         .with(alloc, place, &standing.map)?;
-    match standing.memo.visit(config) {
-        Ok(true) => {
-            push(alloc, standing, place, undo)?;
-            Ok(true)
-        }
-        Ok(false) => {
-            undo_call(alloc, &mut standing.map, undo)?;
-            Ok(false)
-        }
-        Err((_config, memory)) => Err(memory),
+    let new = visit(&mut standing.memo, config)?;
+    if new {
+        push(alloc, standing, place, undo)?;
+        return Ok(true);
     }
+    undo_call(alloc, &mut standing.map, undo)?;
+    Ok(false)
 }
 
 /// One call further, at the configuration that was visited last.

@@ -53,8 +53,8 @@ push-requires-clause-place g c =
     let lt = slice_get_within c.args.calls.now c.args.place next.call next.here in
     omega (arith, lt, c.requires.1.0.marked.all)
 
-pub returns-in_ok-push-in-Ok-true : goal.returns-in_ok-push-in-Ok-true
-returns-in_ok-push-in-Ok-true g c =
+pub returns-then-new : goal.returns-then-new
+returns-then-new g c =
     let calls = c.args.calls.now in
     let w = c.args.standing.now in
     let s = c.requires.1.0 in
@@ -74,8 +74,8 @@ returns-in_ok-push-in-Ok-true g c =
     c.in_ok-config.ensures.rising
     c.in_ok-config.ensures.taken
     (c.in_ok-config.ensures.pairs ∙ after_is ∙ ap (λ m. after_call m next.call.call next.call.response) (sym pairs_before)) in
-    let visited_is = rw c.in-Ok-true.field-0-test at c.in-Ok-true.ensures.visited in
-    let p = c.in_ok-push-in-Ok-true.ensures in
+    let visited_is = rw c.if-new.true at c.in_ok-new.ensures.visited in
+    let p = c.in_ok-push.ensures in
     let level : Level = record { place = c.args.place; undo = c.in_ok-undo.undo; at = w.at; rest = w.rest } in
     let n = c.push.new.standing in
     let stands =
@@ -92,8 +92,8 @@ returns-in_ok-push-in-Ok-true g c =
       ap (λ ls. to_try ls []) p.levels ∙ to_try-push w.levels.items level [] ∙ more (to_try w.levels.items w.rest.items),
     )
 
-pub returns-in_ok-undo_call-in-Ok-false : goal.returns-in_ok-undo_call-in-Ok-false
-returns-in_ok-undo_call-in-Ok-false g c =
+pub returns : goal.returns
+returns g c =
     let calls = c.args.calls.now in
     let w = c.args.standing.now in
     let s = c.requires.1.0 in
@@ -112,11 +112,10 @@ returns-in_ok-undo_call-in-Ok-false g c =
     c.in_ok-config.ensures.rising
     c.in_ok-config.ensures.taken
     (c.in_ok-config.ensures.pairs ∙ after_is ∙ ap (λ m. after_call m next.call.call next.call.response) (sym pairs_before)) in
-    let visited_is = rw c.in-Ok-false.field-0-test at c.in-Ok-false.ensures.visited in
-    let within : Contains w.memo config = not_new config w.memo c.in-Ok-false.field-0 c.in-Ok-false.ensures.new
-    c.in-Ok-false.field-0-test in
-    let pairs_back = c.in_ok-undo_call-in-Ok-false.ensures ∙ c.in_ok-undo.ensures.undo in (
-      subst (λ m. StandsWith g.start calls w.levels.items w.at m c.visit.new.self w.taken.items w.low) (sym pairs_back)
+    let visited_is = rw c.if-new.false at c.in_ok-new.ensures.visited in
+    let within : Contains w.memo config = not_new config w.memo c.in_ok-new.new c.in_ok-new.ensures.new c.if-new.false in
+    let pairs_back = c.in_ok-undo_call.ensures ∙ c.in_ok-undo.ensures.undo in (
+      subst (λ m. StandsWith g.start calls w.levels.items w.at m c.visit.new.memo w.taken.items w.low) (sym pairs_back)
           (subst (λ vs. StandsWith g.start calls w.levels.items w.at w.map vs w.taken.items w.low) (sym visited_is) s),
       visited_is,
       refl,
