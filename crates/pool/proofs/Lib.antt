@@ -1,3 +1,4 @@
 mod DealLemmas
+mod GatherLemmas
 mod KnownLemmas
 mod PassedLemmas

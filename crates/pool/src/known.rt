@@ -14,7 +14,7 @@ use segments::Segment;
 use std::alloc::Global;
 
 /// The answers at their segments' places, and none at the others.
-#[tactic(auto, using(crate::proofs::KnownLemmas::next_has_place, crate::proofs::KnownLemmas::next_is_put))]
+#[tactic(auto, using(crate::proofs::KnownLemmas::next_has_place))]
 pub(crate) fn in_place(
     alloc: Global,
     segments: usize,

@@ -1,5 +1,6 @@
 // The search of all segments, by workers.
-ghost use Rattle.std.specs.Prelude.{◌≤◌, [], All, EachIndex, IfOk, OnOk};
+ghost use Rattle.std.specs.Prelude.{◌≡◌, ◌≤◌, ◌++◌, [], All, EachIndex, IfOk, OnOk};
+ghost use Rattle.std.specs.Result.{MatchResult};
 ghost use Rattle.std.specs.List.{AllZip};
 ghost use Rattle.search.specs.Exact.{IsExactAnswer};
 ghost use Rattle.search.specs.Found.{IsSoundAnswer};
@@ -85,7 +86,18 @@ fn search_apart<R: Threads + Sync, G: Gate + Sync>(
     )?;
     let mut all = Vec::new(alloc);
     for answers in by_worker {
-        all.append(&mut answers?)?;
+        gather(&mut all, answers)?;
     }
     Ok(all)
+}
+
+/// Puts what a worker answers behind what those before it answer.
+fn gather(
+    all: &mut Vec<SegmentAnswer>,
+    answers: Result<Vec<SegmentAnswer>, Memory>,
+) -> Result<(), Memory>
+    ensures { OnOk result (MatchResult answers (λ v. all.new.items ≡ all.old.items ++ v.items) (λ _. ⊥)) }
+{
+    all.append(&mut answers?)?;
+    Ok(())
 }

@@ -1,6 +1,7 @@
 use Rattle.std.proofs.Common.{All, IfOk}
-use Rattle.std.proofs.lemmas.List.Elements.{All-append, All-head, All-rest}
+use Rattle.std.proofs.lemmas.List.Elements.{All-head, All-rest}
 use Rattle.pool.specs.Answers.{AnswersOneOf}
+use Rattle.pool.proofs.GatherLemmas.{All-gathered}
 use Rattle.pool.proofs.pool.search_apart.Goals as goal
 
 pub loop-answers-preserved : goal.loop-answers-preserved
@@ -10,6 +11,6 @@ loop-answers-preserved g c =
     let P = AnswersOneOf (g.G.Gate.was_passed c.args.gate.now) c.args.budget c.args.segments.now in
     let here = All-head (λ r. IfOk r (λ v. All P v.items)) c.in-Some.answers _ (rw next at kept.rest) in
     record {
-      so_far = rw c.in_ok-append.ensures.items (All-append P _ _ kept.so_far (rw c.in_ok-answers.was at here));
+      so_far = All-gathered P (λ v. v.items) _ _ c.in-Some.answers kept.so_far here c.in_ok-gather.ensures;
       rest = All-rest (λ r. IfOk r (λ v. All P v.items)) c.in-Some.answers _ _ next kept.rest;
     }
