@@ -1,13 +1,11 @@
 -- What a JSON value is, from what was found in it.
 use Rattle.events.specs.declared.event.Reply.TheVariants as replies
-use Rattle.std.proofs.Common.{◌≡◌, ℕ, zero, suc, ◌<◌, ◌≤◌, List, [], ◌∷◌, length, Option, Some, None, option_and_then, String, Global}
-use Rattle.std.proofs.Common.{string_bytes, slice_get}
-use Rattle.std.proofs.Common.{bytes_eq, true, false, true≢false, ◌-◌, map, codes, get_or, is_some, IfNone, refl, sym, ap, ◌∙◌, arith}
+use Rattle.std.proofs.Common.{◌≡◌, ℕ, zero, suc, ◌<◌, ◌≤◌, List, [], ◌∷◌, length, Option, Some, None, option_and_then}
+use Rattle.std.proofs.Common.{map, codes, get_or, is_some, IfNone, refl, sym, ap, ◌∙◌, arith}
 use Rattle.std.proofs.lemmas.List.{length-map}
-use Rattle.std.proofs.lemmas.Slice.Eq.{bytes_eq-Decides}
 use Rattle.serde_json.specs.Data.{unsigned, negative, float, Data, null, boolean, number, string, array, object, Items, Members}
-use Rattle.serde_json.specs.Find.{as_number, as_str, as_array, as_object, as_u64}
-use Rattle.serde_json.specs.View.{view, items_of, items_view, members_view}
+use Rattle.serde_json.specs.Find.{as_number, as_array, as_object, as_u64}
+use Rattle.serde_json.specs.View.{view, items_of, items_view}
 use Rattle.serde_json.specs.declared.value.Value.{Value}
 use Rattle.events.specs.declared.event.Call.{Call}
 use Rattle.events.specs.declared.event.Call.TheVariants.{Get, Insert, Remove, Scan, Replace}
@@ -24,40 +22,9 @@ object_found (string s) ms h = cc
 object_found (array ds) ms h = cc
 object_found (object ns) ms h = cc
 
--- a name with its value
-abbrev Entry : Type 0
-Entry = String Global × Value
-
--- the members of a map of two entries, the first and the last
-pub members_of_two : (es : List Entry) (a b : Entry) → length es ≡ 2 → slice_get es 0 ≡ Some a → slice_get es (length es - 1) ≡ Some b
-    → object (members_view es) ≡ object_of_two (string_bytes a.0) (view a.1) (string_bytes b.0) (view b.1)
-members_of_two [] a b len first last = cc
-members_of_two (x ∷ []) a b len first last = cc
-members_of_two (x ∷ y ∷ []) a b len first last = cc
-members_of_two (x ∷ y ∷ z ∷ es) a b len first last = absurd (omega arith)
-
--- a map with two members has two entries
-pub entries_of_two : (es : List Entry) (k l : List ℕ) (d e : Data) → object (members_view es) ≡ object_of_two k d l e → length es ≡ 2
-entries_of_two [] k l d e h = cc
-entries_of_two (x ∷ []) k l d e h = cc
-entries_of_two (x ∷ y ∷ []) k l d e h = refl
-entries_of_two (x ∷ y ∷ z ∷ es) k l d e h = cc
-
 -- equal objects of two members have the same first name
 pub first_names : (k l m n : List ℕ) (a b d e : Data) → object_of_two k a l b ≡ object_of_two m d n e → k ≡ m
 first_names k l m n a b d e h = cc
-
--- and the same second name
-pub second_names : (k l m n : List ℕ) (a b d e : Data) → object_of_two k a l b ≡ object_of_two m d n e → l ≡ n
-second_names k l m n a b d e h = cc
-
--- texts that compare as equal are equal
-pub same_texts : (xs ys : List ℕ) → true ≡ bytes_eq xs ys → xs ≡ ys
-same_texts xs ys h = (bytes_eq-Decides xs ys).0 (sym h)
-
--- texts that compare as different are different
-pub other_texts : (xs ys : List ℕ) → false ≡ bytes_eq xs ys → xs ≡ ys → ⊥
-other_texts xs ys h e = true≢false (sym ((bytes_eq-Decides xs ys).1 e) ∙ sym h)
 
 -- ---- lists
 
@@ -119,37 +86,14 @@ number_found (string s) n h = cc
 number_found (array ds) n h = cc
 number_found (object ms) n h = cc
 
--- a value whose text was found is that text
-string_found : (d : Data) (s : List ℕ) → Some s ≡ as_str d → d ≡ string s
-string_found null s h = cc
-string_found (boolean b) s h = cc
-string_found (number n) s h = cc
-string_found (string t) s h = cc
-string_found (array ds) s h = cc
-string_found (object ms) s h = cc
-
 -- a list of three values, each read at its place
-three_items : (vs : List Value) (x y z : Value) → length vs ≡ 3 → x ≡ get_or vs 0 x → y ≡ get_or vs 1 y → z ≡ get_or vs 2 z
+pub three_items : (vs : List Value) (x y z : Value) → length vs ≡ 3 → x ≡ get_or vs 0 x → y ≡ get_or vs 1 y → z ≡ get_or vs 2 z
     → vs ≡ x ∷ y ∷ z ∷ []
 three_items [] x y z len first second third = cc
 three_items (a ∷ []) x y z len first second third = cc
 three_items (a ∷ b ∷ []) x y z len first second third = cc
 three_items (a ∷ b ∷ e ∷ []) x y z len first second third = cc
 three_items (a ∷ b ∷ e ∷ f ∷ vs) x y z len first second third = absurd (omega arith)
-
--- the list of three values in which a name and two numbers were found
-pub name_and_two_numbers : (vs : List Value) (x y z : Value) (s : List ℕ) (m n : ℕ) → length vs ≡ 3 → x ≡ get_or vs 0 x → y ≡ get_or vs 1 y
-    → z ≡ get_or vs 2 z
-    → Some s ≡ as_str (view x) → Some m ≡ option_and_then as_u64 (as_number (view y)) → Some n ≡ option_and_then as_u64 (as_number (view z))
-    → list_data (map view vs) ≡ list_data (string s ∷ number_data m ∷ number_data n ∷ [])
-name_and_two_numbers vs x y z s m n len first second third name one two =
-    rw (
-      three_items vs x y z len first second third,
-      string_found (view x) s name,
-      number_found (view y) m one,
-      number_found
-          (view z) n two,
-    ) refl
 
 -- a list of four values, each read at its place
 pub four_items : (vs : List Value) (x y z u : Value) → length vs ≡ 4 → x ≡ get_or vs 0 x → y ≡ get_or vs 1 y → z ≡ get_or vs 2 z
@@ -161,21 +105,6 @@ four_items (a ∷ b ∷ []) x y z u len first second third fourth = cc
 four_items (a ∷ b ∷ e ∷ []) x y z u len first second third fourth = cc
 four_items (a ∷ b ∷ e ∷ f ∷ []) x y z u len first second third fourth = cc
 four_items (a ∷ b ∷ e ∷ f ∷ g ∷ vs) x y z u len first second third fourth = absurd (omega arith)
-
--- the list of four values in which a name and three numbers were found
-pub name_and_three_numbers : (vs : List Value) (x y z u : Value) (s : List ℕ) (k m n : ℕ) → length vs ≡ 4 → x ≡ get_or vs 0 x
-    → y ≡ get_or vs 1 y
-    → z ≡ get_or vs 2 z → u ≡ get_or vs 3 u
-    → Some s ≡ as_str (view x) → Some k ≡ option_and_then as_u64 (as_number (view y)) → Some m ≡ option_and_then as_u64 (as_number (view z))
-    → Some n ≡ option_and_then as_u64 (as_number (view u))
-    → list_data (map view vs) ≡ list_data (string s ∷ number_data k ∷ number_data m ∷ number_data n ∷ [])
-name_and_three_numbers vs x y z u s k m n len first second third fourth name one two three = rw (
-  four_items vs x y z u len first second third fourth,
-  string_found (view x) s name,
-  number_found (view y) k one,
-  number_found (view z) m two,
-  number_found (view u) n three,
-) refl
 
 -- ---- lists of values that are spelled one by one
 

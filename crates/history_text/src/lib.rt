@@ -3,6 +3,7 @@
 
 mod json_fault;
 mod json_text;
+mod parts;
 mod read_event;
 mod read_text;
 mod text_laws;
@@ -10,7 +11,8 @@ mod write_text;
 
 pub use json_fault::JsonFault;
 pub use json_text::json_of;
-pub use read_event::{call_of, may_stand, pair_of, pairs_of, reply_of, two_members};
+pub use parts::two_members;
+pub use read_event::{call_of, may_stand, pair_of, pairs_of, reply_of};
 pub use read_text::read_history;
 pub use text_laws::{one_history, one_text_fault};
 pub use write_text::{call_value, pairs_value, reply_value, write_history};

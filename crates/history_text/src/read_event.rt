@@ -1,6 +1,6 @@
 // From a JSON value to an event.
 ghost use Rattle.std.specs.Prelude.{◌≡◌, ◌≤◌, ◌<◌, ◌||◌, not, ◌∷◌, [], List, ℕ, map, IsTrue, IfOk, IfErr, IfSome, IfNone, OnOk};
-ghost use Rattle.serde_json.specs.Data.{Data, string};
+ghost use Rattle.serde_json.specs.Data.{string};
 ghost use Rattle.serde_json.specs.View.{view};
 ghost use Rattle.events.specs.declared.event.Call.{Call};
 ghost use Rattle.events.specs.declared.event.Reply.{Reply};
@@ -9,10 +9,11 @@ ghost use Rattle.events.specs.declared.fault.HistoryFault.TheVariants as faults;
 ghost use Rattle.events.specs.Histories.{has_range};
 ghost use Rattle.events.specs.PlainHistories.{is_replace};
 ghost use Rattle.history_text.specs.Texts.{number_data, list_data, pair_data, call_data, reply_data, event_data, may_stand};
-ghost use Rattle.history_text.specs.ValueFaults.{object_of_two, object_of_three, invocation_data, response_data, IsValueFault};
+ghost use Rattle.history_text.specs.ValueFaults.{invocation_data, response_data, IsValueFault};
 ghost use Rattle.history_text.specs.ValueFaults.{IsPairValueFault};
 ghost use Rattle.events.specs.Limits.{process_limit, start_limit};
 
+use crate::parts::{items_of, two_members};
 use events::{Call, Event, HistoryFault, MAX_START, Memory, Pairs, Reply};
 use serde_json::Value;
 use std::alloc::Global;
@@ -97,59 +98,6 @@ fn process_number(number: u64) -> Result<u8, HistoryFault>
     u8::try_from(number).map_err(|_| HistoryFault::TooMany)
 }
 
-/// The values of an object that has two members alone, by these names in this order.
-pub fn two_members<'a>(
-    value: &'a Value,
-    first: &str,
-    second: &str,
-) -> Option<(&'a Value, &'a Value)>
-    ensures some { IfSome result (λ found. view value.now
-        ≡ object_of_two first.now (view found.0.now) second.now (view found.1.now)) }
-    ensures none { IfNone result ((d e : Data)
-        → view value.now ≡ object_of_two first.now d second.now e → ⊥) }
-{
-    let members = value.as_object()?;
-    if members.len() != 2 {
-        return None;
-    }
-    let (first_name, first_value) = members.first_key_value()?;
-    let (second_name, second_value) = members.last_key_value()?;
-    if first_name.as_str() == first && second_name.as_str() == second {
-        Some((first_value, second_value))
-    } else {
-        None
-    }
-}
-
-/// The values of an object that has three members alone, by these names in this order.
-pub fn three_members<'a>(
-    value: &'a Value,
-    first: &str,
-    second: &str,
-    third: &str,
-) -> Option<(&'a Value, &'a Value, &'a Value)>
-    ensures some { IfSome result (λ found. view value.now
-        ≡ object_of_three first.now (view found.0.now) second.now (view found.1.now) third.now (view found.2.now)) }
-    ensures none { IfNone result ((d e f : Data)
-        → view value.now ≡ object_of_three first.now d second.now e third.now f → ⊥) }
-{
-    let mut members = value.as_object()?.iter();
-    let (first_name, first_value) = members.next()?;
-    let (second_name, second_value) = members.next()?;
-    let (third_name, third_value) = members.next()?;
-    if members.next().is_some() {
-        return None;
-    }
-    if first_name.as_str() == first
-        && second_name.as_str() == second
-        && third_name.as_str() == third
-    {
-        Some((first_value, second_value, third_value))
-    } else {
-        None
-    }
-}
-
 /// The call that a value spells, a scan only with its ends in order.
 pub fn call_of(value: &Value) -> Option<Call>
     ensures some { IfSome result (λ call. view value.now ≡ call_data call) }
@@ -157,19 +105,52 @@ pub fn call_of(value: &Value) -> Option<Call>
     ensures none { IfNone result ((call : Call)
         → view value.now ≡ call_data call → IsTrue (has_range call) → ⊥) }
 {
-    match value.as_array()?.as_slice() {
-        [name, key] => one_number_call(name.as_str()?, key.as_u64()?),
-        [name, first, second] => {
-            two_number_call(name.as_str()?, first.as_u64()?, second.as_u64()?)
-        }
-        [name, key, old, new] => {
-            three_number_call(name.as_str()?, key.as_u64()?, old.as_u64()?, new.as_u64()?)
-        }
+    match items_of(value)? {
+        [name, key] => call_of_two(name, key),
+        [name, first, second] => call_of_three(name, first, second),
+        [name, key, old, new] => call_of_four(name, key, old, new),
         _ => None,
     }
 }
 
-fn one_number_call(name: &str, key: u64) -> Option<Call>
+/// The call that an array of two values spells.
+fn call_of_two(name: &Value, key: &Value) -> Option<Call>
+    ensures some { IfSome result (λ call. call_data call
+        ≡ list_data (view name.now ∷ view key.now ∷ [])) }
+    ensures range { IfSome result (λ call. IsTrue (has_range call)) }
+    ensures none { IfNone result ((call : Call)
+        → call_data call ≡ list_data (view name.now ∷ view key.now ∷ []) → ⊥) }
+{
+    get_or_remove(name.as_str()?, key.as_u64()?)
+}
+
+/// The call that an array of three values spells, a scan only with its ends in order.
+fn call_of_three(name: &Value, first: &Value, second: &Value) -> Option<Call>
+    ensures some { IfSome result (λ call. call_data call
+        ≡ list_data (view name.now ∷ view first.now ∷ view second.now ∷ [])) }
+    ensures range { IfSome result (λ call. IsTrue (has_range call)) }
+    ensures none { IfNone result ((call : Call)
+        → call_data call ≡ list_data (view name.now ∷ view first.now ∷ view second.now ∷ [])
+        → IsTrue (has_range call) → ⊥) }
+{
+    insert_or_scan(name.as_str()?, first.as_u64()?, second.as_u64()?)
+}
+
+/// The call that an array of four values spells.
+fn call_of_four(name: &Value, key: &Value, old: &Value, new: &Value) -> Option<Call>
+    ensures some { IfSome result (λ call. call_data call
+        ≡ list_data (view name.now ∷ view key.now ∷ view old.now ∷ view new.now ∷ [])) }
+    ensures range { IfSome result (λ call. IsTrue (has_range call)) }
+    ensures none { IfNone result ((call : Call)
+        → call_data call
+        ≡ list_data (view name.now ∷ view key.now ∷ view old.now ∷ view new.now ∷ [])
+        → ⊥) }
+{
+    replace(name.as_str()?, key.as_u64()?, old.as_u64()?, new.as_u64()?)
+}
+
+/// The call of this name with one number.
+fn get_or_remove(name: &str, key: u64) -> Option<Call>
     ensures some { IfSome result (λ call. call_data call
         ≡ list_data (string name.now ∷ number_data key ∷ [])) }
     ensures range { IfSome result (λ call. IsTrue (has_range call)) }
@@ -183,7 +164,8 @@ fn one_number_call(name: &str, key: u64) -> Option<Call>
     }
 }
 
-fn two_number_call(name: &str, first: u64, second: u64) -> Option<Call>
+/// The call of this name with two numbers, a scan only with its ends in order.
+fn insert_or_scan(name: &str, first: u64, second: u64) -> Option<Call>
     ensures some { IfSome result (λ call. call_data call
         ≡ list_data (string name.now ∷ number_data first ∷ number_data second ∷ [])) }
     ensures range { IfSome result (λ call. IsTrue (has_range call)) }
@@ -199,7 +181,8 @@ fn two_number_call(name: &str, first: u64, second: u64) -> Option<Call>
     }
 }
 
-fn three_number_call(name: &str, key: u64, old: u64, new: u64) -> Option<Call>
+/// The call of this name with three numbers.
+fn replace(name: &str, key: u64, old: u64, new: u64) -> Option<Call>
     ensures some { IfSome result (λ call. call_data call
         ≡ list_data (string name.now ∷ number_data key ∷ number_data old ∷ number_data new ∷ [])) }
     ensures range { IfSome result (λ call. IsTrue (has_range call)) }
@@ -271,7 +254,7 @@ pub fn pair_of(value: &Value) -> Option<(u64, u64)>
     ensures some { IfSome result (λ pair. view value.now ≡ pair_data pair) }
     ensures none { IfNone result ((pair : ℕ × ℕ) → view value.now ≡ pair_data pair → ⊥) }
 {
-    match value.as_array()?.as_slice() {
+    match items_of(value)? {
         [key, value] => Some((key.as_u64()?, value.as_u64()?)),
         _ => None,
     }

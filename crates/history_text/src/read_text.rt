@@ -12,7 +12,8 @@ ghost use Rattle.history_text.specs.ValueFaults.{IsFaultAmong, IsPairFaultAmong}
 
 use crate::json_fault::JsonFault;
 use crate::json_text::json_of;
-use crate::read_event::{event_of, starting_pair, three_members, two_members};
+use crate::parts::{is_number, items_of, three_members, two_members};
+use crate::read_event::{event_of, starting_pair};
 use events::{History, HistoryFault, Turns};
 use serde_json::Value;
 use std::alloc::Global;
@@ -56,38 +57,49 @@ fn turns_of(alloc: Global, value: &Value) -> Result<Turns, HistoryFault>
     if let Some(items) = events_alone(value) {
         return events_of(alloc, Turns::new(alloc), false, items);
     }
-    let (pairs, items) = start_and_events(value).ok_or(HistoryFault::Version)?;
+    match start_and_events(value) {
+        Some((pairs, items)) => turns_after(alloc, pairs, items),
+        None => Err(HistoryFault::Version),
+    }
+}
+
+/// The starting pairs that the first values spell, and the events that the others spell after them.
+fn turns_after(alloc: Global, pairs: &[Value], items: &[Value]) -> Result<Turns, HistoryFault>
+    ensures spelled { IfOk result
+        (SpellsAs (document (Some (map view pairs.now)) (map view items.now))) }
+    ensures history { IfOk result IsHistory }
+    ensures refused { IfErr result
+        (IsDocumentFault (document (Some (map view pairs.now)) (map view items.now))) }
+{
     let start = start_of(alloc, pairs)?;
     events_of(alloc, start, true, items)
 }
 
 /// The values of the events of a document without a start, where its top level is right.
-fn events_alone(value: &Value) -> Option<&Vec<Value>>
-    ensures some { IfSome result (λ items. view value.now ≡ document None (map view items.now.items)) }
+fn events_alone(value: &Value) -> Option<&[Value]>
+    ensures some { IfSome result (λ items. view value.now ≡ document None (map view items.now)) }
     ensures none { IfNone result ((items : List Data) → view value.now ≡ document None items → ⊥) }
 {
     let (events, version) = two_members(value, "events", "version")?;
-    if version.as_u64() == Some(1) {
-        events.as_array()
+    if is_number(version, 1) {
+        items_of(events)
     } else {
         None
     }
 }
 
 /// The values of the start and of the events of a document with a start, where its top level is right.
-fn start_and_events(value: &Value) -> Option<(&Vec<Value>, &Vec<Value>)>
+fn start_and_events(value: &Value) -> Option<(&[Value], &[Value])>
     ensures some { IfSome result (λ found. view value.now
-        ≡ document (Some (map view found.0.now.items)) (map view found.1.now.items)) }
+        ≡ document (Some (map view found.0.now)) (map view found.1.now)) }
     ensures none { IfNone result ((start items : List Data)
         → view value.now ≡ document (Some start) items → ⊥) }
 {
     let (events, start, version) = three_members(value, "events", "start", "version")?;
-    if version.as_u64() != Some(2) {
-        return None;
-    }
-    match (start.as_array(), events.as_array()) {
-        (Some(start), Some(events)) => Some((start, events)),
-        _ => None,
+    if is_number(version, 2) {
+        Some((items_of(start)?, items_of(events)?))
+    } else {
+        None
     }
 }
 

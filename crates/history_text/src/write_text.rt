@@ -1,10 +1,12 @@
 // From a history to its text.
-ghost use Rattle.std.specs.Prelude.{◌≡◌, ◌≤◌, map, IfOk, string_bytes, string_len};
+ghost use Rattle.std.specs.Prelude.{◌≡◌, ◌≤◌, ◌∷◌, map, codes, IfOk, string_bytes, string_len};
+ghost use Rattle.serde_json.specs.Data.{string};
 ghost use Rattle.serde_json.specs.View.{view};
 ghost use Rattle.serde_json.specs.Written.{compact_text};
 ghost use Rattle.std.specs.List.{list_all};
 ghost use Rattle.events.specs.PlainHistories.{is_plain_event, is_plain};
-ghost use Rattle.history_text.specs.Texts.{list_data, pair_data, call_data, reply_data, event_data, history_data, Spells};
+ghost use Rattle.history_text.specs.Texts.{number_data, list_data, pair_data, call_data, reply_data, event_data, history_data, Spells};
+ghost use Rattle.history_text.specs.ValueFaults.{object_of_two, object_of_three, invocation_data, response_data};
 ghost use Rattle.history_text.specs.Limits.{text_limit};
 
 use events::{Call, Event, History, Memory, Reply};
@@ -24,14 +26,31 @@ pub fn write_history(alloc: Global, history: &History) -> Result<String, Memory>
     Ok(value.to_string(alloc)?)
 }
 
+/// The JSON value of a history.
 fn history_value(alloc: Global, history: &History) -> Result<Value, AllocError>
     ensures { IfOk result (λ value. view value ≡ history_data history.now) }
 {
     let events = events_value(alloc, history.events())?;
     if is_plain(history) {
-        return json!(in alloc; {"events": events, "version": 1u64});
+        return first_version(alloc, events);
     }
     let start = pairs_value(alloc, history.start())?;
+    second_version(alloc, events, start)
+}
+
+/// The document of a history without a start, by the value of its events.
+fn first_version(alloc: Global, events: Value) -> Result<Value, AllocError>
+    ensures { IfOk result (λ value. view value
+        ≡ object_of_two (codes "events") (view events) (codes "version") (number_data 1)) }
+{
+    json!(in alloc; {"events": events, "version": 1u64})
+}
+
+/// The document of a history with a start, by the values of its events and of its start.
+fn second_version(alloc: Global, events: Value, start: Value) -> Result<Value, AllocError>
+    ensures { IfOk result (λ value. view value
+        ≡ object_of_three (codes "events") (view events) (codes "start") (view start) (codes "version") (number_data 2)) }
+{
     json!(in alloc; {"events": events, "start": start, "version": 2u64})
 }
 
@@ -76,28 +95,51 @@ fn event_value(alloc: Global, event: &Event) -> Result<Value, AllocError>
     ensures { IfOk result (λ value. view value ≡ event_data event.now) }
 {
     match event {
-        Event::Invoke { process, call } => {
-            let call = call_value(alloc, call)?;
-            json!(in alloc; {"invoke": call, "process": *process})
-        }
-        Event::Answer { process, reply } => {
-            let reply = reply_value(alloc, reply)?;
-            json!(in alloc; {"answer": reply, "process": *process})
-        }
+        Event::Invoke { process, call } => invocation_value(alloc, *process, call),
+        Event::Answer { process, reply } => response_value(alloc, *process, reply),
     }
 }
 
-/// The JSON value of a call.
+fn invocation_value(alloc: Global, process: u8, call: &Call) -> Result<Value, AllocError>
+    ensures { IfOk result (λ value. view value
+        ≡ invocation_data (call_data call.now) (number_data process)) }
+{
+    let call = call_value(alloc, call)?;
+    json!(in alloc; {"invoke": call, "process": process})
+}
+
+fn response_value(alloc: Global, process: u8, reply: &Reply) -> Result<Value, AllocError>
+    ensures { IfOk result (λ value. view value
+        ≡ response_data (reply_data reply.now) (number_data process)) }
+{
+    let reply = reply_value(alloc, reply)?;
+    json!(in alloc; {"answer": reply, "process": process})
+}
+
+/// The JSON value of a call: an array of its name and its numbers.
 pub fn call_value(alloc: Global, call: &Call) -> Result<Value, AllocError>
     ensures { IfOk result (λ value. view value ≡ call_data call.now) }
 {
     match call {
-        Call::Get(key) => json!(in alloc; ["get", *key]),
-        Call::Insert(key, value) => json!(in alloc; ["insert", *key, *value]),
-        Call::Remove(key) => json!(in alloc; ["remove", *key]),
-        Call::Scan(low, high) => json!(in alloc; ["scan", *low, *high]),
-        Call::Replace(key, old, new) => json!(in alloc; ["replace", *key, *old, *new]),
+        Call::Get(key) => named_numbers(alloc, "get", &[*key]),
+        Call::Insert(key, value) => named_numbers(alloc, "insert", &[*key, *value]),
+        Call::Remove(key) => named_numbers(alloc, "remove", &[*key]),
+        Call::Scan(low, high) => named_numbers(alloc, "scan", &[*low, *high]),
+        Call::Replace(key, old, new) => named_numbers(alloc, "replace", &[*key, *old, *new]),
     }
+}
+
+/// An array of a name and the numbers that follow it.
+fn named_numbers(alloc: Global, name: &str, numbers: &[u64]) -> Result<Value, AllocError>
+    ensures { IfOk result (λ value. view value
+        ≡ list_data (string name.now ∷ map number_data numbers.now)) }
+{
+    let mut items = Vec::new(alloc);
+    items.push(Value::try_from_str(alloc, name)?)?;
+    for number in numbers {
+        items.push(Value::from(*number))?;
+    }
+    Ok(Value::from(items))
 }
 
 /// The JSON value of a reply.
@@ -117,8 +159,14 @@ pub fn pairs_value(alloc: Global, pairs: &[(u64, u64)]) -> Result<Value, AllocEr
     ensures { IfOk result (λ value. view value ≡ list_data (map pair_data pairs.now)) }
 {
     let mut items = Vec::new(alloc);
-    for (key, value) in pairs {
-        items.push(json!(in alloc; [*key, *value])?)?;
+    for pair in pairs {
+        items.push(pair_value(alloc, *pair)?)?;
     }
     Ok(Value::from(items))
+}
+
+fn pair_value(alloc: Global, pair: (u64, u64)) -> Result<Value, AllocError>
+    ensures { IfOk result (λ value. view value ≡ pair_data pair) }
+{
+    json!(in alloc; [pair.0, pair.1])
 }

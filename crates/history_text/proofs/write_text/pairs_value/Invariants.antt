@@ -4,5 +4,5 @@ use Rattle.serde_json.specs.View.{view}
 use Rattle.history_text.specs.Texts.{pair_data}
 use Rattle.history_text.proofs.write_text.pairs_value.Given as goal
 
-abbrev pub invariant-loop-key : goal.invariant-loop-key
-invariant-loop-key l = map view l.items.items ≡ map pair_data (take l.key-index l.pairs)
+abbrev pub invariant-loop-pair : goal.invariant-loop-pair
+invariant-loop-pair l = map view l.items.items ≡ map pair_data (take l.pair-index l.pairs)
