@@ -2,13 +2,14 @@
 ghost use Rattle.std.specs.Prelude.{◌≡◌, ◌≤◌, Bool, IfOk, string_bytes, string_len};
 ghost use Rattle.serde_json.specs.View.{view};
 ghost use Rattle.serde_json.specs.Written.{compact_text};
-ghost use Rattle.history_text.specs.Texts.{event_data};
+ghost use Rattle.history_text.specs.Texts.{number_data, call_data, reply_data, event_data};
+ghost use Rattle.history_text.specs.ValueFaults.{invocation_data, response_data};
 ghost use Rattle.stream_text.specs.Cuts.{HasNoLineFeed};
 ghost use Rattle.stream_text.specs.LineLimits.{line_limit};
 ghost use Rattle.stream_text.specs.Lines.{as_event, MayStandIn, SpellsEvent};
 
 use crate::event::StreamEvent;
-use events::Memory;
+use events::{Call, Memory, Reply};
 use history_text::{call_value, reply_value};
 use serde_json::{Value, json};
 use std::alloc::{AllocError, Global};
@@ -25,17 +26,26 @@ pub fn event_line(alloc: Global, event: &StreamEvent) -> Result<String, Memory>
     Ok(value.to_string(alloc)?)
 }
 
+/// The JSON value of an event.
 fn event_value(alloc: Global, event: &StreamEvent) -> Result<Value, AllocError>
     ensures { IfOk result (λ value. view value ≡ event_data (as_event event.now)) }
 {
     match event {
-        StreamEvent::Invoke { process, call } => {
-            let call = call_value(alloc, call)?;
-            json!(in alloc; {"invoke": call, "process": *process})
-        }
-        StreamEvent::Answer { process, reply } => {
-            let reply = reply_value(alloc, reply)?;
-            json!(in alloc; {"answer": reply, "process": *process})
-        }
+        StreamEvent::Invoke { process, call } => invocation_value(alloc, *process, call),
+        StreamEvent::Answer { process, reply } => response_value(alloc, *process, reply),
     }
+}
+
+fn invocation_value(alloc: Global, process: u16, call: &Call) -> Result<Value, AllocError>
+    ensures { IfOk result (λ value. view value ≡ invocation_data (call_data call.now) (number_data process)) }
+{
+    let call = call_value(alloc, call)?;
+    json!(in alloc; {"invoke": call, "process": process})
+}
+
+fn response_value(alloc: Global, process: u16, reply: &Reply) -> Result<Value, AllocError>
+    ensures { IfOk result (λ value. view value ≡ response_data (reply_data reply.now) (number_data process)) }
+{
+    let reply = reply_value(alloc, reply)?;
+    json!(in alloc; {"answer": reply, "process": process})
 }
