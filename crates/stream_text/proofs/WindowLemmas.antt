@@ -1,9 +1,9 @@
 -- What stands between two places of a buffer.
-use Rattle.std.proofs.Common.{◌≡◌, ℕ, ◌+◌, ◌-◌, ◌≤◌, min, List, [], ◌++◌, length, take, drop, refl, sym, ap, ◌∙◌, length-take, length-drop}
+use Rattle.std.proofs.Common.{◌≡◌, ℕ, ◌+◌, ◌-◌, ◌≤◌, min, List, ◌++◌, length, take, drop, sym, ap, ◌∙◌, length-take, length-drop}
 use Rattle.std.proofs.Common.{arith}
-use Rattle.std.specs.List.{between, copy_within}
+use Rattle.std.specs.List.{between}
 use Rattle.std.proofs.lemmas.List.{take-take, drop-drop, drop_min, drop-append-le, take_at, length-take-le}
-use Rattle.std.proofs.lemmas.Slice.{between_is, between_from_start}
+use Rattle.std.proofs.lemmas.Slice.{between_is}
 use Rattle.std.proofs.Math.Seq.{take-add}
 
 -- the first of what stands there
