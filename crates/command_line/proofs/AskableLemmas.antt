@@ -4,8 +4,9 @@ use Rattle.std.proofs.Common.{Some}
 use Rattle.std.specs.Str.{bytes_eq}
 use Rattle.std.proofs.lemmas.Option.{same_Some}
 use Rattle.clap.specs.Words.{Row, Text}
-use Rattle.command_line.specs.Requests.{AreCallsOf, AreFlagsOf, AreNumbersOf, AreWithinFrom, Asked, Asks, Fits, IsAskable, numbers_from}
+use Rattle.command_line.specs.Requests.{AreCallsOf, AreFlagsOf, AreNumbersOf, AreWithinFrom, Asked, Asks, Fits, IsAskable, IsRequestOf, asked_of, flags_of, numbers_from}
 use Rattle.command_line.specs.Tables.{Flag, Usage, usage_named}
+use Rattle.command_line.specs.declared.request.Request.{Request}
 use Rattle.command_line.proofs.TableLemmas.{same_swapped}
 
 -- the numbers from the next place on are those of the rest
@@ -79,3 +80,24 @@ askable table met asked asks =
       within = numbers.1;
       no_calls = calls_fit asks.usage.takes_calls _ asked.calls asks.calls;
     })
+
+-- so a request of the name of a subcommand is of it
+pub is_of : (table : List Usage) (u : Usage) (r : Request) → r.subcommand.now.name.now ≡ u.name → usage_named u.name table ≡ Some u
+    → IsAskable table (asked_of r) → AreFlagsOf table r.subcommand.now.name.now (flags_of r) → IsRequestOf u r
+is_of [] u r name named askable described = cc
+is_of (v ∷ vs) u r name named askable described = go (bytes_eq v.name u.name) refl named (λ later differ. is_of vs u r name later
+    (askable.1 differ) (described.1 differ))
+  where
+    same : bytes_eq r.subcommand.now.name.now v.name ≡ bytes_eq v.name u.name
+    same = same_swapped r.subcommand.now.name.now v.name ∙ ap (bytes_eq v.name) name
+
+    go : (b : Bool) → bytes_eq v.name u.name ≡ b → cond b (Some v) (usage_named u.name vs) ≡ Some u
+        → (usage_named u.name vs ≡ Some u → bytes_eq r.subcommand.now.name.now v.name ≡ false → IsRequestOf u r) → IsRequestOf u r
+    go true is found later =
+        let found_is = same_Some v u found in
+        record {
+          name = name;
+          flags = described.0 (same ∙ is) ∙ ap (λ (w : Usage). w.flags) found_is;
+          fits = subst (λ (w : Usage). Fits w (asked_of r)) found_is (askable.0 (same ∙ is));
+        }
+    go false is found later = later found (same ∙ is)

@@ -132,3 +132,9 @@ IsAskable (u ∷ us) asked = (bytes_eq asked.name u.name ≡ true → Fits u ask
 abbrev pub AreFlagsOf : List Usage → Text → List Flag → Type 0
 AreFlagsOf [] name flags = ⊥
 AreFlagsOf (u ∷ us) name flags = (bytes_eq name u.name ≡ true → flags ≡ u.flags) × (bytes_eq name u.name ≡ false → AreFlagsOf us name flags)
+
+-- the request is of this subcommand: it has its name and its options, and fits it
+pub record IsRequestOf (u : Usage) (r : Request) : Type 0 where
+  pub name : r.subcommand.now.name.now ≡ u.name
+  pub flags : flags_of r ≡ u.flags
+  pub fits : Fits u (asked_of r)

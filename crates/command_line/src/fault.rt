@@ -10,7 +10,7 @@ use std::alloc::{AllocError, AllocFailed, Global};
 use std::fmt;
 
 /// Why the words ask for nothing that can be done.
-#[derive(Debug, Drop)]
+#[derive(Drop)]
 pub enum LineFault {
     /// The words are no line of the program, or ask for help. The text is what the user is shown.
     Line(String),
@@ -46,7 +46,7 @@ impl LineFault {
 }
 
 // A value that is none of the words of its option.
-#[derive(Debug, Clone, Copy)]
+#[derive(Clone, Copy)]
 struct UnknownWord<'o, 'v> {
     option: &'o ValueOption<'o>,
     value: &'v str,
@@ -68,13 +68,18 @@ impl fmt::Display for UnknownWord<'_, '_> {
 // The words that the value may be, in a line of their own.
 fn write_words<W: fmt::Write>(f: &mut fmt::Formatter<W>, words: &[&str]) -> fmt::Result {
     f.write_str("\n  [possible values: ")?;
-    for (place, word) in words.iter().enumerate() {
-        if place > 0 {
-            f.write_str(", ")?;
-        }
-        f.write_str(word)?;
+    let mut before = "";
+    for word in words {
+        write_behind(f, before, word)?;
+        before = ", ";
     }
     f.write_str("]")
+}
+
+// A word, and what stands before it.
+fn write_behind<W: fmt::Write>(f: &mut fmt::Formatter<W>, before: &str, word: &str) -> fmt::Result {
+    f.write_str(before)?;
+    f.write_str(word)
 }
 
 impl From<AllocError> for LineFault {

@@ -9,8 +9,9 @@ ghost use Rattle.command_line.specs.Lines.{asked_by, ChecksNumbers, Draws, Drive
 ghost use Rattle.command_line.specs.Lines.{IsJudge, IsLineOf, IsLocate, IsWithinLimits};
 ghost use Rattle.command_line.specs.Trees.{place_of};
 ghost use Rattle.command_line.specs.Numbers.{number_of};
-ghost use Rattle.command_line.specs.Program.{bench_app, bench_table};
-ghost use Rattle.command_line.specs.Requests.{AreFlagsOf, IsAskable, asked_of, flags_of};
+ghost use Rattle.command_line.specs.Program.{bench_app, bench_table, draw_usage, drive_usage, explain_usage, follow_usage};
+ghost use Rattle.command_line.specs.Program.{generate_usage, judge_usage, locate_usage};
+ghost use Rattle.command_line.specs.Requests.{AreFlagsOf, IsAskable, IsRequestOf, asked_of, flags_of};
 ghost use Rattle.command_line.specs.Tables.{Usage};
 ghost use Rattle.command_line.specs.Words.{Given, Gives, IsUse};
 
@@ -80,47 +81,110 @@ fn line_of(request: Request<'_>) -> Line
         "check" => Line::Check {
             order: request.calls,
         },
-        "judge" => Line::Judge {
-            budget: request.number("budget"),
-            workers: request.number("workers"),
-        },
-        "locate" => Line::Locate {
-            budget: request.number("budget"),
-            workers: request.number("workers"),
-        },
-        "explain" => Line::Explain {
-            budget: request.number("budget"),
-        },
-        "draw" => Line::Draw {
-            budget: request.number("budget"),
-            workers: request.number("workers"),
-            around: request.number("around"),
-            calls: request.number("calls"),
-        },
-        "follow" => Line::Follow {
-            budget: request.number("budget"),
-        },
-        "generate" => Line::Generate {
-            seed: request.wide_number("seed"),
-            processes: request.number("processes"),
-            calls: request.number("calls"),
-            get: request.number("get"),
-            insert: request.number("insert"),
-            remove: request.number("remove"),
-            scan: request.number("scan"),
-            lo: request.number("lo"),
-            hi: request.number("hi"),
-        },
+        "judge" => judge_line(&request),
+        "locate" => locate_line(&request),
+        "explain" => explain_line(&request),
+        "draw" => draw_line(&request),
+        "follow" => follow_line(&request),
+        "generate" => generate_line(&request),
         "replay" => Line::Replay,
-        "drive" => Line::Drive {
-            tree: tree_at(request.number("tree")),
-            rows4: request.number("rows4"),
-            rows16: request.number("rows16"),
-            rows48: request.number("rows48"),
-            rows256: request.number("rows256"),
-            limit: request.number("limit"),
-        },
+        "drive" => drive_line(&request),
         _ => unreachable!(),
+    }
+}
+
+// The line of `judge`.
+fn judge_line(request: &Request<'_>) -> Line
+    requires { IsRequestOf judge_usage request.now }
+    ensures same { asked_by result ≡ asked_of request.now }
+    ensures limits { IsWithinLimits result }
+{
+    Line::Judge {
+        budget: request.number("budget"),
+        workers: request.number("workers"),
+    }
+}
+
+// The line of `locate`.
+fn locate_line(request: &Request<'_>) -> Line
+    requires { IsRequestOf locate_usage request.now }
+    ensures same { asked_by result ≡ asked_of request.now }
+    ensures limits { IsWithinLimits result }
+{
+    Line::Locate {
+        budget: request.number("budget"),
+        workers: request.number("workers"),
+    }
+}
+
+// The line of `explain`.
+fn explain_line(request: &Request<'_>) -> Line
+    requires { IsRequestOf explain_usage request.now }
+    ensures same { asked_by result ≡ asked_of request.now }
+    ensures limits { IsWithinLimits result }
+{
+    Line::Explain {
+        budget: request.number("budget"),
+    }
+}
+
+// The line of `draw`.
+fn draw_line(request: &Request<'_>) -> Line
+    requires { IsRequestOf draw_usage request.now }
+    ensures same { asked_by result ≡ asked_of request.now }
+    ensures limits { IsWithinLimits result }
+{
+    Line::Draw {
+        budget: request.number("budget"),
+        workers: request.number("workers"),
+        around: request.number("around"),
+        calls: request.number("calls"),
+    }
+}
+
+// The line of `follow`.
+fn follow_line(request: &Request<'_>) -> Line
+    requires { IsRequestOf follow_usage request.now }
+    ensures same { asked_by result ≡ asked_of request.now }
+    ensures limits { IsWithinLimits result }
+{
+    Line::Follow {
+        budget: request.number("budget"),
+    }
+}
+
+// The line of `generate`.
+fn generate_line(request: &Request<'_>) -> Line
+    requires { IsRequestOf generate_usage request.now }
+    ensures same { asked_by result ≡ asked_of request.now }
+    ensures limits { IsWithinLimits result }
+{
+    Line::Generate {
+        seed: request.wide_number("seed"),
+        processes: request.number("processes"),
+        calls: request.number("calls"),
+        get: request.number("get"),
+        insert: request.number("insert"),
+        remove: request.number("remove"),
+        scan: request.number("scan"),
+        lo: request.number("lo"),
+        hi: request.number("hi"),
+    }
+}
+
+// The line of `drive`.
+fn drive_line(request: &Request<'_>) -> Line
+    requires { IsRequestOf drive_usage request.now }
+    ensures same { asked_by result ≡ asked_of request.now }
+    ensures limits { IsWithinLimits result }
+{
+    Line::Drive {
+        tree: tree_at(request.number("tree")),
+        rows4: request.number("rows4"),
+        rows16: request.number("rows16"),
+        rows48: request.number("rows48"),
+        rows256: request.number("rows256"),
+        limit: request.number("limit"),
     }
 }
 

@@ -21,7 +21,7 @@ use clap::ArgMatches;
 use std::alloc::{AllocError, Global};
 
 /// What words ask for: a subcommand of a table, with its numbers.
-#[derive(Debug, Drop)]
+#[derive(Drop)]
 pub(crate) struct Request<'a> {
     /// The subcommand.
     pub(crate) subcommand: &'a Subcommand<'a>,

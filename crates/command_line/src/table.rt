@@ -1,7 +1,7 @@
 // Tables of subcommands and their options.
 
 /// What the value of an option may be, and the number that it stands for.
-#[derive(Debug, Clone, Copy)]
+#[derive(Clone, Copy)]
 pub(crate) enum Values<'a> {
     /// A number, the least and the greatest that the option takes.
     Within(u64, u64),
@@ -10,7 +10,7 @@ pub(crate) enum Values<'a> {
 }
 
 /// An option `--NAME VALUE` of a subcommand.
-#[derive(Debug, Clone, Copy)]
+#[derive(Clone, Copy)]
 pub(crate) struct ValueOption<'a> {
     /// The name, without its hyphens.
     pub(crate) name: &'a str,
@@ -23,7 +23,7 @@ pub(crate) struct ValueOption<'a> {
 }
 
 /// A subcommand of a program.
-#[derive(Debug, Clone, Copy)]
+#[derive(Clone, Copy)]
 pub(crate) struct Subcommand<'a> {
     /// The word that names it.
     pub(crate) name: &'a str,
