@@ -10,7 +10,7 @@ use Rattle.std.proofs.lemmas.List.{length-append, length-map}
 use Rattle.std.proofs.lemmas.List.FromFn.{length-range_with_len, get_or-range_with_len}
 use Rattle.std.proofs.lemmas.List.Sums.{sum_by-cons}
 use Rattle.std.proofs.lemmas.List.Elements.{All-head, All-tail, All-weaker, Contains-append_left}
-use Rattle.list_laws.proofs.Lists.{AllPairs-from_at, Contains-take, Contains-around, length-distinct}
+use Rattle.list_laws.proofs.Lists.{AllPairs-from_at, Contains-nil, Contains-take, Contains-around, length-distinct}
 use Rattle.list_laws.proofs.Places.{parts_at}
 use Rattle.list_laws.proofs.FilterLemmas.{AllPairs-from_map}
 use Rattle.events.specs.Histories.{AreHistoryEvents}
@@ -79,6 +79,14 @@ same-factor m n k some same = ⊎_elim (λ e. e) (λ other. absurd (⊎_elim les
 
     more : n < m → ⊥
     more h = let next : n + 1 ≤ m = omega arith in let below = mul-le-mul_right k next in omega (arith, below, same)
+
+-- All passes of a recorder are some, since it has a process.
+
+pub some-pass : (r : Recorder) (passes : List Pass) → AreAll r passes → passes ≢ []
+some-pass r passes all none = absurd (Contains-nil 0 (subst (λ l. Contains (map process_number l) 0) none (all.processes 0 first)))
+  where
+    first : 0 < processes_of r
+    first = let some = r.some in omega arith
 
 module _ (r : Recorder) (passes : List Pass) (own : All (IsPassOf r) passes) where
   all-draws : sum_by draws_of passes ≡ length passes * (2 * calls_for_each r)

@@ -1,9 +1,10 @@
 // All passes come together, and their logs become a history.
-ghost use Rattle.std.specs.Prelude.{◌≡◌, ◌<◌, ◌↔◌, length, map, flat_map, All, Contains, IsTrue, OnOk, IfOk, IfErr};
+ghost use Rattle.std.specs.Prelude.{◌≡◌, ◌≢◌, ◌<◌, ◌↔◌, [], length, map, flat_map, sum_by, All, Contains, IsTrue, OnOk, IfOk, IfErr};
 ghost use Rattle.events.specs.HistoryView.{with_no_start};
 ghost use Rattle.events.specs.Histories.{AreHistoryEvents};
+ghost use Rattle.tickets.specs.Hands.{counter, counter_of, drawn_by, share_of};
 ghost use Rattle.tickets.specs.Numbers.{EachOnce};
-ghost use Rattle.recorder.specs.Passes.{process_number, log_of};
+ghost use Rattle.recorder.specs.Passes.{process_number, log_of, source_of, draws_of};
 ghost use Rattle.recorder.specs.Recorders.{IsPassOf, HasProcesses, AreAll, all_stamps, history_of, HasOwnEvents};
 ghost use Rattle.recorder.specs.Closing.{IsHandedBack, IsOneOfEach, WantsMemory};
 
@@ -13,6 +14,7 @@ use crate::recorders::Recorder;
 use events::{Event, History, Memory};
 use logs::{append_log, history_by_stamp};
 use std::alloc::Global;
+use tickets::{Hand, Tickets};
 
 impl Recorder {
     /// The history of all that was recorded: the events of all passes, in whatever order these are handed in, by rising
@@ -74,18 +76,30 @@ impl Recorder {
             processes: _,
             calls_each: _,
         } = self;
-        let mut passes = passes.into_iter();
-        let mut hand = match passes.next() {
-            Some(first) => first.hand,
-            None => unreachable!(),
-        };
-        for pass in passes {
-            tickets.join(&mut hand, pass.hand);
-        }
+        let hand = joined(&tickets, passes);
         if let Err(_) = tickets.close(hand) {
             unreachable!()
         }
     }
+}
+
+/// The hands of passes, joined into one.
+fn joined(tickets: &Tickets, passes: Vec<Pass>) -> Hand
+    requires some { passes.items ≢ [] }
+    requires own { All (λ p. source_of p ≡ counter tickets.now) passes.items }
+    ensures own { counter_of result ≡ counter tickets.now }
+    ensures drawn { drawn_by result ≡ all_stamps passes.items }
+    ensures share { share_of result ≡ sum_by draws_of passes.items }
+{
+    let mut passes = passes.into_iter();
+    let mut hand = match passes.next() {
+        Some(first) => first.hand,
+        None => unreachable!(),
+    };
+    for pass in passes {
+        tickets.join(&mut hand, pass.hand);
+    }
+    hand
 }
 
 /// The events of all passes with their stamps, pass after pass.

@@ -1,8 +1,8 @@
 // A recorder and its passes.
 ghost use Rattle.std.specs.Prelude.{◌≡◌, ◌*◌, ◌<◌, ◌≤◌, [], map, All, IfOk};
 ghost use Rattle.std.specs.List.{range_with_len};
-ghost use Rattle.tickets.specs.Hands.{drawn_by, left_of};
-ghost use Rattle.recorder.specs.Passes.{process_number, calls_of, log_of};
+ghost use Rattle.tickets.specs.Hands.{counter, counter_of, drawn_by, left_of};
+ghost use Rattle.recorder.specs.Passes.{process_number, calls_of, log_of, source_of};
 ghost use Rattle.recorder.specs.Recorders.{processes_of, calls_for_each, IsPassOf};
 ghost use Rattle.events.specs.Limits.{call_limit, process_limit};
 
@@ -27,14 +27,9 @@ impl Recorder {
         ensures own { IfOk result (λ r. All (IsPassOf r.0) r.1.items) }
         ensures nothing { IfOk result (λ r. All (λ p. log_of p ≡ []) r.1.items) }
     {
-        // Nothing is left of the first hand once each pass has its part, so it may be let go.
         let share = 2 * u64::from(calls_each);
-        let (tickets, mut rest) = Tickets::open(alloc, u64::from(processes) * share)?;
-        let mut passes = Vec::with_capacity(alloc, usize::from(processes))?;
-        for process in 0..processes {
-            let hand = tickets.split(&mut rest, share);
-            passes.push(first_pass(alloc, process, calls_each, hand))?;
-        }
+        let (tickets, hand) = Tickets::open(alloc, u64::from(processes) * share)?;
+        let passes = first_passes(alloc, &tickets, hand, processes, calls_each)?;
         let recorder = Recorder {
             tickets,
             processes,
@@ -42,6 +37,33 @@ impl Recorder {
         };
         Ok((recorder, passes))
     }
+}
+
+/// A pass for each process, by rising number. The draws of the hand are parted among them.
+fn first_passes(
+    alloc: Global,
+    tickets: &Tickets,
+    mut rest: Hand,
+    processes: u8,
+    calls_each: u32,
+) -> Result<Vec<Pass>, Memory>
+    requires processes { processes ≤ process_limit }
+    requires calls { calls_each ≤ call_limit }
+    requires own { counter_of rest ≡ counter tickets.now }
+    requires left { left_of rest ≡ processes * (2 * calls_each) }
+    ensures numbers { IfOk result (λ v. map process_number v.items ≡ range_with_len 0 processes) }
+    ensures own { IfOk result (λ v. All (λ p. source_of p ≡ counter tickets.now) v.items) }
+    ensures below { IfOk result (λ v. All (λ p. process_number p < processes) v.items) }
+    ensures calls { IfOk result (λ v. All (λ p. calls_of p ≡ calls_each) v.items) }
+    ensures nothing { IfOk result (λ v. All (λ p. log_of p ≡ []) v.items) }
+{
+    // Nothing is left of the hand once each pass has its part, so it may be let go.
+    let mut passes = Vec::with_capacity(alloc, usize::from(processes))?;
+    for process in 0..processes {
+        let hand = tickets.split(&mut rest, 2 * u64::from(calls_each));
+        passes.push(first_pass(alloc, process, calls_each, hand))?;
+    }
+    Ok(passes)
 }
 
 /// A pass with no event yet.

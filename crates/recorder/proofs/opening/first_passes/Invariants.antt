@@ -1,8 +1,8 @@
 use Rattle.std.proofs.Common.{◌≡◌, ◌+◌, ◌*◌, ◌<◌, [], map, All}
 use Rattle.std.specs.List.{range_with_len}
-use Rattle.tickets.specs.Hands.{drawn_by, left_of, counter, counter_of}
+use Rattle.tickets.specs.Hands.{left_of, counter, counter_of}
 use Rattle.recorder.specs.Passes.{process_number, calls_of, log_of, source_of}
-use Rattle.recorder.proofs.recorders.Recorder.open.Given as goal
+use Rattle.recorder.proofs.opening.first_passes.Given as goal
 
 abbrev pub invariant-loop-process : goal.invariant-loop-process
 invariant-loop-process l = record {
