@@ -13,8 +13,7 @@ pub fn push_found(lines: &mut String, text: &[u8]) -> Result<(), AllocError>
 {
     lines.push_str("found ")?;
     push_shown(lines, text)?;
-    lines.push_str("; ")?;
-    Ok(())
+    lines.push_str("; ")
 }
 
 /// Adds a text, cut with two dots where it is long.
@@ -26,8 +25,7 @@ fn push_shown(out: &mut String, text: &[u8]) -> Result<(), AllocError>
     }
     let front = &text[..MAX_SHOWN];
     push_bytes(out, front)?;
-    out.push_str("..")?;
-    Ok(())
+    out.push_str("..")
 }
 
 /// Adds the bytes of a text.
@@ -45,8 +43,7 @@ fn push_byte(out: &mut String, byte: u8) -> Result<(), AllocError>
     ensures { OnOk result (string_bytes out.new ≡ string_bytes out.old ++ shown_byte byte ∷ []) }
 {
     match byte {
-        32..=126 => out.push(byte as char)?,
-        _ => out.push_str("?")?,
+        32..=126 => out.push(byte as char),
+        _ => out.push_str("?"),
     }
-    Ok(())
 }

@@ -11,8 +11,7 @@ pub fn push_wanted(lines: &mut String, wanted: &str) -> Result<(), AllocError>
 {
     lines.push_str("wanted ")?;
     lines.push_str(wanted)?;
-    lines.push_str("\n")?;
-    Ok(())
+    lines.push_str("\n")
 }
 
 /// How long a text may be.
