@@ -29,7 +29,8 @@ impl Scanning {
     ghost use Rattle.art_steps.specs.Act.{point_of};
     ghost use Rattle.art_stages.specs.Scans.{scan_start, scan_turn};
     ghost use Rattle.art_setting.specs.Settings.{setting_of};
-    ghost use Rattle.art_scan.specs.Scans.{scan_of, scan_behind, low_of, high_of, IsRoomy};
+    ghost use Rattle.events.specs.declared.event.Reply.TheVariants.{Pairs};
+    ghost use Rattle.art_scan.specs.Scans.{walk_in, scan_of, scan_behind, low_of, high_of, IsRoomy};
 
     /// A scan that has made no access yet.
     pub fn begin(setting: &Setting, low: u64, high: u64) -> Scanning
@@ -100,9 +101,19 @@ impl Scanning {
                 }
             }
         }
-        match mem::replace(&mut self.lists, None) {
+        Some(Scanning::give_pairs(&mut self.lists))
+    }
+
+    /// The reply of a scan that is over, which gives its pairs away. It stands apart, so that a step before the end clears no
+    /// room for it.
+    fn give_pairs(lists: &mut Option<Lists>) -> Reply
+        requires { is_some lists.old ≡ true }
+        ensures pairs { result ≡ Pairs (walk_in lists.old).pairs }
+        ensures given { lists.new ≡ None }
+    {
+        match mem::replace(lists, None) {
             None => unreachable!(),
-            Some(lists) => Some(Reply::Pairs(lists.into_pairs())),
+            Some(lists) => Reply::Pairs(lists.into_pairs()),
         }
     }
 }

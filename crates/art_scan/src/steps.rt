@@ -3,7 +3,7 @@ ghost use Rattle.std.specs.Prelude.{◌≡◌, ◌+◌, ◌<◌, true, false, na
 ghost use Rattle.art_stages.specs.Stages.{held};
 ghost use Rattle.art_rows.specs.Words.{is_locked};
 ghost use Rattle.art_stages.specs.declared.stage.Entry.TheVariants.{Below};
-ghost use Rattle.art_stages.specs.declared.stage.ScanStep.TheVariants.{Lock, Exchange, Wait};
+ghost use Rattle.art_stages.specs.declared.stage.ScanStep.TheVariants.{Lock, Exchange, Wait, SecondKeys};
 ghost use Rattle.art_stages.specs.Scans.{Walk, at, step_after as step_behind, enter_at, entry_at, keys_after_word, release_after};
 ghost use Rattle.art_stages.specs.Scans.{scan_start};
 ghost use Rattle.art_stages.specs.Scans.{with_frame, resume_at, visit_at, frame_of as frame_from};
@@ -79,6 +79,14 @@ fn keys_read(
             step,
         ),
     }
+}
+
+/// The first key word of a row of kind 16 is read.
+fn first_read(row: Held, count: u64, first: u64, step: &mut ScanStep)
+    ensures step { (w : Walk) → at step.new w ≡ at (SecondKeys row count first) w }
+    ensures sound { is_sound_step step.new ≡ true }
+{
+    *step = ScanStep::SecondKeys { row, count, first };
 }
 
 /// A row is released or checked.
@@ -251,11 +259,7 @@ pub fn make_step(
         }
         ScanStep::FirstKeys { row, count } => {
             let (row, count) = (*row, *count);
-            *step = ScanStep::SecondKeys {
-                row,
-                count,
-                first: got,
-            };
+            first_read(row, count, got, step);
         }
         ScanStep::SecondKeys { row, count, first } => {
             let row = *row;

@@ -70,6 +70,7 @@ pub fn go_on(
 }
 
 /// Its bytes are walked: the walk goes on behind them.
+#[inline(always)]
 pub fn leave(
     setting: &Setting,
     low: u64,

@@ -35,6 +35,12 @@ returns-in-Keys-clause-step c =
     ∙ ap (λ s. step_after (setting_of c.args.setting.now) c.args.low c.args.high s (walk_of c.args.lists.now) c.args.got)
     (sym c.in-Keys.is)
 
+pub returns-in-FirstKeys-clause-step : goal.returns-in-FirstKeys-clause-step
+returns-in-FirstKeys-clause-step c =
+    c.first_read.ensures.step (walk_of c.args.lists.now)
+    ∙ ap (λ s. step_after (setting_of c.args.setting.now) c.args.low c.args.high s (walk_of c.args.lists.now) c.args.got)
+    (sym c.in-FirstKeys.is)
+
 pub returns-in-SecondKeys-clause-step : goal.returns-in-SecondKeys-clause-step
 returns-in-SecondKeys-clause-step c =
     c.words_read.ensures.step
