@@ -49,6 +49,7 @@ pub fn can_lie(low: u64, high: u64, row: Held, byte: u32) -> bool
 }
 
 /// Do all keys that begin with the row's path and this byte, or with a greater one, come behind the last one?
+#[inline(always)]
 pub fn is_behind(high: u64, row: Held, byte: u32) -> bool
     requires { byte < 256 }
     ensures behind { result ≡ true → (low y : ℕ) → byte ≤ y → can_lie low high (row_at row) y ≡ false }
